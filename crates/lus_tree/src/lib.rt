@@ -1,0 +1,12 @@
+//! The syntax tree of a Lustre program with contracts, and the refusal of a source.
+#![tactic(auto)]
+
+mod declaration;
+mod expression;
+mod place;
+mod refusal;
+
+pub use declaration::{ContractItem, ContractNode, Decl, Definition, Item, Named, Node, Program};
+pub use expression::{Expr, Form, Operator};
+pub use place::{Param, Pos, Sort, Word};
+pub use refusal::{Refusal, What};
