@@ -12,6 +12,9 @@ pub record Spelled : Type 0 where
   pub text : Name
   pub at : Pos
 
+abbrev pub text_of : Spelled → Name
+text_of w = w.text
+
 -- where an expression begins, and where its own token stands
 pub record Place : Type 0 where
   pub from : Pos

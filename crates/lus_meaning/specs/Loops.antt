@@ -1,0 +1,30 @@
+-- A call whose output does not need its input, and one whose output does.
+use Rattle.std.specs.Prelude.{ℕ, zero, suc, Bool, true, false, cond, List, [], ◌∷◌, Option, Some, None, codes}
+use Rattle.std.specs.Str.{bytes_eq}
+use Rattle.lus_tree.specs.declared.expression.Operator.TheVariants.{Add}
+use Rattle.lus_tree.specs.Tree.{Name, Expression, number, name, pre, arrow, binary, call, no_more, more, Statement, equation, Component, declared_node}
+use Rattle.lus_meaning.specs.Scene.{Instance}
+use Rattle.lus_meaning.specs.Program.{instance_of}
+use Rattle.lus_meaning.specs.Depends.{Rank}
+use Rattle.lus_meaning.specs.Rows.{here, spelled, numbers, named_}
+
+abbrev pub part : Expression → Component
+part e = record { name = spelled (codes "d"); function = false; inputs = numbers (codes "i") ∷ []; outputs = numbers (codes "o") ∷ []; locals = []; constants = []; contract = None; body = equation (spelled (codes "o") ∷ []) e ∷ [] }
+
+abbrev pub whole_node : Component
+whole_node = record { name = spelled (codes "n"); function = false; inputs = []; outputs = numbers (codes "x") ∷ []; locals = []; constants = []; contract = None; body = equation (spelled (codes "x") ∷ []) (binary here Add (call here 1 (spelled (codes "d")) (more (named_ (codes "x")) no_more)) (number here 1)) ∷ [] }
+
+abbrev pub loop_with : Expression → Instance
+loop_with e = instance_of (declared_node (part e) ∷ declared_node whole_node ∷ []) whole_node
+
+abbrev pub late : Instance
+late = loop_with (arrow here 1 (number here 0) (pre here 1 (named_ (codes "i"))))
+
+abbrev pub direct : Instance
+direct = loop_with (named_ (codes "i"))
+
+abbrev pub late_rank : Rank
+late_rank [] None = 0
+late_rank [] (Some x) = 3
+late_rank (k ∷ ks) None = 1
+late_rank (k ∷ ks) (Some x) = cond (bytes_eq x (codes "o")) 2 4
