@@ -1,0 +1,4 @@
+//! The program `kind` behind its words, its files and its output.
+#![tactic(auto)]
+
+mod table;
