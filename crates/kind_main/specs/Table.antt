@@ -51,3 +51,8 @@ IsOrdered order j (_ ∷ ss) = ⊥
 abbrev pub with_item : List Name → List Bool → ℕ → Statement → List Bool
 with_item order kept t (equation xs e) = kept ++ truth_at (held order kept) e t ∷ []
 with_item order kept t (_) = kept
+
+-- a table of n instants in which every equation holds
+pub record IsTable (order : List Name) (body : List Statement) (n : ℕ) (kept : List Bool) : Type 0 where
+  pub size : length kept ≡ n * length order
+  pub meets : (t : ℕ) → t < n → Meets (held order kept) t body
