@@ -1,0 +1,7 @@
+pub mod Counts
+pub mod Held
+pub mod MemoryShelf
+pub mod MemorySink
+pub mod Never
+pub mod Told
+pub mod Written
