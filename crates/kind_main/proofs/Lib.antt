@@ -1,3 +1,4 @@
 pub mod Keeps
 pub mod Filling
 pub mod Instants
+pub mod ThreeWords

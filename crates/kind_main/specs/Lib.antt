@@ -1,1 +1,5 @@
 pub mod Table
+pub mod Lines
+pub mod Words
+pub mod Traces
+pub mod Report

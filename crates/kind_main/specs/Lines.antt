@@ -1,5 +1,6 @@
 -- The lines that the program prints. Each ends with a line feed.
 use Rattle.std.specs.Prelude.{ℕ, List, [], ◌∷◌, ◌++◌, Option, Some, None, codes, decimal}
+use Rattle.lus_tree.specs.declared.place.Pos.{Pos}
 use Rattle.lus_meaning.specs.Contract.{Property}
 use Rattle.lus_meaning.specs.Label.{label_of}
 
@@ -38,3 +39,7 @@ breaks_line p t = codes "breaks " ++ (label_of p ++ (codes " at " ++ (decimal t 
 
 abbrev pub lawful_line : ℕ → ℕ → Line
 lawful_line a n = codes "lawful " ++ (decimal a ++ (codes " of " ++ (decimal n ++ codes "\n")))
+
+-- the line of a property without a text that breaks
+abbrev pub place_breaks : Pos → ℕ → Line
+place_breaks at t = codes "breaks property @" ++ (decimal at.line ++ (codes ":" ++ (decimal at.column ++ (codes " at " ++ (decimal t ++ codes "\n")))))

@@ -6,7 +6,7 @@ use Rattle.lus_tree.specs.Tree.{Name, Expression, truth, name, negation, pre, ar
 -- the place of a name, or the length where it is not there
 abbrev pub place : List Name → Name → ℕ
 place [] x = 0
-place (y ∷ ys) x = cond (bytes_eq y x) 0 (suc (place ys x))
+place (y ∷ ys) x = cond (bytes_eq x y) 0 (suc (place ys x))
 
 -- the truth values of names at instants
 abbrev pub Held : Type 0

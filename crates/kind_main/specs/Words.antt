@@ -8,9 +8,9 @@ is_option (b ∷ bs) = b == 45
 
 -- the words `replay FILE TRACE`
 pub record AreReplay (words : List (List ℕ)) (file trace : List ℕ) : Type 0 where
-  pub words : words ≡ codes "replay" ∷ file ∷ trace ∷ []
-  pub file : is_option file ≡ false
-  pub trace : is_option trace ≡ false
+  pub spelled : words ≡ codes "replay" ∷ file ∷ trace ∷ []
+  pub file_word : is_option file ≡ false
+  pub trace_word : is_option trace ≡ false
 
 -- the words are of no form that is built
 abbrev pub AreNoCommand : List (List ℕ) → Type 0

@@ -1,4 +1,9 @@
 //! The program `kind` behind its words, its files and its output.
 #![tactic(auto)]
 
+mod status;
 mod table;
+mod text;
+mod words;
+
+pub use status::Status;

@@ -13,7 +13,7 @@ fn place_of(order: &[String], name: &str) -> Option<usize>
         (λ i. (place (map string_bytes order.now) name.now ≡ i) × (i < length order.now)) }
 {
     for (i, known) in order.iter().enumerate() {
-        if known.as_str() == name {
+        if name == known.as_str() {
             return Some(i);
         }
     }
