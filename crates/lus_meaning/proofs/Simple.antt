@@ -96,6 +96,9 @@ module _ (d : Component) (simple : IsSimpleNode d) where
   pub equations_are : equations d ≡ body_equations d.body
   equations_are = rw simple.contract refl
 
+  pub over_equations : (P : Equation → Type 0) → AllByRecursion P (body_equations d.body) → AllByRecursion P (equations d)
+  over_equations P a = subst (AllByRecursion P) (sym equations_are) a
+
   pub all_flags : AllByRecursion IsFlag (variables d)
   all_flags = rw variables_are simple.flags
 
@@ -125,7 +128,7 @@ simple_equations (s ∷ ss) h = of_item (λ s. AllByRecursion IsSimpleEquation (
     (λ x e k r. (record { one_name = refl; right = k }, r)) (λ l k r. r) s h.0 (simple_equations ss h.1)
 
 pub each_simple : (d : Component) → IsSimpleNode d → AllByRecursion IsSimpleEquation (equations d)
-each_simple d s = rw (equations_are d s) (simple_equations d.body s.items)
+each_simple d s = over_equations d s IsSimpleEquation (simple_equations d.body s.items)
 
 pub checked_instance : (p : Program) (d : Component) → IsChecked p d → instance_of p d ≡ instance d [] no_instances
 checked_instance p d h = ap (λ q. instance_of q d) h.one_node ∙ rw (no_constants d h.rules.shape, no_calls d h.rules.shape) refl
