@@ -1,0 +1,128 @@
+-- A checked program has exactly one frame for choices that fit, and for a trace that lists nothing.
+use Rattle.std.proofs.Common.{◌≡◌, ℕ, zero, suc, pred, ◌<◌, ◌≤◌, ◌+◌, Bool, true, false, cond, ◌||◌, List, [], ◌∷◌, ◌++◌, map, flat_map, length, refl, ap, ◌∙◌, sym, subst, arith, Option, Some, None, unwrap_or, slice_index_or, get_or}
+use Rattle.std.specs.List.{AllByRecursion}
+use Rattle.std.specs.Map.{lookup}
+use Rattle.std.specs.Str.{bytes_eq}
+use Rattle.std.proofs.lemmas.Bool.{true≢false, false≢true}
+use Rattle.lus_tree.specs.declared.place.Sort.{Sort}
+use Rattle.lus_tree.specs.declared.place.Sort.TheVariants.{Bool as Flags, Int as Numbers}
+use Rattle.lus_tree.specs.Tree.{Name, Variable, Component, Program}
+use Rattle.lus_tree.specs.Numbers.{IsNumbered}
+use Rattle.lus_meaning.specs.Value.{Value, absent, flag, whole, Instants, has_sort, is_absent}
+use Rattle.lus_meaning.specs.Frame.{Frame, Frames, frame, no_frames, with_frame, entry, first_value, frame_at, calls_in}
+use Rattle.lus_meaning.specs.Scene.{Instance, Instances, instance, no_instances, with_instance, clock_from, variables, is_on}
+use Rattle.lus_meaning.specs.Program.{instance_of}
+use Rattle.lus_meaning.specs.Contract.{scene}
+use Rattle.lus_meaning.specs.Run.{first_sorts, have_sorts, is_typed, IsRun}
+use Rattle.lus_meaning.specs.Depends.{named_in, left_names, from_caller, SameChoices, CallsChoices}
+use Rattle.lus_meaning.specs.Recompute.{sample}
+use Rattle.lus_meaning.specs.Trace.{of_name, listed_at, or_default, is_defined, free_names, TakesFirsts, IsFrameOf}
+use Rattle.lus_meaning.specs.Verdict.{throughout}
+use Rattle.lus_meaning.specs.Rules.{IsSimpleNode, HasRightNames, IsChecked}
+use Rattle.lus_meaning.specs.Laws.{ChoicesFrom, CallsFit, ChoicesFit, HasOneRun, UniqueFrame, FrameOfTrace}
+use Rattle.lus_meaning.proofs.Stable.{sample_at}
+use Rattle.lus_meaning.proofs.Exists.{sampled_names}
+use Rattle.lus_meaning.proofs.UniqueFrame.{exists_run}
+use Rattle.lus_meaning.proofs.Equal.{AreNamed, CallsNamed, Rows, names_in, RowFound, rows_found, unique_run}
+use Rattle.lus_meaning.proofs.Typed.{on_has}
+use Rattle.lus_meaning.proofs.Simple.{all_from_both, both_parts, variables_are, checked_instance, node_rank, node_ranked, node_bound}
+use Rattle.lus_meaning.proofs.OneFrame.{defined_named, only_one}
+use Rattle.lus_meaning.proofs.SettledTypes.{mapped_all, rank_limit, settled_frame, well_made, settled_types}
+
+-- ---- choices that fit
+
+pub is_present : (s : Sort) (v : Value) → has_sort s v ≡ true → is_absent v ≡ false
+is_present Flags absent h = absurd (false≢true h)
+is_present Numbers absent h = absurd (false≢true h)
+is_present s (flag b) h = refl
+is_present s (whole n) h = refl
+
+pub all_from_three : {X : Type 0} (P Q R S : X → Type 0) → ((x : X) → P x → Q x → R x → S x) → (xs : List X) → AllByRecursion P xs → AllByRecursion Q xs → AllByRecursion R xs → AllByRecursion S xs
+all_from_three P Q R S h [] a b c = tt
+all_from_three P Q R S h (x ∷ xs) a b c = (h x a.0 b.0 c.0, all_from_three P Q R S h xs a.1 b.1 c.1)
+
+-- frames that make the same choices as one that fits make the same choices
+mutual
+  pub same_choices : (i : Instance) (given : List Name) (n : ℕ) (f g c : Frame) → ChoicesFrom i given n c → SameChoices i given n f c → SameChoices i given n g c → SameChoices i given n f g
+  same_choices (instance d cs is) given n f g c fit a b = (
+      (λ k. a.0 k ∙ sym (b.0 k)),
+      all_from_three
+          (λ v. (named_in v.name.text given || named_in v.name.text (left_names d)) ≡ false → (t : ℕ) → t < n → has_sort v.sort (entry c v.name.text t) ≡ true)
+          (λ v. (named_in v.name.text given || named_in v.name.text (left_names d)) ≡ false → (t : ℕ) → t < n → is_absent (entry f v.name.text t) ≡ false → is_absent (entry c v.name.text t) ≡ false → entry f v.name.text t ≡ entry c v.name.text t)
+          (λ v. (named_in v.name.text given || named_in v.name.text (left_names d)) ≡ false → (t : ℕ) → t < n → is_absent (entry g v.name.text t) ≡ false → is_absent (entry c v.name.text t) ≡ false → entry g v.name.text t ≡ entry c v.name.text t)
+          (λ v. (named_in v.name.text given || named_in v.name.text (left_names d)) ≡ false → (t : ℕ) → t < n → is_absent (entry f v.name.text t) ≡ false → is_absent (entry g v.name.text t) ≡ false → entry f v.name.text t ≡ entry g v.name.text t)
+          (λ v p q r o t l x y. let z : is_absent (entry c v.name.text t) ≡ false = is_present v.sort (entry c v.name.text t) (p o t l) in q o t l x z ∙ sym (r o t l y z))
+          (variables d) fit.1 a.1 b.1,
+      same_call_choices is n (frame_at (calls_in f)) (frame_at (calls_in g)) (frame_at (calls_in c)) fit.2 a.2 b.2)
+
+  pub same_call_choices : (is : Instances) (n : ℕ) (f g c : ℕ → Frame) → CallsFit is n c → CallsChoices is n f c → CallsChoices is n g c → CallsChoices is n f g
+  same_call_choices no_instances n f g c fit a b = tt
+  same_call_choices (with_instance e k is) n f g c fit a b = (same_choices k (from_caller e k) n (f 0) (g 0) (c 0) fit.0 a.0 b.0, same_call_choices is n (λ j. f (suc j)) (λ j. g (suc j)) (λ j. c (suc j)) fit.1 a.1 b.1)
+
+-- ---- the frame of choices
+
+module _ (d : Component) (simple : IsSimpleNode d) (names : HasRightNames d) (numbered : IsNumbered d.body) where
+  abbrev pub node : Instance
+  node = instance d [] no_instances
+
+  pub is_run : (n : ℕ) (b : Instants) (c : Frame) (fit : ChoicesFit node n c) → IsRun node n b (settled_frame d simple names numbered n b c fit) × SameChoices node [] n (settled_frame d simple names numbered n b c fit) c
+  is_run n b c fit = exists_run node (node_rank d simple names.in_order) (node_ranked d simple names.in_order) (rank_limit d simple names numbered n b c fit) (node_bound d simple names.in_order) n b c
+      (well_made d simple names numbered n b c fit) (settled_types d simple names numbered n b c fit)
+
+  pub node_run : HasOneRun node
+  node_run n b c fit =
+      let q : IsRun node n b (settled_frame d simple names numbered n b c fit) × SameChoices node [] n (settled_frame d simple names numbered n b c fit) c = is_run n b c fit in
+      (settled_frame d simple names numbered n b c fit, q,
+      λ g r k. unique_run node (node_rank d simple names.in_order) (node_ranked d simple names.in_order) (names.declared_once, tt) n b g (settled_frame d simple names numbered n b c fit) r q.0
+          (same_choices node [] n g (settled_frame d simple names numbered n b c fit) c fit k q.1))
+
+pub unique_frame : UniqueFrame
+unique_frame p d h = subst HasOneRun (sym (checked_instance p d h)) (node_run d h.rules.shape h.rules.names h.numbered)
+
+-- ---- choices of 0 and false
+
+pub default_has : (s : Sort) → has_sort s (or_default s absent) ≡ true
+default_has Flags = refl
+default_has Numbers = refl
+
+abbrev pub default_rows : ℕ → List Variable → Rows
+default_rows n vs = map (λ v. (v.name.text, sample n (λ t. or_default v.sort absent))) vs
+
+abbrev mutual
+  pub default_frame : Instance → ℕ → Frame
+  default_frame (instance d cs is) n = frame (default_rows n (variables d)) (map (λ s. or_default s absent) (first_sorts (instance d cs is))) (default_frames is n)
+
+  pub default_frames : Instances → ℕ → Frames
+  default_frames no_instances n = no_frames
+  default_frames (with_instance c k is) n = with_frame (default_frame k n) (default_frames is n)
+
+pub default_firsts : (ss : List Sort) → have_sorts ss (map (λ s. or_default s absent) ss) ≡ true
+default_firsts [] = refl
+default_firsts (s ∷ ss) = rw (default_has s, default_firsts ss) refl
+
+-- the entry of a declared name
+pub default_entry : (d : Component) (cs : List (Name × Value)) (is : Instances) (n : ℕ) → AreNamed (instance d cs is) → AllByRecursion (λ v. (t : ℕ) → t < n → entry (default_frame (instance d cs is) n) v.name.text t ≡ or_default v.sort absent) (variables d)
+default_entry d cs is n named = go (variables d) (mapped_all (RowFound rows) (λ v. (v.name.text, sample n (λ t. or_default v.sort absent))) (variables d) (rows_found rows (rw (sampled_names n (λ v t. or_default v.sort absent) (variables d)) named.0)))
+  where
+    rows : Rows
+    rows = default_rows n (variables d)
+
+    go : (vs : List Variable) → AllByRecursion (λ v. RowFound rows (v.name.text, sample n (λ t. or_default v.sort absent))) vs → AllByRecursion (λ v. (t : ℕ) → t < n → entry (default_frame (instance d cs is) n) v.name.text t ≡ or_default v.sort absent) vs
+    go [] a = tt
+    go (v ∷ vs) a = ((λ t l. ap (λ (o : Option (List Value)). slice_index_or (unwrap_or o []) t absent) a.0 ∙ sample_at n t (λ t. or_default v.sort absent) l), go vs a.1)
+
+mutual
+  pub default_fits : (i : Instance) (given : List Name) (n : ℕ) → AreNamed i → ChoicesFrom i given n (default_frame i n)
+  default_fits (instance d cs is) given n named = (
+      default_firsts (first_sorts (instance d cs is)),
+      all_sorted (variables d) (default_entry d cs is n named),
+      default_calls_fit is n named.1)
+    where
+      all_sorted : (vs : List Variable) → AllByRecursion (λ v. (t : ℕ) → t < n → entry (default_frame (instance d cs is) n) v.name.text t ≡ or_default v.sort absent) vs →
+          AllByRecursion (λ v. (named_in v.name.text given || named_in v.name.text (left_names d)) ≡ false → (t : ℕ) → t < n → has_sort v.sort (entry (default_frame (instance d cs is) n) v.name.text t) ≡ true) vs
+      all_sorted [] a = tt
+      all_sorted (v ∷ vs) a = ((λ o t l. rw (a.0 t l) (default_has v.sort)), all_sorted vs a.1)
+
+  pub default_calls_fit : (is : Instances) (n : ℕ) → CallsNamed is → CallsFit is n (frame_at (default_frames is n))
+  default_calls_fit no_instances n named = tt
+  default_calls_fit (with_instance c k is) n named = (default_fits k (from_caller c k) n named.0, default_calls_fit is n named.1)
