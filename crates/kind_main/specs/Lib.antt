@@ -3,3 +3,4 @@ pub mod Lines
 pub mod Words
 pub mod Traces
 pub mod Report
+pub mod Breaks
