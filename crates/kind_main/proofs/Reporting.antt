@@ -29,4 +29,4 @@ report-end h n all lines items i le r =
 
 -- a line that was pushed
 pub pushed-line : {Z : Type 0} (bytes : Z → Line) (before now : List Z) (line : Z) (text : Line) → now ≡ before ++ line ∷ [] → bytes line ≡ text → map bytes now ≡ map bytes before ++ text ∷ []
-pushed-line bytes before now line text e is = ap (map bytes) e ∙ map-append before (line ∷ []) bytes ∙ ap (λ (t : Line). map bytes before ++ t ∷ []) is
+pushed-line bytes before now line text e is = ap (map bytes) e ∙ map-append bytes before (line ∷ []) ∙ ap (λ (t : Line). map bytes before ++ t ∷ []) is
