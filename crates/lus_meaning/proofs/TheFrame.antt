@@ -13,13 +13,13 @@ use Rattle.lus_meaning.specs.Frame.{Frame, Frames, frame, no_frames, with_frame,
 use Rattle.lus_meaning.specs.Scene.{Instance, Instances, instance, no_instances, with_instance, clock_from, variables, is_on}
 use Rattle.lus_meaning.specs.Program.{instance_of}
 use Rattle.lus_meaning.specs.Contract.{scene}
-use Rattle.lus_meaning.specs.Run.{first_sorts, have_sorts, is_typed, IsRun}
+use Rattle.lus_meaning.specs.Run.{equations, first_sorts, have_sorts, is_typed, IsRun}
 use Rattle.lus_meaning.specs.Depends.{named_in, left_names, from_caller, SameChoices, CallsChoices}
 use Rattle.lus_meaning.specs.Recompute.{sample}
 use Rattle.lus_meaning.specs.Trace.{of_name, listed_at, or_default, is_defined, free_names, TakesFirsts, IsFrameOf}
 use Rattle.lus_meaning.specs.Verdict.{throughout}
 use Rattle.lus_meaning.specs.Rules.{IsSimpleNode, HasRightNames, IsChecked}
-use Rattle.lus_meaning.specs.Laws.{ChoicesFrom, CallsFit, ChoicesFit, HasOneRun, UniqueFrame, FrameOfTrace}
+use Rattle.lus_meaning.specs.Laws.{ChoicesFrom, CallsFit, ChoicesFit, HasOneRun, UniqueFrame, HasOneFrame, FrameOfTrace}
 use Rattle.lus_meaning.proofs.Stable.{sample_at}
 use Rattle.lus_meaning.proofs.Exists.{sampled_names}
 use Rattle.lus_meaning.proofs.UniqueFrame.{exists_run}
@@ -126,3 +126,57 @@ mutual
   pub default_calls_fit : (is : Instances) (n : ℕ) → CallsNamed is → CallsFit is n (frame_at (default_frames is n))
   default_calls_fit no_instances n named = tt
   default_calls_fit (with_instance c k is) n named = (default_fits k (from_caller c k) n named.0, default_calls_fit is n named.1)
+
+-- ---- the frame of a trace that lists nothing
+
+-- what holds of each variable that no equation defines holds of the free names
+pub free_whole : (d : Component) (P : Variable → Type 0) (vs : List Variable) → AllByRecursion (λ v. named_in v.name.text (left_names d) ≡ false → P v) vs → AllByRecursion P (flat_map (λ v. cond (is_defined d v.name.text) [] (v ∷ [])) vs)
+free_whole d P [] a = tt
+free_whole d P (v ∷ vs) a = go (is_defined d v.name.text) refl (free_whole d P vs a.1)
+  where
+    go : (c : Bool) → is_defined d v.name.text ≡ c → AllByRecursion P (flat_map (λ v. cond (is_defined d v.name.text) [] (v ∷ [])) vs) → AllByRecursion P (cond c [] (v ∷ []) ++ flat_map (λ v. cond (is_defined d v.name.text) [] (v ∷ [])) vs)
+    go true e r = r
+    go false e r = (a.0 (sym (defined_named v.name.text (equations d)) ∙ e), r)
+
+pub first_is : (ss : List Sort) (path : List ℕ) (f : Frame) (k : ℕ) → ((t j : ℕ) → t < length ss → j ≡ t + k → first_value f j ≡ get_or (map (λ s. or_default s absent) ss) t absent) → TakesFirsts [] path f k ss
+first_is [] path f k h = tt
+first_is (s ∷ ss) path f k h = (h 0 k (omega arith) (omega arith), first_is ss path f (suc k) (λ t j l e. h (suc t) j (omega arith) (omega arith)))
+
+module _ (d : Component) (simple : IsSimpleNode d) (n : ℕ) (f : Frame) (run : IsRun (instance d [] no_instances) n throughout f) (named : AreNamed (instance d [] no_instances)) (same : SameChoices (instance d [] no_instances) [] n f (default_frame (instance d [] no_instances) n)) where
+  abbrev pub Taken : Variable → Type 0
+  Taken v = (t : ℕ) → t < n → is_on (scene (instance d [] no_instances) throughout f) (clock_from v.clock) t ≡ true → entry f v.name.text t ≡ or_default v.sort (listed_at [] [] (of_name v.name.text) t)
+
+  pub each_taken : AllByRecursion (λ v. named_in v.name.text (left_names d) ≡ false → Taken v) (variables d)
+  each_taken = all_from_three
+      (λ v. (t : ℕ) → t < n → is_typed v.sort (is_on (scene (instance d [] no_instances) throughout f) (clock_from v.clock) t) (entry f v.name.text t) ≡ true)
+      (λ v. named_in v.name.text (left_names d) ≡ false → (t : ℕ) → t < n → is_absent (entry f v.name.text t) ≡ false → is_absent (entry (default_frame (instance d [] no_instances) n) v.name.text t) ≡ false → entry f v.name.text t ≡ entry (default_frame (instance d [] no_instances) n) v.name.text t)
+      (λ v. (t : ℕ) → t < n → entry (default_frame (instance d [] no_instances) n) v.name.text t ≡ or_default v.sort absent)
+      (λ v. named_in v.name.text (left_names d) ≡ false → Taken v)
+      (λ v p q r o t l on. q o t l
+          (is_present v.sort (entry f v.name.text t) (on_has v.sort (is_on (scene (instance d [] no_instances) throughout f) (clock_from v.clock) t) (entry f v.name.text t) (p t l) on))
+          (is_present v.sort (entry (default_frame (instance d [] no_instances) n) v.name.text t) (rw (r t l) (default_has v.sort))) ∙ r t l)
+      (variables d) run.0.types same.1 (default_entry d [] no_instances n named)
+
+  pub frame_taken : IsFrameOf [] (instance d [] no_instances) n f
+  frame_taken = record {
+    run = run;
+    taken = (
+      both_parts Taken d.inputs (free_names d) (subst (AllByRecursion Taken) (sym simple.inputs) tt)
+          (free_whole d Taken (d.outputs ++ d.locals) (both_parts Free d.outputs d.locals (subst (AllByRecursion Free) (variables_are d simple) each_taken) (subst (AllByRecursion Free) (sym simple.locals) tt))),
+      first_is (first_sorts (instance d [] no_instances)) [] f 1 (λ t j l e. let q : j ≡ suc t = omega arith in rw q (same.0 (suc t))),
+      tt);
+  }
+    where
+      Free : Variable → Type 0
+      Free v = named_in v.name.text (left_names d) ≡ false → Taken v
+
+pub node_frame : (d : Component) → IsSimpleNode d → HasRightNames d → IsNumbered d.body → HasOneFrame (instance d [] no_instances)
+node_frame d simple names numbered n =
+    let fit : ChoicesFit (instance d [] no_instances) n (default_frame (instance d [] no_instances) n) = default_fits (instance d [] no_instances) [] n (names.declared_once, tt) in
+    let f : Frame = settled_frame d simple names numbered n throughout (default_frame (instance d [] no_instances) n) fit in
+    let q : IsRun (instance d [] no_instances) n throughout f × SameChoices (instance d [] no_instances) [] n f (default_frame (instance d [] no_instances) n) = is_run d simple names numbered n throughout (default_frame (instance d [] no_instances) n) fit in
+    let a : IsFrameOf [] (instance d [] no_instances) n f = frame_taken d simple n f q.0 (names.declared_once, tt) q.1 in
+    (f, a, λ g k. only_one [] d simple names n g f k a)
+
+pub frame_of_trace : FrameOfTrace
+frame_of_trace p d h = subst HasOneFrame (sym (checked_instance p d h)) (node_frame d h.rules.shape h.rules.names h.numbered)

@@ -35,6 +35,9 @@ HasOneRun i = (n : ℕ) (b : Instants) (c : Frame) → ChoicesFit i n c →
 abbrev pub UniqueFrame : Type 0
 UniqueFrame = (p : Program) (d : Component) → IsChecked p d → HasOneRun (instance_of p d)
 
--- a trace that lists nothing has exactly one frame
+-- a trace that lists nothing has exactly one frame of as many instants as one likes
+abbrev pub HasOneFrame : Instance → Type 0
+HasOneFrame i = (n : ℕ) → (f : Frame) × IsFrameOf [] i n f × ((g : Frame) → IsFrameOf [] i n g → g ≡ f)
+
 abbrev pub FrameOfTrace : Type 0
-FrameOfTrace = (p : Program) (d : Component) → IsChecked p d → (n : ℕ) → (f : Frame) × IsFrameOf [] (instance_of p d) n f × ((g : Frame) → IsFrameOf [] (instance_of p d) n g → g ≡ f)
+FrameOfTrace = (p : Program) (d : Component) → IsChecked p d → HasOneFrame (instance_of p d)
