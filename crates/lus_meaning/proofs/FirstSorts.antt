@@ -1,8 +1,8 @@
 -- The first values of a simple node are truth values.
-use Rattle.std.proofs.Common.{◌≡◌, ℕ, zero, suc, pred, ◌<◌, ◌≤◌, ◌+◌, Bool, true, false, cond, ◌&&◌, List, [], ◌∷◌, ◌++◌, map, flat_map, length, refl, ap, ◌∙◌, sym, subst, arith, Option, Some, None, unwrap_or, option_map, slice_index_or, get_or}
+use Rattle.std.proofs.Common.{◌≡◌, ℕ, zero, suc, ◌<◌, ◌≤◌, ◌+◌, Bool, true, false, cond, ◌&&◌, List, [], ◌∷◌, ◌++◌, map, flat_map, length, refl, ap, ◌∙◌, sym, subst, arith, Some, unwrap_or, option_map, get_or}
 use Rattle.std.specs.List.{AllByRecursion, find}
 use Rattle.std.specs.Str.{bytes_eq}
-use Rattle.std.proofs.lemmas.Bool.{true≢false, false≢true}
+use Rattle.std.proofs.lemmas.Bool.{false≢true}
 use Rattle.lus_tree.specs.declared.place.Sort.{Sort}
 use Rattle.lus_tree.specs.declared.place.Sort.TheVariants.{Bool as Flags}
 use Rattle.lus_tree.specs.Tree.{Name, Expression, truth, name, negation, pre, arrow, Variable, Statement, equation, assertion, property, main_mark, Component}
@@ -11,7 +11,7 @@ use Rattle.lus_meaning.specs.Value.{Value, absent, has_sort}
 use Rattle.lus_meaning.specs.Frame.{Frame, first_value, firsts_of}
 use Rattle.lus_meaning.specs.Scene.{Instance, instance, no_instances, variables}
 use Rattle.lus_meaning.specs.Program.{counting, in_order}
-use Rattle.lus_meaning.specs.Run.{sort_of_name, sort_of, pre_sorts, statement_expressions, expressions_of, first_sorts, have_sorts, Equation, body_equations}
+use Rattle.lus_meaning.specs.Run.{sort_of_name, sort_of, pre_sorts, statement_expressions, expressions_of, first_sorts, have_sorts, body_equations}
 use Rattle.lus_meaning.specs.Rules.{IsSimple, IsSimpleItem, IsFlag, IsSimpleNode}
 use Rattle.lus_meaning.proofs.Now.{left_part, right_part}
 use Rattle.lus_meaning.proofs.Exists.{length_mapped}

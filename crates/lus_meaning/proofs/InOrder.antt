@@ -1,5 +1,5 @@
 -- What is numbered 1, 2, .. in the order of its text is in order as it stands.
-use Rattle.std.proofs.Common.{◌≡◌, ℕ, zero, suc, ◌<◌, ◌≤◌, ◌+◌, Bool, true, false, cond, List, [], ◌∷◌, ◌++◌, map, flat_map, length, refl, ap, ◌∙◌, sym, arith, Option, Some, None}
+use Rattle.std.proofs.Common.{◌≡◌, ℕ, zero, suc, ◌<◌, ◌≤◌, ◌+◌, List, [], ◌∷◌, map, flat_map, length, refl, ap, ◌∙◌, sym, arith, Some}
 use Rattle.std.specs.List.{AllByRecursion, find}
 use Rattle.std.specs.Prelude.{◌==◌, option_to_list}
 use Rattle.std.proofs.lemmas.Bool.{eq-eqb, ne_eqb}

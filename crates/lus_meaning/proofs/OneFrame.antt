@@ -1,23 +1,23 @@
 -- A checked program has at most one frame of a trace.
-use Rattle.std.proofs.Common.{◌≡◌, ℕ, zero, suc, pred, ◌<◌, ◌≤◌, ◌+◌, Bool, true, false, cond, ◌||◌, List, [], ◌∷◌, ◌++◌, map, flat_map, length, refl, ap, ◌∙◌, sym, subst, arith, Option, Some, None, slice_index_or}
+use Rattle.std.proofs.Common.{◌≡◌, ℕ, zero, suc, pred, ◌<◌, ◌+◌, Bool, true, false, cond, ◌||◌, List, [], ◌∷◌, ◌++◌, flat_map, length, refl, ap, ◌∙◌, sym, subst, arith, slice_index_or}
 use Rattle.std.specs.List.{AllByRecursion, list_any}
 use Rattle.std.specs.Str.{bytes_eq}
-use Rattle.std.proofs.lemmas.Bool.{true≢false, false≢true}
+use Rattle.std.proofs.lemmas.Bool.{true≢false}
 use Rattle.lus_tree.specs.declared.place.Sort.{Sort}
 use Rattle.lus_tree.specs.Tree.{Name, Variable, Component, Program}
-use Rattle.lus_meaning.specs.Value.{Value, absent, Instants, is_absent}
+use Rattle.lus_meaning.specs.Value.{Value, absent, is_absent}
 use Rattle.lus_meaning.specs.Frame.{Frame, entry, first_value, firsts_of}
-use Rattle.lus_meaning.specs.Scene.{Scene, Instance, instance, no_instances, clock_from, variables, is_on}
+use Rattle.lus_meaning.specs.Scene.{Instance, instance, no_instances, clock_from, variables, is_on}
 use Rattle.lus_meaning.specs.Program.{instance_of}
 use Rattle.lus_meaning.specs.Contract.{scene}
-use Rattle.lus_meaning.specs.Run.{Equation, equations, first_sorts, have_sorts, IsRun}
+use Rattle.lus_meaning.specs.Run.{Equation, equations, first_sorts, have_sorts}
 use Rattle.lus_meaning.specs.Depends.{named_in, left_names, SameChoices}
 use Rattle.lus_meaning.specs.Verdict.{throughout}
-use Rattle.lus_meaning.specs.Trace.{Line, of_name, of_first, listed_at, or_default, is_defined, TakesNames, free_names, TakesFirsts, TakesFrom, IsFrameOf}
+use Rattle.lus_meaning.specs.Trace.{Line, of_name, listed_at, or_default, is_defined, free_names, TakesFirsts, IsFrameOf}
 use Rattle.lus_meaning.specs.Rules.{IsFlag, IsSimpleNode, HasRightNames, IsChecked}
 use Rattle.lus_meaning.proofs.Now.{left_part, right_part}
 use Rattle.lus_meaning.proofs.Equal.{values_equal, sorted_length, unique_run}
-use Rattle.lus_meaning.proofs.Simple.{all_from, all_from_both, named_append, variables_are, all_flags, checked_instance, node_rank, node_ranked}
+use Rattle.lus_meaning.proofs.Simple.{all_from_both, named_append, variables_are, all_flags, checked_instance, node_rank, node_ranked}
 
 -- ---- first values
 
@@ -39,8 +39,9 @@ defined_named x (e ∷ es) = rw (named_append x e.names (flat_map (λ e. e.names
 pub free_part : (d : Component) (P : Variable → Type 0) (vs : List Variable) → AllByRecursion P (flat_map (λ v. cond (is_defined d v.name.text) [] (v ∷ [])) vs) → AllByRecursion (λ v. named_in v.name.text (left_names d) ≡ false → P v) vs
 free_part d P [] a = tt
 free_part d P (v ∷ vs) a = (
-    (λ f. chosen (is_defined d v.name.text) (defined_named v.name.text (equations d) ∙ f) (left_part P (cond (is_defined d v.name.text) [] (v ∷ [])) rest a)),
-    free_part d P vs (right_part P (cond (is_defined d v.name.text) [] (v ∷ [])) rest a))
+  (λ f. chosen (is_defined d v.name.text) (defined_named v.name.text (equations d) ∙ f) (left_part P (cond (is_defined d v.name.text) [] (v ∷ [])) rest a)),
+  free_part d P vs (right_part P (cond (is_defined d v.name.text) [] (v ∷ [])) rest a),
+)
   where
     rest : List Variable
     rest = flat_map (λ v. cond (is_defined d v.name.text) [] (v ∷ [])) vs
@@ -69,13 +70,14 @@ module _ (ls : List Line) (d : Component) (s : IsSimpleNode d) (names : HasRight
 
   pub taken_same : (f g : Frame) → IsFrameOf ls node n f → IsFrameOf ls node n g → SameChoices node [] n f g
   taken_same f g a b = (
-      (λ k. ap (λ (v : List Value). slice_index_or v (pred k) absent) (same_firsts ls [] f g (first_sorts node) a.run.0.firsts b.run.0.firsts a.taken.1 b.taken.1)),
-      all_from_both (λ v. named_in v.name.text (left_names d) ≡ false → (t : ℕ) → t < n → entry f v.name.text t ≡ or_default v.sort (listed_at ls [] (of_name v.name.text) t))
-          (λ v. named_in v.name.text (left_names d) ≡ false → (t : ℕ) → t < n → entry g v.name.text t ≡ or_default v.sort (listed_at ls [] (of_name v.name.text) t))
-          (λ v. (named_in v.name.text [] || named_in v.name.text (left_names d)) ≡ false → (t : ℕ) → t < n → is_absent (entry f v.name.text t) ≡ false → is_absent (entry g v.name.text t) ≡ false → entry f v.name.text t ≡ entry g v.name.text t)
-          (λ v p q e t l _ _. p e t l ∙ sym (q e t l))
-          (variables d) (taken_value f a) (taken_value g b),
-      tt)
+    (λ k. ap (λ (v : List Value). slice_index_or v (pred k) absent) (same_firsts ls [] f g (first_sorts node) a.run.0.firsts b.run.0.firsts a.taken.1 b.taken.1)),
+    all_from_both (λ v. named_in v.name.text (left_names d) ≡ false → (t : ℕ) → t < n → entry f v.name.text t ≡ or_default v.sort (listed_at ls [] (of_name v.name.text) t))
+        (λ v. named_in v.name.text (left_names d) ≡ false → (t : ℕ) → t < n → entry g v.name.text t ≡ or_default v.sort (listed_at ls [] (of_name v.name.text) t))
+        (λ v. (named_in v.name.text [] || named_in v.name.text (left_names d)) ≡ false → (t : ℕ) → t < n → is_absent (entry f v.name.text t) ≡ false → is_absent (entry g v.name.text t) ≡ false → entry f v.name.text t ≡ entry g v.name.text t)
+        (λ v p q e t l _ _. p e t l ∙ sym (q e t l))
+        (variables d) (taken_value f a) (taken_value g b),
+    tt,
+  )
 
   pub only_one : (f g : Frame) → IsFrameOf ls node n f → IsFrameOf ls node n g → f ≡ g
   only_one f g a b = unique_run node (node_rank d s names.in_order) (node_ranked d s names.in_order) (names.declared_once, tt) n throughout f g a.run b.run (taken_same f g a b)

@@ -1,10 +1,10 @@
 -- The settled frame of a simple node has the types of its names.
-use Rattle.std.proofs.Common.{◌≡◌, ℕ, zero, suc, pred, ◌<◌, ◌≤◌, ◌+◌, Bool, true, false, cond, ◌||◌, List, [], ◌∷◌, ◌++◌, map, flat_map, length, refl, ap, ◌∙◌, sym, subst, arith, Option, Some, None, unwrap_or, slice_index_or, get_or}
+use Rattle.std.proofs.Common.{◌≡◌, ℕ, zero, suc, ◌<◌, ◌≤◌, Bool, true, false, cond, ◌||◌, List, [], ◌∷◌, map, length, refl, ap, ◌∙◌, sym, subst, arith, Some, None, unwrap_or, slice_index_or}
 use Rattle.std.specs.List.{AllByRecursion}
 use Rattle.std.specs.Map.{lookup}
 use Rattle.std.specs.Prelude.{◌==◌}
 use Rattle.std.specs.Str.{bytes_eq}
-use Rattle.std.proofs.lemmas.Bool.{true≢false, false≢true, eqb-true, eqb-false}
+use Rattle.std.proofs.lemmas.Bool.{false≢true, eqb-true, eqb-false}
 use Rattle.lus_tree.specs.declared.place.Sort.TheVariants.{Bool as Flags}
 use Rattle.lus_tree.specs.Tree.{Name, Expression, truth, name, negation, pre, arrow, Variable, Component}
 use Rattle.lus_tree.specs.Numbers.{pres, IsNumbered}
@@ -15,16 +15,16 @@ use Rattle.lus_meaning.specs.Meaning.{value}
 use Rattle.lus_meaning.specs.Program.{clock_of_names}
 use Rattle.lus_meaning.specs.Contract.{scene}
 use Rattle.lus_meaning.specs.Run.{Equation, equations, at_instant, entries, right_values, IsBalanced, first_sorts, have_sorts, is_typed}
-use Rattle.lus_meaning.specs.Depends.{named_in, left_names, SameChoices}
-use Rattle.lus_meaning.specs.Recompute.{sample, Pool, equation_pool, source, recompute, recomputed}
+use Rattle.lus_meaning.specs.Depends.{named_in, left_names}
+use Rattle.lus_meaning.specs.Recompute.{sample, Pool, equation_pool, recompute, recomputed}
 use Rattle.lus_meaning.specs.WellMade.{IsWellMade, HasTypes}
 use Rattle.lus_meaning.specs.Laws.{ChoicesFit}
-use Rattle.lus_meaning.specs.Rules.{IsSimple, IsFlag, IsSimpleNode, names_in, read_now, AllAmong, NoneAmong, declared_names, lefts, AreInOrder, HasRightNames}
+use Rattle.lus_meaning.specs.Rules.{IsSimple, IsFlag, IsSimpleNode, names_in, read_now, declared_names, lefts, AreInOrder, HasRightNames}
 use Rattle.lus_meaning.proofs.Now.{left_part, right_part}
 use Rattle.lus_meaning.proofs.Unique.{same_bytes}
 use Rattle.lus_meaning.proofs.Stable.{sample_at, rounds, settled_stays}
 use Rattle.lus_meaning.proofs.Exists.{equation_keys, whole_found, all_balanced}
-use Rattle.lus_meaning.proofs.UniqueFrame.{not_found, exists_run, the_run}
+use Rattle.lus_meaning.proofs.UniqueFrame.{not_found}
 use Rattle.lus_meaning.proofs.Typed.{on_has, only_typed, not_has, latest_has, either}
 use Rattle.lus_meaning.proofs.Ranked.{all_named}
 use Rattle.lus_meaning.proofs.Simple.{all_from, all_from_both, both_parts, named_append, IsSimpleEquation, each_simple, over_equations, all_flags, names_on_base, node_rank, node_ranked, node_bound}
@@ -81,12 +81,12 @@ module _ (d : Component) (simple : IsSimpleNode d) (b : Instants) (f : Frame) wh
   flag_typed (negation p a) h t past now firsts = only_typed Flags (b t) (not_value (value s base a t)) (λ o. not_has (value s base a t) (on_has Flags (b t) (value s base a t) (flag_typed a h t past now firsts) o))
   flag_typed (pre p k a) h t past now firsts = only_typed Flags (b t) (latest b (value s base a) (first_value f k) t)
       (λ _. latest_has Flags b (value s base a) (first_value f k) t
-          (λ u l. flag_typed a h u (all_from (WereFlags t) (WereFlags u) (λ x w v m. w v (omega arith)) (names_in a) past) (read_of_names (IsFlagAt u) a h (all_from (WereFlags t) (IsFlagAt u) (λ x w. w u l) (names_in a) past)) firsts.1)
-          firsts.0)
+      (λ u l. flag_typed a h u (all_from (WereFlags t) (WereFlags u) (λ x w v m. w v (omega arith)) (names_in a) past) (read_of_names (IsFlagAt u) a h (all_from (WereFlags t) (IsFlagAt u) (λ x w. w u l) (names_in a) past)) firsts.1)
+      firsts.0)
   flag_typed (arrow p k a c) h t past now firsts = only_typed Flags (b t) (cond (was_on b t) (value s base c t) (value s base a t))
       (λ o. either (was_on b t) Flags (value s base c t) (value s base a t)
-          (on_has Flags (b t) (value s base c t) (flag_typed c h.1 t (right_part (WereFlags t) (names_in a) (names_in c) past) (right_part (IsFlagAt t) (read_now a) (read_now c) now) (right_part (IsFlagFirst f) (pres a) (pres c) firsts)) o)
-          (on_has Flags (b t) (value s base a t) (flag_typed a h.0 t (left_part (WereFlags t) (names_in a) (names_in c) past) (left_part (IsFlagAt t) (read_now a) (read_now c) now) (left_part (IsFlagFirst f) (pres a) (pres c) firsts)) o))
+      (on_has Flags (b t) (value s base c t) (flag_typed c h.1 t (right_part (WereFlags t) (names_in a) (names_in c) past) (right_part (IsFlagAt t) (read_now a) (read_now c) now) (right_part (IsFlagFirst f) (pres a) (pres c) firsts)) o)
+      (on_has Flags (b t) (value s base a t) (flag_typed a h.0 t (left_part (WereFlags t) (names_in a) (names_in c) past) (left_part (IsFlagAt t) (read_now a) (read_now c) now) (left_part (IsFlagFirst f) (pres a) (pres c) firsts)) o))
   flag_typed _ h t past now firsts = absurd h
 
   -- ---- equations in text order
@@ -129,7 +129,7 @@ free_found x n t pool free Q (v ∷ vs) h e a m = go (bytes_eq x v.name.text) re
     go false d r k = r k
     go true d r k =
         let here : E true ≡ free v t = sample_at n t (unwrap_or (lookup (bytes_eq v.name.text) pool) (free v)) h
-            ∙ ap (λ y. unwrap_or (lookup (bytes_eq y) pool) (free v) t) (sym (same_bytes x v.name.text d)) ∙ ap (λ o. unwrap_or o (free v) t) e in
+        ∙ ap (λ y. unwrap_or (lookup (bytes_eq y) pool) (free v) t) (sym (same_bytes x v.name.text d)) ∙ ap (λ o. unwrap_or o (free v) t) e in
         subst Q (sym here) (a.0 (same_bytes x v.name.text d))
 
 pub below_suc : (P : ℕ → Type 0) (t : ℕ) → ((u : ℕ) → u < t → P u) → P t → (u : ℕ) → u < suc t → P u
@@ -164,12 +164,13 @@ module _ (d : Component) (simple : IsSimpleNode d) (names : HasRightNames d) (nu
 
   pub well_made : IsWellMade (instance d [] no_instances) [] c
   well_made = (
-      names.one_equation,
-      names.left_declared,
-      all_from IsSimpleEquation (λ e. (b : Instants) (f : Frame) → length (right_values (scene (instance d [] no_instances) b f) (clock_of_names d e.names) e.right) ≡ length e.names)
-          (λ e q b f. rw (one_value (scene (instance d [] no_instances) b f) (clock_of_names d e.names) e.right q.right) (sym q.one_name)) (equations d) (each_simple d simple),
-      fit.0,
-      tt)
+    names.one_equation,
+    names.left_declared,
+    all_from IsSimpleEquation (λ e. (b : Instants) (f : Frame) → length (right_values (scene (instance d [] no_instances) b f) (clock_of_names d e.names) e.right) ≡ length e.names)
+        (λ e q b f. rw (one_value (scene (instance d [] no_instances) b f) (clock_of_names d e.names) e.right q.right) (sym q.one_name)) (equations d) (each_simple d simple),
+    fit.0,
+    tt,
+  )
 
   pub balanced : AllByRecursion (λ e. (t : ℕ) → t < n → IsBalanced settled_scene e t) (equations d)
   balanced = all_balanced d [] no_instances n b [] [] refl c settled_frame stays (equations d) (whole_found d [] no_instances n b [] [] refl c settled_frame stays names.one_equation) names.left_declared well_made.2
@@ -178,7 +179,7 @@ module _ (d : Component) (simple : IsSimpleNode d) (names : HasRightNames d) (nu
   free_typed x t l j o = rw (stays x t l) (free_found x n t (equation_pool settled_scene (equations d)) (λ v. only_on (is_on settled_scene (clock_from v.clock)) (entry c v.name.text)) (λ w. is_typed Flags (b t) w ≡ true) (variables d) l
       (not_found x (equation_pool settled_scene (equations d)) (rw (equation_keys settled_scene (equations d)) o))
       (all_from_both IsFlag (λ v. named_in v.name.text (left_names d) ≡ false → (t : ℕ) → t < n → has_sort v.sort (entry c v.name.text t) ≡ true)
-          (λ v. x ≡ v.name.text → is_typed Flags (b t) (only_on (is_on settled_scene (clock_from v.clock)) (entry c v.name.text) t) ≡ true) one (variables d) (all_flags d simple) fit.1)
+      (λ v. x ≡ v.name.text → is_typed Flags (b t) (only_on (is_on settled_scene (clock_from v.clock)) (entry c v.name.text) t) ≡ true) one (variables d) (all_flags d simple) fit.1)
       j)
     where
       one : (v : Variable) → IsFlag v → (named_in v.name.text (left_names d) ≡ false → (t : ℕ) → t < n → has_sort v.sort (entry c v.name.text t) ≡ true) → x ≡ v.name.text →
@@ -189,17 +190,18 @@ module _ (d : Component) (simple : IsSimpleNode d) (names : HasRightNames d) (nu
   types_before zero h x j = λ u l. absurd (omega arith)
   types_before (suc t) h x j = below_suc (λ u. IsFlagAt d simple b settled_frame u x) t (types_before t (omega arith) x j)
       (order_typed d simple b settled_frame t (types_before t (omega arith)) (equations d) names.in_order (each_simple d simple)
-          (over_equations d simple (λ e. AllByRecursion (IsDeclared d simple b settled_frame) (names_in e.right)) (right_parts (IsDeclared d simple b settled_frame) names_in d.body names.used_declared))
-          (over_equations d simple (λ e. AllByRecursion (IsFlagFirst settled_frame) (pres e.right)) (right_parts (IsFlagFirst settled_frame) pres d.body (firsts_are_flags d simple numbered settled_frame firsts_fit)))
-          (all_from (λ e. (t : ℕ) → t < n → IsBalanced settled_scene e t) (λ e. IsBalanced settled_scene e t) (λ e k. k t (omega arith)) (equations d) balanced)
-          (λ y i o. free_typed y t (omega arith) i o) x j)
+      (over_equations d simple (λ e. AllByRecursion (IsDeclared d simple b settled_frame) (names_in e.right)) (right_parts (IsDeclared d simple b settled_frame) names_in d.body names.used_declared))
+      (over_equations d simple (λ e. AllByRecursion (IsFlagFirst settled_frame) (pres e.right)) (right_parts (IsFlagFirst settled_frame) pres d.body (firsts_are_flags d simple numbered settled_frame firsts_fit)))
+      (all_from (λ e. (t : ℕ) → t < n → IsBalanced settled_scene e t) (λ e. IsBalanced settled_scene e t) (λ e k. k t (omega arith)) (equations d) balanced)
+      (λ y i o. free_typed y t (omega arith) i o) x j)
     where
       firsts_fit : have_sorts (first_sorts (instance d [] no_instances)) (firsts_of settled_frame) ≡ true
       firsts_fit = subst (λ vs. have_sorts (first_sorts (instance d [] no_instances)) vs ≡ true) (sym (kept_firsts (rounds rank_limit n) d n b c)) fit.0
 
   pub settled_types : HasTypes (instance d [] no_instances) n b settled_frame
   settled_types = (
-      all_from_both IsFlag (λ v. IsDeclared d simple b settled_frame v.name.text) (λ v. (t : ℕ) → t < n → is_typed v.sort (is_on settled_scene (clock_from v.clock) t) (entry settled_frame v.name.text t) ≡ true)
-          (λ v k j t l. rw (k.sort, k.clock) (types_before n (omega arith) v.name.text j t l)) (variables d) (all_flags d simple)
-          (mapped_all (IsDeclared d simple b settled_frame) (λ v. v.name.text) (variables d) (all_named (IsDeclared d simple b settled_frame) (declared_names d) (λ x k. k))),
-      tt)
+    all_from_both IsFlag (λ v. IsDeclared d simple b settled_frame v.name.text) (λ v. (t : ℕ) → t < n → is_typed v.sort (is_on settled_scene (clock_from v.clock) t) (entry settled_frame v.name.text t) ≡ true)
+        (λ v k j t l. rw (k.sort, k.clock) (types_before n (omega arith) v.name.text j t l)) (variables d) (all_flags d simple)
+        (mapped_all (IsDeclared d simple b settled_frame) (λ v. v.name.text) (variables d) (all_named (IsDeclared d simple b settled_frame) (declared_names d) (λ x k. k))),
+    tt,
+  )

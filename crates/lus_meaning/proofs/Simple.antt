@@ -1,19 +1,15 @@
 -- A checked program is one instance without calls, constants and clocks, whose names have a rank.
-use Rattle.std.proofs.Common.{◌≡◌, ℕ, zero, suc, ◌<◌, ◌≤◌, ◌+◌, Bool, true, false, cond, ◌&&◌, ◌||◌, List, [], ◌∷◌, ◌++◌, map, flat_map, length, refl, ap, ◌∙◌, sym, subst, arith, Option, Some, None, unwrap_or, option_map}
-use Rattle.std.specs.List.{AllByRecursion, list_any, find}
+use Rattle.std.proofs.Common.{◌≡◌, ℕ, suc, ◌<◌, ◌≤◌, ◌+◌, Bool, true, false, cond, ◌||◌, List, [], ◌∷◌, ◌++◌, flat_map, length, refl, ap, ◌∙◌, sym, subst, arith, Some, None, unwrap_or, option_map}
+use Rattle.std.specs.List.{AllByRecursion, find}
 use Rattle.std.specs.Str.{bytes_eq}
 use Rattle.std.proofs.lemmas.Bool.{true≢false, false≢true}
-use Rattle.lus_tree.specs.declared.place.Sort.TheVariants.{Bool as Flags}
-use Rattle.lus_tree.specs.Tree.{Name, Spelled, text_of, Expression, truth, number, name, negation, minus, pre, arrow, binary, choice, sampled, merged, call, condact, mode_name, Variable, Labelled, Statement, equation, assertion, property, main_mark, Component, declared_node, Program}
-use Rattle.lus_meaning.specs.Value.{Value}
+use Rattle.lus_tree.specs.Tree.{Name, Spelled, Expression, truth, name, negation, pre, arrow, Variable, Labelled, Statement, equation, assertion, property, main_mark, Component, declared_node, Program}
 use Rattle.lus_meaning.specs.Scene.{Clock, base, Instance, instance, no_instances, clauses, variables, clock_from, clock_of}
 use Rattle.lus_meaning.specs.Program.{call_sites, statement_sites, all_sites, clock_of_names, constants_in, instance_of}
 use Rattle.lus_meaning.specs.Run.{Equation, equations, body_equations}
-use Rattle.lus_meaning.specs.Depends.{Need, the_beat, a_name, Rank, rank_of, AllBelow, clock_needs, needs, ModeNeeds, modes_need, equation_needs, named_in, left_names, IsRanked}
-use Rattle.lus_meaning.specs.WellMade.{AreDistinct}
-use Rattle.lus_meaning.specs.Rules.{IsSimple, IsSimpleItem, IsFlag, IsSimpleNode, read_now, AllAmong, NoneAmong, declared_names, lefts, AreInOrder, HasRightNames, FollowsRules, IsChecked}
+use Rattle.lus_meaning.specs.Depends.{Rank, rank_of, AllBelow, clock_needs, needs, ModeNeeds, modes_need, equation_needs, named_in, IsRanked}
+use Rattle.lus_meaning.specs.Rules.{IsSimple, IsSimpleItem, IsFlag, IsSimpleNode, read_now, lefts, AreInOrder, IsChecked}
 use Rattle.lus_meaning.proofs.Now.{left_part, right_part}
-use Rattle.lus_meaning.proofs.Equal.{AreNamed}
 use Rattle.lus_meaning.proofs.Ranked.{all_named}
 
 -- ---- lists
@@ -185,8 +181,9 @@ IsAbove es e y = (named_in y (lefts es) ≡ true) × AllByRecursion (λ x. rank_
 pub order_ranks : (es : List Equation) → AreInOrder es → AllByRecursion (λ e. AllByRecursion (IsAbove es e) e.names) es
 order_ranks [] h = tt
 order_ranks (q ∷ es) h = (
-    all_named (IsAbove (q ∷ es) q) q.names first,
-    all_from (λ e. AllByRecursion (IsAbove es e) e.names) (λ e. AllByRecursion (IsAbove (q ∷ es) e) e.names) (λ e a. all_from (IsAbove es e) (IsAbove (q ∷ es) e) (later e) e.names a) es (order_ranks es h.1))
+  all_named (IsAbove (q ∷ es) q) q.names first,
+  all_from (λ e. AllByRecursion (IsAbove es e) e.names) (λ e. AllByRecursion (IsAbove (q ∷ es) e) e.names) (λ e a. all_from (IsAbove es e) (IsAbove (q ∷ es) e) (later e) e.names a) es (order_ranks es h.1),
+)
   where
     first : (y : Name) → named_in y q.names ≡ true → IsAbove (q ∷ es) q y
     first y k =
@@ -203,9 +200,12 @@ needs_below i m r k b (truth p q) h a = (b, tt)
 needs_below i m r k b (name p x) h a = (a.0, (b, tt))
 needs_below i m r k b (negation p e) h a = (b, needs_below i m r k b e h a)
 needs_below i m r k b (pre p j e) h a = (b, tt)
-needs_below i m r k b (arrow p j e f) h a = (b, both_parts (λ q. rank_of r q < k) (needs i m base e) (needs i m base f)
-    (needs_below i m r k b e h.0 (left_part (λ x. r [] (Some x) < k) (read_now e) (read_now f) a))
-    (needs_below i m r k b f h.1 (right_part (λ x. r [] (Some x) < k) (read_now e) (read_now f) a)))
+needs_below i m r k b (arrow p j e f) h a = (
+  b,
+  both_parts (λ q. rank_of r q < k) (needs i m base e) (needs i m base f)
+      (needs_below i m r k b e h.0 (left_part (λ x. r [] (Some x) < k) (read_now e) (read_now f) a))
+      (needs_below i m r k b f h.1 (right_part (λ x. r [] (Some x) < k) (read_now e) (read_now f) a)),
+)
 needs_below i m r k b _ h a = absurd h
 
 module _ (d : Component) (simple : IsSimpleNode d) (ordered : AreInOrder (equations d)) where
@@ -226,7 +226,8 @@ module _ (d : Component) (simple : IsSimpleNode d) (ordered : AreInOrder (equati
   node_ranked = (
     all_from_both IsSimpleEquation (λ e. AllByRecursion (IsAbove (equations d) e) e.names) (λ e. AllByRecursion (λ y. AllBelow node_rank (equation_needs node e) (node_rank [] (Some y))) e.names) equation_ranked (equations d) (each_simple d simple) (order_ranks (equations d) ordered),
     all_from IsFlag (λ v. AllBelow node_rank (clock_needs (clock_from v.clock)) (node_rank [] (Some v.name.text))) (λ v f. rw f.clock ((omega arith, tt))) (variables d) (all_flags d simple),
-    tt)
+    tt,
+  )
 
   pub node_bound : (ks : List ℕ) (x : Name) → node_rank ks (Some x) < suc (suc (length (equations d)))
   node_bound ks x = let b : rank_in (equations d) x ≤ length (equations d) = rank_bound (equations d) x in omega arith

@@ -1,5 +1,5 @@
 -- The laws of a checked program: the one frame of given choices, and the one frame of a trace that lists nothing.
-use Rattle.std.specs.Prelude.{◌≡◌, ℕ, zero, suc, ◌<◌, Bool, true, false, ◌||◌, List, []}
+use Rattle.std.specs.Prelude.{◌≡◌, ℕ, suc, ◌<◌, true, false, ◌||◌, List, []}
 use Rattle.std.specs.List.{AllByRecursion}
 use Rattle.lus_tree.specs.Tree.{Name, Component, Program}
 use Rattle.lus_meaning.specs.Value.{Instants, has_sort}
@@ -23,7 +23,7 @@ abbrev mutual
   CallsFit no_instances n g = Unit {0}
   CallsFit (with_instance c k is) n g = ChoicesFrom k (from_caller c k) n (g 0) × CallsFit is n (λ j. g (suc j))
 
--- the choices of an analysed declaration, which no caller gives a name
+-- the choices of a declaration that nothing calls
 abbrev pub ChoicesFit : Instance → ℕ → Frame → Type 0
 ChoicesFit i n c = ChoicesFrom i [] n c
 
@@ -35,6 +35,9 @@ HasOneRun i = (n : ℕ) (b : Instants) (c : Frame) → ChoicesFit i n c →
 abbrev pub UniqueFrame : Type 0
 UniqueFrame = (p : Program) (d : Component) → IsChecked p d → HasOneRun (instance_of p d)
 
--- a trace that lists nothing has exactly one frame
+-- a trace that lists nothing has exactly one frame of as many instants as one likes
+abbrev pub HasOneFrame : Instance → Type 0
+HasOneFrame i = (n : ℕ) → (f : Frame) × IsFrameOf [] i n f × ((g : Frame) → IsFrameOf [] i n g → g ≡ f)
+
 abbrev pub FrameOfTrace : Type 0
-FrameOfTrace = (p : Program) (d : Component) → IsChecked p d → (n : ℕ) → (f : Frame) × IsFrameOf [] (instance_of p d) n f × ((g : Frame) → IsFrameOf [] (instance_of p d) n g → g ≡ f)
+FrameOfTrace = (p : Program) (d : Component) → IsChecked p d → HasOneFrame (instance_of p d)
