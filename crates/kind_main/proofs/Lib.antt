@@ -4,3 +4,4 @@ pub mod Instants
 pub mod ThreeWords
 pub mod FirstToken
 pub mod Reporting
+pub mod TableFrame
