@@ -9,3 +9,4 @@ pub mod Ordered
 pub mod Broken
 pub mod FewNames
 pub mod Replayed
+pub mod LeftNames

@@ -1,6 +1,7 @@
 //! The program `kind` behind its words, its files and its output.
 #![tactic(auto)]
 
+mod lefts;
 mod report;
 mod status;
 mod table;
