@@ -1,3 +1,5 @@
 pub mod Tokens
 pub mod Grammar
 pub mod Source
+pub mod Reading
+pub mod Views

@@ -5,6 +5,8 @@ ghost use Rattle.std.specs.Prelude.{◌≤◌, length, IfOk, IfErr};
 ghost use Rattle.lus_tree.specs.View.{program_view};
 ghost use Rattle.lus_reader.specs.Source.{IsSource, IsRefused, OneTree};
 
+mod expression;
+mod fault;
 mod token;
 
 use lus_tree::{Pos, Program, Refusal, What};

@@ -1,0 +1,38 @@
+-- What contracts see of the reader's types.
+use Rattle.std.specs.Prelude.{◌≡◌, ◌+◌, ◌≤◌, ℕ, List, length, map, Option, Some, None, Result, MatchResult, MatchOption, IfOk}
+use Rattle.lus_tree.specs.declared.place.Pos.{Pos}
+use Rattle.lus_tree.specs.View.{expr_view}
+use Rattle.lus_reader.specs.declared.token.Lexeme.{Lexeme as LexemeCode}
+use Rattle.lus_reader.specs.declared.token.Token.{Token as TokenCode}
+use Rattle.lus_reader.specs.declared.token.Token.TheVariants.{Fixed, Named}
+use Rattle.lus_reader.specs.declared.expression.Counts.{Counts as CountsCode}
+use Rattle.lus_reader.specs.declared.expression.Found.{Found}
+use Rattle.lus_reader.specs.declared.fault.Fault.{Fault}
+use Rattle.lus_reader.specs.declared.fault.Fault.TheVariants.{NotBuilt}
+use Rattle.lus_reader.specs.Tokens.{Token, fixed, named, Lexeme}
+use Rattle.lus_reader.specs.Grammar.{Counts}
+use Rattle.lus_reader.specs.Reading.{Read}
+
+abbrev pub token_view : TokenCode → Token
+token_view (Fixed m) = fixed m
+token_view (Named x) = named x.now
+
+abbrev pub lexeme_view : LexemeCode → Lexeme
+lexeme_view l = record { at = l.at; token = token_view l.token }
+
+abbrev pub lexemes_view : List LexemeCode → List Lexeme
+lexemes_view = map lexeme_view
+
+abbrev pub counts_view : CountsCode → Counts
+counts_view n = record { pres = n.pres; arrows = n.arrows }
+
+abbrev pub found_view : Found → Read
+found_view f = record { tree = expr_view f.expr; counts = counts_view f.counts; rest = lexemes_view f.rest.now }
+
+-- the answer is what a plain reading gives
+abbrev pub Gives : Option Read → Result Found Fault → Type 0
+Gives o r = MatchResult r (λ f. o ≡ Some (found_view f)) (λ e. e ≡ NotBuilt → o ≡ None)
+
+-- no more than 1,048,576 occurrences stand before the end of the tokens
+abbrev pub HasRoom : CountsCode → List LexemeCode → Type 0
+HasRoom n ls = (n.pres + length ls ≤ 1048576) × (n.arrows + length ls ≤ 1048576)
