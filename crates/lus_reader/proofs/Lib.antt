@@ -1,1 +1,4 @@
 pub mod Places
+pub mod Signs
+pub mod Sound
+pub mod Complete
