@@ -1,7 +1,7 @@
 -- A plain reader of expressions, down to a depth.
-use Rattle.std.specs.Prelude.{◌+◌, ◌==◌, ℕ, zero, suc, Bool, true, false, List, [], ◌∷◌, Option, Some, None, if◌then◌else◌}
+use Rattle.std.specs.Prelude.{◌+◌, ◌==◌, ℕ, zero, suc, Bool, true, false, List, [], ◌∷◌, Option, Some, None, nat_le, length, if◌then◌else◌}
 use Rattle.lus_tree.specs.declared.place.Pos.{Pos}
-use Rattle.lus_tree.specs.Tree.{Expression, truth, name, negation, pre, arrow}
+use Rattle.lus_tree.specs.Tree.{Expression, truth, name, negation, pre, arrow, Statement, equation, property}
 use Rattle.lus_reader.specs.declared.token.Mark.{Mark}
 use Rattle.lus_reader.specs.declared.token.Mark.TheVariants as M
 use Rattle.lus_reader.specs.Tokens.{Token, fixed, named, Lexeme}
@@ -93,3 +93,52 @@ abbrev mutual
   pub read_whole : ℕ → Counts → List Lexeme → Option Read
   read_whole zero n ls = None
   read_whole (suc d) n ls = with_read (read_operand d n ls) (λ r. arrow_read r (behind M.Arrow r.rest) (λ after. read_whole d (one_arrow r.counts) after))
+
+abbrev pub ended_at : Read → Option (Pos × List Lexeme) → Option Read
+ended_at r None = None
+ended_at r (Some s) = Some (record { tree = r.tree; counts = r.counts; rest = s.1 })
+
+-- of at most 1,000 tokens, and with a semicolon behind it
+abbrev pub ended : List Lexeme → Read → Option Read
+ended ls r = if nat_le (length ls) (1000 + length r.rest) then ended_at r (behind M.Semicolon r.rest) else None
+
+abbrev pub read_closed : ℕ → Counts → List Lexeme → Option Read
+read_closed d n ls = with_read (read_whole d n ls) (λ r. ended ls r)
+
+pub record ReadItem : Type 0 where
+  pub item : Statement
+  pub counts : Counts
+  pub rest : List Lexeme
+
+abbrev pub item_with : Option Read → (Expression → Statement) → Option ReadItem
+item_with None f = None
+item_with (Some r) f = Some (record { item = f r.tree; counts = r.counts; rest = r.rest })
+
+abbrev pub closed_behind : ℕ → Counts → Option (Pos × List Lexeme) → Option Read
+closed_behind d n None = None
+closed_behind d n (Some s) = read_closed d n s.1
+
+-- What a first token gives: from the expression behind its `=`, and the one behind itself.
+abbrev pub item_read : Token → Pos → Option Read → Option Read → Option ReadItem
+item_read (named x) p after_equals after = item_with after_equals (λ e. equation (record { text = x; at = p } ∷ []) e)
+item_read (fixed M.Property) p after_equals after = item_with after (λ e. property (record { label = None; at = p; value = e }))
+item_read (fixed M.Node) p after_equals after = None
+item_read (fixed M.Returns) p after_equals after = None
+item_read (fixed M.Let) p after_equals after = None
+item_read (fixed M.Tel) p after_equals after = None
+item_read (fixed M.Bool) p after_equals after = None
+item_read (fixed M.Not) p after_equals after = None
+item_read (fixed M.Pre) p after_equals after = None
+item_read (fixed M.True) p after_equals after = None
+item_read (fixed M.False) p after_equals after = None
+item_read (fixed M.Open) p after_equals after = None
+item_read (fixed M.Close) p after_equals after = None
+item_read (fixed M.Comma) p after_equals after = None
+item_read (fixed M.Semicolon) p after_equals after = None
+item_read (fixed M.Colon) p after_equals after = None
+item_read (fixed M.Equals) p after_equals after = None
+item_read (fixed M.Arrow) p after_equals after = None
+
+abbrev pub read_item : ℕ → Counts → List Lexeme → Option ReadItem
+read_item d n [] = None
+read_item d n (l ∷ ls) = item_read l.token l.at (closed_behind d n (behind M.Equals ls)) (read_closed d n ls)

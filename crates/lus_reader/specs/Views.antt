@@ -1,7 +1,7 @@
 -- What contracts see of the reader's types.
 use Rattle.std.specs.Prelude.{◌≡◌, ◌+◌, ◌≤◌, ℕ, List, length, map, Option, Some, None, Result, MatchResult, MatchOption, IfOk}
 use Rattle.lus_tree.specs.declared.place.Pos.{Pos}
-use Rattle.lus_tree.specs.View.{expr_view}
+use Rattle.lus_tree.specs.View.{expr_view, item_view}
 use Rattle.lus_reader.specs.declared.token.Lexeme.{Lexeme as LexemeCode}
 use Rattle.lus_reader.specs.declared.token.Token.{Token as TokenCode}
 use Rattle.lus_reader.specs.declared.token.Token.TheVariants.{Fixed, Named}
@@ -11,7 +11,8 @@ use Rattle.lus_reader.specs.declared.fault.Fault.{Fault}
 use Rattle.lus_reader.specs.declared.fault.Fault.TheVariants.{NotBuilt}
 use Rattle.lus_reader.specs.Tokens.{Token, fixed, named, Lexeme}
 use Rattle.lus_reader.specs.Grammar.{Counts}
-use Rattle.lus_reader.specs.Reading.{Read}
+use Rattle.lus_reader.specs.declared.item.FoundItem.{FoundItem}
+use Rattle.lus_reader.specs.Reading.{Read, ReadItem}
 
 abbrev pub token_view : TokenCode → Token
 token_view (Fixed m) = fixed m
@@ -36,3 +37,9 @@ Gives o r = MatchResult r (λ f. o ≡ Some (found_view f)) (λ e. e ≡ NotBuil
 -- no more than 1,048,576 occurrences stand before the end of the tokens
 abbrev pub HasRoom : CountsCode → List LexemeCode → Type 0
 HasRoom n ls = (n.pres + length ls ≤ 1048576) × (n.arrows + length ls ≤ 1048576)
+
+abbrev pub found_item_view : FoundItem → ReadItem
+found_item_view f = record { item = item_view f.item; counts = counts_view f.counts; rest = lexemes_view f.rest.now }
+
+abbrev pub GivesItem : Option ReadItem → Result FoundItem Fault → Type 0
+GivesItem o r = MatchResult r (λ f. o ≡ Some (found_item_view f)) (λ e. e ≡ NotBuilt → o ≡ None)

@@ -97,7 +97,7 @@ fn read_operand<'t, 's>(
 
 /// An expression, as far as it goes.
 #[cycle(expression)]
-fn read_whole<'t, 's>(
+pub fn read_whole<'t, 's>(
     alloc: Global,
     depth: u32,
     counts: Counts,
@@ -146,7 +146,7 @@ fn one_arrow(counts: Counts) -> Counts
     }
 }
 
-fn leaf<'t, 's>(expr: Expr, counts: Counts, rest: &'t [Lexeme<'s>]) -> Found<'t, 's>
+pub fn leaf<'t, 's>(expr: Expr, counts: Counts, rest: &'t [Lexeme<'s>]) -> Found<'t, 's>
     ensures expr { expr_view result.expr ≡ expr_view expr }
     ensures counts { result.counts ≡ counts }
     ensures rest { result.rest.now ≡ rest.now }

@@ -7,6 +7,7 @@ ghost use Rattle.lus_reader.specs.Source.{IsSource, IsRefused, OneTree};
 
 mod expression;
 mod fault;
+mod item;
 mod token;
 
 use lus_tree::{Pos, Program, Refusal, What};
