@@ -2,3 +2,5 @@ pub mod Places
 pub mod Signs
 pub mod Sound
 pub mod Complete
+pub mod Items
+pub mod Leading
