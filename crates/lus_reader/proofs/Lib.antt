@@ -4,3 +4,4 @@ pub mod Sound
 pub mod Complete
 pub mod Items
 pub mod Leading
+pub mod Bodies

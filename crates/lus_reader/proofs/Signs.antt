@@ -39,7 +39,7 @@ nat_eq_same a = grind arith
 one_mark : (m k : Mark) → nat_eq (code k) (code m) ≡ true → k ≡ m
 one_mark m k h = sym (of_code_code k) ∙ ap of_code (nat_eq_true (code k) (code m) h) ∙ of_code_code m
 
-sign_token : (m : Mark) (t : Token) → is_sign m t ≡ true → t ≡ fixed m
+pub sign_token : (m : Mark) (t : Token) → is_sign m t ≡ true → t ≡ fixed m
 sign_token m (fixed k) h = ap fixed (one_mark m k h)
 sign_token m (named x) h = cc
 

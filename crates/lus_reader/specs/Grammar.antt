@@ -20,6 +20,9 @@ pub record Counts : Type 0 where
   pub pres : ℕ
   pub arrows : ℕ
 
+abbrev pub none_before : Counts
+none_before = record { pres = 0; arrows = 0 }
+
 abbrev pub one_pre : Counts → Counts
 one_pre n = record { pres = n.pres + 1; arrows = n.arrows }
 
@@ -131,20 +134,8 @@ Signs [] ls rest = ls ≡ rest
 Signs (m ∷ ms) ls rest = (p : Pos) × (behind : List Lexeme) × (ls ≡ sign m p ∷ behind) × Signs ms behind rest
 
 -- node = "node" NAME "(" ")" "returns" "(" outputs "bool" ")" ";" "let" body
-pub record IsNode (ls : List Lexeme) (c : Component) : Type 0 where
-  pub title : List Lexeme
-  pub x : Name
-  pub p : Pos
-  pub parameters : List Lexeme
-  pub names : List Lexeme
-  pub outputs : List Variable
-  pub sort : List Lexeme
-  pub items : List Lexeme
-  pub body : List Statement
-  pub begins : Signs (M.Node ∷ []) ls title
-  pub name : title ≡ ident x p ∷ parameters
-  pub no_inputs : Signs (M.Open ∷ M.Close ∷ M.Returns ∷ M.Open ∷ []) parameters names
-  pub returns : Outputs names outputs sort
-  pub all_bool : Signs (M.Bool ∷ M.Close ∷ M.Semicolon ∷ M.Let ∷ []) sort items
-  pub has : Body (record { pres = 0; arrows = 0 }) items body
-  pub whole : c ≡ node x p outputs body
+pub data IsNode : List Lexeme → Component → Type 0 where
+  whole : {ls : List Lexeme} (x : Name) (p : Pos) (parameters names sort items : List Lexeme) (outputs : List Variable) (body : List Statement)
+      → Signs (M.Node ∷ []) ls (ident x p ∷ parameters) → Signs (M.Open ∷ M.Close ∷ M.Returns ∷ M.Open ∷ []) parameters names
+      → Outputs names outputs sort → Signs (M.Bool ∷ M.Close ∷ M.Semicolon ∷ M.Let ∷ []) sort items → Body none_before items body
+      → IsNode ls (node x p outputs body)

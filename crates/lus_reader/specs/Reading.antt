@@ -142,3 +142,18 @@ item_read (fixed M.Arrow) p after_equals after = None
 abbrev pub read_item : ℕ → Counts → List Lexeme → Option ReadItem
 read_item d n [] = None
 read_item d n (l ∷ ls) = item_read l.token l.at (closed_behind d n (behind M.Equals ls)) (read_closed d n ls)
+
+-- may it follow the last word of a body?
+abbrev pub ends : List Lexeme → Bool
+ends [] = true
+ends (l ∷ []) = is_sign M.Semicolon l.token
+ends (l ∷ k ∷ ls) = false
+
+abbrev pub behind_next : Option (Pos × List Lexeme) → (List Lexeme → Option (List Lexeme)) → Option (List Lexeme)
+behind_next None f = None
+behind_next (Some s) f = f s.1
+
+-- what stands behind these signs
+abbrev pub behind_all : List Mark → List Lexeme → Option (List Lexeme)
+behind_all [] ls = Some ls
+behind_all (m ∷ ms) ls = behind_next (behind m ls) (λ after. behind_all ms after)

@@ -41,7 +41,7 @@ pub fn behind<'t, 's>(
     }
 }
 
-fn is_sign(token: Token, mark: Mark) -> bool
+pub fn is_sign(token: Token, mark: Mark) -> bool
     ensures { result ≡ is_sign mark (token_view token.entry) }
 {
     match token {

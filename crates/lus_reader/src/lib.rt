@@ -5,9 +5,11 @@ ghost use Rattle.std.specs.Prelude.{◌≤◌, length, IfOk, IfErr};
 ghost use Rattle.lus_tree.specs.View.{program_view};
 ghost use Rattle.lus_reader.specs.Source.{IsSource, IsRefused, OneTree};
 
+mod body;
 mod expression;
 mod fault;
 mod item;
+mod list;
 mod token;
 
 use lus_tree::{Pos, Program, Refusal, What};
