@@ -12,8 +12,8 @@ use std::rt::Files;
 /// The most bytes that a file may have: 2^40.
 const LONGEST: u64 = 1 << 40;
 
-/// The files of the system by their paths; the empty name is standard input. It tells no bytes. A
-/// file that cannot be read or written, or is longer than 2^40 bytes, is a fault.
+/// The files of the system by their paths; the empty name is standard input, which keeps nothing. It
+/// tells no bytes. A file that cannot be read or written, or is longer than 2^40 bytes, is a fault.
 #[derive(Drop)]
 pub struct FileShelf<'r, R> {
     rt: &'r R,

@@ -23,6 +23,10 @@ fn files_are_kept_and_fetched(rt: HostRuntime) -> Result<(), Fail> {
         shelf.fetch(alloc, path.as_str(), 9).err(),
         Some(FetchFault::Failed)
     );
+    assert_eq!(rt;
+        shelf.keep(alloc, "", b"input").err(),
+        Some(KeepFault::Failed)
+    );
     Ok(())
 }
 
@@ -31,10 +35,6 @@ fn reading_stops_past_the_limit(rt: HostRuntime) {
     let mut shelf = FileShelf::new(&rt);
     let endless = shelf.fetch(rt.alloc(), "/dev/zero", 100_000);
     assert_eq!(rt; endless.err(), Some(FetchFault::TooLong));
-    assert_eq!(rt;
-        shelf.keep(rt.alloc(), "", b"input").err(),
-        Some(KeepFault::Failed)
-    );
 }
 
 #[test]
@@ -46,8 +46,8 @@ fn standard_output_takes_pieces(rt: HostRuntime) -> Result<(), Fail> {
     Ok(())
 }
 
-/// Takes or gives one byte a call, is interrupted at each call of an even number, and from the call
-/// `last` on takes nothing, or fails.
+/// Takes one byte a call, is interrupted at each call of an even number, and takes nothing from the
+/// call `last` on.
 #[derive(Drop)]
 struct Trickle {
     calls: u8,
