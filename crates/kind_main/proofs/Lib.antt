@@ -10,3 +10,4 @@ pub mod Broken
 pub mod FewNames
 pub mod Replayed
 pub mod LeftNames
+pub mod Printing
