@@ -11,3 +11,4 @@ pub mod FewNames
 pub mod Replayed
 pub mod LeftNames
 pub mod Printing
+pub mod Cuts
