@@ -12,3 +12,4 @@ pub mod Replayed
 pub mod LeftNames
 pub mod Printing
 pub mod Cuts
+pub mod TraceRows

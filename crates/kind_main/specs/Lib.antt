@@ -7,3 +7,4 @@ pub mod Breaks
 pub mod Answer
 pub mod Printing
 pub mod Cutting
+pub mod Cutter
