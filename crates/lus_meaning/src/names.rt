@@ -82,12 +82,22 @@ fn is_defined_in(items: &[Item], name: &str) -> bool
     false
 }
 
-/// Whether each left name is declared.
+/// Whether the left names of an item are declared.
+fn is_left_declared(params: &[Param], item: &Item) -> bool
+    ensures { IsTrue result ↔ AllAmong (names_of (map param_view params.now)) (lefts (body_equations (item_view item.now ∷ []))) }
+{
+    match item {
+        Item::Equation(words, _) => are_declared(params, words),
+        Item::Assert(_) | Item::Property(_) | Item::Main(_) => true,
+    }
+}
+
+/// Whether all left names are declared.
 fn are_lefts_declared(params: &[Param], items: &[Item]) -> bool
     ensures { IsTrue result ↔ AllAmong (names_of (map param_view params.now)) (lefts (body_equations (map item_view items.now))) }
 {
     for item in items {
-        if let Item::Equation(words, _) = item && !are_declared(params, words) {
+        if !is_left_declared(params, item) {
             return false;
         }
     }
@@ -197,7 +207,10 @@ fn are_in_order(items: &[Item]) -> bool
     ensures { IsTrue result ↔ AreInOrder (body_equations (map item_view items.now)) }
 {
     for (i, item) in items.iter().enumerate() {
-        if let Item::Equation(_, e) = item && !reads_none(&items[i..], e) {
+        let Item::Equation(_, e) = item else {
+            continue;
+        };
+        if !reads_none(&items[i..], e) {
             return false;
         }
     }
