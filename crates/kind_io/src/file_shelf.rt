@@ -1,5 +1,6 @@
 // The system's files and its standard input.
 ghost use Rattle.std.specs.Prelude.{◌≡◌, ◌<◌, ◌≤◌, ◌-◌, ◌^◌, None, IfOk, IfSome, IsErrOf, length, vec_len};
+ghost use Rattle.kind_io.specs.System.{shelf_faults};
 
 use crate::std_sink::write_whole;
 use crate::{FetchFault, KeepFault, Shelf};
@@ -11,8 +12,8 @@ use std::rt::Files;
 /// The most bytes that a file may have: 2^40.
 const LONGEST: u64 = 1 << 40;
 
-/// The files of the system by their paths; the empty name is standard input. It tells no bytes. A
-/// file that cannot be read or written, or is longer than 2^40 bytes, is a fault.
+/// The files of the system by their paths; the empty name is standard input, which keeps nothing. It
+/// tells no bytes. A file that cannot be read or written, or is longer than 2^40 bytes, is a fault.
 #[derive(Drop)]
 pub struct FileShelf<'r, R> {
     rt: &'r R,
@@ -21,7 +22,9 @@ pub struct FileShelf<'r, R> {
 
 impl<'r, R: Files + Input> FileShelf<'r, R> {
     /// No call has failed yet.
-    pub fn new(rt: &'r R) -> Self {
+    pub fn new(rt: &'r R) -> Self
+        ensures { shelf_faults result ≡ 0 }
+    {
         FileShelf { rt, faults: 0 }
     }
 }
@@ -29,7 +32,7 @@ impl<'r, R: Files + Input> FileShelf<'r, R> {
 impl<'r, R: Files + Input> Shelf for FileShelf<'r, R> {
     ghost told = { λ _ _. None };
 
-    ghost faults = { λ shelf. shelf.faults };
+    ghost faults = { shelf_faults };
 
     fn fetch(&mut self, alloc: Global, name: &str, limit: u64) -> Result<Vec<u8>, FetchFault> {
         let read = if name.is_empty() {
@@ -58,10 +61,15 @@ impl<'r, R: Files + Input> Shelf for FileShelf<'r, R> {
 }
 
 /// All that is left to read. It stops where it has read more than the limit.
-fn read_within<T: Read + Drop>(alloc: Global, from: T, limit: u64) -> Result<Vec<u8>, FetchFault>
+pub fn read_within<T: Read + Drop>(
+    alloc: Global,
+    from: T,
+    limit: u64,
+) -> Result<Vec<u8>, FetchFault>
     ensures bytes { IfOk result (λ read. IfSome (T.remaining from) (λ left. read.items ≡ left)) }
     ensures within { IfOk result (λ read. vec_len read ≤ limit) }
     ensures too_long { IsErrOf result FetchFault.TooLong → IfSome (T.remaining from) (λ left. limit < length left) }
+    ensures longest { IfOk result (λ read. vec_len read ≤ 2 ^ 40) }
     ensures unlimited { IsErrOf result FetchFault.TooLong → limit < 2 ^ 64 - 1 }
 {
     let most = limit.min(LONGEST);

@@ -1,5 +1,5 @@
 // Named bytes in memory.
-ghost use Rattle.std.specs.Prelude.{◌≡◌, ◌≢◌, ◌<◌, ◌≤◌, ◌+◌, ◌↔◌, ℕ, List, Some, None, OnOk, OnErr, IfOk, IsErrOf, length, vec_len, string_bytes, position};
+ghost use Rattle.std.specs.Prelude.{◌≡◌, ◌≢◌, ◌<◌, ◌≤◌, ◌↔◌, ℕ, List, Some, None, OnOk, OnErr, IfOk, IsErrOf, length, vec_len, string_bytes, position};
 ghost use Rattle.std.specs.Option.{option_map};
 ghost use Rattle.std.specs.Str.{bytes_eq};
 ghost use Rattle.kind_io.specs.Held.{held_of};

@@ -1,5 +1,5 @@
 // A shelf in memory whose calls fail by their number.
-ghost use Rattle.std.specs.Prelude.{◌≡◌, ◌≢◌, ◌+◌, ◌-◌, ◌^◌, ◌<◌, ◌≤◌, ◌↔◌, ◌⊎◌, ℕ, List, Some, None, OnOk, IfOk, IsErrOf, vec_len};
+ghost use Rattle.std.specs.Prelude.{◌≡◌, ◌≢◌, ◌-◌, ◌^◌, ◌<◌, ◌≤◌, ◌↔◌, ◌⊎◌, ℕ, List, Some, None, OnOk, IfOk, IsErrOf, vec_len};
 ghost use Rattle.std.specs.Option.{option_map};
 ghost use Rattle.kind_io.specs.Counts.{Rose, one_more};
 ghost use Rattle.kind_io.specs.Held.{held_of};

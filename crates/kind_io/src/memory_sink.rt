@@ -1,5 +1,5 @@
 // A sink in memory whose puts fail by their number.
-ghost use Rattle.std.specs.Prelude.{◌≡◌, ◌+◌, ◌≤◌, ◌<◌, ◌↔◌, [], ℕ, Some, OnOk, OnErr, IsErrOf, length};
+ghost use Rattle.std.specs.Prelude.{◌≡◌, ◌+◌, ◌≤◌, ◌<◌, ◌↔◌, [], Some, OnOk, OnErr, IsErrOf, length};
 ghost use Rattle.std.specs.Io.KnownBytes.{Appends};
 ghost use Rattle.kind_io.specs.Counts.{Rose, one_more};
 ghost use Rattle.kind_io.specs.MemorySink.{bytes_of, room_of, faults_of, calls_of, failing_of, IsDue};

@@ -1,5 +1,5 @@
 // A shelf and a sink in memory that never fail but for want of memory.
-ghost use Rattle.std.specs.Prelude.{◌≡◌, ◌≤◌, [], ℕ, List, Some, unwrap_or};
+ghost use Rattle.std.specs.Prelude.{◌≡◌, [], ℕ, List, Some, unwrap_or};
 ghost use Rattle.kind_io.specs.Held.{held_of};
 ghost use Rattle.kind_io.specs.Never.{held_by, written_by};
 

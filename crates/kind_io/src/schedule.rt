@@ -1,5 +1,5 @@
 // Calls that fail by their number, and the count of failed calls.
-ghost use Rattle.std.specs.Prelude.{◌≡◌, ◌≤◌, ◌↔◌, ℕ, [], IsTrue, Contains};
+ghost use Rattle.std.specs.Prelude.{◌≡◌, ◌≤◌, ◌↔◌, IsTrue, Contains};
 ghost use Rattle.kind_io.specs.Counts.{Rose, one_more};
 
 /// Which calls fail, how many there were, and how many failed.

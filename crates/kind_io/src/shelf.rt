@@ -1,9 +1,9 @@
 // Where the program fetches and keeps bytes under names.
-ghost use Rattle.std.specs.Prelude.{◌≡◌, ◌≢◌, ◌+◌, ◌-◌, ◌^◌, ◌<◌, ◌≤◌, ℕ, List, IfOk, OnOk, IsErrOf, vec_len};
+ghost use Rattle.std.specs.Prelude.{◌≡◌, ◌≢◌, ◌-◌, ◌^◌, ◌<◌, ◌≤◌, ℕ, List, IfOk, OnOk, IsErrOf, vec_len};
 ghost use Rattle.kind_io.specs.Counts.{Rose};
 ghost use Rattle.kind_io.specs.Told.{Told, MayHold, MayExceed, NowHolds, StillTells};
 
-use std::alloc::{AllocError, Global};
+use std::alloc::Global;
 use thiserror::Error;
 
 /// Why `fetch` gave no bytes. The shelf's names and bytes are as they were.

@@ -1,7 +1,8 @@
 // Standard output.
-ghost use Rattle.std.specs.Prelude.{◌≡◌, None, OnOk, OnErr};
+ghost use Rattle.std.specs.Prelude.{◌≡◌, None, OnOk};
 ghost use Rattle.std.specs.Io.KnownBytes.{Appends};
 ghost use Rattle.kind_io.specs.Written.{AppendsFront};
+ghost use Rattle.kind_io.specs.System.{sink_faults};
 
 use crate::{PutFault, Sink};
 use std::io;
@@ -16,7 +17,9 @@ pub struct StdSink<'r, R> {
 
 impl<'r, R: Print> StdSink<'r, R> {
     /// No call has failed yet.
-    pub fn new(rt: &'r R) -> Self {
+    pub fn new(rt: &'r R) -> Self
+        ensures { sink_faults result ≡ 0 }
+    {
         StdSink { rt, faults: 0 }
     }
 }
@@ -24,7 +27,7 @@ impl<'r, R: Print> StdSink<'r, R> {
 impl<'r, R: Print> Sink for StdSink<'r, R> {
     ghost written = { λ _. None };
 
-    ghost faults = { λ sink. sink.faults };
+    ghost faults = { sink_faults };
 
     fn put(&mut self, bytes: &[u8]) -> Result<(), PutFault> {
         let written = write_whole(&mut io::writer(self.rt), bytes);

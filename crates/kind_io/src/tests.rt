@@ -1,1 +1,4 @@
-// Tests of what no clause says.
+// Callers over any shelf and any sink, and what no clause says.
+mod callers;
+mod memory;
+mod system;

@@ -5,3 +5,10 @@ pub mod ThreeWords
 pub mod FirstToken
 pub mod Reporting
 pub mod TableFrame
+pub mod Ordered
+pub mod Broken
+pub mod FewNames
+pub mod Replayed
+pub mod LeftNames
+pub mod Printing
+pub mod Cuts

@@ -8,13 +8,13 @@ use Rattle.lus_tree.specs.declared.place.Sort.{Sort}
 use Rattle.lus_tree.specs.declared.place.Sort.TheVariants.{Bool as Flags}
 use Rattle.lus_tree.specs.Tree.{Name, Spelled, text_of, Expression, truth, name, negation, pre, arrow, Variable, Labelled, Statement, equation, assertion, property, main_mark, Component}
 use Rattle.lus_tree.specs.Numbers.{pres, body_expressions, body_pres, IsNumbered}
-use Rattle.lus_meaning.specs.Value.{Value, absent, flag, Stream, not_value}
+use Rattle.lus_meaning.specs.Value.{Value, absent, flag, Stream, not_value, is_absent}
 use Rattle.lus_meaning.specs.Frame.{Frame, frame, no_frames, entry, first_value}
-use Rattle.lus_meaning.specs.Scene.{Scene, base, Instance, instance, no_instances, variables, clock_from}
+use Rattle.lus_meaning.specs.Scene.{Scene, base, Instance, instance, no_instances, variables, clock_from, is_on}
 use Rattle.lus_meaning.specs.Meaning.{value}
 use Rattle.lus_meaning.specs.Program.{counting, clock_of_names}
 use Rattle.lus_meaning.specs.Contract.{scene}
-use Rattle.lus_meaning.specs.Run.{Equation, equations, body_equations, right_values, at_instant, entries, IsBalanced, first_sorts, IsRun}
+use Rattle.lus_meaning.specs.Run.{Equation, equations, body_equations, right_values, at_instant, entries, IsBalanced, first_sorts, is_typed, IsRun}
 use Rattle.lus_meaning.specs.Depends.{named_in, left_names, SameChoices}
 use Rattle.lus_meaning.specs.Recompute.{sample}
 use Rattle.lus_meaning.specs.Trace.{or_default, IsFrameOf}
@@ -23,9 +23,9 @@ use Rattle.lus_meaning.specs.Rules.{IsSimple, IsSimpleItem, IsSimpleNode, IsFlag
 use Rattle.lus_meaning.proofs.Now.{left_part, right_part}
 use Rattle.lus_meaning.proofs.Unique.{same_bytes}
 use Rattle.lus_meaning.proofs.Stable.{sample_at}
-use Rattle.lus_meaning.proofs.Exists.{sampled_names, sampled_lengths}
+use Rattle.lus_meaning.proofs.Exists.{sampled_names, sampled_lengths, self_bytes}
 use Rattle.lus_meaning.proofs.Equal.{AreNamed}
-use Rattle.lus_meaning.proofs.Simple.{all_flags, names_on_base, equations_are}
+use Rattle.lus_meaning.proofs.Simple.{all_flags, names_on_base, equations_are, or_left, or_true}
 use Rattle.lus_meaning.proofs.SettledTypes.{one_value}
 use Rattle.lus_meaning.proofs.InOrder.{same_counting, counting_all}
 use Rattle.lus_meaning.proofs.FirstSorts.{node_firsts}
@@ -114,3 +114,40 @@ module _ (d : Component) (simple : IsSimpleNode d) (names : HasRightNames d) (nu
       balanced_all ss q.1 l (right_part IsDeclared (names_in a.value) (flat_map names_in (body_expressions ss)) m) (right_part IsFalseFirst (pres a.value) (body_pres ss) k) (λ t lt. same t lt)
   balanced_all (assertion e ∷ ss) q l m k same = absurd q.0
   balanced_all (main_mark p ∷ ss) q l m k same = absurd q.0
+
+  pub typed_all : (vs : List Variable) → AllByRecursion IsFlag vs → AllByRecursion (λ v. IsDeclared v.name.text) vs → AllByRecursion (λ v. (t : ℕ) → t < n → is_typed v.sort (is_on s (clock_from v.clock) t) (entry table_frame v.name.text t) ≡ true) vs
+  typed_all [] q m = tt
+  typed_all (v ∷ vs) q m = ((λ t lt. rw (q.0.sort, q.0.clock, entry_is v.name.text m.0 t lt) refl), typed_all vs q.1 m.1)
+
+  pub each_declared : AllByRecursion (λ v. IsDeclared v.name.text) (variables d)
+  each_declared = go (variables d) (λ x m. m)
+    where
+      go : (vs : List Variable) → ((x : Name) → named_in x (map (λ v. v.name.text) vs) ≡ true → IsDeclared x) → AllByRecursion (λ v. IsDeclared v.name.text) vs
+      go [] k = tt
+      go (v ∷ vs) k = (k v.name.text (or_left (bytes_eq v.name.text v.name.text) (named_in v.name.text (map (λ v. v.name.text) vs)) (self_bytes v.name.text)),
+        go vs (λ x m. k x (or_true (bytes_eq x v.name.text) (named_in x (map (λ v. v.name.text) vs)) m)))
+
+  pub is_run : IsRun node n throughout table_frame
+  is_run = (
+    record {
+      names = sampled_names n (λ v t. flag (h v.name.text t)) (variables d);
+      lengths = sampled_lengths n (λ v t. flag (h v.name.text t)) (variables d);
+      firsts = default_firsts (first_sorts node);
+      types = typed_all (variables d) (all_flags d simple) each_declared;
+      equations = subst (AllByRecursion Balanced) (sym (equations_are d simple))
+          (balanced_all d.body simple.items (subst (AllByRecursion IsDeclared) (ap (flat_map (λ e. e.names)) (equations_are d simple)) names.left_declared) names.used_declared firsts_false meets);
+    },
+    tt)
+
+  pub same_choices : SameChoices node [] n table_frame (default_frame node n)
+  same_choices = ((λ k. refl), go (variables d) (all_flags d simple) each_declared (default_entry d [] no_instances n (names.declared_once, tt)), tt)
+    where
+      go : (vs : List Variable) → AllByRecursion IsFlag vs → AllByRecursion (λ v. IsDeclared v.name.text) vs → AllByRecursion (λ v. (t : ℕ) → t < n → entry (default_frame node n) v.name.text t ≡ or_default v.sort absent) vs
+          → AllByRecursion (λ v. (named_in v.name.text [] || named_in v.name.text (left_names d)) ≡ false → (t : ℕ) → t < n → is_absent (entry table_frame v.name.text t) ≡ false → is_absent (entry (default_frame node n) v.name.text t) ≡ false → entry table_frame v.name.text t ≡ entry (default_frame node n) v.name.text t) vs
+      go [] q m e = tt
+      go (v ∷ vs) q m e = (
+        (λ o t lt _ _. entry_is v.name.text m.0 t lt ∙ ap flag (free v.name.text o t) ∙ sym (e.0 t lt ∙ ap (λ k. or_default k absent) q.0.sort)),
+        go vs q.1 m.1 e.1)
+
+  pub is_frame : IsFrameOf [] node n table_frame
+  is_frame = frame_taken d simple n table_frame is_run (names.declared_once, tt) same_choices

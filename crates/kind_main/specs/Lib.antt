@@ -4,3 +4,6 @@ pub mod Words
 pub mod Traces
 pub mod Report
 pub mod Breaks
+pub mod Answer
+pub mod Printing
+pub mod Cutting

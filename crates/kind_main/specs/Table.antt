@@ -1,7 +1,7 @@
 -- The table of a replay: one list of truth values, instant after instant, the defined names of an instant in the order of their equations.
-use Rattle.std.specs.Prelude.{◌≡◌, ◌<◌, ◌≤◌, ◌+◌, ◌*◌, ◌⊎◌, ℕ, zero, suc, Bool, true, false, not, cond, nat_lt, List, [], ◌∷◌, ◌++◌, length, slice_index_or}
+use Rattle.std.specs.Prelude.{◌≡◌, ◌<◌, ◌≤◌, ◌+◌, ◌*◌, ◌⊎◌, ℕ, zero, suc, Bool, true, false, not, cond, nat_lt, List, [], ◌∷◌, ◌++◌, map, length, slice_index_or}
 use Rattle.std.specs.Str.{bytes_eq}
-use Rattle.lus_tree.specs.Tree.{Name, Expression, truth, name, negation, pre, arrow, Statement, equation, property}
+use Rattle.lus_tree.specs.Tree.{Name, text_of, Expression, truth, name, negation, pre, arrow, Statement, equation, property}
 
 -- the place of a name, or the length where it is not there
 abbrev pub place : List Name → Name → ℕ
@@ -56,3 +56,8 @@ with_item order kept t (_) = kept
 pub record IsTable (order : List Name) (body : List Statement) (n : ℕ) (kept : List Bool) : Type 0 where
   pub size : length kept ≡ n * length order
   pub meets : (t : ℕ) → t < n → Meets (held order kept) t body
+
+-- the left names of an item
+abbrev pub item_lefts : Statement → List Name
+item_lefts (equation xs e) = map text_of xs
+item_lefts _ = []

@@ -1,6 +1,9 @@
 //! The program `kind` behind its words, its files and its output.
 #![tactic(auto)]
 
+mod answer;
+mod lefts;
+mod print;
 mod report;
 mod status;
 mod table;

@@ -1,0 +1,77 @@
+-- The answer to the words, over what the shelf tells: its lines and its status.
+use Rattle.std.specs.Prelude.{◌≡◌, ◌≤◌, ◌++◌, ◌⊎◌, ℕ, List, [], ◌∷◌, Option, length}
+use Rattle.std.specs.Io.KnownBytes.{Appends}
+use Rattle.kind_io.specs.Counts.{Rose}
+use Rattle.kind_io.specs.Told.{Told, MayHold, MayExceed}
+use Rattle.kind_io.specs.Written.{AppendsFront}
+use Rattle.lus_tree.specs.Tree.{Program, Component}
+use Rattle.lus_meaning.specs.Rules.{IsChecked}
+use Rattle.lus_reader.specs.Source.{IsSource}
+use Rattle.kind_main.specs.Words.{AreReplay, AreNoCommand}
+use Rattle.kind_main.specs.Lines.{Line, text_of, usage_line, memory_line, too_long_line, not_built_line, formless_line, read_fault_line}
+use Rattle.kind_main.specs.Traces.{IsTrace}
+use Rattle.kind_main.specs.Report.{IsReplay}
+
+-- what the shelf tells of each name
+abbrev pub Tells : Type 0
+Tells = List ℕ → Told
+
+-- sources and traces have at most so many bytes
+abbrev pub limit : ℕ
+limit = 1048576
+
+-- the file holds a source that follows the rules
+pub record HoldsSource (told : Tells) (file : List ℕ) (p : Program) (d : Component) : Type 0 where
+  pub bytes : List ℕ
+  pub held : MayHold (told file) bytes
+  pub short : length bytes ≤ limit
+  pub source : IsSource bytes p
+  pub checked : IsChecked p d
+
+-- the bytes are outside the language, whatever the tree
+abbrev pub IsOutside : List ℕ → Type 0
+IsOutside bytes = (p : Program) (d : Component) → IsSource bytes p → IsChecked p d → ⊥
+
+-- why a source is refused, and the line that says so
+pub data IsRefused (told : Tells) (file : List ℕ) (line : Line) : Type 0 where
+  source_too_long : MayExceed (told file) limit → line ≡ too_long_line → IsRefused told file line
+  source_outside : (bytes : List ℕ) → MayHold (told file) bytes → length bytes ≤ limit → IsOutside bytes → line ≡ not_built_line → IsRefused told file line
+
+-- the file holds a trace of n instants of the node
+pub record HoldsTrace (told : Tells) (file : List ℕ) (d : Component) (n : ℕ) : Type 0 where
+  pub bytes : List ℕ
+  pub held : MayHold (told file) bytes
+  pub short : length bytes ≤ limit
+  pub trace : IsTrace bytes d.name.text n
+
+-- why a trace is refused, and the line that says so
+pub data IsRefusedTrace (told : Tells) (file : List ℕ) (d : Component) (line : Line) : Type 0 where
+  trace_too_long : MayExceed (told file) limit → line ≡ too_long_line → IsRefusedTrace told file d line
+  trace_formless : (bytes : List ℕ) → MayHold (told file) bytes → length bytes ≤ limit → ((n : ℕ) → IsTrace bytes d.name.text n → ⊥) → line ≡ formless_line → IsRefusedTrace told file d line
+
+-- The answer where memory is found. The counts are the shelf's faults before the call and now.
+pub data IsAnswer (told : Tells) (before now : ℕ) (words : List (List ℕ)) (lines : List Line) (code : ℕ) : Type 0 where
+  usage : AreNoCommand words → lines ≡ usage_line ∷ [] → code ≡ 2 → IsAnswer told before now words lines code
+  no_source : (file trace : List ℕ) → AreReplay words file trace → Rose before now → lines ≡ read_fault_line file ∷ [] → code ≡ 5 → IsAnswer told before now words lines code
+  source_refused : (file trace : List ℕ) (line : Line) → AreReplay words file trace → IsRefused told file line → lines ≡ line ∷ [] → code ≡ 3 → IsAnswer told before now words lines code
+  no_trace : (file trace : List ℕ) (p : Program) (d : Component) → AreReplay words file trace → HoldsSource told file p d → Rose before now → lines ≡ read_fault_line trace ∷ [] → code ≡ 5 → IsAnswer told before now words lines code
+  trace_refused : (file trace : List ℕ) (p : Program) (d : Component) (line : Line) → AreReplay words file trace → HoldsSource told file p d → IsRefusedTrace told trace d line → lines ≡ line ∷ [] → code ≡ 3 → IsAnswer told before now words lines code
+  replayed : (file trace : List ℕ) (p : Program) (d : Component) (n : ℕ) → AreReplay words file trace → HoldsSource told file p d → HoldsTrace told trace d n → IsReplay p d n lines code → IsAnswer told before now words lines code
+
+-- ---- what a call leaves
+
+-- whole first lines of the answer
+pub data AreFirst (told : Tells) (before now : ℕ) (words : List (List ℕ)) (lines : List Line) : Type 0 where
+  nothing : lines ≡ [] → AreFirst told before now words lines
+  some : (rest : List Line) (code : ℕ) → IsAnswer told before now words (lines ++ rest) code → AreFirst told before now words lines
+
+-- what a call writes where no put fails: the answer, or where memory runs out its first lines and a line that says so
+pub data IsWhole (told : Tells) (before now : ℕ) (words : List (List ℕ)) (text : List ℕ) : Type 0 where
+  answered : (lines : List Line) (code : ℕ) → IsAnswer told before now words lines code → text ≡ text_of lines → IsWhole told before now words text
+  short : (lines : List Line) → AreFirst told before now words lines → text ≡ text_of lines ++ memory_line → IsWhole told before now words text
+
+-- How a call ends: with its answer written, with a put that failed, or without memory.
+pub data Ends (told : Tells) (before now : ℕ) (words : List (List ℕ)) (puts_before puts_now : ℕ) (old new : Option (List ℕ)) (code : ℕ) : Type 0 where
+  answer : (lines : List Line) → IsAnswer told before now words lines code → Appends old new (text_of lines) → Ends told before now words puts_before puts_now old new code
+  failed : (text : List ℕ) → code ≡ 6 → Rose puts_before puts_now → IsWhole told before now words text → AppendsFront old new text → Ends told before now words puts_before puts_now old new code
+  no_memory : (lines : List Line) → code ≡ 7 → AreFirst told before now words lines → Appends old new (text_of lines ++ memory_line) ⊎ Appends old new (text_of lines) → Ends told before now words puts_before puts_now old new code

@@ -1,0 +1,7 @@
+//! Why a reading stops.
+
+#[derive(Clone, Copy)]
+pub enum Fault {
+    Memory,
+    NotBuilt,
+}
