@@ -9,7 +9,7 @@ ghost use Rattle.lus_meaning.specs.Rules.{IsChecked};
 ghost use Rattle.lus_reader.specs.Source.{IsSource};
 ghost use Rattle.kind_main.specs.Lines.{Line, usage_line, too_long_line, not_built_line, formless_line, read_fault_line};
 ghost use Rattle.kind_main.specs.Traces.{IsTrace};
-ghost use Rattle.kind_main.specs.Report.{IsReplay};
+ghost use Rattle.kind_main.specs.Report.{code_of, IsReplay};
 ghost use Rattle.kind_main.specs.Answer.{Tells, limit, HoldsSource, IsRefused, HoldsTrace, IsRefusedTrace, IsAnswer, IsOutside};
 ghost use Rattle.kind_main.specs.Fetched.{IsFetched, IsTraceAnswer, IsFilesAnswer};
 
@@ -98,6 +98,16 @@ fn read_source(alloc: Global, bytes: &[u8]) -> Result<Option<Checked>, AllocErro
     }
 }
 
+/// The status of a replay, by the lines of its breaks.
+fn break_status(lines: &[String]) -> Status
+    ensures { result.code ≡ code_of (map string_bytes lines.now) }
+{
+    match lines {
+        [] => Status { code: 10 },
+        [_, ..] => Status { code: 1 },
+    }
+}
+
 /// The answer of a replay of n instants of a node that follows the rules.
 fn replay_answer(alloc: Global, node: &Node, n: u32) -> Result<Answer, AllocError>
     requires checked { IsChecked (declared_node (node_view node.now) ∷ []) (node_view node.now) }
@@ -107,13 +117,10 @@ fn replay_answer(alloc: Global, node: &Node, n: u32) -> Result<Answer, AllocErro
     let order = left_names(alloc, &node.items)?;
     let kept = table(alloc, &order, &node.items, n)?;
     let mut lines = breaks(alloc, &order, &kept, &node.items, n)?;
-    let code = if lines.len() == 0 { 10 } else { 1 };
+    let status = break_status(&lines);
     let last = lawful_text(alloc, n, n)?;
     lines.push(last)?;
-    Ok(Answer {
-        lines,
-        status: Status { code },
-    })
+    Ok(Answer { lines, status })
 }
 
 /// The answer of a trace of a checked source.
