@@ -5,3 +5,5 @@ pub mod Complete
 pub mod Items
 pub mod Leading
 pub mod Bodies
+pub mod Names
+pub mod Nodes

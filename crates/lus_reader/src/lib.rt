@@ -10,6 +10,7 @@ mod expression;
 mod fault;
 mod item;
 mod list;
+mod node;
 mod token;
 
 use lus_tree::{Pos, Program, Refusal, What};
