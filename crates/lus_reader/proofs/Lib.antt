@@ -7,3 +7,4 @@ pub mod Leading
 pub mod Bodies
 pub mod Names
 pub mod Nodes
+pub mod Words

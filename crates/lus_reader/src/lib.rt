@@ -9,8 +9,11 @@ mod body;
 mod expression;
 mod fault;
 mod item;
+mod lexer;
 mod list;
 mod node;
+mod spelling;
+mod table;
 mod token;
 
 use lus_tree::{Pos, Program, Refusal, What};
