@@ -8,3 +8,5 @@ pub mod Bodies
 pub mod Names
 pub mod Nodes
 pub mod Words
+pub mod Fronts
+pub mod Lexed

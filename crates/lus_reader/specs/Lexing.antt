@@ -29,6 +29,9 @@ spot_view s = (s.at, s.rest.now)
 abbrev pub starts_blank : List ℕ → Bool
 starts_blank bs = starts is_blank bs
 
+abbrev pub GivesSpot : Option (Pos × List ℕ) → Option Spot → Type 0
+GivesSpot o r = MatchOption r (o ≡ None) (λ s. o ≡ Some (spot_view s))
+
 -- from one place to another stand blanks alone, and no blank follows
 pub record Skips (a b : Spot) : Type 0 where
   pub leads : Leads AreTokens (spot_view a) [] (spot_view b)

@@ -2,9 +2,10 @@
 use Rattle.std.specs.Prelude.{◌==◌, ℕ, Bool, true, false, List, [], ◌∷◌, drop, Option, Some, None, codes, option_map, if◌then◌else◌}
 use Rattle.std.specs.List.{starts_with}
 use lib.Dec.{eqb}
+use Rattle.lus_tree.specs.declared.place.Pos.{Pos}
 use Rattle.lus_reader.specs.declared.token.Mark.{Mark}
 use Rattle.lus_reader.specs.declared.token.Mark.TheVariants as M
-use Rattle.lus_reader.specs.Tokens.{Token, fixed, is_letter, is_word, starts, Row, token_of, kept_words}
+use Rattle.lus_reader.specs.Tokens.{Token, fixed, is_blank, past, is_letter, is_word, starts, Row, token_of, kept_words}
 
 -- a token, and what stands behind it
 pub record Front : Type 0 where
@@ -53,3 +54,8 @@ sign_front b bs = if b == 40 then unless (starts (λ c. c == 42) bs) M.Open bs
 abbrev pub front : List ℕ → Option Front
 front [] = None
 front (b ∷ bs) = if is_letter b then word_front (b ∷ bs) else sign_front b bs
+
+-- what stands behind a blank
+abbrev pub behind_blank : Pos → List ℕ → Option (Pos × List ℕ)
+behind_blank at [] = None
+behind_blank at (b ∷ bs) = if is_blank b then Some (past at b, bs) else None

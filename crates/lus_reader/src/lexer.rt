@@ -1,8 +1,8 @@
 //! Cuts a text into tokens.
 
-ghost use Rattle.std.specs.Prelude.{◌≡◌, ◌+◌, ◌-◌, ◌<◌, ◌≤◌, length, vec_len, IfOk, IfSome, Some, None, MatchOption};
-ghost use Rattle.lus_reader.specs.Spelling.{front};
-ghost use Rattle.lus_reader.specs.Lexing.{IsInside, Skips, GivesLexeme, Lexes};
+ghost use Rattle.std.specs.Prelude.{◌≡◌, ◌+◌, ◌-◌, ◌<◌, ◌≤◌, length, IfOk, IfSome, Some, None, MatchOption};
+ghost use Rattle.lus_reader.specs.Spelling.{front, behind_blank};
+ghost use Rattle.lus_reader.specs.Lexing.{IsInside, Skips, GivesSpot, GivesLexeme, Lexes};
 ghost use Rattle.lus_reader.specs.Tokens.{past};
 
 use crate::fault::Fault;
@@ -30,7 +30,7 @@ pub struct Step<'s> {
 pub fn lex<'s>(alloc: Global, bytes: &'s [u8]) -> Result<Vec<Lexeme<'s>>, Fault>
     requires { length bytes.now ≤ 1048576 }
     ensures lexes { Lexes bytes.now result }
-    ensures few { IfOk result (λ v. vec_len v ≤ length bytes.now) }
+    ensures few { IfOk result (λ v. length v.items ≤ length bytes.now) }
 {
     let mut tokens = Vec::new(alloc);
     let mut spot = skipped(Spot {
@@ -57,16 +57,26 @@ fn skipped<'s>(from: Spot<'s>) -> Spot<'s>
     ensures within { length result.rest.now ≤ length from.entry.rest.now }
 {
     let mut spot = from;
-    while let [first, rest @ ..] = spot.rest {
-        if !is_blank(*first) {
-            return spot;
-        }
-        spot = Spot {
-            at: past(spot.at, *first),
-            rest,
-        };
+    while let Some(next) = behind_blank(spot) {
+        spot = next;
     }
     spot
+}
+
+/// Behind the blank that stands here.
+fn behind_blank<'s>(spot: Spot<'s>) -> Option<Spot<'s>>
+    requires { IsInside spot }
+    ensures gives { GivesSpot (behind_blank spot.entry.at spot.entry.rest.now) result }
+    ensures inside { IfSome result (λ s. IsInside s) }
+    ensures shorter { IfSome result (λ s. length s.rest.now < length spot.entry.rest.now) }
+{
+    match spot.rest {
+        [first, rest @ ..] if is_blank(*first) => Some(Spot {
+            at: past(spot.at, *first),
+            rest,
+        }),
+        _ => None,
+    }
 }
 
 /// The place after a byte.
