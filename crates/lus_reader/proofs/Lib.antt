@@ -10,3 +10,4 @@ pub mod Nodes
 pub mod Words
 pub mod Fronts
 pub mod Lexed
+pub mod Sources
