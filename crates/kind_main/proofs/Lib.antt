@@ -15,3 +15,4 @@ pub mod Cuts
 pub mod TraceRows
 pub mod Answering
 pub mod Outside
+pub mod Ends

@@ -9,3 +9,4 @@ pub mod Printing
 pub mod Cutting
 pub mod Cutter
 pub mod Fetched
+pub mod Ending

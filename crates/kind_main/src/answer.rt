@@ -19,7 +19,7 @@ use crate::status::Status;
 use crate::table::table;
 use crate::text::{lawful_text, read_fault_text};
 use crate::trace::read_trace;
-use crate::words::{Replay, command};
+use crate::words::command;
 use kind_io::{FetchFault, Shelf};
 use lus_meaning::{Checked, checked};
 use lus_reader::read_program;
@@ -179,6 +179,6 @@ pub fn answer_to<H: Shelf>(
             "usage: kind prove [FILE] | check FILE CERT | replay FILE TRACE | make NUMBER\n",
             2,
         )?),
-        Some(Replay { source, trace }) => Ok(files_answer(alloc, source, trace, shelf)?),
+        Some(files) => Ok(files_answer(alloc, files.source, files.trace, shelf)?),
     }
 }
