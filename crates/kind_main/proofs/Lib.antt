@@ -12,3 +12,6 @@ pub mod Replayed
 pub mod LeftNames
 pub mod Printing
 pub mod Cuts
+pub mod TraceRows
+pub mod Answering
+pub mod Outside

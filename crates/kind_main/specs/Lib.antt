@@ -7,3 +7,5 @@ pub mod Breaks
 pub mod Answer
 pub mod Printing
 pub mod Cutting
+pub mod Cutter
+pub mod Fetched

@@ -1,5 +1,5 @@
 -- The nodes of a program, by number and by name.
-use Rattle.std.specs.Prelude.{ℕ, zero, suc, List, [], ◌∷◌, Option, Some, None, cond, option_map}
+use Rattle.std.specs.Prelude.{ℕ, zero, suc, List, [], ◌∷◌, Option, Some, None, cond, option_map, slice_get}
 use Rattle.std.specs.Str.{bytes_eq}
 use Rattle.lus_tree.specs.Tree.{Name, Component, Declaration, declared_constant, declared_node, declared_contract, Program}
 
@@ -9,6 +9,10 @@ nodes_of [] = []
 nodes_of (declared_node n ∷ ds) = n ∷ nodes_of ds
 nodes_of (declared_constant c ∷ ds) = nodes_of ds
 nodes_of (declared_contract c ∷ ds) = nodes_of ds
+
+-- the node or function of that number, counted from 0; none where there are no more than that
+abbrev pub node_at : ℕ → Program → Option Component
+node_at k p = slice_get (nodes_of p) k
 
 -- the place of the first component of that name
 abbrev pub place_of : Name → List Component → Option ℕ

@@ -1,6 +1,8 @@
 -- What contracts see of the tree's types.
 use Rattle.std.specs.Prelude.{ℕ, Bool, false, List, [], ◌∷◌, Option, Some, None, map, option_map}
 use Rattle.std.specs.String.{string_bytes}
+use Rattle.std.specs.declared.alloc.Global.{Global}
+use Rattle.std.specs.declared.vec.Vec.{Vec}
 use Rattle.lus_tree.specs.declared.place.Pos.{Pos}
 use Rattle.lus_tree.specs.declared.place.Word.{Word}
 use Rattle.lus_tree.specs.declared.place.Param.{Param}
@@ -83,6 +85,10 @@ contract_item_view (ConstantItem d) = constant (definition_view d)
 contract_item_view (Mode w rs es) = mode (word_view w) (map named_view rs.items) (map named_view es.items)
 contract_item_view (Import k c as_ outs) = «import» k (word_view c) (map expr_view as_.items) (map word_view outs.items)
 
+-- the contract of a node, where it has one
+abbrev pub contract_view : Option (Vec ContractItem Global) → Option (List Clause)
+contract_view = option_map (λ v. map contract_item_view v.items)
+
 abbrev pub node_view : Node → Component
 node_view n = record {
   name = word_view n.name;
@@ -91,7 +97,7 @@ node_view n = record {
   outputs = map param_view n.outputs.items;
   locals = map param_view n.locals.items;
   constants = map definition_view n.consts.items;
-  contract = option_map (λ v. map contract_item_view v.items) n.contract;
+  contract = contract_view n.contract;
   body = map item_view n.items.items;
 }
 

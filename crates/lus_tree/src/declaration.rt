@@ -1,7 +1,12 @@
 //! Declarations and programs.
 
-use crate::expression::Expr;
-use crate::place::{Param, Pos, Sort, Word};
+ghost use Rattle.std.specs.Prelude.{◌≡◌, IfOk, map, option_map};
+ghost use Rattle.std.specs.String.{string_bytes};
+ghost use Rattle.lus_tree.specs.View.{contract_item_view, contract_node_view, contract_view, decl_view, definition_view, item_view, named_view, node_view, program_view};
+
+use crate::expression::{Expr, copied_exprs};
+use crate::place::{Param, Pos, Sort, Word, copied_params, copied_words};
+use std::alloc::{AllocError, Global};
 
 /// A constant's definition, `const NAME [: sort] = value;`.
 #[derive(Drop)]
@@ -83,4 +88,212 @@ pub enum Decl {
 #[derive(Drop)]
 pub struct Program {
     pub decls: Vec<Decl>,
+}
+
+impl Definition {
+    /// An equal definition.
+    pub fn copied(&self, alloc: Global) -> Result<Definition, AllocError>
+        ensures { IfOk result (λ c. definition_view c ≡ definition_view self.now) }
+    {
+        Ok(Definition {
+            name: self.name.copied(alloc)?,
+            sort: self.sort,
+            value: self.value.copied(alloc)?,
+        })
+    }
+}
+
+fn copied_definitions(
+    definitions: &[Definition],
+    alloc: Global,
+) -> Result<Vec<Definition>, AllocError>
+    ensures { IfOk result (λ v. map definition_view v.items ≡ map definition_view definitions.now) }
+{
+    let mut copies = Vec::with_capacity(alloc, definitions.len())?;
+    for definition in definitions {
+        copies.push(definition.copied(alloc)?)?;
+    }
+    Ok(copies)
+}
+
+impl Named {
+    /// An equal expression with an equal label.
+    pub fn copied(&self, alloc: Global) -> Result<Named, AllocError>
+        ensures { IfOk result (λ c. named_view c ≡ named_view self.now) }
+    {
+        Ok(Named {
+            label: copied_label(&self.label, alloc)?,
+            at: self.at,
+            value: self.value.copied(alloc)?,
+        })
+    }
+}
+
+fn copied_label(label: &Option<String>, alloc: Global) -> Result<Option<String>, AllocError>
+    ensures { IfOk result (λ o. option_map string_bytes o ≡ option_map string_bytes label.now) }
+{
+    match label {
+        Some(text) => Ok(Some(String::from_str(alloc, text)?)),
+        None => Ok(None),
+    }
+}
+
+fn copied_named(all: &[Named], alloc: Global) -> Result<Vec<Named>, AllocError>
+    ensures { IfOk result (λ v. map named_view v.items ≡ map named_view all.now) }
+{
+    let mut copies = Vec::with_capacity(alloc, all.len())?;
+    for named in all {
+        copies.push(named.copied(alloc)?)?;
+    }
+    Ok(copies)
+}
+
+impl Item {
+    /// An equal item.
+    pub fn copied(&self, alloc: Global) -> Result<Item, AllocError>
+        ensures { IfOk result (λ c. item_view c ≡ item_view self.now) }
+    {
+        match self {
+            Item::Equation(left, right) => {
+                let left = copied_words(left, alloc)?;
+                Ok(Item::Equation(left, right.copied(alloc)?))
+            }
+            Item::Assert(condition) => Ok(Item::Assert(condition.copied(alloc)?)),
+            Item::Property(property) => Ok(Item::Property(property.copied(alloc)?)),
+            Item::Main(at) => Ok(Item::Main(*at)),
+        }
+    }
+}
+
+fn copied_items(items: &[Item], alloc: Global) -> Result<Vec<Item>, AllocError>
+    ensures { IfOk result (λ v. map item_view v.items ≡ map item_view items.now) }
+{
+    let mut copies = Vec::with_capacity(alloc, items.len())?;
+    for item in items {
+        copies.push(item.copied(alloc)?)?;
+    }
+    Ok(copies)
+}
+
+impl ContractItem {
+    /// An equal item.
+    pub fn copied(&self, alloc: Global) -> Result<ContractItem, AllocError>
+        ensures { IfOk result (λ c. contract_item_view c ≡ contract_item_view self.now) }
+    {
+        match self {
+            ContractItem::Assume(condition) => Ok(ContractItem::Assume(condition.copied(alloc)?)),
+            ContractItem::Guarantee(condition) => {
+                Ok(ContractItem::Guarantee(condition.copied(alloc)?))
+            }
+            ContractItem::Ghost(param, value) => {
+                let param = param.copied(alloc)?;
+                Ok(ContractItem::Ghost(param, value.copied(alloc)?))
+            }
+            ContractItem::Constant(definition) => {
+                Ok(ContractItem::Constant(definition.copied(alloc)?))
+            }
+            ContractItem::Mode(name, required, ensured) => Ok(ContractItem::Mode(
+                name.copied(alloc)?,
+                copied_named(required, alloc)?,
+                copied_named(ensured, alloc)?,
+            )),
+            ContractItem::Import(number, contract, arguments, outputs) => Ok(ContractItem::Import(
+                *number,
+                contract.copied(alloc)?,
+                copied_exprs(arguments, alloc)?,
+                copied_words(outputs, alloc)?,
+            )),
+        }
+    }
+}
+
+fn copied_contract_items(
+    items: &[ContractItem],
+    alloc: Global,
+) -> Result<Vec<ContractItem>, AllocError>
+    ensures { IfOk result (λ v. map contract_item_view v.items ≡ map contract_item_view items.now) }
+{
+    let mut copies = Vec::with_capacity(alloc, items.len())?;
+    for item in items {
+        copies.push(item.copied(alloc)?)?;
+    }
+    Ok(copies)
+}
+
+impl Node {
+    /// An equal node.
+    pub fn copied(&self, alloc: Global) -> Result<Node, AllocError>
+        ensures { IfOk result (λ c. node_view c ≡ node_view self.now) }
+    {
+        Ok(Node {
+            name: self.name.copied(alloc)?,
+            function: self.function,
+            inputs: copied_params(&self.inputs, alloc)?,
+            outputs: copied_params(&self.outputs, alloc)?,
+            locals: copied_params(&self.locals, alloc)?,
+            consts: copied_definitions(&self.consts, alloc)?,
+            contract: copied_contract(&self.contract, alloc)?,
+            items: copied_items(&self.items, alloc)?,
+        })
+    }
+}
+
+fn copied_contract(
+    contract: &Option<Vec<ContractItem>>,
+    alloc: Global,
+) -> Result<Option<Vec<ContractItem>>, AllocError>
+    ensures { IfOk result (λ c. contract_view c ≡ contract_view contract.now) }
+{
+    match contract {
+        Some(items) => Ok(Some(copied_contract_items(items, alloc)?)),
+        None => Ok(None),
+    }
+}
+
+impl ContractNode {
+    /// An equal contract node.
+    pub fn copied(&self, alloc: Global) -> Result<ContractNode, AllocError>
+        ensures { IfOk result (λ c. contract_node_view c ≡ contract_node_view self.now) }
+    {
+        Ok(ContractNode {
+            name: self.name.copied(alloc)?,
+            inputs: copied_params(&self.inputs, alloc)?,
+            outputs: copied_params(&self.outputs, alloc)?,
+            items: copied_contract_items(&self.items, alloc)?,
+        })
+    }
+}
+
+impl Decl {
+    /// An equal declaration.
+    pub fn copied(&self, alloc: Global) -> Result<Decl, AllocError>
+        ensures { IfOk result (λ c. decl_view c ≡ decl_view self.now) }
+    {
+        match self {
+            Decl::Constant(definition) => Ok(Decl::Constant(definition.copied(alloc)?)),
+            Decl::Node(node) => Ok(Decl::Node(node.copied(alloc)?)),
+            Decl::Contract(contract) => Ok(Decl::Contract(contract.copied(alloc)?)),
+        }
+    }
+}
+
+fn copied_decls(decls: &[Decl], alloc: Global) -> Result<Vec<Decl>, AllocError>
+    ensures { IfOk result (λ v. map decl_view v.items ≡ map decl_view decls.now) }
+{
+    let mut copies = Vec::with_capacity(alloc, decls.len())?;
+    for decl in decls {
+        copies.push(decl.copied(alloc)?)?;
+    }
+    Ok(copies)
+}
+
+impl Program {
+    /// An equal program.
+    pub fn copied(&self, alloc: Global) -> Result<Program, AllocError>
+        ensures { IfOk result (λ c. program_view c ≡ program_view self.now) }
+    {
+        Ok(Program {
+            decls: copied_decls(&self.decls, alloc)?,
+        })
+    }
 }

@@ -3,8 +3,11 @@
 
 mod declaration;
 mod expression;
+mod lookup;
 mod place;
 mod refusal;
+#[cfg(test)]
+mod tests;
 
 pub use declaration::{ContractItem, ContractNode, Decl, Definition, Item, Named, Node, Program};
 pub use expression::{Expr, Form, Operator};

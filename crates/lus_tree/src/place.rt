@@ -1,5 +1,10 @@
 //! Places of the source, names and declared streams.
 
+ghost use Rattle.std.specs.Prelude.{◌≡◌, IfOk, map, option_map};
+ghost use Rattle.lus_tree.specs.View.{clock_view, param_view, word_view};
+
+use std::alloc::{AllocError, Global};
+
 /// A place of the source: a line, and a byte of that line. Both count from 1.
 #[derive(Clone, Copy, PartialEq, Eq, Debug)]
 pub struct Pos {
@@ -28,4 +33,71 @@ pub struct Param {
     pub name: Word,
     pub sort: Sort,
     pub clock: Option<(bool, Word)>,
+}
+
+impl Word {
+    /// An equal word.
+    pub fn copied(&self, alloc: Global) -> Result<Word, AllocError>
+        ensures { IfOk result (λ w. word_view w ≡ word_view self.now) }
+    {
+        let text = String::from_str(alloc, &self.text)?;
+        Ok(Word { text, at: self.at })
+    }
+}
+
+pub(crate) fn copied_word_or_none(
+    word: &Option<Word>,
+    alloc: Global,
+) -> Result<Option<Word>, AllocError>
+    ensures { IfOk result (λ o. option_map word_view o ≡ option_map word_view word.now) }
+{
+    match word {
+        Some(word) => Ok(Some(word.copied(alloc)?)),
+        None => Ok(None),
+    }
+}
+
+pub(crate) fn copied_words(words: &[Word], alloc: Global) -> Result<Vec<Word>, AllocError>
+    ensures { IfOk result (λ v. map word_view v.items ≡ map word_view words.now) }
+{
+    let mut copies = Vec::with_capacity(alloc, words.len())?;
+    for word in words {
+        copies.push(word.copied(alloc)?)?;
+    }
+    Ok(copies)
+}
+
+impl Param {
+    /// An equal stream.
+    pub fn copied(&self, alloc: Global) -> Result<Param, AllocError>
+        ensures { IfOk result (λ p. param_view p ≡ param_view self.now) }
+    {
+        Ok(Param {
+            name: self.name.copied(alloc)?,
+            sort: self.sort,
+            clock: copied_clock(&self.clock, alloc)?,
+        })
+    }
+}
+
+fn copied_clock(
+    clock: &Option<(bool, Word)>,
+    alloc: Global,
+) -> Result<Option<(bool, Word)>, AllocError>
+    ensures { IfOk result (λ c. clock_view c ≡ clock_view clock.now) }
+{
+    match clock {
+        Some((on, word)) => Ok(Some((*on, word.copied(alloc)?))),
+        None => Ok(None),
+    }
+}
+
+pub(crate) fn copied_params(params: &[Param], alloc: Global) -> Result<Vec<Param>, AllocError>
+    ensures { IfOk result (λ v. map param_view v.items ≡ map param_view params.now) }
+{
+    let mut copies = Vec::with_capacity(alloc, params.len())?;
+    for param in params {
+        copies.push(param.copied(alloc)?)?;
+    }
+    Ok(copies)
 }

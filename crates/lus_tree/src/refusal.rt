@@ -1,6 +1,10 @@
 //! Why a source is refused, and where.
 
+ghost use Rattle.std.specs.Prelude.{◌≡◌, IfOk};
+ghost use Rattle.lus_tree.specs.Reason.{refusal_view, what_view};
+
 use crate::place::Pos;
+use std::alloc::{AllocError, Global};
 use thiserror::Error;
 
 /// The rule that a source breaks. Its text is the name that is printed.
@@ -98,4 +102,54 @@ pub enum What {
 pub struct Refusal {
     pub at: Pos,
     pub what: What,
+}
+
+impl What {
+    /// The same rule, with an equal word or limit.
+    pub fn copied(&self, alloc: Global) -> Result<What, AllocError>
+        ensures { IfOk result (λ c. what_view c ≡ what_view self.now) }
+    {
+        match self {
+            What::TooLong => Ok(What::TooLong),
+            What::BadByte => Ok(What::BadByte),
+            What::UnclosedComment => Ok(What::UnclosedComment),
+            What::WideLiteral => Ok(What::WideLiteral),
+            What::Unexpected => Ok(What::Unexpected),
+            What::TooLarge => Ok(What::TooLarge),
+            What::LeftOut(word) => Ok(What::LeftOut(String::from_str(alloc, word)?)),
+            What::NameTwice => Ok(What::NameTwice),
+            What::NameUnknown => Ok(What::NameUnknown),
+            What::TypeClash => Ok(What::TypeClash),
+            What::ArityClash => Ok(What::ArityClash),
+            What::NotLinear => Ok(What::NotLinear),
+            What::ZeroDivisor => Ok(What::ZeroDivisor),
+            What::NotConstant => Ok(What::NotConstant),
+            What::Heavy => Ok(What::Heavy),
+            What::ClockClash => Ok(What::ClockClash),
+            What::EquationTwice => Ok(What::EquationTwice),
+            What::InputDefined => Ok(What::InputDefined),
+            What::Cycle => Ok(What::Cycle),
+            What::NodeRecursion => Ok(What::NodeRecursion),
+            What::NotStateless => Ok(What::NotStateless),
+            What::AssumeReadsOutput => Ok(What::AssumeReadsOutput),
+            What::NoNode => Ok(What::NoNode),
+            What::MainUnknown => Ok(What::MainUnknown),
+            What::ModeUnknown => Ok(What::ModeUnknown),
+            What::TooMany(limit) => Ok(What::TooMany(*limit)),
+            What::NotBuilt => Ok(What::NotBuilt),
+            What::Memory => Ok(What::Memory),
+        }
+    }
+}
+
+impl Refusal {
+    /// An equal refusal.
+    pub fn copied(&self, alloc: Global) -> Result<Refusal, AllocError>
+        ensures { IfOk result (λ c. refusal_view c ≡ refusal_view self.now) }
+    {
+        Ok(Refusal {
+            at: self.at,
+            what: self.what.copied(alloc)?,
+        })
+    }
 }
