@@ -1,5 +1,6 @@
 // Rows worked by hand.
 use crate::{File, run_over};
+use std::alloc::{AllocError, Global};
 use std::test::Fail;
 
 const TOGGLE: &[u8] =
@@ -171,28 +172,51 @@ fn other_words_print_the_usage_and_fetch_nothing(rt: HostRuntime) -> Result<(), 
     Ok(())
 }
 
+fn blanks(alloc: Global, count: u32) -> Result<Vec<u8>, AllocError> {
+    let mut blanks = Vec::new(alloc);
+    for _ in 0..count {
+        blanks.push(b' ')?;
+    }
+    Ok(blanks)
+}
+
+// What the program writes for this source and this trace.
+fn written(alloc: Global, source: &[u8], trace: &[u8]) -> Result<Vec<u8>, AllocError> {
+    let files: [File<'_>; 2] = [("f", source), ("t", trace)];
+    Ok(run_over(alloc, REPLAY, &files, &[], &[])?.written)
+}
+
 #[test]
-fn a_file_that_is_missing_or_too_long_is_said(rt: HostRuntime) -> Result<(), Fail> {
+fn a_file_past_the_limit_is_too_long(rt: HostRuntime) -> Result<(), Fail> {
     let alloc = rt.alloc();
-    let mut long = Vec::new(alloc);
-    for _ in 0..1048577 {
-        long.push(b' ')?;
-    }
-    let full = &long[..1048576];
-    let files: [(&[File<'_>], u8, &str); 6] = [
-        (&[], 5, "read fault f\n"),
-        (&[("f", TOGGLE)], 5, "read fault t\n"),
-        (&[("f", &long), ("t", TWO)], 3, "refused 1:1 TooLong\n"),
-        (&[("f", full), ("t", TWO)], 3, "refused 1:1 NotBuilt\n"),
-        (&[("f", TOGGLE), ("t", &long)], 3, "refused 1:1 TooLong\n"),
-        (&[("f", TOGGLE), ("t", full)], 3, "refused trace 1:1 Form\n"),
-    ];
-    for (files, status, written) in files {
-        let run = run_over(alloc, REPLAY, files, &[], &[])?;
-        assert_eq!(rt; run.status, status, "{written}");
-        assert_eq!(rt; run.written.as_slice(), written.as_bytes(), "{written}");
-    }
-    let named = run_over(alloc, &["replay", "", "t"], &[], &[], &[])?;
-    assert_eq!(rt; named.written.as_slice(), b"read fault stdin\n".as_slice());
+    let full = blanks(alloc, 1048576)?;
+    let long = blanks(alloc, 1048577)?;
+    let too_long = b"refused 1:1 TooLong\n".as_slice();
+    assert_eq!(rt; written(alloc, &long, TWO)?.as_slice(), too_long);
+    assert_eq!(rt;
+        written(alloc, &full, TWO)?.as_slice(),
+        b"refused 1:1 NotBuilt\n".as_slice()
+    );
+    assert_eq!(rt; written(alloc, TOGGLE, &long)?.as_slice(), too_long);
+    assert_eq!(rt;
+        written(alloc, TOGGLE, &full)?.as_slice(),
+        b"refused trace 1:1 Form\n".as_slice()
+    );
+    Ok(())
+}
+
+#[test]
+fn a_missing_file_is_named(rt: HostRuntime) -> Result<(), Fail> {
+    let alloc = rt.alloc();
+    let source: [File<'_>; 1] = [("f", TOGGLE)];
+    let none = run_over(alloc, REPLAY, &[], &[], &[])?;
+    assert_eq!(rt; none.written.as_slice(), b"read fault f\n".as_slice());
+    let no_trace = run_over(alloc, REPLAY, &source, &[], &[])?;
+    assert_eq!(rt; no_trace.written.as_slice(), b"read fault t\n".as_slice());
+    let no_input = run_over(alloc, &["replay", "", "t"], &[], &[], &[])?;
+    assert_eq!(rt;
+        no_input.written.as_slice(),
+        b"read fault stdin\n".as_slice()
+    );
     Ok(())
 }
