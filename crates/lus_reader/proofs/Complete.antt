@@ -47,11 +47,6 @@ stays d n ls r a b =
     ap (λ (o : Option Read). with_read o (λ r. arrow_read r (behind M.Arrow r.rest) (λ after. read_whole d (one_arrow r.counts) after))) a
     ∙ ap (λ (o : Option (Pos × List Lexeme)). arrow_read r o (λ after. read_whole d (one_arrow r.counts) after)) b
 
--- the token at the front, and what stands behind it
-step : (p : Pos) (t : Token) (d : ℕ) (n : Counts) (ls : List Lexeme) (o : Option Read) → token_read t p n ls (read_operand d n ls) (read_operand d (one_pre n) ls) (read_whole d n ls) ≡ o
-    → read_operand (suc d) n (record { at = p; token = t } ∷ ls) ≡ o
-step p t d n ls o h = h
-
 leaf_reaches : (p : Pos) (t : Token) (n : Counts) (ls : List Lexeme) (o : Option Read) (d : ℕ) → length (record { at = p; token = t } ∷ ls) ≤ d + length ls
     → ((u v e : Option Read) → token_read t p n ls u v e ≡ o) → read_operand d n (record { at = p; token = t } ∷ ls) ≡ o
 leaf_reaches p t n ls o d le f = below (λ d. read_operand d n (record { at = p; token = t } ∷ ls) ≡ o) d (omega arith) (λ k is. f (read_operand k n ls) (read_operand k (one_pre n) ls) (read_whole k n ls))

@@ -1,9 +1,6 @@
 -- Readings, joined.
-use Rattle.std.proofs.Common.{◌≡◌, ◌++◌, List, [], ◌∷◌, refl, sym, ap, ◌∙◌, subst, append_assoc, append-nil}
+use Rattle.std.proofs.Common.{◌≡◌, ◌++◌, List, [], ◌∷◌, sym, ap, ◌∙◌, subst, append_assoc, append-nil}
 use Rattle.lus_reader.specs.Leads.{Follows, Leads, Adds}
-
-pub none_yet : {S E : Type 0} (R : S → List E → Type 0) (a : S) → Leads R a [] a
-none_yet R a = record { on = λ ys h. h; back = λ zs h. record { more = zs; whole = refl; reads = h } }
 
 pub then_more : {S E : Type 0} (R : S → List E → Type 0) (a b c : S) (xs ys : List E) → Leads R a xs b → Adds R b xs c ys → Leads R a ys c
 then_more {S} {E} R a b c xs ys l m = subst (λ (w : List E). Leads R a w c) (sym m.all) (record {

@@ -1,5 +1,5 @@
 -- The tokens of a text, one by one.
-use Rattle.std.proofs.Common.{◌≡◌, ◌++◌, ◌<◌, ℕ, Bool, true, false, List, [], ◌∷◌, length, Option, Some, None, refl, sym, ap, ◌∙◌, subst, append-nil, cond, arith}
+use Rattle.std.proofs.Common.{◌≡◌, ◌++◌, ◌<◌, ℕ, Bool, true, false, List, [], ◌∷◌, length, Some, None, refl, sym, ap, ◌∙◌, subst, append-nil, cond, arith}
 use Rattle.lus_tree.specs.declared.place.Pos.{Pos}
 use Rattle.lus_reader.specs.Tokens.{Lexeme, is_blank, starts, Tokens, finish, blank, token, past, along}
 use Rattle.lus_reader.specs.Leads.{Follows, Leads}
@@ -66,14 +66,6 @@ skip_by a at b bs s false is h l = absurd (cc)
 pub skip_on : (a : Pos × List ℕ) (at : Pos) (w : List ℕ) (s : Pos × List ℕ) → behind_blank at w ≡ Some s → Leads AreTokens a [] (at, w) → Leads AreTokens a [] s
 skip_on a at [] s h l = absurd (cc)
 skip_on a at (b ∷ bs) s h l = skip_by a at b bs s (is_blank b) refl h l
-
-stop_by : (at : Pos) (b : ℕ) (bs : List ℕ) (t : Bool) → is_blank b ≡ t → cond {A = Option (Pos × List ℕ)} t (Some (past at b, bs)) None ≡ None → is_blank b ≡ false
-stop_by at b bs true is h = absurd (cc)
-stop_by at b bs false is h = is
-
-pub skip_stops : (at : Pos) (w : List ℕ) → behind_blank at w ≡ None → starts is_blank w ≡ false
-skip_stops at [] h = refl
-skip_stops at (b ∷ bs) h = stop_by at b bs (is_blank b) refl h
 
 -- over a token more, and the blanks behind it
 pub lexed_on : (a : Pos × List ℕ) (at : Pos) (w : List ℕ) (l : Lexeme) (next after : Pos × List ℕ) (xs ys : List Lexeme) → Leads AreTokens a xs (at, w) → front w ≡ Some (record { token = l.token; rest = next.1 }) → l.at ≡ at → next.0 ≡ along at w next.1

@@ -50,17 +50,6 @@ name_front (l ∷ ls) n h = name_by l ls l.token n refl h
 pub goes_from : (ls : List Lexeme) (n : Title) (xs ys : List Variable) (next : Next) → read_name ls ≡ Some n → read_next n.rest ≡ Some (next_view next) → ys ≡ xs ++ output n.text n.at ∷ [] → GoesOn ls xs ys next
 goes_from ls n xs ys next f h is = subst (λ (w : List Lexeme). GoesOn w xs ys next) (sym (name_front ls n f)) (goes_on n.text n.at n.rest xs ys next h is)
 
-ap_rest : (a b : Title) → a ≡ b → a.rest ≡ b.rest
-ap_rest a b h = ap (λ (t : Title). t.rest) h
-
-pub no_name : (ls : List Lexeme) (vs : List Variable) (end : List Lexeme) → read_name ls ≡ None → Outputs ls vs end → ⊥
-no_name _ _ end h last = cc
-no_name _ _ end h (more o) = cc
-
-pub no_next : (n : Title) (w : List Lexeme) (vs : List Variable) (end : List Lexeme) → read_name w ≡ Some n → read_next n.rest ≡ None → Outputs w vs end → ⊥
-no_next n _ _ end f h (last {x = x} {p = p} {q = q} {rest = rest}) = let e : sign M.Colon q ∷ rest ≡ n.rest = ap_rest (record { text = x; at = p; rest = sign M.Colon q ∷ rest }) n (cc) in let g : read_next (sign M.Colon q ∷ rest) ≡ read_next n.rest = ap read_next e in cc
-no_next n _ _ end f h (more {x = x} {p = p} {q = q} {ls = ls} o) = let e : sign M.Comma q ∷ ls ≡ n.rest = ap_rest (record { text = x; at = p; rest = sign M.Comma q ∷ ls }) n (cc) in let g : read_next (sign M.Comma q ∷ ls) ≡ read_next n.rest = ap read_next e in cc
-
 abbrev pub AllLead : List Lexeme → List Variable → List Lexeme → Type 0
 AllLead start xs ls = (end : List Lexeme) → Leads (OutputsTo end) start xs ls
 

@@ -7,7 +7,7 @@ use Rattle.lus_reader.specs.declared.token.Mark.TheVariants as M
 use Rattle.lus_reader.specs.Tokens.{Lexeme}
 use Rattle.lus_reader.specs.Grammar.{none_before, ident, Signs, output, Outputs, last, more, Body, IsNode, whole, node}
 use Rattle.lus_reader.specs.Reading.{behind, behind_next, behind_all, Title, with_rest, titled, title_of, read_name, read_title}
-use Rattle.lus_reader.specs.Views.{NoBody, NoNode, NoOutputs}
+use Rattle.lus_reader.specs.Views.{NoBody, NoNode}
 use Rattle.lus_reader.proofs.Signs.{front, front_sign}
 use Rattle.lus_reader.proofs.Names.{name_front}
 use Rattle.lus_reader.proofs.Bodies.{body_unique}
@@ -100,15 +100,6 @@ outputs_unique _ _ _ r r' (more {x = x} {p = p} {ls = ls} {vs = vs} o) (more {vs
 
 same_title : (t u : Title) (ls : List Lexeme) → read_title ls ≡ Some t → read_title ls ≡ Some u → u ≡ t
 same_title t u ls a b = cc
-
-pub no_title : (ls : List Lexeme) → read_title ls ≡ None → NoNode ls
-no_title ls h = λ c n. let k = parts ls c n in let e : read_title ls ≡ Some k.t = k.title in cc
-
-pub no_outputs : (ls : List Lexeme) (t : Title) → read_title ls ≡ Some t → NoOutputs t.rest → NoNode ls
-no_outputs ls t h none = λ c n.
-    let k = parts ls c n in
-    let e : k.t ≡ t = same_title t k.t ls h k.title in
-    none k.outputs k.sort (subst (λ (u : Title). Outputs u.rest k.outputs k.sort) e k.names)
 
 -- what is read of the title and the outputs of a node
 same_sort : (ls : List Lexeme) (t : Title) (vs : List Variable) (sort : List Lexeme) (c : Component) → read_title ls ≡ Some t → Outputs t.rest vs sort → (k : Parts ls c) → SameOutputs k.outputs vs k.sort sort

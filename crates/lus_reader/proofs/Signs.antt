@@ -61,9 +61,3 @@ front m (l ∷ ls) s h = front_by m l ls (is_sign m l.token) s refl h
 -- and is found there
 pub front_sign : (m : Mark) (p : Pos) (rest : List Lexeme) → behind m (sign m p ∷ rest) ≡ Some (p, rest)
 front_sign m p rest = rw (nat_eq_same (code m)) refl
-
-pub no_front : (m : Mark) (ls rest : List Lexeme) (p : Pos) → behind m ls ≡ None → ls ≡ sign m p ∷ rest → ⊥
-no_front m ls rest p h is =
-    let e : behind m (sign m p ∷ rest) ≡ None = ap (behind m) (sym is) ∙ h in
-    let f : behind m (sign m p ∷ rest) ≡ Some (p, rest) = front_sign m p rest in
-    cc

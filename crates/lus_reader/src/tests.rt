@@ -1,6 +1,6 @@
 //! Texts and what is read of them.
 
-use crate::read_program;
+use crate::{one_tree, read_program};
 use lus_tree::{Decl, Expr, Form, Item, Node, Pos, Program, Refusal, What};
 use std::alloc::{AllocError, Global};
 
@@ -115,6 +115,7 @@ fn read(alloc: Global, text: &str) -> Result<String, AllocError> {
 
 #[test]
 fn whole_texts(rt: HostRuntime) -> Result<(), AllocError> {
+    one_tree();
     let rows: [(&str, &str); 7] = [
         (
             "node main() returns (x : bool);\nlet\n  x = true -> not pre x;\n  --%PROPERTY x;\ntel",
