@@ -10,3 +10,6 @@ pub mod Broken
 pub mod FewNames
 pub mod Replayed
 pub mod LeftNames
+pub mod Printing
+pub mod Cuts
+pub mod TraceRows

@@ -6,3 +6,5 @@ pub mod Report
 pub mod Breaks
 pub mod Answer
 pub mod Printing
+pub mod Cutting
+pub mod Cutter

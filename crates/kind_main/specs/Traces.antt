@@ -39,8 +39,18 @@ words_of line = without_empty (pieces is_blank line)
 abbrev pub rows_of : List ℕ → List (List (List ℕ))
 rows_of bytes = without_empty (map words_of (pieces is_feed (without_returns bytes)))
 
--- a trace of this node and of n instants, with no lines between the first and the last one
-pub record IsTrace (bytes node : List ℕ) (n : ℕ) : Type 0 where
-  pub rows : rows_of bytes ≡ (codes "trace" ∷ node ∷ decimal n ∷ []) ∷ (codes "end" ∷ []) ∷ []
+-- a number of instants and its decimal text
+pub record IsInstants (word : List ℕ) (n : ℕ) : Type 0 where
+  pub spelled : word ≡ decimal n
   pub least : 1 ≤ n
   pub most : n ≤ 1001
+
+-- the rows `trace NODE N` and `end`
+pub record AreTraceRows (rows : List (List (List ℕ))) (node : List ℕ) (n : ℕ) : Type 0 where
+  pub count : List ℕ
+  pub shape : rows ≡ (codes "trace" ∷ node ∷ count ∷ []) ∷ (codes "end" ∷ []) ∷ []
+  pub instants : IsInstants count n
+
+-- the text of a trace of this node and of n instants, with no lines between the first and the last one
+abbrev pub IsTrace : List ℕ → List ℕ → ℕ → Type 0
+IsTrace bytes node n = AreTraceRows (rows_of bytes) node n

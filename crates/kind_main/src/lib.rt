@@ -8,6 +8,7 @@ mod report;
 mod status;
 mod table;
 mod text;
+mod trace;
 mod words;
 
 pub use status::Status;

@@ -5,7 +5,6 @@ ghost use Rattle.kind_io.specs.Counts.{Rose};
 ghost use Rattle.kind_main.specs.Lines.{memory_line};
 ghost use Rattle.kind_main.specs.Printing.{Printed, IsSaid};
 
-use crate::answer::Answer;
 use crate::status::Status;
 use kind_io::{PutFault, Sink};
 
@@ -20,18 +19,18 @@ pub fn out_of_memory<K: Sink>(out: &mut K) -> Status
     }
 }
 
-/// Prints the lines of an answer. The status is that of the answer, 6 where a line could not be
+/// Prints the lines of an answer. The status is the one handed in, 6 where a line could not be
 /// written, or 7 where memory ran out.
-pub fn print<K: Sink>(answer: &Answer, out: &mut K) -> Status
-    ensures printed { Printed (map string_bytes answer.now.lines.items) answer.now.status.code
+pub fn print<K: Sink>(lines: &[String], status: Status, out: &mut K) -> Status
+    ensures { Printed (map string_bytes lines.now) status.code
         (K.faults out.old) (K.faults out.new) (K.written out.old) (K.written out.new) result.code }
 {
-    for line in &answer.lines {
+    for line in lines {
         match out.put(line.as_bytes()) {
             Ok(()) => {}
             Err(PutFault::Failed) => return Status { code: 6 },
             Err(PutFault::Memory) => return out_of_memory(out),
         }
     }
-    answer.status
+    status
 }

@@ -3,6 +3,8 @@ use Rattle.std.specs.Prelude.{◌≡◌, ℕ, zero, suc, ◌≤◌, ◌+◌, Boo
 use Rattle.std.specs.List.{AllByRecursion}
 use Rattle.lus_tree.specs.declared.place.Sort.{Sort}
 use Rattle.lus_tree.specs.declared.place.Sort.TheVariants.{Bool as Flags}
+use Rattle.lus_tree.specs.declared.refusal.Refusal.{Refusal}
+use Rattle.lus_tree.specs.declared.refusal.What.TheVariants.{NotBuilt}
 use Rattle.lus_tree.specs.Tree.{Name, Spelled, text_of, Place, Expression, Expressions, truth, number, name, negation, minus, pre, arrow, binary, choice, sampled, merged, call, condact, mode_name, no_more, more, Variable, Labelled, Statement, equation, assertion, property, main_mark, Component, Declaration, declared_node, Program}
 use Rattle.lus_tree.specs.Numbers.{IsNumbered, body_expressions, body_pres, body_arrows}
 use Rattle.lus_meaning.specs.Scene.{variables}
@@ -73,8 +75,11 @@ AllAmong ys xs = AllByRecursion (λ x. named_in x ys ≡ true) xs
 abbrev pub NoneAmong : List Name → List Name → Type 0
 NoneAmong ys xs = AllByRecursion (λ x. named_in x ys ≡ false) xs
 
+abbrev pub names_of : List Variable → List Name
+names_of vs = map (λ v. v.name.text) vs
+
 abbrev pub declared_names : Component → List Name
-declared_names d = map (λ v. v.name.text) (variables d)
+declared_names d = names_of (variables d)
 
 abbrev pub lefts : List Equation → List Name
 lefts es = flat_map (λ e. e.names) es
@@ -116,3 +121,14 @@ pub record IsChecked (p : Program) (d : Component) : Type 0 where
   pub one_node : p ≡ declared_node d ∷ []
   pub rules : FollowsRules d
   pub numbered : IsNumbered d.body
+
+abbrev pub BreaksNoRule : Program → Type 0
+BreaksNoRule p = (d : Component) × IsChecked p d
+
+-- where the program is one node, the occurrences of its body are numbered, as a reader numbers them
+abbrev pub AreNumbered : Program → Type 0
+AreNumbered p = (d : Component) → p ≡ declared_node d ∷ [] → IsNumbered d.body
+
+-- the refusal of a program that breaks a rule
+abbrev pub IsRefusedAtStart : Refusal → Type 0
+IsRefusedAtStart r = r ≡ record { at = record { line = 1; column = 1 }; what = NotBuilt }

@@ -5,3 +5,4 @@ pub mod Complete
 pub mod Items
 pub mod Leading
 pub mod Bodies
+pub mod Numbered
