@@ -133,12 +133,12 @@ module _ (i : Instance) (f f' : Frame) (b b' : Instants) (m m' : ModeStreams) (m
   condact_now p k a g as_ ds c on asks outs defaults =
       let active_now : (is_on s c t && is true (value s c a t)) ≡ (is_on s' c t && is true (value s' c a t)) = rw (on, asks) refl in
       held_now t (is_on s c) (is_on s' c) (λ u. is_on s c u && is true (value s c a u)) (λ u. is_on s' c u && is true (value s' c a u))
-          (entry (call_frame f k)) (entry (call_frame f' k)) (outputs_of (call_instance i k)) (values s c ds) (values s' c ds)
-          on
-          (λ u l. up_to (λ v. is_on s c v && is true (value s c a v)) (λ v. is_on s' c v && is true (value s' c a v)) t u (λ v q. rw (on_before c v q, value_before a c v q) refl) active_now l)
-          (λ x u l. (known.before u l).outputs k x u (omega arith))
-          (outputs_held t (pred k) b b' f f' (outputs_of (call_instance i k)) outs)
-          defaults
+      (entry (call_frame f k)) (entry (call_frame f' k)) (outputs_of (call_instance i k)) (values s c ds) (values s' c ds)
+      on
+      (λ u l. up_to (λ v. is_on s c v && is true (value s c a v)) (λ v. is_on s' c v && is true (value s' c a v)) t u (λ v q. rw (on_before c v q, value_before a c v q) refl) active_now l)
+      (λ x u l. (known.before u l).outputs k x u (omega arith))
+      (outputs_held t (pred k) b b' f f' (outputs_of (call_instance i k)) outs)
+      defaults
 
   L : (xs ys : List Need) → Now (xs ++ ys) → Now xs
   L = left_part (SameNow t b b' f f')
@@ -168,11 +168,11 @@ module _ (i : Instance) (f f' : Frame) (b b' : Instants) (m m' : ModeStreams) (m
     value_now (sampled p a q x) c h = rw (h.0, value_now a (clock_of (component_of i) x.text) h.1) refl
     value_now (merged p x a d) c h = rw (h.0, value_now a (sampled_by true x.text) (L (needs i mn (sampled_by true x.text) a) (needs i mn (sampled_by false x.text) d) h.1), value_now d (sampled_by false x.text) (R (needs i mn (sampled_by true x.text) a) (needs i mn (sampled_by false x.text) d) h.1)) refl
     value_now (call p k g as_) c h = outputs_now t (pred k) b b' f f' (outputs_of (call_instance i k)) h
-    value_now (condact p k a g as_ ds) c h = head_of_values t (right_values s c (condact p k a g as_ ds)) (right_values s' c (condact p k a g as_ ds)) 
+    value_now (condact p k a g as_ ds) c h = head_of_values t (right_values s c (condact p k a g as_ ds)) (right_values s' c (condact p k a g as_ ds))
         (let h1 = R (clock_needs c) (needs i mn c a ++ (output_needs i k ++ needs_each i mn c ds)) h in
         let h2 = R (needs i mn c a) (output_needs i k ++ needs_each i mn c ds) h1 in
         condact_now p k a g as_ ds c (on_now c (L (clock_needs c) (needs i mn c a ++ (output_needs i k ++ needs_each i mn c ds)) h)) (value_now a c (L (needs i mn c a) (output_needs i k ++ needs_each i mn c ds) h1))
-            (L (output_needs i k) (needs_each i mn c ds) h2) (values_now ds c (R (output_needs i k) (needs_each i mn c ds) h2)))
+        (L (output_needs i k) (needs_each i mn c ds) h2) (values_now ds c (R (output_needs i k) (needs_each i mn c ds) h2)))
     value_now (mode_name p d n) c h = known.modes_now (option_map text_of d) n.text h
 
     pub values_now : (es : Expressions) (c : Clock) → Now (needs_each i mn c es) → ListsNow t (values s c es) (values s' c es)
@@ -197,5 +197,5 @@ module _ (i : Instance) (f f' : Frame) (b b' : Instants) (m m' : ModeStreams) (m
       let h1 = R (clock_needs c) (needs i mn c a ++ (output_needs i k ++ needs_each i mn c ds)) h in
       let h2 = R (needs i mn c a) (output_needs i k ++ needs_each i mn c ds) h1 in
       condact_now p k a g as_ ds c (on_now c (L (clock_needs c) (needs i mn c a ++ (output_needs i k ++ needs_each i mn c ds)) h)) (value_now a c (L (needs i mn c a) (output_needs i k ++ needs_each i mn c ds) h1))
-          (L (output_needs i k) (needs_each i mn c ds) h2) (values_now ds c (R (output_needs i k) (needs_each i mn c ds) h2))
+      (L (output_needs i k) (needs_each i mn c ds) h2) (values_now ds c (R (output_needs i k) (needs_each i mn c ds) h2))
   right_now (mode_name p d n) c h = rw (value_now (mode_name p d n) c h) refl

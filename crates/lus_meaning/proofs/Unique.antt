@@ -148,7 +148,7 @@ module _ (i : Instance) (r : Rank) (n R t : ℕ) (inside_n : t < n) (b b' : Inst
   equations_step x (e ∷ es) p p' q m h =
       in_either x e.names (flat_map (λ e. e.names) es) (entry f x t ≡ entry f' x t)
       (λ k. left_step x t R r f f' (equation_needs i e) e.names
-          (λ j a l. p.0 t inside_n ∙ right_met e.right (clock_of_names (component_of i) e.names) (met (equation_needs i e) j a l) ∙ sym (p'.0 t inside_n)) q.0 k h)
+      (λ j a l. p.0 t inside_n ∙ right_met e.right (clock_of_names (component_of i) e.names) (met (equation_needs i e) j a l) ∙ sym (p'.0 t inside_n)) q.0 k h)
       (λ k. equations_step x es p.1 p'.1 q.1 k h) m
 
   pub free_step : (x : Name) (given lefts : List Name) (vs : List Variable) →
@@ -161,7 +161,7 @@ module _ (i : Instance) (r : Rank) (n R t : ℕ) (inside_n : t < n) (b b' : Inst
   free_step x given lefts (v ∷ vs) p p' q c m o h =
       pick x v.name.text (map (λ v. v.name.text) vs) (λ z. (named_in z given || named_in z lefts) ≡ false → r [] (Some z) < suc R → entry f z t ≡ entry f' z t)
       (λ o h. typed_same v.sort (is_on s (clock_from v.clock) t) (entry f v.name.text t) (entry f' v.name.text t) (p.0 t inside_n)
-          (rw (on_met (clock_from v.clock) (met (clock_needs (clock_from v.clock)) (r [] (Some v.name.text)) q.0 h)) (p'.0 t inside_n)) (c.0 o t inside_n))
+      (rw (on_met (clock_from v.clock) (met (clock_needs (clock_from v.clock)) (r [] (Some v.name.text)) q.0 h)) (p'.0 t inside_n)) (c.0 o t inside_n))
       (λ k. free_step x given lefts vs p.1 p'.1 q.1 c.1 k) m o h
 
   -- where a call's frame is active
@@ -185,8 +185,10 @@ module _ (i : Instance) (r : Rank) (n R t : ℕ) (inside_n : t < n) (b b' : Inst
       cond (active s c t) (value s c.clock a t) absent ≡ cond (active s' c t) (value s' c.clock a t) absent
   argument_now c a k p h =
       let q = met (site_needs i (modes_need i) c c.manner ++ needs i (modes_need i) c.clock a) k p h in
-      rw (active_now c (left_part (SameNow t b b' f f') (site_needs i (modes_need i) c c.manner) (needs i (modes_need i) c.clock a) q),
-          value_met a c.clock (right_part (SameNow t b b' f f') (site_needs i (modes_need i) c c.manner) (needs i (modes_need i) c.clock a) q)) refl
+      rw (
+        active_now c (left_part (SameNow t b b' f f') (site_needs i (modes_need i) c c.manner) (needs i (modes_need i) c.clock a) q),
+        value_met a c.clock (right_part (SameNow t b b' f f') (site_needs i (modes_need i) c c.manner) (needs i (modes_need i) c.clock a) q),
+      ) refl
 
   -- a name that the caller gives
   pub caller_step : (c : Site) (k : Instance) (rk : Rank) (g g' : Frame) → IsCalled n s c k g → IsCalled n s' c k g' →
@@ -195,7 +197,7 @@ module _ (i : Instance) (r : Rank) (n R t : ℕ) (inside_n : t < n) (b b' : Inst
   caller_step c k rk g g' p p' q z x m h =
       in_either x (inputs_of k) (outputs_given c.manner (outputs_of k)) (entry g x t ≡ entry g' x t)
       (λ l. given_step x t R r rk g g' (λ a. site_needs i (modes_need i) c c.manner ++ needs i (modes_need i) c.clock a) (λ a. cond (active s c t) (value s c.clock a t) absent) (λ a. cond (active s' c t) (value s' c.clock a t) absent)
-          (argument_now c) (inputs_of k) c.arguments (p.inputs t inside_n) (p'.inputs t inside_n) q l h)
+      (argument_now c) (inputs_of k) c.arguments (p.inputs t inside_n) (p'.inputs t inside_n) q l h)
       (λ l. shared c.manner (p.outputs t inside_n) (p'.outputs t inside_n) z l) m
     where
       shared : (w : Manner) → SharesOutputs w s k g t → SharesOutputs w s' k g' t → SharedBelow r rk w (outputs_of k) → named_in x (outputs_given w (outputs_of k)) ≡ true → entry g x t ≡ entry g' x t

@@ -6,22 +6,25 @@ use Rattle.lus_tree.specs.Tree.{Name, Expression, number, name, pre, arrow, bina
 use Rattle.lus_meaning.specs.Scene.{Instance}
 use Rattle.lus_meaning.specs.Program.{instance_of}
 use Rattle.lus_meaning.specs.Depends.{Rank}
-use Rattle.lus_meaning.specs.Rows.{here, spelled, numbers, named_}
+use Rattle.lus_meaning.specs.RowParts.{here, spelled, called, numbers, defines, declares}
 
+-- node d(i : int) returns (o : int); let o = e; tel
 abbrev pub part : Expression → Component
-part e = record { name = spelled (codes "d"); function = false; inputs = numbers (codes "i") ∷ []; outputs = numbers (codes "o") ∷ []; locals = []; constants = []; contract = None; body = equation (spelled (codes "o") ∷ []) e ∷ [] }
+part e = declares (codes "d") (numbers (codes "i") ∷ []) (numbers (codes "o") ∷ []) [] None (defines (codes "o") e ∷ [])
 
+-- node n() returns (x : int); let x = d(x) + 1; tel
 abbrev pub whole_node : Component
-whole_node = record { name = spelled (codes "n"); function = false; inputs = []; outputs = numbers (codes "x") ∷ []; locals = []; constants = []; contract = None; body = equation (spelled (codes "x") ∷ []) (binary here Add (call here 1 (spelled (codes "d")) (more (named_ (codes "x")) no_more)) (number here 1)) ∷ [] }
+whole_node = declares (codes "n") [] (numbers (codes "x") ∷ []) [] None
+    (defines (codes "x") (binary here Add (call here 1 (spelled (codes "d")) (more (called (codes "x")) no_more)) (number here 1)) ∷ [])
 
 abbrev pub loop_with : Expression → Instance
 loop_with e = instance_of (declared_node (part e) ∷ declared_node whole_node ∷ []) whole_node
 
 abbrev pub late : Instance
-late = loop_with (arrow here 1 (number here 0) (pre here 1 (named_ (codes "i"))))
+late = loop_with (arrow here 1 (number here 0) (pre here 1 (called (codes "i"))))
 
 abbrev pub direct : Instance
-direct = loop_with (named_ (codes "i"))
+direct = loop_with (called (codes "i"))
 
 abbrev pub late_rank : Rank
 late_rank [] None = 0

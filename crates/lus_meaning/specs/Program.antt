@@ -7,6 +7,7 @@ use Rattle.lus_tree.specs.declared.place.Sort.TheVariants.{Bool as Flags, Int as
 use Rattle.lus_tree.specs.declared.expression.Operator.{Operator}
 use Rattle.lus_tree.specs.declared.expression.Operator.TheVariants.{Implies, Or, Xor, And, Less, AtMost, Equal, Differs, AtLeast, More, Add, Sub, Mul, Div, Mod}
 use Rattle.lus_tree.specs.Tree.{Name, text_of, Place, Expression, Expressions, truth, number, name, negation, minus, pre, arrow, binary, choice, sampled, merged, call, condact, mode_name, no_more, more, Variable, Constant, Labelled, Statement, equation, assertion, property, main_mark, Clause, assume, guarantee, ghost_variable, constant, mode, «import», Component, Declaration, declared_constant, declared_node, declared_contract, Program}
+use Rattle.lus_tree.specs.Numbers.{counting}
 use Rattle.lus_meaning.specs.Value.{Value, flag, whole}
 use Rattle.lus_meaning.specs.Frame.{empty_frame}
 use Rattle.lus_meaning.specs.Scene.{Clock, base, sampled_by, Manner, plain, while_true, as_import, Site, Instance, Instances, instance, no_instances, with_instance, component_of, outputs_of, call_instance, Scene, clock_of, clauses, variables}
@@ -60,11 +61,6 @@ clause_sites n (ghost_variable x e) = call_sites n base e
 clause_sites n (constant c) = []
 clause_sites n (mode m rs es) = labelled_sites n rs ++ labelled_sites n es
 clause_sites n («import» k c as_ xs) = record { number = k; callee = c.text; clock = base; arguments = as_; manner = as_import (map text_of xs) } ∷ flat_map (call_sites n base) as_
-
--- the numbers from k on, as many as said
-abbrev pub counting : ℕ → ℕ → List ℕ
-counting k zero = []
-counting k (suc n) = k ∷ counting (suc k) n
 
 -- what has the numbers 1, 2, .., in this order
 abbrev pub in_order : {A : Type 0} → (A → ℕ) → List A → List A

@@ -34,8 +34,13 @@ abbrev mutual
 abbrev pub meets_assumptions : Instance → Instants → Frame → Instants
 meets_assumptions i beat f t = list_all (λ p. is true (p.test beat f t)) (terms i).assumes
 
+-- whether all assertions and assumptions are true at an instant
+abbrev pub meets_all : Instance → Instants → Frame → Instants
+meets_all i beat f t = all_assert i beat f t && meets_assumptions i beat f t
+
+-- they are at this instant and at all before
 abbrev pub IsLawful : Instance → Instants → Frame → ℕ → Type 0
-IsLawful i beat f t = (u : ℕ) → u ≤ t → (all_assert i beat f u && meets_assumptions i beat f u) ≡ true
+IsLawful i beat f t = (u : ℕ) → u ≤ t → meets_all i beat f u ≡ true
 
 -- ---- properties
 

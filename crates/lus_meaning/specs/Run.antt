@@ -8,6 +8,7 @@ use Rattle.lus_tree.specs.declared.expression.Operator.TheVariants.{Implies, Or,
 use Rattle.lus_tree.specs.declared.place.Sort.{Sort}
 use Rattle.lus_tree.specs.declared.place.Sort.TheVariants.{Bool as Flags, Int as Numbers}
 use Rattle.lus_tree.specs.Tree.{Name, text_of, Place, Expression, Expressions, truth, number, name, negation, minus, pre, arrow, binary, choice, sampled, merged, call, condact, mode_name, no_more, more, Variable, Labelled, Statement, equation, assertion, property, main_mark, Clause, assume, guarantee, ghost_variable, constant, mode, «import», Component}
+use Rattle.lus_tree.specs.Numbers.{body_expressions}
 use Rattle.lus_meaning.specs.Value.{Value, absent, flag, whole, Stream, Instants, is, has_sort, is_absent}
 use Rattle.lus_meaning.specs.Frame.{Frame, Frames, frame, no_frames, with_frame, streams_of, firsts_of, calls_in, entry}
 use Rattle.lus_meaning.specs.Scene.{Clock, base, sampled_by, Manner, plain, while_true, as_import, Site, Instance, Instances, instance, no_instances, with_instance, component_of, constants_of, outputs_of, call_instance, Scene, clock_of, clock_from, clauses, variables, is_on}
@@ -113,7 +114,6 @@ abbrev mutual
   pre_sorts_among i no_more = []
   pre_sorts_among i (more a as_) = pre_sorts i a ++ pre_sorts_among i as_
 
--- every expression of a declaration, in text order
 abbrev pub clause_expressions : Clause → List Expression
 clause_expressions (assume l) = l.value ∷ []
 clause_expressions (guarantee l) = l.value ∷ []
@@ -122,14 +122,9 @@ clause_expressions (constant c) = []
 clause_expressions (mode m rs es) = map (λ l. l.value) (rs ++ es)
 clause_expressions («import» k c as_ xs) = as_
 
-abbrev pub statement_expressions : Statement → List Expression
-statement_expressions (equation xs e) = e ∷ []
-statement_expressions (assertion e) = e ∷ []
-statement_expressions (property l) = l.value ∷ []
-statement_expressions (main_mark p) = []
-
+-- every expression of a declaration; the numbers of its occurrences say their order
 abbrev pub expressions_of : Component → List Expression
-expressions_of n = flat_map clause_expressions (clauses n) ++ flat_map statement_expressions n.body
+expressions_of n = flat_map clause_expressions (clauses n) ++ body_expressions n.body
 
 -- the types of the first values, by number
 abbrev pub first_sorts : Instance → List Sort
