@@ -13,3 +13,6 @@ pub mod LeftNames
 pub mod Printing
 pub mod Cuts
 pub mod TraceRows
+pub mod Answering
+pub mod Outside
+pub mod Ends

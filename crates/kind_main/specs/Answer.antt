@@ -1,14 +1,12 @@
 -- The answer to the words, over what the shelf tells: its lines and its status.
-use Rattle.std.specs.Prelude.{◌≡◌, ◌≤◌, ◌++◌, ◌⊎◌, ℕ, List, [], ◌∷◌, Option, length}
-use Rattle.std.specs.Io.KnownBytes.{Appends}
+use Rattle.std.specs.Prelude.{◌≡◌, ◌≤◌, ℕ, List, [], ◌∷◌, length}
 use Rattle.kind_io.specs.Counts.{Rose}
 use Rattle.kind_io.specs.Told.{Told, MayHold, MayExceed}
-use Rattle.kind_io.specs.Written.{AppendsFront}
 use Rattle.lus_tree.specs.Tree.{Program, Component}
 use Rattle.lus_meaning.specs.Rules.{IsChecked}
 use Rattle.lus_reader.specs.Source.{IsSource}
 use Rattle.kind_main.specs.Words.{AreReplay, AreNoCommand}
-use Rattle.kind_main.specs.Lines.{Line, text_of, usage_line, memory_line, too_long_line, not_built_line, formless_line, read_fault_line}
+use Rattle.kind_main.specs.Lines.{Line, usage_line, too_long_line, not_built_line, formless_line, read_fault_line}
 use Rattle.kind_main.specs.Traces.{IsTrace}
 use Rattle.kind_main.specs.Report.{IsReplay}
 
@@ -57,21 +55,3 @@ pub data IsAnswer (told : Tells) (before now : ℕ) (words : List (List ℕ)) (l
   no_trace : (file trace : List ℕ) (p : Program) (d : Component) → AreReplay words file trace → HoldsSource told file p d → Rose before now → lines ≡ read_fault_line trace ∷ [] → code ≡ 5 → IsAnswer told before now words lines code
   trace_refused : (file trace : List ℕ) (p : Program) (d : Component) (line : Line) → AreReplay words file trace → HoldsSource told file p d → IsRefusedTrace told trace d line → lines ≡ line ∷ [] → code ≡ 3 → IsAnswer told before now words lines code
   replayed : (file trace : List ℕ) (p : Program) (d : Component) (n : ℕ) → AreReplay words file trace → HoldsSource told file p d → HoldsTrace told trace d n → IsReplay p d n lines code → IsAnswer told before now words lines code
-
--- ---- what a call leaves
-
--- whole first lines of the answer
-pub data AreFirst (told : Tells) (before now : ℕ) (words : List (List ℕ)) (lines : List Line) : Type 0 where
-  nothing : lines ≡ [] → AreFirst told before now words lines
-  some : (rest : List Line) (code : ℕ) → IsAnswer told before now words (lines ++ rest) code → AreFirst told before now words lines
-
--- what a call writes where no put fails: the answer, or where memory runs out its first lines and a line that says so
-pub data IsWhole (told : Tells) (before now : ℕ) (words : List (List ℕ)) (text : List ℕ) : Type 0 where
-  answered : (lines : List Line) (code : ℕ) → IsAnswer told before now words lines code → text ≡ text_of lines → IsWhole told before now words text
-  short : (lines : List Line) → AreFirst told before now words lines → text ≡ text_of lines ++ memory_line → IsWhole told before now words text
-
--- How a call ends: with its answer written, with a put that failed, or without memory.
-pub data Ends (told : Tells) (before now : ℕ) (words : List (List ℕ)) (puts_before puts_now : ℕ) (old new : Option (List ℕ)) (code : ℕ) : Type 0 where
-  answer : (lines : List Line) → IsAnswer told before now words lines code → Appends old new (text_of lines) → Ends told before now words puts_before puts_now old new code
-  failed : (text : List ℕ) → code ≡ 6 → Rose puts_before puts_now → IsWhole told before now words text → AppendsFront old new text → Ends told before now words puts_before puts_now old new code
-  no_memory : (lines : List Line) → code ≡ 7 → AreFirst told before now words lines → Appends old new (text_of lines ++ memory_line) ⊎ Appends old new (text_of lines) → Ends told before now words puts_before puts_now old new code

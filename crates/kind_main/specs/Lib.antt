@@ -8,3 +8,5 @@ pub mod Answer
 pub mod Printing
 pub mod Cutting
 pub mod Cutter
+pub mod Fetched
+pub mod Ending

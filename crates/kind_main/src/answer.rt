@@ -1,10 +1,184 @@
-//! The answer to the words.
+//! The answer to the words: what the program prints and how it ends, where memory is found.
+ghost use Rattle.std.specs.Prelude.{◌≡◌, ◌+◌, ◌*◌, ◌-◌, ◌^◌, ◌<◌, ◌≤◌, ◌++◌, ◌∷◌, [], List, ℕ, length, map, IfOk, OnOk, MatchOption, MatchResult, vec_len};
+ghost use Rattle.std.specs.String.{string_bytes};
+ghost use Rattle.kind_io.specs.Counts.{Rose};
+ghost use Rattle.kind_io.specs.Told.{Told, MayHold, MayExceed};
+ghost use Rattle.lus_tree.specs.Tree.{Program, Component, declared_node};
+ghost use Rattle.lus_tree.specs.View.{program_view, node_view};
+ghost use Rattle.lus_meaning.specs.Rules.{IsChecked};
+ghost use Rattle.lus_reader.specs.Source.{IsSource};
+ghost use Rattle.kind_main.specs.Lines.{Line, usage_line, too_long_line, not_built_line, formless_line, read_fault_line};
+ghost use Rattle.kind_main.specs.Traces.{IsTrace};
+ghost use Rattle.kind_main.specs.Report.{code_of, IsReplay};
+ghost use Rattle.kind_main.specs.Answer.{Tells, limit, HoldsSource, IsRefused, HoldsTrace, IsRefusedTrace, IsAnswer, IsOutside};
+ghost use Rattle.kind_main.specs.Fetched.{IsFetched, IsTraceAnswer, IsFilesAnswer};
 
+use crate::lefts::left_names;
+use crate::report::breaks;
 use crate::status::Status;
+use crate::table::table;
+use crate::text::{lawful_text, read_fault_text};
+use crate::trace::read_trace;
+use crate::words::command;
+use kind_io::{FetchFault, Shelf};
+use lus_meaning::{Checked, checked};
+use lus_reader::read_program;
+use lus_tree::{Node, What};
+use std::alloc::{AllocError, Global};
+
+/// The most bytes of a source or of a trace.
+const LIMIT: u64 = 1048576;
 
 /// The lines that are printed, each with its line feed, and the status behind them.
 #[derive(Drop)]
 pub struct Answer {
     pub lines: Vec<String>,
     pub status: Status,
+}
+
+/// An answer of one line.
+fn one_line(alloc: Global, line: &str, code: u8) -> Result<Answer, AllocError>
+    ensures lines { IfOk result (λ a. map string_bytes a.lines.items ≡ line.now ∷ []) }
+    ensures status { IfOk result (λ a. a.status.code ≡ code) }
+{
+    let mut lines = Vec::new(alloc);
+    lines.push(String::from_str(alloc, line)?)?;
+    Ok(Answer {
+        lines,
+        status: Status { code },
+    })
+}
+
+/// The answer of a file that could not be read.
+fn read_fault(alloc: Global, name: &str) -> Result<Answer, AllocError>
+    ensures lines { IfOk result (λ a. map string_bytes a.lines.items ≡ read_fault_line name.now ∷ []) }
+    ensures status { IfOk result (λ a. a.status.code ≡ 5) }
+{
+    let line = read_fault_text(alloc, name)?;
+    let answer = one_line(alloc, line.as_str(), 5)?;
+    Ok(answer)
+}
+
+/// What became of a file that was fetched.
+#[derive(Drop)]
+pub enum Fetched {
+    Bytes(Vec<u8>),
+    TooLong,
+    Failed,
+}
+
+/// Fetches a source or a trace.
+fn fetch<H: Shelf>(alloc: Global, name: &str, shelf: &mut H) -> Result<Fetched, AllocError>
+    ensures fetched { IfOk result (λ f. IsFetched (H.told shelf.old name.now) (H.faults shelf.old) (H.faults shelf.new) f) }
+    ensures names { (other : List ℕ) → H.told shelf.new other ≡ H.told shelf.old other }
+    ensures later { H.faults shelf.old ≤ H.faults shelf.new }
+{
+    match shelf.fetch(alloc, name, LIMIT) {
+        Ok(bytes) => Ok(Fetched::Bytes(bytes)),
+        Err(FetchFault::TooLong) => Ok(Fetched::TooLong),
+        Err(FetchFault::Failed) => Ok(Fetched::Failed),
+        Err(FetchFault::Memory) => Err(AllocError),
+    }
+}
+
+/// The checked program of a source's bytes, or none where they are outside the language.
+fn read_source(alloc: Global, bytes: &[u8]) -> Result<Option<Checked>, AllocError>
+    requires { length bytes.now ≤ 1048576 }
+    ensures { IfOk result (λ found. MatchOption found (IsOutside bytes.now) (λ c. IsSource bytes.now (program_view c))) }
+{
+    match read_program(alloc, bytes) {
+        Ok(program) => match checked(program) {
+            Ok(checked) => Ok(Some(checked)),
+            Err(_) => Ok(None),
+        },
+        Err(refusal) => match refusal.what {
+            What::Memory => Err(AllocError),
+            _ => Ok(None),
+        },
+    }
+}
+
+/// The status of a replay, by the lines of its breaks.
+fn break_status(lines: &[String]) -> Status
+    ensures { result.code ≡ code_of (map string_bytes lines.now) }
+{
+    match lines {
+        [] => Status { code: 10 },
+        [_, ..] => Status { code: 1 },
+    }
+}
+
+/// The answer of a replay of n instants of a node that follows the rules.
+fn replay_answer(alloc: Global, node: &Node, n: u32) -> Result<Answer, AllocError>
+    requires checked { IsChecked (declared_node (node_view node.now) ∷ []) (node_view node.now) }
+    requires few { n ≤ 1001 }
+    ensures { IfOk result (λ a. IsReplay (declared_node (node_view node.now) ∷ []) (node_view node.now) n (map string_bytes a.lines.items) a.status.code) }
+{
+    let order = left_names(alloc, &node.items)?;
+    let kept = table(alloc, &order, &node.items, n)?;
+    let mut lines = breaks(alloc, &order, &kept, &node.items, n)?;
+    let status = break_status(&lines);
+    let last = lawful_text(alloc, n, n)?;
+    lines.push(last)?;
+    Ok(Answer { lines, status })
+}
+
+/// The answer of a trace of a checked source.
+fn trace_answer<H: Shelf>(
+    alloc: Global,
+    checked: &Checked,
+    trace: &str,
+    shelf: &mut H,
+) -> Result<Answer, AllocError>
+    ensures { IfOk result (λ a. (d : Component) × IsChecked (program_view checked.now) d × IsTraceAnswer (H.told shelf.old) (H.faults shelf.old) (H.faults shelf.new) trace.now
+        (program_view checked.now) d (map string_bytes a.lines.items) a.status.code) }
+{
+    let node = checked.node();
+    match fetch(alloc, trace, shelf)? {
+        Fetched::Failed => Ok(read_fault(alloc, trace)?),
+        Fetched::TooLong => Ok(one_line(alloc, "refused 1:1 TooLong\n", 3)?),
+        Fetched::Bytes(bytes) => match read_trace(alloc, &bytes, node.name.text.as_str())? {
+            None => Ok(one_line(alloc, "refused trace 1:1 Form\n", 3)?),
+            Some(n) => Ok(replay_answer(alloc, node, n)?),
+        },
+    }
+}
+
+/// The answer of a source and a trace.
+fn files_answer<H: Shelf>(
+    alloc: Global,
+    source: &str,
+    trace: &str,
+    shelf: &mut H,
+) -> Result<Answer, AllocError>
+    ensures { IfOk result (λ a. IsFilesAnswer (H.told shelf.old) (H.faults shelf.old) (H.faults shelf.new) source.now trace.now
+        (map string_bytes a.lines.items) a.status.code) }
+{
+    match fetch(alloc, source, shelf)? {
+        Fetched::Failed => Ok(read_fault(alloc, source)?),
+        Fetched::TooLong => Ok(one_line(alloc, "refused 1:1 TooLong\n", 3)?),
+        Fetched::Bytes(bytes) => match read_source(alloc, &bytes)? {
+            None => Ok(one_line(alloc, "refused 1:1 NotBuilt\n", 3)?),
+            Some(checked) => Ok(trace_answer(alloc, &checked, trace, shelf)?),
+        },
+    }
+}
+
+/// The answer to the words. The shelf is left as the calls on it left it.
+pub fn answer_to<H: Shelf>(
+    alloc: Global,
+    words: &[String],
+    shelf: &mut H,
+) -> Result<Answer, AllocError>
+    ensures { IfOk result (λ a. IsAnswer (H.told shelf.old) (H.faults shelf.old) (H.faults shelf.new) (map string_bytes words.now)
+        (map string_bytes a.lines.items) a.status.code) }
+{
+    match command(words) {
+        None => Ok(one_line(
+            alloc,
+            "usage: kind prove [FILE] | check FILE CERT | replay FILE TRACE | make NUMBER\n",
+            2,
+        )?),
+        Some(files) => Ok(files_answer(alloc, files.source, files.trace, shelf)?),
+    }
 }

@@ -8,7 +8,9 @@ mod report;
 mod status;
 mod table;
 mod text;
+mod top;
 mod trace;
 mod words;
 
 pub use status::Status;
+pub use top::kind_top;

@@ -4,6 +4,7 @@ ghost use Rattle.std.specs.String.{string_bytes};
 ghost use Rattle.kind_main.specs.Words.{is_option as option_of, AreReplay, AreNoCommand};
 
 /// The names of the two files of the command `replay`.
+#[derive(Drop)]
 pub struct Replay<'a> {
     pub source: &'a str,
     pub trace: &'a str,

@@ -56,3 +56,18 @@ not_last d n p _ ls _ q is h (tel_semicolon {q = r}) = let e : sign M.Semicolon 
 
 pub no_end : (n : Counts) (ls : List Lexeme) (s : Pos × List Lexeme) → behind M.Tel ls ≡ Some s → ends s.1 ≡ false → NoBody (n, ls)
 no_end n ls s is h = λ zs b. not_last 1001 n s.0 ls s.1 zs refl (front M.Tel ls s is).is h b
+
+after_tel : (n : Counts) (p : Pos) (w ls : List Lexeme) (zs : List Statement) → w ≡ sign M.Tel p ∷ ls → Body n w zs → zs ≡ []
+after_tel n p w ls _ q (item {m = m} {rest = rest} {s = s} i b) =
+    let e : read_item 1001 n w ≡ some_item s m rest = item_complete 1001 n m w rest s refl i in
+    let f : read_item 1001 n w ≡ None = ap (read_item 1001 n) q in
+    absurd (cc)
+after_tel n p _ ls _ q tel = refl
+after_tel n p _ ls _ q tel_semicolon = refl
+
+pub body_unique : (n : Counts) (ls : List Lexeme) (ss zs : List Statement) → Body n ls ss → Body n ls zs → ss ≡ zs
+body_unique n ls _ zs (item {m = m} {rest = rest} {s = s} {ss = ss} i b) c =
+    let f = back 1001 n m ls rest s refl (item_complete 1001 n m ls rest s refl i) zs c in
+    ap (λ (w : List Statement). s ∷ w) (body_unique m rest ss f.more b f.reads) ∙ sym f.whole
+body_unique n _ _ zs (tel {p = p}) c = sym (after_tel n p (sign M.Tel p ∷ []) [] zs refl c)
+body_unique n _ _ zs (tel_semicolon {p = p} {q = q}) c = sym (after_tel n p (sign M.Tel p ∷ sign M.Semicolon q ∷ []) (sign M.Semicolon q ∷ []) zs refl c)

@@ -6,3 +6,9 @@ pub mod Items
 pub mod Leading
 pub mod Bodies
 pub mod Numbered
+pub mod Names
+pub mod Nodes
+pub mod Words
+pub mod Fronts
+pub mod Lexed
+pub mod Sources

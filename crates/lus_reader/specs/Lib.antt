@@ -3,4 +3,7 @@ pub mod Grammar
 pub mod Source
 pub mod Leads
 pub mod Reading
+pub mod Spelling
 pub mod Views
+pub mod Fronts
+pub mod Lexing

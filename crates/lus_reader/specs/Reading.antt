@@ -1,7 +1,7 @@
 -- A plain reader of expressions, down to a depth.
 use Rattle.std.specs.Prelude.{◌+◌, ◌==◌, ℕ, zero, suc, Bool, true, false, List, [], ◌∷◌, Option, Some, None, nat_le, length, if◌then◌else◌}
 use Rattle.lus_tree.specs.declared.place.Pos.{Pos}
-use Rattle.lus_tree.specs.Tree.{Expression, truth, name, negation, pre, arrow, Statement, equation, property}
+use Rattle.lus_tree.specs.Tree.{Name, Expression, truth, name, negation, pre, arrow, Statement, equation, property}
 use Rattle.lus_reader.specs.declared.token.Mark.{Mark}
 use Rattle.lus_reader.specs.declared.token.Mark.TheVariants as M
 use Rattle.lus_reader.specs.Tokens.{Token, fixed, named, Lexeme}
@@ -157,3 +157,46 @@ behind_next (Some s) f = f s.1
 abbrev pub behind_all : List Mark → List Lexeme → Option (List Lexeme)
 behind_all [] ls = Some ls
 behind_all (m ∷ ms) ls = behind_next (behind m ls) (λ after. behind_all ms after)
+
+pub record Title : Type 0 where
+  pub text : Name
+  pub at : Pos
+  pub rest : List Lexeme
+
+abbrev pub name_token : Token → Pos → List Lexeme → Option Title
+name_token (named x) p ls = Some (record { text = x; at = p; rest = ls })
+name_token (fixed m) p ls = None
+
+-- the name at the front, and what stands behind it
+abbrev pub read_name : List Lexeme → Option Title
+read_name [] = None
+read_name (l ∷ ls) = name_token l.token l.at ls
+
+abbrev pub with_rest : Title → Option (List Lexeme) → Option Title
+with_rest t None = None
+with_rest t (Some ls) = Some (record { text = t.text; at = t.at; rest = ls })
+
+abbrev pub titled : Option Title → Option Title
+titled None = None
+titled (Some t) = with_rest t (behind_all (M.Open ∷ M.Close ∷ M.Returns ∷ M.Open ∷ []) t.rest)
+
+abbrev pub title_of : Option (List Lexeme) → Option Title
+title_of None = None
+title_of (Some ls) = titled (read_name ls)
+
+-- the node's name, and what stands behind `returns (`
+abbrev pub read_title : List Lexeme → Option Title
+read_title ls = title_of (behind_all (M.Node ∷ []) ls)
+
+-- What stands behind an output: behind a comma another one, behind a colon their type.
+pub data NextPart : Type 0 where
+  next_name : List Lexeme → NextPart
+  next_type : List Lexeme → NextPart
+
+abbrev pub next_by : Option (Pos × List Lexeme) → Option (Pos × List Lexeme) → Option NextPart
+next_by (Some s) colon = Some (next_name s.1)
+next_by None (Some s) = Some (next_type s.1)
+next_by None None = None
+
+abbrev pub read_next : List Lexeme → Option NextPart
+read_next ls = next_by (behind M.Comma ls) (behind M.Colon ls)

@@ -18,9 +18,13 @@ pub record IsSource (bytes : List ℕ) (p : Program) : Type 0 where
   pub parsed : IsNode tokens component
   pub whole : p ≡ declared_node component ∷ []
 
+-- The bytes are no source.
+abbrev pub NoSource : List ℕ → Type 0
+NoSource bytes = (p : Program) → IsSource bytes p → ⊥
+
 -- A refusal for want of memory, or of a text that is no source.
 abbrev pub IsRefused : List ℕ → Refusal → Type 0
-IsRefused bytes e = (e.what ≡ Memory) ⊎ ((e.what ≡ NotBuilt) × (e.at ≡ start) × ((p : Program) → IsSource bytes p → ⊥))
+IsRefused bytes e = (e.what ≡ Memory) ⊎ ((e.what ≡ NotBuilt) × (e.at ≡ start) × NoSource bytes)
 
 -- Two trees of one text are one tree.
 abbrev pub OneTree : Type 0

@@ -1,8 +1,8 @@
 -- What contracts see of the reader's types.
-use Rattle.std.specs.Prelude.{◌≡◌, ◌+◌, ◌≤◌, ℕ, List, length, map, Option, Some, None, Result, MatchResult, MatchOption, IfOk, Vec}
+use Rattle.std.specs.Prelude.{◌≡◌, ◌+◌, ◌<◌, ◌≤◌, ℕ, List, length, map, Option, Some, None, Result, MatchResult, MatchOption, IfOk, Vec}
 use Rattle.std.specs.declared.alloc.Global.{Global}
 use Rattle.lus_tree.specs.declared.place.Pos.{Pos}
-use Rattle.lus_tree.specs.View.{expr_view, item_view}
+use Rattle.lus_tree.specs.View.{expr_view, item_view, param_view, node_view}
 use Rattle.lus_reader.specs.declared.token.Lexeme.{Lexeme as LexemeCode}
 use Rattle.lus_reader.specs.declared.token.Token.{Token as TokenCode}
 use Rattle.lus_reader.specs.declared.token.Token.TheVariants.{Fixed, Named}
@@ -11,13 +11,19 @@ use Rattle.lus_reader.specs.declared.expression.Found.{Found}
 use Rattle.lus_reader.specs.declared.fault.Fault.{Fault}
 use Rattle.lus_reader.specs.declared.fault.Fault.TheVariants.{NotBuilt}
 use Rattle.lus_reader.specs.Tokens.{Token, fixed, named, Lexeme}
-use Rattle.lus_tree.specs.Tree.{Statement}
+use Rattle.lus_tree.specs.Tree.{Statement, Variable, Component}
+use Rattle.lus_tree.specs.declared.place.Param.{Param}
+use Rattle.lus_tree.specs.declared.declaration.Node.{Node as NodeCode}
+use Rattle.lus_reader.specs.declared.node.Title.{Title as TitleCode}
+use Rattle.lus_reader.specs.declared.node.Next.{Next}
+use Rattle.lus_reader.specs.declared.node.Next.TheVariants.{Name as NextName, Sort as NextSort}
+use Rattle.lus_reader.specs.declared.node.Outputs.{Outputs as OutputsCode}
 use Rattle.lus_tree.specs.declared.declaration.Item.{Item as ItemCode}
 use Rattle.lus_reader.specs.declared.body.Left.{Left}
-use Rattle.lus_reader.specs.Leads.{Adds}
-use Rattle.lus_reader.specs.Grammar.{Counts, none_before, Body}
+use Rattle.lus_reader.specs.Leads.{Leads, Adds}
+use Rattle.lus_reader.specs.Grammar.{Counts, none_before, Body, Outputs, IsNode}
 use Rattle.lus_reader.specs.declared.item.FoundItem.{FoundItem}
-use Rattle.lus_reader.specs.Reading.{Read, ReadItem}
+use Rattle.lus_reader.specs.Reading.{Read, ReadItem, Title, read_name, read_title, NextPart, next_name, next_type, read_next}
 
 abbrev pub token_view : TokenCode → Token
 token_view (Fixed m) = fixed m
@@ -67,3 +73,57 @@ AddsItem a xs ys r = MatchResult r (λ b. Adds IsBody (left_view a) (items_view 
 
 abbrev pub ReadsBody : List LexemeCode → Result (Vec ItemCode Global) Fault → Type 0
 ReadsBody ls r = MatchResult r (λ v. IsBody (none_before, lexemes_view ls) (items_view v.items)) (λ e. e ≡ NotBuilt → NoBody (none_before, lexemes_view ls))
+
+abbrev pub title_view : TitleCode → Title
+title_view t = record { text = t.text.now; at = t.at; rest = lexemes_view t.rest.now }
+
+abbrev pub ReadsTitle : List LexemeCode → Option TitleCode → Type 0
+ReadsTitle ls o = MatchOption o (read_title (lexemes_view ls) ≡ None) (λ t. read_title (lexemes_view ls) ≡ Some (title_view t))
+
+abbrev pub ReadsName : List LexemeCode → Option TitleCode → Type 0
+ReadsName ls o = MatchOption o (read_name (lexemes_view ls) ≡ None) (λ t. read_name (lexemes_view ls) ≡ Some (title_view t))
+
+abbrev pub OutputsTo : List Lexeme → List Lexeme → List Variable → Type 0
+OutputsTo rest ls vs = Outputs ls vs rest
+
+abbrev pub NoOutputs : List Lexeme → Type 0
+NoOutputs ls = (vs : List Variable) (rest : List Lexeme) → Outputs ls vs rest → ⊥
+
+abbrev pub outputs_view : List Param → List Variable
+outputs_view = map param_view
+
+-- an output more, and where it is the last one, the whole list
+abbrev pub GoesOn : List Lexeme → List Variable → List Variable → Next → Type 0
+GoesOn ls xs ys (NextName after) = (rest : List Lexeme) → Adds (OutputsTo rest) ls xs (lexemes_view after.now) ys
+GoesOn ls xs ys (NextSort after) = (start : List Lexeme) → ((rest : List Lexeme) → Leads (OutputsTo rest) start xs ls) → Outputs start ys (lexemes_view after.now)
+
+-- the outputs so far
+abbrev pub Reached : List Lexeme → List Variable → Next → Type 0
+Reached start xs (NextName after) = (rest : List Lexeme) → Leads (OutputsTo rest) start xs (lexemes_view after.now)
+Reached start xs (NextSort after) = Outputs start xs (lexemes_view after.now)
+
+abbrev pub AddsOutput : List LexemeCode → List Param → List Param → Result Next Fault → Type 0
+AddsOutput ls xs ys r = MatchResult r (λ next. GoesOn (lexemes_view ls) (outputs_view xs) (outputs_view ys) next) (λ e. e ≡ NotBuilt → NoOutputs (lexemes_view ls))
+
+abbrev pub next_view : Next → NextPart
+next_view (NextName after) = next_name (lexemes_view after.now)
+next_view (NextSort after) = next_type (lexemes_view after.now)
+
+abbrev pub ReadsNext : List LexemeCode → Option Next → Type 0
+ReadsNext ls o = MatchOption o (read_next (lexemes_view ls) ≡ None) (λ n. read_next (lexemes_view ls) ≡ Some (next_view n))
+
+abbrev pub rest_of : Next → List LexemeCode
+rest_of (NextName after) = after.now
+rest_of (NextSort after) = after.now
+
+abbrev pub OutputsShorter : List LexemeCode → Result Next Fault → Type 0
+OutputsShorter ls r = IfOk r (λ next. length (rest_of next) < length ls)
+
+abbrev pub ReadsOutputs : List LexemeCode → Result OutputsCode Fault → Type 0
+ReadsOutputs ls r = MatchResult r (λ o. Outputs (lexemes_view ls) (outputs_view o.list.items) (lexemes_view o.rest.now)) (λ e. e ≡ NotBuilt → NoOutputs (lexemes_view ls))
+
+abbrev pub NoNode : List Lexeme → Type 0
+NoNode ls = (c : Component) → IsNode ls c → ⊥
+
+abbrev pub ReadsNode : List LexemeCode → Result NodeCode Fault → Type 0
+ReadsNode ls r = MatchResult r (λ n. IsNode (lexemes_view ls) (node_view n)) (λ e. e ≡ NotBuilt → NoNode (lexemes_view ls))

@@ -1,0 +1,28 @@
+-- What became of a file that was fetched and read, and the answers that follow.
+use Rattle.std.specs.Prelude.{◌≡◌, ◌≤◌, ℕ, List, [], ◌∷◌, length, Option, Some, None}
+use Rattle.kind_io.specs.Counts.{Rose}
+use Rattle.kind_io.specs.Told.{Told, MayHold, MayExceed}
+use Rattle.lus_tree.specs.Tree.{Program, Component}
+use Rattle.lus_meaning.specs.Rules.{IsChecked}
+use Rattle.kind_main.specs.declared.answer.Fetched.{Fetched}
+use Rattle.kind_main.specs.declared.answer.Fetched.TheVariants.{Bytes, TooLong, Failed}
+use Rattle.kind_main.specs.Lines.{Line, read_fault_line}
+use Rattle.kind_main.specs.Report.{IsReplay}
+use Rattle.kind_main.specs.Answer.{Tells, limit, HoldsSource, IsRefused, HoldsTrace, IsRefusedTrace}
+
+abbrev pub IsFetched : Told → ℕ → ℕ → Fetched → Type 0
+IsFetched told before now (Bytes bytes) = MayHold told bytes.items × (length bytes.items ≤ limit)
+IsFetched told before now TooLong = MayExceed told limit
+IsFetched told before now Failed = Rose before now
+
+-- the answer of a trace, where the source holds this node
+pub data IsTraceAnswer (told : Tells) (before now : ℕ) (trace : List ℕ) (p : Program) (d : Component) (lines : List Line) (code : ℕ) : Type 0 where
+  trace_unread : Rose before now → lines ≡ read_fault_line trace ∷ [] → code ≡ 5 → IsTraceAnswer told before now trace p d lines code
+  trace_refused : (line : Line) → IsRefusedTrace told trace d line → lines ≡ line ∷ [] → code ≡ 3 → IsTraceAnswer told before now trace p d lines code
+  trace_replayed : (n : ℕ) → HoldsTrace told trace d n → IsReplay p d n lines code → IsTraceAnswer told before now trace p d lines code
+
+-- the answer of a source and a trace
+pub data IsFilesAnswer (told : Tells) (before now : ℕ) (file trace : List ℕ) (lines : List Line) (code : ℕ) : Type 0 where
+  unread : Rose before now → lines ≡ read_fault_line file ∷ [] → code ≡ 5 → IsFilesAnswer told before now file trace lines code
+  refused : (line : Line) → IsRefused told file line → lines ≡ line ∷ [] → code ≡ 3 → IsFilesAnswer told before now file trace lines code
+  held : (p : Program) (d : Component) → HoldsSource told file p d → IsTraceAnswer told before now trace p d lines code → IsFilesAnswer told before now file trace lines code
