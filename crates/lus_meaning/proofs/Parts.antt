@@ -3,9 +3,8 @@ use Rattle.std.proofs.Common.{◌≡◌, ◌↔◌, ◌<◌, ◌+◌, ℕ, suc, 
 use Rattle.std.specs.List.{AllByRecursion}
 use Rattle.std.proofs.Math.Seq.{drop-cons}
 use Rattle.std.proofs.lemmas.Bool.{true≢false, false≢true}
-use Rattle.lus_tree.specs.declared.expression.Expr.{Expr}
 use Rattle.lus_tree.specs.declared.declaration.Item.{Item}
-use Rattle.lus_tree.specs.View.{expr_view, item_view}
+use Rattle.lus_tree.specs.View.{item_view}
 use Rattle.lus_tree.specs.Tree.{Name, Statement, equation, assertion, property, main_mark}
 use Rattle.lus_tree.specs.Numbers.{body_expressions}
 use Rattle.lus_meaning.specs.Run.{body_equations}

@@ -1,9 +1,9 @@
 -- What a contract says of a frame: its assumptions, its guarantees and its modes, with those of its imports at the import's place.
-use Rattle.std.specs.Prelude.{◌≡◌, ℕ, zero, suc, pred, Bool, true, false, cond, not, ◌&&◌, ◌||◌, List, [], ◌∷◌, ◌++◌, map, Option, Some, None, unwrap_or, slice_index_or}
+use Rattle.std.specs.Prelude.{ℕ, pred, true, false, List, [], ◌∷◌, ◌++◌, map, Option, slice_index_or}
 use Rattle.lus_tree.specs.declared.place.Pos.{Pos}
 use Rattle.lus_tree.specs.declared.expression.Operator.TheVariants.{And, Or, Implies}
-use Rattle.lus_tree.specs.Tree.{Name, Place, Expression, truth, number, name, negation, minus, pre, arrow, binary, choice, sampled, merged, call, condact, mode_name, Labelled, Clause, assume, guarantee, ghost_variable, constant, mode, «import», Component}
-use Rattle.lus_meaning.specs.Value.{Value, absent, flag, Stream, Instants, apply, only_on, is}
+use Rattle.lus_tree.specs.Tree.{Name, Expression, truth, number, name, negation, minus, pre, arrow, binary, choice, sampled, merged, call, condact, mode_name, Labelled, Clause, assume, guarantee, ghost_variable, constant, mode, «import»}
+use Rattle.lus_meaning.specs.Value.{flag, Stream, Instants, apply, only_on, is}
 use Rattle.lus_meaning.specs.Frame.{Frame, call_frame}
 use Rattle.lus_meaning.specs.Scene.{base, Instance, Instances, instance, no_instances, with_instance, Scene, clauses, ModeStreams}
 use Rattle.lus_meaning.specs.Meaning.{value}

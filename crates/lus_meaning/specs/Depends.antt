@@ -1,12 +1,12 @@
 -- What a value needs at the same instant, and when nothing needs itself.
-use Rattle.std.specs.Prelude.{◌≡◌, ℕ, zero, suc, pred, ◌<◌, Bool, true, false, cond, not, ◌&&◌, ◌||◌, List, [], ◌∷◌, ◌++◌, map, flat_map, Option, Some, None, slice_index_or, unwrap_or, option_map, option_to_list}
+use Rattle.std.specs.Prelude.{◌≡◌, ℕ, suc, pred, ◌<◌, Bool, true, false, ◌||◌, List, [], ◌∷◌, ◌++◌, map, flat_map, Option, Some, None, slice_index_or, unwrap_or, option_map, option_to_list}
 use Rattle.std.specs.List.{AllByRecursion, list_any}
 use Rattle.std.specs.Map.{lookup}
 use Rattle.std.specs.Str.{bytes_eq}
-use Rattle.lus_tree.specs.Tree.{Name, text_of, Place, Expression, Expressions, truth, number, name, negation, minus, pre, arrow, binary, choice, sampled, merged, call, condact, mode_name, no_more, more, Labelled, Clause, assume, guarantee, ghost_variable, constant, mode, «import», Component}
-use Rattle.lus_meaning.specs.Value.{Value, is_absent}
-use Rattle.lus_meaning.specs.Frame.{Frame, Frames, no_frames, with_frame, calls_in, frame_at, first_value, entry}
-use Rattle.lus_meaning.specs.Scene.{Clock, base, sampled_by, Manner, plain, while_true, as_import, Site, Instance, Instances, instance, no_instances, with_instance, component_of, outputs_of, calls_of, call_instance, clock_of, clock_from, clauses, variables}
+use Rattle.lus_tree.specs.Tree.{Name, text_of, Expression, Expressions, truth, number, name, negation, minus, pre, arrow, binary, choice, sampled, merged, call, condact, mode_name, no_more, more, Labelled, Clause, assume, guarantee, ghost_variable, constant, mode, «import», Component}
+use Rattle.lus_meaning.specs.Value.{is_absent}
+use Rattle.lus_meaning.specs.Frame.{Frame, calls_in, frame_at, first_value, entry}
+use Rattle.lus_meaning.specs.Scene.{Clock, base, sampled_by, Manner, plain, while_true, as_import, Site, Instance, Instances, instance, no_instances, with_instance, component_of, outputs_of, call_instance, clock_of, clock_from, clauses, variables}
 use Rattle.lus_meaning.specs.Meaning.{mode_key}
 use Rattle.lus_meaning.specs.Program.{clock_of_names}
 use Rattle.lus_meaning.specs.Run.{Equation, equations, inputs_of}

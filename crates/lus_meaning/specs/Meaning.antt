@@ -1,11 +1,11 @@
 -- The value of an expression at each instant.
-use Rattle.std.specs.Prelude.{◌≡◌, ℕ, zero, suc, Bool, true, false, cond, ◌&&◌, List, [], ◌∷◌, map, pos, Option, Some, None, slice_index_or, option_map, option_to_list}
+use Rattle.std.specs.Prelude.{ℕ, suc, Bool, true, false, cond, ◌&&◌, List, [], ◌∷◌, map, pos, Option, Some, None, option_map, option_to_list}
 use Rattle.std.specs.Map.{lookup}
 use Rattle.std.specs.Str.{bytes_eq}
-use Rattle.lus_tree.specs.Tree.{Name, Spelled, text_of, Place, Expression, Expressions, truth, number, name, negation, minus, pre, arrow, binary, choice, sampled, merged, call, condact, mode_name, no_more, more}
+use Rattle.lus_tree.specs.Tree.{Name, text_of, Expression, Expressions, truth, number, name, negation, minus, pre, arrow, binary, choice, sampled, merged, call, condact, mode_name, no_more, more}
 use Rattle.lus_meaning.specs.Value.{Value, absent, flag, whole, Stream, Instants, is, not_value, minus_value, apply, choose, only_on, was_on, latest}
-use Rattle.lus_meaning.specs.Frame.{Frame, entry, first_value, call_frame}
-use Rattle.lus_meaning.specs.Scene.{Clock, base, sampled_by, Scene, clock_of, component_of, constants_of, call_instance, outputs_of, is_on}
+use Rattle.lus_meaning.specs.Frame.{entry, first_value, call_frame}
+use Rattle.lus_meaning.specs.Scene.{Clock, sampled_by, Scene, clock_of, component_of, constants_of, call_instance, outputs_of, is_on}
 
 abbrev pub never : Stream
 never t = absent

@@ -1,16 +1,11 @@
 -- A program's declarations, the call occurrences of one in text order, and its instance.
-use Rattle.std.specs.Prelude.{ℕ, zero, suc, Bool, true, false, List, [], ◌∷◌, ◌++◌, map, flat_map, Option, Some, None, length, find, unwrap_or, cond, option_to_list, ◌==◌}
+use Rattle.std.specs.Prelude.{ℕ, zero, suc, true, false, List, [], ◌∷◌, ◌++◌, map, flat_map, Option, Some, None, length, find, unwrap_or, cond, option_to_list, ◌==◌}
 use Rattle.std.specs.Str.{bytes_eq}
-use Rattle.std.specs.Map.{lookup}
-use Rattle.lus_tree.specs.declared.place.Sort.{Sort}
-use Rattle.lus_tree.specs.declared.place.Sort.TheVariants.{Bool as Flags, Int as Numbers}
-use Rattle.lus_tree.specs.declared.expression.Operator.{Operator}
-use Rattle.lus_tree.specs.declared.expression.Operator.TheVariants.{Implies, Or, Xor, And, Less, AtMost, Equal, Differs, AtLeast, More, Add, Sub, Mul, Div, Mod}
-use Rattle.lus_tree.specs.Tree.{Name, text_of, Place, Expression, Expressions, truth, number, name, negation, minus, pre, arrow, binary, choice, sampled, merged, call, condact, mode_name, no_more, more, Variable, Constant, Labelled, Statement, equation, assertion, property, main_mark, Clause, assume, guarantee, ghost_variable, constant, mode, «import», Component, Declaration, declared_constant, declared_node, declared_contract, Program}
+use Rattle.lus_tree.specs.Tree.{Name, text_of, Expression, Expressions, truth, number, name, negation, minus, pre, arrow, binary, choice, sampled, merged, call, condact, mode_name, no_more, more, Constant, Labelled, Statement, equation, assertion, property, main_mark, Clause, assume, guarantee, ghost_variable, constant, mode, «import», Component, Declaration, declared_constant, declared_node, declared_contract, Program}
 use Rattle.lus_tree.specs.Numbers.{counting}
-use Rattle.lus_meaning.specs.Value.{Value, flag, whole}
+use Rattle.lus_meaning.specs.Value.{Value}
 use Rattle.lus_meaning.specs.Frame.{empty_frame}
-use Rattle.lus_meaning.specs.Scene.{Clock, base, sampled_by, Manner, plain, while_true, as_import, Site, Instance, Instances, instance, no_instances, with_instance, component_of, outputs_of, call_instance, Scene, clock_of, clauses, variables}
+use Rattle.lus_meaning.specs.Scene.{Clock, base, sampled_by, plain, while_true, as_import, Site, Instance, Instances, instance, no_instances, with_instance, clock_of, clauses}
 use Rattle.lus_meaning.specs.Meaning.{value}
 
 -- ---- call occurrences

@@ -1,13 +1,12 @@
 -- Which instants are lawful, and the properties of a declaration.
-use Rattle.std.specs.Prelude.{◌≡◌, ℕ, zero, suc, ◌≤◌, Bool, true, false, not, cond, ◌&&◌, ◌||◌, List, [], ◌∷◌, ◌++◌, map, flat_map, Option, Some, None, is_none}
+use Rattle.std.specs.Prelude.{◌≡◌, ℕ, ◌≤◌, true, not, cond, ◌&&◌, ◌||◌, List, [], ◌∷◌, ◌++◌, map, flat_map, None}
 use Rattle.std.specs.List.{list_all}
-use Rattle.lus_tree.specs.declared.place.Pos.{Pos}
-use Rattle.lus_tree.specs.Tree.{Name, Expression, Labelled, Statement, equation, assertion, property, main_mark, Component}
-use Rattle.lus_meaning.specs.Value.{Value, flag, Stream, Instants, is}
+use Rattle.lus_tree.specs.Tree.{Expression, Statement, assertion, property, Component}
+use Rattle.lus_meaning.specs.Value.{flag, Instants, is}
 use Rattle.lus_meaning.specs.Frame.{Frame, Frames, no_frames, with_frame, calls_in, call_frame}
-use Rattle.lus_meaning.specs.Scene.{base, Manner, plain, while_true, as_import, Site, Instance, Instances, instance, no_instances, with_instance, component_of, Scene}
+use Rattle.lus_meaning.specs.Scene.{base, Manner, plain, while_true, as_import, Site, Instance, Instances, instance, no_instances, with_instance, Scene}
 use Rattle.lus_meaning.specs.Meaning.{value}
-use Rattle.lus_meaning.specs.Contract.{Test, Kind, body, one_mode_active, assumed, Property, ModeTerms, Terms, terms, scene, some_true, item, under, imported}
+use Rattle.lus_meaning.specs.Contract.{body, one_mode_active, Property, ModeTerms, Terms, terms, scene, some_true, item}
 use Rattle.lus_meaning.specs.Run.{active}
 
 -- ---- lawful instants

@@ -1,14 +1,13 @@
 -- The rules of the language as it is built today: one Boolean node whose equations stand in the order of their needs.
-use Rattle.std.specs.Prelude.{◌≡◌, ℕ, zero, suc, ◌≤◌, ◌+◌, Bool, true, false, List, [], ◌∷◌, ◌++◌, map, flat_map, length, Option, Some, None}
+use Rattle.std.specs.Prelude.{◌≡◌, ℕ, suc, ◌≤◌, ◌+◌, true, false, List, [], ◌∷◌, ◌++◌, map, flat_map, length, None}
 use Rattle.std.specs.List.{AllByRecursion}
-use Rattle.lus_tree.specs.declared.place.Sort.{Sort}
 use Rattle.lus_tree.specs.declared.place.Sort.TheVariants.{Bool as Flags}
 use Rattle.lus_tree.specs.declared.refusal.Refusal.{Refusal}
 use Rattle.lus_tree.specs.declared.refusal.What.TheVariants.{NotBuilt}
-use Rattle.lus_tree.specs.Tree.{Name, Spelled, text_of, Place, Expression, Expressions, truth, number, name, negation, minus, pre, arrow, binary, choice, sampled, merged, call, condact, mode_name, no_more, more, Variable, Labelled, Statement, equation, assertion, property, main_mark, Component, Declaration, declared_node, Program}
+use Rattle.lus_tree.specs.Tree.{Name, Expression, truth, number, name, negation, minus, pre, arrow, binary, choice, sampled, merged, call, condact, mode_name, Variable, Statement, equation, property, Component, declared_node, Program}
 use Rattle.lus_tree.specs.Numbers.{IsNumbered, body_expressions, body_pres, body_arrows}
 use Rattle.lus_meaning.specs.Scene.{variables}
-use Rattle.lus_meaning.specs.Run.{Equation, equations, expressions_of}
+use Rattle.lus_meaning.specs.Run.{Equation, equations}
 use Rattle.lus_meaning.specs.Depends.{named_in, left_names}
 use Rattle.lus_meaning.specs.WellMade.{AreDistinct}
 

@@ -1,17 +1,17 @@
 -- Which frames are runs.
-use Rattle.std.specs.Prelude.{◌≡◌, ℕ, zero, suc, pred, ◌<◌, Bool, true, false, cond, ◌&&◌, List, [], ◌∷◌, ◌++◌, map, flat_map, length, Option, Some, None, unwrap_or, slice_index_or, find, option_map}
+use Rattle.std.specs.Prelude.{◌≡◌, ℕ, ◌<◌, Bool, true, false, cond, ◌&&◌, List, [], ◌∷◌, ◌++◌, map, flat_map, length, unwrap_or, find, option_map}
 use Rattle.std.specs.List.{AllByRecursion}
 use Rattle.std.specs.Str.{bytes_eq}
 use Rattle.std.specs.Map.{lookup}
 use Rattle.lus_tree.specs.declared.expression.Operator.{Operator}
-use Rattle.lus_tree.specs.declared.expression.Operator.TheVariants.{Implies, Or, Xor, And, Less, AtMost, Equal, Differs, AtLeast, More, Add, Sub, Mul, Div, Mod}
+use Rattle.lus_tree.specs.declared.expression.Operator.TheVariants.{Add, Sub, Mul, Div, Mod}
 use Rattle.lus_tree.specs.declared.place.Sort.{Sort}
 use Rattle.lus_tree.specs.declared.place.Sort.TheVariants.{Bool as Flags, Int as Numbers}
-use Rattle.lus_tree.specs.Tree.{Name, text_of, Place, Expression, Expressions, truth, number, name, negation, minus, pre, arrow, binary, choice, sampled, merged, call, condact, mode_name, no_more, more, Variable, Labelled, Statement, equation, assertion, property, main_mark, Clause, assume, guarantee, ghost_variable, constant, mode, «import», Component}
+use Rattle.lus_tree.specs.Tree.{Name, text_of, Expression, Expressions, truth, number, name, negation, minus, pre, arrow, binary, choice, sampled, merged, call, condact, mode_name, no_more, more, Variable, Statement, equation, Clause, assume, guarantee, ghost_variable, constant, mode, «import», Component}
 use Rattle.lus_tree.specs.Numbers.{body_expressions}
 use Rattle.lus_meaning.specs.Value.{Value, absent, flag, whole, Stream, Instants, is, has_sort, is_absent}
-use Rattle.lus_meaning.specs.Frame.{Frame, Frames, frame, no_frames, with_frame, streams_of, firsts_of, calls_in, entry}
-use Rattle.lus_meaning.specs.Scene.{Clock, base, sampled_by, Manner, plain, while_true, as_import, Site, Instance, Instances, instance, no_instances, with_instance, component_of, constants_of, outputs_of, call_instance, Scene, clock_of, clock_from, clauses, variables, is_on}
+use Rattle.lus_meaning.specs.Frame.{Frame, Frames, no_frames, with_frame, streams_of, firsts_of, calls_in, entry}
+use Rattle.lus_meaning.specs.Scene.{Clock, Manner, plain, while_true, as_import, Site, Instance, Instances, instance, no_instances, with_instance, component_of, constants_of, outputs_of, call_instance, Scene, clock_from, clauses, variables, is_on}
 use Rattle.lus_meaning.specs.Meaning.{value, values, call_outputs, held_outputs}
 use Rattle.lus_meaning.specs.Program.{clock_of_names, in_order}
 use Rattle.lus_meaning.specs.Contract.{scene}

@@ -1,9 +1,8 @@
 -- Where an expression stands: an instance of a declaration, its frame, and the instants at which it is active.
-use Rattle.std.specs.Prelude.{ℕ, zero, suc, pred, Bool, true, false, ◌&&◌, List, [], ◌∷◌, ◌++◌, map, Option, Some, None, find, option_map, unwrap_or}
-use Rattle.std.specs.Map.{lookup}
+use Rattle.std.specs.Prelude.{ℕ, zero, suc, pred, Bool, List, [], ◌∷◌, ◌++◌, map, Option, Some, None, find, option_map, unwrap_or}
 use Rattle.std.specs.Str.{bytes_eq}
 use Rattle.lus_tree.specs.Tree.{Name, Spelled, Expression, Variable, Clause, ghost_variable, Component}
-use Rattle.lus_meaning.specs.Value.{Value, Stream, Instants, is, absent}
+use Rattle.lus_meaning.specs.Value.{Value, Stream, Instants, is}
 use Rattle.lus_meaning.specs.Frame.{Frame, entry}
 
 pub data Clock : Type 0 where

@@ -1,5 +1,5 @@
 -- A trace, and the runs that are its frame.
-use Rattle.std.specs.Prelude.{◌≡◌, ℕ, zero, suc, ◌<◌, Bool, true, false, cond, not, ◌&&◌, List, [], ◌∷◌, ◌++◌, map, flat_map, Option, Some, None, slice_index_or, unwrap_or, find, pos, ◌==◌, option_map}
+use Rattle.std.specs.Prelude.{◌≡◌, ℕ, suc, ◌<◌, Bool, true, false, cond, ◌&&◌, List, [], ◌∷◌, ◌++◌, flat_map, slice_index_or, unwrap_or, find, pos, ◌==◌, option_map}
 use Rattle.std.specs.List.{AllByRecursion, list_any}
 use Rattle.std.specs.Str.{bytes_eq}
 use Rattle.lus_tree.specs.declared.place.Sort.{Sort}
@@ -7,7 +7,7 @@ use Rattle.lus_tree.specs.declared.place.Sort.TheVariants.{Bool as Flags, Int as
 use Rattle.lus_tree.specs.Tree.{Name, Variable, Component}
 use Rattle.lus_meaning.specs.Value.{Value, absent, flag, whole, Instants}
 use Rattle.lus_meaning.specs.Frame.{Frame, Frames, no_frames, with_frame, calls_in, entry, first_value}
-use Rattle.lus_meaning.specs.Scene.{Manner, plain, while_true, as_import, Site, Instance, Instances, instance, no_instances, with_instance, component_of, variables, clock_from, is_on, Scene}
+use Rattle.lus_meaning.specs.Scene.{Manner, plain, while_true, as_import, Instance, Instances, instance, no_instances, with_instance, component_of, clock_from, is_on, Scene}
 use Rattle.lus_meaning.specs.Contract.{scene}
 use Rattle.lus_meaning.specs.Run.{equations, first_sorts, IsRun, active}
 use Rattle.lus_meaning.specs.Verdict.{throughout}

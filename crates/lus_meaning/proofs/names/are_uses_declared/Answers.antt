@@ -1,4 +1,4 @@
-use Rattle.std.proofs.Common.{◌≡◌, true, arith, map, flat_map, drop}
+use Rattle.std.proofs.Common.{◌≡◌, true, arith, map, flat_map}
 use Rattle.lus_tree.specs.View.{param_view}
 use Rattle.lus_tree.specs.Numbers.{body_expressions}
 use Rattle.lus_meaning.specs.Depends.{named_in}
