@@ -83,15 +83,16 @@ module _ (d : Component) (simple : IsSimpleNode d) (names : HasRightNames d) (nu
       cc
   break_of l q m k (Some t) b =
       let lt : t < n = b.0 in (
-      lt,
-      record {
-        instants = n;
-        enough = lt;
-        run = is_run d simple names numbered n h meets free;
-        lawful = always_lawful d simple the_frame t;
-        first = λ u below. value_is d simple names numbered n h meets free l.value q m k u (omega arith) ∙ ap flag (b.2 u below);
-        fails = value_is d simple names numbered n h meets free l.value q m k t lt ∙ ap flag b.1;
-      })
+        lt,
+        record {
+          instants = n;
+          enough = lt;
+          run = is_run d simple names numbered n h meets free;
+          lawful = always_lawful d simple the_frame t;
+          first = λ u below. value_is d simple names numbered n h meets free l.value q m k u (omega arith) ∙ ap flag (b.2 u below);
+          fails = value_is d simple names numbered n h meets free l.value q m k t lt ∙ ap flag b.1;
+        },
+      )
 
   pub report_of : (ss : List Statement) → AllByRecursion IsSimpleItem ss → AllByRecursion Declared (flat_map names_in (body_expressions ss)) → AllByRecursion FalseFirst (body_pres ss) → (lines : List Line) → AreBreaks h n ss lines
       → IsReport the_node the_frame n (body_properties the_node ss) lines

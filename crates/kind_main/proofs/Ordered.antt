@@ -67,7 +67,8 @@ reads_below order done later same (negation p a) q m = reads_below order done la
 reads_below order done later same (pre p k a) q m = tt
 reads_below order done later same (arrow p k a b) q m = (
   reads_below order done later same a q.0 (left_part (λ x. named_in x later ≡ false) (read_now a) (read_now b) m),
-  reads_below order done later same b q.1 (right_part (λ x. named_in x later ≡ false) (read_now a) (read_now b) m))
+  reads_below order done later same b q.1 (right_part (λ x. named_in x later ≡ false) (read_now a) (read_now b) m),
+)
 reads_below order done later same _ q m = absurd q
 
 pub ordered : (order done : List Name) (ss : List Statement) → order ≡ done ++ lefts (body_equations ss) → AreDistinct order → AllByRecursion IsSimpleItem ss → AreInOrder (body_equations ss) → IsOrdered order (length done) ss
@@ -81,11 +82,12 @@ ordered order done (equation (x ∷ []) e ∷ ss) same a q o =
     let later : List Name = lefts (body_equations ss) in
     let whole : length order ≡ length done + suc (length later) = ap length same ∙ length-append done (x.text ∷ later) in
     let next : order ≡ (done ++ x.text ∷ []) ++ later = same ∙ sym (append_assoc done (x.text ∷ []) later) in
-    let count : length (done ++ x.text ∷ []) ≡ suc (length done) = length-append done (x.text ∷ []) ∙ omega arith in
-    (subst (λ (l : List Name). place l x.text ≡ length done) (sym same) (place_behind done later x.text (not_before done later x.text (subst AreDistinct same a))),
-    omega arith,
-    reads_below order done (x.text ∷ later) same e q.0 o.0,
-    subst (λ (j : ℕ). IsOrdered order j ss) count (ordered order (done ++ x.text ∷ []) ss next a q.1 o.1))
+    let count : length (done ++ x.text ∷ []) ≡ suc (length done) = length-append done (x.text ∷ []) ∙ omega arith in (
+      subst (λ (l : List Name). place l x.text ≡ length done) (sym same) (place_behind done later x.text (not_before done later x.text (subst AreDistinct same a))),
+      omega arith,
+      reads_below order done (x.text ∷ later) same e q.0 o.0,
+      subst (λ (j : ℕ). IsOrdered order j ss) count (ordered order (done ++ x.text ∷ []) ss next a q.1 o.1),
+    )
 
 -- a name that no equation defines is false in the table
 pub held_free : (order : List Name) (kept : List Bool) (x : Name) → named_in x order ≡ false → (t : ℕ) → held order kept x t ≡ false

@@ -22,7 +22,8 @@ front-behind old mid new text more all rest shape a (front, left, split, b) = (
   text ++ front,
   left ++ rest,
   shape ∙ ap (λ (t : List ℕ). text ++ (t ++ rest)) split ∙ ap (λ (t : List ℕ). text ++ t) (append_assoc front left rest) ∙ sym (append_assoc text front (left ++ rest)),
-  Appends-trans old mid new text front a b)
+  Appends-trans old mid new text front a b,
+)
 
 -- the first i lines are written
 pub record Writing {Z : Type 0} (bytes : Z → Line) (items : List Z) (i before now : ℕ) (old new : Option (List ℕ)) : Type 0 where

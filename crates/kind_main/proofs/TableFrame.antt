@@ -108,7 +108,8 @@ module _ (d : Component) (simple : IsSimpleNode d) (names : HasRightNames d) (nu
   balanced_all (equation [] e ∷ ss) q l m k same = absurd q.0
   balanced_all (equation (x ∷ []) e ∷ ss) q l m k same = (
     balanced_one x e l.0 q.0 (left_part IsDeclared (names_in e) (flat_map names_in (body_expressions ss)) m) (left_part IsFalseFirst (pres e) (body_pres ss) k) (λ t lt. (same t lt).0),
-    balanced_all ss q.1 l.1 (right_part IsDeclared (names_in e) (flat_map names_in (body_expressions ss)) m) (right_part IsFalseFirst (pres e) (body_pres ss) k) (λ t lt. (same t lt).1))
+    balanced_all ss q.1 l.1 (right_part IsDeclared (names_in e) (flat_map names_in (body_expressions ss)) m) (right_part IsFalseFirst (pres e) (body_pres ss) k) (λ t lt. (same t lt).1),
+  )
   balanced_all (equation (x ∷ y ∷ xs) e ∷ ss) q l m k same = absurd q.0
   balanced_all (property a ∷ ss) q l m k same =
       balanced_all ss q.1 l (right_part IsDeclared (names_in a.value) (flat_map names_in (body_expressions ss)) m) (right_part IsFalseFirst (pres a.value) (body_pres ss) k) (λ t lt. same t lt)
@@ -124,8 +125,10 @@ module _ (d : Component) (simple : IsSimpleNode d) (names : HasRightNames d) (nu
     where
       go : (vs : List Variable) → ((x : Name) → named_in x (map (λ v. v.name.text) vs) ≡ true → IsDeclared x) → AllByRecursion (λ v. IsDeclared v.name.text) vs
       go [] k = tt
-      go (v ∷ vs) k = (k v.name.text (or_left (bytes_eq v.name.text v.name.text) (named_in v.name.text (map (λ v. v.name.text) vs)) (self_bytes v.name.text)),
-        go vs (λ x m. k x (or_true (bytes_eq x v.name.text) (named_in x (map (λ v. v.name.text) vs)) m)))
+      go (v ∷ vs) k = (
+        k v.name.text (or_left (bytes_eq v.name.text v.name.text) (named_in v.name.text (map (λ v. v.name.text) vs)) (self_bytes v.name.text)),
+        go vs (λ x m. k x (or_true (bytes_eq x v.name.text) (named_in x (map (λ v. v.name.text) vs)) m)),
+      )
 
   pub is_run : IsRun node n throughout table_frame
   is_run = (
@@ -137,7 +140,8 @@ module _ (d : Component) (simple : IsSimpleNode d) (names : HasRightNames d) (nu
       equations = subst (AllByRecursion Balanced) (sym (equations_are d simple))
           (balanced_all d.body simple.items (subst (AllByRecursion IsDeclared) (ap (flat_map (λ e. e.names)) (equations_are d simple)) names.left_declared) names.used_declared firsts_false meets);
     },
-    tt)
+    tt,
+  )
 
   pub same_choices : SameChoices node [] n table_frame (default_frame node n)
   same_choices = ((λ k. refl), go (variables d) (all_flags d simple) each_declared (default_entry d [] no_instances n (names.declared_once, tt)), tt)
@@ -147,7 +151,8 @@ module _ (d : Component) (simple : IsSimpleNode d) (names : HasRightNames d) (nu
       go [] q m e = tt
       go (v ∷ vs) q m e = (
         (λ o t lt _ _. entry_is v.name.text m.0 t lt ∙ ap flag (free v.name.text o t) ∙ sym (e.0 t lt ∙ ap (λ k. or_default k absent) q.0.sort)),
-        go vs q.1 m.1 e.1)
+        go vs q.1 m.1 e.1,
+      )
 
   pub is_frame : IsFrameOf [] node n table_frame
   is_frame = frame_taken d simple n table_frame is_run (names.declared_once, tt) same_choices

@@ -26,10 +26,7 @@ fn held_at(order: &[String], kept: &[bool], name: &str, t: usize) -> bool
     ensures { result ≡ held (map string_bytes order.now) kept.now name.now t }
 {
     match place_of(order, name) {
-        Some(place) => kept
-            .get(t * order.len() + place)
-            .copied()
-            .unwrap_or(false),
+        Some(place) => kept.get(t * order.len() + place).copied().unwrap_or(false),
         None => false,
     }
 }

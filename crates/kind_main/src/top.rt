@@ -11,12 +11,7 @@ use kind_io::{Shelf, Sink};
 use std::alloc::Global;
 
 /// Answers the words and prints the answer.
-fn run<H: Shelf, K: Sink>(
-    alloc: Global,
-    words: &[String],
-    shelf: &mut H,
-    out: &mut K,
-) -> Status
+fn run<H: Shelf, K: Sink>(alloc: Global, words: &[String], shelf: &mut H, out: &mut K) -> Status
     ensures { Ends (H.told shelf.old) (H.faults shelf.old) (H.faults shelf.new) (map string_bytes words.now)
         (K.faults out.old) (K.faults out.new) (K.written out.old) (K.written out.new) result.code }
 {

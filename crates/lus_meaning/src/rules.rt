@@ -12,7 +12,7 @@ use crate::shape::is_simple_node;
 use lus_tree::{Decl, Node, Pos, Program, Refusal, What};
 
 /// Whether a node follows the rules.
-fn follows_rules(node: &Node) -> bool
+pub(crate) fn follows_rules(node: &Node) -> bool
     ensures { IsTrue result ↔ FollowsRules (node_view node.now) }
 {
     is_simple_node(node) && is_within_limits(node) && has_right_names(node)

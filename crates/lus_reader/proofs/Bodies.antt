@@ -1,13 +1,12 @@
 -- Bodies, item by item.
-use Rattle.std.proofs.Common.{◌≡◌, ◌≢◌, ◌<◌, ◌≤◌, ◌+◌, ◌++◌, ℕ, Bool, true, false, List, [], ◌∷◌, Option, Some, None, length, refl, sym, ap, ◌∙◌, subst, arith}
+use Rattle.std.proofs.Common.{◌≡◌, ◌<◌, ◌++◌, ℕ, true, false, List, [], ◌∷◌, Some, None, length, refl, sym, ap, ◌∙◌, subst}
 use Rattle.lus_tree.specs.declared.place.Pos.{Pos}
 use Rattle.lus_tree.specs.Tree.{Statement}
-use Rattle.lus_reader.specs.declared.token.Mark.{Mark}
 use Rattle.lus_reader.specs.declared.token.Mark.TheVariants as M
 use Rattle.lus_reader.specs.Tokens.{Token, Lexeme}
-use Rattle.lus_reader.specs.Grammar.{Counts, sign, Item, Body, item, tel, tel_semicolon}
+use Rattle.lus_reader.specs.Grammar.{Counts, sign, Body, item, tel, tel_semicolon}
 use Rattle.lus_reader.specs.Leads.{Follows, Adds}
-use Rattle.lus_reader.specs.Reading.{ReadItem, behind, is_sign, ends, read_item}
+use Rattle.lus_reader.specs.Reading.{ReadItem, behind, ends, read_item}
 use Rattle.lus_reader.specs.Views.{IsBody, NoBody}
 use Rattle.lus_reader.proofs.Signs.{front, front_sign, sign_token}
 use Rattle.lus_reader.proofs.Items.{item_sound, item_complete, item_shrinks, some_item}

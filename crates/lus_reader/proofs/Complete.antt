@@ -1,12 +1,11 @@
 -- What is in the grammar is read.
-use Rattle.std.proofs.Common.{◌≡◌, ◌<◌, ◌≤◌, ◌+◌, ◌-◌, ℕ, zero, suc, Bool, true, false, List, [], ◌∷◌, Option, Some, None, length, refl, sym, ap, ◌∙◌, subst, arith}
+use Rattle.std.proofs.Common.{◌≡◌, ◌<◌, ◌≤◌, ◌+◌, ℕ, zero, suc, List, ◌∷◌, Option, Some, None, length, refl, ap, ◌∙◌, arith}
 use Rattle.lus_tree.specs.declared.place.Pos.{Pos}
 use Rattle.lus_tree.specs.Tree as T
 use Rattle.lus_tree.specs.Tree.{Name, Expression}
-use Rattle.lus_reader.specs.declared.token.Mark.{Mark}
 use Rattle.lus_reader.specs.declared.token.Mark.TheVariants as M
 use Rattle.lus_reader.specs.Tokens.{Token, fixed, named, Lexeme}
-use Rattle.lus_reader.specs.Grammar.{Counts, one_pre, one_arrow, sign, ident, here, begun, place_of, Part, Whole, Operand, Text, arrow, alone, negation, pre, true_word, false_word, variable, round}
+use Rattle.lus_reader.specs.Grammar.{Counts, one_pre, one_arrow, sign, here, begun, place_of, Part, Whole, Operand, Text, arrow, alone, negation, pre, true_word, false_word, variable, round}
 use Rattle.lus_reader.specs.Reading.{Read, behind, with_read, with_tree, closed_at, token_read, arrow_read, read_operand, read_whole}
 use Rattle.lus_reader.proofs.Signs.{front_sign}
 
@@ -67,23 +66,23 @@ complete part n o ls rest e (arrow {m = m} {behind = b} {p = p} {x = x} {y = y} 
     let a = shrinks Operand n m ls (sign M.Arrow p ∷ b) x t in
     let c = shrinks Whole (one_arrow m) o b rest y u in
     below (λ d. read_whole d n ls ≡ some_read (T.arrow (record { from = (place_of x).from; at = p }) (m.arrows + 1) x y) o rest) d (omega arith) (λ k is.
-        joins k n ls (record { tree = x; counts = m; rest = sign M.Arrow p ∷ b }) (record { tree = y; counts = o; rest = rest }) (p, b)
-        (complete Operand n m ls (sign M.Arrow p ∷ b) x t k (omega arith)) (front_sign M.Arrow p b) (complete Whole (one_arrow m) o b rest y u k alone (omega arith)))
+    joins k n ls (record { tree = x; counts = m; rest = sign M.Arrow p ∷ b }) (record { tree = y; counts = o; rest = rest }) (p, b)
+    (complete Operand n m ls (sign M.Arrow p ∷ b) x t k (omega arith)) (front_sign M.Arrow p b) (complete Whole (one_arrow m) o b rest y u k alone (omega arith)))
 complete part n m ls rest e (alone t) = λ d none le.
     let a = shrinks Operand n m ls rest e t in
     below (λ d. read_whole d n ls ≡ some_read e m rest) d (omega arith) (λ k is. stays k n ls (record { tree = e; counts = m; rest = rest }) (complete Operand n m ls rest e t k (omega arith)) none)
 complete part n m _ rest e (negation {ls = ls} {p = p} {x = x} t) = λ d le.
     let a = shrinks Operand n m ls rest x t in
     below (λ d. read_operand d n (sign M.Not p ∷ ls) ≡ some_read (T.negation (here p) x) m rest) d (omega arith) (λ k is.
-        ap (λ (o : Option Read). with_read o (λ r. Some (with_tree r (T.negation (here p) r.tree)))) (complete Operand n m ls rest x t k (omega arith)))
+    ap (λ (o : Option Read). with_read o (λ r. Some (with_tree r (T.negation (here p) r.tree)))) (complete Operand n m ls rest x t k (omega arith)))
 complete part n m _ rest e (pre {ls = ls} {p = p} {x = x} t) = λ d le.
     let a = shrinks Operand (one_pre n) m ls rest x t in
     below (λ d. read_operand d n (sign M.Pre p ∷ ls) ≡ some_read (T.pre (here p) (n.pres + 1) x) m rest) d (omega arith) (λ k is.
-        ap (λ (o : Option Read). with_read o (λ r. Some (with_tree r (T.pre (here p) (n.pres + 1) r.tree)))) (complete Operand (one_pre n) m ls rest x t k (omega arith)))
+    ap (λ (o : Option Read). with_read o (λ r. Some (with_tree r (T.pre (here p) (n.pres + 1) r.tree)))) (complete Operand (one_pre n) m ls rest x t k (omega arith)))
 complete part n m _ rest e (true_word {p = p}) = λ d le. leaf_reaches p (fixed M.True) n rest _ d le (λ u v e. refl)
 complete part n m _ rest e (false_word {p = p}) = λ d le. leaf_reaches p (fixed M.False) n rest _ d le (λ u v e. refl)
 complete part n m _ rest e (variable {p = p} {x = x}) = λ d le. leaf_reaches p (named x) n rest _ d le (λ u v e. refl)
 complete part n m _ rest e (round {ls = ls} {p = p} {q = q} {x = x} t) = λ d le.
     let a = shrinks Whole n m ls (sign M.Close q ∷ rest) x t in
     below (λ d. read_operand d n (sign M.Open p ∷ ls) ≡ some_read (begun p x) m rest) d (omega arith) (λ k is.
-        closes p q (record { tree = x; counts = m; rest = rest }) (read_whole k n ls) rest (complete Whole n m ls (sign M.Close q ∷ rest) x t k refl (omega arith)))
+    closes p q (record { tree = x; counts = m; rest = rest }) (read_whole k n ls) rest (complete Whole n m ls (sign M.Close q ∷ rest) x t k refl (omega arith)))

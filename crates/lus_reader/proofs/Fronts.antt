@@ -1,6 +1,6 @@
 -- The token at the front: what is read is one, and each one is read.
-use Rattle.std.proofs.Common.{◌≡◌, ◌==◌, ◌++◌, ◌⊎◌, inl, inr, ℕ, Bool, true, false, ◌||◌, ◌&&◌, List, [], ◌∷◌, length, drop, Option, Some, None, codes, cond, refl, sym, ap, ◌∙◌, subst, arith}
-use Rattle.std.specs.List.{AllPass, list_all, starts_with}
+use Rattle.std.proofs.Common.{◌≡◌, ◌==◌, ◌++◌, ◌⊎◌, inl, inr, ℕ, Bool, true, false, ◌||◌, ◌&&◌, List, [], ◌∷◌, drop, Option, Some, None, codes, cond, refl, sym, ap, ◌∙◌, subst, arith}
+use Rattle.std.specs.List.{list_all, starts_with}
 use Rattle.std.proofs.lemmas.List.Sums.{AllPass-from_list_all, list_all-from_AllPass}
 use Rattle.std.proofs.lemmas.Bool.{eqb-true}
 use Rattle.std.proofs.lemmas.Bool.Decides.{Decides-eqb}
@@ -88,9 +88,9 @@ property_sound : (bs : List ℕ) (f : Front) → property_front bs ≡ Some f �
 property_sound bs f h =
     elim (split (starts_with eqb bs (codes "-%PROPERTY")) _ None f h) [
       | inl s ↦
-        let k = free (starts is_word (drop 10 bs)) M.Property (drop 10 bs) f s.1 in
-        let e : bs ≡ codes "-%PROPERTY" ++ drop 10 bs = (starts_is {E = eqb} Decides-eqb bs (codes "-%PROPERTY") (starts_with eqb bs (codes "-%PROPERTY")) refl).0 s.0 in
-        subst (λ (w : List ℕ). Is (45 ∷ w) f) (sym e) (made _ M.Property (drop 10 bs) f k.is (property k.alone))
+          let k = free (starts is_word (drop 10 bs)) M.Property (drop 10 bs) f s.1 in
+          let e : bs ≡ codes "-%PROPERTY" ++ drop 10 bs = (starts_is {E = eqb} Decides-eqb bs (codes "-%PROPERTY") (starts_with eqb bs (codes "-%PROPERTY")) refl).0 s.0 in
+          subst (λ (w : List ℕ). Is (45 ∷ w) f) (sym e) (made _ M.Property (drop 10 bs) f k.is (property k.alone))
       | inr s ↦ absurd (cc)
     ]
 
@@ -99,8 +99,8 @@ minus_sound [] f h = absurd (cc)
 minus_sound (b ∷ bs) f h =
     elim (split (b == 62) (fixed_front M.Arrow bs) (property_front (b ∷ bs)) f h) [
       | inl s ↦
-        let e : record { token = fixed M.Arrow; rest = bs } ≡ f = cc in
-        subst (λ (x : ℕ). Is (45 ∷ x ∷ bs) f) (sym (eqb-true b 62 s.0)) (made _ M.Arrow bs f e arrow)
+          let e : record { token = fixed M.Arrow; rest = bs } ≡ f = cc in
+          subst (λ (x : ℕ). Is (45 ∷ x ∷ bs) f) (sym (eqb-true b 62 s.0)) (made _ M.Arrow bs f e arrow)
       | inr s ↦ property_sound (b ∷ bs) f s.1
     ]
 

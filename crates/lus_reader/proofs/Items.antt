@@ -1,14 +1,13 @@
 -- What is read of an item is in the grammar, and all that is in it is read.
-use Rattle.std.proofs.Common.{◌≡◌, ◌<◌, ◌≤◌, ◌+◌, ◌==◌, ℕ, zero, suc, Bool, true, false, List, [], ◌∷◌, Option, Some, None, length, nat_le, cond, refl, sym, ap, ◌∙◌, subst, arith}
+use Rattle.std.proofs.Common.{◌≡◌, ◌<◌, ◌≤◌, ◌+◌, ℕ, Bool, true, false, List, [], ◌∷◌, Option, Some, None, length, nat_le, cond, refl, sym, ap, ◌∙◌, subst, arith}
 use Rattle.lus_tree.specs.declared.place.Pos.{Pos}
 use Rattle.lus_tree.specs.Tree as T
 use Rattle.lus_tree.specs.Tree.{Name, Expression, Statement}
-use Rattle.lus_reader.specs.declared.token.Mark.{Mark}
 use Rattle.lus_reader.specs.declared.token.Mark.TheVariants as M
 use Rattle.lus_reader.specs.Tokens.{Token, fixed, named, Lexeme}
-use Rattle.lus_reader.specs.Grammar.{Counts, sign, ident, Part, Whole, Operand, Text, Closed, Item, equation, property}
+use Rattle.lus_reader.specs.Grammar.{Counts, sign, ident, Whole, Text, Closed, Item, equation, property}
 use Rattle.lus_reader.specs.Reading.{Read, ReadItem, behind, with_read, ended, ended_at, item_with, item_read, closed_behind, read_whole, read_closed, read_item}
-use Rattle.lus_reader.proofs.Signs.{front, front_sign, Begun}
+use Rattle.lus_reader.proofs.Signs.{front, front_sign}
 use Rattle.lus_reader.proofs.Sound.{Takes, whole_sound}
 use Rattle.lus_reader.proofs.Complete.{complete, some_read, shrinks}
 

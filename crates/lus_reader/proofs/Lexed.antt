@@ -1,10 +1,10 @@
 -- The tokens of a text, one by one.
-use Rattle.std.proofs.Common.{◌≡◌, ◌+◌, ◌-◌, ◌++◌, ◌<◌, ℕ, Bool, true, false, List, [], ◌∷◌, length, Option, Some, None, refl, sym, ap, ◌∙◌, subst, append-nil, cond, arith}
+use Rattle.std.proofs.Common.{◌≡◌, ◌++◌, ◌<◌, ℕ, Bool, true, false, List, [], ◌∷◌, length, Option, Some, None, refl, sym, ap, ◌∙◌, subst, append-nil, cond, arith}
 use Rattle.lus_tree.specs.declared.place.Pos.{Pos}
-use Rattle.lus_reader.specs.Tokens.{Token, Lexeme, is_blank, starts, Begins, Tokens, finish, blank, token, past, along}
-use Rattle.lus_reader.specs.Leads.{Follows, Leads, Adds}
+use Rattle.lus_reader.specs.Tokens.{Lexeme, is_blank, starts, Tokens, finish, blank, token, past, along}
+use Rattle.lus_reader.specs.Leads.{Follows, Leads}
 use Rattle.lus_reader.specs.Spelling.{Front, front, behind_blank}
-use Rattle.lus_reader.specs.Lexing.{AreTokens, NoTokens}
+use Rattle.lus_reader.specs.Lexing.{AreTokens}
 use Rattle.lus_reader.proofs.Fronts.{some_front, front_complete, front_sound, blank_front}
 use Rattle.lus_reader.proofs.Leading.{then_more}
 

@@ -1,11 +1,11 @@
 -- A node, part by part.
-use Rattle.std.proofs.Common.{◌≡◌, ◌++◌, ℕ, List, [], ◌∷◌, Option, Some, None, refl, sym, ap, ◌∙◌, subst}
+use Rattle.std.proofs.Common.{◌≡◌, List, [], ◌∷◌, Option, Some, None, refl, sym, ap, ◌∙◌, subst}
 use Rattle.lus_tree.specs.declared.place.Pos.{Pos}
 use Rattle.lus_tree.specs.Tree.{Name, Variable, Statement, Component}
 use Rattle.lus_reader.specs.declared.token.Mark.{Mark}
 use Rattle.lus_reader.specs.declared.token.Mark.TheVariants as M
 use Rattle.lus_reader.specs.Tokens.{Lexeme}
-use Rattle.lus_reader.specs.Grammar.{none_before, sign, ident, Signs, output, Outputs, last, more, Body, IsNode, whole, node}
+use Rattle.lus_reader.specs.Grammar.{none_before, ident, Signs, output, Outputs, last, more, Body, IsNode, whole, node}
 use Rattle.lus_reader.specs.Reading.{behind, behind_next, behind_all, Title, with_rest, titled, title_of, read_name, read_title}
 use Rattle.lus_reader.specs.Views.{NoBody, NoNode, NoOutputs}
 use Rattle.lus_reader.proofs.Signs.{front, front_sign}

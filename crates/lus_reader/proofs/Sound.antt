@@ -1,7 +1,6 @@
 -- What is read is in the grammar.
-use Rattle.std.proofs.Common.{◌≡◌, ◌+◌, ℕ, zero, suc, Bool, true, false, List, [], ◌∷◌, Option, Some, None, refl, sym, ap, ◌∙◌, subst}
+use Rattle.std.proofs.Common.{◌≡◌, ℕ, zero, suc, List, [], ◌∷◌, Option, Some, None, refl, subst}
 use Rattle.lus_tree.specs.declared.place.Pos.{Pos}
-use Rattle.lus_reader.specs.declared.token.Mark.{Mark}
 use Rattle.lus_reader.specs.declared.token.Mark.TheVariants as M
 use Rattle.lus_reader.specs.Tokens.{Token, fixed, named, Lexeme}
 use Rattle.lus_reader.specs.Grammar.{Counts, one_pre, one_arrow, sign, Part, Whole, Operand, Text, arrow, alone, negation, pre, true_word, false_word, variable, round}

@@ -1,10 +1,9 @@
 -- Sources, from their tokens and their node.
-use Rattle.std.proofs.Common.{◌≡◌, ℕ, List, [], ◌∷◌, refl, sym, ap, ◌∙◌, subst}
-use Rattle.lus_tree.specs.Tree.{Component, declared_node, Program}
+use Rattle.std.proofs.Common.{◌≡◌, ℕ, List, [], ◌∷◌, sym, ap, ◌∙◌, subst}
+use Rattle.lus_tree.specs.Tree.{Component, declared_node}
 use Rattle.lus_reader.specs.Tokens.{Lexeme, Tokens}
 use Rattle.lus_reader.specs.Grammar.{IsNode}
-use Rattle.lus_reader.specs.Source.{start, IsSource, NoSource, OneTree}
-use Rattle.lus_reader.specs.Lexing.{NoTokens}
+use Rattle.lus_reader.specs.Source.{start, NoSource, OneTree}
 use Rattle.lus_reader.specs.Views.{NoNode}
 use Rattle.lus_reader.proofs.Lexed.{tokens_unique}
 use Rattle.lus_reader.proofs.Nodes.{node_unique}

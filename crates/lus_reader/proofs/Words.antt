@@ -3,11 +3,11 @@ use Rattle.std.proofs.Math.Seq.{take-length}
 use Rattle.std.specs.Str.{IsAscii, IsUtf8}
 use Rattle.std.proofs.lemmas.Str.{IsUtf8-from_ascii}
 use Rattle.std.proofs.lemmas.Str.Ascii.{IsAscii-nil, IsAscii-cons}
-use Rattle.std.proofs.Common.{◌≡◌, ◌+◌, ◌-◌, ◌<◌, ℕ, Bool, true, false, cond, arith, length, length-drop, List, [], ◌∷◌, map, take, drop, Option, Some, None, refl, sym, ap, ◌∙◌, subst}
+use Rattle.std.proofs.Common.{◌≡◌, ◌-◌, ◌<◌, ℕ, Bool, true, false, cond, arith, length, length-drop, List, [], ◌∷◌, map, take, drop, Option, refl, sym, ap, ◌∙◌, subst}
 use Rattle.lus_reader.specs.declared.table.TheConstants.{KEPT_WORDS}
 use Rattle.lus_reader.specs.declared.token.Token.{Token as TokenCode}
 use Rattle.lus_reader.specs.Tokens.{Token, Row, token_of, kept_words, is_word}
-use Rattle.lus_reader.specs.Spelling.{Front, word_part, after_word, word_of, word_front}
+use Rattle.lus_reader.specs.Spelling.{word_part, after_word, word_of, word_front}
 use Rattle.lus_reader.specs.Fronts.{GivesToken}
 
 abbrev pub rows : List Row

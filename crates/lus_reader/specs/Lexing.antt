@@ -1,5 +1,5 @@
 -- What contracts see of the reading of tokens.
-use Rattle.std.specs.Prelude.{◌≡◌, ◌+◌, ◌≤◌, ◌++◌, ℕ, Bool, false, List, [], ◌∷◌, length, Option, Some, None, Vec, Result, MatchOption, MatchResult}
+use Rattle.std.specs.Prelude.{◌≡◌, ◌+◌, ◌≤◌, ℕ, Bool, false, List, [], length, Option, Some, None, Vec, Result, MatchOption, MatchResult}
 use Rattle.std.specs.declared.alloc.Global.{Global}
 use Rattle.lus_tree.specs.declared.place.Pos.{Pos}
 use Rattle.lus_reader.specs.declared.token.Lexeme.{Lexeme as LexemeCode}
@@ -10,7 +10,7 @@ use Rattle.lus_reader.specs.declared.fault.Fault.TheVariants.{NotBuilt}
 use Rattle.lus_reader.specs.Tokens.{Lexeme, Tokens, along, starts, is_blank}
 use Rattle.lus_reader.specs.Source.{start}
 use Rattle.lus_reader.specs.Leads.{Leads}
-use Rattle.lus_reader.specs.Spelling.{Front, front}
+use Rattle.lus_reader.specs.Spelling.{front}
 use Rattle.lus_reader.specs.Views.{token_view, lexemes_view}
 
 -- lines and columns stay small

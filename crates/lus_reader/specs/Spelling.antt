@@ -1,11 +1,11 @@
 -- A plain reader of the token at the front of a text.
-use Rattle.std.specs.Prelude.{◌==◌, ℕ, Bool, true, false, List, [], ◌∷◌, drop, Option, Some, None, codes, option_map, if◌then◌else◌}
+use Rattle.std.specs.Prelude.{◌==◌, ℕ, Bool, List, [], ◌∷◌, drop, Option, Some, None, codes, if◌then◌else◌}
 use Rattle.std.specs.List.{starts_with}
 use lib.Dec.{eqb}
 use Rattle.lus_tree.specs.declared.place.Pos.{Pos}
 use Rattle.lus_reader.specs.declared.token.Mark.{Mark}
 use Rattle.lus_reader.specs.declared.token.Mark.TheVariants as M
-use Rattle.lus_reader.specs.Tokens.{Token, fixed, is_blank, past, is_letter, is_word, starts, Row, token_of, kept_words}
+use Rattle.lus_reader.specs.Tokens.{Token, fixed, is_blank, past, is_letter, is_word, starts, token_of, kept_words}
 
 -- a token, and what stands behind it
 pub record Front : Type 0 where

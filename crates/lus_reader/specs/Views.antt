@@ -1,7 +1,6 @@
 -- What contracts see of the reader's types.
-use Rattle.std.specs.Prelude.{◌≡◌, ◌+◌, ◌<◌, ◌≤◌, ℕ, List, length, map, Option, Some, None, Result, MatchResult, MatchOption, IfOk, Vec}
+use Rattle.std.specs.Prelude.{◌≡◌, ◌+◌, ◌<◌, ◌≤◌, List, length, map, Option, Some, None, Result, MatchResult, MatchOption, IfOk, Vec}
 use Rattle.std.specs.declared.alloc.Global.{Global}
-use Rattle.lus_tree.specs.declared.place.Pos.{Pos}
 use Rattle.lus_tree.specs.View.{expr_view, item_view, param_view, node_view}
 use Rattle.lus_reader.specs.declared.token.Lexeme.{Lexeme as LexemeCode}
 use Rattle.lus_reader.specs.declared.token.Token.{Token as TokenCode}

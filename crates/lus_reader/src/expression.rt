@@ -28,10 +28,7 @@ pub struct Found<'t, 's> {
 }
 
 /// The place of this sign at the front, and the tokens behind it.
-pub fn behind<'t, 's>(
-    tokens: &'t [Lexeme<'s>],
-    mark: Mark,
-) -> Option<(Pos, &'t [Lexeme<'s>])>
+pub fn behind<'t, 's>(tokens: &'t [Lexeme<'s>], mark: Mark) -> Option<(Pos, &'t [Lexeme<'s>])>
     ensures { MatchOption result (behind mark (lexemes_view tokens.now) ≡ None)
         (λ s. behind mark (lexemes_view tokens.now) ≡ Some (s.0, lexemes_view s.1.now)) }
 {
@@ -41,6 +38,7 @@ pub fn behind<'t, 's>(
     }
 }
 
+/// Is it this sign?
 pub fn is_sign(token: Token, mark: Mark) -> bool
     ensures { result ≡ is_sign mark (token_view token.entry) }
 {
@@ -59,7 +57,8 @@ fn read_operand<'t, 's>(
     tokens: &'t [Lexeme<'s>],
 ) -> Result<Found<'t, 's>, Fault>
     requires { HasRoom counts tokens.now }
-    ensures gives { Gives (read_operand depth (counts_view counts) (lexemes_view tokens.now)) result }
+    ensures gives { Gives
+        (read_operand depth (counts_view counts) (lexemes_view tokens.now)) result }
     ensures room { IfOk result (λ f. HasRoom f.counts f.rest.now) }
 {
     if depth == 0 {
@@ -146,6 +145,7 @@ fn one_arrow(counts: Counts) -> Counts
     }
 }
 
+/// An expression, with what stands behind it.
 pub fn leaf<'t, 's>(expr: Expr, counts: Counts, rest: &'t [Lexeme<'s>]) -> Found<'t, 's>
     ensures expr { expr_view result.expr ≡ expr_view expr }
     ensures counts { result.counts ≡ counts }
@@ -157,7 +157,8 @@ pub fn leaf<'t, 's>(expr: Expr, counts: Counts, rest: &'t [Lexeme<'s>]) -> Found
 /// `not` before what was found.
 fn denied<'t, 's>(alloc: Global, at: Pos, a: Found<'t, 's>) -> Result<Found<'t, 's>, Fault>
     ensures { MatchResult result
-        (λ f. found_view f ≡ with_tree (found_view a.entry) (negation (here at) (expr_view a.entry.expr)))
+        (λ f. found_view f ≡ with_tree (found_view a.entry)
+        (negation (here at) (expr_view a.entry.expr)))
         (λ e. e ≡ Fault.Memory) }
 {
     match negation(alloc, at, a.expr) {
@@ -174,7 +175,8 @@ fn delayed<'t, 's>(
     a: Found<'t, 's>,
 ) -> Result<Found<'t, 's>, Fault>
     ensures { MatchResult result
-        (λ f. found_view f ≡ with_tree (found_view a.entry) (pre (here at) number (expr_view a.entry.expr)))
+        (λ f. found_view f ≡ with_tree (found_view a.entry)
+        (pre (here at) number (expr_view a.entry.expr)))
         (λ e. e ≡ Fault.Memory) }
 {
     match before(alloc, at, number, a.expr) {
@@ -192,8 +194,9 @@ fn joined<'t, 's>(
 ) -> Result<Found<'t, 's>, Fault>
     requires { a.counts.arrows < 1048576 }
     ensures { MatchResult result
-        (λ f. found_view f ≡ with_tree (found_view b.entry) (arrow (record { from = (place_of (expr_view a.entry.expr)).from; at = at })
-            (a.entry.counts.arrows + 1) (expr_view a.entry.expr) (expr_view b.entry.expr)))
+        (λ f. found_view f ≡ with_tree (found_view b.entry) (arrow
+        (record { from = (place_of (expr_view a.entry.expr)).from; at = at })
+        (a.entry.counts.arrows + 1) (expr_view a.entry.expr) (expr_view b.entry.expr)))
         (λ e. e ≡ Fault.Memory) }
 {
     match followed(alloc, at, a.counts.arrows + 1, a.expr, b.expr) {
@@ -205,7 +208,8 @@ fn joined<'t, 's>(
 /// What was found, up to its closing parenthesis.
 fn closed<'t, 's>(from: Pos, a: Found<'t, 's>) -> Result<Found<'t, 's>, Fault>
     ensures gives { Gives (closed from (found_view a.entry)) result }
-    ensures room { HasRoom a.entry.counts a.entry.rest.now → IfOk result (λ f. HasRoom f.counts f.rest.now) }
+    ensures room { HasRoom a.entry.counts a.entry.rest.now
+        → IfOk result (λ f. HasRoom f.counts f.rest.now) }
 {
     match behind(a.rest, Mark::Close) {
         Some((_, rest)) => Ok(leaf(begun(from, a.expr), a.counts, rest)),
@@ -252,7 +256,8 @@ fn before(alloc: Global, at: Pos, number: u32, a: Expr) -> Result<Expr, AllocErr
 /// `a -> b`
 fn followed(alloc: Global, at: Pos, number: u32, a: Expr, b: Expr) -> Result<Expr, AllocError>
     ensures { IfOk result (λ e. expr_view e
-        ≡ arrow (record { from = (place_of (expr_view a)).from; at = at }) number (expr_view a) (expr_view b)) }
+        ≡ arrow (record { from = (place_of (expr_view a)).from; at = at }) number
+        (expr_view a) (expr_view b)) }
 {
     let from = a.from;
     match (Box::new(alloc, a), Box::new(alloc, b)) {

@@ -31,7 +31,8 @@ fn read_closed<'t, 's>(
     tokens: &'t [Lexeme<'s>],
 ) -> Result<Found<'t, 's>, Fault>
     requires { HasRoom counts tokens.now }
-    ensures gives { Gives (read_closed depth (counts_view counts) (lexemes_view tokens.now)) result }
+    ensures gives { Gives
+        (read_closed depth (counts_view counts) (lexemes_view tokens.now)) result }
     ensures room { IfOk result (λ f. HasRoom f.counts f.rest.now) }
 {
     match read_whole(alloc, depth, counts, tokens) {
@@ -56,7 +57,8 @@ pub fn read_item<'t, 's>(
     tokens: &'t [Lexeme<'s>],
 ) -> Result<FoundItem<'t, 's>, Fault>
     requires { HasRoom counts tokens.now }
-    ensures gives { GivesItem (read_item depth (counts_view counts) (lexemes_view tokens.now)) result }
+    ensures gives { GivesItem
+        (read_item depth (counts_view counts) (lexemes_view tokens.now)) result }
     ensures room { IfOk result (λ f. HasRoom f.counts f.rest.now) }
 {
     let [first, rest @ ..] = tokens else {
@@ -87,8 +89,11 @@ fn equation<'t, 's>(
     a: Found<'t, 's>,
 ) -> Result<FoundItem<'t, 's>, Fault>
     ensures { MatchResult result
-        (λ f. found_item_view f ≡ record { item = equation (record { text = text.now; at = at } ∷ []) (expr_view a.entry.expr);
-            counts = counts_view a.entry.counts; rest = lexemes_view a.entry.rest.now })
+        (λ f. found_item_view f ≡ record {
+          item = equation (record { text = text.now; at = at } ∷ []) (expr_view a.entry.expr);
+          counts = counts_view a.entry.counts;
+          rest = lexemes_view a.entry.rest.now;
+        })
         (λ e. e ≡ Fault.Memory) }
 {
     let Ok(text) = String::from_str(alloc, text) else {
@@ -105,8 +110,11 @@ fn equation<'t, 's>(
 }
 
 fn property<'t, 's>(at: Pos, a: Found<'t, 's>) -> FoundItem<'t, 's>
-    ensures { found_item_view result ≡ record { item = property (record { label = None; at = at; value = expr_view a.entry.expr });
-        counts = counts_view a.entry.counts; rest = lexemes_view a.entry.rest.now } }
+    ensures { found_item_view result ≡ record {
+      item = property (record { label = None; at = at; value = expr_view a.entry.expr });
+      counts = counts_view a.entry.counts;
+      rest = lexemes_view a.entry.rest.now;
+    } }
 {
     FoundItem {
         item: Item::Property(Named {

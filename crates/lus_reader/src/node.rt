@@ -118,10 +118,7 @@ fn behind_all<'t, 's>(tokens: &'t [Lexeme<'s>], marks: &[Mark]) -> Option<&'t [L
 }
 
 /// The outputs up to their type.
-fn read_outputs<'t, 's>(
-    alloc: Global,
-    tokens: &'t [Lexeme<'s>],
-) -> Result<Outputs<'t, 's>, Fault>
+fn read_outputs<'t, 's>(alloc: Global, tokens: &'t [Lexeme<'s>]) -> Result<Outputs<'t, 's>, Fault>
     ensures outputs { ReadsOutputs tokens.now result }
     ensures shorter { IfOk result (λ o. length o.rest.now ≤ length tokens.now) }
 {
@@ -191,14 +188,10 @@ fn behind_output<'t, 's>(tokens: &'t [Lexeme<'s>]) -> Option<Next<'t, 's>>
 }
 
 /// The node of these parts.
-fn made(
-    alloc: Global,
-    title: Title,
-    outputs: Vec<Param>,
-    items: Vec<Item>,
-) -> Result<Node, Fault>
+fn made(alloc: Global, title: Title, outputs: Vec<Param>, items: Vec<Item>) -> Result<Node, Fault>
     ensures { MatchResult result
-        (λ n. node_view n ≡ node title.entry.text.now title.entry.at (outputs_view outputs.items) (items_view items.items))
+        (λ n. node_view n ≡ node title.entry.text.now title.entry.at
+        (outputs_view outputs.items) (items_view items.items))
         (λ e. e ≡ Fault.Memory) }
 {
     match String::from_str(alloc, title.text) {

@@ -14,7 +14,8 @@ use std::alloc::Global;
 /// The program that the bytes are.
 pub fn read(alloc: Global, bytes: &[u8]) -> Result<Program, Fault>
     requires { length bytes.now ≤ 1048576 }
-    ensures { MatchResult result (λ p. IsSource bytes.now (program_view p)) (λ e. e ≡ Fault.NotBuilt → NoSource bytes.now) }
+    ensures { MatchResult result (λ p. IsSource bytes.now (program_view p))
+        (λ e. e ≡ Fault.NotBuilt → NoSource bytes.now) }
 {
     let tokens = match lex(alloc, bytes) {
         Ok(tokens) => tokens,
@@ -31,7 +32,8 @@ pub fn read(alloc: Global, bytes: &[u8]) -> Result<Program, Fault>
 
 /// The program of one node.
 fn program(alloc: Global, node: Node) -> Result<Program, Fault>
-    ensures { MatchResult result (λ p. program_view p ≡ declared_node (node_view node) ∷ []) (λ e. e ≡ Fault.Memory) }
+    ensures { MatchResult result (λ p. program_view p ≡ declared_node (node_view node) ∷ [])
+        (λ e. e ≡ Fault.Memory) }
 {
     match vec![in alloc; Decl::Node(node)] {
         Ok(decls) => Ok(Program { decls }),

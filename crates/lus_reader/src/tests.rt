@@ -178,7 +178,11 @@ fn items(rt: HostRuntime) -> Result<(), AllocError> {
     for (body, want) in rows {
         let text = format!(in rt.alloc(); "node n() returns (x : bool); let\n{body}\ntel")?;
         let want = format!(in rt.alloc(); "n@1:6(x@1:19){want}")?;
-        assert_eq!(rt; read(rt.alloc(), text.as_str())?.as_str(), want.as_str(), "{body}");
+        assert_eq!(rt;
+            read(rt.alloc(), text.as_str())?.as_str(),
+            want.as_str(),
+            "{body}"
+        );
     }
     Ok(())
 }
@@ -235,7 +239,11 @@ fn refused(rt: HostRuntime) -> Result<(), AllocError> {
     ];
     for body in bodies {
         let text = format!(in rt.alloc(); "node n() returns (x : bool); let\n{body}\ntel")?;
-        assert_eq!(rt; read(rt.alloc(), text.as_str())?.as_str(), "NotBuilt@1:1", "{body}");
+        assert_eq!(rt;
+            read(rt.alloc(), text.as_str())?.as_str(),
+            "NotBuilt@1:1",
+            "{body}"
+        );
     }
     Ok(())
 }
@@ -248,11 +256,19 @@ fn repeated(alloc: Global, piece: &str, times: u32) -> Result<String, AllocError
     Ok(out)
 }
 
-fn is_read(alloc: Global, front: &str, times: u32, middle: &str, back: &str) -> Result<bool, AllocError> {
+fn is_read(
+    alloc: Global,
+    front: &str,
+    times: u32,
+    middle: &str,
+    back: &str,
+) -> Result<bool, AllocError> {
     let front = repeated(alloc, front, times)?;
     let back = repeated(alloc, back, times)?;
     let (front, back) = (front.as_str(), back.as_str());
-    let text = format!(in alloc; "node n() returns (x : bool); let --%PROPERTY {front}{middle}{back}; tel")?;
+    let text = format!(in alloc;
+        "node n() returns (x : bool); let --%PROPERTY {front}{middle}{back}; tel"
+    )?;
     if text.len() > 1048576 {
         return Ok(false);
     }
@@ -277,7 +293,11 @@ fn expressions_have_at_most_1000_tokens(rt: HostRuntime) -> Result<(), AllocErro
         ("(", 10000, "x", ")", false),
     ];
     for (front, times, middle, back, want) in rows {
-        assert_eq!(rt; is_read(rt.alloc(), front, times, middle, back)?, want, "{front}{times}");
+        assert_eq!(rt;
+            is_read(rt.alloc(), front, times, middle, back)?,
+            want,
+            "{front}{times}"
+        );
     }
     Ok(())
 }

@@ -1,6 +1,5 @@
-use Rattle.std.proofs.Common.{◌≡◌, ◌<◌, ◌++◌, ◌∷◌, [], List, length, refl, ap, ◌∙◌, arith}
+use Rattle.std.proofs.Common.{◌≡◌, ◌<◌, ◌∷◌, [], length, refl, ap, ◌∙◌, arith}
 use Rattle.std.proofs.lemmas.List.{map-append, length-map}
-use Rattle.lus_tree.specs.Tree.{Statement}
 use Rattle.lus_tree.specs.View.{item_view}
 use Rattle.lus_reader.specs.Views.{counts_view, lexeme_view, lexemes_view, items_view, found_item_view}
 use Rattle.lus_reader.proofs.Bodies.{adds, shorter, no_item}

@@ -1,4 +1,4 @@
-use Rattle.std.proofs.Common.{[], refl, sym, ◌∙◌}
+use Rattle.std.proofs.Common.{sym, ◌∙◌}
 use Rattle.lus_reader.specs.Grammar.{none_before}
 use Rattle.lus_reader.specs.Views.{IsBody, counts_view, lexemes_view, left_view, items_view}
 use Rattle.lus_reader.proofs.Leading.{at_last, stuck}

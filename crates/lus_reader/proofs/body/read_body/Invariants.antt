@@ -1,4 +1,4 @@
-use Rattle.std.proofs.Common.{length, []}
+use Rattle.std.proofs.Common.{length}
 use Rattle.lus_reader.specs.Grammar.{none_before}
 use Rattle.lus_reader.specs.Leads.{Leads}
 use Rattle.lus_reader.specs.Views.{IsBody, HasRoom, left_view, items_view, lexemes_view}

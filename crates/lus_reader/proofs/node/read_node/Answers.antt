@@ -2,7 +2,7 @@ use Rattle.std.proofs.Common.{subst, sym}
 use Rattle.lus_tree.specs.Tree.{Component}
 use Rattle.lus_reader.specs.Grammar.{IsNode}
 use Rattle.lus_reader.specs.Views.{lexemes_view, outputs_view, items_view, title_view}
-use Rattle.lus_reader.proofs.Nodes.{no_title, no_outputs, no_signs, no_body, is_node}
+use Rattle.lus_reader.proofs.Nodes.{no_signs, no_body, is_node}
 use Rattle.lus_reader.proofs.node.read_node.Goals as goal
 
 pub returns-in_default-behind_all : goal.returns-in_default-behind_all

@@ -1,7 +1,7 @@
 use Rattle.std.proofs.Common.{◌≤◌, ◌<◌, length, subst, arith}
 use Rattle.lus_reader.specs.declared.node.Next.{Next}
 use Rattle.lus_reader.specs.Views.{Reached, rest_of, lexemes_view, outputs_view}
-use Rattle.lus_reader.proofs.Names.{AllLead, reached_on, none_after}
+use Rattle.lus_reader.proofs.Names.{reached_on, none_after}
 use Rattle.lus_reader.proofs.node.read_outputs.Goals as goal
 
 pub loop-next-preserved : goal.loop-next-preserved

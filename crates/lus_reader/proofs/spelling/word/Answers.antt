@@ -1,4 +1,4 @@
-use Rattle.std.proofs.Common.{◌≡◌, take, drop, Some, None, refl}
+use Rattle.std.proofs.Common.{take, drop, Some, None, refl}
 use Rattle.lus_reader.specs.Views.{token_view}
 use Rattle.lus_reader.proofs.Words.{word_gives, rest_all, utf8}
 use Rattle.lus_reader.proofs.spelling.word.Goals as goal

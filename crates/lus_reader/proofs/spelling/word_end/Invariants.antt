@@ -1,5 +1,4 @@
-use Rattle.std.proofs.Common.{◌≡◌, ◌≤◌, ◌<◌, ◌-◌, ◌++◌, length, take, drop, true}
-use Rattle.lus_reader.specs.Tokens.{is_letter, starts}
+use Rattle.std.proofs.Common.{◌≡◌, ◌≤◌, ◌-◌, ◌++◌, length, take, drop}
 use Rattle.lus_reader.specs.Spelling.{word_part, after_word}
 use Rattle.lus_reader.proofs.spelling.word_end.Given as goal
 
