@@ -14,6 +14,7 @@ abbrev pub listed : Expressions → List Expression
 listed no_more = []
 listed (more a as_) = a ∷ listed as_
 
+-- the call occurrences of an expression that stands on that clock; defaults are constant and have none
 abbrev mutual
   pub call_sites : Component → Clock → Expression → List Site
   call_sites n c (truth p b) = []
@@ -67,6 +68,7 @@ all_sites n = in_order (λ s. s.number) (flat_map (clause_sites n) (clauses n) +
 
 -- ---- declarations and constants
 
+-- what stands for a callee that is not declared
 abbrev pub no_component : Component
 no_component = record { name = record { text = []; at = record { line = 0; column = 0 } }; function = false; inputs = []; outputs = []; locals = []; constants = []; contract = None; body = [] }
 
@@ -86,10 +88,11 @@ abbrev pub component_named : Program → Name → Option Component
 component_named [] x = None
 component_named (d ∷ ds) x = first_of_two (is_component x d) (component_named ds x)
 
--- the values of constants in text order, each by those before it
+-- the value of a constant expression, where these constants have these values
 abbrev pub constant_value : List (Name × Value) → Expression → Value
 constant_value cs e = value record { place = instance no_component cs no_instances; frame = empty_frame; beat = λ t. true; modes = [] } base e 0
 
+-- the values of constants in text order, each by those before it
 abbrev pub constant_values : List (Name × Value) → List Constant → List (Name × Value)
 constant_values cs [] = cs
 constant_values cs (d ∷ ds) = constant_values (cs ++ (d.name.text, constant_value cs d.value) ∷ []) ds
