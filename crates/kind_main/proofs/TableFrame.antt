@@ -12,7 +12,7 @@ use Rattle.lus_meaning.specs.Value.{Value, absent, flag, Stream, not_value, is_a
 use Rattle.lus_meaning.specs.Frame.{Frame, frame, no_frames, entry, first_value}
 use Rattle.lus_meaning.specs.Scene.{Scene, base, Instance, instance, no_instances, variables, clock_from, is_on}
 use Rattle.lus_meaning.specs.Meaning.{value}
-use Rattle.lus_meaning.specs.Program.{counting, clock_of_names}
+use Rattle.lus_meaning.specs.Program.{clock_of_names}
 use Rattle.lus_meaning.specs.Contract.{scene}
 use Rattle.lus_meaning.specs.Run.{Equation, equations, body_equations, right_values, at_instant, entries, IsBalanced, first_sorts, is_typed, IsRun}
 use Rattle.lus_meaning.specs.Depends.{named_in, left_names, SameChoices}
@@ -27,7 +27,7 @@ use Rattle.lus_meaning.proofs.Exists.{sampled_names, sampled_lengths, self_bytes
 use Rattle.lus_meaning.proofs.Equal.{AreNamed}
 use Rattle.lus_meaning.proofs.Simple.{all_flags, names_on_base, equations_are, or_left, or_true}
 use Rattle.lus_meaning.proofs.SettledTypes.{one_value}
-use Rattle.lus_meaning.proofs.InOrder.{same_counting, counting_all}
+use Rattle.lus_meaning.proofs.InOrder.{counting_all}
 use Rattle.lus_meaning.proofs.FirstSorts.{node_firsts}
 use Rattle.lus_meaning.proofs.TheFrame.{default_frame, default_firsts, default_entry, frame_taken}
 use Rattle.kind_main.specs.Table.{Held, truth_at, Meets}
@@ -74,7 +74,7 @@ module _ (d : Component) (simple : IsSimpleNode d) (names : HasRightNames d) (nu
   entry_is x m t lt = row_entry h n x t lt (variables d) m
 
   pub firsts_false : AllByRecursion IsFalseFirst (body_pres d.body)
-  firsts_false = subst (AllByRecursion IsFalseFirst) (sym (numbered.pres ∙ same_counting 1 (length (body_pres d.body)))) (counting_all IsFalseFirst 1 (length (body_pres d.body)) one)
+  firsts_false = subst (AllByRecursion IsFalseFirst) (sym numbered.pres) (counting_all IsFalseFirst 1 (length (body_pres d.body)) one)
     where
       one : (j : ℕ) → 1 ≤ j → j < 1 + length (body_pres d.body) → IsFalseFirst j
       one zero a b = absurd (omega arith)

@@ -6,17 +6,17 @@ use Rattle.std.proofs.lemmas.Bool.{false≢true}
 use Rattle.lus_tree.specs.declared.place.Sort.{Sort}
 use Rattle.lus_tree.specs.declared.place.Sort.TheVariants.{Bool as Flags}
 use Rattle.lus_tree.specs.Tree.{Name, Expression, truth, name, negation, pre, arrow, Variable, Statement, equation, assertion, property, main_mark, Component}
-use Rattle.lus_tree.specs.Numbers.{pres, body_expressions, body_pres, IsNumbered}
+use Rattle.lus_tree.specs.Numbers.{counting, statement_expressions, pres, body_expressions, body_pres, IsNumbered}
 use Rattle.lus_meaning.specs.Value.{Value, absent, has_sort}
 use Rattle.lus_meaning.specs.Frame.{Frame, first_value, firsts_of}
 use Rattle.lus_meaning.specs.Scene.{Instance, instance, no_instances, variables}
-use Rattle.lus_meaning.specs.Program.{counting, in_order}
-use Rattle.lus_meaning.specs.Run.{sort_of_name, sort_of, pre_sorts, statement_expressions, expressions_of, first_sorts, have_sorts, body_equations}
+use Rattle.lus_meaning.specs.Program.{in_order}
+use Rattle.lus_meaning.specs.Run.{sort_of_name, sort_of, pre_sorts, expressions_of, first_sorts, have_sorts, body_equations}
 use Rattle.lus_meaning.specs.Rules.{IsSimple, IsSimpleItem, IsFlag, IsSimpleNode}
 use Rattle.lus_meaning.proofs.Now.{left_part, right_part}
 use Rattle.lus_meaning.proofs.Exists.{length_mapped}
 use Rattle.lus_meaning.proofs.Simple.{of_item, all_flags}
-use Rattle.lus_meaning.proofs.InOrder.{same_counting, counting_all, in_order_same}
+use Rattle.lus_meaning.proofs.InOrder.{counting_all, in_order_same}
 
 pub map_append : {X Y : Type 0} (g : X → Y) (xs ys : List X) → map g (xs ++ ys) ≡ map g xs ++ map g ys
 map_append g [] ys = refl
@@ -98,7 +98,7 @@ module _ (d : Component) (simple : IsSimpleNode d) where
       listed = ap (flat_map (pre_sorts node)) expressions_are ∙ body_flags d.body simple.items
 
       counted : map (λ (p : ℕ × Sort). p.0) (map flag_at ks) ≡ counting 1 (length (map flag_at ks))
-      counted = rw (numbers_kept ks, length_mapped flag_at ks) (numbered.pres ∙ same_counting 1 (length ks))
+      counted = rw (numbers_kept ks, length_mapped flag_at ks) numbered.pres
 
 pub sorted_at : {X : Type 0} (xs : List X) (vs : List Value) → have_sorts (map (λ _. Flags) xs) vs ≡ true → (t : ℕ) → t < length xs → has_sort Flags (get_or vs t absent) ≡ true
 sorted_at [] vs h t l = absurd (omega arith)
@@ -120,7 +120,7 @@ IsFlagFirst f k = has_sort Flags (first_value f k) ≡ true
 -- the first value of each `pre` of the body
 pub firsts_are_flags : (d : Component) → IsSimpleNode d → IsNumbered d.body → (f : Frame) → have_sorts (first_sorts (instance d [] no_instances)) (firsts_of f) ≡ true → AllByRecursion (IsFlagFirst f) (body_pres d.body)
 firsts_are_flags d simple numbered f h =
-    subst (AllByRecursion (IsFlagFirst f)) (sym (numbered.pres ∙ same_counting 1 (length ks))) (counting_all (IsFlagFirst f) 1 (length ks) one)
+    subst (AllByRecursion (IsFlagFirst f)) (sym numbered.pres) (counting_all (IsFlagFirst f) 1 (length ks) one)
   where
     ks : List ℕ
     ks = body_pres d.body

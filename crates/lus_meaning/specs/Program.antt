@@ -1,15 +1,11 @@
 -- A program's declarations, the call occurrences of one in text order, and its instance.
-use Rattle.std.specs.Prelude.{ℕ, zero, suc, Bool, true, false, List, [], ◌∷◌, ◌++◌, map, flat_map, Option, Some, None, length, find, unwrap_or, cond, option_to_list, ◌==◌}
+use Rattle.std.specs.Prelude.{ℕ, zero, suc, true, false, List, [], ◌∷◌, ◌++◌, map, flat_map, Option, Some, None, length, find, unwrap_or, cond, option_to_list, ◌==◌}
 use Rattle.std.specs.Str.{bytes_eq}
-use Rattle.std.specs.Map.{lookup}
-use Rattle.lus_tree.specs.declared.place.Sort.{Sort}
-use Rattle.lus_tree.specs.declared.place.Sort.TheVariants.{Bool as Flags, Int as Numbers}
-use Rattle.lus_tree.specs.declared.expression.Operator.{Operator}
-use Rattle.lus_tree.specs.declared.expression.Operator.TheVariants.{Implies, Or, Xor, And, Less, AtMost, Equal, Differs, AtLeast, More, Add, Sub, Mul, Div, Mod}
-use Rattle.lus_tree.specs.Tree.{Name, text_of, Place, Expression, Expressions, truth, number, name, negation, minus, pre, arrow, binary, choice, sampled, merged, call, condact, mode_name, no_more, more, Variable, Constant, Labelled, Statement, equation, assertion, property, main_mark, Clause, assume, guarantee, ghost_variable, constant, mode, «import», Component, Declaration, declared_constant, declared_node, declared_contract, Program}
-use Rattle.lus_meaning.specs.Value.{Value, flag, whole}
+use Rattle.lus_tree.specs.Tree.{Name, text_of, Expression, Expressions, truth, number, name, negation, minus, pre, arrow, binary, choice, sampled, merged, call, condact, mode_name, no_more, more, Constant, Labelled, Statement, equation, assertion, property, main_mark, Clause, assume, guarantee, ghost_variable, constant, mode, «import», Component, Declaration, declared_constant, declared_node, declared_contract, Program}
+use Rattle.lus_tree.specs.Numbers.{counting}
+use Rattle.lus_meaning.specs.Value.{Value}
 use Rattle.lus_meaning.specs.Frame.{empty_frame}
-use Rattle.lus_meaning.specs.Scene.{Clock, base, sampled_by, Manner, plain, while_true, as_import, Site, Instance, Instances, instance, no_instances, with_instance, component_of, outputs_of, call_instance, Scene, clock_of, clauses, variables}
+use Rattle.lus_meaning.specs.Scene.{Clock, base, sampled_by, plain, while_true, as_import, Site, Instance, Instances, instance, no_instances, with_instance, clock_of, clauses}
 use Rattle.lus_meaning.specs.Meaning.{value}
 
 -- ---- call occurrences
@@ -18,6 +14,7 @@ abbrev pub listed : Expressions → List Expression
 listed no_more = []
 listed (more a as_) = a ∷ listed as_
 
+-- the call occurrences of an expression that stands on that clock; defaults are constant and have none
 abbrev mutual
   pub call_sites : Component → Clock → Expression → List Site
   call_sites n c (truth p b) = []
@@ -61,11 +58,6 @@ clause_sites n (constant c) = []
 clause_sites n (mode m rs es) = labelled_sites n rs ++ labelled_sites n es
 clause_sites n («import» k c as_ xs) = record { number = k; callee = c.text; clock = base; arguments = as_; manner = as_import (map text_of xs) } ∷ flat_map (call_sites n base) as_
 
--- the numbers from k on, as many as said
-abbrev pub counting : ℕ → ℕ → List ℕ
-counting k zero = []
-counting k (suc n) = k ∷ counting (suc k) n
-
 -- what has the numbers 1, 2, .., in this order
 abbrev pub in_order : {A : Type 0} → (A → ℕ) → List A → List A
 in_order at xs = flat_map (λ k. option_to_list (find (λ x. at x == k) xs)) (counting 1 (length xs))
@@ -76,6 +68,7 @@ all_sites n = in_order (λ s. s.number) (flat_map (clause_sites n) (clauses n) +
 
 -- ---- declarations and constants
 
+-- what stands for a callee that is not declared
 abbrev pub no_component : Component
 no_component = record { name = record { text = []; at = record { line = 0; column = 0 } }; function = false; inputs = []; outputs = []; locals = []; constants = []; contract = None; body = [] }
 
@@ -95,10 +88,11 @@ abbrev pub component_named : Program → Name → Option Component
 component_named [] x = None
 component_named (d ∷ ds) x = first_of_two (is_component x d) (component_named ds x)
 
--- the values of constants in text order, each by those before it
+-- the value of a constant expression, where these constants have these values
 abbrev pub constant_value : List (Name × Value) → Expression → Value
 constant_value cs e = value record { place = instance no_component cs no_instances; frame = empty_frame; beat = λ t. true; modes = [] } base e 0
 
+-- the values of constants in text order, each by those before it
 abbrev pub constant_values : List (Name × Value) → List Constant → List (Name × Value)
 constant_values cs [] = cs
 constant_values cs (d ∷ ds) = constant_values (cs ++ (d.name.text, constant_value cs d.value) ∷ []) ds

@@ -1,11 +1,11 @@
 -- Where an expression stands: an instance of a declaration, its frame, and the instants at which it is active.
-use Rattle.std.specs.Prelude.{ℕ, zero, suc, pred, Bool, true, false, ◌&&◌, List, [], ◌∷◌, ◌++◌, map, Option, Some, None, find, option_map, unwrap_or}
-use Rattle.std.specs.Map.{lookup}
+use Rattle.std.specs.Prelude.{ℕ, zero, suc, pred, Bool, List, [], ◌∷◌, ◌++◌, map, Option, Some, None, find, option_map, unwrap_or}
 use Rattle.std.specs.Str.{bytes_eq}
 use Rattle.lus_tree.specs.Tree.{Name, Spelled, Expression, Variable, Clause, ghost_variable, Component}
-use Rattle.lus_meaning.specs.Value.{Value, Stream, Instants, is, absent}
+use Rattle.lus_meaning.specs.Value.{Value, Stream, Instants, is}
 use Rattle.lus_meaning.specs.Frame.{Frame, entry}
 
+-- the base clock, or the instants at which a name has that truth value
 pub data Clock : Type 0 where
   base : Clock
   sampled_by : Bool → Name → Clock
@@ -16,7 +16,7 @@ pub data Manner : Type 0 where
   while_true : Expression → Manner
   as_import : List Name → Manner
 
--- a call occurrence
+-- a call occurrence: its number, its callee, the clock of its place, its arguments and how it runs
 pub record Site : Type 0 where
   pub number : ℕ
   pub callee : Name
@@ -54,10 +54,11 @@ instance_at (with_instance s i is) d (suc k) = instance_at is d k
 abbrev pub call_instance : Instance → ℕ → Instance
 call_instance i k = instance_at (calls_of i) i (pred k)
 
--- what `::m` and `::C::m` stand for
+-- what `::m` and `::C::m` stand for: a mode goes by its name, and before it the imported contracts on the way to it
 abbrev pub ModeStreams : Type 0
 ModeStreams = List ((List Name × Name) × Stream)
 
+-- what an expression is evaluated over
 pub record Scene : Type 0 where
   pub place : Instance
   pub frame : Frame

@@ -2,7 +2,6 @@
 use Rattle.std.proofs.Common.{refl, ◌≡◌, ℕ, Bool, map, option_map, string_bytes, Vec, Box, String, Option}
 use Rattle.std.specs.declared.alloc.Global.{Global}
 use Rattle.lus_tree.specs.declared.expression.Operator.{Operator}
-use Rattle.lus_tree.specs.declared.place.Pos.{Pos}
 use Rattle.lus_tree.specs.declared.place.Word.{Word}
 use Rattle.lus_tree.specs.declared.expression.Expr.{Expr, fold_out-Expr}
 use Rattle.lus_tree.specs.declared.expression.Form.{Form, Truth, Number, Name, Not, Minus, Pre, Arrow, Binary, If, When, Merge, Call, Condact, ModeName, fold_out-Form, map-Form, out-Form}

@@ -1,9 +1,8 @@
 -- What contracts see of the tree's types.
-use Rattle.std.specs.Prelude.{ℕ, Bool, false, List, [], ◌∷◌, Option, Some, None, map, option_map}
+use Rattle.std.specs.Prelude.{Bool, false, List, [], ◌∷◌, Option, Some, map, option_map}
 use Rattle.std.specs.String.{string_bytes}
 use Rattle.std.specs.declared.alloc.Global.{Global}
 use Rattle.std.specs.declared.vec.Vec.{Vec}
-use Rattle.lus_tree.specs.declared.place.Pos.{Pos}
 use Rattle.lus_tree.specs.declared.place.Word.{Word}
 use Rattle.lus_tree.specs.declared.place.Param.{Param}
 use Rattle.lus_tree.specs.declared.expression.Expr.{Expr, Expr-F, fold-Expr}
