@@ -9,7 +9,7 @@ use Rattle.proof_checker.specs.declared.refute.Fault.{Fault}
 use Rattle.proof_checker.specs.declared.refute.Fault.TheVariants.{Step, Open, Memory}
 use Rattle.proof_checker.specs.declared.refute.Refuted.{Refuted}
 use Rattle.proof_checker.specs.Check.{Verdict, refuted, broken, unfinished, verdict}
-use Rattle.proof_checker.specs.Fault.{Answers, IsFault, IsAnswer, capped}
+use Rattle.proof_checker.specs.Fault.{Answers, IsFault, IsAnswer}
 use Rattle.proof_steps.specs.Meaning.{HaveNoSolution}
 use Rattle.proof_checker.proofs.VerdictSound.{verdict_sound}
 use Rattle.proof_checker.proofs.Firsts.{broken_first, refuted_right, unfinished_right}

@@ -1,16 +1,16 @@
 -- A line is the combination of its parts, divided and rounded down.
-use Rattle.std.specs.Prelude.{ℕ, zero, suc, ◌≡◌, Bool, true, false, cond, List, [], ◌∷◌, refl}
-use Rattle.std.proofs.Common.{sym, ◌∙◌, ap, subst, arith}
+use Rattle.std.specs.Prelude.{ℕ, zero, suc, ◌≡◌, List, [], ◌∷◌}
+use Rattle.std.proofs.Common.{sym, ◌∙◌, ap, arith}
 use Rattle.std.proofs.lemmas.Int.{ints}
 use Rattle.std.specs.Int.{int_div_euclid}
-use lib.IntN.{ℤ, pos, negsuc, ◌+ℤ◌, ◌*ℤ◌, +ℤ_idl, +ℤ_assoc}
+use lib.IntN.{ℤ, pos, negsuc, ◌+ℤ◌, ◌*ℤ◌, +ℤ_idl}
 use lib.Signed.{lt_z}
 use Rattle.kind_num.specs.Exact.{within}
 use Rattle.proof_steps.specs.declared.Literal.{Literal}
 use Rattle.proof_steps.specs.declared.Source.{Source}
 use Rattle.proof_steps.specs.View.{Inequality, Sum}
 use Rattle.proof_steps.specs.Meaning.{sum_of}
-use Rattle.proof_checker.specs.Theory.{Outcome, value, past, stopped, and_then, add_terms, bound_after, add_part, add_from, add_parts, of_source, divides, quotients, divided, of_sum}
+use Rattle.proof_checker.specs.Theory.{value, past, stopped, add_terms, bound_after, add_part, add_from, add_parts, of_source, divides, quotients, divided, of_sum}
 use Rattle.proof_checker.specs.Rules.{combination, taken}
 use Rattle.proof_checker.proofs.TheorySound.{then-value, kept-value, went-value, sum-add, sum-quotients}
 

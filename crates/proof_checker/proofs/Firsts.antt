@@ -1,5 +1,5 @@
 -- The verdict names exactly the first atom or step that breaks a rule.
-use Rattle.std.specs.Prelude.{ℕ, zero, suc, ◌≡◌, ◌⊎◌, ◌<◌, ◌+◌, Bool, true, false, cond, List, [], ◌∷◌, ◌++◌, length, map, take, Option, Some, None, Contains, slice_get, refl}
+use Rattle.std.specs.Prelude.{ℕ, zero, suc, ◌≡◌, ◌<◌, ◌+◌, Bool, true, false, cond, List, [], ◌∷◌, ◌++◌, map, take, Option, Some, None, Contains, slice_get, refl}
 use Rattle.std.proofs.Common.{sym, ◌∙◌, ap, subst, arith, inl, inr, append_assoc}
 use Rattle.kind_num.specs.declared.Shape.{Shape}
 use Rattle.proof_steps.specs.declared.Literal.{Literal}
@@ -8,11 +8,8 @@ use Rattle.proof_checker.specs.declared.rule.Rule.{Rule}
 use Rattle.proof_checker.specs.declared.rule.Rule.TheVariants as r
 use Rattle.proof_checker.specs.Check.{move_fault, first_fault, first_misfit, terms_fit, concludes, is_empty, Verdict, refuted, broken, unfinished, of_steps, of_atoms, verdict}
 use Rattle.proof_checker.specs.Rules.{known_at, IsFirstFault, AreRight, IsFirstMisfit, AllFit, IsFirst, IsRight}
+use Rattle.proof_checker.proofs.Folds.{append-nil}
 use Rattle.proof_checker.proofs.Sound.{either}
-
-append-nil : {X : Type 0} (xs : List X) → xs ++ [] ≡ xs
-append-nil [] = refl
-append-nil (x ∷ xs) = ap (λ z. x ∷ z) (append-nil xs)
 
 module _ (shapes : List Shape) where
   fits-step : (n : ℕ) (i : Inequality) (rest : List Inequality) → terms_fit shapes 0 i.terms ≡ true
@@ -26,7 +23,10 @@ module _ (shapes : List Shape) where
   misfit-more : (i : Inequality) (rest : List Inequality) (k : ℕ) → terms_fit shapes 0 i.terms ≡ true
       → IsFirstMisfit shapes rest k → IsFirstMisfit shapes (i ∷ rest) (suc k)
   misfit-more i rest k t f = record {
-    atom = f.atom; is_atom = f.is_atom; misfits = f.misfits; none_before = before;
+    atom = f.atom;
+    is_atom = f.is_atom;
+    misfits = f.misfits;
+    none_before = before;
   } where
     before : (j : ℕ) (x : Inequality) → j < suc k → slice_get (i ∷ rest) j ≡ Some x → terms_fit shapes 0 x.terms ≡ true
     before zero x l e = let q : i ≡ x = cc in subst (λ z. terms_fit shapes 0 z.terms ≡ true) q t
@@ -35,7 +35,9 @@ module _ (shapes : List Shape) where
   misfit-less : (i : Inequality) (rest : List Inequality) (k : ℕ)
       → IsFirstMisfit shapes (i ∷ rest) (suc k) → IsFirstMisfit shapes rest k
   misfit-less i rest k f = record {
-    atom = f.atom; is_atom = f.is_atom; misfits = f.misfits;
+    atom = f.atom;
+    is_atom = f.is_atom;
+    misfits = f.misfits;
     none_before = λ j x l e. f.none_before (suc j) x (omega arith) e;
   }
 
@@ -111,7 +113,10 @@ module _ (shapes : List Shape) where
     fault-more : (known : List (List Literal)) (m : Move) (ms : List Move) (k : ℕ) (rule : Rule) → move_fault shapes atoms known m ≡ None
         → IsFirstFault shapes atoms (known ++ added m ∷ []) ms k rule → IsFirstFault shapes atoms known (m ∷ ms) (suc k) rule
     fault-more known m ms k rule t f = record {
-      step = f.step; is_step = f.is_step; breaks = more-right known m ms k f.step (Some rule) f.breaks; none_before = before;
+      step = f.step;
+      is_step = f.is_step;
+      breaks = more-right known m ms k f.step (Some rule) f.breaks;
+      none_before = before;
     } where
       before : (j : ℕ) (x : Move) → j < suc k → slice_get (m ∷ ms) j ≡ Some x → move_fault shapes atoms (known_at known (m ∷ ms) j) x ≡ None
       before zero x l e = let q : m ≡ x = cc in subst (λ z. move_fault shapes atoms (known_at known (m ∷ ms) 0) z ≡ None) q (at-first known (m ∷ ms) m None t)
@@ -120,7 +125,9 @@ module _ (shapes : List Shape) where
     fault-less : (known : List (List Literal)) (m : Move) (ms : List Move) (k : ℕ) (rule : Rule)
         → IsFirstFault shapes atoms known (m ∷ ms) (suc k) rule → IsFirstFault shapes atoms (known ++ added m ∷ []) ms k rule
     fault-less known m ms k rule f = record {
-      step = f.step; is_step = f.is_step; breaks = less-right known m ms k f.step (Some rule) f.breaks;
+      step = f.step;
+      is_step = f.is_step;
+      breaks = less-right known m ms k f.step (Some rule) f.breaks;
       none_before = λ j x l e. less-right known m ms j x None (f.none_before (suc j) x (omega arith) e);
     }
 
@@ -131,9 +138,11 @@ module _ (shapes : List Shape) where
         (λ t. let (k, q, f) = find-fault (known ++ added m ∷ []) (n + 1) ms p (sym (right-step known n m ms t) ∙ e) in
         (suc k, omega arith, fault-more known m ms k p.1 t f))
         (λ x t. let q : Some (n, x) ≡ Some p = sym (fault-step known n m ms x t) ∙ e in
-        let w : (n, x) ≡ p = cc in
-        (0, ap (λ z. z.0) (sym w) ∙ omega arith,
-        record { step = m; is_step = refl; breaks = at-first known (m ∷ ms) m (Some p.1) (t ∙ ap (λ (z : ℕ × Rule). Some z.1) w); none_before = λ k y l g. absurd (omega arith) }))
+        let w : (n, x) ≡ p = cc in (
+          0,
+          ap (λ z. z.0) (sym w) ∙ omega arith,
+          record { step = m; is_step = refl; breaks = at-first known (m ∷ ms) m (Some p.1) (t ∙ ap (λ (z : ℕ × Rule). Some z.1) w); none_before = λ k y l g. absurd (omega arith) },
+        ))
 
     pub put-fault : (known : List (List Literal)) (n : ℕ) (ms : List Move) (k : ℕ) (rule : Rule) → IsFirstFault shapes atoms known ms k rule
         → first_fault shapes atoms known n ms ≡ Some (n + k, rule)
@@ -192,14 +201,17 @@ module _ (shapes : List Shape) (atoms : List Inequality) (clauses : List (List L
 
   pub broken_first : (n : ℕ) (rule : Rule) → verdict shapes atoms clauses more moves ≡ broken n rule → IsFirst shapes atoms clauses more moves n rule
   broken_first n rule e = by-option (first_misfit shapes 0 more)
-      (λ a. inr (none-misfit shapes 0 more a, by-option (first_fault shapes (atoms ++ more) clauses 0 moves)
-      (λ f. absurd (ends-not-broken (concludes moves) n rule (sym (as-end a f) ∙ e)))
-      (λ p f. let (k, q, w) = find-fault shapes (atoms ++ more) clauses 0 moves p f in
-      let x : broken p.0 p.1 ≡ broken n rule = sym (as-fault p.0 p.1 a f) ∙ e in
-      let y : p.0 ≡ n = cc in
-      let z : p.1 ≡ rule = cc in
-      let j : k ≡ n = omega arith in
-      subst (λ i. IsFirstFault shapes (atoms ++ more) clauses moves i rule) j (subst (λ i. IsFirstFault shapes (atoms ++ more) clauses moves k i) z w))))
+      (λ a. inr (
+        none-misfit shapes 0 more a,
+        by-option (first_fault shapes (atoms ++ more) clauses 0 moves)
+            (λ f. absurd (ends-not-broken (concludes moves) n rule (sym (as-end a f) ∙ e)))
+            (λ p f. let (k, q, w) = find-fault shapes (atoms ++ more) clauses 0 moves p f in
+            let x : broken p.0 p.1 ≡ broken n rule = sym (as-fault p.0 p.1 a f) ∙ e in
+            let y : p.0 ≡ n = cc in
+            let z : p.1 ≡ rule = cc in
+            let j : k ≡ n = omega arith in
+            subst (λ i. IsFirstFault shapes (atoms ++ more) clauses moves i rule) j (subst (λ i. IsFirstFault shapes (atoms ++ more) clauses moves k i) z w)),
+      ))
       (λ m a. let (k, q, w) = find-misfit shapes 0 more m a in
       let x : broken m r.Atom ≡ broken n rule = sym (as-atom m a) ∙ e in
       let y : m ≡ n = cc in

@@ -1,6 +1,6 @@
 -- The fold over a clause finds exactly what is outside the set.
-use Rattle.std.specs.Prelude.{ℕ, zero, suc, ◌≡◌, ◌==◌, ◌<◌, ◌⊎◌, Bool, true, false, cond, List, [], ◌∷◌, ◌++◌, length, Option, Some, None, All, Contains, refl}
-use Rattle.std.proofs.Common.{sym, ◌∙◌, ap, subst, arith, inl, inr}
+use Rattle.std.specs.Prelude.{ℕ, zero, suc, ◌≡◌, ◌==◌, Bool, true, false, cond, List, [], ◌∷◌, ◌++◌, Option, Some, None, All, Contains, refl}
+use Rattle.std.proofs.Common.{sym, ◌∙◌, ap, subst, arith}
 use Rattle.std.proofs.lemmas.Bool.Decides.{nat_tests}
 use Rattle.std.proofs.lemmas.List.Elements.{All-contains, All-nil, All-cons}
 use Rattle.proof_steps.specs.declared.Literal.{Literal}
@@ -124,11 +124,17 @@ module _ (set : List Literal) where
   from-nothing x [] e = absurd cc
   from-nothing x (y ∷ ls) e = either (has set y)
       (λ h. let r = from-nothing x ls (sym (inside-step Nothing y ls h) ∙ e) in
-      record { in_list = has-there y x ls r.in_list; out = r.out;
-        alone = λ m g f. has-cases y m ls g (λ q. let t : has set m ≡ true = subst (λ z. has set z ≡ true) q h in absurd cc) (λ g2. r.alone m g2 f) })
+      record {
+        in_list = has-there y x ls r.in_list;
+        out = r.out;
+        alone = λ m g f. has-cases y m ls g (λ q. let t : has set m ≡ true = subst (λ z. has set z ≡ true) q h in absurd cc) (λ g2. r.alone m g2 f);
+      })
       (λ h. let r = from-one y x ls (sym (outside-step Nothing y ls h) ∙ e) in
-      record { in_list = subst (λ z. has (y ∷ ls) z ≡ true) r.is (has-here y ls); out = subst (λ z. has set z ≡ false) r.is h;
-        alone = λ m g f. has-cases y m ls g (λ q. sym q ∙ r.is) (λ g2. r.rest m g2 f ∙ r.is) })
+      record {
+        in_list = subst (λ z. has (y ∷ ls) z ≡ true) r.is (has-here y ls);
+        out = subst (λ z. has set z ≡ false) r.is h;
+        alone = λ m g f. has-cases y m ls g (λ q. sym q ∙ r.is) (λ g2. r.rest m g2 f ∙ r.is);
+      })
 
   from-all : (ls : List Literal) → outside_from Nothing set ls ≡ Nothing → (m : Literal) → has ls m ≡ true → has set m ≡ true
   from-all [] e m g = absurd cc
