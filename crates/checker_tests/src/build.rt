@@ -1,0 +1,101 @@
+//! Short forms for the parts of a proof.
+
+use kind_num::Shape;
+use proof_checker::{Fault, Refuted, check};
+use proof_steps::{Atom, Clause, Line, Literal, Proof, Source, Step};
+use smallvec::SmallVec;
+use std::alloc::{AllocError, Global};
+
+/// A query in clause form.
+#[derive(Drop)]
+pub struct Query {
+    pub shapes: Vec<Shape>,
+    pub atoms: Vec<Atom>,
+    pub clauses: Vec<Clause>,
+}
+
+impl Query {
+    pub fn answer(&self, alloc: Global, proof: &Proof) -> Result<Refuted, Fault> {
+        check(alloc, &self.shapes, &self.atoms, &self.clauses, proof)
+    }
+}
+
+pub fn flag(number: u32) -> Literal {
+    Literal::Flag(number, true)
+}
+
+pub fn not_flag(number: u32) -> Literal {
+    Literal::Flag(number, false)
+}
+
+pub fn is(number: u32) -> Literal {
+    Literal::Atom(number, true)
+}
+
+pub fn not(number: u32) -> Literal {
+    Literal::Atom(number, false)
+}
+
+/// So often the opposite of the step's literal.
+pub fn opposite(multiplier: i128, number: u32) -> (i128, Source) {
+    (multiplier, Source::Literal(number))
+}
+
+/// So often the earlier line.
+pub fn earlier(multiplier: i128, number: u32) -> (i128, Source) {
+    (multiplier, Source::Line(number))
+}
+
+pub fn atom(alloc: Global, terms: &[(u32, i128)], bound: i128) -> Result<Atom, AllocError> {
+    Ok(Atom {
+        terms: SmallVec::from_slice(alloc, terms)?,
+        bound,
+    })
+}
+
+pub fn clause(alloc: Global, literals: &[Literal]) -> Result<Clause, AllocError> {
+    Ok(Clause {
+        literals: SmallVec::from_slice(alloc, literals)?,
+    })
+}
+
+pub fn derived(alloc: Global, literals: &[Literal], hints: &[u32]) -> Result<Step, AllocError> {
+    let clause = clause(alloc, literals)?;
+    let hints = Vec::from_slice(alloc, hints)?;
+    Ok(Step::Derived { clause, hints })
+}
+
+pub fn line(alloc: Global, parts: &[(i128, Source)], divisor: i128) -> Result<Line, AllocError> {
+    Ok(Line {
+        parts: Vec::from_slice(alloc, parts)?,
+        divisor,
+    })
+}
+
+pub fn theory(alloc: Global, literals: &[Literal], lines: Vec<Line>) -> Result<Step, AllocError> {
+    let clause = clause(alloc, literals)?;
+    Ok(Step::Theory { clause, lines })
+}
+
+/// A theory step of one line.
+pub fn sum(
+    alloc: Global,
+    literals: &[Literal],
+    parts: &[(i128, Source)],
+    divisor: i128,
+) -> Result<Step, AllocError> {
+    let line = line(alloc, parts, divisor)?;
+    let mut lines = Vec::new(alloc);
+    lines.push(line)?;
+    theory(alloc, literals, lines)
+}
+
+/// A proof of one step without atoms of its own.
+pub fn only(alloc: Global, step: Step) -> Result<Proof, AllocError> {
+    let mut steps = Vec::new(alloc);
+    steps.push(step)?;
+    Ok(Proof {
+        atoms: Vec::new(alloc),
+        steps,
+    })
+}
