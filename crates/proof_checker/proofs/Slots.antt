@@ -84,10 +84,10 @@ slot-plus ((y, q) ∷ rest) n p x = either (y == n)
     (λ g. subst (λ b. cond (y == x) 1 (later (cond b (suc (place rest n)) (slot rest x))) ≡ cond b (suc (suc (place rest n))) (cond (y == x) 1 (later (slot rest x)))) (sym g)
     (ap (λ b. cond b 1 (suc (suc (place rest n)))) (differ y n x h g)))
     (λ g. subst (λ b. cond (y == x) 1 (later (cond b (suc (place rest n)) (slot rest x))) ≡ cond b (suc (suc (place rest n))) (cond (y == x) 1 (later (slot rest x)))) (sym g) refl)))
-    where
-      same : (b : Bool) (s : ℕ) → cond b 1 s ≡ cond b 1 (cond b 1 s)
-      same true s = refl
-      same false s = refl
+  where
+    same : (b : Bool) (s : ℕ) → cond b 1 s ≡ cond b 1 (cond b 1 s)
+    same true s = refl
+    same false s = refl
 
 -- a term more, whose place is kept
 pub slots_more : (slots slots' : List ℕ) (ts ts' : List (ℕ × ℤ)) (n : ℕ) (p : ℤ) (k : ℕ) → AreSlots slots ts → k ≡ suc (place ts n)
