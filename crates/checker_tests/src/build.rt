@@ -20,18 +20,22 @@ impl Query {
     }
 }
 
+/// The flag as it stands.
 pub fn flag(number: u32) -> Literal {
     Literal::Flag(number, true)
 }
 
+/// The flag denied.
 pub fn not_flag(number: u32) -> Literal {
     Literal::Flag(number, false)
 }
 
+/// The atom as it stands.
 pub fn is(number: u32) -> Literal {
     Literal::Atom(number, true)
 }
 
+/// The atom denied.
 pub fn not(number: u32) -> Literal {
     Literal::Atom(number, false)
 }
@@ -59,12 +63,14 @@ pub fn clause(alloc: Global, literals: &[Literal]) -> Result<Clause, AllocError>
     })
 }
 
+/// A derived step of these literals by these hints.
 pub fn derived(alloc: Global, literals: &[Literal], hints: &[u32]) -> Result<Step, AllocError> {
     let clause = clause(alloc, literals)?;
     let hints = Vec::from_slice(alloc, hints)?;
     Ok(Step::Derived { clause, hints })
 }
 
+/// A line of these parts.
 pub fn line(alloc: Global, parts: &[(i128, Source)], divisor: i128) -> Result<Line, AllocError> {
     Ok(Line {
         parts: Vec::from_slice(alloc, parts)?,
@@ -72,6 +78,7 @@ pub fn line(alloc: Global, parts: &[(i128, Source)], divisor: i128) -> Result<Li
     })
 }
 
+/// A theory step of these literals by these lines.
 pub fn theory(alloc: Global, literals: &[Literal], lines: Vec<Line>) -> Result<Step, AllocError> {
     let clause = clause(alloc, literals)?;
     Ok(Step::Theory { clause, lines })
