@@ -1,0 +1,3 @@
+pub mod Ring
+pub mod Within
+pub mod Quotients
