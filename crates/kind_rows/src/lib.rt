@@ -1,6 +1,9 @@
 //! The program run over files and output in memory: what a run leaves, and rows worked by hand.
 #![tactic(auto)]
 
+ghost use Rattle.std.specs.Prelude.{IfOk};
+ghost use Rattle.kind_main.specs.Ending.{IsKnown};
+
 #[cfg(test)]
 mod tests;
 
@@ -37,14 +40,16 @@ fn held(alloc: Global, files: &[File<'_>]) -> Result<Vec<(String, Vec<u8>)>, All
 }
 
 /// Runs the program with these words over these files, where the fetches and the puts with these
-/// numbers fail.
+/// numbers fail. The status is one of the program's; the one error is want of memory.
 pub fn run_over(
     alloc: Global,
     words: &[&str],
     files: &[File<'_>],
     fetches: &[u64],
     puts: &[u64],
-) -> Result<Run, AllocError> {
+) -> Result<Run, AllocError>
+    ensures { IfOk result (λ r. IsKnown r.status) }
+{
     let words = texts(alloc, words)?;
     let mut shelf = MemoryShelf::new(held(alloc, files)?, fetches.to_vec(alloc)?);
     let mut out = MemorySink::new(alloc, puts.to_vec(alloc)?);
