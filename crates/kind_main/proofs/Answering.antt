@@ -1,16 +1,15 @@
 -- The answer to the words, put together from what each step knows.
-use Rattle.std.proofs.Common.{◌≡◌, ℕ, suc, ◌<◌, ◌≤◌, ◌+◌, ◌*◌, ◌-◌, ◌^◌, ◌⊎◌, inl, inr, Bool, List, [], ◌∷◌, ◌++◌, length, map, min, refl, ap, ◌∙◌, sym, subst, arith}
+use Rattle.std.proofs.Common.{◌≡◌, ℕ, ◌<◌, ◌≤◌, ◌+◌, ◌*◌, ◌^◌, List, [], ◌∷◌, length, map, ap, ◌∙◌, sym, subst, arith}
 use Rattle.std.proofs.Math.Nat.{mul-le-mul}
 use Rattle.std.proofs.lemmas.List.{length-map}
-use Rattle.kind_io.specs.Counts.{Rose}
-use Rattle.kind_io.specs.Told.{Told, MayHold, MayExceed}
+use Rattle.kind_io.specs.Told.{MayHold, MayExceed}
 use Rattle.lus_tree.specs.Tree.{Name, Program, Component, declared_node}
 use Rattle.lus_meaning.specs.Run.{body_equations}
 use Rattle.lus_meaning.specs.Rules.{IsChecked, lefts}
-use Rattle.kind_main.specs.Lines.{Line, usage_line, read_fault_line, lawful_line}
-use Rattle.kind_main.specs.Words.{AreReplay, AreNoCommand}
-use Rattle.kind_main.specs.Report.{code_of, IsReplay}
-use Rattle.kind_main.specs.Answer.{Tells, limit, HoldsSource, IsRefused, source_too_long, source_outside, HoldsTrace, IsRefusedTrace, trace_too_long, trace_formless, IsAnswer, usage, no_source, source_refused, no_trace, trace_refused, replayed}
+use Rattle.kind_main.specs.Lines.{Line}
+use Rattle.kind_main.specs.Words.{AreReplay}
+use Rattle.kind_main.specs.Report.{IsReplay}
+use Rattle.kind_main.specs.Answer.{Tells, limit, HoldsTrace, IsRefusedTrace, trace_too_long, trace_formless, IsAnswer, no_source, source_refused, no_trace, trace_refused, replayed}
 use Rattle.kind_main.specs.Fetched as F
 use Rattle.kind_main.specs.Fetched.{IsTraceAnswer, IsFilesAnswer}
 use Rattle.kind_main.proofs.Printing.{rose-later}

@@ -1,24 +1,22 @@
 -- What a table's frame breaks: the lines of a table are those of its frame.
-use Rattle.std.proofs.Common.{◌≡◌, ℕ, zero, suc, pred, ◌<◌, ◌≤◌, ◌+◌, Bool, true, false, cond, not, ◌&&◌, ◌||◌, List, [], ◌∷◌, ◌++◌, map, flat_map, length, refl, ap, ◌∙◌, sym, subst, arith, Option, Some, None, codes, decimal, append_assoc, slice_index_or}
+use Rattle.std.proofs.Common.{◌≡◌, ℕ, pred, ◌<◌, true, false, ◌&&◌, List, [], ◌∷◌, ◌++◌, flat_map, refl, ap, ◌∙◌, sym, subst, arith, Option, Some, None, append_assoc, slice_index_or}
 use Rattle.std.specs.List.{AllByRecursion, list_all}
-use Rattle.lus_tree.specs.declared.place.Pos.{Pos}
-use Rattle.lus_tree.specs.Tree.{Name, Expression, Labelled, Statement, equation, assertion, property, main_mark, Component, Program}
+use Rattle.lus_tree.specs.Tree.{Name, Expression, Labelled, Statement, equation, assertion, property, main_mark, Component}
 use Rattle.lus_tree.specs.Numbers.{pres, body_expressions, body_pres, IsNumbered}
-use Rattle.lus_meaning.specs.Value.{Value, flag, is}
-use Rattle.lus_meaning.specs.Frame.{Frame, calls_in}
-use Rattle.lus_meaning.specs.Scene.{Scene, base, Instance, instance, no_instances, clauses}
+use Rattle.lus_meaning.specs.Value.{flag, is}
+use Rattle.lus_meaning.specs.Frame.{Frame}
+use Rattle.lus_meaning.specs.Scene.{base, Instance, instance, no_instances}
 use Rattle.lus_meaning.specs.Meaning.{value}
 use Rattle.lus_meaning.specs.Contract.{Property, ModeTerms, Terms, no_terms, terms, terms_each, terms_after, scene, item, body, first_token}
-use Rattle.lus_meaning.specs.Property.{assertions, asserts, all_assert, meets_assumptions, IsLawful, body_properties, one_mode, owed_by_calls, properties}
-use Rattle.lus_meaning.specs.Verdict.{throughout, Breaks}
-use Rattle.lus_meaning.specs.Run.{IsRun}
+use Rattle.lus_meaning.specs.Property.{assertions, all_assert, meets_assumptions, IsLawful, body_properties, properties}
+use Rattle.lus_meaning.specs.Verdict.{throughout}
 use Rattle.lus_meaning.specs.Depends.{named_in, left_names}
-use Rattle.lus_meaning.specs.Rules.{IsSimple, IsSimpleItem, IsSimpleNode, HasRightNames, names_in, declared_names}
+use Rattle.lus_meaning.specs.Rules.{IsSimple, IsSimpleItem, IsSimpleNode, HasRightNames, names_in}
 use Rattle.lus_meaning.proofs.Now.{left_part, right_part}
 use Rattle.lus_meaning.proofs.Simple.{append_none, no_clauses}
 use Rattle.kind_main.specs.Lines.{Line, breaks_line, place_breaks}
-use Rattle.kind_main.specs.Table.{Held, truth_at, Meets}
-use Rattle.kind_main.specs.Breaks.{IsFirstFalse, IsItemBreak, item_line, AreBreaks}
+use Rattle.kind_main.specs.Table.{Held, Meets}
+use Rattle.kind_main.specs.Breaks.{IsFirstFalse, item_line, AreBreaks}
 use Rattle.kind_main.specs.Report.{IsBreak, said, IsReport, AreLawful}
 use Rattle.kind_main.proofs.TableFrame.{table_frame, IsDeclared, IsFalseFirst, value_is, firsts_false, is_run}
 

@@ -1,10 +1,8 @@
 -- How a call ends, from its answer and its printing.
-use Rattle.std.proofs.Common.{◌≡◌, ◌≢◌, ℕ, ◌≤◌, ◌⊎◌, inl, inr, List, [], ◌∷◌, ◌++◌, Option, refl, sym, ap, ◌∙◌, subst, arith, append-nil}
+use Rattle.std.proofs.Common.{◌≡◌, ◌≢◌, ℕ, ◌⊎◌, inl, inr, List, [], ◌∷◌, ◌++◌, refl, sym, ap, ◌∙◌, subst, arith, append-nil}
 use Rattle.std.specs.Io.KnownBytes.{Appends}
-use Rattle.kind_io.specs.Counts.{Rose}
-use Rattle.kind_io.specs.Written.{AppendsFront}
 use Rattle.lus_tree.specs.Tree.{Program, Component}
-use Rattle.kind_main.specs.Words.{AreReplay, AreNoCommand}
+use Rattle.kind_main.specs.Words.{AreReplay}
 use Rattle.kind_main.specs.Lines.{Line, text_of, usage_line, memory_line, read_fault_line}
 use Rattle.kind_main.specs.Report.{code_of, IsReplay}
 use Rattle.kind_main.specs.Printing as P

@@ -1,11 +1,11 @@
 -- An instant that is being filled: what stands, and what the items to come still owe.
-use Rattle.std.proofs.Common.{◌≡◌, ◌<◌, ◌≤◌, ◌+◌, ◌*◌, ℕ, zero, suc, Bool, true, false, List, [], ◌∷◌, ◌++◌, length, get_or, drop, map, refl, sym, ap, ◌∙◌, arith, append_assoc, append-nil, length-append, add-one, subst}
+use Rattle.std.proofs.Common.{◌≡◌, ◌<◌, ◌≤◌, ◌+◌, ◌*◌, ℕ, suc, Bool, List, [], ◌∷◌, ◌++◌, length, get_or, drop, map, sym, ap, ◌∙◌, arith, append_assoc, append-nil, length-append, add-one, subst}
 use Rattle.std.proofs.Math.Seq.{drop-cons}
 use Rattle.std.proofs.lemmas.List.{drop_all}
 use Rattle.lus_tree.specs.declared.declaration.Item.{Item}
 use Rattle.lus_tree.specs.View.{item_view}
 use Rattle.lus_tree.specs.Tree.{Name, Statement, equation, assertion, property, main_mark}
-use Rattle.kind_main.specs.Table.{place, held, truth_at, Meets, ReadsBelow, IsOrdered, with_item}
+use Rattle.kind_main.specs.Table.{held, truth_at, Meets, IsOrdered, with_item}
 use Rattle.kind_main.proofs.Keeps.{equation-holds}
 
 pub record Filling (order : List Name) (base : List Bool) (t : ℕ) (all : List Statement) (kept : List Bool) (todo : List Statement) : Type 0 where

@@ -1,6 +1,6 @@
 -- The place of an expression's first token.
 use Rattle.std.proofs.Common.{◌≡◌, refl, ◌∙◌, ap}
-use Rattle.lus_tree.specs.declared.expression.Expr.{Expr, fold_out-Expr}
+use Rattle.lus_tree.specs.declared.expression.Expr.{Expr}
 use Rattle.lus_tree.specs.declared.expression.Form.{Form, Form-F, fold_out-Form, map-Form, out-Form}
 use Rattle.lus_tree.specs.declared.expression.Form.TheOpen.{Truth, Number, Name, Not, Minus, Pre, Arrow, Binary, If, When, Merge, Call, Condact, ModeName}
 use Rattle.lus_tree.specs.Tree.{Place, Expression}

@@ -1,7 +1,7 @@
 -- The instants that are done.
-use Rattle.std.proofs.Common.{◌≡◌, ◌<◌, ◌≤◌, ◌+◌, ◌*◌, ◌⊎◌, inl, inr, ℕ, zero, suc, Bool, true, false, List, [], ◌∷◌, ◌++◌, length, refl, sym, ap, ◌∙◌, arith, add-one, subst}
+use Rattle.std.proofs.Common.{◌≡◌, ◌<◌, ◌≤◌, ◌+◌, ◌*◌, ◌⊎◌, inl, inr, ℕ, suc, Bool, List, [], ◌++◌, length, sym, arith, subst}
 use Rattle.lus_tree.specs.Tree.{Name, Statement}
-use Rattle.kind_main.specs.Table.{place, held, Meets, IsOrdered, IsTable}
+use Rattle.kind_main.specs.Table.{held, Meets, IsOrdered, IsTable}
 use Rattle.kind_main.proofs.Keeps.{meets-keeps}
 
 -- the row of t stands before that of n

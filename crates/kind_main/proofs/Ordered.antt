@@ -1,9 +1,9 @@
 -- The left names of a node that follows the rules are an order for its table.
-use Rattle.std.proofs.Common.{◌≡◌, ℕ, zero, suc, ◌<◌, ◌≤◌, ◌+◌, ◌*◌, ◌⊎◌, inl, inr, Bool, true, false, cond, nat_lt, ◌||◌, List, [], ◌∷◌, ◌++◌, length, length-append, refl, ap, ◌∙◌, sym, subst, arith, append_assoc, slice_index_or}
+use Rattle.std.proofs.Common.{◌≡◌, ℕ, suc, ◌<◌, ◌≤◌, ◌+◌, ◌*◌, ◌⊎◌, inl, inr, Bool, true, false, cond, nat_lt, ◌||◌, List, [], ◌∷◌, ◌++◌, length, length-append, refl, ap, ◌∙◌, sym, subst, arith, append_assoc, slice_index_or}
 use Rattle.std.specs.List.{AllByRecursion}
 use Rattle.std.specs.Str.{bytes_eq}
-use Rattle.std.proofs.lemmas.Bool.{true≢false, false≢true}
-use Rattle.lus_tree.specs.Tree.{Name, Expression, truth, number, name, negation, minus, pre, arrow, binary, choice, sampled, merged, call, condact, mode_name, Statement, equation, assertion, property, main_mark}
+use Rattle.std.proofs.lemmas.Bool.{true≢false}
+use Rattle.lus_tree.specs.Tree.{Name, Expression, truth, name, negation, pre, arrow, Statement, equation, assertion, property, main_mark}
 use Rattle.lus_meaning.specs.Run.{body_equations}
 use Rattle.lus_meaning.specs.Depends.{named_in}
 use Rattle.lus_meaning.specs.WellMade.{AreDistinct}

@@ -1,10 +1,9 @@
 -- Why the bytes of a source are outside the language.
-use Rattle.std.proofs.Common.{◌≡◌, ◌⊎◌, inl, inr, ℕ, List, Result, Ok, Err, IsOk, sym, ap, ◌∙◌, subst}
+use Rattle.std.proofs.Common.{◌≡◌, inl, inr, ℕ, List, subst}
 use Rattle.lus_tree.specs.declared.refusal.Refusal.{Refusal}
-use Rattle.lus_tree.specs.declared.refusal.What.{What}
 use Rattle.lus_tree.specs.declared.refusal.What.TheVariants.{Memory}
-use Rattle.lus_tree.specs.Tree.{Program, Component}
-use Rattle.lus_meaning.specs.Rules.{IsChecked, BreaksNoRule}
+use Rattle.lus_tree.specs.Tree.{Program}
+use Rattle.lus_meaning.specs.Rules.{BreaksNoRule}
 use Rattle.lus_reader.specs.Source.{IsSource, IsRefused, OneTree}
 use Rattle.kind_main.specs.Answer.{IsOutside}
 

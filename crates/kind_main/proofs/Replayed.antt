@@ -1,19 +1,19 @@
 -- What a table of a checked program shows is its replay.
-use Rattle.std.proofs.Common.{◌≡◌, ℕ, zero, suc, ◌<◌, ◌≤◌, ◌+◌, ◌*◌, ◌^◌, Bool, false, List, [], ◌∷◌, ◌++◌, length, refl, ap, ◌∙◌, sym, subst, arith}
+use Rattle.std.proofs.Common.{◌≡◌, ℕ, ◌≤◌, Bool, false, List, [], ◌∷◌, ◌++◌, length, refl, ap, ◌∙◌, sym, subst, arith}
 use Rattle.lus_tree.specs.Tree.{Name, Program, Component}
 use Rattle.lus_meaning.specs.Frame.{Frame}
-use Rattle.lus_meaning.specs.Scene.{Instance, instance, no_instances}
+use Rattle.lus_meaning.specs.Scene.{instance, no_instances}
 use Rattle.lus_meaning.specs.Program.{instance_of}
 use Rattle.lus_meaning.specs.Property.{properties}
 use Rattle.lus_meaning.specs.Trace.{IsFrameOf}
-use Rattle.lus_meaning.specs.Run.{equations, body_equations}
+use Rattle.lus_meaning.specs.Run.{body_equations}
 use Rattle.lus_meaning.specs.Depends.{named_in, left_names}
 use Rattle.lus_meaning.specs.WellMade.{AreDistinct}
 use Rattle.lus_meaning.specs.Rules.{IsChecked, AreInOrder, lefts, declared_names}
 use Rattle.lus_meaning.proofs.Simple.{checked_instance, equations_are}
 use Rattle.lus_meaning.proofs.OneFrame.{only_frame}
 use Rattle.kind_main.specs.Lines.{Line, lawful_line}
-use Rattle.kind_main.specs.Table.{held, Meets, IsOrdered, IsTable}
+use Rattle.kind_main.specs.Table.{held, IsOrdered, IsTable}
 use Rattle.kind_main.specs.Breaks.{AreBreaks}
 use Rattle.kind_main.specs.Report.{IsReport, AreLawful, code_of, IsReplay}
 use Rattle.kind_main.proofs.Ordered.{ordered, held_free}

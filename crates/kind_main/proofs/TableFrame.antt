@@ -1,30 +1,28 @@
 -- The frame that a table stands for.
-use Rattle.std.proofs.Common.{◌≡◌, ℕ, zero, suc, pred, ◌<◌, ◌≤◌, ◌+◌, Bool, true, false, cond, not, ◌||◌, List, [], ◌∷◌, ◌++◌, map, flat_map, length, refl, ap, ◌∙◌, sym, subst, arith, Option, Some, None, unwrap_or, slice_index_or, get_or}
+use Rattle.std.proofs.Common.{◌≡◌, ℕ, zero, suc, ◌<◌, ◌≤◌, ◌+◌, Bool, true, false, cond, ◌||◌, List, [], ◌∷◌, map, flat_map, length, refl, ap, ◌∙◌, sym, subst, arith, Some, unwrap_or, slice_index_or, get_or}
 use Rattle.std.specs.List.{AllByRecursion}
 use Rattle.std.specs.Map.{lookup}
 use Rattle.std.specs.Str.{bytes_eq}
-use Rattle.std.proofs.lemmas.Bool.{true≢false, false≢true}
-use Rattle.lus_tree.specs.declared.place.Sort.{Sort}
+use Rattle.std.proofs.lemmas.Bool.{false≢true}
 use Rattle.lus_tree.specs.declared.place.Sort.TheVariants.{Bool as Flags}
-use Rattle.lus_tree.specs.Tree.{Name, Spelled, text_of, Expression, truth, name, negation, pre, arrow, Variable, Labelled, Statement, equation, assertion, property, main_mark, Component}
+use Rattle.lus_tree.specs.Tree.{Name, Spelled, Expression, truth, name, negation, pre, arrow, Variable, Statement, equation, assertion, property, main_mark, Component}
 use Rattle.lus_tree.specs.Numbers.{pres, body_expressions, body_pres, IsNumbered}
-use Rattle.lus_meaning.specs.Value.{Value, absent, flag, Stream, not_value, is_absent}
+use Rattle.lus_meaning.specs.Value.{Value, absent, flag, not_value, is_absent}
 use Rattle.lus_meaning.specs.Frame.{Frame, frame, no_frames, entry, first_value}
 use Rattle.lus_meaning.specs.Scene.{Scene, base, Instance, instance, no_instances, variables, clock_from, is_on}
 use Rattle.lus_meaning.specs.Meaning.{value}
 use Rattle.lus_meaning.specs.Program.{clock_of_names}
 use Rattle.lus_meaning.specs.Contract.{scene}
-use Rattle.lus_meaning.specs.Run.{Equation, equations, body_equations, right_values, at_instant, entries, IsBalanced, first_sorts, is_typed, IsRun}
+use Rattle.lus_meaning.specs.Run.{Equation, body_equations, right_values, at_instant, IsBalanced, first_sorts, is_typed, IsRun}
 use Rattle.lus_meaning.specs.Depends.{named_in, left_names, SameChoices}
 use Rattle.lus_meaning.specs.Recompute.{sample}
 use Rattle.lus_meaning.specs.Trace.{or_default, IsFrameOf}
 use Rattle.lus_meaning.specs.Verdict.{throughout}
-use Rattle.lus_meaning.specs.Rules.{IsSimple, IsSimpleItem, IsSimpleNode, IsFlag, HasRightNames, names_in, AllAmong, declared_names}
+use Rattle.lus_meaning.specs.Rules.{IsSimple, IsSimpleItem, IsSimpleNode, IsFlag, HasRightNames, names_in, declared_names}
 use Rattle.lus_meaning.proofs.Now.{left_part, right_part}
 use Rattle.lus_meaning.proofs.Unique.{same_bytes}
 use Rattle.lus_meaning.proofs.Stable.{sample_at}
 use Rattle.lus_meaning.proofs.Exists.{sampled_names, sampled_lengths, self_bytes}
-use Rattle.lus_meaning.proofs.Equal.{AreNamed}
 use Rattle.lus_meaning.proofs.Simple.{all_flags, names_on_base, equations_are, or_left, or_true}
 use Rattle.lus_meaning.proofs.SettledTypes.{one_value}
 use Rattle.lus_meaning.proofs.InOrder.{counting_all}

@@ -1,5 +1,5 @@
 -- Which properties break in a table, and their lines.
-use Rattle.std.specs.Prelude.{◌≡◌, ◌<◌, ◌++◌, ℕ, Bool, true, false, List, [], ◌∷◌, Option, Some, None}
+use Rattle.std.specs.Prelude.{◌≡◌, ◌<◌, ◌++◌, ℕ, true, false, List, [], ◌∷◌, Option, Some, None}
 use Rattle.lus_tree.specs.Tree.{Expression, Statement, property}
 use Rattle.lus_meaning.specs.Contract.{first_token}
 use Rattle.kind_main.specs.Lines.{Line, place_breaks}

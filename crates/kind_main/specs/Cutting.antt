@@ -1,5 +1,5 @@
 -- A text that is cut into rows of words, byte by byte.
-use Rattle.std.specs.Prelude.{◌≡◌, ℕ, Bool, true, false, cond, ◌&&◌, ◌==◌, List, [], ◌∷◌, ◌++◌, map}
+use Rattle.std.specs.Prelude.{ℕ, Bool, cond, ◌&&◌, ◌==◌, List, [], ◌∷◌, ◌++◌}
 use Rattle.kind_main.specs.Traces.{is_blank, is_feed, begins_with_feed}
 
 -- the whole rows, the whole words of the row that has begun, and the bytes of its last word

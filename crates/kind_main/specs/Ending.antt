@@ -1,5 +1,5 @@
 -- What a call leaves, status by status.
-use Rattle.std.specs.Prelude.{◌≡◌, ◌≤◌, ◌++◌, ◌⊎◌, ℕ, List, [], ◌∷◌, Option}
+use Rattle.std.specs.Prelude.{◌≡◌, ◌++◌, ◌⊎◌, ℕ, List, [], Option}
 use Rattle.std.specs.Io.KnownBytes.{Appends}
 use Rattle.kind_io.specs.Counts.{Rose}
 use Rattle.kind_io.specs.Written.{AppendsFront}

@@ -1,9 +1,8 @@
 -- What became of a file that was fetched and read, and the answers that follow.
-use Rattle.std.specs.Prelude.{◌≡◌, ◌≤◌, ℕ, List, [], ◌∷◌, length, Option, Some, None}
+use Rattle.std.specs.Prelude.{◌≡◌, ◌≤◌, ℕ, List, [], ◌∷◌, length}
 use Rattle.kind_io.specs.Counts.{Rose}
 use Rattle.kind_io.specs.Told.{Told, MayHold, MayExceed}
 use Rattle.lus_tree.specs.Tree.{Program, Component}
-use Rattle.lus_meaning.specs.Rules.{IsChecked}
 use Rattle.kind_main.specs.declared.answer.Fetched.{Fetched}
 use Rattle.kind_main.specs.declared.answer.Fetched.TheVariants.{Bytes, TooLong, Failed}
 use Rattle.kind_main.specs.Lines.{Line, read_fault_line}

@@ -1,5 +1,5 @@
 -- The table of a replay: one list of truth values, instant after instant, the defined names of an instant in the order of their equations.
-use Rattle.std.specs.Prelude.{◌≡◌, ◌<◌, ◌≤◌, ◌+◌, ◌*◌, ◌⊎◌, ℕ, zero, suc, Bool, true, false, not, cond, nat_lt, List, [], ◌∷◌, ◌++◌, map, length, slice_index_or}
+use Rattle.std.specs.Prelude.{◌≡◌, ◌<◌, ◌≤◌, ◌+◌, ◌*◌, ◌⊎◌, ℕ, zero, suc, Bool, false, not, cond, nat_lt, List, [], ◌∷◌, ◌++◌, map, length, slice_index_or}
 use Rattle.std.specs.Str.{bytes_eq}
 use Rattle.lus_tree.specs.Tree.{Name, text_of, Expression, truth, name, negation, pre, arrow, Statement, equation, property}
 

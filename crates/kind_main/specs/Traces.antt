@@ -1,5 +1,5 @@
 -- The text of a trace without lines of its own: `trace NODE N` and `end`.
-use Rattle.std.specs.Prelude.{◌≡◌, ◌≤◌, ℕ, Bool, true, false, cond, ◌||◌, ◌&&◌, ◌==◌, List, [], ◌∷◌, map, codes, decimal}
+use Rattle.std.specs.Prelude.{◌≡◌, ◌≤◌, ℕ, Bool, false, cond, ◌||◌, ◌&&◌, ◌==◌, List, [], ◌∷◌, map, codes, decimal}
 
 abbrev pub is_blank : ℕ → Bool
 is_blank b = (b == 32) || (b == 9)

@@ -1,8 +1,8 @@
-use Rattle.std.proofs.Common.{rules, ◌≡◌, refl, ap, ◌∙◌, sym, subst, map, string_bytes}
-use Rattle.lus_tree.specs.View.{node_view, program_view}
+use Rattle.std.proofs.Common.{refl}
+use Rattle.lus_tree.specs.View.{program_view}
 use Rattle.kind_main.specs.Lines.{too_long_line, not_built_line}
 use Rattle.kind_main.specs.Answer.{source_too_long, source_outside}
-use Rattle.kind_main.specs.Fetched.{unread, refused, held}
+use Rattle.kind_main.specs.Fetched.{refused, held}
 use Rattle.kind_main.proofs.Answering.{same_answer}
 use Rattle.kind_main.proofs.answer.files_answer.Goals as goal
 

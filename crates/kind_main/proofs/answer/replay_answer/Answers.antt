@@ -1,9 +1,8 @@
-use Rattle.std.proofs.Common.{rules, arith, ◌≡◌, ◌∷◌, [], ◌+◌, ◌*◌, ◌<◌, ◌^◌, map, length, ap, ◌∙◌, sym, subst, string_bytes, ℕ, List}
+use Rattle.std.proofs.Common.{◌≡◌, ◌∷◌, [], map, ap, ◌∙◌, string_bytes}
 use Rattle.lus_tree.specs.Tree.{declared_node}
 use Rattle.lus_tree.specs.View.{node_view, item_view}
 use Rattle.lus_meaning.specs.Run.{body_equations}
 use Rattle.lus_meaning.specs.Rules.{lefts}
-use Rattle.kind_main.specs.Table.{IsOrdered}
 use Rattle.kind_main.proofs.Replayed.{lefts_ordered, replayed}
 use Rattle.kind_main.specs.Report.{code_of}
 use Rattle.kind_main.proofs.Reporting.{pushed-line}

@@ -1,8 +1,8 @@
-use Rattle.std.proofs.Common.{rules, ◌≡◌, refl, ap, ◌∙◌, sym, subst, map, string_bytes}
+use Rattle.std.proofs.Common.{refl}
 use Rattle.lus_tree.specs.View.{node_view, program_view}
 use Rattle.kind_main.specs.Lines.{too_long_line, formless_line}
 use Rattle.kind_main.specs.Answer.{trace_too_long, trace_formless}
-use Rattle.kind_main.specs.Fetched.{trace_unread, trace_refused, trace_replayed}
+use Rattle.kind_main.specs.Fetched.{trace_refused, trace_replayed}
 use Rattle.kind_main.proofs.Answering.{one_replay}
 use Rattle.kind_main.proofs.answer.trace_answer.Goals as goal
 

@@ -1,4 +1,4 @@
-use Rattle.std.proofs.Common.{arith, ◌<◌, ◌≤◌, length}
+use Rattle.std.proofs.Common.{arith}
 use Rattle.kind_main.proofs.LeftNames.{lefts-next, lefts-end}
 use Rattle.kind_main.proofs.lefts.left_names.Goals as goal
 

@@ -1,4 +1,4 @@
-use Rattle.std.proofs.Common.{arith, ap, Err, ◌<◌, ◌≤◌, length}
+use Rattle.std.proofs.Common.{arith, ap, Err}
 use Rattle.std.specs.String.{string_bytes}
 use Rattle.kind_main.proofs.Printing.{writing-next, writing-failed, writing-stays, writing-stopped, writing-end}
 use Rattle.kind_main.proofs.print.print.Goals as goal

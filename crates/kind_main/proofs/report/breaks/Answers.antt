@@ -1,4 +1,4 @@
-use Rattle.std.proofs.Common.{arith, ◌<◌, ◌≤◌, length}
+use Rattle.std.proofs.Common.{arith}
 use Rattle.kind_main.proofs.Reporting.{report-next, report-end}
 use Rattle.kind_main.proofs.report.breaks.Goals as goal
 

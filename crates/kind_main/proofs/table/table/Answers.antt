@@ -1,9 +1,7 @@
-use Rattle.std.proofs.Common.{arith, ◌≡◌, ◌<◌, ◌≤◌, ◌+◌, ◌*◌, ℕ, List, length, map, ap, sym, ◌∙◌, subst}
+use Rattle.std.proofs.Common.{◌≡◌, ◌+◌, ◌*◌, ℕ, length, map, ap, sym, ◌∙◌}
 use Rattle.std.specs.String.{string_bytes}
 use Rattle.std.proofs.lemmas.List.{length-map}
-use Rattle.lus_tree.specs.View.{item_view}
-use Rattle.kind_main.specs.Table.{IsTable}
-use Rattle.kind_main.proofs.Instants.{table-step, no-instants}
+use Rattle.kind_main.proofs.Instants.{table-step}
 use Rattle.kind_main.proofs.table.table.Goals as goal
 
 pub loop-t-preserved : goal.loop-t-preserved

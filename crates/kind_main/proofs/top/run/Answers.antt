@@ -1,4 +1,3 @@
-use Rattle.std.proofs.Common.{◌≡◌, ap, map, string_bytes, subst}
 use Rattle.kind_main.proofs.Ends.{ends_printed, ends_without}
 use Rattle.kind_main.proofs.top.run.Goals as goal
 

@@ -1,4 +1,4 @@
-use Rattle.std.proofs.Common.{rules, ◌≡◌, ◌∷◌, [], map, codes, ℕ, List}
+use Rattle.std.proofs.Common.{rules, ◌≡◌, map}
 use Rattle.kind_main.specs.Cutter.{words_view}
 use Rattle.kind_main.proofs.TraceRows.{trace_rows, rows_shape, other_name, rows_found}
 use Rattle.kind_main.proofs.trace.instants_in.Goals as goal

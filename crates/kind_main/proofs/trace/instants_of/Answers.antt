@@ -1,5 +1,5 @@
-use Rattle.std.proofs.Common.{rules, arith, ◌≡◌, ◌<◌, ◌≤◌, ◌^◌, ◌∙◌, ap, sym, ℕ, List, decimal}
-use Rattle.std.proofs.lemmas.Fmt.{parse-decimal, decimal_injective}
+use Rattle.std.proofs.Common.{rules, arith, ◌≡◌, ◌≤◌, ◌∙◌, ap, sym, decimal}
+use Rattle.std.proofs.lemmas.Fmt.{parse-decimal}
 use Rattle.kind_main.proofs.TraceRows.{utf8_instants}
 use Rattle.kind_main.proofs.trace.instants_of.Goals as goal
 

@@ -1,6 +1,6 @@
-use Rattle.std.proofs.Common.{arith, ◌≡◌, ◌∙◌, ap, sym, ◌≤◌, length}
-use Rattle.kind_main.specs.Cutting.{Cut, close_word, close_row, closed, cut_whole}
-use Rattle.kind_main.specs.Cutter.{rows_view, words_view, cut_view}
+use Rattle.std.proofs.Common.{arith, ◌∙◌, ap, sym}
+use Rattle.kind_main.specs.Cutting.{close_row}
+use Rattle.kind_main.specs.Cutter.{rows_view, cut_view}
 use Rattle.kind_main.proofs.Cuts.{cut-end, whole_cut}
 use Rattle.kind_main.proofs.trace.read_rows.Goals as goal
 

@@ -1,4 +1,4 @@
-use Rattle.std.proofs.Common.{◌≡◌, ◌∙◌, ap, ℕ, List, Option, MatchOption, subst, map}
+use Rattle.std.proofs.Common.{◌≡◌, ◌∙◌, ap, ℕ, List, MatchOption, subst, map}
 use Rattle.kind_main.specs.Traces.{rows_of, AreTraceRows}
 use Rattle.kind_main.specs.Cutter.{words_view}
 use Rattle.kind_main.proofs.trace.read_trace.Goals as goal

@@ -1,6 +1,5 @@
-use Rattle.std.proofs.Common.{rules, ◌≡◌, codes, sym, ◌∙◌, string_bytes, ℕ, List, false}
+use Rattle.std.proofs.Common.{rules, ◌≡◌, codes, sym, ◌∙◌, string_bytes}
 use Rattle.kind_main.proofs.ThreeWords.{three_words}
-use Rattle.kind_main.specs.Words.{is_option}
 use Rattle.kind_main.proofs.words.command.Goals as goal
 
 pub returns-then-not-is_option-2 : goal.returns-then-not-is_option-2
