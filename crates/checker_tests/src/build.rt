@@ -71,6 +71,7 @@ pub fn atom(alloc: Global, terms: &[(u32, i128)], bound: i128) -> Result<Atom, A
     })
 }
 
+/// A clause of these literals; the one error is want of memory.
 pub fn clause(alloc: Global, literals: &[Literal]) -> Result<Clause, AllocError>
     ensures { IfOk result (λ c. clause_view c ≡ literals.now) }
 {

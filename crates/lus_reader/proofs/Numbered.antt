@@ -1,5 +1,5 @@
 -- The occurrences of a source are numbered in text order.
-use Rattle.std.proofs.Common.{◌≡◌, ℕ, zero, suc, ◌+◌, List, [], ◌∷◌, ◌++◌, length, refl, ap, ◌∙◌, sym, subst, arith, append_assoc, append-nil}
+use Rattle.std.proofs.Common.{◌≡◌, ℕ, zero, suc, ◌+◌, List, [], ◌∷◌, ◌++◌, length, refl, ap, ◌∙◌, sym, subst, arith, append-nil}
 use Rattle.lus_tree.specs.Tree as T
 use Rattle.lus_tree.specs.Tree.{Place, Expression, Statement, Component, declared_node, Program}
 use Rattle.lus_tree.specs.Numbers.{counting, pres, arrows, body_pres, body_arrows, IsNumbered}
