@@ -1,0 +1,162 @@
+//! Goes over a source, token by token.
+
+ghost use Rattle.std.specs.Prelude.{◌≡◌, ◌<◌, ◌≤◌, length, IfOk, IfErr};
+ghost use Rattle.lus_lexer.specs.Tokens.{byte, Longest, IsCursor, IsWide, Lexes, whole};
+ghost use Rattle.lus_lexer.specs.Promise.{Refused, Steps, IsRead};
+
+use crate::cursor::{Cursor, past};
+use crate::lexeme::lexeme;
+use crate::scan::{comment_end, is_blank, is_wide};
+use crate::spelling::Lexeme;
+use crate::token::{Class, Token};
+use lus_tree::{Pos, Refusal, What};
+use std::alloc::Global;
+
+/// The tokens of a source, in order. Refused are, at the first byte of what is wrong, `BadByte`,
+/// `UnclosedComment` and `WideLiteral`, the first that is met from the start on, and `Memory`,
+/// whose place says nothing.
+pub fn tokens(alloc: Global, bytes: &[u8]) -> Result<Vec<Token>, Refusal>
+    requires { length bytes.now ≤ 1048576 }
+    ensures tokens { IfOk result (λ v. Lexes (byte bytes.now) (length bytes.now) 0 v.items whole) }
+    ensures fault { IfErr result (λ e. Refused bytes.now e.at e.what) }
+{
+    let mut tokens = Vec::new(alloc);
+    let mut here = Cursor {
+        at: 0,
+        pos: Pos { line: 1, column: 1 },
+    };
+    while here.at < bytes.len() {
+        let (token, next) = step(bytes, here)?;
+        if let Some(token) = token {
+            if tokens.push(token).is_err() {
+                return Err(refused(here, What::Memory));
+            }
+        }
+        here = next;
+    }
+    Ok(tokens)
+}
+
+/// The first fault of a source, if it has one: each source has a reading.
+pub fn first_fault(bytes: &[u8]) -> Option<Refusal>
+    requires { length bytes.now ≤ 1048576 }
+    ensures { IsRead bytes.now result }
+{
+    let mut here = Cursor {
+        at: 0,
+        pos: Pos { line: 1, column: 1 },
+    };
+    while here.at < bytes.len() {
+        match step(bytes, here) {
+            Ok((_, next)) => here = next,
+            Err(e) => return Some(e),
+        }
+    }
+    None
+}
+
+fn refused(here: Cursor, what: What) -> Refusal
+    ensures at { result.at ≡ here.pos }
+    ensures what { result.what ≡ what }
+{
+    Refusal { at: here.pos, what }
+}
+
+/// What stands at a place: a token or none, and where it goes on.
+fn step(bytes: &[u8], here: Cursor) -> Result<(Option<Token>, Cursor), Refusal>
+    requires here { IsCursor (byte bytes.now) here.at here.pos }
+    requires inside { here.at < length bytes.now }
+    requires small { length bytes.now ≤ 1048576 }
+    ensures step { Steps bytes.now here.at result }
+    ensures there { IfOk result (λ x. IsCursor (byte bytes.now) x.1.at x.1.pos) }
+    ensures within { IfOk result (λ x. (here.at < x.1.at) × (x.1.at ≤ length bytes.now)) }
+{
+    if is_blank(bytes[here.at]) {
+        return Ok((None, past(bytes, here)));
+    }
+    match lexeme(bytes, here.at) {
+        None => Err(refused(here, What::BadByte)),
+        Some((Lexeme::Opens(comment), end)) => match comment_end(
+            bytes,
+            on(bytes, here, Lexeme::Opens(comment), end),
+            comment,
+        ) {
+            None => Err(refused(here, What::UnclosedComment)),
+            Some(next) => Ok((None, next)),
+        },
+        Some((Lexeme::Token(class), end)) => token(bytes, here, class, end),
+    }
+}
+
+/// A token, if it is no number that is too wide.
+fn token(
+    bytes: &[u8],
+    here: Cursor,
+    class: Class,
+    end: usize,
+) -> Result<(Option<Token>, Cursor), Refusal>
+    requires here { IsCursor (byte bytes.now) here.at here.pos }
+    requires longest { Longest (byte bytes.now) here.at end (Lexeme.Token class) }
+    requires small { length bytes.now ≤ 1048576 }
+    ensures step { Steps bytes.now here.at result }
+    ensures there { IfOk result (λ x. IsCursor (byte bytes.now) x.1.at x.1.pos) }
+    ensures within { IfOk result (λ x. (here.at < x.1.at) × (x.1.at ≤ length bytes.now)) }
+{
+    match class {
+        Class::Number => number(bytes, here, end),
+        _ => Ok(made(bytes, here, class, end)),
+    }
+}
+
+fn number(bytes: &[u8], here: Cursor, end: usize) -> Result<(Option<Token>, Cursor), Refusal>
+    requires here { IsCursor (byte bytes.now) here.at here.pos }
+    requires longest { Longest (byte bytes.now) here.at end (Lexeme.Token Class.Number) }
+    requires small { length bytes.now ≤ 1048576 }
+    ensures step { Steps bytes.now here.at result }
+    ensures there { IfOk result (λ x. IsCursor (byte bytes.now) x.1.at x.1.pos) }
+    ensures within { IfOk result (λ x. (here.at < x.1.at) × (x.1.at ≤ length bytes.now)) }
+{
+    if is_wide(bytes, here.at, end) {
+        return Err(refused(here, What::WideLiteral));
+    }
+    Ok(made(bytes, here, Class::Number, end))
+}
+
+fn made(bytes: &[u8], here: Cursor, class: Class, end: usize) -> (Option<Token>, Cursor)
+    requires here { IsCursor (byte bytes.now) here.at here.pos }
+    requires longest { Longest (byte bytes.now) here.at end (Lexeme.Token class) }
+    requires small { length bytes.now ≤ 1048576 }
+    requires fits { class ≡ Class.Number → IsWide (byte bytes.now) here.at end → Prim.⊥ }
+    ensures step { Steps bytes.now here.at (Ok result) }
+    ensures there { IsCursor (byte bytes.now) result.1.at result.1.pos }
+    ensures within { (here.at < result.1.at) × (result.1.at ≤ length bytes.now) }
+{
+    let next = on(bytes, here, Lexeme::Token(class), end);
+    (
+        Some(Token {
+            from: here.at as u32,
+            to: end as u32,
+            at: here.pos,
+            class,
+        }),
+        next,
+    )
+}
+
+/// At the end of a lexeme, which has no end of a line in it.
+fn on(bytes: &[u8], here: Cursor, lexeme: Lexeme, end: usize) -> Cursor
+    requires here { IsCursor (byte bytes.now) here.at here.pos }
+    requires longest { Longest (byte bytes.now) here.at end lexeme }
+    requires small { length bytes.now ≤ 1048576 }
+    ensures at { result.at ≡ end }
+    ensures there { IsCursor (byte bytes.now) result.at result.pos }
+    ensures within { (here.at < end) × (end ≤ length bytes.now) }
+{
+    Cursor {
+        at: end,
+        pos: Pos {
+            line: here.pos.line,
+            column: here.pos.column + (end - here.at) as u32,
+        },
+    }
+}

@@ -1,0 +1,15 @@
+//! Cuts a source into tokens.
+#![tactic(auto)]
+
+mod cursor;
+pub mod laws;
+mod lexeme;
+mod lexer;
+mod scan;
+mod spelling;
+mod table;
+mod token;
+
+pub use cursor::end;
+pub use lexer::{first_fault, tokens};
+pub use token::{Annotation, Class, Closing, Keyword, LeftOut, Opening, Sign, Token};
