@@ -2,8 +2,8 @@
 # Instructions that the lexer takes per byte, and how they grow with the source.
 #
 # Run at the top of the repository. Makes sources of 128 KB to 1 MB, of names, numbers, nested
-# expressions, annotations and comments, and counts the instructions of the whole program
-# lexer_count on each, where valgrind is there.
+# expressions, annotations and comments, and counts the instructions of the program lexer_count on
+# each, less those that it takes for an empty file, where valgrind is there.
 set -eu
 
 top=$(pwd)
@@ -15,14 +15,15 @@ source_of() {
     awk -v size="$1" 'BEGIN {
         for (i = 0; ; i++) {
             kind = i % 8
-            if (kind == 0) line = "-- the value of step " i " stays below its limit\n"
-            if (kind == 1) line = "(* block " i ",\n   over two lines *)\n"
-            if (kind == 2) line = "  total_" i " = (total + input_1 * 17) - limit_" i ";\n"
-            if (kind == 3) line = "  deep_" i " = ((((a + b) * (c - 4096)) div 3) mod (d + (e - 1)));\n"
+            n = 100 + i % 900
+            if (kind == 0) line = "-- the value of step " n " stays below its limit\n"
+            if (kind == 1) line = "(* block " n ",\n   over two lines *)\n"
+            if (kind == 2) line = "  total_" n " = (total + input_1 * 17) - limit_" n ";\n"
+            if (kind == 3) line = "  deep_" n " = ((((a + b) * (c - 4096)) div 3) mod (d + (e - 1)));\n"
             if (kind == 4) line = "  ready = if speed <= 120 and not brake then true -> pre ready else a <> b;\n"
             if (kind == 5) line = "  x = y;\n"
-            if (kind == 6) line = "  --%PROPERTY \"step " i "\" total_" i " >= 0 => ready;\n"
-            if (kind == 7) line = "  wide_" i " = 9223372036854775807 - count_" i ";\n"
+            if (kind == 6) line = "  --%PROPERTY \"step " n "\" total_" n " >= 0 => ready;\n"
+            if (kind == 7) line = "  wide_" n " = 9223372036854775807 - count_" n ";\n"
             if (written + length(line) > size) break
             printf "%s", line
             written += length(line)
@@ -34,21 +35,30 @@ source_of() {
 (cd crates/lexer_count && rt run -- data/toggle.lus >/dev/null)
 program=$top/crates/lexer_count/out/lexer_count
 
+# The tokens of a file, and the instructions of the whole program on it.
+counted() {
+    tokens=$(valgrind --tool=callgrind --callgrind-out-file="$work/counts" "$program" "$1" 2>"$work/log")
+    echo "$tokens $(awk '/Collected/ { print $4 }' "$work/log")"
+}
+
+if ! command -v valgrind >/dev/null; then
+    echo "valgrind is not there: nothing is counted"
+    exit 0
+fi
+: >"$work/empty"
+start=$(counted "$work/empty" | cut -d' ' -f2)
+echo "an empty file: $start instructions"
 echo "bytes tokens instructions per-byte growth"
 before=0
 for kilobytes in 128 256 512 1024; do
     bytes=$((kilobytes * 1024))
     source_of $bytes >"$work/source"
-    if command -v valgrind >/dev/null; then
-        tokens=$(valgrind --tool=callgrind --callgrind-out-file="$work/counts" "$program" "$work/source" 2>"$work/log")
-        count=$(awk '/Collected/ { print $4 }' "$work/log")
-        awk -v b=$bytes -v t="$tokens" -v c="$count" -v p="$before" 'BEGIN {
-            growth = p ? sprintf("%.3f", c / p) : "-"
-            printf "%d %d %d %.1f %s\n", b, t, c, c / b, growth
-            if (c / b >= 60 || (p && (c / p < 1.9 || c / p > 2.1))) exit 1
-        }' || { echo "too slow, or not linear"; exit 1; }
-        before=$count
-    else
-        echo "$bytes $("$program" "$work/source") - - - (valgrind is not there)"
-    fi
+    row=$(counted "$work/source")
+    count=$((${row#* } - start))
+    awk -v b=$bytes -v t="${row% *}" -v c="$count" -v p="$before" 'BEGIN {
+        growth = p ? sprintf("%.3f", c / p) : "-"
+        printf "%d %d %d %.1f %s\n", b, t, c, c / b, growth
+        if (c / b >= 60 || (p && (c / p < 1.9 || c / p > 2.1))) exit 1
+    }' || { echo "too slow, or not linear"; exit 1; }
+    before=$count
 done
