@@ -7,3 +7,4 @@ pub mod Values
 pub mod Rules
 pub mod Unique
 pub mod Order
+pub mod Slices

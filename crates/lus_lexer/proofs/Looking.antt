@@ -17,7 +17,7 @@ use Rattle.lus_lexer.proofs.Spans.{and_left, and_right, in_all, stands_length, s
 use Rattle.lus_lexer.proofs.Tables.{head, word_row, rows, signs_at, words_at, word_listed, sign_listed, both}
 use Rattle.lus_lexer.proofs.Longest.{both_ways, letter_word, first_of}
 
-slice_stands : (bytes : List ℕ) (i d j : ℕ) → j ≡ i + d → j ≤ length bytes → Stands (byte bytes) i (take d (drop i bytes)) j
+pub slice_stands : (bytes : List ℕ) (i d j : ℕ) → j ≡ i + d → j ≤ length bytes → Stands (byte bytes) i (take d (drop i bytes)) j
 slice_stands bytes i zero j e h = omega (arith, e)
 slice_stands bytes i (suc d) j e h =
     let l : i < length bytes = omega (arith, e, h) in
@@ -39,7 +39,7 @@ stands_slice bytes i j (c ∷ w) h k =
     let r' : w ≡ take (length w) (drop (suc i) bytes) = subst (λ (x : ℕ). w ≡ take (length w) (drop x bytes)) p r in
     rw (drop-cons bytes i 0 l) (cons_cong c (byte bytes i) w _ (sym k.0) r')
 
-same_slice : (bytes : List ℕ) (i j : ℕ) (w : List ℕ) → j ≤ length bytes → Stands (byte bytes) i w j → w ≡ take (j - i) (drop i bytes)
+pub same_slice : (bytes : List ℕ) (i j : ℕ) (w : List ℕ) → j ≤ length bytes → Stands (byte bytes) i w j → w ≡ take (j - i) (drop i bytes)
 same_slice bytes i j w n h =
     let a = stands_slice bytes i j w n h in
     let b = stands_length (byte bytes) i w j h in

@@ -1,7 +1,8 @@
 -- Lines and columns.
-use Rattle.std.proofs.Common.{◌≡◌, ℕ, zero, suc, ◌+◌, ◌-◌, ◌≤◌, true, false, Bool, nat_le, ◌==◌, refl, subst, arith, cond}
+use Rattle.std.proofs.Common.{◌≡◌, ℕ, zero, suc, ◌+◌, ◌-◌, ◌<◌, ◌≤◌, ◌⊎◌, inl, inr, true, false, not, Bool, nat_le, ◌==◌, refl, sym, subst, arith, cond}
 use Rattle.lus_tree.specs.declared.place.Pos.{Pos}
 use Rattle.lus_lexer.specs.Tokens.{place, Each}
+use Rattle.lus_lexer.specs.Laws.{IsPlace}
 
 pub record IsSmall (i : ℕ) (p : Pos) : Type 0 where
   pub line : p.line ≤ i + 1
@@ -44,3 +45,47 @@ along_to s i j p e l h =
     let k : IsAlong (place s i) (place s (i + (j - i))) (j - i) = along s i (j - i) (λ k a b. h k a (omega arith)) in
     let k' : IsAlong (place s i) (place s j) (j - i) = subst (λ (x : ℕ). IsAlong (place s i) (place s x) (j - i)) d k in
     rw e (same_pos (place s j) (place s i).line ((place s i).column + (j - i)) k'.line k'.column)
+
+-- ---- what a place is
+
+feed : (b : ℕ) → (b == 10) ≡ true → b ≡ 10
+feed b h = grind arith
+
+no_feed : (b : ℕ) → (b == 10) ≡ false → not (b == 10) ≡ true
+no_feed b h = rw h refl
+
+last_or : (m j : ℕ) → m < suc j → (m ≡ j) ⊎ (m < j)
+last_or m j h = grind arith
+
+each_next : (s : ℕ → ℕ) (f : ℕ → Bool) (i j : ℕ) → Each s f i j → f (s j) ≡ true → Each s f i (suc j)
+each_next s f i j h k m p q = elim (last_or m j q) [ inl e ↦ subst (λ (x : ℕ). f (s x) ≡ true) (sym e) k | inr l ↦ h m p l ]
+
+place_next : (s : ℕ → ℕ) (i : ℕ) (p : Pos) (b : Bool) → (s i == 10) ≡ b → IsPlace s i p
+    → IsPlace s (suc i) (cond b (record { line = p.line + 1; column = 1 }) (record { line = p.line; column = p.column + 1 }))
+place_next s i p true e h = record {
+  start = suc i;
+  since = omega arith;
+  begins = inr (omega arith, subst (λ (x : ℕ). s x ≡ 10) (omega arith) (feed (s i) e));
+  no_feed = λ k a c. Prim.absurd (omega (arith, a, c));
+  line = rw e (omega (arith, h.line));
+  column = omega arith;
+}
+place_next s i p false e h = record {
+  start = h.start;
+  since = omega (arith, h.since);
+  begins = h.begins;
+  no_feed = each_next s (λ b. not (b == 10)) h.start i h.no_feed (no_feed (s i) e);
+  line = rw e h.line;
+  column = omega (arith, h.column, h.since);
+}
+
+pub place_is : (s : ℕ → ℕ) (i : ℕ) → IsPlace s i (place s i)
+place_is s zero = record {
+  start = 0;
+  since = omega arith;
+  begins = inl refl;
+  no_feed = λ k a c. Prim.absurd (omega (arith, c));
+  line = refl;
+  column = refl;
+}
+place_is s (suc i) = place_next s i (place s i) (s i == 10) refl (place_is s i)

@@ -9,6 +9,10 @@ use Rattle.lus_lexer.specs.Search.{sign_groups, word_groups, looked_up}
 use Rattle.lus_lexer.specs.Tokens.{In, Each, Stands, IsRow, is_letter, is_word}
 use Rattle.lus_lexer.proofs.Spans.{stands_each, in_all, and_left, and_right}
 
+pub not_true : (b : Bool) → not b ≡ true → b ≡ false
+not_true true h = cc
+not_true false h = refl
+
 -- ---- looking a text up
 
 abbrev pub found : List ℕ → List Row → Option Row
@@ -148,6 +152,14 @@ at_true : (b x y : Bool) → b ≡ true → cond b x y ≡ true → x ≡ true
 at_true true x y e h = h
 at_true false x y e h = cc
 
+-- what begins with a letter may have anything behind it
+pub word_alone : (r : Row) → In r table → is_letter (get_or r.text 0 0) ≡ true → r.alone ≡ true → Prim.⊥
+word_alone r i e a =
+    let k : word_ok r ≡ true = at_true (is_letter (get_or r.text 0 0)) _ _ e (ok_row r i) in
+    let b = and_right (list_all is_word r.text) _ (and_right (nat_le 1 (length r.text)) _ k) in
+    let n : r.alone ≡ false = not_true r.alone (and_right (is_letter (get_or r.text 0 0)) _ b) in
+    let f : true ≡ false = sym a ∙ n in cc
+
 at_false : (b x y : Bool) → b ≡ false → cond b x y ≡ true → y ≡ true
 at_false true x y e h = cc
 at_false false x y e h = h
@@ -165,10 +177,6 @@ pub record SignHead (s : ℕ → ℕ) (i : ℕ) (r : Row) : Type 0 where
   pub other : is_word (s i) ≡ false
   pub no_quote : (s i == 34) ≡ false
   pub listed : In r (signs_at (s i))
-
-pub not_true : (b : Bool) → not b ≡ true → b ≡ false
-not_true true h = cc
-not_true false h = refl
 
 word_head : (s : ℕ → ℕ) (i j : ℕ) (r : Row) → IsRow s i j r → is_letter (get_or r.text 0 0) ≡ true → found r.text (words_at (get_or r.text 0 0)) ≡ Some r → WordHead s i j r
 word_head s i j r h e l =
