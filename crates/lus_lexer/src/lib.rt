@@ -8,6 +8,8 @@ mod lexer;
 mod scan;
 mod spelling;
 mod table;
+#[cfg(test)]
+mod tests;
 mod token;
 
 pub use cursor::end;

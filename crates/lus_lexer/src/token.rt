@@ -4,7 +4,7 @@ use lus_tree::Pos;
 
 /// A token: the bytes from `from` up to `to`, the line and column of its first byte, and its
 /// class. Its text is that slice of the source.
-#[derive(Clone, Copy)]
+#[derive(Clone, Copy, PartialEq, Eq, Debug)]
 pub struct Token {
     pub from: u32,
     pub to: u32,
@@ -14,7 +14,7 @@ pub struct Token {
 
 /// What a token is. A number's value is that of the digits of its slice, and at most 2^63 - 1; a
 /// name and a text have what stands in their slices.
-#[derive(Clone, Copy)]
+#[derive(Clone, Copy, PartialEq, Eq, Debug)]
 pub enum Class {
     /// A letter or `_`, and then letters, digits and `_`, that is no keyword and not left out.
     Ident,
@@ -31,7 +31,7 @@ pub enum Class {
 }
 
 /// A sign of the language.
-#[derive(Clone, Copy)]
+#[derive(Clone, Copy, PartialEq, Eq, Debug)]
 pub enum Sign {
     /// `(`
     Open,
@@ -70,7 +70,7 @@ pub enum Sign {
 }
 
 /// What opens a contract.
-#[derive(Clone, Copy)]
+#[derive(Clone, Copy, PartialEq, Eq, Debug)]
 pub enum Opening {
     /// `(*@contract`
     Round,
@@ -79,7 +79,7 @@ pub enum Opening {
 }
 
 /// What closes a contract.
-#[derive(Clone, Copy)]
+#[derive(Clone, Copy, PartialEq, Eq, Debug)]
 pub enum Closing {
     /// `*)`
     Round,
@@ -88,7 +88,7 @@ pub enum Closing {
 }
 
 /// An annotation.
-#[derive(Clone, Copy)]
+#[derive(Clone, Copy, PartialEq, Eq, Debug)]
 pub enum Annotation {
     /// `--%MAIN`
     Main,
@@ -97,7 +97,7 @@ pub enum Annotation {
 }
 
 /// A keyword, by its name.
-#[derive(Clone, Copy)]
+#[derive(Clone, Copy, PartialEq, Eq, Debug)]
 pub enum Keyword {
     Node,
     Function,
@@ -139,7 +139,7 @@ pub enum Keyword {
 }
 
 /// A word or a sign of Lustre that this language leaves out.
-#[derive(Clone, Copy)]
+#[derive(Clone, Copy, PartialEq, Eq, Debug)]
 pub enum LeftOut {
     /// `type`
     TypeWord,
