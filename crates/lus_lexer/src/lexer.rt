@@ -4,7 +4,7 @@ ghost use Rattle.std.specs.Prelude.{◌≡◌, ◌<◌, ◌≤◌, length, IfOk,
 ghost use Rattle.lus_lexer.specs.Tokens.{byte, Longest, IsCursor, IsWide, Lexes, whole};
 ghost use Rattle.lus_lexer.specs.Promise.{Refused, Steps, IsRead};
 
-use crate::cursor::{Cursor, past};
+use crate::cursor::{Cursor, START, past};
 use crate::lexeme::lexeme;
 use crate::scan::{comment_end, is_blank, is_wide};
 use crate::spelling::Lexeme;
@@ -21,15 +21,12 @@ pub fn tokens(alloc: Global, bytes: &[u8]) -> Result<Vec<Token>, Refusal>
     ensures fault { IfErr result (λ e. Refused bytes.now e.at e.what) }
 {
     let mut tokens = Vec::new(alloc);
-    let mut here = Cursor {
-        at: 0,
-        pos: Pos { line: 1, column: 1 },
-    };
+    let mut here = START;
     while here.at < bytes.len() {
         let (token, next) = step(bytes, here)?;
         if let Some(token) = token {
             if tokens.push(token).is_err() {
-                return Err(refused(here, What::Memory));
+                return Err(refusal(here, What::Memory));
             }
         }
         here = next;
@@ -37,32 +34,31 @@ pub fn tokens(alloc: Global, bytes: &[u8]) -> Result<Vec<Token>, Refusal>
     Ok(tokens)
 }
 
-/// The first fault of a source, if it has one: each source has a reading.
+/// The first fault of a source, or none where it is cut whole: each source has a reading. Takes
+/// no memory.
 pub fn first_fault(bytes: &[u8]) -> Option<Refusal>
     requires { length bytes.now ≤ 1048576 }
     ensures { IsRead bytes.now result }
 {
-    let mut here = Cursor {
-        at: 0,
-        pos: Pos { line: 1, column: 1 },
-    };
+    let mut here = START;
     while here.at < bytes.len() {
         match step(bytes, here) {
             Ok((_, next)) => here = next,
-            Err(e) => return Some(e),
+            Err(fault) => return Some(fault),
         }
     }
     None
 }
 
-fn refused(here: Cursor, what: What) -> Refusal
+/// The refusal of what begins here.
+fn refusal(here: Cursor, what: What) -> Refusal
     ensures at { result.at ≡ here.pos }
     ensures what { result.what ≡ what }
 {
     Refusal { at: here.pos, what }
 }
 
-/// What stands at a place: a token or none, and where it goes on.
+/// Past one blank, one comment or one token, and that token; or the fault that is here.
 fn step(bytes: &[u8], here: Cursor) -> Result<(Option<Token>, Cursor), Refusal>
     requires here { IsCursor (byte bytes.now) here.at here.pos }
     requires inside { here.at < length bytes.now }
@@ -75,20 +71,20 @@ fn step(bytes: &[u8], here: Cursor) -> Result<(Option<Token>, Cursor), Refusal>
         return Ok((None, past(bytes, here)));
     }
     match lexeme(bytes, here.at) {
-        None => Err(refused(here, What::BadByte)),
+        None => Err(refusal(here, What::BadByte)),
         Some((Lexeme::Opens(comment), end)) => match comment_end(
             bytes,
-            on(bytes, here, Lexeme::Opens(comment), end),
+            behind(bytes, here, Lexeme::Opens(comment), end),
             comment,
         ) {
-            None => Err(refused(here, What::UnclosedComment)),
+            None => Err(refusal(here, What::UnclosedComment)),
             Some(next) => Ok((None, next)),
         },
         Some((Lexeme::Token(class), end)) => token(bytes, here, class, end),
     }
 }
 
-/// A token, if it is no number that is too wide.
+/// A token, unless it is a number that is too wide.
 fn token(
     bytes: &[u8],
     here: Cursor,
@@ -104,10 +100,11 @@ fn token(
 {
     match class {
         Class::Number => number(bytes, here, end),
-        _ => Ok(made(bytes, here, class, end)),
+        _ => Ok(step_over(bytes, here, class, end)),
     }
 }
 
+/// A number, unless it is too wide.
 fn number(bytes: &[u8], here: Cursor, end: usize) -> Result<(Option<Token>, Cursor), Refusal>
     requires here { IsCursor (byte bytes.now) here.at here.pos }
     requires longest { Longest (byte bytes.now) here.at end (Lexeme.Token Class.Number) }
@@ -117,12 +114,13 @@ fn number(bytes: &[u8], here: Cursor, end: usize) -> Result<(Option<Token>, Curs
     ensures within { IfOk result (λ x. (here.at < x.1.at) × (x.1.at ≤ length bytes.now)) }
 {
     if is_wide(bytes, here.at, end) {
-        return Err(refused(here, What::WideLiteral));
+        return Err(refusal(here, What::WideLiteral));
     }
-    Ok(made(bytes, here, Class::Number, end))
+    Ok(step_over(bytes, here, Class::Number, end))
 }
 
-fn made(bytes: &[u8], here: Cursor, class: Class, end: usize) -> (Option<Token>, Cursor)
+/// A token, and the place behind it.
+fn step_over(bytes: &[u8], here: Cursor, class: Class, end: usize) -> (Option<Token>, Cursor)
     requires here { IsCursor (byte bytes.now) here.at here.pos }
     requires longest { Longest (byte bytes.now) here.at end (Lexeme.Token class) }
     requires small { length bytes.now ≤ 1048576 }
@@ -131,7 +129,7 @@ fn made(bytes: &[u8], here: Cursor, class: Class, end: usize) -> (Option<Token>,
     ensures there { IsCursor (byte bytes.now) result.1.at result.1.pos }
     ensures within { (here.at < result.1.at) × (result.1.at ≤ length bytes.now) }
 {
-    let next = on(bytes, here, Lexeme::Token(class), end);
+    let next = behind(bytes, here, Lexeme::Token(class), end);
     (
         Some(Token {
             from: here.at as u32,
@@ -143,8 +141,8 @@ fn made(bytes: &[u8], here: Cursor, class: Class, end: usize) -> (Option<Token>,
     )
 }
 
-/// At the end of a lexeme, which has no end of a line in it.
-fn on(bytes: &[u8], here: Cursor, lexeme: Lexeme, end: usize) -> Cursor
+/// The place behind a lexeme: none has a line feed in it.
+fn behind(bytes: &[u8], here: Cursor, lexeme: Lexeme, end: usize) -> Cursor
     requires here { IsCursor (byte bytes.now) here.at here.pos }
     requires longest { Longest (byte bytes.now) here.at end lexeme }
     requires small { length bytes.now ≤ 1048576 }

@@ -14,18 +14,21 @@ pub fn peek(bytes: &[u8], at: usize) -> u8
     if at < bytes.len() { bytes[at] } else { 0 }
 }
 
+/// Is it an ASCII letter or `_`?
 pub fn is_letter(b: u8) -> bool
     ensures { result ≡ is_letter b }
 {
     b.is_ascii_alphabetic() || b == b'_'
 }
 
+/// Is it an ASCII letter, a digit or `_`?
 pub fn is_word(b: u8) -> bool
     ensures { result ≡ is_word b }
 {
     is_letter(b) || b.is_ascii_digit()
 }
 
+/// Is it a space, a tab, a carriage return or a line feed?
 pub fn is_blank(b: u8) -> bool
     ensures { result ≡ is_blank b }
 {
@@ -122,6 +125,7 @@ fn pair_end(bytes: &[u8], from: Cursor, first: u8, second: u8) -> Option<Cursor>
     None
 }
 
+/// The line feed from here on, or the end.
 fn line_end(bytes: &[u8], from: Cursor) -> Cursor
     requires here { IsCursor (byte bytes.now) from.at from.pos }
     requires within { from.at ≤ length bytes.now }

@@ -65,8 +65,14 @@ fn names_numbers_and_texts(rt: HostRuntime) -> Result<(), AllocError> {
         ("", ""),
         ("a", "Ident 0-1"),
         ("_x1 A9_ node1", "Ident 0-3, Ident 4-7, Ident 8-13"),
-        ("any of state frame", "Ident 0-3, Ident 4-6, Ident 7-12, Ident 13-18"),
-        ("Node nodes int88 uint _if", "Ident 0-4, Ident 5-10, Ident 11-16, Ident 17-21, Ident 22-25"),
+        (
+            "any of state frame",
+            "Ident 0-3, Ident 4-6, Ident 7-12, Ident 13-18",
+        ),
+        (
+            "Node nodes int88 uint _if",
+            "Ident 0-4, Ident 5-10, Ident 11-16, Ident 17-21, Ident 22-25",
+        ),
         ("0 00012", "Number 0-1, Number 2-7"),
         ("5x", "Number 0-1, Ident 1-2"),
         ("9223372036854775807", "Number 0-19"),
@@ -88,7 +94,10 @@ fn the_longest_sign(rt: HostRuntime) -> Result<(), AllocError> {
         (", ;", "Sign(Comma) 0-1, Sign(Semicolon) 2-3"),
         (": ::", "Sign(Colon) 0-1, Sign(DoubleColon) 2-4"),
         ("= =>", "Sign(Equals) 0-1, Sign(Implies) 2-4"),
-        ("< <= <>", "Sign(Less) 0-1, Sign(AtMost) 2-4, Sign(Differs) 5-7"),
+        (
+            "< <= <>",
+            "Sign(Less) 0-1, Sign(AtMost) 2-4, Sign(Differs) 5-7",
+        ),
         ("> >=", "Sign(More) 0-1, Sign(AtLeast) 2-4"),
         ("+ - *", "Sign(Plus) 0-1, Sign(Minus) 2-3, Sign(Times) 4-5"),
         ("a->b", "Ident 0-1, Sign(Arrow) 1-3, Ident 3-4"),
@@ -103,11 +112,20 @@ fn the_longest_sign(rt: HostRuntime) -> Result<(), AllocError> {
         ("- -1", "Sign(Minus) 0-1, Sign(Minus) 2-3, Number 3-4"),
         ("**)", "Sign(Times) 0-1, ContractClose(Round) 1-3"),
         ("a*/b", "Ident 0-1, ContractClose(Slash) 1-3, Ident 3-4"),
-        ("*) */", "ContractClose(Round) 0-2, ContractClose(Slash) 3-5"),
+        (
+            "*) */",
+            "ContractClose(Round) 0-2, ContractClose(Slash) 3-5",
+        ),
         ("a/b", "Ident 0-1, LeftOut(Slash) 1-2, Ident 2-3"),
         ("1.5", "Number 0-1, LeftOut(Dot) 1-2, Number 2-3"),
-        ("^[]{", "LeftOut(Caret) 0-1, LeftOut(OpenBracket) 1-2, LeftOut(CloseBracket) 2-3, LeftOut(OpenBrace) 3-4"),
-        ("}./ # |", "LeftOut(CloseBrace) 0-1, LeftOut(Dot) 1-2, LeftOut(Slash) 2-3, LeftOut(Hash) 4-5, LeftOut(Bar) 6-7"),
+        (
+            "^[]{",
+            "LeftOut(Caret) 0-1, LeftOut(OpenBracket) 1-2, LeftOut(CloseBracket) 2-3, LeftOut(OpenBrace) 3-4",
+        ),
+        (
+            "}./ # |",
+            "LeftOut(CloseBrace) 0-1, LeftOut(Dot) 1-2, LeftOut(Slash) 2-3, LeftOut(Hash) 4-5, LeftOut(Bar) 6-7",
+        ),
     ];
     for (text, want) in rows {
         assert_eq!(rt; spans_of(rt.alloc(), text)?.as_str(), want, "{text}");
@@ -120,8 +138,14 @@ fn contracts_annotations_and_left_out_signs(rt: HostRuntime) -> Result<(), Alloc
     let rows = [
         ("(*@contract", "ContractOpen(Round) 0-11"),
         ("/*@contract", "ContractOpen(Slash) 0-11"),
-        ("(*@contract*)", "ContractOpen(Round) 0-11, ContractClose(Round) 11-13"),
-        ("(*@contract assume a *)", "ContractOpen(Round) 0-11, Keyword(Assume) 12-18, Ident 19-20, ContractClose(Round) 21-23"),
+        (
+            "(*@contract*)",
+            "ContractOpen(Round) 0-11, ContractClose(Round) 11-13",
+        ),
+        (
+            "(*@contract assume a *)",
+            "ContractOpen(Round) 0-11, Keyword(Assume) 12-18, Ident 19-20, ContractClose(Round) 21-23",
+        ),
         ("(*@contractx *) a", "Ident 16-17"),
         ("(*@contract_ *) a", "Ident 16-17"),
         ("/*@contract0 */ a", "Ident 16-17"),
@@ -136,7 +160,10 @@ fn contracts_annotations_and_left_out_signs(rt: HostRuntime) -> Result<(), Alloc
         ("--%PROPERTY a", "Annotation(Property) 0-11, Ident 12-13"),
         ("--%PROPERTYx a", ""),
         ("--%PROPERTY_ a", ""),
-        ("--%PROPERTY\"p\" a", "Annotation(Property) 0-11, Text 11-14, Ident 15-16"),
+        (
+            "--%PROPERTY\"p\" a",
+            "Annotation(Property) 0-11, Text 11-14, Ident 15-16",
+        ),
         ("--!MAIN", "LeftOut(Main) 0-7"),
         ("--!MAINx", "LeftOut(Main) 0-7, Ident 7-8"),
         ("--!PROPERTY a", "LeftOut(Property) 0-11, Ident 12-13"),
@@ -152,18 +179,54 @@ fn contracts_annotations_and_left_out_signs(rt: HostRuntime) -> Result<(), Alloc
 #[test]
 fn each_keyword_and_left_out_word(rt: HostRuntime) -> Result<(), AllocError> {
     let rows = [
-        ("node function contract returns", "Keyword(Node) 0-4, Keyword(Function) 5-13, Keyword(Contract) 14-22, Keyword(Returns) 23-30"),
-        ("var const let tel import mode", "Keyword(Var) 0-3, Keyword(Const) 4-9, Keyword(Let) 10-13, Keyword(Tel) 14-17, Keyword(Import) 18-24, Keyword(Mode) 25-29"),
-        ("assume guarantee require ensure", "Keyword(Assume) 0-6, Keyword(Guarantee) 7-16, Keyword(Require) 17-24, Keyword(Ensure) 25-31"),
-        ("assert check if then else when", "Keyword(Assert) 0-6, Keyword(Check) 7-12, Keyword(If) 13-15, Keyword(Then) 16-20, Keyword(Else) 21-25, Keyword(When) 26-30"),
-        ("merge condact activate every", "Keyword(Merge) 0-5, Keyword(Condact) 6-13, Keyword(Activate) 14-22, Keyword(Every) 23-28"),
-        ("initial default pre and or xor", "Keyword(Initial) 0-7, Keyword(Default) 8-15, Keyword(Pre) 16-19, Keyword(And) 20-23, Keyword(Or) 24-26, Keyword(Xor) 27-30"),
-        ("not div mod true false bool int", "Keyword(Not) 0-3, Keyword(Div) 4-7, Keyword(Mod) 8-11, Keyword(True) 12-16, Keyword(False) 17-22, Keyword(Bool) 23-27, Keyword(Int) 28-31"),
-        ("type struct enum subrange real", "LeftOut(TypeWord) 0-4, LeftOut(Struct) 5-11, LeftOut(Enum) 12-16, LeftOut(Subrange) 17-25, LeftOut(Real) 26-30"),
-        ("imported automaton restart", "LeftOut(Imported) 0-8, LeftOut(Automaton) 9-18, LeftOut(Restart) 19-26"),
-        ("current fby forall exists", "LeftOut(Current) 0-7, LeftOut(Fby) 8-11, LeftOut(Forall) 12-18, LeftOut(Exists) 19-25"),
-        ("weakly array int8 int16 int32", "LeftOut(Weakly) 0-6, LeftOut(Array) 7-12, LeftOut(Int8) 13-17, LeftOut(Int16) 18-23, LeftOut(Int32) 24-29"),
-        ("int64 uint8 uint16 uint32 uint64", "LeftOut(Int64) 0-5, LeftOut(Uint8) 6-11, LeftOut(Uint16) 12-18, LeftOut(Uint32) 19-25, LeftOut(Uint64) 26-32"),
+        (
+            "node function contract returns",
+            "Keyword(Node) 0-4, Keyword(Function) 5-13, Keyword(Contract) 14-22, Keyword(Returns) 23-30",
+        ),
+        (
+            "var const let tel import mode",
+            "Keyword(Var) 0-3, Keyword(Const) 4-9, Keyword(Let) 10-13, Keyword(Tel) 14-17, Keyword(Import) 18-24, Keyword(Mode) 25-29",
+        ),
+        (
+            "assume guarantee require ensure",
+            "Keyword(Assume) 0-6, Keyword(Guarantee) 7-16, Keyword(Require) 17-24, Keyword(Ensure) 25-31",
+        ),
+        (
+            "assert check if then else when",
+            "Keyword(Assert) 0-6, Keyword(Check) 7-12, Keyword(If) 13-15, Keyword(Then) 16-20, Keyword(Else) 21-25, Keyword(When) 26-30",
+        ),
+        (
+            "merge condact activate every",
+            "Keyword(Merge) 0-5, Keyword(Condact) 6-13, Keyword(Activate) 14-22, Keyword(Every) 23-28",
+        ),
+        (
+            "initial default pre and or xor",
+            "Keyword(Initial) 0-7, Keyword(Default) 8-15, Keyword(Pre) 16-19, Keyword(And) 20-23, Keyword(Or) 24-26, Keyword(Xor) 27-30",
+        ),
+        (
+            "not div mod true false bool int",
+            "Keyword(Not) 0-3, Keyword(Div) 4-7, Keyword(Mod) 8-11, Keyword(True) 12-16, Keyword(False) 17-22, Keyword(Bool) 23-27, Keyword(Int) 28-31",
+        ),
+        (
+            "type struct enum subrange real",
+            "LeftOut(TypeWord) 0-4, LeftOut(Struct) 5-11, LeftOut(Enum) 12-16, LeftOut(Subrange) 17-25, LeftOut(Real) 26-30",
+        ),
+        (
+            "imported automaton restart",
+            "LeftOut(Imported) 0-8, LeftOut(Automaton) 9-18, LeftOut(Restart) 19-26",
+        ),
+        (
+            "current fby forall exists",
+            "LeftOut(Current) 0-7, LeftOut(Fby) 8-11, LeftOut(Forall) 12-18, LeftOut(Exists) 19-25",
+        ),
+        (
+            "weakly array int8 int16 int32",
+            "LeftOut(Weakly) 0-6, LeftOut(Array) 7-12, LeftOut(Int8) 13-17, LeftOut(Int16) 18-23, LeftOut(Int32) 24-29",
+        ),
+        (
+            "int64 uint8 uint16 uint32 uint64",
+            "LeftOut(Int64) 0-5, LeftOut(Uint8) 6-11, LeftOut(Uint16) 12-18, LeftOut(Uint32) 19-25, LeftOut(Uint64) 26-32",
+        ),
     ];
     for (text, want) in rows {
         assert_eq!(rt; spans_of(rt.alloc(), text)?.as_str(), want, "{text}");
@@ -209,7 +272,10 @@ fn lines_and_columns(rt: HostRuntime) -> Result<(), AllocError> {
         ("(* \u{e9} *) a", "Ident 1:10"),
         ("a -- x\n-- y\n b", "Ident 1:1, Ident 3:2"),
         ("--%MAIN\n;", "Annotation(Main) 1:1, Sign(Semicolon) 2:1"),
-        ("(*@contract\r\n*)", "ContractOpen(Round) 1:1, ContractClose(Round) 2:1"),
+        (
+            "(*@contract\r\n*)",
+            "ContractOpen(Round) 1:1, ContractClose(Round) 2:1",
+        ),
     ];
     for (text, want) in rows {
         assert_eq!(rt; places_of(rt.alloc(), text)?.as_str(), want, "{text}");
@@ -244,7 +310,10 @@ fn the_first_fault(rt: HostRuntime) -> Result<(), AllocError> {
         ("9223372036854775808", "refused 1:1 WideLiteral"),
         ("\n 9223372036854775808", "refused 2:2 WideLiteral"),
         ("00009223372036854775808", "refused 1:1 WideLiteral"),
-        ("x99999999999999999999 99999999999999999999", "refused 1:23 WideLiteral"),
+        (
+            "x99999999999999999999 99999999999999999999",
+            "refused 1:23 WideLiteral",
+        ),
         ("? (*", "refused 1:1 BadByte"),
         ("(* ?", "refused 1:1 UnclosedComment"),
         ("9223372036854775808 ?", "refused 1:1 WideLiteral"),
@@ -273,7 +342,12 @@ fn one_megabyte_of_blanks(rt: HostRuntime) -> Result<(), AllocError> {
 
 #[test]
 fn the_end_of_a_text(rt: HostRuntime) {
-    let rows = [("", (1, 1)), ("a b", (1, 4)), ("a\r\n", (2, 1)), ("a\n\tb", (2, 3))];
+    let rows = [
+        ("", (1, 1)),
+        ("a b", (1, 4)),
+        ("a\r\n", (2, 1)),
+        ("a\n\tb", (2, 3)),
+    ];
     for (text, want) in rows {
         if text.len() <= LIMIT {
             let last = end(text.as_bytes());

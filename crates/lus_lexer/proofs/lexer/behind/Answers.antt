@@ -2,7 +2,7 @@ use Rattle.std.proofs.Common.{arith}
 use Rattle.lus_lexer.specs.Tokens.{byte}
 use Rattle.lus_lexer.proofs.Places.{small_at, along_to}
 use Rattle.lus_lexer.proofs.Spans.{span, span_within}
-use Rattle.lus_lexer.proofs.lexer.on.Goals as goal
+use Rattle.lus_lexer.proofs.lexer.behind.Goals as goal
 
 pub overflow_sub-result : goal.overflow_sub-result
 overflow_sub-result c = let k = span _ _ _ _ c.requires.longest.spells in omega (arith, k.some)
