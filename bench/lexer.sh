@@ -32,7 +32,7 @@ source_of() {
     }'
 }
 
-(cd crates/lexer_count && rt run -- data/toggle.lus >/dev/null)
+(cd crates/lexer_count && rt run -- data/toggle.lus >"$work/build" 2>&1) || { cat "$work/build"; exit 1; }
 program=$top/crates/lexer_count/out/lexer_count
 
 # The tokens of a file, and the instructions of the whole program on it.

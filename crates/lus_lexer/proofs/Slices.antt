@@ -1,17 +1,16 @@
 -- A token's text is its slice.
-use Rattle.std.proofs.Common.{◌≡◌, ℕ, zero, suc, ◌+◌, ◌-◌, ◌<◌, ◌≤◌, Bool, true, false, not, ◌&&◌, List, [], ◌∷◌, ◌++◌, length, take, drop, get_or, nat_le, cond, refl, sym, ap, ◌∙◌, subst, arith, drop-cons}
+use Rattle.std.proofs.Common.{◌≡◌, ℕ, zero, suc, ◌+◌, ◌-◌, ◌<◌, ◌≤◌, Bool, true, List, [], ◌∷◌, ◌++◌, length, take, drop, get_or, refl, sym, subst, arith, drop-cons}
 use Rattle.std.specs.List.{list_all}
 use Rattle.std.specs.Char.{is_ascii_digit}
 use Rattle.std.proofs.lemmas.Grind.{common_steps}
 use Rattle.lus_lexer.specs.declared.token.Class.{Class}
 use Rattle.lus_lexer.specs.declared.token.Class.TheVariants.{Ident, Number, Text}
 use Rattle.lus_lexer.specs.declared.spelling.Lexeme.TheVariants.{Token}
-use Rattle.lus_lexer.specs.declared.spelling.Lexeme.{Lexeme}
 use Rattle.lus_lexer.specs.Table.{Row, table}
 use Rattle.lus_lexer.specs.Tokens.{byte, In, Each, Stands, IsRow, IsName, IsNumber, IsText, Spells, row, is_letter, is_word, is_plain}
 use Rattle.lus_lexer.specs.Tokens as K
 use Rattle.lus_lexer.specs.Laws.{HasText, fixed, name, number, text}
-use Rattle.lus_lexer.proofs.Spans.{span, span_within, stands_length}
+use Rattle.lus_lexer.proofs.Spans.{span, span_within}
 use Rattle.lus_lexer.proofs.Tables.{both, word_alone}
 use Rattle.lus_lexer.proofs.Looking.{slice_stands, same_slice}
 
