@@ -12,9 +12,9 @@ use crate::token::{Class, Token};
 use lus_tree::{Pos, Refusal, What};
 use std::alloc::Global;
 
-/// The tokens of a source, in order. Refused are, at the first byte of what is wrong, `BadByte`,
-/// `UnclosedComment` and `WideLiteral`, the first that is met from the start on, and `Memory`,
-/// whose place says nothing.
+/// The tokens of a source of at most 1,048,576 bytes, in order. The first fault from its start on
+/// is refused at its first byte: `BadByte` where nothing is spelled, `UnclosedComment` at the
+/// opener, `WideLiteral` at a number above 2^63 - 1. Under `Memory` the place says nothing.
 pub fn tokens(alloc: Global, bytes: &[u8]) -> Result<Vec<Token>, Refusal>
     requires { length bytes.now ≤ 1048576 }
     ensures tokens { IfOk result (λ v. Lexes (byte bytes.now) (length bytes.now) 0 v.items whole) }

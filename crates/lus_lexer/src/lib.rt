@@ -1,4 +1,5 @@
-//! Cuts a source into tokens.
+//! Cuts a source into tokens: names, numbers, texts, and the words and signs of Lustre, each with
+//! its span, its place and its class. Blanks and comments are left out.
 #![tactic(auto)]
 
 mod cursor;
