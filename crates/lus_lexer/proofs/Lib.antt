@@ -1,0 +1,10 @@
+pub mod Places
+pub mod Spans
+pub mod Tables
+pub mod Longest
+pub mod Looking
+pub mod Values
+pub mod Rules
+pub mod Unique
+pub mod Order
+pub mod Slices

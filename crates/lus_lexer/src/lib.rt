@@ -1,0 +1,18 @@
+//! Cuts a source into tokens: names, numbers, texts, and the words and signs of Lustre, each with
+//! its span, its place and its class. Blanks and comments are left out.
+#![tactic(auto)]
+
+mod cursor;
+pub mod laws;
+mod lexeme;
+mod lexer;
+mod scan;
+mod spelling;
+mod table;
+#[cfg(test)]
+mod tests;
+mod token;
+
+pub use cursor::end;
+pub use lexer::{first_fault, tokens};
+pub use token::{Annotation, Class, Closing, Keyword, LeftOut, Opening, Sign, Token};
