@@ -1,11 +1,10 @@
 //! A program that breaks no rule.
 
-ghost use Rattle.std.specs.Prelude.{◌≡◌, IfOk};
+ghost use Rattle.std.specs.Prelude.{◌≡◌};
 ghost use Rattle.lus_tree.specs.View.{node_view, program_view};
 ghost use Rattle.lus_meaning.specs.Rules.{BreaksNoRule, IsChecked};
 
 use lus_tree::{Decl, Node, Program};
-use std::alloc::{AllocError, Global};
 use std::marker::Model;
 
 /// A program that breaks no rule, as `checked` makes it. Contracts see the program.
@@ -37,14 +36,6 @@ impl Checked {
         ensures { program_view result ≡ program_view program }
     {
         Checked { program }
-    }
-
-    /// An equal value; the one refusal is want of memory.
-    pub fn copied(&self, alloc: Global) -> Result<Checked, AllocError>
-        ensures { IfOk result (λ c. program_view c ≡ program_view self.now) }
-    {
-        let program = self.program.copied(alloc)?;
-        Ok(Checked::of(program))
     }
 
     /// The program.
