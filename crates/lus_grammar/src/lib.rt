@@ -1,0 +1,2 @@
+//! The grammar of the language as a definition, and its laws.
+#![tactic(auto)]
