@@ -7,7 +7,7 @@ use Rattle.lus_lexer.specs.declared.token.Sign.TheVariants as S
 use Rattle.lus_lexer.specs.declared.token.Opening.TheVariants as O
 use Rattle.lus_lexer.specs.declared.token.Closing.TheVariants as E
 use Rattle.lus_lexer.specs.declared.token.Annotation.TheVariants as A
-use Rattle.lus_grammar.specs.Phrase.{Level, Products, Sums, Conjunctions, Disjunctions, Part, Program, Declaration, Constant, Node, ContractNode, Parameters, Groups, Group, Names, Sort, Locals, LocalGroup, Item, Left, Contract, ContractItem, ModeItem, Arguments, Expression, Condition, Arrow, Implication, Relation, Unary, Primary, Expressions, Chain, Counter, pres, arrows, calls, Phrase, one_of, counted, part, limited, fresh, ◌⨾◌, ◌∣◌, optional, repeated, word, sign, identifier}
+use Rattle.lus_grammar.specs.Phrase.{Level, Products, Sums, Conjunctions, Disjunctions, Part, Program, Declaration, Constant, Node, ContractNode, Parameters, Groups, Group, Names, Sort, Locals, LocalGroup, Item, Left, Contract, ContractItem, ModeItem, Arguments, Expression, Condition, Arrow, Implication, Relation, Unary, Primary, Expressions, Chain, pres, arrows, calls, Phrase, one_of, counted, part, limited, fresh, ◌⨾◌, ◌∣◌, optional, repeated, word, sign, identifier}
 
 -- the operators of a level
 abbrev pub signs : Level → List Class
@@ -50,10 +50,10 @@ body Declaration = part Constant ∣ part Node ∣ part ContractNode
 body Constant = word K.Const ⨾ identifier ⨾ optional (sign S.Colon ⨾ part Sort) ⨾ sign S.Equals ⨾ limited Expression ⨾ semicolon
 -- node = ("node" | "function") ID params "returns" params [";"] [ contract ] { locals } "let" { item } "tel" [";"]
 body Node = one_of (C.Keyword K.Node ∷ C.Keyword K.Function ∷ []) ⨾ identifier ⨾ part Parameters ⨾ word K.Returns ⨾ part Parameters ⨾ optional semicolon
-  ⨾ optional (part Contract) ⨾ repeated (part Locals) ⨾ word K.Let ⨾ repeated (part Item) ⨾ word K.Tel ⨾ optional semicolon
+    ⨾ optional (part Contract) ⨾ repeated (part Locals) ⨾ word K.Let ⨾ repeated (part Item) ⨾ word K.Tel ⨾ optional semicolon
 -- cnode = "contract" ID params "returns" params ";" "let" { citem } "tel" [";"]
 body ContractNode = word K.Contract ⨾ identifier ⨾ part Parameters ⨾ word K.Returns ⨾ part Parameters ⨾ semicolon
-  ⨾ word K.Let ⨾ repeated (part ContractItem) ⨾ word K.Tel ⨾ optional semicolon
+    ⨾ word K.Let ⨾ repeated (part ContractItem) ⨾ word K.Tel ⨾ optional semicolon
 -- params = "(" [ groups ] ")"
 body Parameters = sign S.Open ⨾ optional (part Groups) ⨾ sign S.Close
 -- groups = group { ";" group } [";"], which is group [ ";" [ groups ] ]
@@ -70,23 +70,23 @@ body Locals = (word K.Var ⨾ part LocalGroup ⨾ semicolon ⨾ repeated (part L
 body LocalGroup = part Group ⨾ optional when
 -- item = left "=" expr ";" | "assert" expr ";" | "check" [ TEXT ] expr ";" | "--%PROPERTY" [ TEXT ] expr ";" | "--%MAIN" [";"]
 body Item = (part Left ⨾ sign S.Equals ⨾ limited Expression ⨾ semicolon)
-  ∣ (word K.Assert ⨾ limited Expression ⨾ semicolon)
-  ∣ (one_of (C.Keyword K.Check ∷ C.Annotation A.Property ∷ []) ⨾ labelled)
-  ∣ (one_of (C.Annotation A.Main ∷ []) ⨾ optional semicolon)
+    ∣ (word K.Assert ⨾ limited Expression ⨾ semicolon)
+    ∣ (one_of (C.Keyword K.Check ∷ C.Annotation A.Property ∷ []) ⨾ labelled)
+    ∣ (one_of (C.Annotation A.Main ∷ []) ⨾ optional semicolon)
 -- left = names | "(" names ")"
 body Left = part Names ∣ (sign S.Open ⨾ part Names ⨾ sign S.Close)
 -- contract = "(*@contract" { citem } "*)" | "/*@contract" { citem } "*/"
 body Contract = (one_of (C.ContractOpen O.Round ∷ []) ⨾ repeated (part ContractItem) ⨾ one_of (C.ContractClose E.Round ∷ []))
-  ∣ (one_of (C.ContractOpen O.Slash ∷ []) ⨾ repeated (part ContractItem) ⨾ one_of (C.ContractClose E.Slash ∷ []))
+    ∣ (one_of (C.ContractOpen O.Slash ∷ []) ⨾ repeated (part ContractItem) ⨾ one_of (C.ContractClose E.Slash ∷ []))
 -- citem = ("assume" | "guarantee") [ TEXT ] expr ";" | "var" ID ":" sort "=" expr ";" | const
 --   | "mode" ID "(" { ("require" | "ensure") [ TEXT ] expr ";" } ")" ";"
 --   | "import" ID "(" [ exprs ] ")" "returns" "(" [ names ] ")" ";"
 body ContractItem = (one_of (C.Keyword K.Assume ∷ C.Keyword K.Guarantee ∷ []) ⨾ labelled)
-  ∣ (word K.Var ⨾ identifier ⨾ sign S.Colon ⨾ part Sort ⨾ sign S.Equals ⨾ limited Expression ⨾ semicolon)
-  ∣ part Constant
-  ∣ (word K.Mode ⨾ identifier ⨾ sign S.Open ⨾ repeated (part ModeItem) ⨾ sign S.Close ⨾ semicolon)
-  ∣ (counted calls (C.Keyword K.Import) ⨾ identifier ⨾ sign S.Open ⨾ optional (part Arguments) ⨾ sign S.Close
-      ⨾ word K.Returns ⨾ sign S.Open ⨾ optional (part Names) ⨾ sign S.Close ⨾ semicolon)
+    ∣ (word K.Var ⨾ identifier ⨾ sign S.Colon ⨾ part Sort ⨾ sign S.Equals ⨾ limited Expression ⨾ semicolon)
+    ∣ part Constant
+    ∣ (word K.Mode ⨾ identifier ⨾ sign S.Open ⨾ repeated (part ModeItem) ⨾ sign S.Close ⨾ semicolon)
+    ∣ (counted calls (C.Keyword K.Import) ⨾ identifier ⨾ sign S.Open ⨾ optional (part Arguments) ⨾ sign S.Close
+    ⨾ word K.Returns ⨾ sign S.Open ⨾ optional (part Names) ⨾ sign S.Close ⨾ semicolon)
 body ModeItem = one_of (C.Keyword K.Require ∷ C.Keyword K.Ensure ∷ []) ⨾ labelled
 -- the exprs of an import, of which each has the limit for itself
 body Arguments = limited Expression ⨾ repeated (sign S.Comma ⨾ limited Expression)
@@ -111,14 +111,14 @@ body Unary = (word K.Not ⨾ part Unary) ∣ (sign S.Minus ⨾ part Unary) ∣ (
 --   | "condact" "(" expr "," ID "(" [ exprs ] ")" { "," expr } ")"
 --   | "(" ( "activate" ID "every" expr "initial" "default" "(" [ exprs ] ")" ")" "(" [ exprs ] ")" | expr ")" )
 body Primary = one_of (C.Number ∷ [])
-  ∣ one_of (C.Keyword K.True ∷ C.Keyword K.False ∷ [])
-  ∣ (identifier ⨾ optional (counted calls (C.Sign S.Open) ⨾ optional (part Expressions) ⨾ sign S.Close))
-  ∣ (sign S.DoubleColon ⨾ identifier ⨾ optional (sign S.DoubleColon ⨾ identifier))
-  ∣ (word K.Merge ⨾ identifier
-      ⨾ sign S.Open ⨾ word K.True ⨾ sign S.Arrow ⨾ part Expression ⨾ sign S.Close
-      ⨾ sign S.Open ⨾ word K.False ⨾ sign S.Arrow ⨾ part Expression ⨾ sign S.Close)
-  ∣ (counted calls (C.Keyword K.Condact) ⨾ sign S.Open ⨾ part Expression ⨾ sign S.Comma ⨾ identifier ⨾ bracketed
-      ⨾ repeated (sign S.Comma ⨾ part Expression) ⨾ sign S.Close)
-  ∣ (sign S.Open ⨾ (
-      (counted calls (C.Keyword K.Activate) ⨾ identifier ⨾ word K.Every ⨾ part Expression ⨾ word K.Initial ⨾ word K.Default ⨾ bracketed ⨾ sign S.Close ⨾ bracketed)
-      ∣ (part Expression ⨾ sign S.Close)))
+    ∣ one_of (C.Keyword K.True ∷ C.Keyword K.False ∷ [])
+    ∣ (identifier ⨾ optional (counted calls (C.Sign S.Open) ⨾ optional (part Expressions) ⨾ sign S.Close))
+    ∣ (sign S.DoubleColon ⨾ identifier ⨾ optional (sign S.DoubleColon ⨾ identifier))
+    ∣ (word K.Merge ⨾ identifier
+    ⨾ sign S.Open ⨾ word K.True ⨾ sign S.Arrow ⨾ part Expression ⨾ sign S.Close
+    ⨾ sign S.Open ⨾ word K.False ⨾ sign S.Arrow ⨾ part Expression ⨾ sign S.Close)
+    ∣ (counted calls (C.Keyword K.Condact) ⨾ sign S.Open ⨾ part Expression ⨾ sign S.Comma ⨾ identifier ⨾ bracketed
+    ⨾ repeated (sign S.Comma ⨾ part Expression) ⨾ sign S.Close)
+    ∣ (sign S.Open ⨾ (
+    (counted calls (C.Keyword K.Activate) ⨾ identifier ⨾ word K.Every ⨾ part Expression ⨾ word K.Initial ⨾ word K.Default ⨾ bracketed ⨾ sign S.Close ⨾ bracketed)
+    ∣ (part Expression ⨾ sign S.Close)))

@@ -6,3 +6,7 @@ pub mod Text
 pub mod Reading
 pub mod Starts
 pub mod Run
+pub mod Trees
+pub mod Programs
+pub mod Source
+pub mod Answers

@@ -21,7 +21,6 @@ pub data Counter : Type 0 where
 
 infixr 40 ◌∣◌
 infixr 50 ◌⨾◌
-
 pub data Phrase : Type 0 where
   -- one token of one of these classes
   one_of : List Class → Phrase

@@ -1,5 +1,5 @@
 -- What is promised of a reading of a phrase. What can begin a text is what some text begins with.
-use Rattle.std.specs.Prelude.{◌≡◌, ℕ, ◌+◌, ◌≤◌}
+use Rattle.std.specs.Prelude.{ℕ, ◌+◌, ◌≤◌}
 use Rattle.lus_grammar.specs.Stream.{Stream, Agree}
 use Rattle.lus_grammar.specs.Phrase.{Phrase}
 use Rattle.lus_grammar.specs.Syntax.{Counts, Syntax}

@@ -25,7 +25,6 @@ counted_on arrows n = record { pres = n.pres; arrows = n.arrows + 1; calls = n.c
 counted_on calls n = record { pres = n.pres; arrows = n.arrows; calls = n.calls + 1 }
 
 infixr 50 ◌·◌
-
 pub data Syntax : Type 0 where
   -- a token; a token with the number of its occurrence
   leaf : Mark → Syntax
