@@ -14,5 +14,4 @@ pub mod Printing
 pub mod Cuts
 pub mod TraceRows
 pub mod Answering
-pub mod Outside
 pub mod Ends

@@ -4,9 +4,10 @@ use Rattle.kind_io.specs.Counts.{Rose}
 use Rattle.kind_io.specs.Told.{Told, MayHold, MayExceed}
 use Rattle.lus_tree.specs.Tree.{Program, Component}
 use Rattle.lus_meaning.specs.Rules.{IsChecked}
-use Rattle.lus_reader.specs.Source.{IsSource}
+use Rattle.lus_tree.specs.Reason.{Refused}
+use Rattle.lus_grammar.specs.Source.{IsSource, IsRefused as IsSourceRefused}
 use Rattle.kind_main.specs.Words.{AreReplay, AreNoCommand}
-use Rattle.kind_main.specs.Lines.{Line, usage_line, too_long_line, not_built_line, formless_line, read_fault_line}
+use Rattle.kind_main.specs.Lines.{Line, usage_line, too_long_line, not_built_line, formless_line, read_fault_line, refused_line}
 use Rattle.kind_main.specs.Traces.{IsTrace}
 use Rattle.kind_main.specs.Report.{IsReplay}
 
@@ -26,14 +27,17 @@ pub record HoldsSource (told : Tells) (file : List ℕ) (p : Program) (d : Compo
   pub source : IsSource bytes p
   pub checked : IsChecked p d
 
--- the bytes are outside the language, whatever the tree
-abbrev pub IsOutside : List ℕ → Type 0
-IsOutside bytes = (p : Program) (d : Component) → IsSource bytes p → IsChecked p d → ⊥
+-- The bytes are a source, and its tree is not one of a program that is built and follows the rules.
+pub record IsNotBuilt (bytes : List ℕ) : Type 0 where
+  pub tree : Program
+  pub source : IsSource bytes tree
+  pub unchecked : (d : Component) → IsChecked tree d → ⊥
 
--- why a source is refused, and the line that says so
+-- why a source is refused, and the line that says so: it is too long; its tokens or its grammar have a first fault; or it is not built
 pub data IsRefused (told : Tells) (file : List ℕ) (line : Line) : Type 0 where
   source_too_long : MayExceed (told file) limit → line ≡ too_long_line → IsRefused told file line
-  source_outside : (bytes : List ℕ) → MayHold (told file) bytes → length bytes ≤ limit → IsOutside bytes → line ≡ not_built_line → IsRefused told file line
+  source_refused : (bytes : List ℕ) (r : Refused) → MayHold (told file) bytes → length bytes ≤ limit → IsSourceRefused bytes r → line ≡ refused_line r → IsRefused told file line
+  source_not_built : (bytes : List ℕ) → MayHold (told file) bytes → length bytes ≤ limit → IsNotBuilt bytes → line ≡ not_built_line → IsRefused told file line
 
 -- the file holds a trace of n instants of the node
 pub record HoldsTrace (told : Tells) (file : List ℕ) (d : Component) (n : ℕ) : Type 0 where

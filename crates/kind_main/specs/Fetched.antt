@@ -7,12 +7,22 @@ use Rattle.kind_main.specs.declared.answer.Fetched.{Fetched}
 use Rattle.kind_main.specs.declared.answer.Fetched.TheVariants.{Bytes, TooLong, Failed}
 use Rattle.kind_main.specs.Lines.{Line, read_fault_line}
 use Rattle.kind_main.specs.Report.{IsReplay}
-use Rattle.kind_main.specs.Answer.{Tells, limit, HoldsSource, IsRefused, HoldsTrace, IsRefusedTrace}
+use Rattle.lus_tree.specs.View.{program_view}
+use Rattle.lus_tree.specs.Reason.{refusal_view}
+use Rattle.lus_grammar.specs.Source.{IsSource, IsRefused as IsSourceRefused}
+use Rattle.kind_main.specs.declared.answer.SourceRead.{SourceRead}
+use Rattle.kind_main.specs.declared.answer.SourceRead.TheVariants.{Checked, Refused, NotBuilt}
+use Rattle.kind_main.specs.Answer.{Tells, limit, HoldsSource, IsNotBuilt, IsRefused, HoldsTrace, IsRefusedTrace}
 
 abbrev pub IsFetched : Told → ℕ → ℕ → Fetched → Type 0
 IsFetched told before now (Bytes bytes) = MayHold told bytes.items × (length bytes.items ≤ limit)
 IsFetched told before now TooLong = MayExceed told limit
 IsFetched told before now Failed = Rose before now
+
+abbrev pub IsReadAs : List ℕ → SourceRead → Type 0
+IsReadAs bytes (Checked c) = IsSource bytes (program_view c)
+IsReadAs bytes (Refused r) = IsSourceRefused bytes (refusal_view r)
+IsReadAs bytes NotBuilt = IsNotBuilt bytes
 
 -- the answer of a trace, where the source holds this node
 pub data IsTraceAnswer (told : Tells) (before now : ℕ) (trace : List ℕ) (p : Program) (d : Component) (lines : List Line) (code : ℕ) : Type 0 where

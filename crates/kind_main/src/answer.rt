@@ -5,25 +5,25 @@ ghost use Rattle.kind_io.specs.Counts.{Rose};
 ghost use Rattle.kind_io.specs.Told.{Told, MayHold, MayExceed};
 ghost use Rattle.lus_tree.specs.Tree.{Program, Component, declared_node};
 ghost use Rattle.lus_tree.specs.View.{program_view, node_view};
+ghost use Rattle.lus_tree.specs.Reason.{refusal_view};
 ghost use Rattle.lus_meaning.specs.Rules.{IsChecked};
-ghost use Rattle.lus_reader.specs.Source.{IsSource};
-ghost use Rattle.kind_main.specs.Lines.{Line, usage_line, too_long_line, not_built_line, formless_line, read_fault_line};
+ghost use Rattle.kind_main.specs.Lines.{Line, usage_line, too_long_line, not_built_line, formless_line, read_fault_line, refused_line};
 ghost use Rattle.kind_main.specs.Traces.{IsTrace};
 ghost use Rattle.kind_main.specs.Report.{code_of, IsReplay};
-ghost use Rattle.kind_main.specs.Answer.{Tells, limit, HoldsSource, IsRefused, HoldsTrace, IsRefusedTrace, IsAnswer, IsOutside};
-ghost use Rattle.kind_main.specs.Fetched.{IsFetched, IsTraceAnswer, IsFilesAnswer};
+ghost use Rattle.kind_main.specs.Answer.{Tells, limit, HoldsSource, IsRefused, HoldsTrace, IsRefusedTrace, IsAnswer};
+ghost use Rattle.kind_main.specs.Fetched.{IsFetched, IsReadAs, IsTraceAnswer, IsFilesAnswer};
 
 use crate::lefts::left_names;
 use crate::report::breaks;
 use crate::status::Status;
 use crate::table::table;
-use crate::text::{lawful_text, read_fault_text};
+use crate::text::{lawful_text, read_fault_text, refused_text};
 use crate::trace::read_trace;
 use crate::words::command;
+use contract_reader::read_program;
 use kind_io::{FetchFault, Shelf};
 use lus_meaning::{Checked, checked};
-use lus_reader::read_program;
-use lus_tree::{Node, What};
+use lus_tree::{Node, Refusal, What};
 use std::alloc::{AllocError, Global};
 
 /// The most bytes of a source or of a trace.
@@ -81,21 +81,39 @@ fn fetch<H: Shelf>(alloc: Global, name: &str, shelf: &mut H) -> Result<Fetched, 
     }
 }
 
-/// The checked program of a source's bytes, or none where they are outside the language.
-fn read_source(alloc: Global, bytes: &[u8]) -> Result<Option<Checked>, AllocError>
+/// What became of the bytes of a source.
+#[derive(Drop)]
+pub enum SourceRead {
+    Checked(Checked),
+    Refused(Refusal),
+    NotBuilt,
+}
+
+/// Reads a source and checks its program.
+fn read_source(alloc: Global, bytes: &[u8]) -> Result<SourceRead, AllocError>
     requires { length bytes.now ≤ 1048576 }
-    ensures { IfOk result (λ found. MatchOption found (IsOutside bytes.now) (λ c. IsSource bytes.now (program_view c))) }
+    ensures { IfOk result (λ r. IsReadAs bytes.now r) }
 {
     match read_program(alloc, bytes) {
         Ok(program) => match checked(program) {
-            Ok(checked) => Ok(Some(checked)),
-            Err(_) => Ok(None),
+            Ok(checked) => Ok(SourceRead::Checked(checked)),
+            Err(_) => Ok(SourceRead::NotBuilt),
         },
         Err(refusal) => match refusal.what {
             What::Memory => Err(AllocError),
-            _ => Ok(None),
+            _ => Ok(SourceRead::Refused(refusal)),
         },
     }
+}
+
+/// The answer of a source that is refused.
+fn refused(alloc: Global, refusal: &Refusal) -> Result<Answer, AllocError>
+    ensures lines { IfOk result (λ a. map string_bytes a.lines.items ≡ refused_line (refusal_view refusal.now) ∷ []) }
+    ensures status { IfOk result (λ a. a.status.code ≡ 3) }
+{
+    let line = refused_text(alloc, refusal)?;
+    let answer = one_line(alloc, line.as_str(), 3)?;
+    Ok(answer)
 }
 
 /// The status of a replay, by the lines of its breaks.
@@ -158,8 +176,9 @@ fn files_answer<H: Shelf>(
         Fetched::Failed => Ok(read_fault(alloc, source)?),
         Fetched::TooLong => Ok(one_line(alloc, "refused 1:1 TooLong\n", 3)?),
         Fetched::Bytes(bytes) => match read_source(alloc, &bytes)? {
-            None => Ok(one_line(alloc, "refused 1:1 NotBuilt\n", 3)?),
-            Some(checked) => Ok(trace_answer(alloc, &checked, trace, shelf)?),
+            SourceRead::Refused(refusal) => Ok(refused(alloc, &refusal)?),
+            SourceRead::NotBuilt => Ok(one_line(alloc, "refused 1:1 NotBuilt\n", 3)?),
+            SourceRead::Checked(checked) => Ok(trace_answer(alloc, &checked, trace, shelf)?),
         },
     }
 }

@@ -1,9 +1,10 @@
 //! The texts of printed lines.
 ghost use Rattle.std.specs.Prelude.{◌≡◌, ◌++◌, ℕ, List, [], ◌∷◌, codes, decimal, IfOk};
 ghost use Rattle.std.specs.String.{string_bytes};
-ghost use Rattle.kind_main.specs.Lines.{lawful_line, read_fault_line, place_breaks};
+ghost use Rattle.lus_tree.specs.Reason.{refusal_view, what_view};
+ghost use Rattle.kind_main.specs.Lines.{lawful_line, read_fault_line, place_breaks, refused_line, rule_name, rule_more};
 
-use lus_tree::Pos;
+use lus_tree::{Pos, Refusal, What};
 use std::alloc::{AllocError, Global};
 
 /// `breaks property @L:C at T`
@@ -31,4 +32,62 @@ pub fn read_fault_text(alloc: Global, name: &str) -> Result<String, AllocError>
     } else {
         format!(in alloc; "read fault {name}\n")
     }
+}
+
+/// The name of the rule that a refusal is of.
+fn rule_name(what: &What) -> &'static str
+    ensures { result.now ≡ rule_name (what_view what.now) }
+{
+    match what {
+        What::TooLong => "TooLong",
+        What::BadByte => "BadByte",
+        What::UnclosedComment => "UnclosedComment",
+        What::WideLiteral => "WideLiteral",
+        What::Unexpected => "Unexpected",
+        What::TooLarge => "TooLarge",
+        What::LeftOut(_) => "LeftOut",
+        What::NameTwice => "NameTwice",
+        What::NameUnknown => "NameUnknown",
+        What::TypeClash => "TypeClash",
+        What::ArityClash => "ArityClash",
+        What::NotLinear => "NotLinear",
+        What::ZeroDivisor => "ZeroDivisor",
+        What::NotConstant => "NotConstant",
+        What::Heavy => "Heavy",
+        What::ClockClash => "ClockClash",
+        What::EquationTwice => "EquationTwice",
+        What::InputDefined => "InputDefined",
+        What::Cycle => "Cycle",
+        What::NodeRecursion => "NodeRecursion",
+        What::NotStateless => "NotStateless",
+        What::AssumeReadsOutput => "AssumeReadsOutput",
+        What::NoNode => "NoNode",
+        What::MainUnknown => "MainUnknown",
+        What::ModeUnknown => "ModeUnknown",
+        What::TooMany(_) => "TooMany",
+        What::NotBuilt => "NotBuilt",
+        What::Memory => "Memory",
+    }
+}
+
+/// The word or the limit behind the name, with a space before it, where the rule has one.
+fn rule_more(alloc: Global, what: &What) -> Result<String, AllocError>
+    ensures { IfOk result (λ text. string_bytes text ≡ rule_more (what_view what.now)) }
+{
+    match what {
+        What::LeftOut(word) => format!(in alloc; " {word}"),
+        What::TooMany(limit) => format!(in alloc; " {limit}"),
+        _ => Ok(String::new(alloc)),
+    }
+}
+
+/// `refused L:C NAME`
+pub fn refused_text(alloc: Global, refusal: &Refusal) -> Result<String, AllocError>
+    ensures { IfOk result (λ text. string_bytes text ≡ refused_line (refusal_view refusal.now)) }
+{
+    let line = refusal.at.line;
+    let column = refusal.at.column;
+    let name = rule_name(&refusal.what);
+    let more = rule_more(alloc, &refusal.what)?;
+    format!(in alloc; "refused {line}:{column} {name}{more}\n")
 }

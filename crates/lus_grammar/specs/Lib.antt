@@ -5,6 +5,7 @@ pub mod Syntax
 pub mod Text
 pub mod Reading
 pub mod Starts
+pub mod Extends
 pub mod Run
 pub mod Trees
 pub mod Programs

@@ -7,6 +7,7 @@ use Rattle.lus_grammar.specs.Grammar.{body}
 use Rattle.lus_grammar.specs.Syntax.{Counts, none_before, number_of, counted_on, Syntax, leaf, numbered, node, ◌·◌, this, that, absent, present, none, some}
 use Rattle.lus_grammar.specs.Text.{IsOneOf}
 use Rattle.lus_grammar.specs.Starts.{Enters, Passes}
+use Rattle.lus_grammar.specs.Extends.{Over}
 
 pub data Cause : Type 0 where
   unexpected too_large : Cause
@@ -25,8 +26,9 @@ pub data Run (limit : ℕ) (s : Stream) : Phrase → (i : ℕ) (n : Counts) → 
   line_stop : {p : Part} {i k : ℕ} {n : Counts} {c : Cause} → Run limit s (body p) i n (stop c k) → Run limit s (part p) i n (stop c k)
   within : {p : Part} {i j : ℕ} {n m : Counts} {x : Syntax} → Run limit s (body p) i n (read j m x) → j ≤ i + limit → Run limit s (limited p) i n (read j m (node p x))
   within_stop : {p : Part} {i k : ℕ} {n : Counts} {c : Cause} → Run limit s (body p) i n (stop c k) → k ≤ i + limit → Run limit s (limited p) i n (stop c k)
-  past : {p : Part} {i j : ℕ} {n m : Counts} {x : Syntax} → Run limit s (body p) i n (read j m x) → i + limit < j → Run limit s (limited p) i n (stop too_large (i + limit))
-  past_stop : {p : Part} {i k : ℕ} {n : Counts} {c : Cause} → Run limit s (body p) i n (stop c k) → i + limit < k → Run limit s (limited p) i n (stop too_large (i + limit))
+  -- The limit is passed. From a reading of the line over any stream that agrees with s up to the token past the limit, and that goes past it, `Over` follows:
+  -- by the lemmas over_read (it ends at read j .., i + limit < j) and over_stop (it ends at stop c k, i + limit < k) of the proofs.
+  past : {p : Part} {i : ℕ} {n : Counts} → Over limit s p i n → Run limit s (limited p) i n (stop too_large (i + limit))
   anew : {p : Part} {i j : ℕ} {n m : Counts} {x : Syntax} → Run limit s (body p) i none_before (read j m x) → Run limit s (fresh p) i n (read j n (node p x))
   anew_stop : {p : Part} {i k : ℕ} {n : Counts} {c : Cause} → Run limit s (body p) i none_before (stop c k) → Run limit s (fresh p) i n (stop c k)
   both : {a b : Phrase} {i k j : ℕ} {n m o : Counts} {x y : Syntax} → Run limit s a i n (read k m x) → Run limit s b k m (read j o y) → Run limit s (a ⨾ b) i n (read j o (x · y))

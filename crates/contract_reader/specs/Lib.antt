@@ -1,0 +1,1 @@
+pub use Rattle.lus_grammar.specs.Source

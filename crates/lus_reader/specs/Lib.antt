@@ -1,9 +1,0 @@
-pub mod Tokens
-pub mod Grammar
-pub mod Source
-pub mod Leads
-pub mod Reading
-pub mod Spelling
-pub mod Views
-pub mod Fronts
-pub mod Lexing

@@ -1,7 +1,0 @@
-//! Why a reading stops.
-
-#[derive(Clone, Copy)]
-pub enum Fault {
-    Memory,
-    NotBuilt,
-}
