@@ -15,3 +15,7 @@ pub mod Cuts
 pub mod TraceRows
 pub mod Answering
 pub mod Ends
+pub mod Numbering
+pub mod SimpleTexts
+pub mod Silent
+pub mod Numbered

@@ -102,6 +102,7 @@ fn blanks_of_a_trace_separate_its_words_alone(rt: HostRuntime) -> Result<(), Fai
 fn sources_outside_the_language_or_its_rules_are_not_built(rt: HostRuntime) -> Result<(), Fail> {
     let alloc = rt.alloc();
     let sources: [&[u8]; 12] = [
+        b"",
         b"node main() returns (x : bool); let x = y; tel",
         b"node main() returns (x, x : bool); let x = true; tel",
         b"node main() returns (x : bool); let x = true; x = true; tel",
@@ -112,8 +113,7 @@ fn sources_outside_the_language_or_its_rules_are_not_built(rt: HostRuntime) -> R
         b"node main() returns (x : int); let x = true; tel",
         b"node main() returns (x : bool); let x = true and true; tel",
         b"node main() returns (x : bool); let --%PROPERTY \"p\" x; tel",
-        b"node main() returns (x : bool); -- a comment\nlet x = true; tel",
-        b"node pre() returns (x : bool); let x = true; tel",
+        b"node main() returns (x : bool); (*@contract assume x; *) let x = true; tel",
     ];
     for source in sources {
         let files: [File<'_>; 2] = [("f", source), ("t", TWO)];
@@ -125,6 +125,96 @@ fn sources_outside_the_language_or_its_rules_are_not_built(rt: HostRuntime) -> R
             "{source:?}"
         );
     }
+    Ok(())
+}
+
+#[test]
+fn a_source_without_a_tree_is_refused_at_its_first_fault(rt: HostRuntime) -> Result<(), Fail> {
+    let alloc = rt.alloc();
+    let sources: [(&[u8], &str); 12] = [
+        (b"node main(", "refused 1:11 Unexpected\n"),
+        (b"(* x", "refused 1:1 UnclosedComment\n"),
+        (
+            b"node main(x : real) returns (y : real); let y = x; tel",
+            "refused 1:15 LeftOut real\n",
+        ),
+        (
+            b"node main(x, y : int) returns (z : int);\nlet z = 9223372036854775808; tel",
+            "refused 2:9 WideLiteral\n",
+        ),
+        (
+            b"node main() returns (x : bool);\nlet x = ?; tel",
+            "refused 2:9 BadByte\n",
+        ),
+        (
+            b"node main() returns (x : bool);\nlet x = a < b < c; tel",
+            "refused 2:15 Unexpected\n",
+        ),
+        (
+            b"node pre() returns (x : bool); let x = true; tel",
+            "refused 1:6 Unexpected\n",
+        ),
+        (
+            b"node main() returns (x : bool); let x = true; tel ]",
+            "refused 1:51 LeftOut ]\n",
+        ),
+        (
+            b"node main() returns (x : bool); (*@contract assume x; */ let x = true; tel",
+            "refused 1:55 Unexpected\n",
+        ),
+        (
+            b"node main() returns (x : bool);\nlet\n  x = true\ntel\n",
+            "refused 4:1 Unexpected\n",
+        ),
+        (
+            b"--!MAIN\nnode main() returns (x : bool); let x = true; tel",
+            "refused 1:1 LeftOut --!MAIN\n",
+        ),
+        (
+            b"node main() returns (x : bool); let x = \"open; tel",
+            "refused 1:41 BadByte\n",
+        ),
+    ];
+    for (source, written) in sources {
+        let files: [File<'_>; 2] = [("f", source), ("t", TWO)];
+        let run = run_over(alloc, REPLAY, &files, &[], &[])?;
+        assert_eq!(rt; run.status, 3, "{source:?}");
+        assert_eq!(rt; run.written.as_slice(), written.as_bytes(), "{source:?}");
+    }
+    Ok(())
+}
+
+#[test]
+fn an_expression_has_at_most_a_thousand_tokens(rt: HostRuntime) -> Result<(), Fail> {
+    let alloc = rt.alloc();
+    // 40 columns stand before the first `not`, and each takes four.
+    for (nots, status, written) in [
+        (999, 10, "lawful 2 of 2\n"),
+        (1000, 3, "refused 1:4041 TooLarge\n"),
+    ] {
+        let mut source = Vec::new(alloc);
+        source.extend_from_slice(b"node main() returns (x : bool); let x = ")?;
+        for _ in 0..nots {
+            source.extend_from_slice(b"not ")?;
+        }
+        source.extend_from_slice(b"true; tel")?;
+        let files: [File<'_>; 2] = [("f", &source), ("t", TWO)];
+        let run = run_over(alloc, REPLAY, &files, &[], &[])?;
+        assert_eq!(rt; run.status, status, "{nots}");
+        assert_eq!(rt; run.written.as_slice(), written.as_bytes(), "{nots}");
+    }
+    Ok(())
+}
+
+#[test]
+fn comments_stand_anywhere_between_tokens(rt: HostRuntime) -> Result<(), Fail> {
+    let alloc = rt.alloc();
+    let source: &[u8] =
+        b"(* one *) node main() -- two\n returns (x : bool); /* three */ let x = true; tel -- four";
+    let files: [File<'_>; 2] = [("f", source), ("t", TWO)];
+    let run = run_over(alloc, REPLAY, &files, &[], &[])?;
+    assert_eq!(rt; run.status, 10);
+    assert_eq!(rt; run.written.as_slice(), b"lawful 2 of 2\n".as_slice());
     Ok(())
 }
 

@@ -1,5 +1,5 @@
 -- Reading from left to right with one token of lookahead: what a reader of a phrase comes to.
-use Rattle.std.specs.Prelude.{◌≡◌, ℕ, ◌+◌, ◌≤◌, ◌<◌, List, Some}
+use Rattle.std.specs.Prelude.{◌≡◌, ℕ, ◌+◌, ◌≤◌, List, Some}
 use Rattle.lus_lexer.specs.declared.token.Class.{Class}
 use Rattle.lus_grammar.specs.Stream.{Stream}
 use Rattle.lus_grammar.specs.Phrase.{Part, Counter, Phrase, one_of, counted, part, limited, fresh, ◌⨾◌, ◌∣◌, optional, repeated}

@@ -124,9 +124,9 @@ pub record IsChecked (p : Program) (d : Component) : Type 0 where
 abbrev pub BreaksNoRule : Program → Type 0
 BreaksNoRule p = (d : Component) × IsChecked p d
 
--- where the program is one node, the occurrences of its body are numbered, as a reader numbers them
+-- where the program is one node of this shape, the occurrences of its body are numbered, as a reader numbers them
 abbrev pub AreNumbered : Program → Type 0
-AreNumbered p = (d : Component) → p ≡ declared_node d ∷ [] → IsNumbered d.body
+AreNumbered p = (d : Component) → p ≡ declared_node d ∷ [] → IsSimpleNode d → IsNumbered d.body
 
 -- the refusal of a program that breaks a rule
 abbrev pub IsRefusedAtStart : Refusal → Type 0

@@ -42,7 +42,8 @@ fn breaks_no_rule(program: &Program) -> bool
 
 /// The program, with the fact that it breaks no rule.
 ///
-/// The occurrences of its body are numbered where it is one node, as a reader leaves them.
+/// The occurrences of its body are numbered where it is one node of the shape that is built, as a
+/// reader leaves them.
 ///
 /// # Errors
 ///
