@@ -1,0 +1,65 @@
+#!/bin/sh
+# Instructions that reading a source takes per byte, and how they grow with the source.
+#
+# Run at the top of the repository. Makes sources of 128 KB to 1 MB, of nodes with contracts and
+# expressions of every form, and counts the instructions of the program reader_count on each, less
+# those that it takes for an empty file, where valgrind is there.
+set -eu
+
+top=$(pwd)
+work=$(mktemp -d)
+trap 'rm -rf "$work"' EXIT
+
+# At most `$1` bytes of such a source, filled up with blanks.
+source_of() {
+    awk -v size="$1" 'BEGIN {
+        for (i = 0; ; i++) {
+            n = 1000 + i
+            text = "node step_" n "(a, b : int; c : bool) returns (x, y : int; ok : bool);\n" \
+                "(*@contract\n  assume \"positive\" a > 0;\n  guarantee x >= 0 => ok;\n" \
+                "  mode fast (require c; ensure \"up\" true -> x = pre x + 1;);\n*)\n" \
+                "var t : int when c; u : bool;\nconst limit : int = 4096;\nlet\n" \
+                "  -- the value of step " n " stays below its limit\n" \
+                "  x = if c then ((((a + b) * (3 - limit)) div 3) mod 7) else 0 -> pre x + 1;\n" \
+                "  t = a when c;\n  u = condact(c, check_" n "(a, b), false);\n" \
+                "  (y, ok) = both(a, merge c (true -> t) (false -> 0 when not c));\n" \
+                "  assert a < 5 and not (b = 3 or u xor ok);\n" \
+                "  check \"fits\" y <= 9223372036854775807;\n  --%PROPERTY x >= 0;\ntel\n"
+            if (written + length(text) > size) break
+            printf "%s", text
+            written += length(text)
+        }
+        while (written++ < size) printf " "
+    }'
+}
+
+(cd crates/reader_count && rt run -- data/toggle.lus >"$work/build" 2>&1) || { cat "$work/build"; exit 1; }
+program=$top/crates/reader_count/out/reader_count
+
+# The declarations of a file, and the instructions of the whole program on it.
+counted() {
+    declarations=$(valgrind --tool=callgrind --callgrind-out-file="$work/counts" "$program" "$1" 2>"$work/log")
+    echo "$declarations $(awk '/Collected/ { print $4 }' "$work/log")"
+}
+
+if ! command -v valgrind >/dev/null; then
+    echo "valgrind is not there: nothing is counted"
+    exit 0
+fi
+: >"$work/empty"
+start=$(counted "$work/empty" | cut -d' ' -f2)
+echo "an empty file: $start instructions"
+echo "bytes declarations instructions per-byte growth"
+before=0
+for kilobytes in 128 256 512 1024; do
+    bytes=$((kilobytes * 1024))
+    source_of $bytes >"$work/source"
+    row=$(counted "$work/source")
+    count=$((${row#* } - start))
+    awk -v b=$bytes -v t="${row% *}" -v c="$count" -v p="$before" 'BEGIN {
+        growth = p ? sprintf("%.3f", c / p) : "-"
+        printf "%d %d %d %.1f %s\n", b, t, c, c / b, growth
+        if (c / b >= 400 || (p && (c / p < 1.9 || c / p > 2.1))) exit 1
+    }' || { echo "too slow, or not linear"; exit 1; }
+    before=$count
+done
