@@ -11,3 +11,4 @@ pub mod Trees
 pub mod Programs
 pub mod Source
 pub mod Answers
+pub mod Rows
