@@ -1,0 +1,9 @@
+pub mod Firsts
+pub mod Leads
+pub mod Loops
+pub mod ContractItems
+pub mod ModeItems
+pub mod Nodes
+pub mod Contracts
+pub mod Imports
+pub mod Variables

@@ -1,1 +1,3 @@
-pub use Rattle.lus_grammar.specs.Source
+pub mod Begin
+pub mod Parts
+pub mod Values

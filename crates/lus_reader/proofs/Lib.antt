@@ -1,0 +1,16 @@
+pub mod Streams
+pub mod Codes
+pub mod Operands
+pub mod Texts
+pub mod Exits
+pub mod Conditions
+pub mod Chains
+pub mod Unaries
+pub mod Primaries
+pub mod Lists
+pub mod Cuts
+pub mod Classes
+pub mod Stops
+pub mod Leading
+pub mod Declared
+pub mod Items

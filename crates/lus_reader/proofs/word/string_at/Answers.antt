@@ -1,0 +1,7 @@
+use Rattle.std.proofs.Common.{sym, subst, List, ℕ}
+use Rattle.std.specs.Str.{IsUtf8}
+use Rattle.lus_reader.proofs.Texts.{utf8, no_token}
+use Rattle.lus_reader.proofs.word.string_at.Goals as goal
+
+pub unreachable-requires : goal.unreachable-requires
+unreachable-requires c = c.in-Err.ensures.cases.0 (rw c.slice_at.ensures (utf8 c.args.bytes.now c.args.tokens.now c.args.at no_token c.requires.first c.requires.inside))

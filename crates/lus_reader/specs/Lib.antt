@@ -1,0 +1,7 @@
+pub mod View
+pub mod Look
+pub mod Operators
+pub mod Outcome
+pub mod Marks
+pub mod Values
+pub mod Leads

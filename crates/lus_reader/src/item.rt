@@ -1,0 +1,221 @@
+//! Bodies.
+
+ghost use Rattle.std.specs.Prelude.{◌≡◌, ◌<◌, ◌≤◌, [], ◌∷◌, List, ℕ, map, length, IfOk, IfErr, IsTrue};
+ghost use Rattle.lus_tree.specs.Reason.{refusal_view};
+ghost use Rattle.lus_tree.specs.View.{word_view, item_view};
+ghost use Rattle.lus_grammar.specs.Stream.{stream};
+ghost use Rattle.lus_grammar.specs.Phrase.{◌⨾◌, one_of, optional, repeated, part, limited};
+ghost use Rattle.lus_grammar.specs.Phrase as P;
+ghost use Rattle.lus_grammar.specs.Grammar.{labelled, semicolon};
+ghost use Rattle.lus_grammar.specs.Syntax.{Counts as Occurrences};
+ghost use Rattle.lus_grammar.specs.Text.{IsOneOf};
+ghost use Rattle.lus_grammar.specs.Starts.{Passes, code, listed, starts};
+ghost use Rattle.lus_grammar.specs.Answers.{Reads, Refuses};
+ghost use Rattle.lus_grammar.specs.Source.{AreTokens};
+ghost use Rattle.lus_grammar.specs.Programs.{left_of, items_of};
+ghost use Rattle.lus_reader.specs.View.{counts_view};
+ghost use Rattle.lus_reader.specs.Values.{item_of, equation_of, assertion_of, property_of, main_of, before};
+
+use crate::ends::{ended, labelled};
+use crate::counts::Counts;
+use crate::list::push;
+use crate::look::{class_at, expect, is_at, optional_token, place_at};
+use crate::words::names;
+use lus_lexer::{Annotation, Class, Keyword, Sign, Token};
+use lus_tree::{Item, Refusal, Word};
+use std::alloc::Global;
+
+/// The longest list of items from a token on, which may be empty, and the place behind it, where
+/// no item begins.
+pub fn read_body(
+    alloc: Global,
+    tokens: &[Token],
+    bytes: &[u8],
+    from: u32,
+    counts: &mut Counts,
+) -> Result<(Vec<Item>, u32), Refusal>
+    requires cut { AreTokens bytes.now tokens.now }
+    requires small { length bytes.now ≤ 1048576 }
+    requires inside { from ≤ length tokens.now }
+    ensures run { IfOk result (λ r. Reads items_of (stream bytes.now tokens.now) (repeated (part P.Item)) from (counts_view counts.old) r.1 (counts_view counts.new) (map item_view r.0.items)) }
+    ensures stop { IfErr result (λ e. Refuses (stream bytes.now tokens.now) (repeated (part P.Item)) from (counts_view counts.old) (refusal_view e)) }
+    ensures kept { IfErr result (λ e. counts.new ≡ counts.old) }
+    ensures last { IfOk result (λ r. Passes (stream bytes.now tokens.now) r.1 (part P.Item)) }
+    ensures inside { IfOk result (λ r. (from ≤ r.1) × (r.1 ≤ length tokens.now)) }
+{
+    let mut items = Vec::new(alloc);
+    let mut next = from;
+    let mut after = *counts;
+    while begins_item(tokens, next) {
+        let (item, behind) = read_item(alloc, tokens, bytes, next, &mut after)?;
+        push(&mut items, item)?;
+        next = behind;
+    }
+    *counts = after;
+    Ok((items, next))
+}
+
+/// Whether an item begins there.
+pub fn begins_item(tokens: &[Token], at: u32) -> bool
+    ensures begins { (bytes : List ℕ) → listed (code (stream bytes tokens.now at).class) (starts (part P.Item)) ≡ result }
+{
+    match class_at(tokens, at) {
+        Some(Class::Ident) | Some(Class::Sign(Sign::Open)) => true,
+        Some(Class::Keyword(Keyword::Assert)) | Some(Class::Keyword(Keyword::Check)) => true,
+        Some(Class::Annotation(_)) => true,
+        _ => false,
+    }
+}
+
+/// An item, and the place behind it.
+fn read_item(
+    alloc: Global,
+    tokens: &[Token],
+    bytes: &[u8],
+    at: u32,
+    counts: &mut Counts,
+) -> Result<(Item, u32), Refusal>
+    requires cut { AreTokens bytes.now tokens.now }
+    requires small { length bytes.now ≤ 1048576 }
+    ensures run { IfOk result (λ r. Reads item_of (stream bytes.now tokens.now) (part P.Item) at (counts_view counts.old) r.1 (counts_view counts.new) (before (item_view r.0))) }
+    ensures stop { IfErr result (λ e. Refuses (stream bytes.now tokens.now) (part P.Item) at (counts_view counts.old) (refusal_view e)) }
+    ensures kept { IfErr result (λ e. counts.new ≡ counts.old) }
+    ensures inside { IfOk result (λ r. (at < r.1) × (r.1 ≤ length tokens.now)) }
+{
+    if begins_equation(tokens, at) {
+        return equation(alloc, tokens, bytes, at, counts);
+    }
+    if is_at(tokens, at, Class::Keyword(Keyword::Assert)) {
+        return assertion(alloc, tokens, bytes, at, counts);
+    }
+    if begins_property(tokens, at) {
+        return property(alloc, tokens, bytes, at, counts);
+    }
+    main_mark(alloc, tokens, bytes, at)
+}
+
+/// Whether an equation begins there.
+fn begins_equation(tokens: &[Token], at: u32) -> bool
+    ensures begins { (bytes : List ℕ) → listed (code (stream bytes tokens.now at).class) (starts (part P.Left)) ≡ result }
+{
+    match class_at(tokens, at) {
+        Some(Class::Ident) | Some(Class::Sign(Sign::Open)) => true,
+        _ => false,
+    }
+}
+
+/// Whether a property begins there.
+fn begins_property(tokens: &[Token], at: u32) -> bool
+    ensures begins { (bytes : List ℕ) → listed (code (stream bytes tokens.now at).class) (starts (one_of (Class.Keyword Keyword.Check ∷ Class.Annotation Annotation.Property ∷ []))) ≡ result }
+    ensures inside { IsTrue result → at < length tokens.now }
+{
+    match class_at(tokens, at) {
+        Some(Class::Keyword(Keyword::Check)) => true,
+        Some(Class::Annotation(Annotation::Property)) => true,
+        _ => false,
+    }
+}
+
+/// `left = expression;`, and the place behind it.
+fn equation(
+    alloc: Global,
+    tokens: &[Token],
+    bytes: &[u8],
+    at: u32,
+    counts: &mut Counts,
+) -> Result<(Item, u32), Refusal>
+    requires cut { AreTokens bytes.now tokens.now }
+    requires small { length bytes.now ≤ 1048576 }
+    ensures run { IfOk result (λ r. Reads equation_of (stream bytes.now tokens.now) (part P.Left ⨾ P.sign Sign.Equals ⨾ limited P.Expression ⨾ semicolon) at (counts_view counts.old) r.1 (counts_view counts.new) (before (item_view r.0))) }
+    ensures stop { IfErr result (λ e. Refuses (stream bytes.now tokens.now) (part P.Left ⨾ P.sign Sign.Equals ⨾ limited P.Expression ⨾ semicolon) at (counts_view counts.old) (refusal_view e)) }
+    ensures kept { IfErr result (λ e. counts.new ≡ counts.old) }
+    ensures inside { IfOk result (λ r. (at < r.1) × (r.1 ≤ length tokens.now)) }
+{
+    let (left, next) = left(alloc, tokens, bytes, at)?;
+    let next = expect(alloc, tokens, bytes, next, Class::Sign(Sign::Equals))?;
+    let (right, next) = ended(alloc, tokens, bytes, next, counts)?;
+    Ok((Item::Equation(left, right), next))
+}
+
+/// The names on the left side of an equation, and the place behind them.
+pub fn left(
+    alloc: Global,
+    tokens: &[Token],
+    bytes: &[u8],
+    at: u32,
+) -> Result<(Vec<Word>, u32), Refusal>
+    requires cut { AreTokens bytes.now tokens.now }
+    requires small { length bytes.now ≤ 1048576 }
+    ensures run { IfOk result (λ r. (n : Occurrences) → Reads left_of (stream bytes.now tokens.now) (part P.Left) at n r.1 n (map word_view r.0.items)) }
+    ensures stop { IfErr result (λ e. (n : Occurrences) → Refuses (stream bytes.now tokens.now) (part P.Left) at n (refusal_view e)) }
+    ensures inside { IfOk result (λ r. (at < r.1) × (r.1 ≤ length tokens.now)) }
+{
+    if is_at(tokens, at, Class::Ident) {
+        let (names, next) = names(alloc, tokens, bytes, at)?;
+        return Ok((names, next));
+    }
+    let next = expect(alloc, tokens, bytes, at, Class::Sign(Sign::Open))?;
+    let (names, next) = names(alloc, tokens, bytes, next)?;
+    let next = expect(alloc, tokens, bytes, next, Class::Sign(Sign::Close))?;
+    Ok((names, next))
+}
+
+/// `assert expression;`, and the place behind it.
+fn assertion(
+    alloc: Global,
+    tokens: &[Token],
+    bytes: &[u8],
+    at: u32,
+    counts: &mut Counts,
+) -> Result<(Item, u32), Refusal>
+    requires cut { AreTokens bytes.now tokens.now }
+    requires small { length bytes.now ≤ 1048576 }
+    ensures run { IfOk result (λ r. Reads assertion_of (stream bytes.now tokens.now) (P.word Keyword.Assert ⨾ limited P.Expression ⨾ semicolon) at (counts_view counts.old) r.1 (counts_view counts.new) (before (item_view r.0))) }
+    ensures stop { IfErr result (λ e. Refuses (stream bytes.now tokens.now) (P.word Keyword.Assert ⨾ limited P.Expression ⨾ semicolon) at (counts_view counts.old) (refusal_view e)) }
+    ensures kept { IfErr result (λ e. counts.new ≡ counts.old) }
+    ensures inside { IfOk result (λ r. (at < r.1) × (r.1 ≤ length tokens.now)) }
+{
+    let next = expect(alloc, tokens, bytes, at, Class::Keyword(Keyword::Assert))?;
+    let (condition, next) = ended(alloc, tokens, bytes, next, counts)?;
+    Ok((Item::Assert(condition), next))
+}
+
+/// What follows `check` or `--%PROPERTY`, and the place behind it.
+fn property(
+    alloc: Global,
+    tokens: &[Token],
+    bytes: &[u8],
+    at: u32,
+    counts: &mut Counts,
+) -> Result<(Item, u32), Refusal>
+    requires cut { AreTokens bytes.now tokens.now }
+    requires small { length bytes.now ≤ 1048576 }
+    requires first { IsOneOf (stream bytes.now tokens.now) at (Class.Keyword Keyword.Check ∷ Class.Annotation Annotation.Property ∷ []) }
+    requires inside { at < length tokens.now }
+    ensures run { IfOk result (λ r. Reads property_of (stream bytes.now tokens.now) (one_of (Class.Keyword Keyword.Check ∷ Class.Annotation Annotation.Property ∷ []) ⨾ labelled) at (counts_view counts.old) r.1 (counts_view counts.new) (before (item_view r.0))) }
+    ensures stop { IfErr result (λ e. Refuses (stream bytes.now tokens.now) (one_of (Class.Keyword Keyword.Check ∷ Class.Annotation Annotation.Property ∷ []) ⨾ labelled) at (counts_view counts.old) (refusal_view e)) }
+    ensures kept { IfErr result (λ e. counts.new ≡ counts.old) }
+    ensures inside { IfOk result (λ r. (at < r.1) × (r.1 ≤ length tokens.now)) }
+{
+    let (named, next) = labelled(alloc, tokens, bytes, at, counts)?;
+    Ok((Item::Property(named), next))
+}
+
+/// `--%MAIN` and perhaps a semicolon, and the place behind them.
+fn main_mark(alloc: Global, tokens: &[Token], bytes: &[u8], at: u32) -> Result<(Item, u32), Refusal>
+    requires cut { AreTokens bytes.now tokens.now }
+    requires small { length bytes.now ≤ 1048576 }
+    ensures run { IfOk result (λ r. (n : Occurrences) → Reads main_of (stream bytes.now tokens.now) (one_of (Class.Annotation Annotation.Main ∷ []) ⨾ optional semicolon) at n r.1 n (before (item_view r.0))) }
+    ensures stop { IfErr result (λ e. (n : Occurrences) → Refuses (stream bytes.now tokens.now) (one_of (Class.Annotation Annotation.Main ∷ []) ⨾ optional semicolon) at n (refusal_view e)) }
+    ensures inside { IfOk result (λ r. (at < r.1) × (r.1 ≤ length tokens.now)) }
+{
+    let next = expect(
+        alloc,
+        tokens,
+        bytes,
+        at,
+        Class::Annotation(Annotation::Main),
+    )?;
+    let behind = optional_token(tokens, bytes, next, Class::Sign(Sign::Semicolon));
+    Ok((Item::Main(place_at(tokens, bytes, at)), behind))
+}

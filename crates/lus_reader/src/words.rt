@@ -1,0 +1,118 @@
+//! Names and labels.
+
+ghost use Rattle.std.specs.Prelude.{◌≡◌, ◌<◌, ◌≤◌, ◌+◌, ◌++◌, [], ◌∷◌, List, ℕ, Some, map, option_map, length, IfOk, IfErr};
+ghost use Rattle.std.specs.String.{string_bytes};
+ghost use Rattle.lus_tree.specs.Reason.{refusal_view, memory};
+ghost use Rattle.lus_tree.specs.View.{word_view};
+ghost use Rattle.lus_grammar.specs.Stream.{stream};
+ghost use Rattle.lus_grammar.specs.Phrase.{one_of, optional, part, Names};
+ghost use Rattle.lus_grammar.specs.Phrase as P;
+ghost use Rattle.lus_grammar.specs.Syntax.{Counts as Occurrences, leaf};
+ghost use Rattle.lus_grammar.specs.Run.{Run, read};
+ghost use Rattle.lus_grammar.specs.Answers.{Reads, Refuses};
+ghost use Rattle.lus_grammar.specs.Source.{AreTokens, limit};
+ghost use Rattle.lus_grammar.specs.Trees.{spelled};
+ghost use Rattle.lus_grammar.specs.Programs.{names_of, label_of, unquoted};
+
+use crate::list::push;
+use crate::look::{copied, expect, is_at, place_at, slice_at};
+use lus_lexer::{Class, Sign, Token};
+use lus_tree::{Refusal, Word};
+use std::alloc::Global;
+
+/// A name, and the place behind it.
+pub fn identifier(
+    alloc: Global,
+    tokens: &[Token],
+    bytes: &[u8],
+    at: u32,
+) -> Result<(Word, u32), Refusal>
+    requires cut { AreTokens bytes.now tokens.now }
+    requires small { length bytes.now ≤ 1048576 }
+    ensures run { IfOk result (λ r. (n : Occurrences) → Run limit (stream bytes.now tokens.now) P.identifier at n (read r.1 n (leaf (stream bytes.now tokens.now at)))) }
+    ensures word { IfOk result (λ r. word_view r.0 ≡ spelled (stream bytes.now tokens.now at)) }
+    ensures stop { IfErr result (λ e. (n : Occurrences) → Refuses (stream bytes.now tokens.now) P.identifier at n (refusal_view e)) }
+    ensures next { IfOk result (λ r. r.1 ≡ at + 1) }
+    ensures inside { IfOk result (λ r. r.1 ≤ length tokens.now) }
+{
+    let next = expect(alloc, tokens, bytes, at, Class::Ident)?;
+    let text = copied(alloc, slice_at(tokens, bytes, at))?;
+    let at = place_at(tokens, bytes, at);
+    Ok((Word { text, at }, next))
+}
+
+/// Names with commas between them, and the place behind the last one.
+pub fn names(
+    alloc: Global,
+    tokens: &[Token],
+    bytes: &[u8],
+    at: u32,
+) -> Result<(Vec<Word>, u32), Refusal>
+    requires cut { AreTokens bytes.now tokens.now }
+    requires small { length bytes.now ≤ 1048576 }
+    ensures run { IfOk result (λ r. (n : Occurrences) → Reads names_of (stream bytes.now tokens.now) (part Names) at n r.1 n (map word_view r.0.items)) }
+    ensures stop { IfErr result (λ e. (n : Occurrences) → Refuses (stream bytes.now tokens.now) (part Names) at n (refusal_view e)) }
+    ensures inside { IfOk result (λ r. (at < r.1) × (r.1 ≤ length tokens.now)) }
+{
+    let mut words = Vec::new(alloc);
+    let mut next = add_name(alloc, tokens, bytes, at, &mut words)?;
+    while is_at(tokens, next, Class::Sign(Sign::Comma)) {
+        next = add_name(alloc, tokens, bytes, next + 1, &mut words)?;
+    }
+    Ok((words, next))
+}
+
+/// Puts a name behind others.
+fn add_name(
+    alloc: Global,
+    tokens: &[Token],
+    bytes: &[u8],
+    at: u32,
+    words: &mut Vec<Word>,
+) -> Result<u32, Refusal>
+    requires cut { AreTokens bytes.now tokens.now }
+    requires small { length bytes.now ≤ 1048576 }
+    ensures run { IfOk result (λ j. (n : Occurrences) → Run limit (stream bytes.now tokens.now) P.identifier at n (read j n (leaf (stream bytes.now tokens.now at)))) }
+    ensures word { IfOk result (λ j. map word_view words.new.items ≡ map word_view words.old.items ++ spelled (stream bytes.now tokens.now at) ∷ []) }
+    ensures stop { IfErr result (λ e. (n : Occurrences) → Refuses (stream bytes.now tokens.now) P.identifier at n (refusal_view e)) }
+    ensures next { IfOk result (λ j. j ≡ at + 1) }
+    ensures inside { IfOk result (λ j. j ≤ length tokens.now) }
+{
+    let (word, next) = identifier(alloc, tokens, bytes, at)?;
+    push(words, word)?;
+    Ok(next)
+}
+
+/// A text that may stand there, without its quotes, and the place behind it.
+pub fn label(
+    alloc: Global,
+    tokens: &[Token],
+    bytes: &[u8],
+    at: u32,
+) -> Result<(Option<String>, u32), Refusal>
+    requires cut { AreTokens bytes.now tokens.now }
+    requires small { length bytes.now ≤ 1048576 }
+    requires inside { at ≤ length tokens.now }
+    ensures run { IfOk result (λ r. (n : Occurrences) → Reads label_of (stream bytes.now tokens.now) (optional (one_of (Class.Text ∷ []))) at n r.1 n (option_map string_bytes r.0)) }
+    ensures stop { IfErr result (λ e. (n : Occurrences) → Refuses (stream bytes.now tokens.now) (optional (one_of (Class.Text ∷ []))) at n (refusal_view e)) }
+    ensures inside { IfOk result (λ r. (at ≤ r.1) × (r.1 ≤ length tokens.now)) }
+{
+    if !is_at(tokens, at, Class::Text) {
+        return Ok((None, at));
+    }
+    let text = unquoted(alloc, tokens, bytes, at)?;
+    Ok((Some(text), at + 1))
+}
+
+/// What stands between the quotes of a text.
+fn unquoted(alloc: Global, tokens: &[Token], bytes: &[u8], at: u32) -> Result<String, Refusal>
+    requires cut { AreTokens bytes.now tokens.now }
+    requires small { length bytes.now ≤ 1048576 }
+    requires inside { at < length tokens.now }
+    requires text { (stream bytes.now tokens.now at).class ≡ Some Class.Text }
+    ensures text { IfOk result (λ t. string_bytes t ≡ unquoted (stream bytes.now tokens.now at).text) }
+    ensures memory { IfErr result (λ e. (refusal_view e).reason ≡ memory) }
+{
+    let text = slice_at(tokens, bytes, at);
+    copied(alloc, &text[1..text.len() - 1])
+}
