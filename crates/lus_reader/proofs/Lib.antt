@@ -14,3 +14,4 @@ pub mod Stops
 pub mod Leading
 pub mod Declared
 pub mod Items
+pub mod Answered

@@ -10,7 +10,7 @@ ghost use Rattle.lus_grammar.specs.Grammar.{labelled, semicolon};
 ghost use Rattle.lus_grammar.specs.Syntax.{Counts as Occurrences};
 ghost use Rattle.lus_grammar.specs.Text.{IsOneOf};
 ghost use Rattle.lus_grammar.specs.Starts.{Passes, code, listed, starts};
-ghost use Rattle.lus_grammar.specs.Answers.{Reads, Refuses};
+ghost use Rattle.lus_grammar.specs.Answers.{Reads, Refuses, IsText, IsNoText};
 ghost use Rattle.lus_grammar.specs.Source.{AreTokens};
 ghost use Rattle.lus_grammar.specs.Programs.{left_of, items_of};
 ghost use Rattle.lus_reader.specs.View.{counts_view};
@@ -28,6 +28,31 @@ use std::alloc::Global;
 /// The longest list of items from a token on, which may be empty, and the place behind it, where
 /// no item begins.
 pub fn read_body(
+    alloc: Global,
+    tokens: &[Token],
+    bytes: &[u8],
+    from: u32,
+    counts: &mut Counts,
+) -> Result<(Vec<Item>, u32), Refusal>
+    requires cut { AreTokens bytes.now tokens.now }
+    requires small { length bytes.now ≤ 1048576 }
+    requires inside { from ≤ length tokens.now }
+    ensures found { IfOk result (λ r. IsText items_of (stream bytes.now tokens.now) (repeated (part P.Item)) from (counts_view counts.old) r.1 (counts_view counts.new) (map item_view r.0.items)) }
+    ensures refused { IfErr result (λ e. IsNoText (stream bytes.now tokens.now) (repeated (part P.Item)) from (counts_view counts.old) (refusal_view e)) }
+    ensures run { IfOk result (λ r. Reads items_of (stream bytes.now tokens.now) (repeated (part P.Item)) from (counts_view counts.old) r.1 (counts_view counts.new) (map item_view r.0.items)) }
+    ensures stop { IfErr result (λ e. Refuses (stream bytes.now tokens.now) (repeated (part P.Item)) from (counts_view counts.old) (refusal_view e)) }
+    ensures kept { IfErr result (λ e. counts.new ≡ counts.old) }
+    ensures last { IfOk result (λ r. Passes (stream bytes.now tokens.now) r.1 (part P.Item)) }
+    ensures inside { IfOk result (λ r. (from ≤ r.1) × (r.1 ≤ length tokens.now)) }
+{
+    match read_items(alloc, tokens, bytes, from, counts) {
+        Ok(read) => Ok(read),
+        Err(refusal) => Err(refusal),
+    }
+}
+
+/// The same, by a reading.
+fn read_items(
     alloc: Global,
     tokens: &[Token],
     bytes: &[u8],

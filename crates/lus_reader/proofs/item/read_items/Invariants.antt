@@ -6,7 +6,7 @@ use Rattle.lus_grammar.specs.Phrase as P
 use Rattle.lus_grammar.specs.Programs.{items_of}
 use Rattle.lus_reader.specs.View.{counts_view}
 use Rattle.lus_reader.specs.Leads.{Leads}
-use Rattle.lus_reader.proofs.item.read_body.Given as goal
+use Rattle.lus_reader.proofs.item.read_items.Given as goal
 
 abbrev pub invariant-loop-alloc : goal.invariant-loop-alloc
 invariant-loop-alloc l = record {
