@@ -8,6 +8,8 @@ pub mod Chains
 pub mod Unaries
 pub mod Primaries
 pub mod Lists
+pub mod Fronts
+pub mod Limits
 pub mod Cuts
 pub mod Classes
 pub mod Stops

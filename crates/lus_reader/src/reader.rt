@@ -1,9 +1,9 @@
 //! Reads the expression of an item.
 
-ghost use Rattle.std.specs.Prelude.{◌≡◌, ◌<◌, ◌≤◌, length, IfOk, IfErr};
+ghost use Rattle.std.specs.Prelude.{◌≡◌, ◌<◌, ◌≤◌, length, take, IfOk, IfErr};
 ghost use Rattle.lus_tree.specs.Reason.{refusal_view};
 ghost use Rattle.lus_tree.specs.View.{expr_view};
-ghost use Rattle.lus_grammar.specs.Answers.{Reads, Refuses};
+ghost use Rattle.lus_grammar.specs.Answers.{IsNoText, IsText, Reads, Refuses};
 ghost use Rattle.lus_grammar.specs.Phrase.{limited, Expression};
 ghost use Rattle.lus_grammar.specs.Source.{AreTokens};
 ghost use Rattle.lus_grammar.specs.Stream.{stream};
@@ -36,6 +36,11 @@ pub fn read_expr(
     requires cut { AreTokens bytes.now tokens.now }
     requires small { length bytes.now ≤ 1048576 }
     requires inside { from ≤ length tokens.now }
+    ensures found { IfOk result (λ r. IsText expression_of (stream bytes.now tokens.now)
+        (limited Expression) from (counts_view counts.old) r.1 (counts_view counts.new)
+        (expr_view r.0)) }
+    ensures refused { IfErr result (λ e. IsNoText (stream bytes.now tokens.now)
+        (limited Expression) from (counts_view counts.old) (refusal_view e)) }
     ensures run { IfOk result (λ r. Reads expression_of (stream bytes.now tokens.now)
         (limited Expression) from (counts_view counts.old) r.1 (counts_view counts.new)
         (expr_view r.0)) }
@@ -46,12 +51,7 @@ pub fn read_expr(
 {
     let from = from as usize;
     let wall = from + LIMIT;
-    let end = if wall < tokens.len() {
-        wall + 1
-    } else {
-        tokens.len()
-    };
-    match read_expression(alloc, &tokens[..end], bytes, from, *counts) {
+    match read_expression(alloc, front(tokens, wall + 1), bytes, from, *counts) {
         Ok(found) => {
             if found.next > wall {
                 return Err(too_large(tokens, bytes, wall));
@@ -69,5 +69,17 @@ pub fn read_expr(
             at: place_at(tokens, bytes, from),
             what: What::Memory,
         }),
+    }
+}
+
+/// The first tokens, as many as said, or all. What is read of them needs no more stack than an
+/// expression of that many tokens.
+fn front<'t>(tokens: &'t [Token], count: usize) -> &'t [Token]
+    ensures { result.now ≡ take count tokens.now }
+{
+    if count < tokens.len() {
+        &tokens[..count]
+    } else {
+        tokens
     }
 }
