@@ -3,6 +3,9 @@ pub mod Leads
 pub mod Loops
 pub mod ContractItems
 pub mod ModeItems
+pub mod OneTree
+pub mod Sources
+pub mod Declarations
 pub mod Nodes
 pub mod Contracts
 pub mod Imports

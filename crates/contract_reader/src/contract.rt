@@ -9,7 +9,7 @@ ghost use Rattle.lus_grammar.specs.Phrase.{part, optional, repeated};
 ghost use Rattle.lus_grammar.specs.Programs.{clauses_of, contract_of};
 ghost use Rattle.lus_grammar.specs.Answers.{Reads, Refuses};
 ghost use Rattle.lus_grammar.specs.Source.{AreTokens};
-ghost use Rattle.lus_reader.specs.Counts.{counts_view};
+ghost use Rattle.lus_reader.specs.View.{counts_view};
 ghost use Rattle.contract_reader.specs.Begin.{contract_item_class};
 ghost use Rattle.contract_reader.specs.Parts.{Adds};
 ghost use Rattle.contract_reader.specs.Values.{closing_of, enclosed_of};

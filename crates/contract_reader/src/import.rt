@@ -10,7 +10,7 @@ ghost use Rattle.lus_grammar.specs.Syntax.{Counts as Occurrences};
 ghost use Rattle.lus_grammar.specs.Programs.{clauses_of, import_arguments_of, more_arguments_of, optional_names_of};
 ghost use Rattle.lus_grammar.specs.Answers.{Reads, Refuses};
 ghost use Rattle.lus_grammar.specs.Source.{AreTokens};
-ghost use Rattle.lus_reader.specs.Counts.{counts_view};
+ghost use Rattle.lus_reader.specs.View.{counts_view};
 ghost use Rattle.contract_reader.specs.Parts.{Adds, IsOutputs};
 ghost use Rattle.contract_reader.specs.Values.{behind, outputs};
 

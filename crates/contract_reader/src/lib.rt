@@ -10,3 +10,6 @@ mod list;
 mod locals;
 mod mode;
 mod node;
+mod program;
+
+pub use program::{one_tree, read_program};

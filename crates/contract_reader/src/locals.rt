@@ -12,7 +12,7 @@ ghost use Rattle.lus_grammar.specs.Syntax.{Counts as Occurrences};
 ghost use Rattle.lus_grammar.specs.Programs.{local_variables_of, local_constants_of};
 ghost use Rattle.lus_grammar.specs.Answers.{Reads, Refuses};
 ghost use Rattle.lus_grammar.specs.Source.{AreTokens};
-ghost use Rattle.lus_reader.specs.Counts.{counts_view};
+ghost use Rattle.lus_reader.specs.View.{counts_view};
 ghost use Rattle.contract_reader.specs.Begin.{locals_class};
 ghost use Rattle.contract_reader.specs.Parts.{GrowsBoth, IsGroup};
 ghost use Rattle.contract_reader.specs.Values.{locals_of};

@@ -9,7 +9,7 @@ ghost use Rattle.lus_grammar.specs.Phrase.{part, repeated};
 ghost use Rattle.lus_grammar.specs.Programs.{requires_of, ensures_of};
 ghost use Rattle.lus_grammar.specs.Answers.{Reads, Refuses};
 ghost use Rattle.lus_grammar.specs.Source.{AreTokens};
-ghost use Rattle.lus_reader.specs.Counts.{counts_view};
+ghost use Rattle.lus_reader.specs.View.{counts_view};
 ghost use Rattle.contract_reader.specs.Begin.{mode_item_class};
 ghost use Rattle.contract_reader.specs.Parts.{GrowsBoth};
 ghost use Rattle.contract_reader.specs.Values.{mode_items_of};

@@ -13,7 +13,7 @@ ghost use Rattle.lus_grammar.specs.Run.{Run, read};
 ghost use Rattle.lus_grammar.specs.Programs.{nodes_of, contract_nodes_of};
 ghost use Rattle.lus_grammar.specs.Answers.{Reads, Refuses};
 ghost use Rattle.lus_grammar.specs.Source.{AreTokens, limit};
-ghost use Rattle.lus_reader.specs.Counts.{counts_view};
+ghost use Rattle.lus_reader.specs.View.{counts_view};
 ghost use Rattle.contract_reader.specs.Parts.{IsHead, headed};
 ghost use Rattle.contract_reader.specs.Values.{node_class};
 

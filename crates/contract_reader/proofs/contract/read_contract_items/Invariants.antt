@@ -3,7 +3,7 @@ use Rattle.lus_tree.specs.View.{contract_item_view}
 use Rattle.lus_grammar.specs.Stream.{stream}
 use Rattle.lus_grammar.specs.Phrase.{ContractItem, part}
 use Rattle.lus_grammar.specs.Programs.{clauses_of}
-use Rattle.lus_reader.specs.Counts.{counts_view}
+use Rattle.lus_reader.specs.View.{counts_view}
 use Rattle.contract_reader.proofs.Loops.{Loops}
 use Rattle.contract_reader.proofs.contract.read_contract_items.Given as goal
 

@@ -1,4 +1,4 @@
-use Rattle.lus_reader.specs.Counts.{counts_view}
+use Rattle.lus_reader.specs.View.{counts_view}
 use Rattle.contract_reader.proofs.Leads.{at_err, behind, stops, stops_first}
 use Rattle.contract_reader.proofs.Contracts.{into_contract, enclosed}
 use Rattle.contract_reader.proofs.contract.read_enclosed.Goals as goal

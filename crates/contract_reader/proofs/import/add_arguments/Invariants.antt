@@ -3,7 +3,7 @@ use Rattle.lus_tree.specs.Tree.{Expression}
 use Rattle.lus_tree.specs.View.{expr_view}
 use Rattle.lus_grammar.specs.Stream.{stream}
 use Rattle.lus_grammar.specs.Programs.{more_arguments_of}
-use Rattle.lus_reader.specs.Counts.{counts_view}
+use Rattle.lus_reader.specs.View.{counts_view}
 use Rattle.contract_reader.proofs.Loops.{Loops}
 use Rattle.contract_reader.proofs.Imports.{argument}
 use Rattle.contract_reader.proofs.import.add_arguments.Given as goal

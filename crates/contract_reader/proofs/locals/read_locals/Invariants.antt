@@ -3,7 +3,7 @@ use Rattle.lus_tree.specs.View.{param_view, definition_view}
 use Rattle.lus_grammar.specs.Stream.{stream}
 use Rattle.lus_grammar.specs.Phrase.{Locals, part}
 use Rattle.lus_grammar.specs.Programs.{local_variables_of, local_constants_of}
-use Rattle.lus_reader.specs.Counts.{counts_view}
+use Rattle.lus_reader.specs.View.{counts_view}
 use Rattle.contract_reader.proofs.Loops.{LoopsBoth}
 use Rattle.contract_reader.proofs.locals.read_locals.Given as goal
 

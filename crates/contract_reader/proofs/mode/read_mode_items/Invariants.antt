@@ -3,7 +3,7 @@ use Rattle.lus_tree.specs.View.{named_view}
 use Rattle.lus_grammar.specs.Stream.{stream}
 use Rattle.lus_grammar.specs.Phrase.{ModeItem, part}
 use Rattle.lus_grammar.specs.Programs.{requires_of, ensures_of}
-use Rattle.lus_reader.specs.Counts.{counts_view}
+use Rattle.lus_reader.specs.View.{counts_view}
 use Rattle.contract_reader.proofs.Loops.{LoopsBoth}
 use Rattle.contract_reader.proofs.mode.read_mode_items.Given as goal
 

@@ -1,5 +1,5 @@
 use Rattle.std.proofs.Common.{refl, ap, Some}
-use Rattle.lus_reader.specs.Counts.{counts_view}
+use Rattle.lus_reader.specs.View.{counts_view}
 use Rattle.contract_reader.proofs.Leads.{at_err, behind, then, stops, stops_first}
 use Rattle.contract_reader.proofs.Nodes.{behind_contract_head, into_contract_node, reads_contract_node}
 use Rattle.contract_reader.proofs.node.read_contract_node.Goals as goal

@@ -1,4 +1,4 @@
-use Rattle.lus_reader.specs.Counts.{counts_view}
+use Rattle.lus_reader.specs.View.{counts_view}
 use Rattle.contract_reader.proofs.Leads.{at_err, behind, then, stops, stops_first}
 use Rattle.contract_reader.proofs.Nodes.{behind_head, into_node, reads_node}
 use Rattle.contract_reader.proofs.node.read_node.Goals as goal
