@@ -1,6 +1,6 @@
 -- Into each kind of a contract's item, and what is made of it.
-use Rattle.std.proofs.Common.{◌≡◌, ℕ, ◌+◌, refl, sym, ap, ◌∙◌, inl, inr, List, [], ◌∷◌, ◌++◌, map, Option, Some, None}
-use Rattle.lus_tree.specs.Tree.{Spelled, Variable, Constant, Expression, Labelled, Clause, assume, guarantee, ghost_variable, constant, mode, «import»}
+use Rattle.std.proofs.Common.{◌≡◌, ℕ, ◌+◌, refl, sym, ap, inl, inr, List, [], ◌∷◌, ◌++◌, map, Option, Some, None}
+use Rattle.lus_tree.specs.Tree.{Spelled, Constant, Expression, Labelled, assume, guarantee, ghost_variable, constant, mode, «import»}
 use Rattle.lus_tree.specs.declared.place.Sort.{Sort}
 use Rattle.lus_lexer.specs.declared.token.Class.{Class}
 use Rattle.lus_lexer.specs.declared.token.Class.TheVariants as C
@@ -10,11 +10,11 @@ use Rattle.lus_grammar.specs.Stream.{Stream, Mark}
 use Rattle.lus_grammar.specs.Phrase as P
 use Rattle.lus_grammar.specs.Phrase.{Part, Phrase, ContractItem, Arguments, Names, ModeItem, calls, one_of, counted, part, limited, word, sign, identifier, optional, repeated, ◌⨾◌, ◌∣◌}
 use Rattle.lus_grammar.specs.Grammar.{labelled, semicolon}
-use Rattle.lus_grammar.specs.Syntax.{Counts, counted_on, number_of, Syntax, leaf, numbered, node, ◌·◌, this, that, some}
+use Rattle.lus_grammar.specs.Syntax.{Counts, counted_on, number_of, Syntax, leaf, numbered, node, ◌·◌, this, that}
 use Rattle.lus_grammar.specs.Run.{Run, read, occurrence}
 use Rattle.lus_grammar.specs.Source.{limit}
-use Rattle.lus_grammar.specs.Trees.{spelled, expression_of}
-use Rattle.lus_grammar.specs.Programs.{clauses_of, labelled_of, assumption_or_guarantee, sort_of, constants_of, variable_of, requires_of, ensures_of, import_arguments_of, optional_names_of}
+use Rattle.lus_grammar.specs.Trees.{spelled}
+use Rattle.lus_grammar.specs.Programs.{clauses_of, labelled_of, assumption_or_guarantee, sort_of, constants_of, variable_of, import_arguments_of}
 use Rattle.lus_grammar.specs.Answers.{Reads}
 use Rattle.lus_reader.specs.Values.{ReadsEnded}
 use Rattle.contract_reader.specs.Parts.{Leads, Adds, IsOutputs}

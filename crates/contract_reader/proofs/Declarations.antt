@@ -8,10 +8,10 @@ use Rattle.lus_grammar.specs.Stream.{Stream}
 use Rattle.lus_grammar.specs.Phrase as P
 use Rattle.lus_grammar.specs.Phrase.{Part, part, fresh}
 use Rattle.lus_grammar.specs.Grammar.{body}
-use Rattle.lus_grammar.specs.Syntax.{Counts, none_before, Syntax, node, this, that}
-use Rattle.lus_grammar.specs.Run.{Run, read, line, line_stop, anew, anew_stop}
-use Rattle.lus_grammar.specs.Source.{limit, program}
-use Rattle.lus_grammar.specs.Programs.{constants_of, nodes_of, contract_nodes_of, declaration_of, declarations_of, program_of}
+use Rattle.lus_grammar.specs.Syntax.{Counts, none_before, this, that}
+use Rattle.lus_grammar.specs.Run.{line, anew, anew_stop}
+use Rattle.lus_grammar.specs.Source.{program}
+use Rattle.lus_grammar.specs.Programs.{constants_of, nodes_of, contract_nodes_of, declarations_of, program_of}
 use Rattle.lus_grammar.specs.Answers.{Reads, Refuses, out_of_memory, stopped}
 use Rattle.contract_reader.specs.Parts.{Leads, Adds}
 use Rattle.contract_reader.specs.Values.{node_class}

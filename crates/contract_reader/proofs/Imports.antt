@@ -1,26 +1,23 @@
 -- The parts of an import, and what is made of them.
-use Rattle.std.proofs.Common.{◌≡◌, ℕ, ◌+◌, refl, sym, ap, ◌∙◌, inl, List, [], ◌∷◌, ◌++◌, append_assoc, append-nil, map, Some}
+use Rattle.std.proofs.Common.{◌≡◌, ℕ, ◌+◌, refl, sym, ap, ◌∙◌, inl, List, [], ◌∷◌, ◌++◌, append_assoc, map, Some}
 use Rattle.std.proofs.lemmas.List.{map_push}
-use Rattle.lus_tree.specs.Tree.{Spelled, Expression, Clause, «import»}
+use Rattle.lus_tree.specs.Tree.{Spelled, Expression}
 use Rattle.lus_tree.specs.View.{expr_view}
 use Rattle.lus_tree.specs.declared.expression.Expr.{Expr}
 use Rattle.lus_lexer.specs.declared.token.Class.TheVariants as C
 use Rattle.lus_lexer.specs.declared.token.Sign.TheVariants as S
-use Rattle.lus_lexer.specs.declared.token.Keyword.TheVariants as K
-use Rattle.lus_grammar.specs.Stream.{Stream, Mark}
+use Rattle.lus_grammar.specs.Stream.{Stream}
 use Rattle.lus_grammar.specs.Phrase as P
 use Rattle.lus_grammar.specs.Phrase.{Phrase, Arguments, Names, part, limited, optional, repeated, sign, ◌⨾◌}
-use Rattle.lus_grammar.specs.Syntax.{Counts, Syntax, leaf, numbered, node, ◌·◌, that, absent, present, none, some}
+use Rattle.lus_grammar.specs.Syntax.{Counts, leaf, node, ◌·◌, absent, present}
 use Rattle.lus_grammar.specs.Starts.{Enters, Passes}
-use Rattle.lus_grammar.specs.Run.{Run, read, token, both, not_once}
-use Rattle.lus_grammar.specs.Source.{limit}
-use Rattle.lus_grammar.specs.Trees.{spelled, expression_of}
-use Rattle.lus_grammar.specs.Programs.{names_of, optional_names_of, more_arguments_of, import_arguments_of, clauses_of}
-use Rattle.lus_grammar.specs.Answers.{Reads, Refuses}
+use Rattle.lus_grammar.specs.Run.{token, both, not_once}
+use Rattle.lus_grammar.specs.Trees.{expression_of}
+use Rattle.lus_grammar.specs.Programs.{names_of, optional_names_of, more_arguments_of, import_arguments_of}
+use Rattle.lus_grammar.specs.Answers.{Reads}
 use Rattle.contract_reader.specs.Parts.{Leads, Adds}
 use Rattle.contract_reader.specs.Values.{behind as list_behind}
 use Rattle.contract_reader.proofs.Leads.{here, into, then, behind, behind_token, to_once}
-use Rattle.contract_reader.proofs.Loops.{Loops}
 
 -- "," expr, with the limit
 abbrev pub argument : Phrase

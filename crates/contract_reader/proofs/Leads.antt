@@ -2,15 +2,15 @@
 use Rattle.std.proofs.Common.{◌≡◌, ℕ, ◌+◌, sym, ap, ◌∙◌, subst, Some, IfErr, Result, Err, List, true, false}
 use Rattle.std.proofs.lemmas.Result.{err_from_is_err_and}
 use Rattle.std.specs.Result.{IsErrAnd}
-use Rattle.lus_tree.specs.Reason.{Refused, memory}
+use Rattle.lus_tree.specs.Reason.{Refused}
 use Rattle.lus_lexer.specs.declared.token.Class.{Class}
 use Rattle.lus_grammar.specs.Stream.{Stream}
-use Rattle.lus_grammar.specs.Phrase.{Part, Phrase, one_of, part, fresh, ◌⨾◌, ◌∣◌, optional, repeated}
+use Rattle.lus_grammar.specs.Phrase.{Part, Phrase, one_of, part, ◌⨾◌, ◌∣◌, optional, repeated}
 use Rattle.lus_grammar.specs.Grammar.{body}
-use Rattle.lus_grammar.specs.Syntax.{Counts, none_before, Syntax, leaf, node, ◌·◌, this, that, absent, present, none, some}
+use Rattle.lus_grammar.specs.Syntax.{Counts, Syntax, leaf, node, ◌·◌, this, that, present, none, some}
 use Rattle.lus_grammar.specs.Text.{IsOneOf}
-use Rattle.lus_grammar.specs.Starts.{class_code, code, listed, starts, Enters, Passes}
-use Rattle.lus_grammar.specs.Run.{read, Run, token, line, line_stop, anew, anew_stop, both, first_stop, second_stop, this_one, this_stop, that_one, that_stop, once, once_stop, no_more, again, next_stop, later_stop}
+use Rattle.lus_grammar.specs.Starts.{class_code, listed, starts, Enters, Passes}
+use Rattle.lus_grammar.specs.Run.{read, Run, token, line, line_stop, both, first_stop, second_stop, this_one, this_stop, that_one, that_stop, once, once_stop, no_more, again, next_stop, later_stop}
 use Rattle.lus_grammar.specs.Source.{limit}
 use Rattle.lus_grammar.specs.Answers.{Refuses, out_of_memory, stopped}
 use Rattle.contract_reader.specs.Parts.{Leads}

@@ -4,7 +4,7 @@ use Rattle.std.proofs.lemmas.List.{map_push}
 use Rattle.lus_tree.specs.Reason.{Refused}
 use Rattle.lus_grammar.specs.Stream.{Stream}
 use Rattle.lus_grammar.specs.Phrase.{Phrase, repeated}
-use Rattle.lus_grammar.specs.Syntax.{Counts, Syntax, none, some}
+use Rattle.lus_grammar.specs.Syntax.{Counts, Syntax, none}
 use Rattle.lus_grammar.specs.Starts.{Enters, Passes}
 use Rattle.lus_grammar.specs.Answers.{Reads, Refuses}
 use Rattle.contract_reader.specs.Parts.{Leads, Adds, GrowsBoth}

@@ -1,5 +1,5 @@
 -- A mode's items, and what is made of them.
-use Rattle.std.proofs.Common.{◌≡◌, ℕ, ◌+◌, refl, sym, ap, ◌∙◌, inl, inr, List, [], ◌∷◌, ◌++◌, append_assoc, map, Option, Some}
+use Rattle.std.proofs.Common.{◌≡◌, ℕ, ◌+◌, refl, ap, inl, inr, List, [], ◌∷◌, ◌++◌, append_assoc, map, Option, Some}
 use Rattle.std.proofs.lemmas.List.{map_push}
 use Rattle.lus_tree.specs.Tree.{Labelled}
 use Rattle.lus_tree.specs.View.{named_view}

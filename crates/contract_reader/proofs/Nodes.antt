@@ -1,11 +1,11 @@
 -- Into nodes and contract nodes, and what is made of them.
-use Rattle.std.proofs.Common.{◌≡◌, ℕ, ◌+◌, refl, sym, ap, ◌∙◌, inl, inr, Bool, true, false, List, [], ◌∷◌, Option, Some}
+use Rattle.std.proofs.Common.{◌≡◌, ℕ, ◌+◌, refl, ap, inl, inr, Bool, true, false, List, [], ◌∷◌, Option, Some}
 use Rattle.lus_tree.specs.Tree.{Spelled, Variable, Constant, Statement, Clause, Component, declared_node, declared_contract}
 use Rattle.lus_lexer.specs.declared.token.Class.{Class}
 use Rattle.lus_lexer.specs.declared.token.Class.TheVariants as C
 use Rattle.lus_lexer.specs.declared.token.Keyword.TheVariants as K
 use Rattle.lus_grammar.specs.Stream.{Stream, Mark}
-use Rattle.lus_grammar.specs.Phrase.{Phrase, Node, ContractNode, Contract, ContractItem, Locals, Item, one_of, optional, part, repeated, word, ◌⨾◌}
+use Rattle.lus_grammar.specs.Phrase.{Phrase, Node, ContractNode, Contract, ContractItem, Locals, Item, optional, part, repeated, word, ◌⨾◌}
 use Rattle.lus_grammar.specs.Grammar.{semicolon}
 use Rattle.lus_grammar.specs.Syntax.{Counts, Syntax, leaf, node, ◌·◌}
 use Rattle.lus_grammar.specs.Run.{Run, read}

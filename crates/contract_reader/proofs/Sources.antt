@@ -1,21 +1,20 @@
 -- What is read of a whole source.
-use Rattle.std.proofs.Common.{◌≡◌, ℕ, ◌+◌, ◌<◌, ◌≤◌, ◌⊎◌, inl, inr, refl, sym, ap, ◌∙◌, subst, arith, List, length, get_or, Option, Some, None}
+use Rattle.std.proofs.Common.{◌≡◌, ℕ, ◌<◌, inl, inr, refl, ap, subst, arith, List, length, None}
 use Rattle.lus_tree.specs.declared.place.Pos.{Pos}
 use Rattle.lus_tree.specs.declared.refusal.What.{What}
 use Rattle.lus_tree.specs.declared.refusal.What.TheVariants.{Memory}
 use Rattle.lus_tree.specs.Tree.{Program}
 use Rattle.lus_tree.specs.Reason.{Refused, what_view}
 use Rattle.lus_lexer.specs.declared.token.Token.{Token as Tok}
-use Rattle.lus_lexer.specs.declared.token.Class.{Class}
 use Rattle.lus_lexer.specs.Promise.{Refused as Unread}
-use Rattle.lus_grammar.specs.Stream.{Stream, Mark, stream}
+use Rattle.lus_grammar.specs.Stream.{Stream, stream}
 use Rattle.lus_grammar.specs.Syntax.{Counts, none_before, Syntax}
 use Rattle.lus_grammar.specs.Text.{Text}
-use Rattle.lus_grammar.specs.Run.{Cause, unexpected, too_large, Run, read}
+use Rattle.lus_grammar.specs.Run.{Cause, unexpected, too_large}
 use Rattle.lus_grammar.specs.Reading.{Whole, Stops}
 use Rattle.lus_grammar.specs.Programs.{program_of}
 use Rattle.lus_grammar.specs.Answers.{Reads, Refuses, out_of_memory, stopped}
-use Rattle.lus_grammar.specs.Source.{limit, AreTokens, program, IsSource, IsFirst, IsOutside, IsRefusal, uncut, outside}
+use Rattle.lus_grammar.specs.Source.{limit, AreTokens, program, IsSource, IsFirst, IsRefusal, uncut, outside}
 use Rattle.lus_grammar.proofs.Readings.{whole, stopped as stops}
 use Rattle.lus_reader.specs.Marks.{RefusesMark}
 use Rattle.lus_reader.proofs.Cuts.{default, mark_at}
@@ -58,7 +57,8 @@ first_read : (bytes : List ℕ) (ts : List Tok) (j : ℕ) (m : Counts) (x : Synt
 first_read bytes ts j m x lt w = (
   record { t = stream bytes ts; j = j; m = m; x = x; agree = λ k le. refl; past = omega arith; text = w.text },
   w.no_more,
-  λ m' x' e d. some_class bytes ts j lt e)
+  λ m' x' e d. some_class bytes ts j lt e,
+)
 
 -- a token stands behind the declarations
 pub is_behind : (bytes : List ℕ) (ts : List Tok) (j : ℕ) (m : Counts) (p : Program) (r : Refused) → AreTokens bytes ts → Reads program_of (stream bytes ts) program 0 none_before j m p → j < length ts → RefusesMark (stream bytes ts) j r → IsRefusal bytes r

@@ -1,10 +1,9 @@
 -- Streams behind `var`, and what is made of them.
-use Rattle.std.proofs.Common.{◌≡◌, ℕ, ◌+◌, refl, sym, ap, ◌∙◌, inl, List, [], ◌∷◌, ◌++◌, append_assoc, append-nil, map, Some}
+use Rattle.std.proofs.Common.{◌≡◌, ℕ, ◌+◌, refl, ap, ◌∙◌, inl, List, [], ◌∷◌, ◌++◌, append_assoc, append-nil, map, Some}
 use Rattle.std.proofs.lemmas.List.{map_push}
 use Rattle.lus_tree.specs.Tree.{Variable, Constant}
 use Rattle.lus_tree.specs.View.{definition_view}
 use Rattle.lus_tree.specs.declared.declaration.Definition.{Definition}
-use Rattle.lus_tree.specs.Reason.{Refused}
 use Rattle.lus_lexer.specs.declared.token.Class.TheVariants as C
 use Rattle.lus_lexer.specs.declared.token.Keyword.TheVariants as K
 use Rattle.lus_grammar.specs.Stream.{Stream}
@@ -15,9 +14,9 @@ use Rattle.lus_grammar.specs.Syntax.{Counts, Syntax, leaf, node, ◌·◌, this,
 use Rattle.lus_grammar.specs.Starts.{Enters, Passes}
 use Rattle.lus_grammar.specs.Run.{both}
 use Rattle.lus_grammar.specs.Programs.{local_group_of, local_groups_of, local_variables_of, local_constants_of, constants_of}
-use Rattle.lus_grammar.specs.Answers.{Reads, Refuses}
+use Rattle.lus_grammar.specs.Answers.{Reads}
 use Rattle.contract_reader.specs.Parts.{Leads, GrowsBoth, IsGroup}
-use Rattle.contract_reader.proofs.Leads.{into, behind, behind_token, this_by, that_by, once_more, ends_many, stops_first, stops_next}
+use Rattle.contract_reader.proofs.Leads.{into, behind, behind_token, this_by, that_by, once_more, ends_many}
 
 -- lgroup ";"
 abbrev pub group : Phrase

@@ -1,6 +1,6 @@
 -- What is made of parts of lines.
-use Rattle.std.specs.Prelude.{Bool, true, false, List, [], ◌++◌, Option}
-use Rattle.lus_tree.specs.Tree.{Spelled, Variable, Constant, Labelled, Clause}
+use Rattle.std.specs.Prelude.{Bool, true, false, List, ◌++◌, Option}
+use Rattle.lus_tree.specs.Tree.{Variable, Constant, Labelled, Clause}
 use Rattle.lus_lexer.specs.declared.token.Class.{Class}
 use Rattle.lus_lexer.specs.declared.token.Class.TheVariants as C
 use Rattle.lus_lexer.specs.declared.token.Keyword.TheVariants as K

@@ -1,5 +1,5 @@
 -- What a reading gives is said by the grammar's texts alone.
-use Rattle.std.proofs.Common.{◌≡◌, ℕ, true, refl, arith}
+use Rattle.std.proofs.Common.{◌≡◌, ℕ, true, arith}
 use Rattle.lus_tree.specs.Reason.{Refused}
 use Rattle.lus_grammar.specs.Stream.{Stream}
 use Rattle.lus_grammar.specs.Phrase.{Phrase}

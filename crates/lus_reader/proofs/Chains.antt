@@ -1,14 +1,14 @@
 -- Chains of operators and comparisons.
-use Rattle.std.proofs.Common.{◌≡◌, ℕ, ◌+◌, inl, Some, refl, sym, ap, ◌∙◌}
+use Rattle.std.proofs.Common.{◌≡◌, ℕ, ◌+◌, sym, ap}
 use Rattle.lus_tree.specs.declared.place.Pos.{Pos}
 use Rattle.lus_tree.specs.declared.expression.Operator.{Operator}
 use Rattle.lus_tree.specs.Tree.{Expression as Tree, binary}
 use Rattle.lus_grammar.specs.Answers.{Reads}
 use Rattle.lus_grammar.specs.Grammar.{signs, operand, relations}
-use Rattle.lus_grammar.specs.Phrase.{Phrase, Part, Level, part, one_of, optional, repeated, ◌⨾◌, Relation, Unary, Chain, Products, Sums, Conjunctions, Disjunctions}
-use Rattle.lus_grammar.specs.Run.{Run, read, stop, unexpected, token, line, line_stop, both, first_stop, second_stop, not_once, once, once_stop, no_more, again, next_stop, later_stop}
+use Rattle.lus_grammar.specs.Phrase.{Phrase, Level, part, one_of, repeated, ◌⨾◌, Relation, Unary, Chain, Products, Sums, Conjunctions, Disjunctions}
+use Rattle.lus_grammar.specs.Run.{Run, read, token, line, line_stop, both, first_stop, second_stop, not_once, once, once_stop, no_more, again, next_stop, later_stop}
 use Rattle.lus_grammar.specs.Source.{limit}
-use Rattle.lus_grammar.specs.Starts.{Enters, Passes}
+use Rattle.lus_grammar.specs.Starts.{Passes}
 use Rattle.lus_grammar.specs.Stream.{Stream}
 use Rattle.lus_grammar.specs.Syntax.{Counts, Syntax, leaf, node, ◌·◌, absent, present, none, some}
 use Rattle.lus_grammar.specs.Trees.{expression_of, place_of, grouped}

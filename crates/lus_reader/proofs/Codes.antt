@@ -1,6 +1,6 @@
 -- The numbers of classes tell them apart.
-use Rattle.std.proofs.Common.{◌≡◌, ℕ, ◌+◌, ◌<◌, ◌≤◌, ◌⊎◌, inl, inr, Bool, true, false, ◌==◌, ◌||◌, List, [], ◌∷◌, Option, Some, None, if◌then◌else◌, refl, sym, ap, ◌∙◌, arith}
-use Rattle.std.proofs.lemmas.Bool.{eqb-true, eq-eqb}
+use Rattle.std.proofs.Common.{◌≡◌, ℕ, ◌≤◌, Bool, true, false, ◌==◌, ◌||◌, [], ◌∷◌, Option, Some, None, if◌then◌else◌, refl, sym, ap, ◌∙◌, arith}
+use Rattle.std.proofs.lemmas.Bool.{eqb-true}
 use Rattle.lus_lexer.specs.declared.token.Class.{Class}
 use Rattle.lus_lexer.specs.declared.token.Class.TheVariants as C
 use Rattle.lus_lexer.specs.declared.token.Keyword.{Keyword}
@@ -11,8 +11,7 @@ use Rattle.lus_lexer.specs.declared.token.Opening.TheVariants as O
 use Rattle.lus_lexer.specs.declared.token.Closing.TheVariants as E
 use Rattle.lus_lexer.specs.declared.token.Annotation.TheVariants as A
 use Rattle.lus_grammar.specs.Stream.{Stream}
-use Rattle.lus_grammar.specs.Phrase.{one_of}
-use Rattle.lus_grammar.specs.Starts.{code, class_code, keyword_code, sign_code, listed, codes_of, Passes}
+use Rattle.lus_grammar.specs.Starts.{code, class_code, keyword_code, sign_code, listed}
 use Rattle.lus_reader.specs.Look.{Differs}
 
 abbrev keyword_at : ℕ → Keyword

@@ -1,19 +1,17 @@
 -- Expressions, down to implications.
-use Rattle.std.proofs.Common.{◌≡◌, ℕ, ◌+◌, inl, Bool, true, false, Some, refl, sym, ap, ◌∙◌}
+use Rattle.std.proofs.Common.{◌≡◌, ℕ, ◌+◌, inl, true, false, Some, refl, sym, ap, ◌∙◌}
 use Rattle.lus_tree.specs.declared.place.Pos.{Pos}
 use Rattle.lus_tree.specs.declared.expression.Operator.TheVariants as O
 use Rattle.lus_tree.specs.Tree.{Expression as Tree, Spelled, choice, arrow, binary, sampled}
-use Rattle.lus_lexer.specs.declared.token.Class.{Class}
 use Rattle.lus_lexer.specs.declared.token.Class.TheVariants as C
 use Rattle.lus_lexer.specs.declared.token.Keyword.TheVariants as K
 use Rattle.lus_lexer.specs.declared.token.Sign.TheVariants as S
 use Rattle.lus_grammar.specs.Answers.{Reads}
 use Rattle.lus_grammar.specs.Grammar.{when}
-use Rattle.lus_grammar.specs.Phrase.{Phrase, Part, part, word, sign, identifier, optional, repeated, counted, ◌⨾◌, Expression, Condition, Arrow, Implication, Chain, Disjunctions, arrows}
-use Rattle.lus_grammar.specs.Run.{Run, read, stop, unexpected, token, occurrence, line, line_stop, both, first_stop, second_stop, this_one, this_stop, that_one, that_stop, not_once, once, once_stop, no_more, again, next_stop, later_stop}
+use Rattle.lus_grammar.specs.Phrase.{part, word, identifier, optional, repeated, ◌⨾◌, Expression, Condition, Arrow, Implication, Chain, Disjunctions, arrows}
+use Rattle.lus_grammar.specs.Run.{Run, read, token, occurrence, line, line_stop, both, first_stop, second_stop, this_one, this_stop, that_one, that_stop, not_once, once, once_stop, no_more, again, next_stop, later_stop}
 use Rattle.lus_grammar.specs.Source.{limit}
-use Rattle.lus_grammar.specs.Starts.{Enters, Passes}
-use Rattle.lus_grammar.specs.Stream.{Stream, Mark}
+use Rattle.lus_grammar.specs.Stream.{Stream}
 use Rattle.lus_grammar.specs.Syntax.{Counts, counted_on, Syntax, leaf, numbered, node, ◌·◌, this, that, absent, present, none, some}
 use Rattle.lus_grammar.specs.Trees.{expression_of, place_of, sampled_by, spelled}
 use Rattle.lus_reader.specs.Look.{Differs}
@@ -135,7 +133,7 @@ pub when_not_read : {s : Stream} {of : Found} {p : Pos} {w : Spelled} (f : Found
 when_not_read {s} {of} f e d g p w r t =
     let q : Run limit s (optional (word K.Not)) (of.next + 1) (counts_view of.counts) (read (of.next + 1 + 1) (counts_view of.counts) (present (leaf (s (of.next + 1))))) = once (rw d refl) (token (inl d)) in
     record {
-  syntax = leaf (s of.next) · present (leaf (s (of.next + 1))) · leaf (s (of.next + 1 + 1));
-  run = rw (r.0, r.1) (both (token (inl e)) (both q (token (inl g))));
-  is = λ ws. let h : sampled (record { from = (place_of (tree_of of)).from; at = (s of.next).at }) (tree_of of) false (spelled (s (of.next + 1 + 1))) ≡ tree_of f = cc in ap (λ (z : Tree). sampled_by z ws) h;
-}
+      syntax = leaf (s of.next) · present (leaf (s (of.next + 1))) · leaf (s (of.next + 1 + 1));
+      run = rw (r.0, r.1) (both (token (inl e)) (both q (token (inl g))));
+      is = λ ws. let h : sampled (record { from = (place_of (tree_of of)).from; at = (s of.next).at }) (tree_of of) false (spelled (s (of.next + 1 + 1))) ≡ tree_of f = cc in ap (λ (z : Tree). sampled_by z ws) h;
+    }

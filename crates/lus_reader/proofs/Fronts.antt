@@ -1,10 +1,10 @@
 -- A reading looks at no mark behind the one at which it ends.
-use Rattle.std.proofs.Common.{◌≡◌, ℕ, true, false, ◌+◌, ◌<◌, ◌≤◌, ◌⊎◌, inl, inr, List, [], ◌∷◌, length, take, min, Some, refl, sym, ap, ◌∙◌, subst, arith}
+use Rattle.std.proofs.Common.{◌≡◌, ℕ, true, false, ◌+◌, ◌<◌, ◌≤◌, ◌⊎◌, inl, inr, List, [], ◌∷◌, length, take, refl, sym, ap, ◌∙◌, subst, arith}
 use Rattle.std.proofs.lemmas.List.{get_or-take, length-take}
 use Rattle.lus_lexer.specs.declared.token.Class.{Class}
 use Rattle.lus_lexer.specs.declared.token.Token.{Token}
 use Rattle.lus_grammar.specs.Stream.{Stream, Mark, Agree, stream, mark_of}
-use Rattle.lus_grammar.specs.Phrase.{Part, Counter, Phrase, one_of, counted, part, limited, fresh, ◌⨾◌, ◌∣◌, optional, repeated}
+use Rattle.lus_grammar.specs.Phrase.{Part, Phrase, one_of, counted, part}
 use Rattle.lus_grammar.specs.Grammar.{body}
 use Rattle.lus_grammar.specs.Syntax.{Counts, counted_on, number_of, Syntax, leaf, numbered, node}
 use Rattle.lus_grammar.specs.Text.{IsOneOf}
@@ -12,7 +12,7 @@ use Rattle.lus_grammar.specs.Starts.{code, listed, starts, Enters, Passes}
 use Rattle.lus_grammar.specs.Extends.{Over, extends}
 use Rattle.lus_grammar.proofs.Runs.{run_ordered, run_since}
 use Rattle.lus_grammar.proofs.Texts.{moved as text_moved}
-use Rattle.lus_grammar.specs.Run.{Cause, unexpected, too_large, Ending, read, stop, Run, token, no_token, occurrence, no_occurrence, line, line_stop, within, within_stop, past, anew, anew_stop, both, first_stop, second_stop, this_one, this_stop, that_one, that_stop, not_once, once, once_stop, no_more, again, next_stop, later_stop}
+use Rattle.lus_grammar.specs.Run.{Cause, Ending, read, stop, Run, token, no_token, occurrence, no_occurrence, line, line_stop, within, within_stop, past, anew, anew_stop, both, first_stop, second_stop, this_one, this_stop, that_one, that_stop, not_once, once, once_stop, no_more, again, next_stop, later_stop}
 use Rattle.lus_reader.proofs.Streams.{stream_inside, stream_outside}
 use Rattle.lus_reader.proofs.Texts.{no_token as missing}
 

@@ -1,5 +1,5 @@
 -- Where the limit on an expression is kept and where it is passed: what a reading of the tokens up to the limit is.
-use Rattle.std.proofs.Common.{◌≡◌, ℕ, ◌+◌, ◌<◌, ◌≤◌, ◌⊎◌, inl, inr, List, [], ◌∷◌, ◌++◌, length, take, drop, refl, sym, ap, ◌∙◌, subst, arith}
+use Rattle.std.proofs.Common.{◌≡◌, ℕ, ◌+◌, ◌<◌, ◌≤◌, ◌⊎◌, inl, inr, List, [], ◌∷◌, length, take, drop, refl, sym, ap, ◌∙◌, arith}
 use Rattle.std.proofs.lemmas.List.{take-append-drop}
 use Rattle.lus_tree.specs.Tree.{Expression as Tree}
 use Rattle.lus_tree.specs.Reason.{Refused, memory, too_large as too_large_reason}
@@ -8,16 +8,15 @@ use Rattle.lus_lexer.specs.Tokens.{whole as whole_text}
 use Rattle.lus_lexer.specs.Laws.{Lie}
 use Rattle.lus_lexer.proofs.Order.{in_order}
 use Rattle.lus_grammar.specs.Answers.{Reads, Refuses, IsText, IsNoText, out_of_memory, stopped}
-use Rattle.lus_grammar.specs.Phrase.{Phrase, part, limited, Expression}
-use Rattle.lus_grammar.specs.Run.{Run, Cause, read, stop, unexpected, too_large, within, within_stop, past}
+use Rattle.lus_grammar.specs.Phrase.{part, limited, Expression}
+use Rattle.lus_grammar.specs.Run.{Run, stop, unexpected, too_large, within, within_stop, past}
 use Rattle.lus_grammar.specs.Source.{limit, AreTokens, IsReason, past_limit}
 use Rattle.lus_grammar.specs.Stream.{Stream, Agree, stream}
-use Rattle.lus_grammar.specs.Syntax.{Counts, Syntax, node}
+use Rattle.lus_grammar.specs.Syntax.{Counts, node}
 use Rattle.lus_grammar.specs.Trees.{expression_of}
 use Rattle.lus_grammar.specs.Answers as W
 use Rattle.lus_grammar.proofs.Over.{over_read, over_stop}
 use Rattle.lus_grammar.proofs.Readings.{whole, stopped as stops}
-use Rattle.lus_grammar.proofs.Fits.{fits}
 use Rattle.lus_reader.specs.declared.stop.Found.{Found}
 use Rattle.lus_reader.specs.Look.{AreFirst}
 use Rattle.lus_reader.specs.Outcome.{IsRead, tree_of}

@@ -1,13 +1,12 @@
 -- Lists of expressions.
-use Rattle.std.proofs.Common.{◌≡◌, ℕ, ◌+◌, inl, Some, List, [], ◌∷◌, ◌++◌, map, Result, Ok, Err, refl, sym, ap, ◌∙◌}
+use Rattle.std.proofs.Common.{◌≡◌, ℕ, ◌+◌, inl, Some, List, [], ◌∷◌, ◌++◌, Result, Ok, Err, refl, sym, ap, ◌∙◌}
 use Rattle.lus_tree.specs.Tree.{Expression as Tree, Expressions as Trees, no_more, more}
 use Rattle.lus_tree.specs.View.{joined}
 use Rattle.lus_lexer.specs.declared.token.Class.TheVariants as C
 use Rattle.lus_lexer.specs.declared.token.Sign.TheVariants as S
 use Rattle.lus_grammar.specs.Answers.{Reads}
-use Rattle.lus_grammar.specs.Grammar.{bracketed}
-use Rattle.lus_grammar.specs.Phrase.{Phrase, part, sign, optional, repeated, ◌⨾◌, Expression, Expressions}
-use Rattle.lus_grammar.specs.Run.{Run, read, stop, unexpected, token, line, line_stop, both, first_stop, second_stop, not_once, once, once_stop, no_more as none_more, again, next_stop, later_stop}
+use Rattle.lus_grammar.specs.Phrase.{part, optional, Expression, Expressions}
+use Rattle.lus_grammar.specs.Run.{Run, read, token, line, line_stop, both, first_stop, second_stop, not_once, once, once_stop, no_more as none_more, again, next_stop, later_stop}
 use Rattle.lus_grammar.specs.Source.{limit}
 use Rattle.lus_grammar.specs.Starts.{Enters, Passes}
 use Rattle.lus_grammar.specs.Stream.{Stream, stream}

@@ -1,8 +1,7 @@
 -- What the looks at operators and at first tokens tell of each class.
-use Rattle.std.proofs.Common.{◌≡◌, ◌<◌, ℕ, Bool, true, false, ◌⊎◌, inl, inr, List, [], ◌∷◌, Option, Some, None, refl, sym, ap, ◌∙◌, subst}
+use Rattle.std.proofs.Common.{◌≡◌, ◌<◌, ℕ, true, false, inl, inr, Option, Some, None, refl, sym, ap, ◌∙◌}
 use Rattle.std.proofs.lemmas.Bool.{false≢true}
 use Rattle.lus_lexer.specs.declared.token.LeftOut.{LeftOut}
-use Rattle.lus_tree.specs.declared.expression.Operator.{Operator}
 use Rattle.lus_lexer.specs.declared.token.Class.{Class}
 use Rattle.lus_lexer.specs.declared.token.Class.TheVariants as C
 use Rattle.lus_lexer.specs.declared.token.Keyword.TheVariants as K
@@ -10,14 +9,13 @@ use Rattle.lus_lexer.specs.declared.token.Sign.TheVariants as S
 use Rattle.lus_lexer.specs.declared.token.Opening.TheVariants as O
 use Rattle.lus_lexer.specs.declared.token.Closing.TheVariants as E
 use Rattle.lus_lexer.specs.declared.token.Annotation.TheVariants as A
-use Rattle.lus_grammar.specs.Stream.{Stream, Mark}
+use Rattle.lus_grammar.specs.Stream.{Stream}
 use Rattle.lus_grammar.specs.Phrase.{Level, Products, Sums, Conjunctions, Disjunctions}
-use Rattle.lus_grammar.specs.Starts.{code, listed, codes_of, primaries}
-use Rattle.lus_reader.specs.Look.{Begins, start_of, IsTruth, IsInside, is_left_out}
+use Rattle.lus_reader.specs.Look.{Begins, start_of, IsInside, is_left_out}
 use Rattle.lus_reader.specs.declared.start.Start.{Start}
 use Rattle.lus_reader.specs.declared.start.Start.TheVariants.{Number, Truth, Name, DoubleColon, Merge, Condact, Open, Other}
 use Rattle.std.specs.Option.{IfSome}
-use Rattle.lus_reader.specs.Operators.{Joins, Relates, operator_of, relation_of, IsOperator, IsRelation}
+use Rattle.lus_reader.specs.Operators.{Joins, Relates, operator_of, relation_of}
 
 pub joins : (s : Stream) (i : ℕ) (l : Level) (o : Option Class) → (s i).class ≡ o → Joins s i l (operator_of l o)
 joins s i Products (Some (C.Sign S.Times)) e = record { one = inl e; enters = rw e refl; is = rw e refl }

@@ -1,18 +1,17 @@
 -- Names, calls and the primaries of many tokens.
-use Rattle.std.proofs.Common.{◌≡◌, ℕ, ◌+◌, inl, Some, None, Result, Ok, Err, refl, sym, ap, ◌∙◌}
+use Rattle.std.proofs.Common.{◌≡◌, ℕ, ◌+◌, inl, Some, None, Result, Ok, Err, refl, ap}
 use Rattle.std.specs.Result.{MatchResult}
 use Rattle.lus_reader.specs.declared.stop.Stop.{Stop}
 use Rattle.lus_tree.specs.declared.place.Pos.{Pos}
 use Rattle.lus_tree.specs.Tree.{Expression as Tree, Expressions as Trees, Spelled, Name, name, call, mode_name, merged, condact}
-use Rattle.lus_lexer.specs.declared.token.Class.{Class}
 use Rattle.lus_lexer.specs.declared.token.Class.TheVariants as C
 use Rattle.lus_lexer.specs.declared.token.Keyword.{Keyword}
 use Rattle.lus_lexer.specs.declared.token.Keyword.TheVariants as K
 use Rattle.lus_lexer.specs.declared.token.Sign.TheVariants as S
 use Rattle.lus_grammar.specs.Answers.{Reads}
 use Rattle.lus_grammar.specs.Grammar.{bracketed}
-use Rattle.lus_grammar.specs.Phrase.{Phrase, Part, part, word, sign, identifier, optional, repeated, counted, ◌⨾◌, ◌∣◌, Primary, Expression, Expressions, calls}
-use Rattle.lus_grammar.specs.Run.{Run, read, stop, unexpected, token, occurrence, line, line_stop, both, first_stop, second_stop, this_one, this_stop, that_one, that_stop, not_once, once, once_stop}
+use Rattle.lus_grammar.specs.Phrase.{Phrase, part, word, sign, identifier, optional, counted, ◌⨾◌, ◌∣◌, Primary, Expression, Expressions, calls}
+use Rattle.lus_grammar.specs.Run.{Run, read, token, occurrence, line, line_stop, both, second_stop, this_one, this_stop, that_one, that_stop, not_once, once, once_stop}
 use Rattle.lus_grammar.specs.Source.{limit}
 use Rattle.lus_grammar.specs.Stream.{Stream}
 use Rattle.lus_grammar.specs.Syntax.{Counts, counted_on, Syntax, leaf, numbered, node, ◌·◌, this, that, absent, present}

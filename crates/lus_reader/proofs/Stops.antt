@@ -1,18 +1,14 @@
 -- What the exits of readers owe.
-use Rattle.std.proofs.Common.{◌≡◌, ℕ, ◌⊎◌, inl, inr, refl, sym, ap, subst, ◌∙◌, IfErr, IfOk, Option, Some, true, false, Result, Ok, Err}
+use Rattle.std.proofs.Common.{◌≡◌, ℕ, ◌⊎◌, inl, inr, sym, ap, subst, ◌∙◌, IfErr, IfOk, Result, Ok, Err}
 use Rattle.std.proofs.lemmas.Result.{err_from_is_err_and}
 use Rattle.std.specs.Result.{IsErrAnd}
 use Rattle.lus_tree.specs.Reason.{Refused, memory}
-use Rattle.lus_tree.specs.Tree.{Name}
-use Rattle.lus_lexer.specs.declared.token.Class.{Class}
-use Rattle.lus_lexer.specs.declared.token.Class.TheVariants.{LeftOut}
-use Rattle.lus_lexer.specs.declared.token.LeftOut.{LeftOut as LeftOutWord}
-use Rattle.lus_grammar.specs.Stream.{Mark, Stream}
+use Rattle.lus_grammar.specs.Stream.{Stream}
 use Rattle.lus_grammar.specs.Phrase.{Phrase}
 use Rattle.lus_grammar.specs.Syntax.{Counts}
 use Rattle.lus_grammar.specs.Run.{Cause, unexpected, Run, stop}
 use Rattle.lus_grammar.specs.Answers.{Refuses, out_of_memory, stopped}
-use Rattle.lus_grammar.specs.Source.{limit, IsReason, word_left_out, other}
+use Rattle.lus_grammar.specs.Source.{limit, IsReason}
 use Rattle.lus_reader.specs.Marks.{RefusesMark}
 
 -- the exit of a `?`

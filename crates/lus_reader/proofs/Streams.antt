@@ -1,9 +1,9 @@
 -- The stream of some tokens, at a place.
-use Rattle.std.proofs.Common.{◌≡◌, ℕ, ◌<◌, ◌≤◌, List, length, map, get_or, Some, None, refl, sym, ap, ◌∙◌, arith}
+use Rattle.std.proofs.Common.{◌≡◌, ℕ, ◌<◌, ◌≤◌, List, length, map, get_or, arith}
 use Rattle.std.proofs.lemmas.List.{get_or-map}
 use Rattle.std.proofs.Math.ListN.{get_or-eq_default, length-map}
 use Rattle.lus_lexer.specs.declared.token.Token.{Token}
-use Rattle.lus_grammar.specs.Stream.{Stream, stream, mark_of, end_mark}
+use Rattle.lus_grammar.specs.Stream.{stream, mark_of, end_mark}
 
 pub stream_inside : (bytes : List ℕ) (tokens : List Token) (k : ℕ) (d : Token) → k < length tokens → stream bytes tokens k ≡ mark_of bytes (get_or tokens k d)
 unfolding stream

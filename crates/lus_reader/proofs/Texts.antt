@@ -1,15 +1,15 @@
 -- The texts of tokens.
-use Rattle.std.proofs.Common.{◌≡◌, ℕ, zero, suc, ◌+◌, ◌-◌, ◌*◌, ◌<◌, ◌≤◌, ◌⊎◌, inl, inr, Bool, true, false, ◌&&◌, nat_lt, List, [], ◌∷◌, ◌++◌, length, take, drop, get_or, refl, sym, ap, ◌∙◌, subst, arith, min}
+use Rattle.std.proofs.Common.{◌≡◌, ℕ, zero, suc, ◌+◌, ◌-◌, ◌*◌, ◌<◌, ◌≤◌, inl, inr, Bool, true, ◌&&◌, nat_lt, List, [], ◌∷◌, ◌++◌, length, take, drop, get_or, refl, sym, ap, ◌∙◌, subst, arith}
 use Rattle.std.specs.List.{list_all}
 use Rattle.std.specs.Str.{IsAscii, IsUtf8}
 use Rattle.std.specs.Char.{is_ascii_digit}
 use Rattle.std.proofs.lemmas.Grind.{common_steps}
-use Rattle.std.proofs.lemmas.List.{get_or-take, get_or-drop, length-take, length-take-le, length-drop}
+use Rattle.std.proofs.lemmas.List.{get_or-take, get_or-drop, length-take-le, length-drop}
 use Rattle.std.proofs.lemmas.List.Folds.{list_all-append}
 use Rattle.std.proofs.lemmas.Str.{IsUtf8-from_ascii}
 use Rattle.std.proofs.lemmas.Str.Ascii.{IsAscii-from_all}
 use Rattle.std.proofs.lemmas.List.Sums.{AllPass-from_list_all}
-use Rattle.std.specs.List.{All, AllPass}
+use Rattle.std.specs.List.{All}
 use Rattle.lus_lexer.specs.declared.token.Token.{Token as Tok}
 use Rattle.lus_lexer.specs.declared.token.Class.{Class}
 use Rattle.lus_lexer.specs.declared.token.Class.TheVariants.{Ident, Number}
@@ -19,8 +19,7 @@ use Rattle.lus_lexer.specs.Laws.{Lie, HasText, fixed, name, number, text, slice}
 use Rattle.lus_lexer.proofs.Order.{in_order, taken, small_value, IsTaken}
 use Rattle.lus_lexer.proofs.Slices.{text_of}
 use Rattle.lus_lexer.proofs.Spans.{in_all, and_left, and_right}
-use Rattle.lus_grammar.specs.Source.{AreTokens}
-use Rattle.lus_grammar.specs.Stream.{Stream, Mark, stream, mark_of}
+use Rattle.lus_grammar.specs.Stream.{Mark, stream}
 use Rattle.lus_grammar.specs.Trees.{digits_value}
 use Rattle.lus_reader.specs.Look.{AreFirst}
 use Rattle.lus_reader.proofs.Streams.{stream_inside}

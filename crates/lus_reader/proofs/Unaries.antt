@@ -1,20 +1,20 @@
 -- Unaries and the primaries of few tokens.
-use Rattle.std.proofs.Common.{◌≡◌, ℕ, ◌+◌, inl, inr, Bool, true, false, ◌==◌, ◌||◌, List, [], ◌∷◌, Option, Some, None, refl, sym, ap, ◌∙◌, subst}
+use Rattle.std.proofs.Common.{◌≡◌, ℕ, ◌+◌, inl, inr, Bool, true, false, ◌==◌, ◌||◌, List, [], ◌∷◌, Option, Some, refl, sym, ap, subst}
 use Rattle.std.proofs.lemmas.Bool.{false≢true}
 use Rattle.lus_tree.specs.declared.place.Pos.{Pos}
-use Rattle.lus_tree.specs.Tree.{Expression as Tree, Spelled, Name, negation, minus, pre, number, truth, name, mode_name}
+use Rattle.lus_tree.specs.Tree.{Expression as Tree, negation, minus, pre, number, truth}
 use Rattle.lus_lexer.specs.declared.token.Class.{Class}
 use Rattle.lus_lexer.specs.declared.token.Class.TheVariants as C
 use Rattle.lus_lexer.specs.declared.token.Keyword.TheVariants as K
 use Rattle.lus_lexer.specs.declared.token.Sign.TheVariants as S
 use Rattle.lus_grammar.specs.Answers.{Reads}
-use Rattle.lus_grammar.specs.Phrase.{Phrase, Part, part, word, sign, identifier, one_of, optional, counted, ◌⨾◌, Unary, Primary, pres}
-use Rattle.lus_grammar.specs.Run.{Run, read, stop, unexpected, token, no_token, occurrence, line, line_stop, both, first_stop, second_stop, this_one, this_stop, that_one, that_stop, not_once, once, once_stop}
+use Rattle.lus_grammar.specs.Phrase.{part, Unary, Primary, pres}
+use Rattle.lus_grammar.specs.Run.{Run, read, stop, unexpected, token, no_token, occurrence, line, line_stop, both, first_stop, second_stop, this_one, this_stop, that_one, that_stop}
 use Rattle.lus_grammar.specs.Source.{limit}
-use Rattle.lus_grammar.specs.Starts.{code, listed, codes_of, primaries, Enters, Passes}
+use Rattle.lus_grammar.specs.Starts.{code, listed, codes_of, primaries}
 use Rattle.lus_grammar.specs.Stream.{Stream}
-use Rattle.lus_grammar.specs.Syntax.{Counts, counted_on, Syntax, leaf, numbered, node, ◌·◌, this, that, absent, present}
-use Rattle.lus_grammar.specs.Trees.{expression_of, spelled, digits_value}
+use Rattle.lus_grammar.specs.Syntax.{Counts, counted_on, leaf, numbered, node, ◌·◌, this, that}
+use Rattle.lus_grammar.specs.Trees.{expression_of, digits_value}
 use Rattle.lus_reader.specs.Look.{Differs, IsTruth}
 use Rattle.lus_reader.proofs.Exits.{Lead}
 

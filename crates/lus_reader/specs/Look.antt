@@ -1,5 +1,5 @@
 -- What a look at one token tells.
-use Rattle.std.specs.Prelude.{◌≡◌, ◌<◌, ℕ, Bool, true, false, List, ◌∷◌, [], ◌++◌, Option, Some, None, Result, MatchResult, MatchBool}
+use Rattle.std.specs.Prelude.{◌≡◌, ◌<◌, ℕ, Bool, true, false, List, ◌∷◌, [], ◌++◌, Option, Some, Result, MatchResult, MatchBool}
 use Rattle.lus_lexer.specs.declared.token.Token.{Token}
 use Rattle.lus_lexer.specs.declared.token.Class.{Class}
 use Rattle.lus_lexer.specs.declared.token.Class.TheVariants as C

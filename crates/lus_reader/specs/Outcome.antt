@@ -2,7 +2,6 @@
 use Rattle.std.specs.Prelude.{◌≡◌, ℕ, ◌+◌, ◌<◌, ◌≤◌, IfOk, List, [], ◌∷◌, length, map, Some, Result, MatchResult}
 use Rattle.lus_tree.specs.Tree.{Expression as Tree, Expressions as Trees, more}
 use Rattle.lus_tree.specs.View.{expr_view, joined}
-use Rattle.lus_tree.specs.declared.expression.Expr.{Expr}
 use Rattle.lus_lexer.specs.declared.token.Token.{Token}
 use Rattle.lus_lexer.specs.declared.token.Class.TheVariants as C
 use Rattle.lus_lexer.specs.declared.token.Keyword.{Keyword}

@@ -16,8 +16,8 @@ ghost use Rattle.lus_grammar.specs.Programs.{left_of, items_of};
 ghost use Rattle.lus_reader.specs.View.{counts_view};
 ghost use Rattle.lus_reader.specs.Values.{item_of, equation_of, assertion_of, property_of, main_of, before};
 
-use crate::ends::{ended, labelled};
 use crate::counts::Counts;
+use crate::ends::{ended, labelled};
 use crate::list::push;
 use crate::look::{class_at, expect, is_at, optional_token, place_at};
 use crate::words::names;

@@ -1,7 +1,7 @@
 -- At each exit of the readers of expressions, what it owes.
-use Rattle.std.proofs.Common.{◌≡◌, ℕ, ◌+◌, ◌-◌, ◌<◌, ◌≤◌, inl, inr, List, [], ◌∷◌, ◌++◌, length, map, refl, sym, ap, ◌∙◌, subst, arith, rules}
-use Rattle.lus_tree.specs.Tree.{Expression as Tree, condact}
-use Rattle.lus_tree.specs.View.{expr_view, joined}
+use Rattle.std.proofs.Common.{inl, List, [], ◌∷◌, ◌++◌, refl, sym, ap, ◌∙◌, subst, arith}
+use Rattle.lus_tree.specs.Tree.{Expression as Tree}
+use Rattle.lus_tree.specs.View.{joined}
 use Rattle.lus_tree.proofs.Views.{view-Name}
 use Rattle.lus_lexer.specs.declared.token.Sign.TheVariants as S
 use Rattle.lus_grammar.specs.Answers.{Reads}
@@ -10,7 +10,7 @@ use Rattle.lus_grammar.specs.Phrase.{Phrase, part, sign, word, optional, ◌⨾�
 use Rattle.lus_grammar.specs.Phrase as P
 use Rattle.lus_grammar.specs.Run.{token, line_stop, both, first_stop, second_stop}
 use Rattle.lus_grammar.specs.Stream.{stream}
-use Rattle.lus_grammar.specs.Syntax.{Counts, Syntax, leaf}
+use Rattle.lus_grammar.specs.Syntax.{leaf}
 use Rattle.lus_grammar.specs.Trees.{arguments_of, listed_of}
 use Rattle.lus_reader.specs.declared.operator.Level.{Level}
 use Rattle.lus_reader.specs.declared.stop.Found.{Found}
@@ -24,7 +24,7 @@ use Rattle.lus_reader.proofs.Conditions.{if_0, if_1, if_2, if_3, if_4, if_read, 
 use Rattle.lus_reader.proofs.Chains.{grouped_first, grouped_end, grouped_off, grouped_found, relation_left, relation_right, relation_none, relation_read, chain_first, operand_first}
 use Rattle.lus_reader.proofs.Unaries.{not_off, not_read, minus_off, minus_read, pre_off, pre_read, plain_off, plain_read, none_off}
 use Rattle.lus_reader.proofs.Primaries.{name_read, call_0, call_read, round_1, round_read, activate_0, activate_read, merge_0, branch_taken, merge_read, branch_0, branch_1, branch_read, condact_0, condact_read}
-use Rattle.lus_reader.proofs.Lists.{onto_joined, listed_start, listed_end, listed_off, listed_found, listed_none, argued_empty, argued_first, argued_all}
+use Rattle.lus_reader.proofs.Lists.{listed_start, listed_end, listed_off, listed_found, listed_none, argued_empty, argued_first, argued_all}
 use Rattle.lus_reader.proofs.+reader.Goals as goal
 
 pub expression::read_arrow-returns-in_err-left-clause-reads : goal.expression::read_arrow-returns-in_err-left-clause-reads

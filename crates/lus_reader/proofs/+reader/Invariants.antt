@@ -1,9 +1,7 @@
-use Rattle.std.proofs.Common.{◌≡◌, ◌<◌, ℕ, ◌+◌, ◌-◌, ◌*◌, ◌≤◌, length, List, map}
-use Rattle.lus_tree.specs.View.{expr_view}
+use Rattle.std.proofs.Common.{◌<◌, ℕ, ◌+◌, ◌-◌, ◌*◌, ◌≤◌, length}
 use Rattle.lus_grammar.specs.Grammar.{operand}
 use Rattle.lus_grammar.specs.Syntax.{Counts}
 use Rattle.lus_grammar.specs.Stream.{stream}
-use Rattle.lus_reader.specs.Look.{AreFirst}
 use Rattle.lus_reader.specs.Outcome.{IsRead, tree_of, trees_of}
 use Rattle.lus_reader.specs.View.{counts_view, level_view}
 use Rattle.lus_reader.specs.declared.operator.Level.{Level}

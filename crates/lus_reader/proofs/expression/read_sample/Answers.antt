@@ -1,4 +1,3 @@
-use Rattle.std.proofs.Common.{refl, ◌∙◌}
 use Rattle.lus_grammar.specs.Grammar.{when}
 use Rattle.lus_grammar.specs.Phrase.{identifier}
 use Rattle.lus_grammar.specs.Stream.{stream}

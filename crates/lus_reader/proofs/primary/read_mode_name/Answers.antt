@@ -1,4 +1,4 @@
-use Rattle.std.proofs.Common.{refl, ◌∙◌, inl}
+use Rattle.std.proofs.Common.{refl, ◌∙◌}
 use Rattle.lus_tree.proofs.Views.{view-ModeName}
 use Rattle.lus_grammar.specs.Phrase.{Primary}
 use Rattle.lus_grammar.specs.Stream.{stream}

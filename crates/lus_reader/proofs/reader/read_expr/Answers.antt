@@ -1,19 +1,16 @@
 -- What is answered for an item's expression.
-use Rattle.std.proofs.Common.{◌≡◌, ℕ, ◌+◌, ◌<◌, ◌≤◌, length, take, min, List, refl, sym, ap, ◌∙◌, subst, arith}
+use Rattle.std.proofs.Common.{◌+◌, List, subst, arith}
 use Rattle.lus_tree.specs.Reason.{refusal_view}
-use Rattle.lus_tree.specs.Tree.{Expression as Tree}
 use Rattle.lus_lexer.specs.declared.token.Token.{Token}
-use Rattle.lus_grammar.specs.Answers.{Reads, Refuses}
-use Rattle.lus_grammar.specs.Phrase.{Expression, limited, part}
+use Rattle.lus_grammar.specs.Phrase.{Expression, part}
 use Rattle.lus_grammar.specs.Run.{Run, stop, unexpected}
 use Rattle.lus_grammar.specs.Source.{limit}
 use Rattle.lus_grammar.specs.Stream.{stream}
-use Rattle.lus_grammar.specs.Trees.{expression_of}
 use Rattle.lus_reader.specs.declared.stop.Stop.{Stop}
-use Rattle.lus_reader.specs.Look.{AreFirst, Stopped}
+use Rattle.lus_reader.specs.Look.{Stopped}
 use Rattle.lus_reader.specs.Outcome.{IsRead}
 use Rattle.lus_reader.specs.View.{counts_view}
-use Rattle.lus_reader.proofs.Limits.{front, first_ones, few_tokens, read_within, read_past, stop_within, stop_past, refused_large, refused_token, is_text, is_no_text}
+use Rattle.lus_reader.proofs.Limits.{first_ones, few_tokens, read_within, read_past, stop_within, stop_past, refused_large, refused_token, is_text, is_no_text}
 use Rattle.lus_reader.proofs.reader.read_expr.Goals as goal
 
 pub read_expression-requires : goal.read_expression-requires

@@ -1,4 +1,4 @@
-use Rattle.std.proofs.Common.{◌≤◌, length, ap, sym, ◌∙◌, arith}
+use Rattle.std.proofs.Common.{ap, sym, ◌∙◌, arith}
 use Rattle.lus_grammar.specs.Stream.{Mark}
 use Rattle.lus_reader.proofs.Streams.{stream_inside, stream_outside}
 use Rattle.lus_reader.proofs.refusal.place_at.Goals as goal

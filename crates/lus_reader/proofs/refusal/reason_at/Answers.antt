@@ -1,8 +1,5 @@
-use Rattle.std.proofs.Common.{inl, inr, sym, ap, ◌∙◌, subst}
-use Rattle.lus_tree.specs.Reason.{left_out}
-use Rattle.lus_grammar.specs.Run.{unexpected}
-use Rattle.lus_grammar.specs.Source.{IsReason, word_left_out, other}
-use Rattle.lus_grammar.specs.Stream.{stream}
+use Rattle.std.proofs.Common.{inr, sym, ◌∙◌}
+use Rattle.lus_grammar.specs.Source.{word_left_out, other}
 use Rattle.lus_reader.proofs.Operands.{left_out_word, not_left_out}
 use Rattle.lus_reader.proofs.refusal.reason_at.Goals as goal
 

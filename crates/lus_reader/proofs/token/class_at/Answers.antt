@@ -1,4 +1,4 @@
-use Rattle.std.proofs.Common.{◌≤◌, length, ap, arith}
+use Rattle.std.proofs.Common.{ap, arith}
 use Rattle.lus_grammar.specs.Stream.{Mark}
 use Rattle.lus_reader.proofs.Streams.{stream_inside, stream_outside}
 use Rattle.lus_reader.proofs.token.class_at.Goals as goal

@@ -1,4 +1,4 @@
-use Rattle.std.proofs.Common.{length, ap}
+use Rattle.std.proofs.Common.{ap}
 use Rattle.lus_grammar.specs.Stream.{Mark}
 use Rattle.lus_reader.proofs.Streams.{stream_inside}
 use Rattle.lus_reader.proofs.token.pos_at.Goals as goal

@@ -1,5 +1,4 @@
-use Rattle.std.proofs.Common.{ap, sym, ◌∙◌, Some, arith}
-use Rattle.lus_lexer.specs.declared.token.Class.TheVariants.{Number}
+use Rattle.std.proofs.Common.{ap}
 use Rattle.lus_grammar.specs.Stream.{Mark}
 use Rattle.lus_reader.proofs.Streams.{stream_inside}
 use Rattle.lus_reader.proofs.Texts.{fits, no_token}

@@ -1,5 +1,3 @@
-use Rattle.std.proofs.Common.{sym, subst, List, ℕ}
-use Rattle.std.specs.Str.{IsUtf8}
 use Rattle.lus_reader.proofs.Texts.{utf8, no_token}
 use Rattle.lus_reader.proofs.word.string_at.Goals as goal
 

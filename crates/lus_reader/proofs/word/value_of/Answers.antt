@@ -1,5 +1,5 @@
-use Rattle.std.proofs.Common.{◌≡◌, ◌+◌, ◌*◌, ◌-◌, ◌<◌, length, get_or, refl, arith}
-use Rattle.lus_lexer.specs.Tokens.{byte, value}
+use Rattle.std.proofs.Common.{◌<◌, length, refl, arith}
+use Rattle.lus_lexer.specs.Tokens.{byte}
 use Rattle.lus_reader.proofs.Texts.{digit_read}
 use Rattle.lus_reader.proofs.word.value_of.Goals as goal
 
