@@ -36,9 +36,10 @@ source_of() {
 (cd crates/reader_count && rt run -- data/toggle.lus >"$work/build" 2>&1) || { cat "$work/build"; exit 1; }
 program=$top/crates/reader_count/out/reader_count
 
-# The declarations of a file, and the instructions of the whole program on it.
+# The declarations of a file, and the instructions of the whole program on it. The C library keeps
+# no small freed pieces apart, since it would gather them at one size and not at another.
 counted() {
-    declarations=$(valgrind --tool=callgrind --callgrind-out-file="$work/counts" "$program" "$1" 2>"$work/log")
+    declarations=$(GLIBC_TUNABLES=glibc.malloc.mxfast=0 valgrind --tool=callgrind --callgrind-out-file="$work/counts" "$program" "$1" 2>"$work/log")
     echo "$declarations $(awk '/Collected/ { print $4 }' "$work/log")"
 }
 
