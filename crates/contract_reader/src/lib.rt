@@ -11,5 +11,7 @@ mod locals;
 mod mode;
 mod node;
 mod program;
+#[cfg(test)]
+mod tests;
 
 pub use program::{one_tree, read_program};

@@ -63,23 +63,10 @@ fn show_word(out: &mut String, word: &Word, places: bool) -> Result<(), AllocErr
 }
 
 #[cycle(show)]
-fn show_two(
-    out: &mut String,
-    a: &Expr,
-    sign: &str,
-    b: &Expr,
-    places: bool,
-) -> Result<(), AllocError> {
-    out.push_str("(")?;
-    show(out, a, places)?;
-    write!(out, " {sign} ")?;
-    show(out, b, places)?;
-    out.push_str(")")
-}
-
-#[cycle(show)]
 fn show_one(out: &mut String, sign: &str, a: &Expr, places: bool) -> Result<(), AllocError> {
-    write!(out, "({sign} ")?;
+    out.push_str("(")?;
+    out.push_str(sign)?;
+    out.push_str(" ")?;
     show(out, a, places)?;
     out.push_str(")")
 }
@@ -123,7 +110,15 @@ fn show_form(out: &mut String, form: &Form, places: bool) -> Result<(), AllocErr
             show(out, b, places)?;
             out.push_str(")")
         }
-        Form::Binary(o, a, b) => show_two(out, a, sign(*o), b, places),
+        Form::Binary(o, a, b) => {
+            out.push_str("(")?;
+            show(out, a, places)?;
+            out.push_str(" ")?;
+            out.push_str(sign(*o))?;
+            out.push_str(" ")?;
+            show(out, b, places)?;
+            out.push_str(")")
+        }
         Form::If(a, b, c) => {
             out.push_str("(if ")?;
             show(out, a, places)?;
