@@ -1,6 +1,0 @@
-pub mod Truth
-pub mod Code
-pub mod Columns
-pub mod Listed
-pub mod Broken
-pub mod Replayed

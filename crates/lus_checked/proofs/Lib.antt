@@ -1,4 +1,0 @@
-pub mod Marks
-pub mod Needs
-pub mod Count
-pub mod Node

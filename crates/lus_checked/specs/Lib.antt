@@ -1,4 +1,0 @@
-pub mod Followed
-pub mod Ordered
-pub mod Refusals
-pub mod Rows
