@@ -6,9 +6,7 @@
 # each, less those that it takes for an empty file, where valgrind is there.
 set -eu
 
-top=$(pwd)
-work=$(mktemp -d)
-trap 'rm -rf "$work"' EXIT
+. bench/per_byte.sh
 
 # The first `$1` bytes of such a source; a line that would be cut is left out, for blanks.
 source_of() {
@@ -32,33 +30,4 @@ source_of() {
     }'
 }
 
-(cd crates/lexer_count && rt run -- data/toggle.lus >"$work/build" 2>&1) || { cat "$work/build"; exit 1; }
-program=$top/crates/lexer_count/out/lexer_count
-
-# The tokens of a file, and the instructions of the whole program on it.
-counted() {
-    tokens=$(valgrind --tool=callgrind --callgrind-out-file="$work/counts" "$program" "$1" 2>"$work/log")
-    echo "$tokens $(awk '/Collected/ { print $4 }' "$work/log")"
-}
-
-if ! command -v valgrind >/dev/null; then
-    echo "valgrind is not there: nothing is counted"
-    exit 0
-fi
-: >"$work/empty"
-start=$(counted "$work/empty" | cut -d' ' -f2)
-echo "an empty file: $start instructions"
-echo "bytes tokens instructions per-byte growth"
-before=0
-for kilobytes in 128 256 512 1024; do
-    bytes=$((kilobytes * 1024))
-    source_of $bytes >"$work/source"
-    row=$(counted "$work/source")
-    count=$((${row#* } - start))
-    awk -v b=$bytes -v t="${row% *}" -v c="$count" -v p="$before" 'BEGIN {
-        growth = p ? sprintf("%.3f", c / p) : "-"
-        printf "%d %d %d %.1f %s\n", b, t, c, c / b, growth
-        if (c / b >= 60 || (p && (c / p < 1.9 || c / p > 2.1))) exit 1
-    }' || { echo "too slow, or not linear"; exit 1; }
-    before=$count
-done
+measure lexer_count tokens 60
