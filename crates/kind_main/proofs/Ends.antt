@@ -2,6 +2,7 @@
 use Rattle.std.proofs.Common.{◌≡◌, ◌≢◌, ℕ, ◌⊎◌, inl, inr, List, [], ◌∷◌, ◌++◌, refl, sym, ap, ◌∙◌, subst, arith, append-nil}
 use Rattle.std.specs.Io.KnownBytes.{Appends}
 use Rattle.lus_tree.specs.Tree.{Program, Component}
+use Rattle.lus_meaning.specs.TraceView.{Listing}
 use Rattle.kind_main.specs.Words.{AreReplay}
 use Rattle.kind_main.specs.Lines.{Line, text_of, usage_line, memory_line, read_fault_line}
 use Rattle.kind_main.specs.Report.{code_of, IsReplay}
@@ -34,7 +35,7 @@ module _ (told : Tells) (before now : ℕ) (words : List (List ℕ)) (puts_befor
   one_or_ten [] = inr refl
   one_or_ten (l ∷ ls) = inl refl
 
-  replay_code : (p : Program) (d : Component) (n : ℕ) (lines : List Line) (code : ℕ) → IsReplay p d n lines code → (code ≡ 1) ⊎ (code ≡ 10)
+  replay_code : (p : Program) (d : Component) (n : Listing) (lines : List Line) (code : ℕ) → IsReplay p d n lines code → (code ≡ 1) ⊎ (code ≡ 10)
   replay_code p d n lines code r = elim (one_or_ten r.broken) [ inl e ↦ inl (r.status ∙ e) | inr e ↦ inr (r.status ∙ e) ]
 
   line_alone : (lines : List Line) (line : Line) → lines ≡ line ∷ [] → Appends old new (text_of lines) → Appends old new line
@@ -47,11 +48,11 @@ module _ (told : Tells) (before now : ℕ) (words : List (List ℕ)) (puts_befor
   replayed_of code (E.answer lines (A.no_trace file trace p d m s r l c) w) h = absurd (elim h [ inl e ↦ omega arith | inr e ↦ omega arith ])
   replayed_of code (E.answer lines (A.trace_refused file trace p d line m s r l c) w) h = absurd (elim h [ inl e ↦ omega arith | inr e ↦ omega arith ])
   replayed_of code (E.answer lines (A.replayed file trace p d n m s t r) w) h =
-      record { file = file; trace = trace; command = m; program = p; node = d; source_held = s; instants = n; trace_held = t; lines = lines; replay = r; printed = w }
+      record { file = file; trace = trace; command = m; program = p; node = d; source_held = s; listing = n; trace_held = t; lines = lines; replay = r; printed = w }
   replayed_of code (E.failed text c r t w) h = absurd (elim h [ inl e ↦ omega arith | inr e ↦ omega arith ])
   replayed_of code (E.no_memory lines c f w) h = absurd (elim h [ inl e ↦ omega arith | inr e ↦ omega arith ])
 
-  other_code : (p : Program) (d : Component) (n : ℕ) (lines : List Line) (code k : ℕ) → IsReplay p d n lines code → code ≡ k → k ≢ 1 → k ≢ 10 → ⊥
+  other_code : (p : Program) (d : Component) (n : Listing) (lines : List Line) (code k : ℕ) → IsReplay p d n lines code → code ≡ k → k ≢ 1 → k ≢ 10 → ⊥
   other_code p d n lines code k r e one ten = elim (replay_code p d n lines code r) [ inl f ↦ one (sym e ∙ f) | inr f ↦ ten (sym e ∙ f) ]
 
   pub usage_of : (code : ℕ) → Ends told before now words puts_before puts_now old new code → code ≡ 2 → IsUsage words old new

@@ -1,9 +1,9 @@
 -- Numbers of occurrences that go on from a count to another.
-use Rattle.std.proofs.Common.{◌≡◌, ℕ, zero, suc, ◌+◌, List, [], ◌∷◌, ◌++◌, length, refl, ap, ◌∙◌, sym, arith}
+use Rattle.std.proofs.Common.{◌≡◌, ℕ, zero, suc, ◌+◌, List, [], ◌∷◌, ◌++◌, length, refl, ap, ◌∙◌, sym, subst, arith}
 use Rattle.lus_tree.specs.Tree as T
 use Rattle.lus_tree.specs.Tree.{Expression}
 use Rattle.lus_tree.specs.Numbers.{counting, pres, arrows}
-use Rattle.lus_meaning.specs.Rules.{IsSimple}
+use Rattle.lus_meaning.specs.BooleanRules.{IsBooleanExpression}
 use Rattle.lus_grammar.specs.Syntax.{Counts}
 use Rattle.lus_grammar.specs.Trees.{put_at}
 
@@ -73,21 +73,21 @@ put_arrows s (T.call p k w xs) = refl
 put_arrows s (T.condact p k a w xs ds) = refl
 put_arrows s (T.mode_name p c m) = refl
 
-pub put_simple : (s : T.Place) (e : Expression) → IsSimple (put_at s e) → IsSimple e
-put_simple s (T.truth p b) h = h
-put_simple s (T.number p n) h = h
-put_simple s (T.name p x) h = h
-put_simple s (T.negation p a) h = h
-put_simple s (T.minus p a) h = h
-put_simple s (T.pre p k a) h = h
-put_simple s (T.arrow p k a b) h = h
-put_simple s (T.binary p o a b) h = h
-put_simple s (T.choice p a b c) h = h
-put_simple s (T.sampled p a b w) h = h
-put_simple s (T.merged p w a b) h = h
-put_simple s (T.call p k w xs) h = h
-put_simple s (T.condact p k a w xs ds) h = h
-put_simple s (T.mode_name p c m) h = h
+pub put_boolean : (s : T.Place) (e : Expression) → IsBooleanExpression (put_at s e) → IsBooleanExpression e
+put_boolean s (T.truth p b) h = h
+put_boolean s (T.number p n) h = h
+put_boolean s (T.name p x) h = h
+put_boolean s (T.negation p a) h = h
+put_boolean s (T.minus p a) h = h
+put_boolean s (T.pre p k a) h = h
+put_boolean s (T.arrow p k a b) h = h
+put_boolean s (T.binary p o a b) h = h
+put_boolean s (T.choice p a b c) h = h
+put_boolean s (T.sampled p a b w) h = h
+put_boolean s (T.merged p w a b) h = h
+put_boolean s (T.call p k w xs) h = h
+put_boolean s (T.condact p k a w xs ds) h = h
+put_boolean s (T.mode_name p c m) h = h
 
 -- the numbers of `pre` and of `->` go on from some counts to others
 pub record On (n m : Counts) (ps qs : List ℕ) : Type 0 where
@@ -102,3 +102,10 @@ nothing_on n = record { pres = none_on n.pres; arrows = none_on n.arrows }
 
 pub then_on : (n k m : Counts) (ps qs ps' qs' : List ℕ) → On n k ps qs → On k m ps' qs' → On n m (ps ++ ps') (qs ++ qs')
 then_on n k m ps qs ps' qs' a b = record { pres = both_on n.pres k.pres m.pres ps ps' a.pres b.pres; arrows = both_on n.arrows k.arrows m.arrows qs qs' a.arrows b.arrows }
+
+-- counts that are the same
+pub from_same : (n n' m : Counts) (ps qs : List ℕ) → n' ≡ n → On n' m ps qs → On n m ps qs
+from_same n n' m ps qs e a = subst (λ x. On x m ps qs) e a
+
+pub to_same : (n m m' : Counts) (ps qs : List ℕ) → m' ≡ m → On n m ps qs → On n m' ps qs
+to_same n m m' ps qs e a = subst (λ x. On n x ps qs) (sym e) a

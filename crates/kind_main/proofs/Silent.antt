@@ -17,6 +17,7 @@ silent_part P.Group = true
 silent_part P.Names = true
 silent_part P.Sort = true
 silent_part P.Left = true
+silent_part P.LocalGroup = true
 silent_part _ = false
 
 abbrev pub silent : Phrase → Bool
@@ -37,6 +38,7 @@ silent_body P.Group e = refl
 silent_body P.Names e = refl
 silent_body P.Sort e = refl
 silent_body P.Left e = refl
+silent_body P.LocalGroup e = refl
 silent_body _ e = absurd (false≢true e)
 
 left_silent : (a b : Bool) → (a && b) ≡ true → a ≡ true

@@ -6,6 +6,7 @@ use Rattle.kind_io.specs.Written.{AppendsFront}
 use Rattle.lus_tree.specs.Tree.{Program, Component}
 use Rattle.kind_main.specs.Words.{AreReplay, AreNoCommand}
 use Rattle.kind_main.specs.Lines.{Line, text_of, usage_line, memory_line, read_fault_line}
+use Rattle.lus_meaning.specs.TraceView.{Listing}
 use Rattle.kind_main.specs.Report.{IsReplay}
 use Rattle.kind_main.specs.Answer.{Tells, HoldsSource, IsRefused, HoldsTrace, IsRefusedTrace, IsAnswer}
 
@@ -29,7 +30,7 @@ pub data Ends (told : Tells) (before now : ℕ) (words : List (List ℕ)) (puts_
 abbrev pub Written : Type 0
 Written = Option (List ℕ)
 
--- Status 1 or 10: the files hold a source that follows the rules and a trace of its node, and what was written grew by the lines of the trace's one frame.
+-- Status 1 or 10: the files hold a source that follows the rules and a trace that fits it, and what was written grew by the lines of the trace's one frame.
 pub record IsReplayed (told : Tells) (words : List (List ℕ)) (old new : Written) (code : ℕ) : Type 0 where
   pub file : List ℕ
   pub trace : List ℕ
@@ -37,10 +38,10 @@ pub record IsReplayed (told : Tells) (words : List (List ℕ)) (old new : Writte
   pub program : Program
   pub node : Component
   pub source_held : HoldsSource told file program node
-  pub instants : ℕ
-  pub trace_held : HoldsTrace told trace node instants
+  pub listing : Listing
+  pub trace_held : HoldsTrace told trace program listing
   pub lines : List Line
-  pub replay : IsReplay program node instants lines code
+  pub replay : IsReplay program node listing lines code
   pub printed : Appends old new (text_of lines)
 
 -- Status 2: the words are of no form that is built, and the usage line was written.
@@ -54,7 +55,7 @@ pub record IsRefusal (told : Tells) (words : List (List ℕ)) (old new : Written
   pub trace : List ℕ
   pub command : AreReplay words file trace
   pub line : Line
-  pub cause : IsRefused told file line ⊎ ((p : Program) × (d : Component) × HoldsSource told file p d × IsRefusedTrace told trace d line)
+  pub cause : IsRefused told file line ⊎ ((p : Program) × (d : Component) × HoldsSource told file p d × IsRefusedTrace told trace p line)
   pub printed : Appends old new line
 
 -- Status 5: a file could not be read, the source or, where that is held, the trace, and the line that names it was written.

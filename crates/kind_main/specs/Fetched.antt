@@ -1,5 +1,5 @@
 -- What became of a file that was fetched and read, and the answers that follow.
-use Rattle.std.specs.Prelude.{◌≡◌, ◌≤◌, ℕ, List, [], ◌∷◌, length}
+use Rattle.std.specs.Prelude.{◌≡◌, ◌≤◌, ◌⊎◌, ℕ, List, [], ◌∷◌, length, Some}
 use Rattle.kind_io.specs.Counts.{Rose}
 use Rattle.kind_io.specs.Told.{Told, MayHold, MayExceed}
 use Rattle.lus_tree.specs.Tree.{Program, Component}
@@ -12,6 +12,11 @@ use Rattle.lus_tree.specs.Reason.{refusal_view}
 use Rattle.lus_grammar.specs.Source.{IsSource, IsRefused as IsSourceRefused}
 use Rattle.kind_main.specs.declared.answer.SourceRead.{SourceRead}
 use Rattle.kind_main.specs.declared.answer.SourceRead.TheVariants.{Checked, Refused, NotBuilt}
+use Rattle.kind_main.specs.declared.answer.TraceRead.{TraceRead}
+use Rattle.kind_main.specs.declared.answer.TraceRead.TheVariants.{Fits, Misfit}
+use Rattle.lus_meaning.specs.TraceView.{Listing, trace_view}
+use Rattle.lus_meaning.specs.Fits.{misfit, FitsProgram}
+use Rattle.trace_replay.specs.Traces.{IsTraceText, ArePlaced, FirstMisfit}
 use Rattle.kind_main.specs.Answer.{Tells, limit, HoldsSource, IsNotBuilt, IsRefused, HoldsTrace, IsRefusedTrace}
 
 abbrev pub IsFetched : Told → ℕ → ℕ → Fetched → Type 0
@@ -24,11 +29,15 @@ IsReadAs bytes (Checked c) = IsSource bytes (program_view c)
 IsReadAs bytes (Refused r) = IsSourceRefused bytes (refusal_view r)
 IsReadAs bytes NotBuilt = IsNotBuilt bytes
 
+abbrev pub IsTraceReadAs : Program → List ℕ → TraceRead → Type 0
+IsTraceReadAs p bytes (Fits t) = IsTraceText bytes (trace_view t) × ArePlaced (trace_view t) × FitsProgram p (trace_view t)
+IsTraceReadAs p bytes (Misfit at) = FirstMisfit bytes at ⊎ ((t : Listing) × IsTraceText bytes t × (misfit p t ≡ Some at))
+
 -- the answer of a trace, where the source holds this node
 pub data IsTraceAnswer (told : Tells) (before now : ℕ) (trace : List ℕ) (p : Program) (d : Component) (lines : List Line) (code : ℕ) : Type 0 where
   trace_unread : Rose before now → lines ≡ read_fault_line trace ∷ [] → code ≡ 5 → IsTraceAnswer told before now trace p d lines code
-  trace_refused : (line : Line) → IsRefusedTrace told trace d line → lines ≡ line ∷ [] → code ≡ 3 → IsTraceAnswer told before now trace p d lines code
-  trace_replayed : (n : ℕ) → HoldsTrace told trace d n → IsReplay p d n lines code → IsTraceAnswer told before now trace p d lines code
+  trace_refused : (line : Line) → IsRefusedTrace told trace p line → lines ≡ line ∷ [] → code ≡ 3 → IsTraceAnswer told before now trace p d lines code
+  trace_replayed : (t : Listing) → HoldsTrace told trace p t → IsReplay p d t lines code → IsTraceAnswer told before now trace p d lines code
 
 -- the answer of a source and a trace
 pub data IsFilesAnswer (told : Tells) (before now : ℕ) (file trace : List ℕ) (lines : List Line) (code : ℕ) : Type 0 where

@@ -1,12 +1,7 @@
-pub mod Table
 pub mod Lines
 pub mod Words
-pub mod Traces
 pub mod Report
-pub mod Breaks
 pub mod Answer
 pub mod Printing
-pub mod Cutting
-pub mod Cutter
 pub mod Fetched
 pub mod Ending

@@ -1,5 +1,6 @@
 -- The lines that the program prints. Each ends with a line feed.
-use Rattle.std.specs.Prelude.{ℕ, List, [], ◌∷◌, ◌++◌, codes, decimal}
+use Rattle.std.specs.Prelude.{ℕ, List, [], ◌∷◌, ◌++◌, codes, decimal, Option, Some, None}
+use Rattle.lus_tree.specs.Tree.{Name}
 use Rattle.lus_tree.specs.declared.place.Pos.{Pos}
 use Rattle.lus_tree.specs.Reason.{Reason, too_long, bad_byte, unclosed_comment, wide_literal, unexpected, too_large, left_out, name_twice, name_unknown, type_clash, arity_clash, not_linear, zero_divisor, not_constant, heavy, clock_clash, equation_twice, input_defined, cycle, node_recursion, not_stateless, assume_reads_output, no_node, main_unknown, mode_unknown, too_many, not_built, memory, Refused}
 use Rattle.lus_meaning.specs.Contract.{Property}
@@ -65,8 +66,9 @@ refused_line r = codes "refused " ++ (decimal r.at.line ++ (codes ":" ++ (decima
 abbrev pub not_built_line : Line
 not_built_line = codes "refused 1:1 NotBuilt\n"
 
-abbrev pub formless_line : Line
-formless_line = codes "refused trace 1:1 Form\n"
+-- `refused trace L:C Form`
+abbrev pub formless_line : Pos → Line
+formless_line at = codes "refused trace " ++ (decimal at.line ++ (codes ":" ++ (decimal at.column ++ codes " Form\n")))
 
 -- the empty name is standard input
 abbrev pub shown_name : List ℕ → List ℕ
@@ -82,6 +84,7 @@ breaks_line p t = codes "breaks " ++ (label_of p ++ (codes " at " ++ (decimal t 
 abbrev pub lawful_line : ℕ → ℕ → Line
 lawful_line a n = codes "lawful " ++ (decimal a ++ (codes " of " ++ (decimal n ++ codes "\n")))
 
--- the line of a property without a text that breaks
-abbrev pub place_breaks : Pos → ℕ → Line
-place_breaks at t = codes "breaks property @" ++ (decimal at.line ++ (codes ":" ++ (decimal at.column ++ (codes " at " ++ (decimal t ++ codes "\n")))))
+-- the label of a property in quotes, or its place, and the instant at which it breaks
+abbrev pub property_breaks : Option Name → Pos → ℕ → Line
+property_breaks None at t = codes "breaks property @" ++ (decimal at.line ++ (codes ":" ++ (decimal at.column ++ (codes " at " ++ (decimal t ++ codes "\n")))))
+property_breaks (Some x) at t = codes "breaks property \"" ++ (x ++ (codes "\" at " ++ (decimal t ++ codes "\n")))

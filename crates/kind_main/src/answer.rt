@@ -6,24 +6,26 @@ ghost use Rattle.kind_io.specs.Told.{Told, MayHold, MayExceed};
 ghost use Rattle.lus_tree.specs.Tree.{Program, Component, declared_node};
 ghost use Rattle.lus_tree.specs.View.{program_view, node_view};
 ghost use Rattle.lus_tree.specs.Reason.{refusal_view};
-ghost use Rattle.lus_meaning.specs.Rules.{IsChecked};
+ghost use Rattle.lus_meaning.specs.BooleanRules.{IsBooleanChecked};
+ghost use Rattle.lus_meaning.specs.TraceView.{trace_view};
+ghost use Rattle.lus_meaning.specs.Fits.{FitsProgram};
+ghost use Rattle.trace_replay.specs.Traces.{ArePlaced};
 ghost use Rattle.kind_main.specs.Lines.{Line, usage_line, too_long_line, not_built_line, formless_line, read_fault_line, refused_line};
-ghost use Rattle.kind_main.specs.Traces.{IsTrace};
 ghost use Rattle.kind_main.specs.Report.{code_of, IsReplay};
 ghost use Rattle.kind_main.specs.Answer.{Tells, limit, HoldsSource, IsRefused, HoldsTrace, IsRefusedTrace, IsAnswer};
-ghost use Rattle.kind_main.specs.Fetched.{IsFetched, IsReadAs, IsTraceAnswer, IsFilesAnswer};
+ghost use Rattle.kind_main.specs.Fetched.{IsFetched, IsReadAs, IsTraceReadAs, IsTraceAnswer, IsFilesAnswer};
 
-use crate::lefts::left_names;
-use crate::report::breaks;
+use crate::report::break_lines;
 use crate::status::Status;
-use crate::table::table;
-use crate::text::{lawful_text, read_fault_text, refused_text};
-use crate::trace::read_trace;
+use crate::text::{formless_text, lawful_text, read_fault_text, refused_text};
 use crate::words::command;
+use boolean_replay::replay;
 use contract_reader::read_program;
 use kind_io::{FetchFault, Shelf};
-use lus_meaning::{Checked, checked};
-use lus_tree::{Node, Refusal, What};
+use lus_checked::{Checked, checked};
+use lus_meaning::Trace;
+use lus_tree::{Pos, Refusal, What};
+use trace_replay::{ReplayFault, TraceFault, fits, read_trace};
 use std::alloc::{AllocError, Global};
 
 /// The most bytes of a source or of a trace.
@@ -95,9 +97,12 @@ fn read_source(alloc: Global, bytes: &[u8]) -> Result<SourceRead, AllocError>
     ensures { IfOk result (λ r. IsReadAs bytes.now r) }
 {
     match read_program(alloc, bytes) {
-        Ok(program) => match checked(program) {
+        Ok(program) => match checked(alloc, program) {
             Ok(checked) => Ok(SourceRead::Checked(checked)),
-            Err(_) => Ok(SourceRead::NotBuilt),
+            Err(refusal) => match refusal.what {
+                What::Memory => Err(AllocError),
+                _ => Ok(SourceRead::NotBuilt),
+            },
         },
         Err(refusal) => match refusal.what {
             What::Memory => Err(AllocError),
@@ -126,19 +131,51 @@ fn break_status(lines: &[String]) -> Status
     }
 }
 
-/// The answer of a replay of n instants of a node that follows the rules.
-fn replay_answer(alloc: Global, node: &Node, n: u32) -> Result<Answer, AllocError>
-    requires checked { IsChecked (declared_node (node_view node.now) ∷ []) (node_view node.now) }
-    requires few { n ≤ 1001 }
-    ensures { IfOk result (λ a. IsReplay (declared_node (node_view node.now) ∷ []) (node_view node.now) n (map string_bytes a.lines.items) a.status.code) }
+/// What became of the bytes of a trace.
+#[derive(Drop)]
+pub enum TraceRead {
+    Fits(Trace),
+    Misfit(Pos),
+}
+
+/// Reads a trace, and looks whether it fits the program.
+fn read_fitting(alloc: Global, checked: &Checked, bytes: &[u8]) -> Result<TraceRead, AllocError>
+    requires { length bytes.now ≤ 1048576 }
+    ensures { IfOk result (IsTraceReadAs (program_view checked.now) bytes.now) }
 {
-    let order = left_names(alloc, &node.items)?;
-    let kept = table(alloc, &order, &node.items, n)?;
-    let mut lines = breaks(alloc, &order, &kept, &node.items, n)?;
+    match read_trace(alloc, bytes) {
+        Ok(trace) => match fits(alloc, checked, &trace) {
+            Ok(()) => Ok(TraceRead::Fits(trace)),
+            Err(ReplayFault::Form(at)) => Ok(TraceRead::Misfit(at)),
+            Err(ReplayFault::Memory) => Err(AllocError),
+        },
+        Err(TraceFault::Form(at)) => Ok(TraceRead::Misfit(at)),
+        Err(TraceFault::Memory) => Err(AllocError),
+    }
+}
+
+/// The answer of a replay of a trace that fits.
+fn replay_answer(alloc: Global, checked: &Checked, trace: &Trace) -> Result<Answer, AllocError>
+    requires placed { ArePlaced (trace_view trace.now) }
+    requires fits { FitsProgram (program_view checked.now) (trace_view trace.now) }
+    ensures { IfOk result (λ a. (d : Component) → IsBooleanChecked (program_view checked.now) d → IsReplay (program_view checked.now) d (trace_view trace.now) (map string_bytes a.lines.items) a.status.code) }
+{
+    let replay = replay(alloc, checked, trace)?;
+    let mut lines = break_lines(alloc, &checked.node().items, &replay.broken)?;
     let status = break_status(&lines);
-    let last = lawful_text(alloc, n, n)?;
+    let last = lawful_text(alloc, replay.lawful(), trace.length)?;
     lines.push(last)?;
     Ok(Answer { lines, status })
+}
+
+/// The answer of a trace that is refused.
+fn formless(alloc: Global, at: Pos) -> Result<Answer, AllocError>
+    ensures lines { IfOk result (λ a. map string_bytes a.lines.items ≡ formless_line at ∷ []) }
+    ensures status { IfOk result (λ a. a.status.code ≡ 3) }
+{
+    let line = formless_text(alloc, at)?;
+    let answer = one_line(alloc, line.as_str(), 3)?;
+    Ok(answer)
 }
 
 /// The answer of a trace of a checked source.
@@ -148,16 +185,16 @@ fn trace_answer<H: Shelf>(
     trace: &str,
     shelf: &mut H,
 ) -> Result<Answer, AllocError>
-    ensures { IfOk result (λ a. (d : Component) × IsChecked (program_view checked.now) d × IsTraceAnswer (H.told shelf.old) (H.faults shelf.old) (H.faults shelf.new) trace.now
+    ensures { IfOk result (λ a. (d : Component) × IsBooleanChecked (program_view checked.now) d × IsTraceAnswer (H.told shelf.old) (H.faults shelf.old) (H.faults shelf.new) trace.now
         (program_view checked.now) d (map string_bytes a.lines.items) a.status.code) }
 {
-    let node = checked.node();
+    let _node = checked.node();
     match fetch(alloc, trace, shelf)? {
         Fetched::Failed => Ok(read_fault(alloc, trace)?),
         Fetched::TooLong => Ok(one_line(alloc, "refused 1:1 TooLong\n", 3)?),
-        Fetched::Bytes(bytes) => match read_trace(alloc, &bytes, node.name.text.as_str())? {
-            None => Ok(one_line(alloc, "refused trace 1:1 Form\n", 3)?),
-            Some(n) => Ok(replay_answer(alloc, node, n)?),
+        Fetched::Bytes(bytes) => match read_fitting(alloc, checked, &bytes)? {
+            TraceRead::Misfit(at) => Ok(formless(alloc, at)?),
+            TraceRead::Fits(trace) => Ok(replay_answer(alloc, checked, &trace)?),
         },
     }
 }

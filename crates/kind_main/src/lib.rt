@@ -2,14 +2,11 @@
 #![tactic(auto)]
 
 mod answer;
-mod lefts;
 mod print;
 mod report;
 mod status;
-mod table;
 mod text;
 mod top;
-mod trace;
 mod words;
 
 pub use status::Status;

@@ -1,19 +1,25 @@
 //! The texts of printed lines.
 ghost use Rattle.std.specs.Prelude.{◌≡◌, ◌++◌, ℕ, List, [], ◌∷◌, codes, decimal, IfOk};
 ghost use Rattle.std.specs.String.{string_bytes};
+ghost use Rattle.lus_tree.specs.View.{named_view};
 ghost use Rattle.lus_tree.specs.Reason.{refusal_view, what_view};
-ghost use Rattle.kind_main.specs.Lines.{lawful_line, read_fault_line, place_breaks, refused_line, rule_name, rule_more};
+ghost use Rattle.kind_main.specs.Lines.{lawful_line, read_fault_line, property_breaks, formless_line, refused_line, rule_name, rule_more};
 
-use lus_tree::{Pos, Refusal, What};
+use lus_tree::{Named, Pos, Refusal, What};
 use std::alloc::{AllocError, Global};
 
-/// `breaks property @L:C at T`
-pub fn breaks_text(alloc: Global, at: Pos, t: u32) -> Result<String, AllocError>
-    ensures { IfOk result (λ text. string_bytes text ≡ place_breaks at t) }
+/// `breaks property "LABEL" at T`, or `breaks property @L:C at T` where the property has no text.
+pub fn breaks_text(alloc: Global, property: &Named, t: u32) -> Result<String, AllocError>
+    ensures { IfOk result (λ text. string_bytes text ≡ property_breaks (named_view property.now).label property.now.value.from t) }
 {
-    let line = at.line;
-    let column = at.column;
-    format!(in alloc; "breaks property @{line}:{column} at {t}\n")
+    match &property.label {
+        Some(label) => format!(in alloc; "breaks property \"{label}\" at {t}\n"),
+        None => {
+            let line = property.value.from.line;
+            let column = property.value.from.column;
+            format!(in alloc; "breaks property @{line}:{column} at {t}\n")
+        }
+    }
 }
 
 /// `lawful A of N`
@@ -90,4 +96,13 @@ pub fn refused_text(alloc: Global, refusal: &Refusal) -> Result<String, AllocErr
     let name = rule_name(&refusal.what);
     let more = rule_more(alloc, &refusal.what)?;
     format!(in alloc; "refused {line}:{column} {name}{more}\n")
+}
+
+/// `refused trace L:C Form`
+pub fn formless_text(alloc: Global, at: Pos) -> Result<String, AllocError>
+    ensures { IfOk result (λ text. string_bytes text ≡ formless_line at) }
+{
+    let line = at.line;
+    let column = at.column;
+    format!(in alloc; "refused trace {line}:{column} Form\n")
 }

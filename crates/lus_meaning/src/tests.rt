@@ -249,18 +249,23 @@ fn a_trace_is_copied(rt: HostRuntime) -> Result<(), Fail> {
         what: Spot::Name(String::from_str(alloc, "x")?),
         values: [Some(Value::Truth(true)), None].to_vec(alloc)?,
         at: AT,
+        places: [AT, AT].to_vec(alloc)?,
     })?;
     lines.push(TraceLine {
         path: Vec::new(alloc),
         what: Spot::First(3),
         values: [Some(Value::Whole(-5))].to_vec(alloc)?,
         at: AT,
+        places: [AT].to_vec(alloc)?,
     })?;
     let node = String::from_str(alloc, "main")?;
     let trace = Trace {
         node,
+        node_at: AT,
         length: 2,
+        length_at: AT,
         lines,
+        end_at: AT,
     };
     let copy = trace.copied(alloc)?;
     assert!(rt; copy.node.as_str() == "main");

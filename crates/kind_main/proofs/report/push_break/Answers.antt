@@ -1,14 +1,12 @@
-use Rattle.std.proofs.Common.{Some, ap, ◌∙◌, sym, string_bytes}
-use Rattle.kind_main.specs.Lines.{place_breaks}
+use Rattle.std.proofs.Common.{◌≡◌, ap, ◌∙◌, sym, string_bytes, Some}
+use Rattle.lus_tree.specs.View.{named_view}
+use Rattle.kind_main.specs.Lines.{property_breaks}
+use Rattle.kind_main.specs.Report.{property_line}
 use Rattle.kind_main.proofs.FirstToken.{expr_token}
 use Rattle.kind_main.proofs.Reporting.{pushed-line}
 use Rattle.kind_main.proofs.report.push_break.Goals as goal
 
-pub returns : goal.returns
-returns c =
-    rw c.in-Property.is (
-      Some c.in-Some.t,
-      c.in-Some.ensures,
-      pushed-line string_bytes _ _ c.in_ok-line.line _ c.in_ok-push.ensures.items
-          (c.in_ok-line.ensures ∙ ap (λ p. place_breaks p c.in-Some.t) (sym (expr_token c.in-Property.property.value))),
-    )
+pub returns-in_ok-push : goal.returns-in_ok-push
+returns-in_ok-push c =
+    let place = ap (λ at. property_breaks (named_view c.args.property.now).label at c.in-Some.t) (sym (expr_token c.args.property.now.value)) in
+    rw c.in-Some.is (pushed-line string_bytes c.args.lines.now.items c.push.new.self.items c.in_ok-line.line _ c.in_ok-push.ensures.items (c.in_ok-line.ensures ∙ place))

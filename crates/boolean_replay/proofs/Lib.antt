@@ -1,0 +1,10 @@
+pub mod Looking
+pub mod Views
+pub mod Filling
+pub mod Named
+pub mod Ordered
+pub mod TableFrame
+pub mod Broken
+pub mod FewNames
+pub mod Replayed
+pub mod Steps

@@ -1,0 +1,13 @@
+use Rattle.std.proofs.Common.{◌++◌, ℕ, length, map, List, Option, drop}
+use Rattle.std.specs.String.{string_bytes}
+use Rattle.lus_tree.specs.View.{item_view}
+use Rattle.lus_meaning.specs.TraceView.{line_view}
+use Rattle.boolean_replay.specs.Code.{code_truth}
+use Rattle.boolean_replay.specs.Columns.{code_of}
+use Rattle.boolean_replay.specs.Listed.{first_in}
+use Rattle.boolean_replay.specs.Broken.{property_values, AreFirstFalse}
+use Rattle.boolean_replay.proofs.broken_at.broken.Given as goal
+
+abbrev pub invariant-loop-item : goal.invariant-loop-item
+invariant-loop-item l = (rest : List (Option ℕ)) → AreFirstFalse (λ e. code_truth l.kept (length l.names) (code_of (map string_bytes l.names) (first_in (map (λ x. (line_view x).line) l.lines)) e)) l.n (property_values (map item_view (drop l.item-index l.items))) rest
+    → AreFirstFalse (λ e. code_truth l.kept (length l.names) (code_of (map string_bytes l.names) (first_in (map (λ x. (line_view x).line) l.lines)) e)) l.n (property_values (map item_view l.items)) (l.found.items ++ rest)

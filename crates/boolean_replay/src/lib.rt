@@ -1,0 +1,15 @@
+//! The replay of a trace on a checked Boolean node: the values of its names, and what it breaks.
+#![tactic(auto)]
+
+mod answers;
+mod broken_at;
+mod code;
+mod listed;
+mod names;
+mod replaying;
+mod rows;
+#[cfg(test)]
+mod tests;
+
+pub use answers::Replay;
+pub use replaying::replay;

@@ -1,0 +1,87 @@
+-- The order of the equations of a node, by its rows.
+use Rattle.std.proofs.Common.{◌≡◌, ℕ, suc, ◌<◌, ◌≤◌, List, [], ◌∷◌, map, length, refl, ap, ◌∙◌, sym, subst, arith, Vec, Global, Option, Some, None, Result, Ok, Err, IfOk, MatchOption}
+use Rattle.std.specs.declared.alloc.AllocError.{AllocError}
+use Rattle.lus_tree.specs.Tree.{Name, Component, declared_node, Program}
+use Rattle.lus_meaning.specs.Run.{Equation, equations, body_equations}
+use Rattle.lus_meaning.specs.Depends.{left_names}
+use Rattle.lus_meaning.specs.Rules.{lefts, declared_names, IsWithinLimits}
+use Rattle.lus_meaning.specs.Order.{needs_equation, AreNext, IsStuck}
+use Rattle.lus_meaning.specs.BooleanRules.{IsBooleanNode, HasBooleanNames, FollowsBooleanRules, BreaksNoBooleanRule, IsNumberedBoolean, label_texts}
+use Rattle.lus_meaning.specs.WellMade.{AreDistinct}
+use Rattle.lus_meaning.proofs.Orders.{whole_order}
+use Rattle.lus_meaning.proofs.BooleanNode.{each_boolean, boolean_equations}
+use Rattle.lus_meaning.proofs.BooleanOrder.{listed_no_cycle, stuck_has_cycle}
+use Rattle.lus_checked.specs.Followed.{HasNoCycle, IsOrderOf}
+use Rattle.lus_checked.specs.Ordered.{AreOrdered}
+use Rattle.lus_checked.specs.Rows.{rows_of, row_needs}
+use Rattle.lus_checked.proofs.Count.{names_fit}
+use Rattle.lus_checked.proofs.Needs.{rows_need, lefts_length, other_next, other_stuck}
+
+abbrev pub Answer : Type 0
+Answer = Result (Option (Vec ℕ Global)) AllocError
+
+as_many : (vs : List (Vec ℕ Global)) → length (map (λ r. r.items) vs) ≡ length vs
+as_many [] = refl
+as_many (v ∷ vs) = ap suc (as_many vs)
+
+rows_length : (xs : List Name) (es : List Equation) → length (rows_of xs es) ≡ length es
+rows_length xs [] = refl
+rows_length xs (e ∷ es) = ap suc (rows_length xs es)
+
+module _ (d : Component) (node : IsBooleanNode d) where
+  pub left_names_are : left_names d ≡ lefts (body_equations d.body)
+  left_names_are = ap lefts (boolean_equations d node)
+
+  module _ (vs : List (Vec ℕ Global)) (are : map (λ r. r.items) vs ≡ rows_of (left_names d) (body_equations d.body)) where
+    abbrev rows : List (List ℕ)
+    rows = map (λ r. r.items) vs
+
+    rows_are : rows ≡ rows_of (lefts (equations d)) (equations d)
+    rows_are = are ∙ ap (rows_of (left_names d)) (sym (boolean_equations d node))
+
+    rows_count : length vs ≡ length (equations d)
+    rows_count = sym (as_many vs) ∙ (ap length rows_are ∙ rows_length (lefts (equations d)) (equations d))
+
+    pub few_rows : HasBooleanNames d → IsWithinLimits d → length vs ≤ 2000
+    few_rows h l =
+        let a : length (left_names d) ≤ length (declared_names d) = names_fit (declared_names d) (left_names d) h.one_equation h.left_declared in
+        let b : length (lefts (equations d)) ≡ length (equations d) = lefts_length (equations d) (each_boolean d node) in
+        let c : length (declared_names d) ≤ 2000 = l.names in
+        let e : length vs ≡ length (equations d) = rows_count in
+        omega arith
+
+    same_needs : (k j : ℕ) → k < length (equations d) → j < length (equations d) → row_needs rows k j ≡ needs_equation (equations d) k j
+    same_needs k j l h = ap (λ r. row_needs r k j) rows_are ∙ rows_need (equations d) (each_boolean d node) k j l h
+
+    order_found : (ks : List ℕ) → AreNext (length vs) (row_needs rows) [] ks → length ks ≡ length vs → HasNoCycle d × IsOrderOf d ks
+    order_found ks a e =
+        let next : AreNext (length (equations d)) (needs_equation (equations d)) [] ks = other_next (length (equations d)) (row_needs rows) (needs_equation (equations d)) same_needs [] ks (subst (λ n. AreNext n (row_needs rows) [] ks) rows_count a) in
+        let whole : length ks ≡ length (equations d) = e ∙ rows_count in
+        (listed_no_cycle d node ks next whole, whole_order (length (equations d)) (needs_equation (equations d)) ks next whole)
+
+    cycle_found : (ks : List ℕ) → IsStuck (length vs) (row_needs rows) ks → HasNoCycle d → ⊥
+    cycle_found ks s = stuck_has_cycle d node ks (other_stuck (length (equations d)) (row_needs rows) (needs_equation (equations d)) same_needs ks (subst (λ n. IsStuck n (row_needs rows) ks) rows_count s))
+
+    pub order_answers : (r : Answer) → IfOk r (λ o. MatchOption o ((ks : List ℕ) × IsStuck (length vs) (row_needs rows) ks) (λ v. AreNext (length vs) (row_needs rows) [] v.items × (length v.items ≡ length vs))) → IfOk r (λ o. MatchOption o (HasNoCycle d → ⊥) (λ v. HasNoCycle d × IsOrderOf d v.items))
+    order_answers (Ok (Some v)) h = order_found v.items h.0 h.1
+    order_answers (Ok None) h = cycle_found h.0 h.1
+    order_answers (Err e) h = tt
+
+  pub rules_answer : HasBooleanNames d → AreDistinct (label_texts d.body) → IsWithinLimits d → (r : Answer) → IfOk r (λ o. MatchOption o (HasNoCycle d → ⊥) (λ v. HasNoCycle d × IsOrderOf d v.items)) → IfOk r (λ o. MatchOption o (FollowsBooleanRules d → ⊥) (λ v. FollowsBooleanRules d × IsOrderOf d v.items))
+  rules_answer n l w (Ok (Some v)) h = (record { shape = node; names = n; labels = l; limits = w; no_cycle = h.0 }, h.1)
+  rules_answer n l w (Ok None) h = λ f. h f.no_cycle
+  rules_answer n l w (Err e) h = tt
+
+pub program_answers : (p : Program) (d : Component) → p ≡ declared_node d ∷ [] → IsNumberedBoolean p → (r : Answer) → IfOk r (λ o. MatchOption o (FollowsBooleanRules d → ⊥) (λ v. FollowsBooleanRules d × IsOrderOf d v.items)) → IfOk r (λ o. MatchOption o (BreaksNoBooleanRule p → ⊥) (λ v. BreaksNoBooleanRule p × AreOrdered p v.items))
+program_answers p d e numbered r h = go r h
+  where
+    same : (d' : Component) → p ≡ declared_node d' ∷ [] → d' ≡ d
+    same d' q = let other : declared_node d' ∷ [] ≡ declared_node d ∷ [] = sym q ∙ e in cc
+
+    go : (r : Answer) → IfOk r (λ o. MatchOption o (FollowsBooleanRules d → ⊥) (λ v. FollowsBooleanRules d × IsOrderOf d v.items)) → IfOk r (λ o. MatchOption o (BreaksNoBooleanRule p → ⊥) (λ v. BreaksNoBooleanRule p × AreOrdered p v.items))
+    go (Ok (Some v)) h = (
+      (d, record { one_node = e; rules = h.0; numbered = numbered d e h.0.shape }),
+      λ d' k. subst (λ c. IsOrderOf c v.items) (sym (same d' k.one_node)) h.1,
+    )
+    go (Ok None) h = λ b. h (subst FollowsBooleanRules (same b.0 b.1.one_node) b.1.rules)
+    go (Err x) h = tt

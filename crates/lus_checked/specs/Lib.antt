@@ -1,0 +1,4 @@
+pub mod Followed
+pub mod Ordered
+pub mod Refusals
+pub mod Rows

@@ -1,0 +1,33 @@
+-- For each equation the numbers of those whose left names it needs.
+use Rattle.std.specs.Prelude.{ℕ, suc, Bool, true, cond, not, ◌&&◌, List, [], ◌∷◌, map, get_or}
+use Rattle.std.specs.List.{list_all}
+use Rattle.lus_tree.specs.Tree.{Name}
+use Rattle.lus_meaning.specs.Run.{Equation}
+use Rattle.lus_meaning.specs.Depends.{named_in}
+use Rattle.lus_meaning.specs.Order.{is_listed, needed_names}
+
+-- the numbers, from i on, of the names that are among the needed ones
+abbrev pub numbers_of : ℕ → List Name → List Name → List ℕ
+numbers_of i [] zs = []
+numbers_of i (x ∷ xs) zs = cond (named_in x zs) (i ∷ numbers_of (suc i) xs zs) (numbers_of (suc i) xs zs)
+
+-- a row for each equation
+abbrev pub rows_of : List Name → List Equation → List (List ℕ)
+rows_of xs es = map (λ e. numbers_of 0 xs (needed_names e.right)) es
+
+abbrev pub row_at : List (List ℕ) → ℕ → List ℕ
+row_at rows k = get_or rows k []
+
+abbrev pub row_needs : List (List ℕ) → ℕ → ℕ → Bool
+row_needs rows k j = is_listed (row_at rows k) j
+
+-- whether a number is marked; one past the end counts as marked
+abbrev pub is_marked : List Bool → ℕ → Bool
+is_marked done j = get_or done j true
+
+abbrev pub are_marked : List Bool → List ℕ → Bool
+are_marked done js = list_all (is_marked done) js
+
+-- not marked, and all that it needs is
+abbrev pub is_open : List (List ℕ) → List Bool → ℕ → Bool
+is_open rows done k = not (is_marked done k) && are_marked done (row_at rows k)

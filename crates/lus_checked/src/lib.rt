@@ -1,0 +1,17 @@
+//! Programs that break no rule: one Boolean node, with an order of its equations.
+#![tactic(auto)]
+
+mod checked_program;
+mod collected;
+mod limits;
+mod names;
+mod order;
+mod rows;
+mod rules;
+mod shape;
+#[cfg(test)]
+mod tests;
+mod words;
+
+pub use checked_program::Checked;
+pub use rules::checked;

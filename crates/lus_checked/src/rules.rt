@@ -1,0 +1,137 @@
+//! Whether a program breaks a rule.
+
+ghost use Rattle.std.specs.Prelude.{◌≡◌, ◌≤◌, IfOk, IfErr, IsOk, IsTrue, MatchOption, [], ◌∷◌, map, length};
+ghost use Rattle.lus_tree.specs.Reason.{refusal_view};
+ghost use Rattle.lus_tree.specs.Tree.{Component, declared_node};
+ghost use Rattle.lus_tree.specs.View.{item_view, node_view, program_view};
+ghost use Rattle.lus_meaning.specs.Depends.{left_names};
+ghost use Rattle.lus_meaning.specs.Run.{body_equations};
+ghost use Rattle.lus_meaning.specs.Rules.{lefts};
+ghost use Rattle.lus_meaning.specs.BooleanRules.{BreaksNoBooleanRule, FollowsBooleanRules, HasBooleanNames, IsBooleanNode, IsNumberedBoolean};
+ghost use Rattle.lus_meaning.specs.Rules.{IsWithinLimits};
+ghost use Rattle.lus_checked.specs.Followed.{HasNoCycle, IsOrderOf};
+ghost use Rattle.lus_checked.specs.Ordered.{AreOrdered};
+ghost use Rattle.lus_checked.specs.Refusals.{IsRefusal};
+
+use crate::checked_program::Checked;
+use crate::collected::{declared_of, lefts_of};
+use crate::limits::is_within_limits;
+use crate::names::{has_boolean_names, has_own_labels};
+use crate::order::least_order;
+use crate::rows::rows_of;
+use crate::shape::is_boolean_node;
+use lus_tree::{Decl, Node, Pos, Program, Refusal, What};
+use std::alloc::{AllocError, Global};
+
+/// The order of the equations of a node, where none depends on itself at one instant. The list is
+/// its left names.
+fn equation_order(
+    alloc: Global,
+    node: &Node,
+    lefts: &[&str],
+) -> Result<Option<Vec<u32>>, AllocError>
+    requires shape { IsBooleanNode (node_view node.now) }
+    requires names { HasBooleanNames (node_view node.now) }
+    requires limits { IsWithinLimits (node_view node.now) }
+    requires lefts { map (λ x. x.now) lefts.now ≡ left_names (node_view node.now) }
+    ensures { IfOk result (λ o. MatchOption o (HasNoCycle (node_view node.now) → ⊥)
+        (λ v. HasNoCycle (node_view node.now) × IsOrderOf (node_view node.now) v.items)) }
+{
+    let rows = rows_of(alloc, lefts, &node.items)?;
+    least_order(alloc, &rows)
+}
+
+/// The order of the equations of a node of the Boolean language, where it follows the rules.
+fn boolean_order(alloc: Global, node: &Node) -> Result<Option<Vec<u32>>, AllocError>
+    requires { IsBooleanNode (node_view node.now) }
+    ensures { IfOk result (λ o. MatchOption o (FollowsBooleanRules (node_view node.now) → ⊥)
+        (λ v. FollowsBooleanRules (node_view node.now) × IsOrderOf (node_view node.now) v.items)) }
+{
+    let declared = declared_of(alloc, node)?;
+    if !is_within_limits(node, declared.len()) {
+        return Ok(None);
+    }
+    let lefts = left_names_of(alloc, node)?;
+    if !has_boolean_names(alloc, node, &declared, &lefts)? {
+        return Ok(None);
+    }
+    if !has_own_labels(alloc, node)? {
+        return Ok(None);
+    }
+    equation_order(alloc, node, &lefts)
+}
+
+/// The left names of a node of the Boolean language.
+fn left_names_of(alloc: Global, node: &Node) -> Result<Vec<&str>, AllocError>
+    requires { IsBooleanNode (node_view node.now) }
+    ensures { IfOk result (λ v. map (λ x. x.now) v.items ≡ left_names (node_view node.now)) }
+{
+    lefts_of(alloc, &node.items)
+}
+
+/// The order of the equations of a node, where it follows the rules.
+pub(crate) fn node_order(alloc: Global, node: &Node) -> Result<Option<Vec<u32>>, AllocError>
+    ensures { IfOk result (λ o. MatchOption o (FollowsBooleanRules (node_view node.now) → ⊥)
+        (λ v. FollowsBooleanRules (node_view node.now) × IsOrderOf (node_view node.now) v.items)) }
+{
+    if is_boolean_node(node) {
+        boolean_order(alloc, node)
+    } else {
+        Ok(None)
+    }
+}
+
+/// The node of a program of one node.
+fn only_node(program: &Program) -> Option<&Node>
+    ensures { MatchOption result ((d : Component) → program_view program.now ≡ declared_node d ∷ [] → ⊥)
+        (λ n. program_view program.now ≡ declared_node (node_view n.now) ∷ []) }
+{
+    match program.decls.as_slice() {
+        [Decl::Node(node)] => Some(node),
+        _ => None,
+    }
+}
+
+/// The order of the equations of a program, where it breaks no rule.
+fn program_order(alloc: Global, program: &Program) -> Result<Option<Vec<u32>>, AllocError>
+    requires { IsNumberedBoolean (program_view program.now) }
+    ensures { IfOk result (λ o. MatchOption o (BreaksNoBooleanRule (program_view program.now) → ⊥)
+        (λ v. BreaksNoBooleanRule (program_view program.now) × AreOrdered (program_view program.now) v.items)) }
+{
+    match only_node(program) {
+        Some(node) => node_order(alloc, node),
+        None => Ok(None),
+    }
+}
+
+/// The refusal of a program.
+fn refused(what: What) -> Refusal
+    ensures { result ≡ record { at = record { line = 1; column = 1 }; what = what } }
+{
+    Refusal {
+        at: Pos { line: 1, column: 1 },
+        what,
+    }
+}
+
+/// The program, with the fact that it breaks no rule, and the order of its equations.
+///
+/// The occurrences of its body are numbered where it is one node of the shape that is built, as a
+/// reader leaves them.
+///
+/// # Errors
+///
+/// `NotBuilt` at 1:1, exactly where the program breaks a rule, or `Memory`. The program is then
+/// dropped.
+pub fn checked(alloc: Global, program: Program) -> Result<Checked, Refusal>
+    requires { IsNumberedBoolean (program_view program) }
+    ensures same { IfOk result (λ c. program_view c ≡ program_view program) }
+    ensures follows { IfOk result (λ c. BreaksNoBooleanRule (program_view program)) }
+    ensures refused { IfErr result (λ e. IsRefusal (program_view program) (refusal_view e)) }
+{
+    match program_order(alloc, &program) {
+        Ok(Some(order)) => Ok(Checked::of(program, order)),
+        Ok(None) => Err(refused(What::NotBuilt)),
+        Err(_) => Err(refused(What::Memory)),
+    }
+}

@@ -1,0 +1,11 @@
+pub mod Cuts
+pub mod Names
+pub mod Places
+pub mod Texts
+pub mod Lines
+pub mod Numbers
+pub mod Rows
+pub mod Unique
+pub mod Written
+pub mod Spots
+pub mod FittingLines
