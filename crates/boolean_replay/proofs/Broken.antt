@@ -13,7 +13,7 @@ use Rattle.lus_meaning.specs.Property.{assertions, all_assert, meets_assumptions
 use Rattle.lus_meaning.specs.Verdict.{throughout}
 use Rattle.lus_meaning.specs.BooleanRules.{IsBooleanExpression, IsBooleanItem, IsBooleanNode, used_names}
 use Rattle.lus_meaning.proofs.Now.{left_part, right_part}
-use Rattle.lus_meaning.proofs.Simple.{append_none}
+use Rattle.lus_meaning.proofs.Lists.{append_none}
 use Rattle.lus_meaning.proofs.BooleanNode.{boolean_no_clauses}
 use Rattle.boolean_replay.specs.Truth.{Held, Firsts, truth_at}
 use Rattle.boolean_replay.specs.Broken.{IsFirstFalse, property_values, AreFirstFalse}

@@ -11,7 +11,7 @@ use Rattle.lus_meaning.specs.Rules.{names_of, lefts}
 use Rattle.lus_meaning.specs.Order.{is_listed, left_at}
 use Rattle.lus_meaning.proofs.Unique.{same_bytes}
 use Rattle.lus_meaning.proofs.Exists.{self_bytes}
-use Rattle.lus_meaning.proofs.Simple.{named_append, or_true, or_left}
+use Rattle.lus_meaning.proofs.Lists.{named_append, or_true, or_left}
 use Rattle.lus_meaning.proofs.BooleanOrder.{named_either, one_named, first_name, first_is_named, one_left}
 use Rattle.lus_meaning.proofs.BooleanNode.{IsBooleanEquation}
 use Rattle.boolean_replay.specs.Columns.{place}

@@ -16,7 +16,7 @@ use Rattle.lus_meaning.specs.BooleanRules.{IsBooleanExpression, used_names}
 use Rattle.lus_meaning.proofs.Now.{left_part, right_part}
 use Rattle.lus_meaning.proofs.Unique.{same_bytes}
 use Rattle.lus_meaning.proofs.Ranked.{all_named}
-use Rattle.lus_meaning.proofs.Simple.{all_from_both, append_none}
+use Rattle.lus_meaning.proofs.Lists.{all_from_both, append_none}
 use Rattle.lus_meaning.proofs.BooleanNode.{IsBooleanEquation}
 use Rattle.lus_meaning.proofs.BooleanTypes.{needed_of_used}
 use Rattle.lus_meaning.proofs.BooleanOrder.{named_either, first_name, first_is_named, one_left, names_from_ready}

@@ -18,7 +18,7 @@ use Rattle.lus_meaning.specs.Depends.{named_in, left_names}
 use Rattle.lus_meaning.specs.Rules.{AllAmong, declared_names, names_of, lefts}
 use Rattle.lus_meaning.specs.Order.{needs_equation, left_at, IsLeastEquationOrder}
 use Rattle.lus_meaning.specs.BooleanRules.{IsBooleanExpression, IsBooleanItem, IsBooleanNode, HasBooleanNames, IsBooleanChecked, used_names}
-use Rattle.lus_meaning.specs.BooleanLaws.{LinesFit}
+use Rattle.lus_meaning.specs.Laws.{LinesFit}
 use Rattle.lus_meaning.proofs.Now.{left_part, right_part}
 use Rattle.lus_meaning.proofs.Orders.{order_length}
 use Rattle.lus_meaning.proofs.FirstSorts.{right_parts}

@@ -9,7 +9,7 @@ use Rattle.lus_meaning.specs.Trace.{Line}
 use Rattle.lus_meaning.specs.TraceView.{PlacedLine}
 use Rattle.lus_meaning.specs.Order.{left_at, IsLeastEquationOrder}
 use Rattle.lus_meaning.specs.BooleanRules.{IsBooleanChecked}
-use Rattle.lus_meaning.specs.BooleanLaws.{LinesFit}
+use Rattle.lus_meaning.specs.Laws.{LinesFit}
 use Rattle.lus_meaning.proofs.BooleanNode.{boolean_equations}
 use Rattle.boolean_replay.specs.Code.{code_truth}
 use Rattle.boolean_replay.specs.Columns.{Source, held, code_of, rows}

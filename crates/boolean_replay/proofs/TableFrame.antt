@@ -22,16 +22,14 @@ use Rattle.lus_meaning.specs.Trace.{Line, of_name, of_first, listed_at, or_defau
 use Rattle.lus_meaning.specs.Verdict.{throughout}
 use Rattle.lus_meaning.specs.Rules.{IsFlag, declared_names, lefts}
 use Rattle.lus_meaning.specs.BooleanRules.{IsOfFlags, IsBooleanExpression, IsBooleanNode, HasBooleanNames, used_names}
-use Rattle.lus_meaning.specs.BooleanLaws.{FirstsFit, LinesFit}
+use Rattle.lus_meaning.specs.Laws.{FirstsFit, LinesFit}
 use Rattle.lus_meaning.proofs.Now.{left_part, right_part}
 use Rattle.lus_meaning.proofs.Unique.{same_bytes}
 use Rattle.lus_meaning.proofs.Stable.{sample_at}
 use Rattle.lus_meaning.proofs.Exists.{sampled_names, sampled_lengths}
-use Rattle.lus_meaning.proofs.Simple.{all_from_both}
+use Rattle.lus_meaning.proofs.Lists.{all_from_both, mapped_all, all_from_three}
 use Rattle.lus_meaning.proofs.Ranked.{all_named}
-use Rattle.lus_meaning.proofs.SettledTypes.{mapped_all}
 use Rattle.lus_meaning.proofs.InOrder.{counting_all}
-use Rattle.lus_meaning.proofs.TheFrame.{all_from_three}
 use Rattle.lus_meaning.proofs.BooleanNode.{boolean_flags, boolean_names_on_base, over_boolean, IsBooleanEquation, each_boolean}
 use Rattle.lus_meaning.proofs.BooleanFirsts.{boolean_firsts}
 use Rattle.lus_meaning.proofs.BooleanTypes.{boolean_value}

@@ -7,7 +7,7 @@ ghost use Rattle.lus_tree.specs.View.{program_view};
 ghost use Rattle.lus_meaning.specs.TraceView.{lines_of, trace_view};
 ghost use Rattle.lus_meaning.specs.Program.{instance_of};
 ghost use Rattle.lus_meaning.specs.BooleanRules.{IsBooleanChecked};
-ghost use Rattle.lus_meaning.specs.BooleanLaws.{LinesFit};
+ghost use Rattle.lus_meaning.specs.Laws.{LinesFit};
 ghost use Rattle.boolean_replay.specs.Columns.{held};
 ghost use Rattle.boolean_replay.specs.Replayed.{IsReplayed};
 

@@ -15,8 +15,8 @@ use Rattle.lus_meaning.specs.Trace.{Line, of_name, listed_at, or_default, free_n
 use Rattle.lus_meaning.specs.TraceView.{PlacedLine, Listing, lines_of}
 use Rattle.lus_meaning.specs.Fits.{is_listed_in, or_else, FitsProgram}
 use Rattle.lus_meaning.specs.BooleanRules.{IsBooleanChecked}
-use Rattle.lus_meaning.specs.BooleanLaws.{FirstsFit, LinesFit}
-use Rattle.lus_meaning.proofs.Simple.{both_parts}
+use Rattle.lus_meaning.specs.Laws.{FirstsFit, LinesFit}
+use Rattle.lus_meaning.proofs.Lists.{both_parts}
 use Rattle.lus_meaning.proofs.BooleanNode.{boolean_checked_instance}
 use Rattle.lus_meaning.proofs.BooleanFirsts.{boolean_firsts}
 use Rattle.trace_replay.specs.Traces.{ArePlaced}

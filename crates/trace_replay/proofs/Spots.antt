@@ -19,7 +19,7 @@ use Rattle.lus_meaning.specs.Trace.{Subject, of_name, of_first, Line, is_defined
 use Rattle.lus_meaning.specs.TraceView.{PlacedLine, Listing}
 use Rattle.lus_meaning.specs.Fits.{Listable, named_spots, first_spots, spots, same_place, spot_of, value_misfit, spot_misfit, line_misfit, is_listed_in, or_else, lines_misfit, are_given, given_misfit, instance_misfit, node_misfit, misfit}
 use Rattle.lus_meaning.specs.BooleanRules.{IsBooleanExpression, IsBooleanItem, IsBooleanNode, IsBooleanChecked}
-use Rattle.lus_meaning.proofs.Simple.{both_parts}
+use Rattle.lus_meaning.proofs.Lists.{both_parts}
 use Rattle.lus_meaning.proofs.Exists.{length_mapped}
 use Rattle.lus_meaning.proofs.BooleanNode.{of_boolean_item, boolean_equations, boolean_instance}
 use Rattle.lus_meaning.proofs.BooleanFirsts.{boolean_firsts}

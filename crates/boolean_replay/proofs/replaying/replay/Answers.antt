@@ -3,7 +3,7 @@ use Rattle.lus_tree.specs.Tree.{Component}
 use Rattle.lus_tree.specs.View.{node_view, item_view, program_view}
 use Rattle.lus_meaning.specs.TraceView.{line_view, lines_of, trace_view}
 use Rattle.lus_meaning.specs.Program.{instance_of}
-use Rattle.lus_meaning.specs.BooleanLaws.{LinesFit}
+use Rattle.lus_meaning.specs.Laws.{LinesFit}
 use Rattle.boolean_replay.specs.Columns.{column_view, held}
 use Rattle.boolean_replay.specs.Replayed.{IsReplayed}
 use Rattle.boolean_replay.proofs.Steps.{lines_same, one_component, names_fit, rows_fit, whole_replay}

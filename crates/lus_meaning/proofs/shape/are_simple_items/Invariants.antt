@@ -1,9 +1,0 @@
-use Rattle.std.proofs.Common.{map}
-use Rattle.std.specs.List.{AllByRecursion}
-use Rattle.lus_tree.specs.View.{item_view}
-use Rattle.lus_meaning.specs.Rules.{IsSimpleItem}
-use Rattle.lus_meaning.proofs.Scanned.{Scanned}
-use Rattle.lus_meaning.proofs.shape.are_simple_items.Given as goal
-
-abbrev pub invariant-loop-item : goal.invariant-loop-item
-invariant-loop-item l = Scanned (λ ss. AllByRecursion IsSimpleItem (map item_view ss)) l.items l.item-index
