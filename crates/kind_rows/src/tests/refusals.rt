@@ -11,7 +11,7 @@ const USAGE: &str =
 #[test]
 fn sources_outside_the_language_or_its_rules_are_not_built(rt: HostRuntime) -> Result<(), Fail> {
     let alloc = rt.alloc();
-    let sources: [&[u8]; 24] = [
+    let sources: [&[u8]; 25] = [
         b"",
         b"node n() returns (x : bool); let x = y; tel",
         b"node n() returns (x : bool); let y = true; tel",
@@ -29,6 +29,7 @@ fn sources_outside_the_language_or_its_rules_are_not_built(rt: HostRuntime) -> R
         b"node n() returns (x : bool); let x = 1 < 2; tel",
         b"node n(a : bool) returns (x : bool); var y : bool when a; let y = x when a; tel",
         b"node n() returns (x : bool); let assert x; tel",
+        b"node n() returns (x : bool); let check \"p\" x; tel",
         b"node n() returns (x : bool); let x = n(); tel",
         b"function n() returns (x : bool); let x = true; tel",
         b"node n() returns (x : bool); const c : bool = true; let x = c; tel",
