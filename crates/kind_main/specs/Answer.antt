@@ -1,5 +1,5 @@
 -- The answer to the words, over what the shelf tells: its lines and its status.
-use Rattle.std.specs.Prelude.{◌≡◌, ◌≤◌, ℕ, List, [], ◌∷◌, length, Some}
+use Rattle.std.specs.Prelude.{◌≡◌, ◌≤◌, ◌⊎◌, ℕ, true, false, List, [], ◌∷◌, length, Some}
 use Rattle.kind_io.specs.Counts.{Rose}
 use Rattle.kind_io.specs.Told.{Told, MayHold, MayExceed}
 use Rattle.lus_tree.specs.Tree.{Program, Component}
@@ -10,6 +10,7 @@ use Rattle.lus_meaning.specs.Fits.{misfit, FitsProgram}
 use Rattle.trace_replay.specs.Traces.{IsTraceText, FirstMisfit}
 use Rattle.lus_tree.specs.Reason.{Refused}
 use Rattle.lus_grammar.specs.Source.{IsSource, IsRefused as IsSourceRefused}
+use Rattle.kind_main.specs.CheckWord.{Writes}
 use Rattle.kind_main.specs.Words.{AreReplay, AreNoCommand}
 use Rattle.kind_main.specs.Lines.{Line, usage_line, too_long_line, not_built_line, formless_line, read_fault_line, refused_line}
 use Rattle.kind_main.specs.Report.{IsReplay}
@@ -22,19 +23,20 @@ Tells = List ℕ → Told
 abbrev pub limit : ℕ
 limit = 1048576
 
--- the file holds a source that follows the rules
+-- the file holds a source that follows the rules and writes no property with `check`
 pub record HoldsSource (told : Tells) (file : List ℕ) (p : Program) (d : Component) : Type 0 where
   pub bytes : List ℕ
   pub held : MayHold (told file) bytes
   pub short : length bytes ≤ limit
   pub source : IsSource bytes p
+  pub no_check : Writes bytes false
   pub checked : IsBooleanChecked p d
 
--- The bytes are a source, and its tree is not one of a program that is built and follows the rules.
+-- The bytes are a source, and it writes a property with `check`, or its tree is not one of a program that is built and follows the rules.
 pub record IsNotBuilt (bytes : List ℕ) : Type 0 where
   pub tree : Program
   pub source : IsSource bytes tree
-  pub unchecked : (d : Component) → IsBooleanChecked tree d → ⊥
+  pub because : Writes bytes true ⊎ ((d : Component) → IsBooleanChecked tree d → ⊥)
 
 -- why a source is refused, and the line that says so: it is too long; its tokens or its grammar have a first fault; or it is not built
 pub data IsRefused (told : Tells) (file : List ℕ) (line : Line) : Type 0 where

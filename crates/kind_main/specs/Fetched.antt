@@ -1,11 +1,12 @@
 -- What became of a file that was fetched and read, and the answers that follow.
-use Rattle.std.specs.Prelude.{◌≡◌, ◌≤◌, ◌⊎◌, ℕ, List, [], ◌∷◌, length, Some}
+use Rattle.std.specs.Prelude.{◌≡◌, ◌≤◌, ◌⊎◌, ℕ, false, List, [], ◌∷◌, length, Some}
 use Rattle.kind_io.specs.Counts.{Rose}
 use Rattle.kind_io.specs.Told.{Told, MayHold, MayExceed}
 use Rattle.lus_tree.specs.Tree.{Program, Component}
 use Rattle.kind_main.specs.declared.answer.Fetched.{Fetched}
 use Rattle.kind_main.specs.declared.answer.Fetched.TheVariants.{Bytes, TooLong, Failed}
 use Rattle.kind_main.specs.Lines.{Line, read_fault_line}
+use Rattle.kind_main.specs.CheckWord.{Writes}
 use Rattle.kind_main.specs.Report.{IsReplay}
 use Rattle.lus_tree.specs.View.{program_view}
 use Rattle.lus_tree.specs.Reason.{refusal_view}
@@ -25,7 +26,7 @@ IsFetched told before now TooLong = MayExceed told limit
 IsFetched told before now Failed = Rose before now
 
 abbrev pub IsReadAs : List ℕ → SourceRead → Type 0
-IsReadAs bytes (Checked c) = IsSource bytes (program_view c)
+IsReadAs bytes (Checked c) = IsSource bytes (program_view c) × Writes bytes false
 IsReadAs bytes (Refused r) = IsSourceRefused bytes (refusal_view r)
 IsReadAs bytes NotBuilt = IsNotBuilt bytes
 

@@ -10,11 +10,13 @@ ghost use Rattle.lus_meaning.specs.BooleanRules.{IsBooleanChecked};
 ghost use Rattle.lus_meaning.specs.TraceView.{trace_view};
 ghost use Rattle.lus_meaning.specs.Fits.{FitsProgram};
 ghost use Rattle.trace_replay.specs.Traces.{ArePlaced};
+ghost use Rattle.lus_grammar.specs.Source.{IsSource};
 ghost use Rattle.kind_main.specs.Lines.{Line, usage_line, too_long_line, not_built_line, formless_line, read_fault_line, refused_line};
 ghost use Rattle.kind_main.specs.Report.{code_of, IsReplay};
 ghost use Rattle.kind_main.specs.Answer.{Tells, limit, HoldsSource, IsRefused, HoldsTrace, IsRefusedTrace, IsAnswer};
 ghost use Rattle.kind_main.specs.Fetched.{IsFetched, IsReadAs, IsTraceReadAs, IsTraceAnswer, IsFilesAnswer};
 
+use crate::check_word::writes_check;
 use crate::report::break_lines;
 use crate::status::Status;
 use crate::text::{formless_text, lawful_text, read_fault_text, refused_text};
@@ -24,7 +26,7 @@ use contract_reader::read_program;
 use kind_io::{FetchFault, Shelf};
 use lus_checked::{Checked, checked};
 use lus_meaning::Trace;
-use lus_tree::{Pos, Refusal, What};
+use lus_tree::{Pos, Program as Tree, Refusal, What};
 use trace_replay::{ReplayFault, TraceFault, fits, read_trace};
 use std::alloc::{AllocError, Global};
 
@@ -91,19 +93,31 @@ pub enum SourceRead {
     NotBuilt,
 }
 
+/// Checks the program of a source.
+fn check_source(alloc: Global, bytes: &[u8], program: Tree) -> Result<SourceRead, AllocError>
+    requires long { length bytes.now ≤ 1048576 }
+    requires source { IsSource bytes.now (program_view program) }
+    ensures { IfOk result (λ r. IsReadAs bytes.now r) }
+{
+    if writes_check(alloc, bytes)? {
+        return Ok(SourceRead::NotBuilt);
+    }
+    match checked(alloc, program) {
+        Ok(checked) => Ok(SourceRead::Checked(checked)),
+        Err(refusal) => match refusal.what {
+            What::Memory => Err(AllocError),
+            _ => Ok(SourceRead::NotBuilt),
+        },
+    }
+}
+
 /// Reads a source and checks its program.
 fn read_source(alloc: Global, bytes: &[u8]) -> Result<SourceRead, AllocError>
     requires { length bytes.now ≤ 1048576 }
     ensures { IfOk result (λ r. IsReadAs bytes.now r) }
 {
     match read_program(alloc, bytes) {
-        Ok(program) => match checked(alloc, program) {
-            Ok(checked) => Ok(SourceRead::Checked(checked)),
-            Err(refusal) => match refusal.what {
-                What::Memory => Err(AllocError),
-                _ => Ok(SourceRead::NotBuilt),
-            },
-        },
+        Ok(program) => check_source(alloc, bytes, program),
         Err(refusal) => match refusal.what {
             What::Memory => Err(AllocError),
             _ => Ok(SourceRead::Refused(refusal)),

@@ -2,6 +2,7 @@
 #![tactic(auto)]
 
 mod answer;
+mod check_word;
 mod print;
 mod report;
 mod status;

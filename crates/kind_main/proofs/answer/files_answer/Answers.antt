@@ -30,5 +30,5 @@ returns g c =
     let bytes = rw c.in-Bytes.is at c.in_ok-fetch.ensures.fetched in
     let source = rw (c.in-Checked.is, c.deref.ensures.value) at c.in_ok-refusal-in-Bytes.ensures in
     let answer = c.in_ok-trace_answer-in-Checked.ensures in
-    held (program_view c.in-Checked.checked) answer.0 record { bytes = c.in-Bytes.bytes.items; held = bytes.0; short = bytes.1; source = source; checked = answer.1 }
+    held (program_view c.in-Checked.checked) answer.0 record { bytes = c.in-Bytes.bytes.items; held = bytes.0; short = bytes.1; source = source.0; no_check = source.1; checked = answer.1 }
     (same_answer _ _ c.in_ok-fetch.ensures.names _ _ _ c.in_ok-fetch.ensures.later c.args.trace.now (program_view c.in-Checked.checked) answer.0 _ _ answer.2)
