@@ -3,6 +3,8 @@
 
 mod checked_program;
 mod collected;
+#[cfg(test)]
+mod limit_tests;
 mod limits;
 mod names;
 mod order;

@@ -24,7 +24,7 @@ enum Right {
     If(&'static str, &'static str, &'static str),
 }
 
-fn expression(form: Form) -> Expr {
+pub(crate) fn expression(form: Form) -> Expr {
     Expr {
         from: AT,
         at: AT,
@@ -32,12 +32,12 @@ fn expression(form: Form) -> Expr {
     }
 }
 
-fn word(alloc: Global, text: &str) -> Result<Word, AllocError> {
+pub(crate) fn word(alloc: Global, text: &str) -> Result<Word, AllocError> {
     let text = String::from_str(alloc, text)?;
     Ok(Word { text, at: AT })
 }
 
-fn named(alloc: Global, text: &str) -> Result<Box<Expr>, AllocError> {
+pub(crate) fn named(alloc: Global, text: &str) -> Result<Box<Expr>, AllocError> {
     let name = expression(Form::Name(String::from_str(alloc, text)?));
     Ok(Box::new(alloc, name)?)
 }
@@ -75,7 +75,7 @@ fn equation(alloc: Global, left: &str, right: Right) -> Result<Item, AllocError>
     Ok(Item::Equation(words, expression(form(alloc, right)?)))
 }
 
-fn flag(alloc: Global, name: &str) -> Result<Param, AllocError> {
+pub(crate) fn flag(alloc: Global, name: &str) -> Result<Param, AllocError> {
     Ok(Param {
         name: word(alloc, name)?,
         sort: Sort::Bool,
@@ -92,7 +92,7 @@ fn property(alloc: Global, label: Option<String>) -> Item {
 }
 
 /// A node with no streams and no items.
-fn bare_node(alloc: Global) -> Result<Node, AllocError>
+pub(crate) fn bare_node(alloc: Global) -> Result<Node, AllocError>
     ensures { IfOk result (λ n. n.items.items ≡ []) }
 {
     let name = word(alloc, "main")?;
