@@ -12,12 +12,9 @@ use Rattle.lus_meaning.specs.WellMade.{AreDistinct}
 use Rattle.lus_meaning.specs.Rules.{AllAmong}
 use Rattle.lus_meaning.proofs.Unique.{same_bytes}
 use Rattle.lus_meaning.proofs.Orders.{all_below}
+use Rattle.lus_checked.specs.Words.{place}
 
-abbrev place : List Name → Name → ℕ
-place [] x = 0
-place (y ∷ ys) x = cond (bytes_eq x y) 0 (suc (place ys x))
-
-place_below : (ys : List Name) (x : Name) → named_in x ys ≡ true → place ys x < length ys
+pub place_below : (ys : List Name) (x : Name) → named_in x ys ≡ true → place ys x < length ys
 place_below [] x e = absurd (false≢true e)
 place_below (y ∷ ys) x e = go (cases_Bool (bytes_eq x y)) (place_below ys x)
   where
@@ -25,7 +22,7 @@ place_below (y ∷ ys) x e = go (cases_Bool (bytes_eq x y)) (place_below ys x)
     go (inl t) r = rw t (omega arith)
     go (inr f) r = let h : place ys x < length ys = r (rw f at e) in rw f (omega arith)
 
-name_at_place : (ys : List Name) (x : Name) → named_in x ys ≡ true → get_or ys (place ys x) [] ≡ x
+pub name_at_place : (ys : List Name) (x : Name) → named_in x ys ≡ true → get_or ys (place ys x) [] ≡ x
 name_at_place [] x e = absurd (false≢true e)
 name_at_place (y ∷ ys) x e = go (cases_Bool (bytes_eq x y)) (name_at_place ys x)
   where

@@ -1,4 +1,5 @@
 pub mod Marks
 pub mod Needs
 pub mod Count
+pub mod Listed
 pub mod Node

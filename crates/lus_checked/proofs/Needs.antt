@@ -3,15 +3,20 @@ use Rattle.std.proofs.Common.{◌≡◌, ℕ, zero, suc, ◌<◌, ◌+◌, Bool,
 use Rattle.std.specs.List.{AllByRecursion, list_any}
 use Rattle.std.specs.Str.{bytes_eq}
 use Rattle.std.proofs.Math.Logic.{◌⊎◌, inl, inr}
-use Rattle.std.proofs.lemmas.Bool.{eq-eqb, ne_eqb, cases_Bool}
+use Rattle.std.proofs.lemmas.Bool.{true≢false, eq-eqb, ne_eqb, cases_Bool}
+use Rattle.std.proofs.lemmas.Slice.Eq.{bytes_eq-Decides}
 use Rattle.lus_tree.specs.Tree.{Name}
 use Rattle.lus_meaning.specs.Run.{Equation}
 use Rattle.lus_meaning.specs.Depends.{named_in}
+use Rattle.lus_meaning.specs.WellMade.{AreDistinct}
 use Rattle.lus_meaning.specs.Rules.{lefts}
 use Rattle.lus_meaning.specs.Order.{is_listed, left_at, needed_at, needs_equation, IsReady, AreNext, IsStuck}
 use Rattle.lus_meaning.proofs.Unique.{same_bytes}
 use Rattle.lus_meaning.proofs.BooleanNode.{IsBooleanEquation}
 use Rattle.lus_checked.specs.Rows.{numbers_of, rows_of, row_at, row_needs}
+use Rattle.lus_checked.specs.Words.{add_all, place}
+use Rattle.lus_checked.proofs.Count.{name_at_place}
+use Rattle.lus_checked.proofs.Listed.{all_have, in_list, place_of}
 
 -- ---- two tests that agree below the count
 
@@ -40,32 +45,28 @@ module _ (n : ℕ) (f g : ℕ → ℕ → Bool) (same : (k j : ℕ) → k < n �
 
 -- ---- the numbers of a row
 
-before : (xs zs : List Name) (i m : ℕ) → m < i → is_listed (numbers_of i xs zs) m ≡ false
-before [] zs i m l = refl
-before (x ∷ xs) zs i m l = go (named_in x zs) (before xs zs (suc i) m (omega arith))
-  where
-    go : (c : Bool) → is_listed (numbers_of (suc i) xs zs) m ≡ false → is_listed (cond c (i ∷ numbers_of (suc i) xs zs) (numbers_of (suc i) xs zs)) m ≡ false
-    go true r = rw (ne_eqb m i (λ e. absurd (omega arith)), r) refl
-    go false r = r
+module _ (xs : List Name) (distinct : AreDistinct xs) (j : ℕ) (below : j < length xs) where
+  abbrev here : Name
+  here = get_or xs j []
 
-pub row_listed : (xs zs : List Name) (i j : ℕ) → j < length xs → is_listed (numbers_of i xs zs) (i + j) ≡ named_in (get_or xs j []) zs
-row_listed [] zs i j l = absurd (omega arith)
-row_listed (x ∷ xs) zs i zero l = go (cases_Bool (named_in x zs)) (before xs zs (suc i) (i + 0) (omega arith))
-  where
-    here : eqb (i + 0) i ≡ true
-    here = eq-eqb (i + 0) i (omega arith)
+  row_has : (zs : List Name) → is_listed (numbers_of xs zs) j ≡ named_in here zs
+  row_has [] = refl
+  row_has (z ∷ zs) = go (cases_Bool (named_in z xs)) (cases_Bool (bytes_eq here z)) (row_has zs)
+    where
+      found : bytes_eq here z ≡ true → place xs z ≡ j
+      found t = ap (place xs) (sym (same_bytes here z t)) ∙ place_of xs distinct j below
 
-    go : (named_in x zs ≡ true) ⊎ (named_in x zs ≡ false) → is_listed (numbers_of (suc i) xs zs) (i + 0) ≡ false → is_listed (cond (named_in x zs) (i ∷ numbers_of (suc i) xs zs) (numbers_of (suc i) xs zs)) (i + 0) ≡ named_in x zs
-    go (inl t) r = rw (t, here) refl
-    go (inr f) r = rw f r
-row_listed (x ∷ xs) zs i (suc j) l = go (named_in x zs) (row_listed xs zs (suc i) j (omega arith))
-  where
-    e : suc i + j ≡ i + suc j
-    e = omega arith
+      other : named_in z xs ≡ true → bytes_eq here z ≡ false → j ≡ place xs z → ⊥
+      other h f e = true≢false (sym ((bytes_eq-Decides here z).1 (ap (λ k. get_or xs k []) e ∙ name_at_place xs z h)) ∙ f)
 
-    go : (c : Bool) → is_listed (numbers_of (suc i) xs zs) (suc i + j) ≡ named_in (get_or xs j []) zs → is_listed (cond c (i ∷ numbers_of (suc i) xs zs) (numbers_of (suc i) xs zs)) (i + suc j) ≡ named_in (get_or xs j []) zs
-    go true r = rw (ne_eqb (i + suc j) i (λ q. absurd (omega arith))) (subst (λ m. is_listed (numbers_of (suc i) xs zs) m ≡ named_in (get_or xs j []) zs) e r)
-    go false r = subst (λ m. is_listed (numbers_of (suc i) xs zs) m ≡ named_in (get_or xs j []) zs) e r
+      go : (named_in z xs ≡ true) ⊎ (named_in z xs ≡ false) → (bytes_eq here z ≡ true) ⊎ (bytes_eq here z ≡ false) → is_listed (numbers_of xs zs) j ≡ named_in here zs → is_listed (cond (named_in z xs) (place xs z ∷ numbers_of xs zs) (numbers_of xs zs)) j ≡ (bytes_eq here z || named_in here zs)
+      go (inl h) (inl t) r = rw (h, t, eq-eqb j (place xs z) (sym (found t))) refl
+      go (inl h) (inr f) r = rw (h, f, ne_eqb j (place xs z) (other h f)) r
+      go (inr n) (inl t) r = absurd (true≢false (sym (subst (λ w. named_in w xs ≡ true) (same_bytes here z t) (in_list xs j below)) ∙ n))
+      go (inr n) (inr f) r = rw (n, f) r
+
+  pub row_listed : (zs : List Name) → is_listed (numbers_of xs (add_all [] zs)) j ≡ named_in here zs
+  row_listed zs = row_has (add_all [] zs) ∙ all_have zs [] here
 
 -- ---- equations with one left name each
 
@@ -105,16 +106,15 @@ one_named y (z ∷ zs) = rw (bytes_swap z y, one_named y zs) (go (bytes_eq y z))
     go true = refl
     go false = refl
 
-row_is : (xs : List Name) (es : List Equation) (k : ℕ) → k < length es → row_at (rows_of xs es) k ≡ numbers_of 0 xs (needed_at es k)
+row_is : (xs : List Name) (es : List Equation) (k : ℕ) → k < length es → row_at (rows_of xs es) k ≡ numbers_of xs (add_all [] (needed_at es k))
 row_is xs [] k l = absurd (omega arith)
 row_is xs (e ∷ es) zero l = refl
 row_is xs (e ∷ es) (suc k) l = row_is xs es k (omega arith)
 
 -- a row says what its equation needs
-pub rows_need : (es : List Equation) → AllByRecursion IsBooleanEquation es → (k j : ℕ) → k < length es → j < length es → row_needs (rows_of (lefts es) es) k j ≡ needs_equation es k j
-rows_need es a k j l h =
+pub rows_need : (es : List Equation) → AllByRecursion IsBooleanEquation es → AreDistinct (lefts es) → (k j : ℕ) → k < length es → j < length es → row_needs (rows_of (lefts es) es) k j ≡ needs_equation es k j
+rows_need es a d k j l h =
     let n : length (lefts es) ≡ length es = lefts_length es a in
-    let from_0 : 0 + j ≡ j = omega arith in
     ap (λ r. is_listed r j) (row_is (lefts es) es k l)
-    ∙ (subst (λ m. is_listed (numbers_of 0 (lefts es) (needed_at es k)) m ≡ named_in (get_or (lefts es) j []) (needed_at es k)) from_0 (row_listed (lefts es) (needed_at es k) 0 j (omega arith))
+    ∙ (row_listed (lefts es) d j (omega arith) (needed_at es k)
     ∙ (sym (one_named (get_or (lefts es) j []) (needed_at es k)) ∙ ap (λ ys. list_any (λ z. named_in z ys) (needed_at es k)) (sym (left_is es a j h))))

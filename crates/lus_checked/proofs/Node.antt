@@ -32,7 +32,7 @@ module _ (d : Component) (node : IsBooleanNode d) where
   pub left_names_are : left_names d ≡ lefts (body_equations d.body)
   left_names_are = ap lefts (boolean_equations d node)
 
-  module _ (vs : List (Vec ℕ Global)) (are : map (λ r. r.items) vs ≡ rows_of (left_names d) (body_equations d.body)) where
+  module _ (names : HasBooleanNames d) (vs : List (Vec ℕ Global)) (are : map (λ r. r.items) vs ≡ rows_of (left_names d) (body_equations d.body)) where
     abbrev rows : List (List ℕ)
     rows = map (λ r. r.items) vs
 
@@ -42,16 +42,16 @@ module _ (d : Component) (node : IsBooleanNode d) where
     rows_count : length vs ≡ length (equations d)
     rows_count = sym (as_many vs) ∙ (ap length rows_are ∙ rows_length (lefts (equations d)) (equations d))
 
-    pub few_rows : HasBooleanNames d → IsWithinLimits d → length vs ≤ 2000
-    few_rows h l =
-        let a : length (left_names d) ≤ length (declared_names d) = names_fit (declared_names d) (left_names d) h.one_equation h.left_declared in
+    pub few_rows : IsWithinLimits d → length vs ≤ 2000
+    few_rows l =
+        let a : length (left_names d) ≤ length (declared_names d) = names_fit (declared_names d) (left_names d) names.one_equation names.left_declared in
         let b : length (lefts (equations d)) ≡ length (equations d) = lefts_length (equations d) (each_boolean d node) in
         let c : length (declared_names d) ≤ 2000 = l.names in
         let e : length vs ≡ length (equations d) = rows_count in
         omega arith
 
     same_needs : (k j : ℕ) → k < length (equations d) → j < length (equations d) → row_needs rows k j ≡ needs_equation (equations d) k j
-    same_needs k j l h = ap (λ r. row_needs r k j) rows_are ∙ rows_need (equations d) (each_boolean d node) k j l h
+    same_needs k j l h = ap (λ r. row_needs r k j) rows_are ∙ rows_need (equations d) (each_boolean d node) names.one_equation k j l h
 
     order_found : (ks : List ℕ) → AreNext (length vs) (row_needs rows) [] ks → length ks ≡ length vs → HasNoCycle d × IsOrderOf d ks
     order_found ks a e =

@@ -2,3 +2,4 @@ pub mod Followed
 pub mod Ordered
 pub mod Refusals
 pub mod Rows
+pub mod Words

@@ -1,19 +1,20 @@
 -- For each equation the numbers of those whose left names it needs.
-use Rattle.std.specs.Prelude.{ℕ, suc, Bool, true, cond, not, ◌&&◌, List, [], ◌∷◌, map, get_or}
+use Rattle.std.specs.Prelude.{ℕ, Bool, true, cond, not, ◌&&◌, List, [], ◌∷◌, map, get_or}
 use Rattle.std.specs.List.{list_all}
 use Rattle.lus_tree.specs.Tree.{Name}
 use Rattle.lus_meaning.specs.Run.{Equation}
 use Rattle.lus_meaning.specs.Depends.{named_in}
 use Rattle.lus_meaning.specs.Order.{is_listed, needed_names}
+use Rattle.lus_checked.specs.Words.{add_all, place}
 
--- the numbers, from i on, of the names that are among the needed ones
-abbrev pub numbers_of : ℕ → List Name → List Name → List ℕ
-numbers_of i [] zs = []
-numbers_of i (x ∷ xs) zs = cond (named_in x zs) (i ∷ numbers_of (suc i) xs zs) (numbers_of (suc i) xs zs)
+-- the places among the left names of those needed names that are left names
+abbrev pub numbers_of : List Name → List Name → List ℕ
+numbers_of xs [] = []
+numbers_of xs (z ∷ zs) = cond (named_in z xs) (place xs z ∷ numbers_of xs zs) (numbers_of xs zs)
 
 -- a row for each equation
 abbrev pub rows_of : List Name → List Equation → List (List ℕ)
-rows_of xs es = map (λ e. numbers_of 0 xs (needed_names e.right)) es
+rows_of xs es = map (λ e. numbers_of xs (add_all [] (needed_names e.right))) es
 
 abbrev pub row_at : List (List ℕ) → ℕ → List ℕ
 row_at rows k = get_or rows k []

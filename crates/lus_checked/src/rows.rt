@@ -6,17 +6,17 @@ ghost use Rattle.lus_meaning.specs.Run.{body_equations};
 ghost use Rattle.lus_checked.specs.Rows.{numbers_of, rows_of};
 
 use crate::collected::push_needed;
-use crate::words::is_among;
+use crate::words::Words;
 use lus_tree::Item;
 use std::alloc::{AllocError, Global};
 
-/// The numbers, from 0, of the left names that are needed.
-fn numbers_of(alloc: Global, lefts: &[&str], needed: &[&str]) -> Result<Vec<usize>, AllocError>
-    ensures { IfOk result (λ v. v.items ≡ numbers_of 0 (map (λ x. x.now) lefts.now) (map (λ x. x.now) needed.now)) }
+/// The numbers, from 0, of those needed names that are left names.
+fn numbers_of(alloc: Global, lefts: &Words, needed: &[&str]) -> Result<Vec<usize>, AllocError>
+    ensures { IfOk result (λ v. v.items ≡ numbers_of (map (λ x. x.now) lefts.now.names.keys) (map (λ x. x.now) needed.now)) }
 {
     let mut numbers = Vec::new(alloc);
-    for (j, left) in lefts.iter().enumerate() {
-        if is_among(needed, left) {
+    for name in needed {
+        if let Some(j) = lefts.place(name) {
             numbers.push(j)?;
         }
     }
@@ -27,15 +27,16 @@ fn numbers_of(alloc: Global, lefts: &[&str], needed: &[&str]) -> Result<Vec<usiz
 fn push_row(
     alloc: Global,
     rows: &mut Vec<Vec<usize>>,
-    lefts: &[&str],
+    lefts: &Words,
     item: &Item,
 ) -> Result<(), AllocError>
-    ensures { IfOk result (λ _. map (λ v. v.items) rows.new.items ≡ map (λ v. v.items) rows.old.items ++ rows_of (map (λ x. x.now) lefts.now) (body_equations (item_view item.now ∷ []))) }
+    ensures { IfOk result (λ _. map (λ v. v.items) rows.new.items ≡ map (λ v. v.items) rows.old.items ++ rows_of (map (λ x. x.now) lefts.now.names.keys) (body_equations (item_view item.now ∷ []))) }
 {
     if let Item::Equation(_, e) = item {
         let mut needed = Vec::new(alloc);
         push_needed(&mut needed, e)?;
-        let row = numbers_of(alloc, lefts, &needed)?;
+        let needed = Words::of(alloc, &needed)?;
+        let row = numbers_of(alloc, lefts, needed.as_slice())?;
         rows.push(row)?;
     }
     Ok(())
@@ -44,10 +45,10 @@ fn push_row(
 /// A row for each equation.
 pub(crate) fn rows_of(
     alloc: Global,
-    lefts: &[&str],
+    lefts: &Words,
     items: &[Item],
 ) -> Result<Vec<Vec<usize>>, AllocError>
-    ensures { IfOk result (λ v. map (λ r. r.items) v.items ≡ rows_of (map (λ x. x.now) lefts.now) (body_equations (map item_view items.now))) }
+    ensures { IfOk result (λ v. map (λ r. r.items) v.items ≡ rows_of (map (λ x. x.now) lefts.now.names.keys) (body_equations (map item_view items.now))) }
 {
     let mut rows = Vec::new(alloc);
     for item in items {

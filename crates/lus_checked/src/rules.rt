@@ -16,24 +16,25 @@ ghost use Rattle.lus_checked.specs.Refusals.{IsRefusal};
 use crate::checked_program::Checked;
 use crate::collected::{declared_of, lefts_of};
 use crate::limits::is_within_limits;
-use crate::names::{has_boolean_names, has_own_labels};
+use crate::names::{boolean_names, has_own_labels};
 use crate::order::least_order;
 use crate::rows::rows_of;
 use crate::shape::is_boolean_node;
+use crate::words::Words;
 use lus_tree::{Decl, Node, Pos, Program, Refusal, What};
 use std::alloc::{AllocError, Global};
 
-/// The order of the equations of a node, where none depends on itself at one instant. The list is
-/// its left names.
+/// The order of the equations of a node, where none depends on itself at one instant. The words
+/// are its left names.
 fn equation_order(
     alloc: Global,
     node: &Node,
-    lefts: &[&str],
+    lefts: &Words,
 ) -> Result<Option<Vec<u32>>, AllocError>
     requires shape { IsBooleanNode (node_view node.now) }
     requires names { HasBooleanNames (node_view node.now) }
     requires limits { IsWithinLimits (node_view node.now) }
-    requires lefts { map (λ x. x.now) lefts.now ≡ left_names (node_view node.now) }
+    requires lefts { map (λ x. x.now) lefts.now.names.keys ≡ left_names (node_view node.now) }
     ensures { IfOk result (λ o. MatchOption o (HasNoCycle (node_view node.now) → ⊥)
         (λ v. HasNoCycle (node_view node.now) × IsOrderOf (node_view node.now) v.items)) }
 {
@@ -52,9 +53,9 @@ fn boolean_order(alloc: Global, node: &Node) -> Result<Option<Vec<u32>>, AllocEr
         return Ok(None);
     }
     let lefts = left_names_of(alloc, node)?;
-    if !has_boolean_names(alloc, node, &declared, &lefts)? {
+    let Some(lefts) = boolean_names(alloc, node, &declared, &lefts)? else {
         return Ok(None);
-    }
+    };
     if !has_own_labels(alloc, node)? {
         return Ok(None);
     }

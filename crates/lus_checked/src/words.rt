@@ -1,54 +1,107 @@
-//! Lists of names.
+//! Tables of names.
 
-ghost use Rattle.std.specs.Prelude.{◌≡◌, ◌↔◌, IsTrue, map};
+ghost use Rattle.std.specs.Prelude.{◌≡◌, ◌↔◌, true, false, not, [], IfOk, OnOk, IsTrue, MatchOption, map};
 ghost use Rattle.lus_meaning.specs.Depends.{named_in};
 ghost use Rattle.lus_meaning.specs.WellMade.{AreDistinct};
 ghost use Rattle.lus_meaning.specs.Rules.{AllAmong, NoneAmong};
+ghost use Rattle.lus_checked.specs.Words.{add, add_all, place};
 
-/// Whether the name is one of these.
-pub(crate) fn is_among(names: &[&str], name: &str) -> bool
-    ensures { result ≡ named_in name.now (map (λ x. x.now) names.now) }
-{
-    for other in names {
-        if name == *other {
-            return true;
-        }
-    }
-    false
+use indexmap::IndexSet;
+use std::alloc::{AllocError, Global};
+
+/// Names, each once, with the place of each, so that a look-up does not walk them.
+#[derive(Drop)]
+pub(crate) struct Words<'a> {
+    names: IndexSet<&'a str>,
 }
 
-/// Whether no two of the names are the same.
-pub(crate) fn are_distinct(names: &[&str]) -> bool
-    ensures { IsTrue result ↔ AreDistinct (map (λ x. x.now) names.now) }
-{
-    for (i, name) in names.iter().enumerate() {
-        if is_among(&names[i + 1..], name) {
-            return false;
+impl<'a> Words<'a> {
+    /// No names.
+    fn none(alloc: Global) -> Self
+        ensures { map (λ x. x.now) result.names.keys ≡ [] }
+    {
+        Words {
+            names: IndexSet::new(alloc),
         }
     }
-    true
-}
 
-/// Whether each of these is one of the names.
-pub(crate) fn are_all_among(names: &[&str], these: &[&str]) -> bool
-    ensures { IsTrue result ↔ AllAmong (map (λ x. x.now) names.now) (map (λ x. x.now) these.now) }
-{
-    for name in these {
-        if !is_among(names, name) {
-            return false;
-        }
+    /// Adds a name that is new, and tells whether it is.
+    fn add(&mut self, name: &'a str) -> Result<bool, AllocError>
+        ensures new { IfOk result (λ b. b ≡ not (named_in name.now (map (λ x. x.now) self.old.names.keys))) }
+        ensures names { OnOk result (map (λ x. x.now) self.new.names.keys ≡ add (map (λ x. x.now) self.old.names.keys) name.now) }
+    {
+        let new = self.names.insert(name)?;
+        Ok(new)
     }
-    true
-}
 
-/// Whether none of these is one of the names.
-pub(crate) fn are_none_among(names: &[&str], these: &[&str]) -> bool
-    ensures { IsTrue result ↔ NoneAmong (map (λ x. x.now) names.now) (map (λ x. x.now) these.now) }
-{
-    for name in these {
-        if is_among(names, name) {
-            return false;
+    /// The names without repeats.
+    pub(crate) fn of(alloc: Global, names: &[&'a str]) -> Result<Self, AllocError>
+        ensures { IfOk result (λ w. map (λ x. x.now) w.names.keys ≡ add_all [] (map (λ x. x.now) names.now)) }
+    {
+        let mut words = Words::none(alloc);
+        for name in names {
+            words.add(*name)?;
         }
+        Ok(words)
     }
-    true
+
+    /// The names, where no two are the same.
+    pub(crate) fn distinct(alloc: Global, names: &[&'a str]) -> Result<Option<Self>, AllocError>
+        ensures { IfOk result (λ o. MatchOption o (AreDistinct (map (λ x. x.now) names.now) → ⊥)
+            (λ w. AreDistinct (map (λ x. x.now) names.now) × (map (λ x. x.now) w.names.keys ≡ map (λ x. x.now) names.now))) }
+    {
+        let mut words = Words::none(alloc);
+        for name in names {
+            if !words.add(*name)? {
+                return Ok(None);
+            }
+        }
+        Ok(Some(words))
+    }
+
+    /// The names in order.
+    pub(crate) fn as_slice(&self) -> &[&'a str]
+        ensures { map (λ x. x.now) result.now ≡ map (λ x. x.now) self.now.names.keys }
+    {
+        self.names.as_slice()
+    }
+
+    /// The place of a name among them.
+    pub(crate) fn place(&self, name: &str) -> Option<usize>
+        ensures { MatchOption result (named_in name.now (map (λ x. x.now) self.now.names.keys) ≡ false)
+            (λ i. (named_in name.now (map (λ x. x.now) self.now.names.keys) ≡ true) × (i ≡ place (map (λ x. x.now) self.now.names.keys) name.now)) }
+    {
+        self.names.get_index_of(name)
+    }
+
+    /// Whether the name is one of them.
+    fn has(&self, name: &str) -> bool
+        ensures { result ≡ named_in name.now (map (λ x. x.now) self.now.names.keys) }
+    {
+        self.names.contains(name)
+    }
+
+    /// Whether each of these is one of them.
+    pub(crate) fn has_all(&self, these: &[&str]) -> bool
+        ensures { IsTrue result ↔ AllAmong (map (λ x. x.now) self.now.names.keys) (map (λ x. x.now) these.now) }
+    {
+        for name in these {
+            if !self.has(name) {
+                return false;
+            }
+        }
+        true
+    }
+
+    /// Whether none of these is one of them.
+    pub(crate) fn has_none(&self, these: &[&str]) -> bool
+        ensures { IsTrue result ↔ NoneAmong (map (λ x. x.now) self.now.names.keys) (map (λ x. x.now) these.now) }
+    {
+        for name in these {
+            if self.has(name) {
+                return false;
+            }
+        }
+        true
+    }
 }
