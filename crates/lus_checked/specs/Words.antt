@@ -1,8 +1,13 @@
 -- Names, each once, in the order in which they are first met.
-use Rattle.std.specs.Prelude.{ℕ, suc, Bool, cond, List, [], ◌∷◌, ◌++◌}
+use Rattle.std.specs.Prelude.{ℕ, suc, cond, List, [], ◌∷◌, ◌++◌, map}
 use Rattle.std.specs.Str.{bytes_eq}
 use Rattle.lus_tree.specs.Tree.{Name}
 use Rattle.lus_meaning.specs.Depends.{named_in}
+use Rattle.lus_checked.specs.declared.words.Words.{Words}
+
+-- the names of a table, in order
+abbrev pub words : Words → List Name
+words w = map (λ x. x.now) w.names.keys
 
 -- the names, and behind them x where it is new
 abbrev pub add : List Name → Name → List Name

@@ -6,6 +6,7 @@ ghost use Rattle.lus_meaning.specs.Depends.{left_names};
 ghost use Rattle.lus_meaning.specs.WellMade.{AreDistinct};
 ghost use Rattle.lus_meaning.specs.Rules.{declared_names};
 ghost use Rattle.lus_meaning.specs.BooleanRules.{HasBooleanNames, IsBooleanNode, label_texts};
+ghost use Rattle.lus_checked.specs.Words.{words};
 
 use crate::collected::{inputs_of, labels_of, used_of};
 use crate::words::Words;
@@ -23,7 +24,7 @@ pub(crate) fn boolean_names<'a>(
     requires declared { map (λ x. x.now) declared.now ≡ declared_names (node_view node.now) }
     requires lefts { map (λ x. x.now) lefts.now ≡ left_names (node_view node.now) }
     ensures { IfOk result (λ o. MatchOption o (HasBooleanNames (node_view node.now) → ⊥)
-        (λ w. HasBooleanNames (node_view node.now) × (map (λ x. x.now) w.names.keys ≡ left_names (node_view node.now)))) }
+        (λ w. HasBooleanNames (node_view node.now) × (words w ≡ left_names (node_view node.now)))) }
 {
     let used = used_of(alloc, &node.items)?;
     let inputs = inputs_of(alloc, node)?;

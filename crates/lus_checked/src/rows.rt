@@ -4,6 +4,7 @@ ghost use Rattle.std.specs.Prelude.{◌≡◌, IfOk, ◌++◌, ◌∷◌, [], ma
 ghost use Rattle.lus_tree.specs.View.{item_view};
 ghost use Rattle.lus_meaning.specs.Run.{body_equations};
 ghost use Rattle.lus_checked.specs.Rows.{numbers_of, rows_of};
+ghost use Rattle.lus_checked.specs.Words.{words};
 
 use crate::collected::push_needed;
 use crate::words::Words;
@@ -12,7 +13,7 @@ use std::alloc::{AllocError, Global};
 
 /// The numbers, from 0, of those needed names that are left names.
 fn numbers_of(alloc: Global, lefts: &Words, needed: &[&str]) -> Result<Vec<usize>, AllocError>
-    ensures { IfOk result (λ v. v.items ≡ numbers_of (map (λ x. x.now) lefts.now.names.keys) (map (λ x. x.now) needed.now)) }
+    ensures { IfOk result (λ v. v.items ≡ numbers_of (words lefts.now) (map (λ x. x.now) needed.now)) }
 {
     let mut numbers = Vec::new(alloc);
     for name in needed {
@@ -30,7 +31,7 @@ fn push_row(
     lefts: &Words,
     item: &Item,
 ) -> Result<(), AllocError>
-    ensures { IfOk result (λ _. map (λ v. v.items) rows.new.items ≡ map (λ v. v.items) rows.old.items ++ rows_of (map (λ x. x.now) lefts.now.names.keys) (body_equations (item_view item.now ∷ []))) }
+    ensures { IfOk result (λ _. map (λ v. v.items) rows.new.items ≡ map (λ v. v.items) rows.old.items ++ rows_of (words lefts.now) (body_equations (item_view item.now ∷ []))) }
 {
     if let Item::Equation(_, e) = item {
         let mut needed = Vec::new(alloc);
@@ -48,7 +49,7 @@ pub(crate) fn rows_of(
     lefts: &Words,
     items: &[Item],
 ) -> Result<Vec<Vec<usize>>, AllocError>
-    ensures { IfOk result (λ v. map (λ r. r.items) v.items ≡ rows_of (map (λ x. x.now) lefts.now.names.keys) (body_equations (map item_view items.now))) }
+    ensures { IfOk result (λ v. map (λ r. r.items) v.items ≡ rows_of (words lefts.now) (body_equations (map item_view items.now))) }
 {
     let mut rows = Vec::new(alloc);
     for item in items {

@@ -12,6 +12,7 @@ ghost use Rattle.lus_meaning.specs.Rules.{IsWithinLimits};
 ghost use Rattle.lus_checked.specs.Followed.{HasNoCycle, IsOrderOf};
 ghost use Rattle.lus_checked.specs.Ordered.{AreOrdered};
 ghost use Rattle.lus_checked.specs.Refusals.{IsRefusal};
+ghost use Rattle.lus_checked.specs.Words.{words};
 
 use crate::checked_program::Checked;
 use crate::collected::{declared_of, lefts_of};
@@ -26,15 +27,11 @@ use std::alloc::{AllocError, Global};
 
 /// The order of the equations of a node, where none depends on itself at one instant. The words
 /// are its left names.
-fn equation_order(
-    alloc: Global,
-    node: &Node,
-    lefts: &Words,
-) -> Result<Option<Vec<u32>>, AllocError>
+fn equation_order(alloc: Global, node: &Node, lefts: &Words) -> Result<Option<Vec<u32>>, AllocError>
     requires shape { IsBooleanNode (node_view node.now) }
     requires names { HasBooleanNames (node_view node.now) }
     requires limits { IsWithinLimits (node_view node.now) }
-    requires lefts { map (λ x. x.now) lefts.now.names.keys ≡ left_names (node_view node.now) }
+    requires lefts { words lefts.now ≡ left_names (node_view node.now) }
     ensures { IfOk result (λ o. MatchOption o (HasNoCycle (node_view node.now) → ⊥)
         (λ v. HasNoCycle (node_view node.now) × IsOrderOf (node_view node.now) v.items)) }
 {

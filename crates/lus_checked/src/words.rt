@@ -4,7 +4,7 @@ ghost use Rattle.std.specs.Prelude.{◌≡◌, ◌↔◌, true, false, not, [], 
 ghost use Rattle.lus_meaning.specs.Depends.{named_in};
 ghost use Rattle.lus_meaning.specs.WellMade.{AreDistinct};
 ghost use Rattle.lus_meaning.specs.Rules.{AllAmong, NoneAmong};
-ghost use Rattle.lus_checked.specs.Words.{add, add_all, place};
+ghost use Rattle.lus_checked.specs.Words.{add, add_all, place, words};
 
 use indexmap::IndexSet;
 use std::alloc::{AllocError, Global};
@@ -18,7 +18,7 @@ pub(crate) struct Words<'a> {
 impl<'a> Words<'a> {
     /// No names.
     fn none(alloc: Global) -> Self
-        ensures { map (λ x. x.now) result.names.keys ≡ [] }
+        ensures { words result ≡ [] }
     {
         Words {
             names: IndexSet::new(alloc),
@@ -27,8 +27,8 @@ impl<'a> Words<'a> {
 
     /// Adds a name that is new, and tells whether it is.
     fn add(&mut self, name: &'a str) -> Result<bool, AllocError>
-        ensures new { IfOk result (λ b. b ≡ not (named_in name.now (map (λ x. x.now) self.old.names.keys))) }
-        ensures names { OnOk result (map (λ x. x.now) self.new.names.keys ≡ add (map (λ x. x.now) self.old.names.keys) name.now) }
+        ensures new { IfOk result (λ b. b ≡ not (named_in name.now (words self.old))) }
+        ensures names { OnOk result (words self.new ≡ add (words self.old) name.now) }
     {
         let new = self.names.insert(name)?;
         Ok(new)
@@ -36,7 +36,7 @@ impl<'a> Words<'a> {
 
     /// The names without repeats.
     pub(crate) fn of(alloc: Global, names: &[&'a str]) -> Result<Self, AllocError>
-        ensures { IfOk result (λ w. map (λ x. x.now) w.names.keys ≡ add_all [] (map (λ x. x.now) names.now)) }
+        ensures { IfOk result (λ w. words w ≡ add_all [] (map (λ x. x.now) names.now)) }
     {
         let mut words = Words::none(alloc);
         for name in names {
@@ -48,7 +48,7 @@ impl<'a> Words<'a> {
     /// The names, where no two are the same.
     pub(crate) fn distinct(alloc: Global, names: &[&'a str]) -> Result<Option<Self>, AllocError>
         ensures { IfOk result (λ o. MatchOption o (AreDistinct (map (λ x. x.now) names.now) → ⊥)
-            (λ w. AreDistinct (map (λ x. x.now) names.now) × (map (λ x. x.now) w.names.keys ≡ map (λ x. x.now) names.now))) }
+            (λ w. AreDistinct (map (λ x. x.now) names.now) × (words w ≡ map (λ x. x.now) names.now))) }
     {
         let mut words = Words::none(alloc);
         for name in names {
@@ -61,29 +61,29 @@ impl<'a> Words<'a> {
 
     /// The names in order.
     pub(crate) fn as_slice(&self) -> &[&'a str]
-        ensures { map (λ x. x.now) result.now ≡ map (λ x. x.now) self.now.names.keys }
+        ensures { map (λ x. x.now) result.now ≡ words self.now }
     {
         self.names.as_slice()
     }
 
     /// The place of a name among them.
     pub(crate) fn place(&self, name: &str) -> Option<usize>
-        ensures { MatchOption result (named_in name.now (map (λ x. x.now) self.now.names.keys) ≡ false)
-            (λ i. (named_in name.now (map (λ x. x.now) self.now.names.keys) ≡ true) × (i ≡ place (map (λ x. x.now) self.now.names.keys) name.now)) }
+        ensures { MatchOption result (named_in name.now (words self.now) ≡ false)
+            (λ i. (named_in name.now (words self.now) ≡ true) × (i ≡ place (words self.now) name.now)) }
     {
         self.names.get_index_of(name)
     }
 
     /// Whether the name is one of them.
     fn has(&self, name: &str) -> bool
-        ensures { result ≡ named_in name.now (map (λ x. x.now) self.now.names.keys) }
+        ensures { result ≡ named_in name.now (words self.now) }
     {
         self.names.contains(name)
     }
 
     /// Whether each of these is one of them.
     pub(crate) fn has_all(&self, these: &[&str]) -> bool
-        ensures { IsTrue result ↔ AllAmong (map (λ x. x.now) self.now.names.keys) (map (λ x. x.now) these.now) }
+        ensures { IsTrue result ↔ AllAmong (words self.now) (map (λ x. x.now) these.now) }
     {
         for name in these {
             if !self.has(name) {
@@ -95,7 +95,7 @@ impl<'a> Words<'a> {
 
     /// Whether none of these is one of them.
     pub(crate) fn has_none(&self, these: &[&str]) -> bool
-        ensures { IsTrue result ↔ NoneAmong (map (λ x. x.now) self.now.names.keys) (map (λ x. x.now) these.now) }
+        ensures { IsTrue result ↔ NoneAmong (words self.now) (map (λ x. x.now) these.now) }
     {
         for name in these {
             if self.has(name) {
