@@ -1,3 +1,4 @@
+pub mod Scanned
 pub mod Marks
 pub mod Needs
 pub mod Count

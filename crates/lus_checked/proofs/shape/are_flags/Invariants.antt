@@ -2,7 +2,7 @@ use Rattle.std.proofs.Common.{map}
 use Rattle.std.specs.List.{AllByRecursion}
 use Rattle.lus_tree.specs.View.{param_view}
 use Rattle.lus_meaning.specs.Rules.{IsFlag}
-use Rattle.lus_meaning.proofs.Scanned.{Scanned}
+use Rattle.lus_checked.proofs.Scanned.{Scanned}
 use Rattle.lus_checked.proofs.shape.are_flags.Given as goal
 
 abbrev pub invariant-loop-param : goal.invariant-loop-param

@@ -1,6 +1,6 @@
 use Rattle.std.proofs.Common.{map}
 use Rattle.lus_meaning.specs.Rules.{AllAmong}
-use Rattle.lus_meaning.proofs.Scanned.{Scanned}
+use Rattle.lus_checked.proofs.Scanned.{Scanned}
 use Rattle.lus_checked.proofs.words.Words.has_all.Given as goal
 
 abbrev pub invariant-loop-name : goal.invariant-loop-name
