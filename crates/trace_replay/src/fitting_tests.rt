@@ -1,7 +1,11 @@
+ghost use Rattle.std.specs.Prelude.{◌≡◌, [], IfOk};
+
 use crate::fitting::fits_node;
-use crate::{TraceFault, read_trace};
-use lus_tree::{Expr, Form, Item, Named, Node, Param, Pos, Sort, Word};
+use crate::{ReplayFault, TraceFault, fits, read_trace};
+use lus_checked::{Checked, checked};
+use lus_tree::{Decl, Expr, Form, Item, Named, Node, Param, Pos, Program, Sort, Word};
 use std::alloc::{AllocError, Global};
+use std::test::Fail;
 
 const AT: Pos = Pos { line: 1, column: 1 };
 
@@ -166,6 +170,58 @@ fn two_instants(rt: HostRuntime) -> Result<(), TraceFault> {
     for (lines, expected) in &rows {
         let text = format!(in rt.alloc(); "trace m 2\na true true\nb false true\n{lines}")?;
         assert_eq!(rt; answer(rt.alloc(), text.as_str())?.as_str(), *expected);
+    }
+    Ok(())
+}
+
+/// `node main(a: bool) returns (x: bool);` with no equations.
+fn small_node(alloc: Global) -> Result<Node, AllocError>
+    ensures { IfOk result (λ n. n.items.items ≡ []) }
+{
+    Ok(Node {
+        name: word(alloc, "main")?,
+        function: false,
+        inputs: streams(alloc, &["a"])?,
+        outputs: streams(alloc, &["x"])?,
+        locals: Vec::new(alloc),
+        consts: Vec::new(alloc),
+        contract: None,
+        items: Vec::new(alloc),
+    })
+}
+
+fn small_program(alloc: Global) -> Result<Option<Checked>, AllocError> {
+    let mut decls = Vec::new(alloc);
+    decls.push(Decl::Node(small_node(alloc)?))?;
+    Ok(checked(alloc, Program { decls }).ok())
+}
+
+fn fits_small(alloc: Global, text: &str) -> Result<String, Fail> {
+    if text.len() > 1_048_576 {
+        return Ok(String::new(alloc));
+    }
+    let Some(checked) = small_program(alloc)? else {
+        return Err("the program is refused".into());
+    };
+    let trace = read_trace(alloc, text.as_bytes())?;
+    match fits(alloc, &checked, &trace) {
+        Ok(()) => Ok(String::from_str(alloc, "fits")?),
+        Err(ReplayFault::Form(Pos { line, column })) => Ok(format!(in alloc; "{line}:{column}")?),
+        Err(ReplayFault::Memory) => Ok(String::from_str(alloc, "memory")?),
+    }
+}
+
+#[test]
+fn a_trace_of_a_program(rt: HostRuntime) -> Result<(), Fail> {
+    let rows = [
+        ("trace main 2\na true false\nend", "fits"),
+        ("trace main 2\nx _ true\na true false\nend", "fits"),
+        ("trace main 2\na true 7\nend", "2:8"),
+        ("trace main 2\nx true true\nend", "3:1"),
+        ("trace x 2\na true false\nend", "1:7"),
+    ];
+    for (text, expected) in &rows {
+        assert_eq!(rt; fits_small(rt.alloc(), text)?.as_str(), *expected);
     }
     Ok(())
 }
