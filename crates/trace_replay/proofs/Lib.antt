@@ -9,3 +9,4 @@ pub mod Unique
 pub mod Written
 pub mod Spots
 pub mod FittingLines
+pub mod Tables

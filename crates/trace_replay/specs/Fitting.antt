@@ -83,8 +83,9 @@ abbrev pub are_names_given : List Name → List PlacedLine → Bool
 are_names_given [] ls = true
 are_names_given (x ∷ xs) ls = is_given x ls && are_names_given xs ls
 
+-- the lines, and at the end the inputs that are missing
+abbrev pub body_misfit : Component → Listing → Option Pos
+body_misfit d t = or_else (flag_lines_misfit d (last_pre_in 0 d.body) t.length [] t.lines) (cond (are_names_given (names_of d.inputs) t.lines) None (Some t.end_at))
+
 abbrev pub flag_misfit : Component → Listing → Option Pos
-flag_misfit d t = cond (bytes_eq t.node d.name.text)
-    (cond (nat_le 1 t.length && nat_le t.length 1001)
-    (or_else (flag_lines_misfit d (last_pre_in 0 d.body) t.length [] t.lines) (cond (are_names_given (names_of d.inputs) t.lines) None (Some t.end_at)))
-    (Some t.length_at)) (Some t.node_at)
+flag_misfit d t = cond (bytes_eq t.node d.name.text) (cond (nat_le 1 t.length && nat_le t.length 1001) (body_misfit d t) (Some t.length_at)) (Some t.node_at)

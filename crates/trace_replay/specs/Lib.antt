@@ -6,3 +6,4 @@ pub mod Reading
 pub mod Laws
 pub mod Fitting
 pub mod Refused
+pub mod Tables

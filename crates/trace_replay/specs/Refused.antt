@@ -1,5 +1,6 @@
 -- Why a trace is refused.
-use Rattle.std.specs.Prelude.{◌≡◌, Some}
+use Rattle.std.specs.Prelude.{◌≡◌, Option, Some, None, Result, Ok, Err}
+use Rattle.lus_tree.specs.declared.place.Pos.{Pos}
 use Rattle.lus_tree.specs.Tree.{Program}
 use Rattle.lus_meaning.specs.TraceView.{Listing}
 use Rattle.lus_meaning.specs.Fits.{misfit}
@@ -10,3 +11,12 @@ use Rattle.trace_replay.specs.declared.replay_fault.ReplayFault.TheVariants.{For
 abbrev pub IsMisfit : Program → Listing → ReplayFault → Type 0
 IsMisfit p t (Form q) = misfit p t ≡ Some q
 IsMisfit p t Memory = Unit {0}
+
+-- what was looked for is not there, or is at this place, unless memory ran out
+abbrev pub FindsAt : ReplayFault → Option Pos → Type 0
+FindsAt (Form p) o = o ≡ Some p
+FindsAt Memory o = Unit {0}
+
+abbrev pub Finds : {A : Type 0} → Result A ReplayFault → Option Pos → Type 0
+Finds (Ok x) o = o ≡ None
+Finds (Err e) o = FindsAt e o

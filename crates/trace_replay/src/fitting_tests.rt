@@ -85,9 +85,10 @@ fn answer(alloc: Global, text: &str) -> Result<String, TraceFault> {
         return Ok(String::new(alloc));
     }
     let trace = read_trace(alloc, text.as_bytes())?;
-    match fits_node(&node(alloc)?, &trace) {
+    match fits_node(alloc, &node(alloc)?, &trace) {
         Ok(()) => Ok(String::from_str(alloc, "fits")?),
-        Err(Pos { line, column }) => Ok(format!(in alloc; "{line}:{column}")?),
+        Err(ReplayFault::Form(Pos { line, column })) => Ok(format!(in alloc; "{line}:{column}")?),
+        Err(ReplayFault::Memory) => Err(TraceFault::Memory),
     }
 }
 

@@ -6,9 +6,13 @@ mod fault;
 mod fitting;
 #[cfg(test)]
 mod fitting_tests;
+mod last_pre;
 pub mod laws;
+mod listed;
+mod needs;
 mod reading;
 mod replay_fault;
+mod sets;
 mod table;
 #[cfg(test)]
 mod tests;
