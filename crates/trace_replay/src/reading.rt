@@ -14,17 +14,18 @@ use lus_meaning::{Trace, TraceLine, Value};
 use lus_tree::Pos;
 use std::alloc::Global;
 
-/// The values that are left in a line, and their places.
+/// The values that are left in a line, and their places, with room for so many.
 fn values_left<'a>(
     alloc: Global,
+    room: usize,
     start: Cursor<'a>,
 ) -> Result<(Vec<Option<Value>>, Vec<Pos>, Cursor<'a>), TraceFault>
     requires { IsWithin start }
     ensures values { Gives (λ x. (map entry_view x.0.items, x.1.items, left_of x.2)) result (values_left (left_of start.entry)) }
     ensures within { IfOk result (λ x. IsWithin x.2) }
 {
-    let mut values = Vec::new(alloc);
-    let mut places = Vec::new(alloc);
+    let mut values = Vec::with_capacity(alloc, room)?;
+    let mut places = Vec::with_capacity(alloc, room)?;
     let mut here = start;
     while let Some((word, after)) = line_word(here) {
         let Some(value) = value(word.text) else {
@@ -37,10 +38,11 @@ fn values_left<'a>(
     Ok((values, places, here))
 }
 
-/// The values that are left in a line, at least one, and their places.
+/// The values that are left in a line, at least one, and their places, with room for so many.
 #[tactic(auto, unfolding(crate::specs::Reading::values_of))]
 fn values<'a>(
     alloc: Global,
+    room: usize,
     start: Cursor<'a>,
 ) -> Result<(Vec<Option<Value>>, Vec<Pos>, Cursor<'a>), TraceFault>
     requires { IsWithin start }
@@ -48,13 +50,14 @@ fn values<'a>(
     ensures within { IfOk result (λ x. IsWithin x.2) }
 {
     next_word(start)?;
-    values_left(alloc, start)
+    values_left(alloc, room, start)
 }
 
-/// A line from its first word on.
+/// A line from its first word on, with room for so many values.
 #[tactic(auto, unfolding(crate::specs::Reading::listed_of))]
 fn listed<'a>(
     alloc: Global,
+    room: usize,
     first: Word,
     after: Cursor<'a>,
 ) -> Result<(TraceLine, Cursor<'a>), TraceFault>
@@ -63,7 +66,7 @@ fn listed<'a>(
     ensures within { IfOk result (λ x. IsWithin x.1) }
 {
     let (path, what) = place(alloc, first)?;
-    let (values, places, after) = values(alloc, after)?;
+    let (values, places, after) = values(alloc, room, after)?;
     let at = first.at;
     Ok((
         TraceLine {
@@ -98,9 +101,9 @@ pub enum Next<'a> {
     End(Pos),
 }
 
-/// The next line, or the end line.
+/// The next line, with room for so many values, or the end line.
 #[tactic(auto, unfolding(crate::specs::Reading::line_from))]
-fn line<'a>(alloc: Global, here: Cursor<'a>) -> Result<Next<'a>, TraceFault>
+fn line<'a>(alloc: Global, room: usize, here: Cursor<'a>) -> Result<Next<'a>, TraceFault>
     requires { IsWithin here }
     ensures line { Gives next_view result (line_of (left_of here.entry)) }
     ensures within { IfOk result GoesOnWithin }
@@ -110,7 +113,7 @@ fn line<'a>(alloc: Global, here: Cursor<'a>) -> Result<Next<'a>, TraceFault>
         no_line(after)?;
         return Ok(Next::End(start.at));
     }
-    let (line, below) = listed(alloc, start, after)?;
+    let (line, below) = listed(alloc, room, start, after)?;
     Ok(Next::Line(line, below))
 }
 
@@ -121,9 +124,12 @@ fn lines(alloc: Global, start: Cursor) -> Result<(Vec<TraceLine>, Pos), TraceFau
 {
     let mut lines = Vec::new(alloc);
     let mut here = start;
+    // Most lines have as many values as the one before.
+    let mut room = 0;
     loop {
-        match line(alloc, here)? {
+        match line(alloc, room, here)? {
             Next::Line(line, after) => {
+                room = line.values.len();
                 lines.push(line)?;
                 here = after;
             }
