@@ -4,3 +4,4 @@ pub mod Columns
 pub mod Listed
 pub mod Broken
 pub mod Replayed
+pub mod Answer

@@ -14,10 +14,11 @@ use Rattle.lus_grammar.specs.Source.{IsSource, IsRefused as IsSourceRefused}
 use Rattle.kind_main.specs.declared.answer.SourceRead.{SourceRead}
 use Rattle.kind_main.specs.declared.answer.SourceRead.TheVariants.{Checked, Refused, NotBuilt}
 use Rattle.kind_main.specs.declared.answer.TraceRead.{TraceRead}
-use Rattle.kind_main.specs.declared.answer.TraceRead.TheVariants.{Fits, Misfit}
+use Rattle.kind_main.specs.declared.answer.TraceRead.TheVariants.{Replayed, Misfit}
 use Rattle.lus_meaning.specs.TraceView.{Listing, trace_view}
 use Rattle.lus_meaning.specs.Fits.{misfit, FitsProgram}
-use Rattle.trace_replay.specs.Traces.{IsTraceText, ArePlaced, FirstMisfit}
+use Rattle.boolean_replay.specs.Answer.{Replays}
+use Rattle.trace_replay.specs.Traces.{IsTraceText, FirstMisfit}
 use Rattle.kind_main.specs.Answer.{Tells, limit, HoldsSource, IsNotBuilt, IsRefused, HoldsTrace, IsRefusedTrace}
 
 abbrev pub IsFetched : Told → ℕ → ℕ → Fetched → Type 0
@@ -31,7 +32,7 @@ IsReadAs bytes (Refused r) = IsSourceRefused bytes (refusal_view r)
 IsReadAs bytes NotBuilt = IsNotBuilt bytes
 
 abbrev pub IsTraceReadAs : Program → List ℕ → TraceRead → Type 0
-IsTraceReadAs p bytes (Fits t) = IsTraceText bytes (trace_view t) × ArePlaced (trace_view t) × FitsProgram p (trace_view t)
+IsTraceReadAs p bytes (Replayed t r) = IsTraceText bytes (trace_view t) × FitsProgram p (trace_view t) × Replays p (trace_view t) r
 IsTraceReadAs p bytes (Misfit at) = FirstMisfit bytes at ⊎ ((t : Listing) × IsTraceText bytes t × (misfit p t ≡ Some at))
 
 -- the answer of a trace, where the source holds this node

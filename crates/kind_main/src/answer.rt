@@ -8,8 +8,7 @@ ghost use Rattle.lus_tree.specs.View.{program_view, node_view};
 ghost use Rattle.lus_tree.specs.Reason.{refusal_view};
 ghost use Rattle.lus_meaning.specs.BooleanRules.{IsBooleanChecked};
 ghost use Rattle.lus_meaning.specs.TraceView.{trace_view};
-ghost use Rattle.lus_meaning.specs.Fits.{FitsProgram};
-ghost use Rattle.trace_replay.specs.Traces.{ArePlaced};
+ghost use Rattle.boolean_replay.specs.Answer.{Replays};
 ghost use Rattle.lus_grammar.specs.Source.{IsSource};
 ghost use Rattle.kind_main.specs.Lines.{Line, usage_line, too_long_line, not_built_line, formless_line, read_fault_line, refused_line};
 ghost use Rattle.kind_main.specs.Report.{code_of, IsReplay};
@@ -21,13 +20,12 @@ use crate::report::break_lines;
 use crate::status::Status;
 use crate::text::{formless_text, lawful_text, read_fault_text, refused_text};
 use crate::words::command;
-use boolean_replay::replay;
 use contract_reader::read_program;
 use kind_io::{FetchFault, Shelf};
 use lus_checked::{Checked, checked};
 use lus_meaning::Trace;
 use lus_tree::{Pos, Program as Tree, Refusal, What};
-use trace_replay::{ReplayFault, TraceFault, fits, read_trace};
+use trace_replay::{Replay, ReplayFault, TraceFault, read_trace, replay};
 use std::alloc::{AllocError, Global};
 
 /// The most bytes of a source or of a trace.
@@ -148,18 +146,18 @@ fn break_status(lines: &[String]) -> Status
 /// What became of the bytes of a trace.
 #[derive(Drop)]
 pub enum TraceRead {
-    Fits(Trace),
+    Replayed(Trace, Replay),
     Misfit(Pos),
 }
 
-/// Reads a trace, and looks whether it fits the program.
-fn read_fitting(alloc: Global, checked: &Checked, bytes: &[u8]) -> Result<TraceRead, AllocError>
+/// Reads a trace and replays it on a program.
+fn read_replay(alloc: Global, checked: &Checked, bytes: &[u8]) -> Result<TraceRead, AllocError>
     requires { length bytes.now ≤ 1048576 }
     ensures { IfOk result (IsTraceReadAs (program_view checked.now) bytes.now) }
 {
     match read_trace(alloc, bytes) {
-        Ok(trace) => match fits(alloc, checked, &trace) {
-            Ok(()) => Ok(TraceRead::Fits(trace)),
+        Ok(trace) => match replay(alloc, checked, &trace) {
+            Ok(replay) => Ok(TraceRead::Replayed(trace, replay)),
             Err(ReplayFault::Form(at)) => Ok(TraceRead::Misfit(at)),
             Err(ReplayFault::Memory) => Err(AllocError),
         },
@@ -168,13 +166,16 @@ fn read_fitting(alloc: Global, checked: &Checked, bytes: &[u8]) -> Result<TraceR
     }
 }
 
-/// The answer of a replay of a trace that fits.
-fn replay_answer(alloc: Global, checked: &Checked, trace: &Trace) -> Result<Answer, AllocError>
-    requires placed { ArePlaced (trace_view trace.now) }
-    requires fits { FitsProgram (program_view checked.now) (trace_view trace.now) }
+/// The answer of the replay of a trace.
+fn replay_answer(
+    alloc: Global,
+    checked: &Checked,
+    trace: &Trace,
+    replay: &Replay,
+) -> Result<Answer, AllocError>
+    requires { Replays (program_view checked.now) (trace_view trace.now) replay.now }
     ensures { IfOk result (λ a. (d : Component) → IsBooleanChecked (program_view checked.now) d → IsReplay (program_view checked.now) d (trace_view trace.now) (map string_bytes a.lines.items) a.status.code) }
 {
-    let replay = replay(alloc, checked, trace)?;
     let mut lines = break_lines(alloc, &checked.node().items, &replay.broken)?;
     let status = break_status(&lines);
     let last = lawful_text(alloc, replay.lawful(), trace.length)?;
@@ -206,9 +207,11 @@ fn trace_answer<H: Shelf>(
     match fetch(alloc, trace, shelf)? {
         Fetched::Failed => Ok(read_fault(alloc, trace)?),
         Fetched::TooLong => Ok(one_line(alloc, "refused 1:1 TooLong\n", 3)?),
-        Fetched::Bytes(bytes) => match read_fitting(alloc, checked, &bytes)? {
+        Fetched::Bytes(bytes) => match read_replay(alloc, checked, &bytes)? {
             TraceRead::Misfit(at) => Ok(formless(alloc, at)?),
-            TraceRead::Fits(trace) => Ok(replay_answer(alloc, checked, &trace)?),
+            TraceRead::Replayed(trace, replay) => {
+                Ok(replay_answer(alloc, checked, &trace, &replay)?)
+            }
         },
     }
 }

@@ -156,7 +156,7 @@ pub fn fits_node(alloc: Global, node: &Node, trace: &Trace) -> Result<(), Replay
 ///
 /// `Form` exactly where it doesn't, at the first word that doesn't fit; `Memory` for want of
 /// memory.
-pub fn fits(alloc: Global, checked: &Checked, trace: &Trace) -> Result<(), ReplayFault>
+pub(crate) fn fits(alloc: Global, checked: &Checked, trace: &Trace) -> Result<(), ReplayFault>
     // A trace that is let through fits.
     ensures fits { OnOk result (FitsProgram (program_view checked.now) (trace_view trace.now)) }
     // A place is that of the first word that doesn't.

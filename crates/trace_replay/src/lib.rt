@@ -1,4 +1,4 @@
-//! Traces as texts.
+//! Reads and writes traces, and replays them on a checked program.
 #![tactic(auto)]
 
 mod cursor;
@@ -12,6 +12,7 @@ mod listed;
 mod needs;
 mod reading;
 mod replay_fault;
+mod replaying;
 mod sets;
 mod table;
 #[cfg(test)]
@@ -19,8 +20,9 @@ mod tests;
 mod words;
 mod writing;
 
+pub use boolean_replay::Replay;
 pub use fault::TraceFault;
-pub use fitting::fits;
 pub use reading::read_trace;
 pub use replay_fault::ReplayFault;
+pub use replaying::replay;
 pub use writing::write_trace;

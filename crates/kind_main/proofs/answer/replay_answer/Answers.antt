@@ -2,25 +2,21 @@ use Rattle.std.proofs.Common.{◌≡◌, ◌∷◌, [], map, ap, ◌∙◌, sym,
 use Rattle.lus_tree.specs.Tree.{Component, Program}
 use Rattle.lus_tree.specs.View.{node_view, program_view, item_view}
 use Rattle.lus_meaning.specs.TraceView.{trace_view}
-use Rattle.trace_replay.proofs.FittingLines.{lines_fit}
 use Rattle.kind_main.specs.Report.{code_of, AreMany, AreLines}
 use Rattle.kind_main.proofs.Reporting.{pushed-line}
 use Rattle.kind_main.proofs.Replayed.{many, replayed, one_node}
 use Rattle.kind_main.proofs.answer.replay_answer.Goals as goal
 
-pub replay-requires : goal.replay-requires
-replay-requires c = record { fits = λ d h. lines_fit (program_view c.args.checked.now) d h (trace_view c.args.trace.now) c.requires.placed c.requires.fits }
-
 pub break_lines-requires : goal.break_lines-requires
 break_lines-requires c =
     rw (c.deref.ensures.value, c.deref-2.ensures.value)
-    (many (program_view c.args.checked.now) (node_view c.node.result.now) c.node.ensures (trace_view c.args.trace.now) _ c.in_ok-replay.replay.broken.items (c.in_ok-replay.ensures.replayed (node_view c.node.result.now) c.node.ensures))
+    (many (program_view c.args.checked.now) (node_view c.node.result.now) c.node.ensures (trace_view c.args.trace.now) _ c.args.replay.now.broken.items (c.requires.replayed (node_view c.node.result.now) c.node.ensures))
 
 pub returns : goal.returns
 returns c = λ d h.
     let same : d ≡ node_view c.node.result.now = one_node (program_view c.args.checked.now) d (node_view c.node.result.now) h c.node.ensures in
     let lines = rw (c.deref.ensures.value, c.deref-2.ensures.value) at c.in_ok-lines.ensures in
-    replayed (program_view c.args.checked.now) d h (trace_view c.args.trace.now) _ c.in_ok-replay.replay.broken.items (c.in_ok-replay.ensures.replayed d h)
-    (map string_bytes c.in_ok-lines.lines.items) (subst (λ (e : Component). AreLines e.body c.in_ok-replay.replay.broken.items (map string_bytes c.in_ok-lines.lines.items)) (sym same) lines)
-    _ (pushed-line string_bytes c.in_ok-lines.lines.items _ c.in_ok-last.last _ c.in_ok-push.ensures.items (rw (c.lawful.ensures, c.in_ok-replay.ensures.instants) at c.in_ok-last.ensures))
+    replayed (program_view c.args.checked.now) d h (trace_view c.args.trace.now) _ c.args.replay.now.broken.items (c.requires.replayed d h)
+    (map string_bytes c.in_ok-lines.lines.items) (subst (λ (e : Component). AreLines e.body c.args.replay.now.broken.items (map string_bytes c.in_ok-lines.lines.items)) (sym same) lines)
+    _ (pushed-line string_bytes c.in_ok-lines.lines.items _ c.in_ok-last.last _ c.in_ok-push.ensures.items (rw (c.lawful.ensures, c.requires.instants) at c.in_ok-last.ensures))
     _ (c.break_status-status.ensures ∙ ap (λ l. code_of (map string_bytes l)) c.deref-3.ensures.value)

@@ -28,9 +28,9 @@ returns-in-Misfit g c =
 pub returns : goal.returns
 returns g c =
     let held = rw c.in-Bytes.is at c.in_ok-fetch.ensures.fetched in
-    let trace = rw (c.in-Fits.is, c.deref.ensures.value) at c.in_ok-at-in-Bytes.ensures in (
+    let trace = rw (c.in-Replayed.is, c.deref.ensures.value) at c.in_ok-at-in-Bytes.ensures in (
       node_view c.node-node.result.now,
       c.node-node.ensures,
-      trace_replayed (trace_view c.in-Fits.trace) record { bytes = c.in-Bytes.bytes.items; held = held.0; short = held.1; text = trace.0; fits = trace.2 }
-          (c.in_ok-replay_answer-in-Fits.ensures (node_view c.node-node.result.now) c.node-node.ensures),
+      trace_replayed (trace_view c.in-Replayed.trace) record { bytes = c.in-Bytes.bytes.items; held = held.0; short = held.1; text = trace.0; fits = trace.1 }
+          (c.in_ok-replay_answer-in-Replayed.ensures (node_view c.node-node.result.now) c.node-node.ensures),
     )
