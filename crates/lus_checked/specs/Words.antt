@@ -13,6 +13,7 @@ words w = map (λ x. x.now) w.names.keys
 abbrev pub add : List Name → Name → List Name
 add ks x = cond (named_in x ks) ks (ks ++ x ∷ [])
 
+-- the same for each of these in turn
 abbrev pub add_all : List Name → List Name → List Name
 add_all ks [] = ks
 add_all ks (x ∷ xs) = add_all (add ks x) xs
