@@ -6,6 +6,8 @@ mod broken_at;
 mod code;
 mod listed;
 mod names;
+#[cfg(test)]
+mod replay_tests;
 mod replaying;
 mod rows;
 #[cfg(test)]
