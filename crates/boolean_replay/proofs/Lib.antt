@@ -1,4 +1,5 @@
 pub mod Looking
+pub mod Tables
 pub mod Views
 pub mod Filling
 pub mod Named

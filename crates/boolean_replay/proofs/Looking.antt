@@ -1,7 +1,8 @@
 -- What is found in a list, and the breaks so far with what the items to come still owe.
-use Rattle.std.proofs.Common.{◌≡◌, ◌<◌, ◌≤◌, ◌+◌, ℕ, zero, suc, Bool, List, [], ◌∷◌, ◌++◌, Option, Some, None, slice_get, length, get_or, drop, map, refl, sym, ap, ◌∙◌, append_assoc, append-nil, add-one, subst}
+use Rattle.std.proofs.Common.{◌≡◌, ◌<◌, ◌≤◌, ◌+◌, ℕ, zero, suc, Bool, List, [], ◌∷◌, ◌++◌, Option, Some, None, slice_get, option_map, length, get_or, drop, map, refl, sym, ap, ◌∙◌, append_assoc, append-nil, add-one, subst, arith}
 use Rattle.std.proofs.Math.Seq.{drop-cons}
 use Rattle.std.proofs.lemmas.List.{drop_all}
+use Rattle.std.proofs.lemmas.Option.{slice_get-map}
 use Rattle.lus_tree.specs.declared.declaration.Item.{Item}
 use Rattle.lus_tree.specs.View.{item_view}
 use Rattle.lus_tree.specs.Tree.{Expression, Statement, equation, assertion, property, main_mark}
@@ -57,3 +58,12 @@ none_there (y ∷ l) zero d e = absurd (something e)
     something : None ≡ Some y → ⊥
     something e = cc
 none_there (y ∷ l) (suc k) d e = none_there l k d e
+
+-- what is found among the views of views
+pub found_at : {A B C : Type 0} (f : B → C) (v : A → B) (xs : List A) (k : ℕ) (o : Option A) → o ≡ slice_get xs k → option_map f (option_map v o) ≡ slice_get (map f (map v xs)) k
+found_at f v xs k o e = ap (λ p. option_map f (option_map v p)) e ∙ sym (slice_get-map f (map v xs) k ∙ ap (option_map f) (slice_get-map v xs k))
+
+pub some_at : {X : Type 0} (xs : List X) (k : ℕ) (x : X) → k < length xs → x ≡ get_or xs k x → Some x ≡ slice_get xs k
+some_at [] k x l e = absurd (omega (arith, l))
+some_at (y ∷ xs) zero x l e = ap Some e
+some_at (y ∷ xs) (suc k) x l e = some_at xs k x (omega (arith, l)) e

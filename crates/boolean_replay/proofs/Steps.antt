@@ -1,5 +1,6 @@
 -- What a replay computes step by step is what its table and its columns are.
-use Rattle.std.proofs.Common.{◌≡◌, ℕ, ◌<◌, ◌≤◌, ◌+◌, ◌*◌, ◌^◌, Bool, List, [], ◌∷◌, ◌++◌, map, flat_map, length, refl, ap, ◌∙◌, sym, subst, arith, Option}
+use Rattle.std.proofs.Common.{◌≡◌, ℕ, ◌<◌, ◌≤◌, ◌+◌, ◌*◌, ◌^◌, Bool, List, [], ◌∷◌, ◌++◌, map, flat_map, length, refl, ap, ◌∙◌, sym, subst, arith, Option, Result, Ok, Err}
+use Rattle.std.specs.Prelude.{IfOk}
 use Rattle.std.proofs.lemmas.List.{length-map}
 use Rattle.std.proofs.lemmas.Nat.{mul-le}
 use Rattle.lus_tree.specs.Tree.{Name, Program, Component, declared_node}
@@ -27,39 +28,35 @@ one_component p c d a b =
     let e : declared_node c ∷ [] ≡ declared_node d ∷ [] = sym a.one_node ∙ b.one_node in
     cc
 
-module _ (p : Program) (d : Component) (checked : IsBooleanChecked p d) (ks : List ℕ) (least : IsLeastEquationOrder (equations d) ks) (start names : List Name)
-    (begins : start ≡ base_names (body_equations d.body) d) (grown : names ≡ start ++ flat_map (left_at (body_equations d.body)) ks) where
-  body : equations d ≡ body_equations d.body
-  body = boolean_equations d checked.rules.shape
+pub columns_are : (ls : List Line) (es : List Equation) (d : Component) (ks : List ℕ) (start names : List Name) (first columns : List Source) → start ≡ base_names es d → names ≡ start ++ flat_map (left_at es) ks → first ≡ given_columns ls start → columns ≡ first ++ computed_columns ls names es ks → columns ≡ table_columns ls es d ks
+columns_are ls es d ks start names first columns begins grown a b =
+    b ∙ ap (λ (l : List Source). l ++ computed_columns ls names es ks) (a ∙ ap (given_columns ls) begins)
+    ∙ ap (λ (l : List Name). given_columns ls (base_names es d) ++ computed_columns ls l es ks) (grown ∙ ap (λ (l : List Name). l ++ flat_map (left_at es) ks) begins)
 
-  all_names : names ≡ table_names (body_equations d.body) d ks
-  all_names = grown ∙ ap (λ (l : List Name). l ++ flat_map (left_at (body_equations d.body)) ks) begins
+module _ (p : Program) (d : Component) (checked : IsBooleanChecked p d) (ks : List ℕ) (least : IsLeastEquationOrder (equations d) ks) (es : List Equation) (body : es ≡ body_equations d.body) where
+  all_equations : equations d ≡ es
+  all_equations = boolean_equations d checked.rules.shape ∙ sym body
 
-  pub few : length names ≤ 4000
-  few = names_few p d checked ks least (body_equations d.body) body names all_names
+  pub few_names : length (table_names es d ks) ≤ 4000
+  few_names = names_few p d checked ks least es all_equations (table_names es d ks) refl
 
-  pub replay_is : (ls : List Line) (n : ℕ) → LinesFit ls (instance_of p d) n → (first columns : List Source) → first ≡ given_columns ls start → columns ≡ first ++ computed_columns ls names (body_equations d.body) ks →
-      (kept : List Bool) → kept ≡ rows (length names) columns n →
-      (hits : List (Option ℕ)) → AreFirstFalse (λ e. code_truth kept (length names) (code_of names (first_in ls) e)) n (property_values d.body) hits → IsReplayed ls p d n (held names kept) hits
-  replay_is ls n fits first columns a b kept c = replayed p d checked ls n fits ks least (body_equations d.body) body names all_names kept
-      (c ∙ ap (λ (l : List Source). rows (length names) l n) (b ∙ ap (λ (l : List Source). l ++ computed_columns ls names (body_equations d.body) ks) (a ∙ ap (given_columns ls) begins)
-      ∙ ap (λ (l : List Name). given_columns ls (base_names (body_equations d.body) d) ++ computed_columns ls l (body_equations d.body) ks) all_names))
+  module _ {Z : Type 0} (bytes : Z → Name) (names : List Z) (all_names : map bytes names ≡ table_names es d ks) where
+    same_length : length names ≡ length (map bytes names)
+    same_length = sym (length-map names bytes)
 
-module _ {Z : Type 0} (bytes : Z → Name) (p : Program) (d : Component) (checked : IsBooleanChecked p d) (ks : List ℕ) (least : IsLeastEquationOrder (equations d) ks) (start names : List Z)
-    (begins : map bytes start ≡ base_names (body_equations d.body) d) (grown : map bytes names ≡ map bytes start ++ flat_map (left_at (body_equations d.body)) ks) where
-  pub names_fit : length names ≤ 4000
-  names_fit =
-      let same : length (map bytes names) ≡ length names = length-map names bytes in
-      let most : length (map bytes names) ≤ 4000 = few p d checked ks least (map bytes start) (map bytes names) begins grown in
-      omega arith
+    pub names_fit : length names ≤ 4000
+    names_fit = subst (λ k. k ≤ 4000) (ap length (sym all_names) ∙ sym same_length) few_names
 
-  pub rows_fit : (n : ℕ) → n < 2 ^ 32 → (n + 1) * length names < 2 ^ 62
-  rows_fit n l = let most : length names ≤ 4000 = names_fit in let h : (n + 1) * length names ≤ 4294967296 * 4000 = mul-le (n + 1) (length names) 4294967296 4000 (omega arith) most in omega arith
+    pub rows_fit : (n : ℕ) → n < 2 ^ 32 → (n + 1) * length names < 2 ^ 62
+    rows_fit n l = let most : length names ≤ 4000 = names_fit in let h : (n + 1) * length names ≤ 4294967296 * 4000 = mul-le (n + 1) (length names) 4294967296 4000 (omega arith) most in omega arith
 
-  pub whole_replay : (ls : List Line) (n : ℕ) → LinesFit ls (instance_of p d) n → (first columns : List Source) → first ≡ given_columns ls (map bytes start) → columns ≡ first ++ computed_columns ls (map bytes names) (body_equations d.body) ks →
-      (kept : List Bool) → kept ≡ rows (length names) columns n →
-      (hits : List (Option ℕ)) → AreFirstFalse (λ e. code_truth kept (length names) (code_of (map bytes names) (first_in ls) e)) n (property_values d.body) hits → IsReplayed ls p d n (held (map bytes names) kept) hits
-  whole_replay ls n fits first columns a b kept c hits f =
-      let same : length names ≡ length (map bytes names) = sym (length-map names bytes) in
-      replay_is p d checked ks least (map bytes start) (map bytes names) begins grown ls n fits first columns a b kept (c ∙ ap (λ w. rows w columns n) same) hits
-      (subst (λ w. AreFirstFalse (λ e. code_truth kept w (code_of (map bytes names) (first_in ls) e)) n (property_values d.body) hits) same f)
+    pub whole_replay : (ls : List Line) (n : ℕ) → LinesFit ls (instance_of p d) n → (columns : List Source) → columns ≡ table_columns ls es d ks → (kept : List Bool) → kept ≡ rows (length names) columns n →
+        (hits : List (Option ℕ)) → AreFirstFalse (λ e. code_truth kept (length names) (code_of (map bytes names) (first_in ls) e)) n (property_values d.body) hits → IsReplayed ls p d n (held (map bytes names) kept) hits
+    whole_replay ls n fits columns a kept b hits f = replayed p d checked ls n fits ks least es all_equations (map bytes names) all_names kept
+        (b ∙ ap (λ (l : List Source). rows (length names) l n) a ∙ ap (λ k. rows k (table_columns ls es d ks) n) same_length) hits
+        (subst (λ k. AreFirstFalse (λ e. code_truth kept k (code_of (map bytes names) (first_in ls) e)) n (property_values d.body) hits) same_length f)
+
+-- what follows of a result from three facts on it
+pub if_all : {X Y : Type 0} {A B C D : X → Type 0} (r : Result X Y) → IfOk r A → IfOk r B → IfOk r C → ((x : X) → A x → B x → C x → D x) → IfOk r D
+if_all (Ok x) a b c f = f x a b c
+if_all (Err y) a b c f = tt

@@ -2,6 +2,8 @@ pub mod Truth
 pub mod Code
 pub mod Columns
 pub mod Listed
+pub mod Tables
+pub mod Equations
 pub mod Broken
 pub mod Replayed
 pub mod Answer

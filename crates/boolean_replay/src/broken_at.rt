@@ -10,7 +10,8 @@ ghost use Rattle.boolean_replay.specs.Listed.{first_in};
 ghost use Rattle.boolean_replay.specs.Broken.{IsFirstFalse, property_values, AreFirstFalse};
 
 use crate::code::{Code, coded, truth_of};
-use lus_meaning::TraceLine;
+use crate::listing::Listing;
+use crate::places::Places;
 use lus_tree::{Expr, Item};
 use std::alloc::{AllocError, Global};
 
@@ -30,37 +31,35 @@ fn first_false(code: &Code, kept: &[bool], width: usize, n: u32) -> Option<u32>
 /// The first of n instants at which an expression is false.
 fn first_broken(
     alloc: Global,
-    names: &[String],
-    lines: &[TraceLine],
+    places: &Places,
+    listing: &Listing,
     kept: &[bool],
     e: &Expr,
     n: u32,
 ) -> Result<Option<u32>, AllocError>
-    requires few { length names.now < 2 ^ 31 }
-    requires fits { (n + 1) * length names.now < 2 ^ 62 }
-    ensures { IfOk result (λ hit. IsFirstFalse (code_truth kept.now (length names.now) (code_of (map string_bytes names.now) (first_in (map (λ l. (line_view l).line) lines.now)) (expr_view e.now))) n hit) }
+    requires { (n + 1) * length places.now.names.items < 2 ^ 62 }
+    ensures { IfOk result (λ hit. IsFirstFalse (code_truth kept.now (length places.now.names.items) (code_of (map string_bytes places.now.names.items) (first_in (map (λ l. (line_view l).line) listing.now.lines.now)) (expr_view e.now))) n hit) }
 {
-    let code = coded(alloc, names, lines, e)?;
-    Ok(first_false(&code, kept, names.len(), n))
+    let code = coded(alloc, places, listing, e)?;
+    Ok(first_false(&code, kept, places.names.len(), n))
 }
 
 /// Adds the first of n instants at which an item is false, where it is a property.
 fn push_broken(
     alloc: Global,
-    names: &[String],
-    lines: &[TraceLine],
+    places: &Places,
+    listing: &Listing,
     kept: &[bool],
     item: &Item,
     n: u32,
     found: &mut Vec<Option<u32>>,
 ) -> Result<(), AllocError>
-    requires few { length names.now < 2 ^ 31 }
-    requires fits { (n + 1) * length names.now < 2 ^ 62 }
+    requires { (n + 1) * length places.now.names.items < 2 ^ 62 }
     ensures { OnOk result ((hits : List (Option ℕ)) × (found.new.items ≡ found.old.items ++ hits)
-        × AreFirstFalse (λ e. code_truth kept.now (length names.now) (code_of (map string_bytes names.now) (first_in (map (λ l. (line_view l).line) lines.now)) e)) n (property_values (item_view item.now ∷ [])) hits) }
+        × AreFirstFalse (λ e. code_truth kept.now (length places.now.names.items) (code_of (map string_bytes places.now.names.items) (first_in (map (λ l. (line_view l).line) listing.now.lines.now)) e)) n (property_values (item_view item.now ∷ [])) hits) }
 {
     if let Item::Property(property) = item {
-        let hit = first_broken(alloc, names, lines, kept, &property.value, n)?;
+        let hit = first_broken(alloc, places, listing, kept, &property.value, n)?;
         found.push(hit)?;
     }
     Ok(())
@@ -69,20 +68,19 @@ fn push_broken(
 /// The first of n instants at which each property is false.
 pub(crate) fn broken(
     alloc: Global,
-    names: &[String],
-    lines: &[TraceLine],
+    places: &Places,
+    listing: &Listing,
     kept: &[bool],
     items: &[Item],
     n: u32,
 ) -> Result<Vec<Option<u32>>, AllocError>
-    requires few { length names.now < 2 ^ 31 }
-    requires fits { (n + 1) * length names.now < 2 ^ 62 }
-    ensures { IfOk result (λ found. AreFirstFalse (λ e. code_truth kept.now (length names.now) (code_of (map string_bytes names.now) (first_in (map (λ l. (line_view l).line) lines.now)) e)) n
+    requires { (n + 1) * length places.now.names.items < 2 ^ 62 }
+    ensures { IfOk result (λ found. AreFirstFalse (λ e. code_truth kept.now (length places.now.names.items) (code_of (map string_bytes places.now.names.items) (first_in (map (λ l. (line_view l).line) listing.now.lines.now)) e)) n
         (property_values (map item_view items.now)) found.items) }
 {
     let mut found = Vec::new(alloc);
     for item in items {
-        push_broken(alloc, names, lines, kept, item, n, &mut found)?;
+        push_broken(alloc, places, listing, kept, item, n, &mut found)?;
     }
     Ok(found)
 }

@@ -1,16 +1,17 @@
 //! Expressions whose names are replaced by their places in a row.
 
-ghost use Rattle.std.specs.Prelude.{◌≡◌, ◌+◌, ◌*◌, ◌^◌, ◌<◌, length, map, IfOk, MatchOption};
+ghost use Rattle.std.specs.Prelude.{◌≡◌, ◌+◌, ◌*◌, ◌^◌, ◌<◌, map, IfOk};
 ghost use Rattle.std.specs.String.{string_bytes};
 ghost use Rattle.lus_tree.specs.View.{expr_view};
 ghost use Rattle.lus_meaning.specs.TraceView.{line_view};
 ghost use Rattle.boolean_replay.specs.Truth.{operate};
 ghost use Rattle.boolean_replay.specs.Code.{code_view, code_truth};
-ghost use Rattle.boolean_replay.specs.Columns.{place, coded_name, code_of};
+ghost use Rattle.boolean_replay.specs.Columns.{coded_name, code_of};
 ghost use Rattle.boolean_replay.specs.Listed.{first_in};
 
 use crate::listed::first_listed;
-use lus_meaning::TraceLine;
+use crate::listing::Listing;
+use crate::places::Places;
 use lus_tree::{Expr, Form, Operator};
 use std::alloc::{AllocError, Global};
 
@@ -33,29 +34,12 @@ pub(crate) enum Column {
     Computed(Code),
 }
 
-/// The place of a name.
-pub(crate) fn place_of(names: &[String], name: &str) -> Option<u32>
-    requires { length names.now < 2 ^ 31 }
-    ensures { MatchOption result (place (map string_bytes names.now) name.now ≡ length names.now)
-        (λ i. (place (map string_bytes names.now) name.now ≡ i) × (i < length names.now)) }
-{
-    let mut place = 0;
-    for known in names {
-        if name == known.as_str() {
-            return Some(place);
-        }
-        place += 1;
-    }
-    None
-}
-
 /// The code of a name.
 #[tactic(auto, using(crate::proofs::Views::code_views))]
-fn name_code(names: &[String], name: &str) -> Code
-    requires { length names.now < 2 ^ 31 }
-    ensures { code_view result ≡ coded_name (map string_bytes names.now) name.now }
+fn name_code(places: &Places, name: &str) -> Code
+    ensures { code_view result ≡ coded_name (map string_bytes places.now.names.items) name.now }
 {
-    match place_of(names, name) {
+    match places.place_of(name) {
         Some(place) => Code::Name(place),
         None => Code::Truth(false),
     }
@@ -65,14 +49,13 @@ fn name_code(names: &[String], name: &str) -> Code
 #[cycle(coded)]
 fn boxed(
     alloc: Global,
-    names: &[String],
-    lines: &[TraceLine],
+    places: &Places,
+    listing: &Listing,
     e: &Expr,
 ) -> Result<Box<Code>, AllocError>
-    requires { length names.now < 2 ^ 31 }
-    ensures { IfOk result (λ c. code_view c.value ≡ code_of (map string_bytes names.now) (first_in (map (λ l. (line_view l).line) lines.now)) (expr_view e.now)) }
+    ensures { IfOk result (λ c. code_view c.value ≡ code_of (map string_bytes places.now.names.items) (first_in (map (λ l. (line_view l).line) listing.now.lines.now)) (expr_view e.now)) }
 {
-    let code = coded(alloc, names, lines, e)?;
+    let code = coded(alloc, places, listing, e)?;
     Ok(Box::new(alloc, code)?)
 }
 
@@ -82,35 +65,34 @@ fn boxed(
 #[tactic(auto, using(crate::proofs::Views::code_views, lus_tree::proofs::Views::form_views))]
 pub(crate) fn coded(
     alloc: Global,
-    names: &[String],
-    lines: &[TraceLine],
+    places: &Places,
+    listing: &Listing,
     e: &Expr,
 ) -> Result<Code, AllocError>
-    requires { length names.now < 2 ^ 31 }
-    ensures { IfOk result (λ c. code_view c ≡ code_of (map string_bytes names.now) (first_in (map (λ l. (line_view l).line) lines.now)) (expr_view e.now)) }
+    ensures { IfOk result (λ c. code_view c ≡ code_of (map string_bytes places.now.names.items) (first_in (map (λ l. (line_view l).line) listing.now.lines.now)) (expr_view e.now)) }
 {
     match &e.form {
         Form::Truth(b) => Ok(Code::Truth(*b)),
-        Form::Name(x) => Ok(name_code(names, x)),
-        Form::Not(a) => Ok(Code::Not(boxed(alloc, names, lines, a)?)),
+        Form::Name(x) => Ok(name_code(places, x)),
+        Form::Not(a) => Ok(Code::Not(boxed(alloc, places, listing, a)?)),
         Form::Pre(k, a) => {
-            let first = first_listed(lines, *k);
-            Ok(Code::Pre(first, boxed(alloc, names, lines, a)?))
+            let first = first_listed(listing, *k);
+            Ok(Code::Pre(first, boxed(alloc, places, listing, a)?))
         }
         Form::Arrow(_, a, b) => {
-            let a = boxed(alloc, names, lines, a)?;
-            let b = boxed(alloc, names, lines, b)?;
+            let a = boxed(alloc, places, listing, a)?;
+            let b = boxed(alloc, places, listing, b)?;
             Ok(Code::Arrow(a, b))
         }
         Form::Binary(o, a, b) => {
-            let a = boxed(alloc, names, lines, a)?;
-            let b = boxed(alloc, names, lines, b)?;
+            let a = boxed(alloc, places, listing, a)?;
+            let b = boxed(alloc, places, listing, b)?;
             Ok(Code::Binary(*o, a, b))
         }
         Form::If(a, b, c) => {
-            let a = boxed(alloc, names, lines, a)?;
-            let b = boxed(alloc, names, lines, b)?;
-            let c = boxed(alloc, names, lines, c)?;
+            let a = boxed(alloc, places, listing, a)?;
+            let b = boxed(alloc, places, listing, b)?;
+            let c = boxed(alloc, places, listing, c)?;
             Ok(Code::If(a, b, c))
         }
         Form::Number(_)

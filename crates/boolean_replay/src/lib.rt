@@ -4,8 +4,13 @@
 mod answers;
 mod broken_at;
 mod code;
+mod defined;
+mod equations;
+mod layout;
 mod listed;
+mod listing;
 mod names;
+mod places;
 #[cfg(test)]
 mod replay_tests;
 mod replaying;

@@ -1,7 +1,6 @@
 use Rattle.std.proofs.Common.{map, ap, ◌∙◌, string_bytes, false}
-use Rattle.lus_tree.specs.View.{item_view}
 use Rattle.lus_meaning.specs.TraceView.{line_view}
-use Rattle.lus_meaning.specs.Run.{body_equations}
+use Rattle.boolean_replay.specs.Equations.{equation_view}
 use Rattle.boolean_replay.specs.Columns.{code_of}
 use Rattle.boolean_replay.specs.Listed.{first_in, rights_of, no_right}
 use Rattle.boolean_replay.proofs.Views.{view-Truth}
@@ -10,4 +9,4 @@ use Rattle.boolean_replay.proofs.names.right_code.Goals as goal
 
 pub returns-in-None : goal.returns-in-None
 returns-in-None c = view-Truth false
-    ∙ ap (code_of (map string_bytes c.args.names.now) (first_in (map (λ l. (line_view l).line) c.args.lines.now))) (none_there (rights_of (body_equations (map item_view c.args.items.now))) c.args.number no_right c.in-None.ensures)
+    ∙ ap (code_of (map string_bytes c.args.places.now.names.items) (first_in (map (λ l. (line_view l).line) c.args.listing.now.lines.now))) (none_there (rights_of (map equation_view c.args.equations.now)) c.args.number no_right c.in-None.ensures)
