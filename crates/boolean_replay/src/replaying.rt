@@ -27,7 +27,7 @@ use lus_tree::Item;
 use std::alloc::{AllocError, Global};
 
 /// The table of n instants over these columns, and what it breaks.
-fn filled(
+pub(crate) fn filled(
     alloc: Global,
     layout: Layout,
     listing: &Listing,

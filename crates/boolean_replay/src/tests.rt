@@ -1,7 +1,13 @@
+ghost use Rattle.std.specs.Prelude.{◌≤◌, length, IfOk};
+
 use crate::answers::Replay;
-use crate::broken_at::broken;
+use crate::defined::Defined;
+use crate::equations::{Equation, equations_of};
+use crate::layout::Layout;
+use crate::listing::Listing;
 use crate::names::{free, given, push_computed, push_lefts};
-use crate::rows::table;
+use crate::places::Places;
+use crate::replaying::filled;
 use lus_meaning::{Spot, TraceLine, Value};
 use lus_tree::{Expr, Form, Item, Named, Node, Operator, Param, Pos, Sort, Word};
 use std::alloc::{AllocError, Global};
@@ -150,6 +156,28 @@ fn push_first(
     Ok(())
 }
 
+/// The columns of a small node.
+fn small_layout(
+    alloc: Global,
+    node: &Node,
+    equations: &[Equation],
+    order: &[u32],
+    listing: &Listing,
+) -> Result<Layout, AllocError>
+    ensures { IfOk result (λ l. length l.places.names.items ≤ 20) }
+{
+    let defined = Defined::of(alloc, equations)?;
+    let mut names = free(alloc, node, &defined)?;
+    let mut columns = given(alloc, listing, &names)?;
+    push_lefts(&mut names, equations, order)?;
+    if names.len() > 20 {
+        return Err(AllocError);
+    }
+    let places = Places::of(alloc, names)?;
+    push_computed(alloc, &mut columns, &places, listing, equations, order)?;
+    Ok(Layout { places, columns })
+}
+
 /// The replay of four instants.
 fn replayed(
     alloc: Global,
@@ -157,21 +185,10 @@ fn replayed(
     order: &[u32],
     lines: &[TraceLine],
 ) -> Result<Replay, AllocError> {
-    let mut names = free(alloc, node)?;
-    let mut columns = given(alloc, lines, &names)?;
-    push_lefts(&mut names, &node.items, order)?;
-    if names.len() > 20 {
-        return Err(AllocError);
-    }
-    push_computed(alloc, &mut columns, &names, lines, &node.items, order)?;
-    let kept = table(alloc, &columns, names.len(), 4)?;
-    let broken = broken(alloc, &names, lines, &kept, &node.items, 4)?;
-    Ok(Replay {
-        names,
-        kept,
-        broken,
-        instants: 4,
-    })
+    let equations = equations_of(alloc, &node.items)?;
+    let listing = Listing::of(alloc, lines)?;
+    let layout = small_layout(alloc, node, &equations, order, &listing)?;
+    filled(alloc, layout, &listing, &node.items, 4)
 }
 
 /// Whether a name has these values.
