@@ -7,7 +7,7 @@ ghost use Rattle.lus_tree.specs.View.{item_view, program_view};
 ghost use Rattle.lus_meaning.specs.TraceView.{line_view, lines_of, trace_view};
 ghost use Rattle.lus_meaning.specs.Program.{instance_of};
 ghost use Rattle.lus_meaning.specs.BooleanRules.{IsBooleanChecked};
-ghost use Rattle.lus_meaning.specs.BooleanLaws.{LinesFit};
+ghost use Rattle.lus_meaning.specs.Laws.{LinesFit};
 ghost use Rattle.boolean_replay.specs.Broken.{property_values, AreFirstFalse};
 ghost use Rattle.boolean_replay.specs.Code.{code_truth};
 ghost use Rattle.boolean_replay.specs.Columns.{code_of, column_view, held, rows};

@@ -1,7 +1,7 @@
 use Rattle.std.proofs.Common.{List, sym, subst}
 use Rattle.lus_meaning.specs.Program.{instance_of}
 use Rattle.lus_meaning.specs.Trace.{Line}
-use Rattle.lus_meaning.specs.BooleanLaws.{LinesFit}
+use Rattle.lus_meaning.specs.Laws.{LinesFit}
 use Rattle.lus_meaning.proofs.BooleanFrame.{no_lines_fit}
 use Rattle.lus_tree.specs.View.{program_view}
 use Rattle.boolean_replay.proofs.replay_tests.a_checked_program_is_replayed.Goals as goal
