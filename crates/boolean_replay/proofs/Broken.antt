@@ -1,21 +1,18 @@
 -- What a table's frame breaks.
-use Rattle.std.proofs.Common.{◌≡◌, ℕ, pred, Bool, ◌<◌, true, false, ◌&&◌, List, [], ◌∷◌, ◌++◌, flat_map, refl, ap, ◌∙◌, sym, subst, arith, Option, Some, None, slice_index_or}
+use Rattle.std.proofs.Common.{◌≡◌, ℕ, pred, Bool, ◌<◌, true, false, ◌&&◌, List, [], ◌∷◌, ◌++◌, refl, ap, ◌∙◌, sym, subst, arith, Option, Some, None, slice_index_or}
 use Rattle.std.specs.List.{AllByRecursion, list_all}
-use Rattle.lus_tree.specs.Tree.{Name, Expression, Labelled, Statement, equation, assertion, property, main_mark, Component}
-use Rattle.lus_tree.specs.Numbers.{pres, body_expressions, body_pres, IsNumbered}
+use Rattle.lus_tree.specs.Tree.{Expression, Labelled, Statement, equation, assertion, property, main_mark, Component}
 use Rattle.lus_meaning.specs.Value.{flag, is}
 use Rattle.lus_meaning.specs.Frame.{Frame}
 use Rattle.lus_meaning.specs.Scene.{base, Instance, instance, no_instances}
 use Rattle.lus_meaning.specs.Meaning.{value}
 use Rattle.lus_meaning.specs.Contract.{Property, Terms, no_terms, terms, terms_each, terms_after, scene, item, body}
-use Rattle.lus_meaning.specs.Run.{equations, IsRun}
+use Rattle.lus_meaning.specs.Run.{IsRun}
 use Rattle.lus_meaning.specs.Property.{assertions, all_assert, meets_assumptions, IsLawful, body_properties, properties}
 use Rattle.lus_meaning.specs.Verdict.{throughout}
-use Rattle.lus_meaning.specs.BooleanRules.{IsBooleanExpression, IsBooleanItem, IsBooleanNode, used_names}
-use Rattle.lus_meaning.proofs.Now.{left_part, right_part}
+use Rattle.lus_meaning.specs.BooleanRules.{IsBooleanItem, IsBooleanNode}
 use Rattle.lus_meaning.proofs.Lists.{append_none}
 use Rattle.lus_meaning.proofs.BooleanNode.{boolean_no_clauses}
-use Rattle.boolean_replay.specs.Truth.{Held, Firsts, truth_at}
 use Rattle.boolean_replay.specs.Broken.{IsFirstFalse, property_values, AreFirstFalse}
 use Rattle.boolean_replay.specs.Replayed.{IsBreak, AreBreaks}
 

@@ -1,9 +1,7 @@
 -- Rows are filled from left to right: what stands stays, and each value is that of its column in the whole table.
-use Rattle.std.proofs.Common.{◌≡◌, ◌<◌, ◌≤◌, ◌+◌, ◌*◌, ◌⊎◌, inl, inr, ℕ, zero, suc, Bool, true, false, cond, not, List, [], ◌∷◌, ◌++◌, length, get_or, refl, sym, ap, ◌∙◌, arith, append_assoc, append-nil, length-append, subst}
+use Rattle.std.proofs.Common.{◌≡◌, ◌<◌, ◌≤◌, ◌+◌, ◌*◌, ◌⊎◌, inl, inr, ℕ, zero, suc, Bool, false, not, List, [], ◌∷◌, ◌++◌, length, get_or, refl, sym, ap, ◌∙◌, arith, append_assoc, append-nil, length-append, subst}
 use Rattle.std.proofs.Math.ListN.{get_or-append}
 use Rattle.std.proofs.Math.Seq.{get_or-append_seam}
-use Rattle.lus_tree.specs.declared.expression.Operator.{Operator}
-use Rattle.boolean_replay.specs.Truth.{operate}
 use Rattle.boolean_replay.specs.Code.{Coded, known, placed, negated, earlier, started, operated, chosen, code_truth}
 use Rattle.boolean_replay.specs.Columns.{Source, given, computed, source_truth, with_row, rows}
 

@@ -6,7 +6,7 @@ use Rattle.std.proofs.lemmas.Option.{slice_get-map}
 use Rattle.lus_tree.specs.declared.declaration.Item.{Item}
 use Rattle.lus_tree.specs.View.{item_view}
 use Rattle.lus_tree.specs.Tree.{Expression, Statement, equation, assertion, property, main_mark}
-use Rattle.boolean_replay.specs.Broken.{IsFirstFalse, property_values, AreFirstFalse}
+use Rattle.boolean_replay.specs.Broken.{property_values, AreFirstFalse}
 
 pub some_there : {X : Type 0} (l : List X) (k : ℕ) (d x : X) → Some x ≡ slice_get l k → x ≡ get_or l k d
 some_there [] k d x e = absurd (nothing e)

@@ -1,5 +1,5 @@
 -- The columns of a table read only earlier ones, and its rows have what the trace gives and what the equations say.
-use Rattle.std.proofs.Common.{◌≡◌, ◌<◌, ◌≤◌, ◌+◌, ◌*◌, ◌⊎◌, inl, inr, ℕ, zero, suc, Bool, true, false, cond, not, nat_lt, eqb, List, [], ◌∷◌, ◌++◌, map, flat_map, length, get_or, refl, sym, ap, ◌∙◌, arith, append_assoc, length-append, subst}
+use Rattle.std.proofs.Common.{◌≡◌, ◌<◌, ◌+◌, ◌*◌, ◌⊎◌, inl, inr, ℕ, zero, suc, Bool, true, false, cond, not, nat_lt, eqb, List, [], ◌∷◌, ◌++◌, flat_map, length, get_or, refl, sym, ap, ◌∙◌, arith, append_assoc, length-append, subst}
 use Rattle.std.specs.List.{AllByRecursion}
 use Rattle.std.specs.Str.{bytes_eq}
 use Rattle.std.proofs.lemmas.Bool.{false≢true, eqb-true, cases_Bool}
@@ -15,17 +15,16 @@ use Rattle.lus_meaning.specs.Order.{is_listed, IsNext, AreNext, needed_names, ne
 use Rattle.lus_meaning.specs.BooleanRules.{IsBooleanExpression, used_names}
 use Rattle.lus_meaning.proofs.Now.{left_part, right_part}
 use Rattle.lus_meaning.proofs.Unique.{same_bytes}
-use Rattle.lus_meaning.proofs.Ranked.{all_named}
 use Rattle.lus_meaning.proofs.Lists.{all_from_both, append_none}
 use Rattle.lus_meaning.proofs.BooleanNode.{IsBooleanEquation}
 use Rattle.lus_meaning.proofs.BooleanTypes.{needed_of_used}
 use Rattle.lus_meaning.proofs.BooleanOrder.{named_either, first_name, first_is_named, one_left, names_from_ready}
 use Rattle.boolean_replay.specs.Truth.{Firsts, truth_at}
-use Rattle.boolean_replay.specs.Code.{Coded, placed, known, code_truth}
-use Rattle.boolean_replay.specs.Columns.{Source, given, computed, place, held, coded_name, code_of, source_truth, rows}
+use Rattle.boolean_replay.specs.Code.{placed, known, code_truth}
+use Rattle.boolean_replay.specs.Columns.{Source, place, held, coded_name, code_of, rows}
 use Rattle.boolean_replay.specs.Listed.{given_bits, first_in, right_at, free_among, base_names, table_names, given_columns, computed_columns, table_columns}
 use Rattle.boolean_replay.proofs.Filling.{ReadsBelow, AreReadable, Meets, meets-left, meets-right, IsTable, table}
-use Rattle.boolean_replay.proofs.Named.{in_first, in_second, each_named, place_behind, place_within, free_new, free_there, the_left, lefts_length, in_done, from_done, left_of, left_named, same_left}
+use Rattle.boolean_replay.proofs.Named.{in_first, in_second, each_named, place_behind, place_within, free_new, free_there, the_left, in_done, from_done, left_of, left_named, same_left}
 
 -- ---- codes
 

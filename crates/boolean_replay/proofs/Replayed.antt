@@ -1,18 +1,16 @@
 -- The table of a checked node is the frame of its trace.
-use Rattle.std.proofs.Common.{◌≡◌, ℕ, zero, suc, ◌<◌, ◌≤◌, ◌+◌, ◌*◌, Bool, true, false, List, [], ◌∷◌, ◌++◌, map, flat_map, length, length-append, refl, ap, ◌∙◌, sym, subst, arith, Option, Some, None, get_or}
+use Rattle.std.proofs.Common.{◌≡◌, ℕ, zero, suc, ◌<◌, ◌≤◌, ◌+◌, Bool, true, false, List, [], ◌∷◌, ◌++◌, map, flat_map, length, length-append, refl, ap, ◌∙◌, sym, subst, arith, Option, Some, None, get_or}
 use Rattle.std.specs.List.{AllByRecursion}
 use Rattle.std.proofs.lemmas.List.{length-map}
 use Rattle.lus_tree.specs.Tree.{Name, Expression, Statement, equation, assertion, property, main_mark, Program, Component}
 use Rattle.lus_tree.specs.Numbers.{pres, body_expressions, body_pres}
-use Rattle.lus_meaning.specs.Value.{Value, absent, flag}
+use Rattle.lus_meaning.specs.Value.{Value, absent}
 use Rattle.lus_meaning.specs.Frame.{Frame}
-use Rattle.lus_meaning.specs.Scene.{base, instance, no_instances, variables}
-use Rattle.lus_meaning.specs.Meaning.{value}
+use Rattle.lus_meaning.specs.Scene.{instance, no_instances, variables}
 use Rattle.lus_meaning.specs.Program.{instance_of}
-use Rattle.lus_meaning.specs.Contract.{scene}
 use Rattle.lus_meaning.specs.Property.{properties, IsLawful}
 use Rattle.lus_meaning.specs.Verdict.{throughout}
-use Rattle.lus_meaning.specs.Run.{Equation, equations, body_equations}
+use Rattle.lus_meaning.specs.Run.{Equation, equations}
 use Rattle.lus_meaning.specs.Trace.{Line, of_name, listed_at, IsFrameOf}
 use Rattle.lus_meaning.specs.Depends.{named_in, left_names}
 use Rattle.lus_meaning.specs.Rules.{AllAmong, declared_names, names_of, lefts}
@@ -22,13 +20,13 @@ use Rattle.lus_meaning.specs.Laws.{LinesFit}
 use Rattle.lus_meaning.proofs.Now.{left_part, right_part}
 use Rattle.lus_meaning.proofs.Orders.{order_length}
 use Rattle.lus_meaning.proofs.FirstSorts.{right_parts}
-use Rattle.lus_meaning.proofs.BooleanNode.{boolean_variables, boolean_equations, over_boolean, IsBooleanEquation, each_boolean, boolean_checked_instance}
+use Rattle.lus_meaning.proofs.BooleanNode.{boolean_variables, over_boolean, IsBooleanEquation, each_boolean, boolean_checked_instance}
 use Rattle.lus_meaning.proofs.BooleanOrder.{first_name}
 use Rattle.lus_meaning.proofs.BooleanFrame.{only_boolean_frame}
-use Rattle.boolean_replay.specs.Truth.{Held, Firsts, truth_at}
+use Rattle.boolean_replay.specs.Truth.{Held, truth_at}
 use Rattle.boolean_replay.specs.Code.{code_truth}
 use Rattle.boolean_replay.specs.Columns.{held, code_of, rows}
-use Rattle.boolean_replay.specs.Listed.{truth_in, values_of, given_bits, first_in, base_names, free_among, table_names, table_columns}
+use Rattle.boolean_replay.specs.Listed.{truth_in, values_of, first_in, base_names, free_among, table_names, table_columns}
 use Rattle.boolean_replay.specs.Broken.{IsFirstFalse, property_values, AreFirstFalse}
 use Rattle.boolean_replay.specs.Replayed.{AreBreaks, IsReplayed}
 use Rattle.boolean_replay.proofs.Named.{free_fewer, lefts_length}

@@ -1,5 +1,5 @@
 -- The frame that a table stands for.
-use Rattle.std.proofs.Common.{◌≡◌, ℕ, zero, suc, ◌<◌, ◌≤◌, ◌+◌, Bool, true, false, cond, ◌||◌, List, [], ◌∷◌, ◌++◌, map, flat_map, length, refl, ap, ◌∙◌, sym, subst, arith, Some, unwrap_or, slice_index_or, get_or}
+use Rattle.std.proofs.Common.{◌≡◌, ℕ, zero, suc, ◌<◌, ◌≤◌, ◌+◌, Bool, true, false, cond, ◌||◌, List, [], ◌∷◌, ◌++◌, map, length, refl, ap, ◌∙◌, sym, subst, arith, Some, unwrap_or, slice_index_or, get_or}
 use Rattle.std.specs.List.{AllByRecursion}
 use Rattle.std.specs.Map.{lookup}
 use Rattle.std.specs.Str.{bytes_eq}
@@ -38,7 +38,7 @@ use Rattle.lus_meaning.proofs.BooleanOrder.{one_named, first_name, first_is_name
 use Rattle.lus_meaning.proofs.BooleanFrame.{boolean_free_part, boolean_free_whole, listed_firsts, listed_have_sorts, firsts_listed}
 use Rattle.boolean_replay.specs.Truth.{Held, operate, truth_at}
 use Rattle.boolean_replay.specs.Listed.{truth_in, first_in}
-use Rattle.boolean_replay.proofs.Named.{in_first, each_named}
+use Rattle.boolean_replay.proofs.Named.{each_named}
 
 -- a row of the frame, as long as the table
 abbrev pub row : Held → ℕ → Variable → Name × List Value

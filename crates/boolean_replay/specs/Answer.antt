@@ -1,7 +1,7 @@
 -- What a replay says of a trace.
-use Rattle.std.specs.Prelude.{◌≡◌, ℕ, List, Option, map}
+use Rattle.std.specs.Prelude.{◌≡◌, map}
 use Rattle.std.specs.String.{string_bytes}
-use Rattle.lus_tree.specs.Tree.{Name, Program, Component}
+use Rattle.lus_tree.specs.Tree.{Program, Component}
 use Rattle.lus_meaning.specs.BooleanRules.{IsBooleanChecked}
 use Rattle.lus_meaning.specs.TraceView.{Listing, lines_of}
 use Rattle.boolean_replay.specs.declared.answers.Replay.{Replay}

@@ -1,5 +1,5 @@
 -- The columns of a replay's table, and the rows that they give.
-use Rattle.std.specs.Prelude.{ℕ, zero, suc, ◌+◌, ◌*◌, Bool, false, cond, nat_lt, List, [], ◌∷◌, ◌++◌, map, length, slice_index_or}
+use Rattle.std.specs.Prelude.{ℕ, zero, suc, ◌+◌, ◌*◌, Bool, false, cond, nat_lt, List, [], ◌∷◌, ◌++◌, length, slice_index_or}
 use Rattle.std.specs.Str.{bytes_eq}
 use Rattle.lus_tree.specs.Tree.{Name, Expression, truth, name, negation, pre, arrow, binary, choice}
 use Rattle.boolean_replay.specs.declared.code.Column.{Column}

@@ -1,7 +1,7 @@
 -- What a trace gives a replay, and the names and columns of its table.
-use Rattle.std.specs.Prelude.{ℕ, Bool, false, cond, ◌&&◌, List, [], ◌∷◌, ◌++◌, map, flat_map, slice_index_or, get_or, find, option_map, unwrap_or}
-use Rattle.lus_tree.specs.Tree.{Name, text_of, Expression, truth, Variable, Component}
-use Rattle.lus_meaning.specs.Value.{Value, absent, flag}
+use Rattle.std.specs.Prelude.{ℕ, Bool, false, cond, ◌&&◌, List, [], ◌∷◌, ◌++◌, map, flat_map, get_or, find, option_map, unwrap_or}
+use Rattle.lus_tree.specs.Tree.{Name, Expression, truth, Variable, Component}
+use Rattle.lus_meaning.specs.Value.{Value, flag}
 use Rattle.lus_meaning.specs.Run.{Equation}
 use Rattle.lus_meaning.specs.Depends.{named_in}
 use Rattle.lus_meaning.specs.Trace.{Line, Subject, of_name, of_first, same_numbers, same_subject, listed_at}

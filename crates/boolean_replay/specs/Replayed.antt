@@ -1,5 +1,5 @@
 -- What a replay answers: the one frame of the trace, and what it breaks.
-use Rattle.std.specs.Prelude.{◌≡◌, ◌<◌, ℕ, true, cond, nat_lt, ◌&&◌, ◌+◌, ◌*◌, false, slice_index_or, length, List, [], ◌∷◌, Bool, Option, Some, None}
+use Rattle.std.specs.Prelude.{◌≡◌, ◌<◌, ℕ, true, cond, nat_lt, ◌&&◌, false, length, List, [], ◌∷◌, Bool, Option, Some, None}
 use Rattle.lus_tree.specs.Tree.{Name, Program, Component}
 use Rattle.lus_meaning.specs.Value.{Value, flag, absent}
 use Rattle.lus_meaning.specs.Frame.{Frame, entry}

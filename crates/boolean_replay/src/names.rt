@@ -32,11 +32,7 @@ fn push_params(names: &mut Vec<String>, params: &[Param]) -> Result<(), AllocErr
 }
 
 /// Adds the names of variables that no equation defines.
-fn push_free(
-    names: &mut Vec<String>,
-    defined: &Defined,
-    params: &[Param],
-) -> Result<(), AllocError>
+fn push_free(names: &mut Vec<String>, defined: &Defined, params: &[Param]) -> Result<(), AllocError>
     ensures { OnOk result (map string_bytes names.new.items ≡ map string_bytes names.old.items ++ free_among (lefts (map equation_view defined.now.equations.now)) (map param_view params.now)) }
 {
     for param in params {
@@ -48,11 +44,7 @@ fn push_free(
 }
 
 /// The names of inputs and free names.
-pub(crate) fn free(
-    alloc: Global,
-    node: &Node,
-    defined: &Defined,
-) -> Result<Vec<String>, AllocError>
+pub(crate) fn free(alloc: Global, node: &Node, defined: &Defined) -> Result<Vec<String>, AllocError>
     ensures { IfOk result (λ names. map string_bytes names.items ≡ base_names (map equation_view defined.now.equations.now) (node_view node.now)) }
 {
     let mut names = Vec::new(alloc);

@@ -11,7 +11,7 @@ use Rattle.lus_grammar.specs.Phrase.{part, fresh, limited, ◌⨾◌, repeated, 
 use Rattle.lus_grammar.specs.Grammar.{body, labelled}
 use Rattle.lus_grammar.specs.Syntax.{Counts, Syntax, none_before}
 use Rattle.lus_grammar.specs.Trees.{expression_of}
-use Rattle.lus_grammar.specs.Programs.{items_of, labelled_of, left_of, contract_of, constants_of, local_group_of, local_groups_of, local_variables_of, local_constants_of, nodes_of, declarations_of, program_of}
+use Rattle.lus_grammar.specs.Programs.{items_of, labelled_of, left_of, contract_of, constants_of, local_constants_of, nodes_of, declarations_of, program_of}
 use Rattle.lus_grammar.specs.Text as G
 use Rattle.lus_grammar.specs.Text.{Text}
 use Rattle.lus_grammar.specs.Source.{IsSource}

@@ -1,7 +1,7 @@
 -- The replay of a trace that fits, as it is printed.
-use Rattle.std.proofs.Common.{◌≡◌, ◌<◌, ◌≤◌, ℕ, List, [], ◌∷◌, ◌++◌, Option, ap, ◌∙◌, sym, subst, arith}
+use Rattle.std.proofs.Common.{◌≡◌, ℕ, List, [], ◌∷◌, ◌++◌, Option, ap, ◌∙◌, sym, subst, arith}
 use Rattle.lus_tree.specs.Tree.{Program, Component, Declaration, declared_node}
-use Rattle.lus_meaning.specs.Scene.{Instance, instance, no_instances}
+use Rattle.lus_meaning.specs.Scene.{Instance}
 use Rattle.lus_meaning.specs.Program.{instance_of}
 use Rattle.lus_meaning.specs.Property.{properties, body_properties}
 use Rattle.lus_meaning.specs.BooleanRules.{IsBooleanChecked}

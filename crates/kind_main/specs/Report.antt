@@ -6,7 +6,7 @@ use Rattle.lus_meaning.specs.Scene.{Instance}
 use Rattle.lus_meaning.specs.Program.{instance_of}
 use Rattle.lus_meaning.specs.Contract.{Property, first_token}
 use Rattle.lus_meaning.specs.Property.{properties, IsLawful}
-use Rattle.lus_meaning.specs.Verdict.{throughout, Breaks}
+use Rattle.lus_meaning.specs.Verdict.{throughout}
 use Rattle.lus_meaning.specs.Trace.{IsFrameOf}
 use Rattle.lus_meaning.specs.TraceView.{Listing, lines_of}
 use Rattle.boolean_replay.specs.Replayed.{IsBreak}

@@ -25,8 +25,8 @@ use kind_io::{FetchFault, Shelf};
 use lus_checked::{Checked, checked};
 use lus_meaning::Trace;
 use lus_tree::{Pos, Program as Tree, Refusal, What};
-use trace_replay::{Replay, ReplayFault, TraceFault, read_trace, replay};
 use std::alloc::{AllocError, Global};
+use trace_replay::{Replay, ReplayFault, TraceFault, read_trace, replay};
 
 /// The most bytes of a source or of a trace.
 const LIMIT: u64 = 1048576;

@@ -104,5 +104,5 @@ module _ {X : Type 0} (f : X → PlacedLine) (xs : List X) (i : ℕ) (x : X) (wi
       fault_step e k =
           let last = last_pre_in 0 d.body in
           subst (λ (ls : List PlacedLine). FindsAt e (flag_lines_misfit d last n (map f (take i xs)) ls)) (sym now_left)
-            (finds_first e (flag_line_misfit d last n (map f (take i xs)) (f x)) (flag_lines_misfit d last n (map f (take i xs) ++ f x ∷ []) (map f (drop (i + 1) xs)))
-              (subst (FindsAt e) (listed_line t (map f (take i xs)) h d n (f x)) k))
+          (finds_first e (flag_line_misfit d last n (map f (take i xs)) (f x)) (flag_lines_misfit d last n (map f (take i xs) ++ f x ∷ []) (map f (drop (i + 1) xs)))
+          (subst (FindsAt e) (listed_line t (map f (take i xs)) h d n (f x)) k))

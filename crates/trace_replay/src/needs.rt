@@ -43,7 +43,13 @@ impl<'a> Needs<'a> {
         let mut lefts = IndexSet::new(alloc);
         add_lefts(&mut lefts, &node.items)?;
         let last = last_pre_in(&node.items);
-        Ok(Needs { node, inputs, others, lefts, last })
+        Ok(Needs {
+            node,
+            inputs,
+            others,
+            lefts,
+            last,
+        })
     }
 
     /// How many values a line of this name has, and whether each has to be there. None where no

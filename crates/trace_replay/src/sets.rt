@@ -29,10 +29,7 @@ pub fn add_number(numbers: &mut IndexSet<u32>, number: u32) -> Result<bool, Allo
 }
 
 /// Adds the names of these streams.
-pub fn add_streams<'a>(
-    names: &mut IndexSet<&'a str>,
-    params: &'a [Param],
-) -> Result<(), AllocError>
+pub fn add_streams<'a>(names: &mut IndexSet<&'a str>, params: &'a [Param]) -> Result<(), AllocError>
     ensures { OnOk result (AddsNames names.old names.new (names_of (map param_view params.now))) }
 {
     for param in params {

@@ -131,14 +131,21 @@ fn many_names(alloc: Global, count: u32) -> Result<String, AllocError> {
 fn a_node_has_at_most_2000_names(rt: HostRuntime) -> Result<(), Fail> {
     let alloc = rt.alloc();
     let most = many_names(alloc, 2000)?;
-    assert_eq!(rt; replayed(alloc, most.as_bytes(), TWO)?.outcome(), (10, "lawful 2 of 2\n"));
+    assert_eq!(rt;
+        replayed(alloc, most.as_bytes(), TWO)?.outcome(),
+        (10, "lawful 2 of 2\n")
+    );
     let more = many_names(alloc, 2001)?;
-    assert_eq!(rt; replayed(alloc, more.as_bytes(), TWO)?.outcome(), (3, "refused 1:1 NotBuilt\n"));
+    assert_eq!(rt;
+        replayed(alloc, more.as_bytes(), TWO)?.outcome(),
+        (3, "refused 1:1 NotBuilt\n")
+    );
     Ok(())
 }
 
 /// Its trace lists the inputs a and b, the free name f, and the first value of its `pre`.
-const GATE: &[u8] = b"node gate(a, b : bool) returns (x : bool); var f : bool; let x = a and pre b; tel";
+const GATE: &[u8] =
+    b"node gate(a, b : bool) returns (x : bool); var f : bool; let x = a and pre b; tel";
 
 #[test]
 fn a_trace_is_refused_at_its_first_misfit(rt: HostRuntime) -> Result<(), Fail> {
@@ -171,7 +178,10 @@ fn a_trace_is_refused_at_its_first_misfit(rt: HostRuntime) -> Result<(), Fail> {
     ];
     for (trace, place) in rows {
         let printed = format!(in alloc; "refused trace {place} Form\n")?;
-        assert_eq!(rt; replayed(alloc, GATE, trace)?.outcome(), (3, printed.as_str()));
+        assert_eq!(rt;
+            replayed(alloc, GATE, trace)?.outcome(),
+            (3, printed.as_str())
+        );
     }
     Ok(())
 }
@@ -211,9 +221,15 @@ fn a_file_past_the_limit_is_too_long(rt: HostRuntime) -> Result<(), Fail> {
     let long = blanks(alloc, 1048577)?;
     let too_long = "refused 1:1 TooLong\n";
     assert_eq!(rt; replayed(alloc, &long, TWO)?.outcome(), (3, too_long));
-    assert_eq!(rt; replayed(alloc, &full, TWO)?.outcome(), (3, "refused 1:1 NotBuilt\n"));
+    assert_eq!(rt;
+        replayed(alloc, &full, TWO)?.outcome(),
+        (3, "refused 1:1 NotBuilt\n")
+    );
     assert_eq!(rt; replayed(alloc, TOGGLE, &long)?.outcome(), (3, too_long));
-    assert_eq!(rt; replayed(alloc, TOGGLE, &full)?.outcome(), (3, "refused trace 1:1048577 Form\n"));
+    assert_eq!(rt;
+        replayed(alloc, TOGGLE, &full)?.outcome(),
+        (3, "refused trace 1:1048577 Form\n")
+    );
     Ok(())
 }
 

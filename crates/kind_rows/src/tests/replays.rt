@@ -9,30 +9,42 @@ use std::test::Fail;
 const KEPT: &[u8] = b"node n() returns (x : bool); let x = pre x; --%PROPERTY not x; tel";
 
 /// A local that no equation defines.
-const FREE: &[u8] =
-    b"node n() returns (x : bool); var f : bool; let x = f; --%PROPERTY not x; tel";
+const FREE: &[u8] = b"node n() returns (x : bool); var f : bool; let x = f; --%PROPERTY not x; tel";
 
 /// The first equation uses the second one's name.
-const AGAINST: &[u8] = b"node main(a : bool) returns (x : bool);\nvar y : bool;\nlet\n  x = not y;\n  --%PROPERTY \"off\" not x;\n  --%MAIN\n  y = a -> pre a;\n  --%PROPERTY x or y;\ntel";
+const AGAINST: &[u8] =
+    b"node main(a : bool) returns (x : bool);\nvar y : bool;\nlet\n  x = not y;\n  --%PROPERTY \"off\" not x;\n  --%MAIN\n  y = a -> pre a;\n  --%PROPERTY x or y;\ntel";
 
 #[test]
 fn a_toggle_breaks_its_output_and_not_that_it_was_on(rt: HostRuntime) -> Result<(), Fail> {
     let alloc = rt.alloc();
-    let was_on: &[u8] = b"node main() returns (x : bool);\nlet\n  x = true -> not pre x;\n  --%PROPERTY \"p\" x or pre x;\ntel\n";
+    let was_on: &[u8] =
+        b"node main() returns (x : bool);\nlet\n  x = true -> not pre x;\n  --%PROPERTY \"p\" x or pre x;\ntel\n";
     let broken = "breaks property @4:15 at 1\nlawful 2 of 2\n";
     assert_eq!(rt; replayed(alloc, TOGGLE, TWO)?.outcome(), (1, broken));
-    assert_eq!(rt; replayed(alloc, was_on, TWO)?.outcome(), (10, "lawful 2 of 2\n"));
+    assert_eq!(rt;
+        replayed(alloc, was_on, TWO)?.outcome(),
+        (10, "lawful 2 of 2\n")
+    );
     let short = b"trace main 1\nend\n";
-    assert_eq!(rt; replayed(alloc, TOGGLE, short)?.outcome(), (10, "lawful 1 of 1\n"));
+    assert_eq!(rt;
+        replayed(alloc, TOGGLE, short)?.outcome(),
+        (10, "lawful 1 of 1\n")
+    );
     Ok(())
 }
 
 #[test]
 fn properties_stand_in_order_each_once(rt: HostRuntime) -> Result<(), Fail> {
     let alloc = rt.alloc();
-    let both: &[u8] = b"node n ( ) returns ( a , b : bool ) ;\nlet\n a = (true -> pre a);\n --%PROPERTY pre (a);\n b = not a;\n --%PROPERTY \"b - c\" ((b));\n --%PROPERTY not b;\n --%PROPERTY ((b)) or b;\ntel ;";
-    let printed = "breaks property @4:14 at 0\nbreaks property \"b - c\" at 0\nbreaks property @8:14 at 0\nlawful 3 of 3\n";
-    assert_eq!(rt; replayed(alloc, both, b"trace n 3\nend\n")?.outcome(), (1, printed));
+    let both: &[u8] =
+        b"node n ( ) returns ( a , b : bool ) ;\nlet\n a = (true -> pre a);\n --%PROPERTY pre (a);\n b = not a;\n --%PROPERTY \"b - c\" ((b));\n --%PROPERTY not b;\n --%PROPERTY ((b)) or b;\ntel ;";
+    let printed =
+        "breaks property @4:14 at 0\nbreaks property \"b - c\" at 0\nbreaks property @8:14 at 0\nlawful 3 of 3\n";
+    assert_eq!(rt;
+        replayed(alloc, both, b"trace n 3\nend\n")?.outcome(),
+        (1, printed)
+    );
     Ok(())
 }
 
@@ -42,8 +54,12 @@ fn equations_stand_in_any_order(rt: HostRuntime) -> Result<(), Fail> {
     let trace = b"trace main 3\na true false false\nend";
     let printed = "breaks property \"off\" at 2\nlawful 3 of 3\n";
     assert_eq!(rt; replayed(alloc, AGAINST, trace)?.outcome(), (1, printed));
-    let crossed = b"node n() returns (x, y : bool); let x = pre y; y = not x; --%PROPERTY x = pre y; tel";
-    assert_eq!(rt; replayed(alloc, crossed, b"trace n 4\nend")?.outcome(), (10, "lawful 4 of 4\n"));
+    let crossed =
+        b"node n() returns (x, y : bool); let x = pre y; y = not x; --%PROPERTY x = pre y; tel";
+    assert_eq!(rt;
+        replayed(alloc, crossed, b"trace n 4\nend")?.outcome(),
+        (10, "lawful 4 of 4\n")
+    );
     Ok(())
 }
 
@@ -51,11 +67,26 @@ fn equations_stand_in_any_order(rt: HostRuntime) -> Result<(), Fail> {
 fn what_is_not_listed_is_false(rt: HostRuntime) -> Result<(), Fail> {
     let alloc = rt.alloc();
     let rows: [(&[u8], &[u8], u8, &str); 8] = [
-        (FREE, b"f false true\n", 1, "breaks property @1:67 at 1\nlawful 2 of 2\n"),
-        (FREE, b"f _ true\n", 1, "breaks property @1:67 at 1\nlawful 2 of 2\n"),
+        (
+            FREE,
+            b"f false true\n",
+            1,
+            "breaks property @1:67 at 1\nlawful 2 of 2\n",
+        ),
+        (
+            FREE,
+            b"f _ true\n",
+            1,
+            "breaks property @1:67 at 1\nlawful 2 of 2\n",
+        ),
         (FREE, b"f _ _\n", 10, "lawful 2 of 2\n"),
         (FREE, b"", 10, "lawful 2 of 2\n"),
-        (KEPT, b"#1 true\n", 1, "breaks property @1:57 at 0\nlawful 2 of 2\n"),
+        (
+            KEPT,
+            b"#1 true\n",
+            1,
+            "breaks property @1:57 at 0\nlawful 2 of 2\n",
+        ),
         (KEPT, b"#1 false\n", 10, "lawful 2 of 2\n"),
         (KEPT, b"#1 _\n", 10, "lawful 2 of 2\n"),
         (KEPT, b"", 10, "lawful 2 of 2\n"),
@@ -64,7 +95,10 @@ fn what_is_not_listed_is_false(rt: HostRuntime) -> Result<(), Fail> {
         let mut trace = b"trace n 2\n".to_vec(alloc)?;
         trace.extend_from_slice(line)?;
         trace.extend_from_slice(b"end\n")?;
-        assert_eq!(rt; replayed(alloc, source, &trace)?.outcome(), (status, printed));
+        assert_eq!(rt;
+            replayed(alloc, source, &trace)?.outcome(),
+            (status, printed)
+        );
     }
     Ok(())
 }
@@ -88,7 +122,9 @@ fn compared(alloc: Global, operator: &str) -> Result<String, AllocError> {
         "node n(a, b, v0, v1, v2, v3, v4, v5, v6, v7, v8, v9 : bool) returns (ok : bool);\nlet\n",
     )?;
     for (name, expression) in rows {
-        source.push_str(&format!(in alloc; "--%PROPERTY \"{name}\" ({expression}) {operator} {name};\n")?)?;
+        source.push_str(&format!(in alloc;
+            "--%PROPERTY \"{name}\" ({expression}) {operator} {name};\n"
+        )?)?;
     }
     source.push_str("tel")?;
     Ok(source)
@@ -139,7 +175,10 @@ fn blanks_and_empty_lines_of_a_trace_say_nothing(rt: HostRuntime) -> Result<(), 
     ];
     for trace in traces {
         let run = replayed(alloc, AGAINST, trace)?;
-        assert_eq!(rt; run.outcome(), (1, "breaks property \"off\" at 2\nlawful 3 of 3\n"));
+        assert_eq!(rt;
+            run.outcome(),
+            (1, "breaks property \"off\" at 2\nlawful 3 of 3\n")
+        );
     }
     Ok(())
 }
@@ -157,9 +196,13 @@ fn longest_trace(alloc: Global) -> Result<Vec<u8>, AllocError> {
 #[test]
 fn a_trace_has_up_to_1001_instants(rt: HostRuntime) -> Result<(), Fail> {
     let alloc = rt.alloc();
-    let source: &[u8] = b"node n(a : bool) returns (x : bool); let x = a; --%PROPERTY \"up\" x; tel";
+    let source: &[u8] =
+        b"node n(a : bool) returns (x : bool); let x = a; --%PROPERTY \"up\" x; tel";
     let run = replayed(alloc, source, &longest_trace(alloc)?)?;
-    assert_eq!(rt; run.outcome(), (1, "breaks property \"up\" at 1000\nlawful 1001 of 1001\n"));
+    assert_eq!(rt;
+        run.outcome(),
+        (1, "breaks property \"up\" at 1000\nlawful 1001 of 1001\n")
+    );
     Ok(())
 }
 
@@ -168,7 +211,10 @@ fn comments_stand_anywhere_between_tokens(rt: HostRuntime) -> Result<(), Fail> {
     let alloc = rt.alloc();
     let source: &[u8] =
         b"(* one *) node main() -- two\n returns (x : bool); /* three */ let x = true; tel -- four";
-    assert_eq!(rt; replayed(alloc, source, TWO)?.outcome(), (10, "lawful 2 of 2\n"));
+    assert_eq!(rt;
+        replayed(alloc, source, TWO)?.outcome(),
+        (10, "lawful 2 of 2\n")
+    );
     Ok(())
 }
 

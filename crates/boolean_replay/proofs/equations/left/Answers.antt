@@ -1,4 +1,4 @@
-use Rattle.std.proofs.Common.{rules, ◌≡◌, ◌≤◌, ◌<◌, length, Some, None, slice_get, sym}
+use Rattle.std.proofs.Common.{rules, ◌≤◌, length, Some, None, sym}
 use Rattle.std.proofs.lemmas.Option.{slice_get_past}
 use Rattle.boolean_replay.specs.Equations.{equation_view}
 use Rattle.boolean_replay.proofs.Looking.{found_at, some_at}

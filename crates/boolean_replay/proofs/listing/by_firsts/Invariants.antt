@@ -1,4 +1,4 @@
-use Rattle.std.proofs.Common.{◌≡◌, ℕ, List, map, take, option_map}
+use Rattle.std.proofs.Common.{◌≡◌, ℕ, map, take, option_map}
 use Rattle.std.specs.Prelude.{nat_eq}
 use Rattle.indexmap.specs.IndexMap.{get}
 use Rattle.lus_meaning.specs.Trace.{of_first}

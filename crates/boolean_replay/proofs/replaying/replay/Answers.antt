@@ -1,5 +1,4 @@
 use Rattle.std.proofs.Common.{rules, map, subst, arith, string_bytes}
-use Rattle.lus_tree.specs.Tree.{Component}
 use Rattle.lus_tree.specs.View.{node_view, program_view}
 use Rattle.lus_meaning.specs.TraceView.{line_view, lines_of, trace_view}
 use Rattle.boolean_replay.specs.Columns.{held}

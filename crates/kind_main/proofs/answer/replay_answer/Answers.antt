@@ -1,8 +1,8 @@
-use Rattle.std.proofs.Common.{◌≡◌, ◌∷◌, [], map, ap, ◌∙◌, sym, subst, string_bytes, refl}
-use Rattle.lus_tree.specs.Tree.{Component, Program}
-use Rattle.lus_tree.specs.View.{node_view, program_view, item_view}
+use Rattle.std.proofs.Common.{◌≡◌, map, ap, ◌∙◌, sym, subst, string_bytes}
+use Rattle.lus_tree.specs.Tree.{Component}
+use Rattle.lus_tree.specs.View.{node_view, program_view}
 use Rattle.lus_meaning.specs.TraceView.{trace_view}
-use Rattle.kind_main.specs.Report.{code_of, AreMany, AreLines}
+use Rattle.kind_main.specs.Report.{code_of, AreLines}
 use Rattle.kind_main.proofs.Reporting.{pushed-line}
 use Rattle.kind_main.proofs.Replayed.{many, replayed, one_node}
 use Rattle.kind_main.proofs.answer.replay_answer.Goals as goal

@@ -1,7 +1,6 @@
-use Rattle.std.proofs.Common.{◌≡◌, ap, ◌∙◌, sym, string_bytes, Some}
+use Rattle.std.proofs.Common.{ap, ◌∙◌, sym, string_bytes}
 use Rattle.lus_tree.specs.View.{named_view}
 use Rattle.kind_main.specs.Lines.{property_breaks}
-use Rattle.kind_main.specs.Report.{property_line}
 use Rattle.kind_main.proofs.FirstToken.{expr_token}
 use Rattle.kind_main.proofs.Reporting.{pushed-line}
 use Rattle.kind_main.proofs.report.push_break.Goals as goal
