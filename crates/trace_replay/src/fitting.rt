@@ -1,6 +1,6 @@
 //! Whether a trace fits a program.
 
-ghost use Rattle.std.specs.Prelude.{◌≡◌, ◌||◌, cond, map, IfErr, IfOk, OnOk, None, Some, []};
+ghost use Rattle.std.specs.Prelude.{◌≡◌, ◌||◌, cond, map, IfErr, IfOk, OnOk, Some, []};
 ghost use Rattle.std.specs.List.{list_all};
 ghost use Rattle.lus_tree.specs.Tree.{Name};
 ghost use Rattle.lus_tree.specs.View.{node_view, param_view, program_view};
