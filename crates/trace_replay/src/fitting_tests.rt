@@ -1,8 +1,9 @@
 ghost use Rattle.std.specs.Prelude.{◌≡◌, [], IfOk};
 
 use crate::fitting::fits_node;
-use crate::{ReplayFault, TraceFault, fits, read_trace};
+use crate::{Replay, ReplayFault, TraceFault, read_trace, replay};
 use lus_checked::{Checked, checked};
+use lus_meaning::Value;
 use lus_tree::{Decl, Expr, Form, Item, Named, Node, Param, Pos, Program, Sort, Word};
 use std::alloc::{AllocError, Global};
 use std::test::Fail;
@@ -197,7 +198,15 @@ fn small_program(alloc: Global) -> Result<Option<Checked>, AllocError> {
     Ok(checked(alloc, Program { decls }).ok())
 }
 
-fn fits_small(alloc: Global, text: &str) -> Result<String, Fail> {
+/// Whether x is true at each of two instants.
+fn values_of_x(alloc: Global, replay: &Replay) -> Result<String, AllocError> {
+    let is_true = Some(Value::Truth(true));
+    let first = replay.value(&[], "x", 0) == is_true;
+    let second = replay.value(&[], "x", 1) == is_true;
+    format!(in alloc; "x {first} {second}")
+}
+
+fn replayed(alloc: Global, text: &str) -> Result<String, Fail> {
     if text.len() > 1_048_576 {
         return Ok(String::new(alloc));
     }
@@ -205,8 +214,8 @@ fn fits_small(alloc: Global, text: &str) -> Result<String, Fail> {
         return Err("the program is refused".into());
     };
     let trace = read_trace(alloc, text.as_bytes())?;
-    match fits(alloc, &checked, &trace) {
-        Ok(()) => Ok(String::from_str(alloc, "fits")?),
+    match replay(alloc, &checked, &trace) {
+        Ok(replay) => Ok(values_of_x(alloc, &replay)?),
         Err(ReplayFault::Form(Pos { line, column })) => Ok(format!(in alloc; "{line}:{column}")?),
         Err(ReplayFault::Memory) => Ok(String::from_str(alloc, "memory")?),
     }
@@ -215,14 +224,14 @@ fn fits_small(alloc: Global, text: &str) -> Result<String, Fail> {
 #[test]
 fn a_trace_of_a_program(rt: HostRuntime) -> Result<(), Fail> {
     let rows = [
-        ("trace main 2\na true false\nend", "fits"),
-        ("trace main 2\nx _ true\na true false\nend", "fits"),
+        ("trace main 2\na true false\nend", "x false false"),
+        ("trace main 2\nx _ true\na true false\nend", "x false true"),
         ("trace main 2\na true 7\nend", "2:8"),
         ("trace main 2\nx true true\nend", "3:1"),
         ("trace x 2\na true false\nend", "1:7"),
     ];
     for (text, expected) in &rows {
-        assert_eq!(rt; fits_small(rt.alloc(), text)?.as_str(), *expected);
+        assert_eq!(rt; replayed(rt.alloc(), text)?.as_str(), *expected);
     }
     Ok(())
 }
