@@ -7,5 +7,6 @@ pub mod Ordered
 pub mod TableFrame
 pub mod Broken
 pub mod FewNames
+pub mod TableNames
 pub mod Replayed
 pub mod Steps

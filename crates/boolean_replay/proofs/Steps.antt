@@ -56,6 +56,11 @@ module _ (p : Program) (d : Component) (checked : IsBooleanChecked p d) (ks : Li
         (b ∙ ap (λ (l : List Source). rows (length names) l n) a ∙ ap (λ k. rows k (table_columns ls es d ks) n) same_length) hits
         (subst (λ k. AreFirstFalse (λ e. code_truth kept k (code_of (map bytes names) (first_in ls) e)) n (property_values d.body) hits) same_length f)
 
+-- what follows of a result from a fact on it
+pub if_named : {X Y : Type 0} {A D : X → Type 0} (r : Result X Y) → IfOk r A → ((x : X) → A x → D x) → IfOk r D
+if_named (Ok x) a f = f x a
+if_named (Err y) a f = tt
+
 -- what follows of a result from three facts on it
 pub if_all : {X Y : Type 0} {A B C D : X → Type 0} (r : Result X Y) → IfOk r A → IfOk r B → IfOk r C → ((x : X) → A x → B x → C x → D x) → IfOk r D
 if_all (Ok x) a b c f = f x a b c

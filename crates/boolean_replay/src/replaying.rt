@@ -1,11 +1,13 @@
 //! The replay of a trace.
 
-ghost use Rattle.std.specs.Prelude.{◌≡◌, ◌≤◌, ◌+◌, ◌*◌, ◌<◌, ◌^◌, length, map, IfOk};
+ghost use Rattle.std.specs.Prelude.{◌≡◌, ◌≤◌, ◌+◌, ◌*◌, ◌<◌, ◌^◌, List, ℕ, length, map, IfOk};
 ghost use Rattle.std.specs.String.{string_bytes};
 ghost use Rattle.lus_tree.specs.Tree.{Component};
 ghost use Rattle.lus_tree.specs.View.{item_view, program_view};
 ghost use Rattle.lus_meaning.specs.TraceView.{line_view, lines_of, trace_view};
 ghost use Rattle.lus_meaning.specs.Program.{instance_of};
+ghost use Rattle.lus_meaning.specs.Depends.{named_in};
+ghost use Rattle.lus_meaning.specs.Rules.{declared_names};
 ghost use Rattle.lus_meaning.specs.BooleanRules.{IsBooleanChecked};
 ghost use Rattle.lus_meaning.specs.Laws.{LinesFit};
 ghost use Rattle.boolean_replay.specs.Broken.{property_values, AreFirstFalse};
@@ -63,6 +65,8 @@ pub(crate) fn filled(
 pub fn replay(alloc: Global, checked: &Checked, trace: &Trace) -> Result<Replay, AllocError>
     requires fits { (d : Component) → IsBooleanChecked (program_view checked.now) d → LinesFit (lines_of (trace_view trace.now)) (instance_of (program_view checked.now) d) trace.now.length }
     ensures instants { IfOk result (λ r. r.instants ≡ trace.now.length) }
+    // It has the names of the node.
+    ensures named { IfOk result (λ r. (d : Component) → IsBooleanChecked (program_view checked.now) d → (x : List ℕ) → named_in x (map string_bytes r.names.items) ≡ named_in x (declared_names d)) }
     ensures replayed { IfOk result (λ r. (d : Component) → IsBooleanChecked (program_view checked.now) d →
         IsReplayed (lines_of (trace_view trace.now)) (program_view checked.now) d trace.now.length (held (map string_bytes r.names.items) r.kept.items) r.broken.items) }
 {

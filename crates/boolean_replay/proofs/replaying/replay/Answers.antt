@@ -1,10 +1,14 @@
-use Rattle.std.proofs.Common.{rules, map, subst, arith, string_bytes}
+use Rattle.std.proofs.Common.{rules, map, ap, ◌∙◌, subst, arith, string_bytes}
+use Rattle.lus_tree.specs.Tree.{Component}
+use Rattle.lus_meaning.specs.Depends.{named_in}
+use Rattle.lus_meaning.specs.Rules.{declared_names}
 use Rattle.lus_tree.specs.View.{node_view, program_view}
 use Rattle.lus_meaning.specs.TraceView.{line_view, lines_of, trace_view}
 use Rattle.boolean_replay.specs.Columns.{held}
 use Rattle.boolean_replay.specs.Equations.{equation_view}
 use Rattle.boolean_replay.specs.Replayed.{IsReplayed}
-use Rattle.boolean_replay.proofs.Steps.{lines_same, one_component, few_names, names_fit, rows_fit, whole_replay, if_all}
+use Rattle.boolean_replay.proofs.Steps.{lines_same, one_component, few_names, names_fit, rows_fit, whole_replay, if_named, if_all}
+use Rattle.boolean_replay.proofs.TableNames.{table_declared}
 use Rattle.boolean_replay.proofs.replaying.replay.Goals as goal
 
 pub laid_out-requires : goal.laid_out-requires
@@ -27,6 +31,17 @@ filled-requires-clause-fits c =
     let names = rw c.deref-3.ensures.value at c.in_ok-layout.ensures.names in
     rows_fit (program_view c.args.checked.now) (node_view c.node-node.result.now) c.node-node.ensures c.order-order.result.now (c.order-order.ensures (node_view c.node-node.result.now) c.node-node.ensures)
     (map equation_view c.in_ok-equations.equations.items) body string_bytes c.in_ok-layout.layout.places.names.items names c.args.trace.now.length (search rules)
+
+pub returns-clause-named : goal.returns-clause-named
+returns-clause-named c =
+    let body = rw c.deref.ensures.value at c.in_ok-equations.ensures in
+    let names = rw c.deref-3.ensures.value at c.in_ok-layout.ensures.names in
+    if_named c.filled.result c.filled.ensures.names (λ r same d k x.
+    let node = c.node-node.ensures in
+    let order = c.order-order.ensures (node_view c.node-node.result.now) node in
+    ap (λ l. named_in x (map string_bytes l)) same ∙ ap (named_in x) names
+    ∙ table_declared (program_view c.args.checked.now) (node_view c.node-node.result.now) node c.order-order.result.now order (map equation_view c.in_ok-equations.equations.items) body x
+    ∙ ap (λ (e : Component). named_in x (declared_names e)) (one_component (program_view c.args.checked.now) (node_view c.node-node.result.now) d node k))
 
 pub returns-clause-replayed : goal.returns-clause-replayed
 returns-clause-replayed c =
