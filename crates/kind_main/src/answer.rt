@@ -203,6 +203,7 @@ fn trace_answer<H: Shelf>(
     ensures { IfOk result (λ a. (d : Component) × IsBooleanChecked (program_view checked.now) d × IsTraceAnswer (H.told shelf.old) (H.faults shelf.old) (H.faults shelf.new) trace.now
         (program_view checked.now) d (map string_bytes a.lines.items) a.status.code) }
 {
+    // The clause names the program's node, also where no trace is replayed on it.
     let _node = checked.node();
     match fetch(alloc, trace, shelf)? {
         Fetched::Failed => Ok(read_fault(alloc, trace)?),
