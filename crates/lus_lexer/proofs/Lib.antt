@@ -3,6 +3,7 @@ pub mod Spans
 pub mod Tables
 pub mod Longest
 pub mod Looking
+pub mod Names
 pub mod Values
 pub mod Rules
 pub mod Unique

@@ -37,13 +37,13 @@ pub token_at : (s : ℕ → ℕ) (n i j j' : ℕ) (c : Class) (p : Pos) (ts : Li
 token_at s n i j j' c p ts e f l w d h = rw f (token l w (subst (λ (x : ℕ). Lexes s n x ts e) d h))
 
 -- is it of the table, and no name, number or text?
-abbrev is_fixed : Lexeme → Bool
+abbrev pub is_fixed : Lexeme → Bool
 is_fixed (Token Ident) = false
 is_fixed (Token Number) = false
 is_fixed (Token Text) = false
 is_fixed _ = true
 
-all_fixed : list_all (λ r. is_fixed r.is) table ≡ true
+pub all_fixed : list_all (λ r. is_fixed r.is) table ≡ true
 unfolding table
 all_fixed = refl
 

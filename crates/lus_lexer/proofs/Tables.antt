@@ -148,7 +148,7 @@ rows_ok = refl
 ok_row : (r : Row) → In r table → cond (is_letter (get_or r.text 0 0)) (word_ok r) (sign_ok r) ≡ true
 ok_row r i = in_all (λ r. cond (is_letter (get_or r.text 0 0)) (word_ok r) (sign_ok r)) r table rows_ok i
 
-at_true : (b x y : Bool) → b ≡ true → cond b x y ≡ true → x ≡ true
+pub at_true : (b x y : Bool) → b ≡ true → cond b x y ≡ true → x ≡ true
 at_true true x y e h = h
 at_true false x y e h = cc
 

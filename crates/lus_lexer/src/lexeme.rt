@@ -29,7 +29,7 @@ fn sign_in(mut signs: &[Row], bytes: &[u8], at: usize) -> Option<(Lexeme, usize)
 }
 
 /// The class of a word.
-fn word_in(mut words: &[Word], word: &[u8]) -> Class
+pub fn word_in(mut words: &[Word], word: &[u8]) -> Class
     ensures { result ≡ word_in (map word_of words.entry.now) word.now }
 {
     while let [(text, class), later @ ..] = words {

@@ -6,6 +6,7 @@ mod cursor;
 pub mod laws;
 mod lexeme;
 mod lexer;
+mod name;
 mod scan;
 mod spelling;
 mod table;
@@ -15,4 +16,5 @@ mod token;
 
 pub use cursor::end;
 pub use lexer::{first_fault, tokens};
+pub use name::is_name;
 pub use token::{Annotation, Class, Closing, Keyword, LeftOut, Opening, Sign, Token};
