@@ -1,0 +1,8 @@
+use Rattle.meaning_rows.proofs.BooleanRows.{against_checked, against_order}
+use Rattle.meaning_rows.proofs.boolean_rows.against_row.Goals as goal
+
+pub returns-clause-checked : goal.returns-clause-checked
+returns-clause-checked c = against_checked
+
+pub returns-clause-order : goal.returns-clause-order
+returns-clause-order c = against_order

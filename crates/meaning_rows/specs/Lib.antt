@@ -1,0 +1,6 @@
+pub mod RowParts
+pub mod BodyRows
+pub mod ClockRows
+pub mod ContractRows
+pub mod Loops
+pub mod BooleanRows
