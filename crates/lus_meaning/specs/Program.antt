@@ -1,12 +1,13 @@
--- A program's declarations, the call occurrences of one in text order, and its instance.
-use Rattle.std.specs.Prelude.{ℕ, zero, suc, true, false, List, [], ◌∷◌, ◌++◌, map, flat_map, Option, Some, None, length, find, unwrap_or, cond, option_to_list, ◌==◌}
+-- A program's declarations, the call occurrences of one by number, and its instance.
+use Rattle.std.specs.Prelude.{ℕ, zero, suc, true, List, [], ◌∷◌, ◌++◌, map, flat_map, Option, Some, None, length, find, unwrap_or, cond, option_to_list, ◌==◌}
 use Rattle.std.specs.Str.{bytes_eq}
-use Rattle.lus_tree.specs.Tree.{Name, text_of, Expression, Expressions, truth, number, name, negation, minus, pre, arrow, binary, choice, sampled, merged, call, condact, mode_name, no_more, more, Constant, Labelled, Statement, equation, assertion, property, main_mark, Clause, assume, guarantee, ghost_variable, constant, mode, «import», Component, Declaration, declared_constant, declared_node, declared_contract, Program}
+use Rattle.lus_tree.specs.Tree.{Name, text_of, Expression, Expressions, call, condact, no_more, more, Constant, Clause, constant, «import», Component, Declaration, declared_constant, declared_node, declared_contract, Program}
 use Rattle.lus_tree.specs.Numbers.{counting}
 use Rattle.lus_meaning.specs.Value.{Value}
 use Rattle.lus_meaning.specs.Frame.{empty_frame}
-use Rattle.lus_meaning.specs.Scene.{Clock, base, sampled_by, plain, while_true, as_import, Site, Instance, Instances, instance, no_instances, with_instance, clock_of, clauses}
+use Rattle.lus_meaning.specs.Scene.{base, plain, while_true, as_import, Site, Instance, Instances, instance, no_component, no_instances, with_instance, clauses}
 use Rattle.lus_meaning.specs.Meaning.{value}
+use Rattle.lus_meaning.specs.Occurrences.{Standing, gathered}
 
 -- ---- call occurrences
 
@@ -14,49 +15,17 @@ abbrev pub listed : Expressions → List Expression
 listed no_more = []
 listed (more a as_) = a ∷ listed as_
 
--- the call occurrences of an expression that stands on that clock; defaults are constant and have none
-abbrev mutual
-  pub call_sites : Component → Clock → Expression → List Site
-  call_sites n c (truth p b) = []
-  call_sites n c (number p k) = []
-  call_sites n c (name p x) = []
-  call_sites n c (negation p a) = call_sites n c a
-  call_sites n c (minus p a) = call_sites n c a
-  call_sites n c (pre p k a) = call_sites n c a
-  call_sites n c (arrow p k a b) = call_sites n c a ++ call_sites n c b
-  call_sites n c (binary p o a b) = call_sites n c a ++ call_sites n c b
-  call_sites n c (choice p a b d) = call_sites n c a ++ call_sites n c b ++ call_sites n c d
-  call_sites n c (sampled p a b x) = call_sites n (clock_of n x.text) a
-  call_sites n c (merged p x a b) = call_sites n (sampled_by true x.text) a ++ call_sites n (sampled_by false x.text) b
-  call_sites n c (call p k f as_) = record { number = k; callee = f.text; clock = c; arguments = listed as_; manner = plain } ∷ sites_among n c as_
-  call_sites n c (condact p k a f as_ ds) = record { number = k; callee = f.text; clock = c; arguments = listed as_; manner = while_true a } ∷ call_sites n c a ++ sites_among n c as_
-  call_sites n c (mode_name p d m) = []
+abbrev pub site_in : Standing → Expression → List Site
+site_in s (call p k f as_) = record { number = k; callee = f.text; clock = s.clock; arguments = listed as_; defaults = []; manner = plain } ∷ []
+site_in s (condact p k a f as_ ds) =
+    record { number = k; callee = f.text; clock = s.clock; arguments = listed as_; defaults = listed ds; manner = while_true a } ∷ []
+site_in s _ = []
 
-  pub sites_among : Component → Clock → Expressions → List Site
-  sites_among n c no_more = []
-  sites_among n c (more a as_) = call_sites n c a ++ sites_among n c as_
-
--- the clock of an equation is that of its names
-abbrev pub clock_of_names : Component → List Name → Clock
-clock_of_names n [] = base
-clock_of_names n (x ∷ xs) = clock_of n x
-
-abbrev pub statement_sites : Component → Statement → List Site
-statement_sites n (equation xs e) = call_sites n (clock_of_names n (map text_of xs)) e
-statement_sites n (assertion e) = call_sites n base e
-statement_sites n (property l) = call_sites n base l.value
-statement_sites n (main_mark p) = []
-
-abbrev pub labelled_sites : Component → List Labelled → List Site
-labelled_sites n ls = flat_map (λ l. call_sites n base l.value) ls
-
-abbrev pub clause_sites : Component → Clause → List Site
-clause_sites n (assume l) = call_sites n base l.value
-clause_sites n (guarantee l) = call_sites n base l.value
-clause_sites n (ghost_variable x e) = call_sites n base e
-clause_sites n (constant c) = []
-clause_sites n (mode m rs es) = labelled_sites n rs ++ labelled_sites n es
-clause_sites n («import» k c as_ xs) = record { number = k; callee = c.text; clock = base; arguments = as_; manner = as_import (map text_of xs) } ∷ flat_map (call_sites n base) as_
+-- an import runs on the base clock
+abbrev pub import_site : Clause → List Site
+import_site («import» k c as_ xs) =
+    record { number = k; callee = c.text; clock = base; arguments = as_; defaults = []; manner = as_import (map text_of xs) } ∷ []
+import_site _ = []
 
 -- what has the numbers 1, 2, .., in this order
 abbrev pub in_order : {A : Type 0} → (A → ℕ) → List A → List A
@@ -64,13 +33,9 @@ in_order at xs = flat_map (λ k. option_to_list (find (λ x. at x == k) xs)) (co
 
 -- the call occurrences of a declaration, imports included, by number
 abbrev pub all_sites : Component → List Site
-all_sites n = in_order (λ s. s.number) (flat_map (clause_sites n) (clauses n) ++ flat_map (statement_sites n) n.body)
+all_sites n = in_order (λ s. s.number) (gathered site_in n ++ flat_map import_site (clauses n))
 
 -- ---- declarations and constants
-
--- what stands for a callee that is not declared
-abbrev pub no_component : Component
-no_component = record { name = record { text = []; at = record { line = 0; column = 0 } }; function = false; inputs = []; outputs = []; locals = []; constants = []; contract = None; body = [] }
 
 abbrev pub if_named : Name → Component → Option Component
 if_named x n = cond (bytes_eq x n.name.text) (Some n) None

@@ -1,5 +1,5 @@
 -- Where an expression stands: an instance of a declaration, its frame, and the instants at which it is active.
-use Rattle.std.specs.Prelude.{ℕ, zero, suc, pred, Bool, List, [], ◌∷◌, ◌++◌, map, Option, Some, None, find, option_map, unwrap_or}
+use Rattle.std.specs.Prelude.{ℕ, zero, suc, Bool, false, cond, List, [], ◌∷◌, ◌++◌, map, Option, Some, None, find, option_map, unwrap_or}
 use Rattle.std.specs.Str.{bytes_eq}
 use Rattle.lus_tree.specs.Tree.{Name, Spelled, Expression, Variable, Clause, ghost_variable, Component}
 use Rattle.lus_meaning.specs.Value.{Value, Stream, Instants, is}
@@ -16,12 +16,13 @@ pub data Manner : Type 0 where
   while_true : Expression → Manner
   as_import : List Name → Manner
 
--- a call occurrence: its number, its callee, the clock of its place, its arguments and how it runs
+-- a call occurrence: its number, its callee, the clock of its place, its arguments and defaults, and how it runs
 pub record Site : Type 0 where
   pub number : ℕ
   pub callee : Name
   pub clock : Clock
   pub arguments : List Expression
+  pub defaults : List Expression
   pub manner : Manner
 
 -- A declaration with the values of its constants and, for each of its call occurrences, an instance of the callee.
@@ -45,14 +46,31 @@ calls_of (instance n cs is) = is
 abbrev pub outputs_of : Instance → List Name
 outputs_of i = map (λ x. x.name.text) (component_of i).outputs
 
-abbrev pub instance_at : Instances → Instance → ℕ → Instance
-instance_at no_instances d k = d
-instance_at (with_instance s i is) d zero = i
-instance_at (with_instance s i is) d (suc k) = instance_at is d k
+-- what stands for a declaration that is not there: it has no names
+abbrev pub no_component : Component
+no_component = record { name = record { text = []; at = record { line = 0; column = 0 } }; function = false; inputs = []; outputs = []; locals = []; constants = []; contract = None; body = [] }
 
--- the instance of the call occurrence with this number, counted from 1
+abbrev pub no_instance : Instance
+no_instance = instance no_component [] no_instances
+
+-- counted from 0
+abbrev pub instance_at : Instances → ℕ → Instance
+instance_at no_instances k = no_instance
+instance_at (with_instance s i is) zero = i
+instance_at (with_instance s i is) (suc k) = instance_at is k
+
+-- the instance of the call occurrence with this number, counted from 1; one that is not there has no names
 abbrev pub call_instance : Instance → ℕ → Instance
-call_instance i k = instance_at (calls_of i) i (pred k)
+call_instance i zero = no_instance
+call_instance i (suc k) = instance_at (calls_of i) k
+
+abbrev pub called_among : Instances → Name → Instance
+called_among no_instances f = no_instance
+called_among (with_instance s i is) f = cond (bytes_eq f s.callee) i (called_among is f)
+
+-- the instance of the first call of this callee
+abbrev pub instance_called : Instance → Name → Instance
+instance_called i f = called_among (calls_of i) f
 
 -- what `::m` and `::C::m` stand for: a mode goes by its name, and before it the imported contracts on the way to it
 abbrev pub ModeStreams : Type 0
@@ -84,6 +102,11 @@ clock_from (Some c) = sampled_by c.0 c.1.text
 -- the clock of a name
 abbrev pub clock_of : Component → Name → Clock
 clock_of n x = clock_from (unwrap_or (option_map (λ v. v.clock) (find (λ v. bytes_eq x v.name.text) (variables n))) None)
+
+-- the clock of an equation is that of its names
+abbrev pub clock_of_names : Component → List Name → Clock
+clock_of_names n [] = base
+clock_of_names n (x ∷ xs) = clock_of n x
 
 -- the instants at which a clock is on
 abbrev pub is_on : Scene → Clock → Instants

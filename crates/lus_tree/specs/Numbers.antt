@@ -1,54 +1,63 @@
--- The occurrences of `pre`, `->` and calls, by their numbers, in text order.
-use Rattle.std.specs.Prelude.{◌≡◌, ℕ, zero, suc, List, [], ◌∷◌, ◌++◌, flat_map, length}
-use Rattle.lus_tree.specs.Tree.{Expression, Expressions, truth, number, name, negation, minus, pre, arrow, binary, choice, sampled, merged, call, condact, mode_name, no_more, more, Statement, equation, assertion, property, main_mark}
+-- The numbers of the occurrences of `pre`, of `->` and of calls.
+use Rattle.std.specs.Prelude.{◌≡◌, ℕ, zero, suc, Bool, true, cond, eqb, ◌==◌, List, [], ◌∷◌, ◌++◌, map, flat_map, length, unwrap_or}
+use Rattle.std.specs.List.{list_all}
+use Rattle.lus_tree.specs.Tree.{Expression, Expressions, truth, number, name, negation, minus, pre, arrow, binary, choice, sampled, merged, call, condact, mode_name, no_more, more, Labelled, Constant, Statement, equation, assertion, property, main_mark, Clause, assume, guarantee, ghost_variable, constant, mode, «import», Component}
 
 -- the numbers from k on, as many as said
 abbrev pub counting : ℕ → ℕ → List ℕ
 counting k zero = []
 counting k (suc n) = k ∷ counting (suc k) n
 
+-- ---- in an expression
+
+-- What is read of the expression and of all that stand in it, in text order of their own tokens.
 abbrev mutual
-  pub pres : Expression → List ℕ
-  pres (truth p b) = []
-  pres (number p n) = []
-  pres (name p x) = []
-  pres (negation p a) = pres a
-  pres (minus p a) = pres a
-  pres (pre p k a) = k ∷ pres a
-  pres (arrow p k a b) = pres a ++ pres b
-  pres (binary p o a b) = pres a ++ pres b
-  pres (choice p a b c) = pres a ++ pres b ++ pres c
-  pres (sampled p a b x) = pres a
-  pres (merged p x a b) = pres a ++ pres b
-  pres (call p k f as_) = pres_among as_
-  pres (condact p k a f as_ ds) = pres a ++ pres_among as_ ++ pres_among ds
-  pres (mode_name p c m) = []
+  pub numbers : (Expression → List ℕ) → Expression → List ℕ
+  numbers own (truth p b) = own (truth p b)
+  numbers own (number p k) = own (number p k)
+  numbers own (name p x) = own (name p x)
+  numbers own (negation p a) = own (negation p a) ++ numbers own a
+  numbers own (minus p a) = own (minus p a) ++ numbers own a
+  numbers own (pre p k a) = own (pre p k a) ++ numbers own a
+  numbers own (arrow p k a b) = numbers own a ++ (own (arrow p k a b) ++ numbers own b)
+  numbers own (binary p o a b) = numbers own a ++ (own (binary p o a b) ++ numbers own b)
+  numbers own (choice p a b c) = own (choice p a b c) ++ ((numbers own a ++ numbers own b) ++ numbers own c)
+  numbers own (sampled p a b x) = numbers own a ++ own (sampled p a b x)
+  numbers own (merged p x a b) = own (merged p x a b) ++ (numbers own a ++ numbers own b)
+  numbers own (call p k f as_) = own (call p k f as_) ++ numbers_among own as_
+  numbers own (condact p k a f as_ ds) =
+      own (condact p k a f as_ ds) ++ ((numbers own a ++ numbers_among own as_) ++ numbers_among own ds)
+  numbers own (mode_name p c m) = own (mode_name p c m)
 
-  pub pres_among : Expressions → List ℕ
-  pres_among no_more = []
-  pres_among (more a as_) = pres a ++ pres_among as_
+  pub numbers_among : (Expression → List ℕ) → Expressions → List ℕ
+  numbers_among own no_more = []
+  numbers_among own (more a as_) = numbers own a ++ numbers_among own as_
 
--- an arrow counts at its own token, after its left operand
-abbrev mutual
-  pub arrows : Expression → List ℕ
-  arrows (truth p b) = []
-  arrows (number p n) = []
-  arrows (name p x) = []
-  arrows (negation p a) = arrows a
-  arrows (minus p a) = arrows a
-  arrows (pre p k a) = arrows a
-  arrows (arrow p k a b) = arrows a ++ k ∷ arrows b
-  arrows (binary p o a b) = arrows a ++ arrows b
-  arrows (choice p a b c) = arrows a ++ arrows b ++ arrows c
-  arrows (sampled p a b x) = arrows a
-  arrows (merged p x a b) = arrows a ++ arrows b
-  arrows (call p k f as_) = arrows_among as_
-  arrows (condact p k a f as_ ds) = arrows a ++ arrows_among as_ ++ arrows_among ds
-  arrows (mode_name p c m) = []
+-- the number of an occurrence, those in it left aside
+abbrev pub pre_number : Expression → List ℕ
+pre_number (pre p k a) = k ∷ []
+pre_number _ = []
 
-  pub arrows_among : Expressions → List ℕ
-  arrows_among no_more = []
-  arrows_among (more a as_) = arrows a ++ arrows_among as_
+abbrev pub arrow_number : Expression → List ℕ
+arrow_number (arrow p k a b) = k ∷ []
+arrow_number _ = []
+
+-- `condact` and `activate` are numbered at their own word
+abbrev pub call_number : Expression → List ℕ
+call_number (call p k f as_) = k ∷ []
+call_number (condact p k a f as_ ds) = k ∷ []
+call_number _ = []
+
+abbrev pub pres : Expression → List ℕ
+pres e = numbers pre_number e
+
+abbrev pub arrows : Expression → List ℕ
+arrows e = numbers arrow_number e
+
+abbrev pub calls : Expression → List ℕ
+calls e = numbers call_number e
+
+-- ---- in a body
 
 -- the expressions of a body, in text order
 abbrev pub statement_expressions : Statement → List Expression
@@ -66,11 +75,42 @@ body_pres ss = flat_map pres (body_expressions ss)
 abbrev pub body_arrows : List Statement → List ℕ
 body_arrows ss = flat_map arrows (body_expressions ss)
 
--- the numbers are 1, 2, .. in this order
-abbrev pub AreCounted : List ℕ → Type 0
-AreCounted ks = ks ≡ counting 1 (length ks)
+-- ---- in a declaration
 
--- a body whose `pre` and whose `->` are numbered in text order, each kind by itself
-pub record IsNumbered (ss : List Statement) : Type 0 where
-  pub pres : AreCounted (body_pres ss)
-  pub arrows : AreCounted (body_arrows ss)
+abbrev pub clause_expressions : Clause → List Expression
+clause_expressions (assume l) = l.value ∷ []
+clause_expressions (guarantee l) = l.value ∷ []
+clause_expressions (ghost_variable x e) = e ∷ []
+clause_expressions (constant c) = c.value ∷ []
+clause_expressions (mode m rs es) = map (λ l. l.value) rs ++ map (λ l. l.value) es
+clause_expressions («import» k c as_ xs) = as_
+
+-- an import is numbered among the calls
+abbrev pub import_number : Clause → List ℕ
+import_number («import» k c as_ xs) = k ∷ []
+import_number _ = []
+
+abbrev pub contract_of : Component → List Clause
+contract_of n = unwrap_or n.contract []
+
+-- the expressions of its contract, its constants and its body
+abbrev pub all_expressions : Component → List Expression
+all_expressions n = flat_map clause_expressions (contract_of n) ++ (map (λ c. c.value) n.constants ++ body_expressions n.body)
+
+abbrev pub all_numbers : (Expression → List ℕ) → Component → List ℕ
+all_numbers own n = flat_map (numbers own) (all_expressions n)
+
+-- how often a number stands in a list
+abbrev pub times : ℕ → List ℕ → ℕ
+times k [] = 0
+times k (j ∷ js) = cond (eqb k j) (suc (times k js)) (times k js)
+
+-- each of the numbers from 1 on, up to how many there are, stands once, in whatever order
+abbrev pub are_counted : List ℕ → Bool
+are_counted ks = list_all (λ k. times k ks == 1) (counting 1 (length ks))
+
+-- The occurrences of a declaration are numbered, each kind by itself: the `pre`, the `->`, and the calls with the imports.
+pub record IsNumbered (n : Component) : Type 0 where
+  pub pres : are_counted (all_numbers pre_number n) ≡ true
+  pub arrows : are_counted (all_numbers arrow_number n) ≡ true
+  pub calls : are_counted (all_numbers call_number n ++ flat_map import_number (contract_of n)) ≡ true
