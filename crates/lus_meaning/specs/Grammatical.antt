@@ -1,11 +1,11 @@
 -- What the grammar gives of a tree, its places aside, and the laws of programs rest on.
-use Rattle.std.specs.Prelude.{◌≡◌, ℕ, ◌^◌, eqb, ◌==◌, nat_le, nat_lt, count_by, Bool, true, false, not, ◌&&◌, ◌||◌, List, [], ◌∷◌, ◌++◌, map, flat_map, length, codes, Some, None, is_none, option_map, unwrap_or}
+use Rattle.std.specs.Prelude.{◌≡◌, ℕ, ◌^◌, nat_le, nat_lt, Bool, true, false, not, ◌&&◌, ◌||◌, List, [], ◌∷◌, ◌++◌, flat_map, codes, Some, None, is_none, option_map, unwrap_or}
 use Rattle.std.specs.List.{AllByRecursion, list_all}
-use Rattle.lus_tree.specs.Tree.{Name, Spelled, Expression, number, name, sampled, merged, call, condact, mode_name, Variable, Constant, Labelled, Statement, equation, property, Clause, assume, guarantee, ghost_variable, mode, «import», Component, Declaration, declared_constant, declared_node, declared_contract, Program}
+use Rattle.lus_tree.specs.Tree.{Name, Spelled, Expression, number, name, sampled, merged, call, condact, mode_name, Variable, Constant, Labelled, Statement, equation, property, Clause, assume, guarantee, ghost_variable, mode, Component, Declaration, declared_constant, declared_node, declared_contract, Program}
 use Rattle.lus_tree.specs.Numbers.{IsNumbered}
 use Rattle.lus_meaning.specs.Scene.{base, clauses, no_component}
 use Rattle.lus_meaning.specs.Depends.{named_in}
-use Rattle.lus_meaning.specs.Occurrences.{Standing, on_clock, Occurrence, occurrences, all_occurrences, gathered, memories, starts}
+use Rattle.lus_meaning.specs.Occurrences.{on_clock, Occurrence, occurrences, all_occurrences}
 use Rattle.lus_meaning.specs.NameFaults.{own_words, mode_words}
 
 -- ---- words
