@@ -5,7 +5,7 @@ use Rattle.std.proofs.Math.Logic.{◌⊎◌, inl, inr}
 use Rattle.std.proofs.lemmas.Bool.{true≢false, false≢true, eqb-true, eqb-false, eq-eqb, cases_Bool}
 use Rattle.std.proofs.lemmas.List.{get_or-set_same, get_or-set_other}
 use Rattle.std.proofs.lemmas.List.Folds.{list_any-append}
-use Rattle.lus_meaning.specs.Order.{is_listed, IsReady, IsNext, AreNext, IsStuck}
+use Rattle.lus_meaning.specs.Order.{Passes, is_listed, IsReady, IsNext, AreNext, IsStuck}
 use Rattle.lus_meaning.proofs.Orders.{next-snoc, stuck_short}
 use Rattle.lus_checked.specs.Rows.{is_marked, are_marked, is_open, row_at, row_needs}
 
@@ -46,7 +46,7 @@ not_true true e = absurd (false≢true e)
 not_true false e = refl
 
 module _ (rows : List (List ℕ)) (n : ℕ) (done : List Bool) (ks : List ℕ) (whole : length done ≡ n) (marks : AreMarks n done ks) where
-  ready_of_marked : (k : ℕ) → are_marked done (row_at rows k) ≡ true → IsReady n (row_needs rows) ks k
+  ready_of_marked : (k : ℕ) → are_marked done (row_at rows k) ≡ true → IsReady n (Passes (row_needs rows)) ks k
   ready_of_marked k a j l e = sym (marks j l) ∙ one_of_all (is_marked done) (row_at rows k) j a e
 
   past_marked : (bs : List Bool) (j : ℕ) → length bs ≤ j → is_marked bs j ≡ true
@@ -54,7 +54,7 @@ module _ (rows : List (List ℕ)) (n : ℕ) (done : List Bool) (ks : List ℕ) (
   past_marked (b ∷ bs) zero l = absurd (omega arith)
   past_marked (b ∷ bs) (suc j) l = past_marked bs j (omega arith)
 
-  marked_of_ready : (k : ℕ) → IsReady n (row_needs rows) ks k → are_marked done (row_at rows k) ≡ true
+  marked_of_ready : (k : ℕ) → IsReady n (Passes (row_needs rows)) ks k → are_marked done (row_at rows k) ≡ true
   marked_of_ready k r = all_of_each (is_marked done) (row_at rows k) (λ j e. each j e (within j))
     where
       within : (j : ℕ) → (j < n) ⊎ (n ≤ j)
@@ -64,10 +64,10 @@ module _ (rows : List (List ℕ)) (n : ℕ) (done : List Bool) (ks : List ℕ) (
       each j e (inl l) = marks j l ∙ r j l e
       each j e (inr l) = past_marked done j (omega arith)
 
-  open_of_ready : (k : ℕ) → k < n → is_listed ks k ≡ false → IsReady n (row_needs rows) ks k → is_open rows done k ≡ true
+  open_of_ready : (k : ℕ) → k < n → is_listed ks k ≡ false → IsReady n (Passes (row_needs rows)) ks k → is_open rows done k ≡ true
   open_of_ready k l e r = rw (marks k l ∙ e, marked_of_ready k r) refl
 
-  pub open_is_next : (k : ℕ) → k < n → is_open rows done k ≡ true → ((j : ℕ) → j < k → is_open rows done j ≡ false) → IsNext n (row_needs rows) ks k
+  pub open_is_next : (k : ℕ) → k < n → is_open rows done k ≡ true → ((j : ℕ) → j < k → is_open rows done j ≡ false) → IsNext n (Passes (row_needs rows)) ks k
   open_is_next k l o first =
       let parts = both_true (not (is_marked done k)) (are_marked done (row_at rows k)) o in
       record {
@@ -77,10 +77,10 @@ module _ (rows : List (List ℕ)) (n : ℕ) (done : List Bool) (ks : List ℕ) (
         least = λ j h e r. true≢false (sym (open_of_ready j (omega arith) e r) ∙ first j h);
       }
 
-  pub open_next : (k : ℕ) → AreNext n (row_needs rows) [] ks → k < n → is_open rows done k ≡ true → ((j : ℕ) → j < k → is_open rows done j ≡ false) → AreNext n (row_needs rows) [] (ks ++ k ∷ [])
+  pub open_next : (k : ℕ) → AreNext n (Passes (row_needs rows)) [] ks → k < n → is_open rows done k ≡ true → ((j : ℕ) → j < k → is_open rows done j ≡ false) → AreNext n (Passes (row_needs rows)) [] (ks ++ k ∷ [])
   open_next k a l o first = next-snoc n (row_needs rows) [] ks k a (open_is_next k l o first)
 
-  pub none_open : length ks < n → ((k : ℕ) → k < n → is_open rows done k ≡ false) → IsStuck n (row_needs rows) ks
+  pub none_open : length ks < n → ((k : ℕ) → k < n → is_open rows done k ≡ false) → IsStuck n (Passes (row_needs rows)) ks
   none_open l none =
       let e : length ks + suc (n - suc (length ks)) ≡ n = omega arith in
       stuck_short n (row_needs rows) (n - suc (length ks)) ks e (λ k h f r. true≢false (sym (open_of_ready k h f r) ∙ none k h))

@@ -10,7 +10,8 @@ use Rattle.lus_meaning.specs.Run.{Equation}
 use Rattle.lus_meaning.specs.Depends.{named_in}
 use Rattle.lus_meaning.specs.WellMade.{AreDistinct}
 use Rattle.lus_meaning.specs.Rules.{lefts}
-use Rattle.lus_meaning.specs.Order.{is_listed, left_at, needed_at, needs_equation, IsReady, AreNext, IsStuck}
+use Rattle.lus_meaning.specs.Order.{is_listed, left_at, Passes, IsReady, AreNext, IsStuck}
+use Rattle.lus_meaning.specs.BooleanNeeds.{needed_at, needs_equation}
 use Rattle.lus_meaning.proofs.Unique.{same_bytes}
 use Rattle.lus_meaning.proofs.BooleanNode.{IsBooleanEquation}
 use Rattle.lus_checked.specs.Rows.{numbers_of, rows_of, row_at, row_needs}
@@ -21,13 +22,13 @@ use Rattle.lus_checked.proofs.Listed.{all_have, in_list, place_of}
 -- ---- two tests that agree below the count
 
 module _ (n : ℕ) (f g : ℕ → ℕ → Bool) (same : (k j : ℕ) → k < n → j < n → f k j ≡ g k j) where
-  pub other_ready : (done : List ℕ) (k : ℕ) → k < n → IsReady n f done k → IsReady n g done k
+  pub other_ready : (done : List ℕ) (k : ℕ) → k < n → IsReady n (Passes f) done k → IsReady n (Passes g) done k
   other_ready done k l r j h e = r j h (same k j l h ∙ e)
 
-  pub back_ready : (done : List ℕ) (k : ℕ) → k < n → IsReady n g done k → IsReady n f done k
+  pub back_ready : (done : List ℕ) (k : ℕ) → k < n → IsReady n (Passes g) done k → IsReady n (Passes f) done k
   back_ready done k l r j h e = r j h (sym (same k j l h) ∙ e)
 
-  pub other_next : (done ks : List ℕ) → AreNext n f done ks → AreNext n g done ks
+  pub other_next : (done ks : List ℕ) → AreNext n (Passes f) done ks → AreNext n (Passes g) done ks
   other_next done [] a = tt
   other_next done (k ∷ ks) a =
       let l : k < n = a.0.below in (
@@ -40,7 +41,7 @@ module _ (n : ℕ) (f g : ℕ → ℕ → Bool) (same : (k j : ℕ) → k < n �
         other_next (done ++ k ∷ []) ks a.1,
       )
 
-  pub other_stuck : (done : List ℕ) → IsStuck n f done → IsStuck n g done
+  pub other_stuck : (done : List ℕ) → IsStuck n (Passes f) done → IsStuck n (Passes g) done
   other_stuck done s = record { left = s.left; below = s.below; new = s.new; none = λ k l e r. s.none k l e (back_ready done k l r) }
 
 -- ---- the numbers of a row

@@ -4,7 +4,8 @@ use Rattle.std.specs.List.{list_all}
 use Rattle.lus_tree.specs.Tree.{Name}
 use Rattle.lus_meaning.specs.Run.{Equation}
 use Rattle.lus_meaning.specs.Depends.{named_in}
-use Rattle.lus_meaning.specs.Order.{is_listed, needed_names}
+use Rattle.lus_meaning.specs.Order.{is_listed}
+use Rattle.lus_meaning.specs.BooleanNeeds.{needed_names}
 use Rattle.lus_checked.specs.Words.{add_all, place}
 
 -- the places among the left names of those needed names that are left names

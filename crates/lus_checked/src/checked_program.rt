@@ -1,15 +1,27 @@
 //! A program that breaks no rule.
 
-ghost use Rattle.std.specs.Prelude.{◌≡◌};
-ghost use Rattle.lus_tree.specs.Tree.{Component};
+ghost use Rattle.std.specs.Prelude.{◌≡◌, MatchOption, [], ◌∷◌};
+ghost use Rattle.lus_tree.specs.Tree.{Component, declared_node};
 ghost use Rattle.lus_tree.specs.View.{node_view, program_view};
 ghost use Rattle.lus_meaning.specs.Run.{equations};
+ghost use Rattle.lus_meaning.specs.Rules.{IsWithinCounts};
 ghost use Rattle.lus_meaning.specs.BooleanRules.{BreaksNoBooleanRule, IsBooleanChecked};
 ghost use Rattle.lus_meaning.specs.Order.{IsLeastEquationOrder};
 ghost use Rattle.lus_checked.specs.Ordered.{AreOrdered};
 
 use lus_tree::{Decl, Node, Program};
 use std::marker::Model;
+
+/// The node of a program of one node.
+pub(crate) fn only_node(program: &Program) -> Option<&Node>
+    ensures { MatchOption result ((d : Component) → program_view program.now ≡ declared_node d ∷ [] → ⊥)
+        (λ n. program_view program.now ≡ declared_node (node_view n.now) ∷ []) }
+{
+    match program.decls.as_slice() {
+        [Decl::Node(node)] => Some(node),
+        _ => None,
+    }
+}
 
 /// A program that breaks no rule, as `checked` makes it. Contracts see the program.
 #[derive(Drop)]
@@ -52,18 +64,19 @@ impl Checked {
         &self.program
     }
 
-    /// Its one node, which follows the rules.
+    /// Its one node, which follows the rules and is within the limits.
     pub fn node(&self) -> &Node
-        ensures { IsBooleanChecked (program_view self.now) (node_view result.now) }
+        ensures rules { IsBooleanChecked (program_view self.now) (node_view result.now) }
+        ensures limits { IsWithinCounts (program_view self.now) (node_view result.now) }
     {
-        match self.program.decls.as_slice() {
-            [Decl::Node(node)] => node,
-            _ => unreachable!(),
+        match only_node(&self.program) {
+            Some(node) => node,
+            None => unreachable!(),
         }
     }
 
     /// Its equations, numbered from 0 in text order: again and again the least that is not yet
-    /// listed and needs at its own instant only names of listed ones, inputs and free names.
+    /// listed and of which all that it needs at its own instant is listed.
     pub fn order(&self) -> &[u32]
         ensures { AreOrdered (program_view self.now) result.now }
     {

@@ -5,7 +5,7 @@ ghost use Rattle.lus_tree.specs.View.{expr_view, item_view, node_view, param_vie
 ghost use Rattle.lus_tree.specs.Tree.{text_of};
 ghost use Rattle.lus_tree.specs.Numbers.{body_expressions};
 ghost use Rattle.lus_meaning.specs.Run.{body_equations};
-ghost use Rattle.lus_meaning.specs.Order.{needed_names};
+ghost use Rattle.lus_meaning.specs.BooleanNeeds.{needed_names};
 ghost use Rattle.lus_meaning.specs.Rules.{declared_names, lefts, names_of};
 ghost use Rattle.lus_meaning.specs.BooleanRules.{IsBooleanNode, label_texts, used_names};
 

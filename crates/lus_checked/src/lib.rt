@@ -3,16 +3,12 @@
 
 mod checked_program;
 mod collected;
-#[cfg(test)]
-mod limit_tests;
 mod limits;
 mod names;
 mod order;
 mod rows;
 mod rules;
 mod shape;
-#[cfg(test)]
-mod tests;
 mod words;
 
 pub use checked_program::Checked;

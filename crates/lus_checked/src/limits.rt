@@ -3,7 +3,8 @@
 ghost use Rattle.std.specs.Prelude.{◌≡◌, ◌↔◌, ◌+◌, ◌<◌, ◌≤◌, IsTrue, MatchOption, [], ◌∷◌, map, length};
 ghost use Rattle.lus_tree.specs.View.{expr_view, item_view, node_view};
 ghost use Rattle.lus_tree.specs.Numbers.{pres, arrows, body_pres, body_arrows};
-ghost use Rattle.lus_meaning.specs.Rules.{IsWithinLimits, declared_names, property_count};
+ghost use Rattle.lus_meaning.specs.Rules.{declared_names};
+ghost use Rattle.lus_checked.specs.Followed.{HasFewParts, property_count};
 ghost use Rattle.lus_meaning.specs.BooleanRules.{IsBooleanExpression, IsBooleanItem, IsBooleanNode};
 ghost use Rattle.std.specs.List.{AllByRecursion};
 
@@ -96,7 +97,7 @@ const MOST_VARIABLES: usize = 20000;
 pub(crate) fn is_within_limits(node: &Node, names: usize) -> bool
     requires shape { IsBooleanNode (node_view node.now) }
     requires counted { names ≡ length (declared_names (node_view node.now)) }
-    ensures { IsTrue result ↔ IsWithinLimits (node_view node.now) }
+    ensures { IsTrue result ↔ HasFewParts (node_view node.now) }
 {
     names <= MOST_NAMES
         && count_properties(&node.items) <= MOST_PROPERTIES

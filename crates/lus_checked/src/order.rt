@@ -2,7 +2,7 @@
 
 ghost use Rattle.std.specs.Prelude.{◌≡◌, ◌<◌, ◌≤◌, ℕ, List, [], true, false, IfOk, MatchOption, map, length};
 ghost use Rattle.std.specs.List.{list_all};
-ghost use Rattle.lus_meaning.specs.Order.{AreNext, IsStuck};
+ghost use Rattle.lus_meaning.specs.Order.{AreNext, IsStuck, Passes};
 ghost use Rattle.lus_checked.specs.Rows.{are_marked, is_marked, is_open, row_needs};
 
 use std::alloc::{AllocError, Global};
@@ -67,8 +67,8 @@ pub(crate) fn least_order(
 ) -> Result<Option<Vec<u32>>, AllocError>
     requires { length rows.now ≤ 2000 }
     ensures { IfOk result (λ o. MatchOption o
-        ((ks : List ℕ) × IsStuck (length rows.now) (row_needs (map (λ r. r.items) rows.now)) ks)
-        (λ v. AreNext (length rows.now) (row_needs (map (λ r. r.items) rows.now)) [] v.items × (length v.items ≡ length rows.now))) }
+        ((ks : List ℕ) × IsStuck (length rows.now) (Passes (row_needs (map (λ r. r.items) rows.now))) ks)
+        (λ v. AreNext (length rows.now) (Passes (row_needs (map (λ r. r.items) rows.now))) [] v.items × (length v.items ≡ length rows.now))) }
 {
     let mut done = no_marks(alloc, rows.len())?;
     let mut order = Vec::new(alloc);

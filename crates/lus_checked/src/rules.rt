@@ -2,19 +2,17 @@
 
 ghost use Rattle.std.specs.Prelude.{◌≡◌, ◌≤◌, IfOk, IfErr, IsOk, IsTrue, MatchOption, [], ◌∷◌, map, length};
 ghost use Rattle.lus_tree.specs.Reason.{refusal_view};
-ghost use Rattle.lus_tree.specs.Tree.{Component, declared_node};
 ghost use Rattle.lus_tree.specs.View.{item_view, node_view, program_view};
 ghost use Rattle.lus_meaning.specs.Depends.{left_names};
 ghost use Rattle.lus_meaning.specs.Run.{body_equations};
 ghost use Rattle.lus_meaning.specs.Rules.{lefts};
-ghost use Rattle.lus_meaning.specs.BooleanRules.{BreaksNoBooleanRule, FollowsBooleanRules, HasBooleanNames, IsBooleanNode, IsNumberedBoolean};
-ghost use Rattle.lus_meaning.specs.Rules.{IsWithinLimits};
-ghost use Rattle.lus_checked.specs.Followed.{HasNoCycle, IsOrderOf};
+ghost use Rattle.lus_meaning.specs.BooleanRules.{BreaksNoBooleanRule, HasBooleanNames, IsBooleanNode, IsNumberedBoolean};
+ghost use Rattle.lus_checked.specs.Followed.{HasFewParts, HasNoCycle, IsOrderOf, IsTaken};
 ghost use Rattle.lus_checked.specs.Ordered.{AreOrdered};
 ghost use Rattle.lus_checked.specs.Refusals.{IsRefusal};
 ghost use Rattle.lus_checked.specs.Words.{words};
 
-use crate::checked_program::Checked;
+use crate::checked_program::{Checked, only_node};
 use crate::collected::{declared_of, lefts_of};
 use crate::limits::is_within_limits;
 use crate::names::{boolean_names, has_own_labels};
@@ -22,7 +20,7 @@ use crate::order::least_order;
 use crate::rows::rows_of;
 use crate::shape::is_boolean_node;
 use crate::words::Words;
-use lus_tree::{Decl, Node, Pos, Program, Refusal, What};
+use lus_tree::{Node, Pos, Program, Refusal, What};
 use std::alloc::{AllocError, Global};
 
 /// The order of the equations of a node, where none depends on itself at one instant. The words
@@ -30,7 +28,7 @@ use std::alloc::{AllocError, Global};
 fn equation_order(alloc: Global, node: &Node, lefts: &Words) -> Result<Option<Vec<u32>>, AllocError>
     requires shape { IsBooleanNode (node_view node.now) }
     requires names { HasBooleanNames (node_view node.now) }
-    requires limits { IsWithinLimits (node_view node.now) }
+    requires limits { HasFewParts (node_view node.now) }
     requires lefts { words lefts.now ≡ left_names (node_view node.now) }
     ensures { IfOk result (λ o. MatchOption o (HasNoCycle (node_view node.now) → ⊥)
         (λ v. HasNoCycle (node_view node.now) × IsOrderOf (node_view node.now) v.items)) }
@@ -39,11 +37,11 @@ fn equation_order(alloc: Global, node: &Node, lefts: &Words) -> Result<Option<Ve
     least_order(alloc, &rows)
 }
 
-/// The order of the equations of a node of the Boolean language, where it follows the rules.
+/// The order of the equations of a node of the Boolean language, where it follows the rules within the limits.
 fn boolean_order(alloc: Global, node: &Node) -> Result<Option<Vec<u32>>, AllocError>
     requires { IsBooleanNode (node_view node.now) }
-    ensures { IfOk result (λ o. MatchOption o (FollowsBooleanRules (node_view node.now) → ⊥)
-        (λ v. FollowsBooleanRules (node_view node.now) × IsOrderOf (node_view node.now) v.items)) }
+    ensures { IfOk result (λ o. MatchOption o (IsTaken (node_view node.now) → ⊥)
+        (λ v. IsTaken (node_view node.now) × IsOrderOf (node_view node.now) v.items)) }
 {
     let declared = declared_of(alloc, node)?;
     if !is_within_limits(node, declared.len()) {
@@ -67,26 +65,15 @@ fn left_names_of(alloc: Global, node: &Node) -> Result<Vec<&str>, AllocError>
     lefts_of(alloc, &node.items)
 }
 
-/// The order of the equations of a node, where it follows the rules.
-pub(crate) fn node_order(alloc: Global, node: &Node) -> Result<Option<Vec<u32>>, AllocError>
-    ensures { IfOk result (λ o. MatchOption o (FollowsBooleanRules (node_view node.now) → ⊥)
-        (λ v. FollowsBooleanRules (node_view node.now) × IsOrderOf (node_view node.now) v.items)) }
+/// The order of the equations of a node, where it follows the rules within the limits.
+fn node_order(alloc: Global, node: &Node) -> Result<Option<Vec<u32>>, AllocError>
+    ensures { IfOk result (λ o. MatchOption o (IsTaken (node_view node.now) → ⊥)
+        (λ v. IsTaken (node_view node.now) × IsOrderOf (node_view node.now) v.items)) }
 {
     if is_boolean_node(node) {
         boolean_order(alloc, node)
     } else {
         Ok(None)
-    }
-}
-
-/// The node of a program of one node.
-fn only_node(program: &Program) -> Option<&Node>
-    ensures { MatchOption result ((d : Component) → program_view program.now ≡ declared_node d ∷ [] → ⊥)
-        (λ n. program_view program.now ≡ declared_node (node_view n.now) ∷ []) }
-{
-    match program.decls.as_slice() {
-        [Decl::Node(node)] => Some(node),
-        _ => None,
     }
 }
 

@@ -1,6 +1,6 @@
 use Rattle.std.proofs.Common.{◌≡◌, ◌≤◌, ◌+◌, drop, map}
 use Rattle.lus_tree.specs.View.{item_view}
-use Rattle.lus_meaning.specs.Rules.{property_count}
+use Rattle.lus_checked.specs.Followed.{property_count}
 use Rattle.lus_checked.proofs.limits.count_properties.Given as goal
 
 abbrev pub invariant-loop-item : goal.invariant-loop-item
