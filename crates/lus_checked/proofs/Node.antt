@@ -2,6 +2,7 @@
 use Rattle.std.proofs.Common.{◌≡◌, ℕ, suc, ◌<◌, ◌≤◌, List, [], ◌∷◌, map, length, refl, ap, ◌∙◌, sym, subst, arith, Vec, Global, Option, Some, None, Result, Ok, Err, IfOk, MatchOption}
 use Rattle.std.specs.declared.alloc.AllocError.{AllocError}
 use Rattle.lus_tree.specs.Tree.{Name, Statement, equation, assertion, property, main_mark, Component, declared_node, Program}
+use Rattle.lus_tree.specs.Numbers.{AreNumbered}
 use Rattle.lus_meaning.specs.Scene.{Instance, instance, no_instances}
 use Rattle.lus_meaning.specs.Program.{instance_of}
 use Rattle.lus_meaning.specs.Run.{Equation, equations, body_equations}
@@ -10,7 +11,7 @@ use Rattle.lus_meaning.specs.Depends.{left_names}
 use Rattle.lus_meaning.specs.Rules.{lefts, declared_names, IsWithinCounts}
 use Rattle.lus_meaning.specs.Order.{Passes, AreNext, IsStuck, IsLeastEquationOrder}
 use Rattle.lus_meaning.specs.BooleanNeeds.{needs_equation}
-use Rattle.lus_meaning.specs.BooleanRules.{IsBooleanNode, HasBooleanNames, IsBooleanChecked, BreaksNoBooleanRule, IsNumberedBoolean}
+use Rattle.lus_meaning.specs.BooleanRules.{IsBooleanNode, HasBooleanNames, IsBooleanChecked, BreaksNoBooleanRule}
 use Rattle.lus_meaning.proofs.Orders.{whole_order}
 use Rattle.lus_meaning.proofs.BooleanNode.{each_boolean, boolean_equations, boolean_instance, boolean_checked_instance}
 use Rattle.lus_meaning.proofs.BooleanOrder.{listed_no_cycle, stuck_has_cycle}
@@ -101,7 +102,7 @@ module _ (p : Program) (d : Component) (checked : IsBooleanChecked p d) where
   program_order : (ks : List ℕ) → IsOrderOf d ks → IsLeastEquationOrder (instance_of p d) (equations d) ks
   program_order ks o = subst (λ i. IsLeastEquationOrder i (equations d) ks) (boolean_instance d checked.rules.shape ∙ sym (boolean_checked_instance p d checked)) o
 
-pub program_answers : (p : Program) (d : Component) → p ≡ declared_node d ∷ [] → IsNumberedBoolean p → (r : Answer) → IfOk r (λ o. MatchOption o (IsTaken d → ⊥) (λ v. IsTaken d × IsOrderOf d v.items)) → IfOk r (λ o. MatchOption o (BreaksNoBooleanRule p → ⊥) (λ v. BreaksNoBooleanRule p × AreOrdered p v.items))
+pub program_answers : (p : Program) (d : Component) → p ≡ declared_node d ∷ [] → AreNumbered p → (r : Answer) → IfOk r (λ o. MatchOption o (IsTaken d → ⊥) (λ v. IsTaken d × IsOrderOf d v.items)) → IfOk r (λ o. MatchOption o (BreaksNoBooleanRule p → ⊥) (λ v. BreaksNoBooleanRule p × AreOrdered p v.items))
 program_answers p d e numbered r h = go r h
   where
     same : (d' : Component) → p ≡ declared_node d' ∷ [] → d' ≡ d
@@ -109,7 +110,7 @@ program_answers p d e numbered r h = go r h
 
     go : (r : Answer) → IfOk r (λ o. MatchOption o (IsTaken d → ⊥) (λ v. IsTaken d × IsOrderOf d v.items)) → IfOk r (λ o. MatchOption o (BreaksNoBooleanRule p → ⊥) (λ v. BreaksNoBooleanRule p × AreOrdered p v.items))
     go (Ok (Some v)) h =
-        let checked : IsBooleanChecked p d = record { one_node = e; rules = h.0.0; numbered = numbered d e h.0.0.shape } in (
+        let checked : IsBooleanChecked p d = record { one_node = e; rules = h.0.0; numbered = (subst AreNumbered e numbered).0 } in (
           record { node = d; checked = checked; limits = within_counts p d checked h.0.1 },
           λ d' k. subst (λ c. IsLeastEquationOrder (instance_of p c) (equations c) v.items) (sym (same d' k.one_node)) (program_order p d checked v.items h.1),
         )

@@ -1,12 +1,13 @@
 //! Whether a program breaks a rule.
 
 ghost use Rattle.std.specs.Prelude.{◌≡◌, ◌≤◌, IfOk, IfErr, IsOk, IsTrue, MatchOption, [], ◌∷◌, map, length};
+ghost use Rattle.lus_tree.specs.Numbers.{AreNumbered};
 ghost use Rattle.lus_tree.specs.Reason.{refusal_view};
 ghost use Rattle.lus_tree.specs.View.{item_view, node_view, program_view};
 ghost use Rattle.lus_meaning.specs.Depends.{left_names};
 ghost use Rattle.lus_meaning.specs.Run.{body_equations};
 ghost use Rattle.lus_meaning.specs.Rules.{lefts};
-ghost use Rattle.lus_meaning.specs.BooleanRules.{BreaksNoBooleanRule, HasBooleanNames, IsBooleanNode, IsNumberedBoolean};
+ghost use Rattle.lus_meaning.specs.BooleanRules.{BreaksNoBooleanRule, HasBooleanNames, IsBooleanNode};
 ghost use Rattle.lus_checked.specs.Followed.{HasFewParts, HasNoCycle, IsOrderOf, IsTaken};
 ghost use Rattle.lus_checked.specs.Ordered.{AreOrdered};
 ghost use Rattle.lus_checked.specs.Refusals.{IsRefusal};
@@ -79,7 +80,7 @@ fn node_order(alloc: Global, node: &Node) -> Result<Option<Vec<u32>>, AllocError
 
 /// The order of the equations of a program, where it breaks no rule.
 fn program_order(alloc: Global, program: &Program) -> Result<Option<Vec<u32>>, AllocError>
-    requires { IsNumberedBoolean (program_view program.now) }
+    requires { AreNumbered (program_view program.now) }
     ensures { IfOk result (λ o. MatchOption o (BreaksNoBooleanRule (program_view program.now) → ⊥)
         (λ v. BreaksNoBooleanRule (program_view program.now) × AreOrdered (program_view program.now) v.items)) }
 {
@@ -101,15 +102,14 @@ fn refused(what: What) -> Refusal
 
 /// The program, with the fact that it breaks no rule, and the order of its equations.
 ///
-/// The occurrences of its body are numbered where it is one node of the shape that is built, as a
-/// reader leaves them.
+/// The occurrences of each declaration are numbered, as the grammar numbers them.
 ///
 /// # Errors
 ///
 /// `NotBuilt` at 1:1, exactly where the program breaks a rule, or `Memory`. The program is then
 /// dropped.
 pub fn checked(alloc: Global, program: Program) -> Result<Checked, Refusal>
-    requires { IsNumberedBoolean (program_view program) }
+    requires { AreNumbered (program_view program) }
     ensures same { IfOk result (λ c. program_view c ≡ program_view program) }
     ensures follows { IfOk result (λ c. BreaksNoBooleanRule (program_view program)) }
     ensures refused { IfErr result (λ e. IsRefusal (program_view program) (refusal_view e)) }

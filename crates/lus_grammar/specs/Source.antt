@@ -2,6 +2,7 @@
 use Rattle.std.specs.Prelude.{◌≡◌, ℕ, ◌+◌, ◌⊎◌, List, length, Some, None}
 use Rattle.lus_tree.specs.declared.refusal.What.{What}
 use Rattle.lus_tree.specs.Tree.{Program}
+use Rattle.lus_tree.specs.Numbers.{AreNumbered}
 use Rattle.lus_tree.specs.Reason.{Reason, unexpected as unexpected_token, too_large as too_large_expression, left_out, memory, Refused, what_view}
 use Rattle.lus_lexer.specs.declared.token.Token.{Token}
 use Rattle.lus_lexer.specs.declared.token.Class.TheVariants.{LeftOut}
@@ -75,3 +76,7 @@ IsRefusal bytes r = (r.reason ≡ memory) ⊎ IsRefused bytes r
 -- No text has two trees.
 abbrev pub OneTree : Type 0
 OneTree = (bytes : List ℕ) (p q : Program) → IsSource bytes p → IsSource bytes q → p ≡ q
+
+-- The occurrences of each declaration of a source are numbered from 1 on, each kind by itself and each number once.
+abbrev pub NumberedSources : Type 0
+NumberedSources = (bytes : List ℕ) (p : Program) → IsSource bytes p → AreNumbered p

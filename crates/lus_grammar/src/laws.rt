@@ -1,6 +1,13 @@
-//! What holds of the grammar's texts: rows worked by hand.
+//! What holds of the grammar's texts: a law, and rows worked by hand.
 
+ghost use Rattle.lus_grammar.specs.Source.{NumberedSources};
 ghost use Rattle.lus_grammar.specs.Rows.{GroupedToTheLeft, ArrowsToTheRight, ClockOfTheWhole};
+
+/// In each declaration of a source the `pre`, the `->`, and the calls with the imports have the numbers from 1 on, each
+/// number once.
+pub fn numbered_sources()
+    ensures { NumberedSources }
+{}
 
 /// `a - b - c` is `(a - b) - c`.
 pub fn grouped_to_the_left()

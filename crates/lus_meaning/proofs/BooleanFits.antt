@@ -1,5 +1,5 @@
 -- The lines of a trace that fits a Boolean node list truth values.
-use Rattle.std.proofs.Common.{◌≡◌, ℕ, zero, suc, ◌<◌, Bool, true, false, cond, not, ◌&&◌, ◌||◌, List, [], ◌∷◌, ◌++◌, map, flat_map, length, refl, sym, subst, arith, Option, Some, None, unwrap_or, option_map, slice_index_or, get_or}
+use Rattle.std.proofs.Common.{◌≡◌, ℕ, zero, suc, ◌<◌, Bool, true, false, cond, ◌&&◌, List, [], ◌∷◌, ◌++◌, map, flat_map, refl, subst, Option, Some, None, unwrap_or, option_map, slice_index_or}
 use Rattle.std.specs.List.{AllByRecursion, find}
 use Rattle.std.proofs.lemmas.Bool.{false≢true}
 use Rattle.lus_tree.specs.declared.place.Sort.{Sort}
@@ -10,7 +10,7 @@ use Rattle.lus_meaning.specs.Value.{Value, absent, flag, whole, has_sort}
 use Rattle.lus_meaning.specs.Scene.{Instance, component_of, instance, no_instances}
 use Rattle.lus_meaning.specs.Run.{first_sorts}
 use Rattle.lus_meaning.specs.Trace.{Subject, of_name, of_first, Line, same_subject, same_numbers, listed_at, or_default, free_names, is_defined}
-use Rattle.lus_meaning.specs.Fits.{Listable, listable_names, listable_firsts, listable, same_place, listable_at, takes_value, IsTaken, AreTaken, FitsInstance}
+use Rattle.lus_meaning.specs.Fits.{Listable, listable_names, listable_firsts, listable, same_place, listable_at, takes_value, IsTaken, FitsInstance}
 use Rattle.lus_meaning.specs.Rules.{IsFlag}
 use Rattle.lus_meaning.specs.BooleanRules.{IsBooleanNode}
 use Rattle.lus_meaning.proofs.Lists.{both_parts, all_from}

@@ -1,7 +1,7 @@
 -- How many names, properties and variables a node of the Boolean language has.
 use Rattle.std.proofs.Common.{◌≡◌, suc, ◌+◌, ◌≤◌, List, [], ◌∷◌, ◌++◌, map, flat_map, length, length-append, refl, ap, ◌∙◌, sym, arith}
 use Rattle.lus_tree.specs.Tree.{Variable, Component, Program}
-use Rattle.lus_tree.specs.Numbers.{arrows, body_pres, body_arrows, IsNumbered}
+use Rattle.lus_tree.specs.Numbers.{a_pre, an_arrow, arrows, body_pres, body_arrows, IsNumbered}
 use Rattle.lus_meaning.specs.Scene.{plain, Instance, instance, no_instances, variables}
 use Rattle.lus_meaning.specs.Program.{instance_of, in_order}
 use Rattle.lus_meaning.specs.Property.{properties, body_properties}
@@ -15,7 +15,7 @@ use Rattle.lus_meaning.proofs.Lists.{append_none}
 use Rattle.lus_meaning.proofs.InOrder.{in_order_length}
 use Rattle.lus_meaning.proofs.Numbering.{memory_numbers, start_numbers}
 use Rattle.lus_meaning.proofs.BooleanNode.{boolean_no_clauses, boolean_variables}
-use Rattle.lus_meaning.proofs.BooleanFirsts.{boolean_expressions, boolean_numbers}
+use Rattle.lus_meaning.proofs.BooleanFirsts.{boolean_expressions, boolean_numbers, boolean_counted}
 
 -- ---- names
 
@@ -67,8 +67,8 @@ module _ (d : Component) (node : IsBooleanNode d) where
       let f : length (map memory_cell ms) ≡ length ms = length_mapped memory_cell ms in
       let g : length (map name_cell (variables d)) ≡ length (variables d) = length_mapped name_cell (variables d) in
       let h : length (declared_names d) ≡ length (variables d) = length_mapped (λ (v : Variable). v.name.text) (variables d) in
-      let k : length ms ≡ length (body_pres d.body) = in_order_length (λ m. m.number) (memories d) (rw (memory_numbers d) numbered.pres) ∙ sym (length_mapped (λ (m : Memory). m.number) (memories d)) ∙ ap length (boolean_numbers d node) in
-      let n : length ts ≡ length (body_arrows d.body) = in_order_length (λ s. s.number) (starts d) (rw (start_numbers d) numbered.arrows) ∙ sym (length_mapped (λ (s : Start). s.number) (starts d)) ∙ ap length (start_numbers d ∙ ap (flat_map arrows) (boolean_expressions d node)) in
+      let k : length ms ≡ length (body_pres d.body) = in_order_length (λ m. m.number) (memories d) (rw (memory_numbers d) (boolean_counted d node numbered a_pre)) ∙ sym (length_mapped (λ (m : Memory). m.number) (memories d)) ∙ ap length (boolean_numbers d node) in
+      let n : length ts ≡ length (body_arrows d.body) = in_order_length (λ s. s.number) (starts d) (rw (start_numbers d) (boolean_counted d node numbered an_arrow)) ∙ sym (length_mapped (λ (s : Start). s.number) (starts d)) ∙ ap length (start_numbers d ∙ ap (flat_map arrows) (boolean_expressions d node)) in
       let o : width the_one ≡ length (own_cells plain d) = ap length (append_none (map (slot the_one []) (own_cells plain d))) ∙ length_mapped (slot the_one []) (own_cells plain d) in
       omega arith
 

@@ -1,7 +1,7 @@
 -- The numbers of the occurrences of `pre`, of `->` and of calls.
 use Rattle.std.specs.Prelude.{◌≡◌, ℕ, zero, suc, Bool, true, cond, eqb, ◌==◌, List, [], ◌∷◌, ◌++◌, map, flat_map, length, unwrap_or}
-use Rattle.std.specs.List.{list_all}
-use Rattle.lus_tree.specs.Tree.{Expression, Expressions, truth, number, name, negation, minus, pre, arrow, binary, choice, sampled, merged, call, condact, mode_name, no_more, more, Labelled, Constant, Statement, equation, assertion, property, main_mark, Clause, assume, guarantee, ghost_variable, constant, mode, «import», Component}
+use Rattle.std.specs.List.{AllByRecursion, list_all}
+use Rattle.lus_tree.specs.Tree.{Expression, Expressions, truth, number, name, negation, minus, pre, arrow, binary, choice, sampled, merged, call, condact, mode_name, no_more, more, Labelled, Constant, Statement, equation, assertion, property, main_mark, Clause, assume, guarantee, ghost_variable, constant, mode, «import», Component, Declaration, declared_constant, declared_node, declared_contract, Program}
 
 -- the numbers from k on, as many as said
 abbrev pub counting : ℕ → ℕ → List ℕ
@@ -33,20 +33,43 @@ abbrev mutual
   numbers_among own no_more = []
   numbers_among own (more a as_) = numbers own a ++ numbers_among own as_
 
--- the number of an occurrence, those in it left aside
+-- what is numbered, each by itself
+pub data Counted : Type 0 where
+  a_pre : Counted
+  an_arrow : Counted
+  a_call : Counted
+
+abbrev pub if_same : Counted → Counted → ℕ → List ℕ
+if_same a_pre a_pre k = k ∷ []
+if_same an_arrow an_arrow k = k ∷ []
+if_same a_call a_call k = k ∷ []
+if_same _ _ k = []
+
+-- The number of an expression of that kind, those in it left aside. `condact` and `activate` are numbered at their own word.
+abbrev pub own_number : Counted → Expression → List ℕ
+own_number c (pre p k a) = if_same c a_pre k
+own_number c (arrow p k a b) = if_same c an_arrow k
+own_number c (call p k f as_) = if_same c a_call k
+own_number c (condact p k a f as_ ds) = if_same c a_call k
+own_number c (truth p b) = []
+own_number c (number p k) = []
+own_number c (name p x) = []
+own_number c (negation p a) = []
+own_number c (minus p a) = []
+own_number c (binary p o a b) = []
+own_number c (choice p a b d) = []
+own_number c (sampled p a b x) = []
+own_number c (merged p x a b) = []
+own_number c (mode_name p d m) = []
+
 abbrev pub pre_number : Expression → List ℕ
-pre_number (pre p k a) = k ∷ []
-pre_number _ = []
+pre_number = own_number a_pre
 
 abbrev pub arrow_number : Expression → List ℕ
-arrow_number (arrow p k a b) = k ∷ []
-arrow_number _ = []
+arrow_number = own_number an_arrow
 
--- `condact` and `activate` are numbered at their own word
 abbrev pub call_number : Expression → List ℕ
-call_number (call p k f as_) = k ∷ []
-call_number (condact p k a f as_ ds) = k ∷ []
-call_number _ = []
+call_number = own_number a_call
 
 abbrev pub pres : Expression → List ℕ
 pres e = numbers pre_number e
@@ -86,9 +109,13 @@ clause_expressions (mode m rs es) = map (λ l. l.value) rs ++ map (λ l. l.value
 clause_expressions («import» k c as_ xs) = as_
 
 -- an import is numbered among the calls
-abbrev pub import_number : Clause → List ℕ
-import_number («import» k c as_ xs) = k ∷ []
-import_number _ = []
+abbrev pub import_number : Counted → Clause → List ℕ
+import_number c («import» k f as_ xs) = if_same c a_call k
+import_number c (assume l) = []
+import_number c (guarantee l) = []
+import_number c (ghost_variable x e) = []
+import_number c (constant d) = []
+import_number c (mode m rs es) = []
 
 abbrev pub contract_of : Component → List Clause
 contract_of n = unwrap_or n.contract []
@@ -109,8 +136,19 @@ times k (j ∷ js) = cond (eqb k j) (suc (times k js)) (times k js)
 abbrev pub are_counted : List ℕ → Bool
 are_counted ks = list_all (λ k. times k ks == 1) (counting 1 (length ks))
 
+-- the numbers of a kind in a declaration
+abbrev pub numbers_in : Counted → Component → List ℕ
+numbers_in c n = all_numbers (own_number c) n ++ flat_map (import_number c) (contract_of n)
+
 -- The occurrences of a declaration are numbered, each kind by itself: the `pre`, the `->`, and the calls with the imports.
 pub record IsNumbered (n : Component) : Type 0 where
-  pub pres : are_counted (all_numbers pre_number n) ≡ true
-  pub arrows : are_counted (all_numbers arrow_number n) ≡ true
-  pub calls : are_counted (all_numbers call_number n ++ flat_map import_number (contract_of n)) ≡ true
+  pub each : (c : Counted) → are_counted (numbers_in c n) ≡ true
+
+abbrev pub IsNumberedDeclaration : Declaration → Type 0
+IsNumberedDeclaration (declared_constant c) = Unit {0}
+IsNumberedDeclaration (declared_node n) = IsNumbered n
+IsNumberedDeclaration (declared_contract n) = IsNumbered n
+
+-- each declaration of a program is
+abbrev pub AreNumbered : Program → Type 0
+AreNumbered p = AllByRecursion IsNumberedDeclaration p
