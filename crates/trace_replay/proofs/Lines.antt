@@ -2,16 +2,14 @@
 use Rattle.std.proofs.Common.{◌≡◌, ◌<◌, Bool, true, false, cond, List, [], ◌∷◌, ◌++◌, length, Result, Ok, Err, refl, sym, ap, ◌∙◌, arith, append_assoc}
 use Rattle.std.proofs.lemmas.List.{append-nil}
 use Rattle.lus_tree.specs.declared.place.Pos.{Pos}
-use Rattle.lus_meaning.specs.Value.{Value}
-use Rattle.lus_meaning.specs.TraceView.{PlacedLine}
+use Rattle.lus_meaning.specs.TraceView.{PlacedValue, PlacedLine}
 use Rattle.trace_replay.specs.declared.fault.TraceFault.{TraceFault}
 use Rattle.trace_replay.specs.declared.fault.TraceFault.TheVariants as faults
 use Rattle.trace_replay.specs.Cutting.{Word, Row}
-use Rattle.trace_replay.specs.Reading.{◌>>=◌, Fails, Left, word_in, values_in, values_left, without_words, or_misfit, Next, a_line, an_end, line_of, line_from, lines_of, lines_in, rows_left, listed_of, values_of, place_of, next_of, nothing_of, is_closing, onto}
-use Rattle.trace_replay.specs.Traces.{places_of}
+use Rattle.trace_replay.specs.Reading.{◌>>=◌, Fails, Left, word_in, values_in, values_left, without_words, or_misfit, Next, a_line, an_end, line_of, line_from, lines_left, lines_in, rows_left, listed_of, values_of, place_of, next_of, nothing_of, is_closing, onto}
 
-abbrev pub values_onto : List Value → List Pos → Result (List Value × List Pos × Left) Pos → Result (List Value × List Pos × Left) Pos
-values_onto front places read = read >>= λ x. Ok (front ++ x.0, places ++ x.1, x.2)
+abbrev pub values_onto : List PlacedValue → Result (List PlacedValue × Left) Pos → Result (List PlacedValue × Left) Pos
+values_onto front read = read >>= λ x. Ok (front ++ x.0, x.1)
 
 abbrev pub lines_onto : List PlacedLine → Result (List PlacedLine × Pos) Pos → Result (List PlacedLine × Pos) Pos
 lines_onto front read = read >>= λ x. Ok (front ++ x.0, x.1)
@@ -40,8 +38,8 @@ listed_left w l x e =
     let a = bind_ok (or_misfit w.at (place_of w.text)) _ x e in
     let b = bind_ok (next_of l >>= λ first. values_left l) _ x a.2 in
     let c = bind_ok (next_of l) (λ first. values_left l) b.0 b.1 in
-    let d = bind_ok (values_in l.words) (λ vs. Ok (vs, places_of l.words, without_words l)) b.0 c.2 in
-    sym (ap (λ y. y.1) (ok_is _ x b.2)) ∙ sym (ap (λ y. y.2) (ok_is (d.0, places_of l.words, without_words l) b.0 d.2))
+    let d = bind_ok (values_in l.words) (λ vs. Ok (vs, without_words l)) b.0 c.2 in
+    sym (ap (λ y. y.1) (ok_is _ x b.2)) ∙ sym (ap (λ y. y.1) (ok_is (d.0, without_words l) b.0 d.2))
 
 pub record Steps (l m : Left) : Type 0 where
   pub row : Row
@@ -90,7 +88,7 @@ unfolding lines_in line_from
 fail_in e p [] k = ap (failed {A = List PlacedLine × Pos}) (err_is {A = Next} e p k)
 fail_in e p (r ∷ rs) k = ap (λ x. x >>= λ y. onto y (lines_in e rs)) k
 
-pub lines_fail : (l : Left) (p : Pos) → line_of l ≡ Err p → lines_of l ≡ Err p
+pub lines_fail : (l : Left) (p : Pos) → line_of l ≡ Err p → lines_left l ≡ Err p
 lines_fail l p h = fail_in l.last p (rows_left l) h
 
 nothing_ends : (e p : Pos) (rows : List Row) → line_from e rows ≡ Ok (an_end p) → lines_in e rows ≡ Ok ([], p)
@@ -98,7 +96,7 @@ unfolding lines_in line_from
 nothing_ends e p [] k = absurd cc
 nothing_ends e p (r ∷ rs) k = ap (λ x. x >>= λ y. onto y (lines_in e rs)) k
 
-pub lines_end : (l : Left) (p : Pos) → line_of l ≡ Ok (an_end p) → lines_of l ≡ Ok ([], p)
+pub lines_end : (l : Left) (p : Pos) → line_of l ≡ Ok (an_end p) → lines_left l ≡ Ok ([], p)
 lines_end l p h = nothing_ends l.last p (rows_left l) h
 
 more_in : (e : Pos) (rows rs : List Row) (r : Row) (x : PlacedLine) (m : Left) → line_from e rows ≡ Ok (a_line x m) → rows ≡ r ∷ rs → lines_in e rows ≡ (lines_in e rs >>= λ o. Ok (x ∷ o.0, o.1))
@@ -107,14 +105,14 @@ more_in e rows rs r x m k s =
     let q : line_from e (r ∷ rs) ≡ Ok (a_line x m) = ap (line_from e) (sym s) ∙ k in
     ap (lines_in e) s ∙ ap (λ y. y >>= λ z. onto z (lines_in e rs)) q
 
-pub lines_more : (l : Left) (x : PlacedLine) (m : Left) → line_of l ≡ Ok (a_line x m) → lines_of l ≡ (lines_of m >>= λ o. Ok (x ∷ o.0, o.1))
+pub lines_more : (l : Left) (x : PlacedLine) (m : Left) → line_of l ≡ Ok (a_line x m) → lines_left l ≡ (lines_left m >>= λ o. Ok (x ∷ o.0, o.1))
 lines_more l x m h =
     let s = line_steps l x m h in
     more_in l.last (rows_left l) (rows_left m) s.row x m h s.rows ∙ ap (λ e. lines_in e (rows_left m) >>= λ o. Ok (x ∷ o.0, o.1)) (sym s.last)
 
 -- ---- the loop over the lines
 
-pub lines_end_with : (e : TraceFault) (front : List PlacedLine) (l : Left) (total : Result (List PlacedLine × Pos) Pos) → Fails e (line_of l) → lines_onto front (lines_of l) ≡ total → Fails e total
+pub lines_end_with : (e : TraceFault) (front : List PlacedLine) (l : Left) (total : Result (List PlacedLine × Pos) Pos) → Fails e (line_of l) → lines_onto front (lines_left l) ≡ total → Fails e total
 lines_end_with faults.Memory front l total h so_far = tt
 lines_end_with (faults.Form p) front l total h so_far = sym so_far ∙ ap (lines_onto front) (lines_fail l p h)
 
@@ -122,8 +120,8 @@ onto_more : (front : List PlacedLine) (x : PlacedLine) (r : Result (List PlacedL
 onto_more front x (Ok o) = ap (λ (ys : List PlacedLine). Ok (ys, o.1)) (sym (append_assoc front (x ∷ []) o.0))
 onto_more front x (Err p) = refl
 
-pub lines_go_on : (front front' : List PlacedLine) (l : Left) (x : PlacedLine) (m : Left) (total : Result (List PlacedLine × Pos) Pos) → front' ≡ front ++ x ∷ [] → line_of l ≡ Ok (a_line x m) → lines_onto front (lines_of l) ≡ total → lines_onto front' (lines_of m) ≡ total
-lines_go_on front front' l x m total f h so_far = ap (λ ys. lines_onto ys (lines_of m)) f ∙ sym (onto_more front x (lines_of m)) ∙ ap (lines_onto front) (sym (lines_more l x m h)) ∙ so_far
+pub lines_go_on : (front front' : List PlacedLine) (l : Left) (x : PlacedLine) (m : Left) (total : Result (List PlacedLine × Pos) Pos) → front' ≡ front ++ x ∷ [] → line_of l ≡ Ok (a_line x m) → lines_onto front (lines_left l) ≡ total → lines_onto front' (lines_left m) ≡ total
+lines_go_on front front' l x m total f h so_far = ap (λ ys. lines_onto ys (lines_left m)) f ∙ sym (onto_more front x (lines_left m)) ∙ ap (lines_onto front) (sym (lines_more l x m h)) ∙ so_far
 
-pub lines_done : (front : List PlacedLine) (l : Left) (p : Pos) (total : Result (List PlacedLine × Pos) Pos) → line_of l ≡ Ok (an_end p) → lines_onto front (lines_of l) ≡ total → total ≡ Ok (front, p)
+pub lines_done : (front : List PlacedLine) (l : Left) (p : Pos) (total : Result (List PlacedLine × Pos) Pos) → line_of l ≡ Ok (an_end p) → lines_onto front (lines_left l) ≡ total → total ≡ Ok (front, p)
 lines_done front l p total h so_far = sym so_far ∙ ap (lines_onto front) (lines_end l p h) ∙ ap (λ (ys : List PlacedLine). Ok (ys, p)) (append-nil front)

@@ -1,7 +1,7 @@
 -- What is said of a fitting trace by the node's text is what is said by its instance.
 use Rattle.std.proofs.Common.{◌≡◌, ℕ, zero, suc, ◌+◌, ◌-◌, Bool, true, false, cond, not, ◌&&◌, ◌||◌, List, [], ◌∷◌, ◌++◌, map, flat_map, length, Option, Some, None, option_map, refl, sym, ap, ◌∙◌, subst, arith}
 use Rattle.std.specs.Prelude.{◌==◌, nat_le, nat_lt}
-use Rattle.std.specs.List.{AllByRecursion, list_any}
+use Rattle.std.specs.List.{AllByRecursion, list_all, list_any}
 use Rattle.std.specs.Str.{bytes_eq}
 use Rattle.std.proofs.lemmas.Slice.Eq.{bytes_eq-Decides}
 use Rattle.std.proofs.lemmas.Bool.Decides.{same_from_decides}
@@ -10,20 +10,20 @@ use Rattle.lus_tree.specs.declared.place.Sort.{Sort}
 use Rattle.lus_tree.specs.declared.place.Sort.TheVariants.{Bool as Flags}
 use Rattle.lus_tree.specs.Tree.{Name, Expression, truth, name, negation, pre, arrow, binary, choice, Variable, Statement, Component, declared_node, Program}
 use Rattle.lus_tree.specs.Numbers.{counting, pres, body_pres, IsNumbered}
-use Rattle.lus_meaning.specs.Value.{Value, has_sort, is_absent}
+use Rattle.lus_meaning.specs.Value.{is_absent}
 use Rattle.lus_meaning.specs.Scene.{Instance, instance, no_instances}
 use Rattle.lus_meaning.specs.Run.{Equation, first_sorts}
 use Rattle.lus_meaning.specs.Depends.{named_in}
 use Rattle.lus_meaning.specs.Rules.{IsFlag, names_of}
 use Rattle.lus_meaning.specs.Trace.{Subject, of_name, of_first, Line, is_defined, free_names}
-use Rattle.lus_meaning.specs.TraceView.{PlacedLine, Listing}
-use Rattle.lus_meaning.specs.Fits.{Listable, named_spots, first_spots, spots, same_place, spot_of, value_misfit, spot_misfit, line_misfit, is_listed_in, or_else, lines_misfit, are_given, given_misfit, instance_misfit, node_misfit, misfit}
+use Rattle.lus_meaning.specs.TraceView.{PlacedValue, PlacedLine, Listing, bare_line, lines_of}
+use Rattle.lus_meaning.specs.Fits.{Listable, listable_names, listable_firsts, listable, same_place, listable_at, is_listed, is_of_sort, is_given, Test, first_failed, value_tests, taken_tests, line_tests, lines_tests, instance_tests, node_tests, misfit}
 use Rattle.lus_meaning.specs.BooleanRules.{IsBooleanExpression, IsBooleanItem, IsBooleanNode, IsBooleanChecked}
 use Rattle.lus_meaning.proofs.Lists.{both_parts}
 use Rattle.lus_meaning.proofs.Exists.{length_mapped}
 use Rattle.lus_meaning.proofs.BooleanNode.{of_boolean_item, boolean_equations, boolean_instance}
 use Rattle.lus_meaning.proofs.BooleanFirsts.{boolean_firsts}
-use Rattle.trace_replay.specs.Fitting.{last_pre, last_pre_in, is_left, line_need, takes_flag, flags_misfit, need_misfit, flag_line_misfit, flag_lines_misfit, is_given, are_names_given, flag_misfit}
+use Rattle.trace_replay.specs.Fitting.{last_pre, last_pre_in, is_left, line_need, takes_flag, flags_misfit, need_misfit, flag_line_misfit, or_else, own_misfit, are_listed, body_misfit, flag_misfit}
 
 -- ---- the last number of a `pre`
 
@@ -77,42 +77,45 @@ or_none : (o : Option (ℕ × Bool)) → or_need o None ≡ o
 or_none (Some x) = refl
 or_none None = refl
 
-abbrev line_at : List ℕ → Subject → List Value → Line
-line_at path s us = record { path = path; subject = s; values = us }
-
-spot_append : (xs ys : List Listable) (l : Line) → told (spot_of (xs ++ ys) l) ≡ or_need (told (spot_of xs l)) (told (spot_of ys l))
-spot_append [] ys l = refl
-spot_append (x ∷ xs) ys l = go (same_place x.path x.subject l.path l.subject) (spot_append xs ys l)
+told_append : (xs ys : List Listable) (path : List ℕ) (s : Subject) → told (listable_at (xs ++ ys) path s) ≡ or_need (told (listable_at xs path s)) (told (listable_at ys path s))
+told_append [] ys path s = refl
+told_append (x ∷ xs) ys path s = go (same_place x.path x.subject path s) (told_append xs ys path s)
   where
-    go : (b : Bool) → told (spot_of (xs ++ ys) l) ≡ or_need (told (spot_of xs l)) (told (spot_of ys l)) → told (cond b (Some x) (spot_of (xs ++ ys) l)) ≡ or_need (told (cond b (Some x) (spot_of xs l))) (told (spot_of ys l))
+    go : (b : Bool) → told (listable_at (xs ++ ys) path s) ≡ or_need (told (listable_at xs path s)) (told (listable_at ys path s))
+        → told (cond b (Some x) (listable_at (xs ++ ys) path s)) ≡ or_need (told (cond b (Some x) (listable_at xs path s))) (told (listable_at ys path s))
     go true h = refl
     go false h = h
 
-named_far : (n : ℕ) (b : Bool) (vs : List Variable) (k : ℕ) (ks : List ℕ) (s : Subject) (us : List Value) → told (spot_of (named_spots [] n b vs) (line_at (k ∷ ks) s us)) ≡ None
-named_far n b [] k ks s us = refl
-named_far n b (v ∷ vs) k ks s us = named_far n b vs k ks s us
+named_far : (n : ℕ) (b : Bool) (vs : List Variable) (k : ℕ) (ks : List ℕ) (s : Subject) → told (listable_at (listable_names [] n b vs) (k ∷ ks) s) ≡ None
+named_far n b [] k ks s = refl
+named_far n b (v ∷ vs) k ks s = named_far n b vs k ks s
 
-firsts_far : (j : ℕ) (ss : List Sort) (k : ℕ) (ks : List ℕ) (s : Subject) (us : List Value) → told (spot_of (first_spots [] j ss) (line_at (k ∷ ks) s us)) ≡ None
-firsts_far j [] k ks s us = refl
-firsts_far j (o ∷ ss) k ks s us = firsts_far (suc j) ss k ks s us
+firsts_far : (j : ℕ) (ss : List Sort) (k : ℕ) (ks : List ℕ) (s : Subject) → told (listable_at (listable_firsts [] j ss) (k ∷ ks) s) ≡ None
+firsts_far j [] k ks s = refl
+firsts_far j (o ∷ ss) k ks s = firsts_far (suc j) ss k ks s
 
-named_first : (n : ℕ) (b : Bool) (vs : List Variable) (k : ℕ) (us : List Value) → told (spot_of (named_spots [] n b vs) (line_at [] (of_first k) us)) ≡ None
-named_first n b [] k us = refl
-named_first n b (v ∷ vs) k us = named_first n b vs k us
+named_first : (n : ℕ) (b : Bool) (vs : List Variable) (k : ℕ) → told (listable_at (listable_names [] n b vs) [] (of_first k)) ≡ None
+named_first n b [] k = refl
+named_first n b (v ∷ vs) k = named_first n b vs k
 
-firsts_name : (j : ℕ) (ss : List Sort) (x : Name) (us : List Value) → told (spot_of (first_spots [] j ss) (line_at [] (of_name x) us)) ≡ None
-firsts_name j [] x us = refl
-firsts_name j (o ∷ ss) x us = firsts_name (suc j) ss x us
+firsts_name : (j : ℕ) (ss : List Sort) (x : Name) → told (listable_at (listable_firsts [] j ss) [] (of_name x)) ≡ None
+firsts_name j [] x = refl
+firsts_name j (o ∷ ss) x = firsts_name (suc j) ss x
 
 bytes_back : (xs ys : List ℕ) → bytes_eq xs ys ≡ bytes_eq ys xs
 bytes_back xs ys = same_from_decides (bytes_eq xs ys) (bytes_eq ys xs) (bytes_eq-Decides xs ys) (λ h. sym ((bytes_eq-Decides ys xs).0 h), λ e. (bytes_eq-Decides ys xs).1 (sym e))
 
-named_name : (n : ℕ) (b : Bool) (vs : List Variable) (x : Name) (us : List Value) → told (spot_of (named_spots [] n b vs) (line_at [] (of_name x) us)) ≡ cond (named_in x (names_of vs)) (Some (n, b)) None
-named_name n b [] x us = refl
-named_name n b (v ∷ vs) x us = ap (λ c. told (cond c (Some (record { path = []; subject = of_name v.name.text; sort = v.sort; count = n; needed = b })) (spot_of (named_spots [] n b vs) (line_at [] (of_name x) us)))) (bytes_back v.name.text x) ∙ go (bytes_eq x v.name.text) (named_name n b vs x us)
+abbrev named_as : ℕ → Bool → Variable → Listable
+named_as n b v = record { path = []; subject = of_name v.name.text; sort = v.sort; count = n; needed = b }
+
+named_name : (n : ℕ) (b : Bool) (vs : List Variable) (x : Name) → told (listable_at (listable_names [] n b vs) [] (of_name x)) ≡ cond (named_in x (names_of vs)) (Some (n, b)) None
+named_name n b [] x = refl
+named_name n b (v ∷ vs) x =
+    ap (λ c. told (cond c (Some (named_as n b v)) (listable_at (listable_names [] n b vs) [] (of_name x)))) (bytes_back v.name.text x)
+    ∙ go (bytes_eq x v.name.text) (named_name n b vs x)
   where
-    go : (c : Bool) → told (spot_of (named_spots [] n b vs) (line_at [] (of_name x) us)) ≡ cond (named_in x (names_of vs)) (Some (n, b)) None
-        → told (cond c (Some (record { path = []; subject = of_name v.name.text; sort = v.sort; count = n; needed = b })) (spot_of (named_spots [] n b vs) (line_at [] (of_name x) us))) ≡ cond (c || named_in x (names_of vs)) (Some (n, b)) None
+    go : (c : Bool) → told (listable_at (listable_names [] n b vs) [] (of_name x)) ≡ cond (named_in x (names_of vs)) (Some (n, b)) None
+        → told (cond c (Some (named_as n b v)) (listable_at (listable_names [] n b vs) [] (of_name x))) ≡ cond (c || named_in x (names_of vs)) (Some (n, b)) None
     go true h = refl
     go false h = h
 
@@ -125,12 +128,15 @@ here j k n e = grind (arith, e)
 later : (j k n : ℕ) → (j == k) ≡ false → (nat_le (suc j) k && nat_lt k (suc j + n)) ≡ (nat_le j k && nat_lt k (j + suc n))
 later j k n e = grind (arith, e)
 
-firsts_first : (j : ℕ) (ss : List Sort) (k : ℕ) (us : List Value) → told (spot_of (first_spots [] j ss) (line_at [] (of_first k) us)) ≡ cond (nat_le j k && nat_lt k (j + length ss)) (Some (1, false)) None
-firsts_first j [] k us = ap (λ c. cond c (Some (1, false)) None) (sym (none_after j k))
-firsts_first j (o ∷ ss) k us = go (j == k) refl (firsts_first (suc j) ss k us)
+abbrev first_as : ℕ → Sort → Listable
+first_as j o = record { path = []; subject = of_first j; sort = o; count = 1; needed = false }
+
+firsts_first : (j : ℕ) (ss : List Sort) (k : ℕ) → told (listable_at (listable_firsts [] j ss) [] (of_first k)) ≡ cond (nat_le j k && nat_lt k (j + length ss)) (Some (1, false)) None
+firsts_first j [] k = ap (λ c. cond c (Some (1, false)) None) (sym (none_after j k))
+firsts_first j (o ∷ ss) k = go (j == k) refl (firsts_first (suc j) ss k)
   where
-    go : (c : Bool) → (j == k) ≡ c → told (spot_of (first_spots [] (suc j) ss) (line_at [] (of_first k) us)) ≡ cond (nat_le (suc j) k && nat_lt k (suc j + length ss)) (Some (1, false)) None
-        → told (cond c (Some (record { path = []; subject = of_first j; sort = o; count = 1; needed = false })) (spot_of (first_spots [] (suc j) ss) (line_at [] (of_first k) us))) ≡ cond (nat_le j k && nat_lt k (j + suc (length ss))) (Some (1, false)) None
+    go : (c : Bool) → (j == k) ≡ c → told (listable_at (listable_firsts [] (suc j) ss) [] (of_first k)) ≡ cond (nat_le (suc j) k && nat_lt k (suc j + length ss)) (Some (1, false)) None
+        → told (cond c (Some (first_as j o)) (listable_at (listable_firsts [] (suc j) ss) [] (of_first k))) ≡ cond (nat_le j k && nat_lt k (j + suc (length ss))) (Some (1, false)) None
     go true e h = ap (λ c. cond c (Some (1, false)) None) (sym (here j k (length ss) e))
     go false e h = h ∙ ap (λ c. cond c (Some (1, false)) None) (later j k (length ss) e)
 
@@ -192,16 +198,18 @@ module _ (d : Component) (node : IsBooleanNode d) (numbered : IsNumbered d.body)
 
   module _ (n : ℕ) where
     abbrev of_inputs : List Listable
-    of_inputs = named_spots [] n true d.inputs
+    of_inputs = listable_names [] n true d.inputs
 
     abbrev of_free : List Listable
-    of_free = named_spots [] n false (free_names d)
+    of_free = listable_names [] n false (free_names d)
 
     abbrev of_firsts : List Listable
-    of_firsts = first_spots [] 1 (first_sorts one)
+    of_firsts = listable_firsts [] 1 (first_sorts one)
 
-    parts : (l : Line) → told (spot_of (spots n one) l) ≡ or_need (told (spot_of of_inputs l)) (or_need (told (spot_of of_free l)) (or_need (told (spot_of of_firsts l)) None))
-    parts l = spot_append of_inputs (of_free ++ (of_firsts ++ [])) l ∙ ap (or_need (told (spot_of of_inputs l))) (spot_append of_free (of_firsts ++ []) l ∙ ap (or_need (told (spot_of of_free l))) (spot_append of_firsts [] l))
+    parts : (path : List ℕ) (s : Subject) → told (listable_at (listable n one) path s) ≡ or_need (told (listable_at of_inputs path s)) (or_need (told (listable_at of_free path s)) (or_need (told (listable_at of_firsts path s)) None))
+    parts path s =
+        told_append of_inputs (of_free ++ (of_firsts ++ [])) path s
+        ∙ ap (or_need (told (listable_at of_inputs path s))) (told_append of_free (of_firsts ++ []) path s ∙ ap (or_need (told (listable_at of_free path s))) (told_append of_firsts [] path s))
 
     three : (a b c u v w : Option (ℕ × Bool)) → a ≡ u → b ≡ v → c ≡ w → or_need a (or_need b (or_need c None)) ≡ or_need u (or_need v (or_need w None))
     three a b c u v w e f g = cc
@@ -214,34 +222,34 @@ module _ (d : Component) (node : IsBooleanNode d) (numbered : IsNumbered d.body)
     up_to_last : (k m : ℕ) → (nat_le 1 k && nat_lt k (1 + m)) ≡ (nat_le 1 k && nat_le k m)
     up_to_last k m = grind arith
 
-    pub spot_told : (path : List ℕ) (s : Subject) (us : List Value) → told (spot_of (spots n one) (line_at path s us)) ≡ line_need d last n path s
-    spot_told (k ∷ ks) s us = parts (line_at (k ∷ ks) s us) ∙ three _ _ _ None None None (named_far n true d.inputs k ks s us) (named_far n false (free_names d) k ks s us) (firsts_far 1 (first_sorts one) k ks s us)
-    spot_told [] (of_first k) us =
-        parts (line_at [] (of_first k) us)
-        ∙ three _ _ _ None None _ (named_first n true d.inputs k us) (named_first n false (free_names d) k us) (firsts_first 1 (first_sorts one) k us)
+    pub need_told : (path : List ℕ) (s : Subject) → told (listable_at (listable n one) path s) ≡ line_need d last n path s
+    need_told (k ∷ ks) s = parts (k ∷ ks) s ∙ three _ _ _ None None None (named_far n true d.inputs k ks s) (named_far n false (free_names d) k ks s) (firsts_far 1 (first_sorts one) k ks s)
+    need_told [] (of_first k) =
+        parts [] (of_first k)
+        ∙ three _ _ _ None None _ (named_first n true d.inputs k) (named_first n false (free_names d) k) (firsts_first 1 (first_sorts one) k)
         ∙ or_none (cond (nat_le 1 k && nat_lt k (1 + length (first_sorts one))) (Some (1, false)) None)
         ∙ ap (λ c. cond c (Some (1, false)) None) (up_to_last k (length (first_sorts one)))
         ∙ ap (λ (m : ℕ). cond (nat_le 1 k && nat_le k m) (Some (1, false)) None) as_many_firsts
-    spot_told [] (of_name x) us =
-        parts (line_at [] (of_name x) us)
-        ∙ three _ _ _ _ _ None (named_name n true d.inputs x us) (named_name n false (free_names d) x us) (firsts_name 1 (first_sorts one) x us)
+    need_told [] (of_name x) =
+        parts [] (of_name x)
+        ∙ three _ _ _ _ _ None (named_name n true d.inputs x) (named_name n false (free_names d) x) (firsts_name 1 (first_sorts one) x)
         ∙ names_joined (named_in x (names_of d.inputs)) (named_in x (names_of (free_names d)))
         ∙ ap (λ c. cond (named_in x (names_of d.inputs)) (Some (n, true)) (cond c (Some (n, false)) None)) (free_named x)
 
 -- ---- all are truth values
 
-abbrev AreFlagSpots : List Listable → Type 0
-AreFlagSpots ss = AllByRecursion (λ s. s.sort ≡ Flags) ss
+abbrev pub AreFlags : List Listable → Type 0
+AreFlags ss = AllByRecursion (λ s. s.sort ≡ Flags) ss
 
-named_flags : (n : ℕ) (b : Bool) (vs : List Variable) → AllByRecursion IsFlag vs → AreFlagSpots (named_spots [] n b vs)
+named_flags : (n : ℕ) (b : Bool) (vs : List Variable) → AllByRecursion IsFlag vs → AreFlags (listable_names [] n b vs)
 named_flags n b [] h = tt
 named_flags n b (v ∷ vs) h = (h.0.sort, named_flags n b vs h.1)
 
-first_flags : (j : ℕ) (ks : List ℕ) → AreFlagSpots (first_spots [] j (map (λ _. Flags) ks))
+first_flags : (j : ℕ) (ks : List ℕ) → AreFlags (listable_firsts [] j (map (λ _. Flags) ks))
 first_flags j [] = tt
 first_flags j (k ∷ ks) = (refl, first_flags (suc j) ks)
 
-pub kept_flags : (d : Component) (vs : List Variable) → AllByRecursion IsFlag vs → AllByRecursion IsFlag (kept d vs)
+kept_flags : (d : Component) (vs : List Variable) → AllByRecursion IsFlag vs → AllByRecursion IsFlag (kept d vs)
 kept_flags d [] h = tt
 kept_flags d (v ∷ vs) h = go (is_defined d v.name.text) (kept_flags d vs h.1)
   where
@@ -249,85 +257,88 @@ kept_flags d (v ∷ vs) h = go (is_defined d v.name.text) (kept_flags d vs h.1)
     go true r = r
     go false r = (h.0, r)
 
-value_is : (s : Listable) → s.sort ≡ Flags → (left : ℕ) (vs : List Value) (ps : List Pos) → value_misfit s left vs ps ≡ flags_misfit s.needed left vs ps
+turn : (b : Bool) (o : Option Pos) (p : Pos) → cond (not b) o (Some p) ≡ cond b (Some p) o
+turn true o p = refl
+turn false o p = refl
+
+failed_append : (ts us : List Test) → first_failed (ts ++ us) ≡ or_else (first_failed ts) (first_failed us)
+failed_append [] us = refl
+failed_append (t ∷ ts) us = go t.1 (failed_append ts us)
+  where
+    go : (b : Bool) → first_failed (ts ++ us) ≡ or_else (first_failed ts) (first_failed us) → cond b (first_failed (ts ++ us)) (Some t.0) ≡ or_else (cond b (first_failed ts) (Some t.0)) (first_failed us)
+    go true h = h
+    go false h = refl
+
+values_are : (s : Listable) → s.sort ≡ Flags → (left : ℕ) (vs : List PlacedValue) → first_failed (value_tests s left vs) ≡ flags_misfit s.needed left vs
 unfolding flags_misfit
-value_is s f left [] ps = refl
-value_is s f left (v ∷ vs) [] = refl
-value_is s f zero (v ∷ vs) (p ∷ ps) = refl
-value_is s f (suc left) (v ∷ vs) (p ∷ ps) =
+values_are s f left [] = refl
+values_are s f zero (v ∷ vs) = refl
+values_are s f (suc left) (v ∷ vs) =
     let a : (suc left == 0) ≡ false = grind arith in
     let b : suc left - 1 ≡ left = omega arith in
-    ap (λ (z : Sort). cond (has_sort z v || (is_absent v && not s.needed)) (value_misfit s left vs ps) (Some p)) f ∙ ap (λ r. cond (takes_flag s.needed v) r (Some p)) (value_is s f left vs ps)
-    ∙ sym (ap (λ c. cond c (Some p) (cond (takes_flag s.needed v) (flags_misfit s.needed (suc left - 1) vs ps) (Some p))) a ∙ ap (λ (m : ℕ). cond (takes_flag s.needed v) (flags_misfit s.needed m vs ps) (Some p)) b)
+    ap (λ (z : Sort). cond (is_of_sort z v.value || (is_absent v.value && not s.needed)) (first_failed (value_tests s left vs)) (Some v.at)) f
+    ∙ ap (λ r. cond (takes_flag s.needed v.value) r (Some v.at)) (values_are s f left vs)
+    ∙ sym (ap (λ c. cond c (Some v.at) (cond (takes_flag s.needed v.value) (flags_misfit s.needed (suc left - 1) vs) (Some v.at))) a
+    ∙ ap (λ (m : ℕ). cond (takes_flag s.needed v.value) (flags_misfit s.needed m vs) (Some v.at)) b)
 
-spot_is : (ss : List Listable) → AreFlagSpots ss → (l : PlacedLine) → spot_misfit (spot_of ss l.line) l ≡ need_misfit (told (spot_of ss l.line)) l
-spot_is [] h l = refl
-spot_is (s ∷ ss) h l = go (same_place s.path s.subject l.line.path l.line.subject) (spot_is ss h.1 l)
+enough : (m n : ℕ) (o : Option Pos) (p : Pos) → cond (nat_le m n) o (Some p) ≡ cond (nat_lt n m) (Some p) o
+enough m n o p = let e : nat_le m n ≡ not (nat_lt n m) = grind arith in ap (λ b. cond b o (Some p)) e ∙ turn (nat_lt n m) o p
+
+-- what is asked of a line's words by what it lists
+taken_is : (ss : List Listable) → AreFlags ss → (path : List ℕ) (s : Subject) (l : PlacedLine) → first_failed (taken_tests (listable_at ss path s) l) ≡ need_misfit (told (listable_at ss path s)) l
+taken_is [] h path s l = refl
+taken_is (x ∷ ss) h path s l = go (same_place x.path x.subject path s) (taken_is ss h.1 path s l)
   where
-    go : (b : Bool) → spot_misfit (spot_of ss l.line) l ≡ need_misfit (told (spot_of ss l.line)) l → spot_misfit (cond b (Some s) (spot_of ss l.line)) l ≡ need_misfit (told (cond b (Some s) (spot_of ss l.line))) l
-    go true r = ap (λ o. cond (nat_lt (length l.line.values) s.count) (Some l.at) o) (value_is s h.0 s.count l.line.values l.places)
+    go : (b : Bool) → first_failed (taken_tests (listable_at ss path s) l) ≡ need_misfit (told (listable_at ss path s)) l
+        → first_failed (taken_tests (cond b (Some x) (listable_at ss path s)) l) ≡ need_misfit (told (cond b (Some x) (listable_at ss path s))) l
+    go true r =
+        enough x.count (length l.values) (first_failed (value_tests x x.count l.values)) l.at
+        ∙ ap (λ o. cond (nat_lt (length l.values) x.count) (Some l.at) o) (values_are x h.0 x.count l.values)
     go false r = r
 
 -- ---- which have to be there
 
-abbrev AreFree : List Listable → Type 0
-AreFree ss = AllByRecursion (λ s. s.needed ≡ false) ss
-
-named_free : (n : ℕ) (vs : List Variable) → AreFree (named_spots [] n false vs)
-named_free n [] = tt
-named_free n (v ∷ vs) = (refl, named_free n vs)
-
-first_free : (j : ℕ) (ss : List Sort) → AreFree (first_spots [] j ss)
-first_free j [] = tt
-first_free j (s ∷ ss) = (refl, first_free (suc j) ss)
-
-free_given : (ss : List Listable) (ls : List PlacedLine) → AreFree ss → are_given ss ls ≡ true
-free_given [] ls h = refl
-free_given (s ∷ ss) ls h = rw (h.0, free_given ss ls h.1) refl
-
-inputs_given : (n : ℕ) (vs : List Variable) (ss : List Listable) (ls : List PlacedLine) → AreFree ss → are_given (named_spots [] n true vs ++ ss) ls ≡ are_names_given (names_of vs) ls
-inputs_given n [] ss ls h = free_given ss ls h
-inputs_given n (v ∷ vs) ss ls h = ap (λ c. is_given v.name.text ls && c) (inputs_given n vs ss ls h)
+given_is : (ls : List Line) (vs : List Variable) → list_all (is_given ls) vs ≡ are_listed (names_of vs) ls
+given_is ls [] = refl
+given_is ls (v ∷ vs) = ap (λ b. is_given ls v && b) (given_is ls vs)
 
 -- ---- the whole trace
 
 module _ (d : Component) (node : IsBooleanNode d) (numbered : IsNumbered d.body) (n : ℕ) where
-  all_flags : AreFlagSpots (spots n (one d node numbered))
+  pub all_flags : AreFlags (listable n (one d node numbered))
   all_flags =
-      both_parts (λ s. s.sort ≡ Flags) (named_spots [] n true d.inputs) _ (named_flags n true d.inputs node.inputs)
-      (both_parts (λ s. s.sort ≡ Flags) (named_spots [] n false (free_names d)) _ (named_flags n false (free_names d) (kept_flags d (d.outputs ++ d.locals) (both_parts IsFlag d.outputs d.locals node.outputs node.locals)))
-      (both_parts (λ s. s.sort ≡ Flags) (first_spots [] 1 (first_sorts (one d node numbered))) [] (subst (λ (ss : List Sort). AreFlagSpots (first_spots [] 1 ss)) (sym (boolean_firsts d node numbered)) (first_flags 1 (body_pres d.body))) tt))
+      both_parts (λ s. s.sort ≡ Flags) (listable_names [] n true d.inputs) _ (named_flags n true d.inputs node.inputs)
+      (both_parts (λ s. s.sort ≡ Flags) (listable_names [] n false (free_names d)) _ (named_flags n false (free_names d) (kept_flags d (d.outputs ++ d.locals) (both_parts IsFlag d.outputs d.locals node.outputs node.locals)))
+      (both_parts (λ s. s.sort ≡ Flags) (listable_firsts [] 1 (first_sorts (one d node numbered))) [] (subst (λ (ss : List Sort). AreFlags (listable_firsts [] 1 ss)) (sym (boolean_firsts d node numbered)) (first_flags 1 (body_pres d.body))) tt))
 
-  line_is : (before : List PlacedLine) (l : PlacedLine) → line_misfit (spots n (one d node numbered)) before l ≡ flag_line_misfit d (last_pre_in 0 d.body) n before l
-  line_is before l = ap (λ o. cond (is_listed_in before l.line) (Some l.at) o)
-      (spot_is (spots n (one d node numbered)) all_flags l ∙ ap (λ o. need_misfit o l) (spot_told d node numbered n l.line.path l.line.subject l.line.values))
+  abbrev all : List Listable
+  all = listable n (one d node numbered)
 
-  lines_are : (before ls : List PlacedLine) → lines_misfit (spots n (one d node numbered)) before ls ≡ flag_lines_misfit d (last_pre_in 0 d.body) n before ls
+  line_is : (before : List Line) (l : PlacedLine) → first_failed (line_tests all before l) ≡ flag_line_misfit d (last_pre_in 0 d.body) n before l
+  line_is before l =
+      turn (is_listed before l.path l.subject) (first_failed (taken_tests (listable_at all l.path l.subject) l)) l.at
+      ∙ ap (λ o. cond (is_listed before l.path l.subject) (Some l.at) o)
+      (taken_is all all_flags l.path l.subject l ∙ ap (λ o. need_misfit o l) (need_told d node numbered n l.path l.subject))
+
+  lines_are : (before : List Line) (ls : List PlacedLine) → first_failed (lines_tests all before ls) ≡ own_misfit d n before ls
   lines_are before [] = refl
   lines_are before (l ∷ ls) =
-      ap (λ o. or_else o (lines_misfit (spots n (one d node numbered)) (before ++ l ∷ []) ls)) (line_is before l)
-      ∙ ap (or_else (flag_line_misfit d (last_pre_in 0 d.body) n before l)) (lines_are (before ++ l ∷ []) ls)
+      failed_append (line_tests all before l) (lines_tests all (before ++ bare_line l ∷ []) ls)
+      ∙ ap (λ o. or_else o (first_failed (lines_tests all (before ++ bare_line l ∷ []) ls))) (line_is before l)
+      ∙ ap (or_else (flag_line_misfit d (last_pre_in 0 d.body) n before l)) (lines_are (before ++ bare_line l ∷ []) ls)
 
-  all_given : (ls : List PlacedLine) → are_given (spots n (one d node numbered)) ls ≡ are_names_given (names_of d.inputs) ls
-  all_given ls = inputs_given n d.inputs _ ls
-      (both_parts (λ s. s.needed ≡ false) (named_spots [] n false (free_names d)) _ (named_free n (free_names d))
-      (both_parts (λ s. s.needed ≡ false) (first_spots [] 1 (first_sorts (one d node numbered))) [] (first_free 1 (first_sorts (one d node numbered))) tt))
-
-instance_is : (d : Component) → IsBooleanNode d → IsNumbered d.body → (t : Listing) → instance_misfit (instance d [] no_instances) t
-    ≡ cond (nat_le 1 t.length && nat_le t.length 1001)
-    (or_else (flag_lines_misfit d (last_pre_in 0 d.body) t.length [] t.lines) (cond (are_names_given (names_of d.inputs) t.lines) None (Some t.end_at)))
-    (Some t.length_at)
+instance_is : (d : Component) → IsBooleanNode d → IsNumbered d.body → (t : Listing) → first_failed (instance_tests (instance d [] no_instances) t)
+    ≡ cond (nat_le 1 t.length && nat_le t.length 1001) (body_misfit d t) (Some t.length_at)
 instance_is d node numbered t = ap (λ o. cond (nat_le 1 t.length && nat_le t.length 1001) o (Some t.length_at))
-    (ap (λ o. or_else o (given_misfit (spots t.length (instance d [] no_instances)) t)) (lines_are d node numbered t.length [] t.lines)
-    ∙ ap (λ c. or_else (flag_lines_misfit d (last_pre_in 0 d.body) t.length [] t.lines) (cond c None (Some t.end_at))) (all_given d node numbered t.length t.lines))
+    (failed_append (lines_tests (listable t.length (instance d [] no_instances)) [] t.lines) ((t.end_at, list_all (is_given (lines_of t)) d.inputs) ∷ [])
+    ∙ ap (λ o. or_else o (cond (list_all (is_given (lines_of t)) d.inputs) None (Some t.end_at))) (lines_are d node numbered t.length [] t.lines)
+    ∙ ap (λ c. or_else (own_misfit d t.length [] t.lines) (cond c None (Some t.end_at))) (given_is (lines_of t) d.inputs))
 
 -- the first word of a trace that doesn't fit a program of one node
 pub misfit_is : (p : Program) (d : Component) → IsBooleanChecked p d → (t : Listing) → misfit p t ≡ flag_misfit d t
 misfit_is p d h t = ap (λ (q : Program). misfit q t) h.one_node ∙ go (bytes_eq t.node d.name.text)
   where
-    go : (c : Bool) → node_misfit (declared_node d ∷ []) (cond c (Some d) None) t
-        ≡ cond c (cond (nat_le 1 t.length && nat_le t.length 1001)
-        (or_else (flag_lines_misfit d (last_pre_in 0 d.body) t.length [] t.lines) (cond (are_names_given (names_of d.inputs) t.lines) None (Some t.end_at)))
-        (Some t.length_at)) (Some t.node_at)
-    go true = ap (λ (i : Instance). instance_misfit i t) (boolean_instance d h.rules.shape) ∙ instance_is d h.rules.shape h.numbered t
+    go : (c : Bool) → first_failed (node_tests (declared_node d ∷ []) (cond c (Some d) None) t)
+        ≡ cond c (cond (nat_le 1 t.length && nat_le t.length 1001) (body_misfit d t) (Some t.length_at)) (Some t.node_at)
+    go true = ap (λ (i : Instance). first_failed (instance_tests i t)) (boolean_instance d h.rules.shape) ∙ instance_is d h.rules.shape h.numbered t
     go false = refl

@@ -1,22 +1,22 @@
 -- A text is one trace, or has one first misfit.
-use Rattle.std.proofs.Common.{◌≡◌, ℕ, suc, ◌⊎◌, inl, inr, true, List, [], ◌∷◌, length, map, codes, Result, Ok, Err, refl, sym, ap, ◌∙◌, subst}
+use Rattle.std.proofs.Common.{◌≡◌, ℕ, ◌⊎◌, inl, inr, true, List, [], ◌∷◌, map, codes, Result, Ok, Err, refl, sym, ap, ◌∙◌, subst}
 use Rattle.lus_tree.specs.declared.place.Pos.{Pos}
 use Rattle.lus_meaning.specs.Value.{Value}
 use Rattle.lus_meaning.specs.Trace.{Subject}
 use Rattle.std.specs.Prelude.{IfOk, IfErr}
-use Rattle.std.specs.List.{AllByRecursion}
 use Rattle.lus_meaning.specs.declared.trace.Trace.{Trace}
-use Rattle.lus_meaning.specs.TraceView.{PlacedLine, Listing, trace_view}
+use Rattle.lus_meaning.specs.TraceView.{PlacedValue, PlacedLine, Listing, trace_view}
 use Rattle.trace_replay.specs.declared.fault.TraceFault.{TraceFault}
 use Rattle.trace_replay.specs.declared.fault.TraceFault.TheVariants as faults
 use Rattle.trace_replay.specs.Cutting.{Word, Row, filled, rows_of, end_of}
-use Rattle.trace_replay.specs.Words.{is_name, IsNumber, IsPlace, IsValue}
-use Rattle.trace_replay.specs.Traces.{texts, places_of, ArePlaced, IsOpening, AreValues, IsListed, IsClosing, AreListed, AreTrace, IsTraceText, Wanted, a_value, MisfitIn, AreFit, opening, listed, MisfitBehind, MisfitBelow, MisfitAt, FirstMisfit, Refuses}
+use Rattle.lus_lexer.specs.Names.{is_name}
+use Rattle.trace_replay.specs.Words.{IsNumber, IsPlace, IsValue}
+use Rattle.trace_replay.specs.Traces.{texts, IsOpening, AreValues, IsListed, IsClosing, AreListed, AreTrace, IsTraceText, Wanted, a_value, MisfitIn, AreFit, opening, listed, MisfitBehind, MisfitBelow, MisfitAt, FirstMisfit, Refuses}
 use Rattle.trace_replay.specs.Laws.{OneTrace, TraceOrMisfit, NeverBoth, OneMisfit}
 use Rattle.trace_replay.specs.Reading.{Gives, reading}
 use Rattle.trace_replay.proofs.Numbers.{some_is, small_complete, value_complete}
-use Rattle.trace_replay.proofs.Places.{place_complete}
-use Rattle.trace_replay.proofs.Rows.{Tells, reading_tells}
+use Rattle.trace_replay.proofs.Addresses.{place_complete}
+use Rattle.trace_replay.proofs.Told.{Tells, reading_tells}
 
 fit_or_misfit : (ks : List Wanted) (ws : List Word) (e p : Pos) → AreFit ks ws → MisfitIn ks ws e p → ⊥
 fit_or_misfit [] [] e p f m = m
@@ -50,14 +50,14 @@ opening_fit r node p n q i = go r.words i.shape
         (a, (subst (λ (x : List ℕ). is_name x ≡ true) (sym b) i.name, ((n, subst (λ (x : List ℕ). IsNumber x n) (sym d) i.number), tt)))
     go (w ∷ v ∷ c ∷ x ∷ xs) h = absurd cc
 
-values_fit : (ws : List Word) (vs : List Value) → AreValues ws vs → AreFit (map (λ _. a_value) ws) ws
+values_fit : (ws : List Word) (vs : List PlacedValue) → AreValues ws vs → AreFit (map (λ _. a_value) ws) ws
 values_fit [] [] h = tt
 values_fit [] (v ∷ vs) h = absurd h
 values_fit (w ∷ ws) [] h = absurd h
-values_fit (w ∷ ws) (v ∷ vs) h = ((v, h.0), values_fit ws vs h.1)
+values_fit (w ∷ ws) (v ∷ vs) h = ((v.value, h.0), values_fit ws vs h.2)
 
 listed_fit : (r : Row) (l : PlacedLine) → IsListed r l → AreFit (listed r.words) r.words
-listed_fit r l i = subst (λ ws. AreFit (listed ws) ws) (sym i.shape) ((l.line.path, l.line.subject, i.is_place), values_fit (i.first ∷ i.others) l.line.values i.values)
+listed_fit r l i = subst (λ ws. AreFit (listed ws) ws) (sym i.shape) ((l.path, l.subject, i.is_place), values_fit (i.first ∷ i.others) l.values i.values)
 
 not_closing : (r : Row) (l : PlacedLine) → IsListed r l → IsClosing r → ⊥
 not_closing r l i c =
@@ -132,13 +132,16 @@ place_same w x y s t a b =
     let e = some_is (x, s) (y, t) (sym (place_complete w x s a) ∙ place_complete w y t b) in
     (ap (λ z. z.0) e, ap (λ z. z.1) e)
 
-values_same : (ws : List Word) (us vs : List Value) → AreValues ws us → AreValues ws vs → us ≡ vs
+placed_is : (u v : Value) (p q : Pos) → u ≡ v → p ≡ q → ◌≡◌ {A = PlacedValue} (record { value = u; at = p }) (record { value = v; at = q })
+placed_is u v p q e f = cc
+
+values_same : (ws : List Word) (us vs : List PlacedValue) → AreValues ws us → AreValues ws vs → us ≡ vs
 values_same [] [] [] a b = refl
 values_same [] (u ∷ us) vs a b = absurd a
 values_same [] [] (v ∷ vs) a b = absurd b
 values_same (w ∷ ws) [] vs a b = absurd a
 values_same (w ∷ ws) (u ∷ us) [] a b = absurd b
-values_same (w ∷ ws) (u ∷ us) (v ∷ vs) a b = let e = value_same w.text u v a.0 b.0 in let f = values_same ws us vs a.1 b.1 in cc
+values_same (w ∷ ws) (u ∷ us) (v ∷ vs) a b = let e : u ≡ v = placed_is u.value v.value u.at v.at (value_same w.text u.value v.value a.0 b.0) (a.1 ∙ sym b.1) in let f : us ≡ vs = values_same ws us vs a.2 b.2 in cc
 
 opening_same : (r : Row) (x y : List ℕ) (p q : Pos) (m n : ℕ) (u v : Pos) → IsOpening r x p m u → IsOpening r y q n v → (x ≡ y) × (p ≡ q) × (m ≡ n) × (u ≡ v)
 opening_same r x y p q m n u v a b =
@@ -150,18 +153,18 @@ opening_same r x y p q m n u v a b =
     let h : u ≡ v = cc in
     (e, g, number_same b.count m n (subst (λ (w : List ℕ). IsNumber w m) f a.number) b.number, h)
 
-line_is : (p q : Pos) (x y : List ℕ) (s t : Subject) (us vs : List Value) (ps qs : List Pos) → p ≡ q → x ≡ y → s ≡ t → us ≡ vs → ps ≡ qs
-    → ◌≡◌ {A = PlacedLine} (record { at = p; line = record { path = x; subject = s; values = us }; places = ps }) (record { at = q; line = record { path = y; subject = t; values = vs }; places = qs })
-line_is p q x y s t us vs ps qs a b c d e = cc
+line_is : (p q : Pos) (x y : List ℕ) (s t : Subject) (us vs : List PlacedValue) → p ≡ q → x ≡ y → s ≡ t → us ≡ vs
+    → ◌≡◌ {A = PlacedLine} (record { at = p; path = x; subject = s; values = us }) (record { at = q; path = y; subject = t; values = vs })
+line_is p q x y s t us vs a b c d = cc
 
 listed_same : (r : Row) (k l : PlacedLine) → IsListed r k → IsListed r l → k ≡ l
 listed_same r k l a b =
     let s : a.place ∷ a.first ∷ a.others ≡ b.place ∷ b.first ∷ b.others = sym a.shape ∙ b.shape in
     let e : a.place ≡ b.place = cc in
     let f : a.first ∷ a.others ≡ b.first ∷ b.others = cc in
-    let p = place_same b.place.text k.line.path l.line.path k.line.subject l.line.subject (subst (λ (w : Word). IsPlace w.text k.line.path k.line.subject) e a.is_place) b.is_place in
-    let v = values_same (b.first ∷ b.others) k.line.values l.line.values (subst (λ (ws : List Word). AreValues ws k.line.values) f a.values) b.values in
-    line_is k.at l.at k.line.path l.line.path k.line.subject l.line.subject k.line.values l.line.values k.places l.places (a.at ∙ ap (λ (w : Word). w.at) e ∙ sym b.at) p.0 p.1 v (a.places ∙ ap places_of f ∙ sym b.places)
+    let p = place_same b.place.text k.path l.path k.subject l.subject (subst (λ (w : Word). IsPlace w.text k.path k.subject) e a.is_place) b.is_place in
+    let v = values_same (b.first ∷ b.others) k.values l.values (subst (λ (ws : List Word). AreValues ws k.values) f a.values) b.values in
+    line_is k.at l.at k.path l.path k.subject l.subject k.values l.values (a.at ∙ ap (λ (w : Word). w.at) e ∙ sym b.at) p.0 p.1 v
 
 lines_same : (rs : List Row) (ks ls : List PlacedLine) (p q : Pos) → AreListed rs ks p → AreListed rs ls q → (ks ≡ ls) × (p ≡ q)
 lines_same [] ks ls p q a b = absurd a
@@ -215,29 +218,6 @@ tells_as bytes r e = subst (λ (x : Result Listing Pos). Tells x (IsTraceText by
 pub is_found : (bytes : List ℕ) (r : Result Trace TraceFault) → Gives trace_view r (reading bytes) → IfOk r (λ t. IsTraceText bytes (trace_view t))
 is_found bytes (Ok t) g = tells_as bytes (Ok (trace_view t)) g
 is_found bytes (Err e) g = tt
-
--- ---- each value has a place
-
-as_many : (ws : List Word) (vs : List Value) → AreValues ws vs → length (places_of ws) ≡ length vs
-as_many [] [] h = refl
-as_many [] (v ∷ vs) h = absurd h
-as_many (w ∷ ws) [] h = absurd h
-as_many (w ∷ ws) (v ∷ vs) h = ap suc (as_many ws vs h.1)
-
-lines_placed : (rs : List Row) (ls : List PlacedLine) (e : Pos) → AreListed rs ls e → AllByRecursion (λ l. length l.places ≡ length l.line.values) ls
-lines_placed rs [] e a = tt
-lines_placed [] (l ∷ ls) e a = absurd a
-lines_placed (r ∷ rs) (l ∷ ls) e a =
-    let i = a.0 in
-    (ap length i.places ∙ as_many (i.first ∷ i.others) l.line.values i.values, lines_placed rs ls e a.1)
-
-rows_placed : (rs : List Row) (t : Listing) → AreTrace rs t → ArePlaced t
-rows_placed [] t a = absurd a
-rows_placed (r ∷ rs) t a = lines_placed rs t.lines t.end_at a.1
-
-pub is_placed : (bytes : List ℕ) (r : Result Trace TraceFault) → Gives trace_view r (reading bytes) → IfOk r (λ t. ArePlaced (trace_view t))
-is_placed bytes (Ok t) g = rows_placed (filled (rows_of bytes)) (trace_view t) (tells_as bytes (Ok (trace_view t)) g)
-is_placed bytes (Err e) g = tt
 
 pub is_refused : (bytes : List ℕ) (r : Result Trace TraceFault) → Gives trace_view r (reading bytes) → IfErr r (Refuses bytes)
 is_refused bytes (Ok t) g = tt

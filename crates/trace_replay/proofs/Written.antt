@@ -11,14 +11,15 @@ use Rattle.lus_lexer.specs.Tokens.{is_word}
 use Rattle.lus_tree.specs.declared.place.Pos.{Pos}
 use Rattle.lus_meaning.specs.Value.{Value, absent, flag, whole}
 use Rattle.lus_meaning.specs.Trace.{Subject, of_name, of_first, Line}
-use Rattle.lus_meaning.specs.TraceView.{PlacedLine, Listing}
+use Rattle.lus_meaning.specs.TraceView.{PlacedValue, PlacedLine, Listing, bare_values, bare_line}
 use Rattle.trace_replay.specs.Cutting.{Word, Row, cut, right, below, first_place, is_blank, begins_with_feed, rows_of, filled}
-use Rattle.trace_replay.specs.Words.{is_name, spelled, FitsSubject, FitsValue, subject_text, step_text, place_text, value_text}
+use Rattle.lus_lexer.specs.Names.{is_name}
+use Rattle.trace_replay.specs.Words.{spelled, FitsSubject, FitsValue, subject_text, step_text, place_text, value_text}
 use Rattle.trace_replay.specs.Traces.{texts, places_of, IsOpening, AreValues, IsListed, AreListed, AreTrace, item_text, line_text, trace_text, HasValues, FitsLine}
 use Rattle.trace_replay.specs.Laws.{ReadBack}
 use Rattle.trace_replay.specs.Reading.{Left, ends_word, word_length, word_of, rows_left, shift}
 use Rattle.trace_replay.proofs.Numbers.{and_left, and_right, both_true, some_is, digits_of_decimal}
-use Rattle.trace_replay.proofs.Names.{name_word, name_letter}
+use Rattle.trace_replay.proofs.AsciiNames.{name_word, name_letter}
 use Rattle.trace_replay.proofs.Cuts.{left_at, left_blank, left_word, rest_of}
 
 -- ---- words that no blank and no line end stands in
@@ -201,37 +202,48 @@ line_tail l rest =
     ∙ ap (λ (x : List ℕ). place_text l.path l.subject ++ x) (append_assoc (flat_map item_text l.values) (10 ∷ []) rest ∙ values_tail l.values rest)
 
 abbrev pub below_text : List PlacedLine → List ℕ
-below_text ls = flat_map (λ l. line_text l.line) ls ++ codes "end\n"
+below_text ls = flat_map (λ l. line_text (bare_line l)) ls ++ codes "end\n"
 
-below_more : (l : PlacedLine) (ls : List PlacedLine) → below_text (l ∷ ls) ≡ place_text l.line.path l.line.subject ++ tail_text (map value_text l.line.values) (below_text ls)
-below_more l ls = ap (λ (x : List ℕ). x ++ codes "end\n") (flat_map-cons (λ k. line_text k.line) l ls) ∙ append_assoc (line_text l.line) (flat_map (λ k. line_text k.line) ls) (codes "end\n") ∙ line_tail l.line (below_text ls)
+below_more : (l : PlacedLine) (ls : List PlacedLine) → below_text (l ∷ ls) ≡ place_text l.path l.subject ++ tail_text (map value_text (bare_values l.values)) (below_text ls)
+below_more l ls =
+    ap (λ (x : List ℕ). x ++ codes "end\n") (flat_map-cons (λ k. line_text (bare_line k)) l ls)
+    ∙ append_assoc (line_text (bare_line l)) (flat_map (λ k. line_text (bare_line k)) ls) (codes "end\n")
+    ∙ line_tail (bare_line l) (below_text ls)
 
 opening_tail : (t : Listing) → trace_text t ≡ codes "trace" ++ tail_text (t.node ∷ decimal t.length ∷ []) (below_text t.lines)
 opening_tail t = refl
 
 -- ---- rows of such words
 
-are_values : (ws : List Word) (vs : List Value) → texts ws ≡ map value_text vs → AllByRecursion FitsValue vs → AreValues ws vs
-are_values [] [] e h = tt
+-- values at the places of their words
+abbrev PlacedAs : List Word → List Value → Type 0
+PlacedAs ws vs = (us : List PlacedValue) × AreValues ws us × (bare_values us ≡ vs)
+
+are_values : (ws : List Word) (vs : List Value) → texts ws ≡ map value_text vs → AllByRecursion FitsValue vs → PlacedAs ws vs
+are_values [] [] e h = ([], tt, refl)
 are_values [] (v ∷ vs) e h = absurd cc
 are_values (w ∷ ws) [] e h = absurd cc
 are_values (w ∷ ws) (v ∷ vs) e h =
     let a : w.text ≡ value_text v = cc in
     let b : texts ws ≡ map value_text vs = cc in
-    (spelled v a h.0, are_values ws vs b h.1)
+    let r = are_values ws vs b h.1 in
+    (record { value = v; at = w.at } ∷ r.0, (spelled v a h.0, refl, r.1), ap (λ us. v ∷ us) r.2)
 
-is_listed : (r : Row) (l : Line) → texts r.words ≡ place_text l.path l.subject ∷ map value_text l.values → FitsLine l → (u : PlacedLine) × IsListed r u × (u.line ≡ l)
+is_listed : (r : Row) (l : Line) → texts r.words ≡ place_text l.path l.subject ∷ map value_text l.values → FitsLine l → (u : PlacedLine) × IsListed r u × (bare_line u ≡ l)
 is_listed r l e f = go r.words refl l.values refl e f.values
   where
-    go : (ws : List Word) → r.words ≡ ws → (vs : List Value) → l.values ≡ vs → texts ws ≡ place_text l.path l.subject ∷ map value_text vs → HasValues vs → (u : PlacedLine) × IsListed r u × (u.line ≡ l)
+    go : (ws : List Word) → r.words ≡ ws → (vs : List Value) → l.values ≡ vs → texts ws ≡ place_text l.path l.subject ∷ map value_text vs → HasValues vs → (u : PlacedLine) × IsListed r u × (bare_line u ≡ l)
     go [] s vs t k h = absurd cc
     go (w ∷ ws) s [] t k h = absurd h
     go (w ∷ []) s (v ∷ vs) t k h = absurd cc
     go (w ∷ x ∷ xs) s (v ∷ vs) t k h =
         let a : w.text ≡ place_text l.path l.subject = cc in
         let b : texts (x ∷ xs) ≡ map value_text (v ∷ vs) = cc in
-        let i : AreValues (x ∷ xs) l.values = subst (AreValues (x ∷ xs)) (sym t) (are_values (x ∷ xs) (v ∷ vs) b h) in
-        (record { at = w.at; line = l; places = places_of (x ∷ xs) }, record { place = w; first = x; others = xs; shape = s; at = refl; is_place = record { spelled = a; path_fits = f.path; subject_fits = f.subject }; values = i; places = refl }, refl)
+        let i = are_values (x ∷ xs) (v ∷ vs) b h in (
+          record { at = w.at; path = l.path; subject = l.subject; values = i.0 },
+          record { place = w; first = x; others = xs; shape = s; at = refl; is_place = record { spelled = a; path_fits = f.path; subject_fits = f.subject }; values = i.1 },
+          ap (λ us. record { path = l.path; subject = l.subject; values = us }) (i.2 ∙ sym t),
+        )
 
 has_values : (vs : List Value) → HasValues vs → AllByRecursion FitsValue vs
 has_values [] h = absurd h
@@ -242,7 +254,7 @@ unfolding cut
 no_rows p = refl
 
 abbrev lines_only : List PlacedLine → List Line
-lines_only ls = map (λ l. l.line) ls
+lines_only ls = map bare_line ls
 
 -- the places of the words of a line
 one_word : (ws : List Word) (x : List ℕ) → texts ws ≡ x ∷ [] → (p : Pos) × (places_of ws ≡ p ∷ [])
@@ -264,11 +276,11 @@ written_below [] p h =
     ([], w.0, subst (λ (rs : List Row). AreListed rs [] w.0) (sym (b.shape ∙ ap (λ (x : List Row). b.row ∷ x) (no_rows b.place))) (b.words, w.1, refl), refl)
 written_below (l ∷ ls) p h =
     let f = h.0 in
-    let b = line_begins (place_text l.line.path l.line.subject) (map value_text l.line.values) p (below_text ls) (place_solid l.line.path l.line.subject f.path f.subject) (values_solid l.line.values (has_values l.line.values f.values)) in
-    let i = is_listed b.row l.line b.words f in
+    let b = line_begins (place_text l.path l.subject) (map value_text (bare_values l.values)) p (below_text ls) (place_solid l.path l.subject f.path f.subject) (values_solid (bare_values l.values) (has_values (bare_values l.values) f.values)) in
+    let i = is_listed b.row (bare_line l) b.words f in
     let r = written_below ls b.place h.1 in
     let e : rows_left (left_at p (below_text (l ∷ ls))) ≡ b.row ∷ rows_left (left_at b.place (below_text ls)) = ap (λ (x : List ℕ). rows_left (left_at p x)) (below_more l ls) ∙ b.shape in
-    (i.0 ∷ r.0, r.1, subst (λ (rs : List Row). AreListed rs (i.0 ∷ r.0) r.1) (sym e) (i.1, r.2), ap (λ (x : Line). x ∷ lines_only r.0) i.2 ∙ ap (λ (x : List Line). l.line ∷ x) r.3)
+    (i.0 ∷ r.0, r.1, subst (λ (rs : List Row). AreListed rs (i.0 ∷ r.0) r.1) (sym e) (i.1, r.2), ap (λ (x : Line). x ∷ lines_only r.0) i.2 ∙ ap (λ (x : List Line). bare_line l ∷ x) r.3)
 
 pub read_back : ReadBack
 read_back t f =

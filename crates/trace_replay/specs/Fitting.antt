@@ -1,17 +1,17 @@
 -- When a trace fits one node of the Boolean language, said of the node's text.
 use Rattle.std.specs.Prelude.{ℕ, ◌-◌, ◌==◌, Bool, true, false, cond, not, ◌&&◌, ◌||◌, nat_le, nat_lt, List, [], ◌∷◌, ◌++◌, length, Option, Some, None, Result, Ok, Err}
-use Rattle.std.specs.List.{list_any}
+use Rattle.std.specs.List.{list_all, list_any}
 use Rattle.std.specs.Str.{bytes_eq}
 use Rattle.lus_tree.specs.declared.place.Pos.{Pos}
 use Rattle.lus_tree.specs.declared.place.Sort.TheVariants.{Bool as Flags}
 use Rattle.lus_tree.specs.Tree.{Name, Expression, negation, pre, arrow, binary, choice, Statement, equation, property, Component}
-use Rattle.lus_meaning.specs.Value.{Value, is_absent, has_sort}
+use Rattle.lus_meaning.specs.Value.{Value, is_absent}
 use Rattle.lus_meaning.specs.Run.{body_equations}
 use Rattle.lus_meaning.specs.Depends.{named_in}
 use Rattle.lus_meaning.specs.Rules.{names_of}
-use Rattle.lus_meaning.specs.Trace.{Subject, of_name, of_first}
-use Rattle.lus_meaning.specs.TraceView.{PlacedLine, Listing}
-use Rattle.lus_meaning.specs.Fits.{same_place, is_listed_in, or_else}
+use Rattle.lus_meaning.specs.Trace.{Subject, of_name, of_first, Line}
+use Rattle.lus_meaning.specs.TraceView.{PlacedValue, PlacedLine, Listing, bare_line, lines_of}
+use Rattle.lus_meaning.specs.Fits.{is_of_sort, is_listed}
 
 -- the place of a refusal
 abbrev pub misfit_of : Result (Unit {0}) Pos → Option Pos
@@ -56,36 +56,45 @@ line_need d last n [] s = subject_need d last n s
 line_need d last n (k ∷ ks) s = None
 
 abbrev pub takes_flag : Bool → Value → Bool
-takes_flag needed v = has_sort Flags v || (is_absent v && not needed)
+takes_flag needed v = is_of_sort Flags v || (is_absent v && not needed)
 
 -- the first value that isn't taken, or the first that is too many
-unfoldable pub flags_misfit : Bool → ℕ → List Value → List Pos → Option Pos
-flags_misfit needed left [] ps = None
-flags_misfit needed left (v ∷ vs) [] = None
-flags_misfit needed left (v ∷ vs) (p ∷ ps) = cond (left == 0) (Some p) (cond (takes_flag needed v) (flags_misfit needed (left - 1) vs ps) (Some p))
+unfoldable pub flags_misfit : Bool → ℕ → List PlacedValue → Option Pos
+flags_misfit needed left [] = None
+flags_misfit needed left (v ∷ vs) =
+    cond (left == 0) (Some v.at) (cond (takes_flag needed v.value) (flags_misfit needed (left - 1) vs) (Some v.at))
 
 abbrev pub need_misfit : Option (ℕ × Bool) → PlacedLine → Option Pos
 need_misfit None l = Some l.at
-need_misfit (Some s) l = cond (nat_lt (length l.line.values) s.0) (Some l.at) (flags_misfit s.1 s.0 l.line.values l.places)
+need_misfit (Some s) l = cond (nat_lt (length l.values) s.0) (Some l.at) (flags_misfit s.1 s.0 l.values)
 
-abbrev pub flag_line_misfit : Component → ℕ → ℕ → List PlacedLine → PlacedLine → Option Pos
-flag_line_misfit d last n before l = cond (is_listed_in before l.line) (Some l.at) (need_misfit (line_need d last n l.line.path l.line.subject) l)
+abbrev pub flag_line_misfit : Component → ℕ → ℕ → List Line → PlacedLine → Option Pos
+flag_line_misfit d last n before l =
+    cond (is_listed before l.path l.subject) (Some l.at) (need_misfit (line_need d last n l.path l.subject) l)
 
-abbrev pub flag_lines_misfit : Component → ℕ → ℕ → List PlacedLine → List PlacedLine → Option Pos
+-- the first of two misfits
+abbrev pub or_else : Option Pos → Option Pos → Option Pos
+or_else (Some p) o = Some p
+or_else None o = o
+
+abbrev pub flag_lines_misfit : Component → ℕ → ℕ → List Line → List PlacedLine → Option Pos
 flag_lines_misfit d last n before [] = None
-flag_lines_misfit d last n before (l ∷ ls) = or_else (flag_line_misfit d last n before l) (flag_lines_misfit d last n (before ++ l ∷ []) ls)
+flag_lines_misfit d last n before (l ∷ ls) =
+    or_else (flag_line_misfit d last n before l) (flag_lines_misfit d last n (before ++ bare_line l ∷ []) ls)
+
+-- the misfit of the lines of a node itself
+abbrev pub own_misfit : Component → ℕ → List Line → List PlacedLine → Option Pos
+own_misfit d n before ls = flag_lines_misfit d (last_pre_in 0 d.body) n before ls
 
 -- whether each of these names is listed
-abbrev pub is_given : Name → List PlacedLine → Bool
-is_given x ls = list_any (λ p. same_place p.line.path p.line.subject [] (of_name x)) ls
-
-abbrev pub are_names_given : List Name → List PlacedLine → Bool
-are_names_given [] ls = true
-are_names_given (x ∷ xs) ls = is_given x ls && are_names_given xs ls
+abbrev pub are_listed : List Name → List Line → Bool
+are_listed xs ls = list_all (λ x. is_listed ls [] (of_name x)) xs
 
 -- the lines, and at the end the inputs that are missing
 abbrev pub body_misfit : Component → Listing → Option Pos
-body_misfit d t = or_else (flag_lines_misfit d (last_pre_in 0 d.body) t.length [] t.lines) (cond (are_names_given (names_of d.inputs) t.lines) None (Some t.end_at))
+body_misfit d t =
+    or_else (own_misfit d t.length [] t.lines) (cond (are_listed (names_of d.inputs) (lines_of t)) None (Some t.end_at))
 
 abbrev pub flag_misfit : Component → Listing → Option Pos
-flag_misfit d t = cond (bytes_eq t.node d.name.text) (cond (nat_le 1 t.length && nat_le t.length 1001) (body_misfit d t) (Some t.length_at)) (Some t.node_at)
+flag_misfit d t =
+    cond (bytes_eq t.node d.name.text) (cond (nat_le 1 t.length && nat_le t.length 1001) (body_misfit d t) (Some t.length_at)) (Some t.node_at)

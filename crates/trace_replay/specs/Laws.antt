@@ -1,8 +1,8 @@
 -- What holds of the format.
 use Rattle.std.specs.Prelude.{◌≡◌, ℕ, List, ◌⊎◌}
 use Rattle.lus_tree.specs.declared.place.Pos.{Pos}
-use Rattle.lus_meaning.specs.TraceView.{Listing}
-use Rattle.trace_replay.specs.Traces.{IsTraceText, FirstMisfit, FitsTrace, bare, trace_text}
+use Rattle.lus_meaning.specs.TraceView.{Listing, lines_of}
+use Rattle.trace_replay.specs.Traces.{IsTraceText, FirstMisfit, FitsTrace, trace_text}
 
 -- Bytes are one trace at most.
 abbrev pub OneTrace : Type 0
@@ -23,7 +23,7 @@ OneMisfit = (bytes : List ℕ) (p q : Pos) → FirstMisfit bytes p → FirstMisf
 pub record SameButPlaces (s t : Listing) : Type 0 where
   pub node : s.node ≡ t.node
   pub length : s.length ≡ t.length
-  pub lines : bare s ≡ bare t
+  pub lines : lines_of s ≡ lines_of t
 
 -- What is written of a trace whose parts are well formed is read back.
 abbrev pub ReadBack : Type 0

@@ -1,11 +1,11 @@
 -- Reading from left to right, with the first misfit that is met.
-use Rattle.std.specs.Prelude.{◌≡◌, ◌≤◌, length, ℕ, suc, ◌+◌, ◌*◌, ◌-◌, ◌==◌, ◌&&◌, ◌||◌, Bool, true, false, not, nat_le, List, [], ◌∷◌, ◌++◌, codes, Option, Some, None, option_map, Result, Ok, Err, if◌then◌else◌, pos, neg_ℤ}
+use Rattle.std.specs.Prelude.{◌≡◌, ◌<◌, length, ℕ, suc, ◌+◌, ◌*◌, ◌-◌, ◌==◌, ◌&&◌, ◌||◌, Bool, true, false, not, nat_le, List, [], ◌∷◌, ◌++◌, codes, Option, Some, None, option_map, Result, Ok, Err, if◌then◌else◌, pos, neg_ℤ}
 use Rattle.std.specs.Char.{is_ascii_digit}
 use Rattle.std.specs.Str.{bytes_eq}
 use Rattle.lus_tree.specs.declared.place.Pos.{Pos}
 use Rattle.lus_meaning.specs.Value.{Value, absent, flag, whole}
 use Rattle.lus_meaning.specs.Trace.{Subject, of_name, of_first}
-use Rattle.lus_meaning.specs.TraceView.{PlacedLine, Listing, line_view}
+use Rattle.lus_meaning.specs.TraceView.{PlacedValue, PlacedLine, Listing, line_view}
 use Rattle.trace_replay.specs.declared.fault.TraceFault.{TraceFault}
 use Rattle.trace_replay.specs.declared.fault.TraceFault.TheVariants.{Form, Memory}
 use Rattle.trace_replay.specs.declared.cursor.Cursor.{Cursor}
@@ -13,8 +13,7 @@ use Rattle.trace_replay.specs.declared.cursor.Word.{Word as CodeWord}
 use Rattle.trace_replay.specs.declared.reading.Next.{Next as CodeNext}
 use Rattle.trace_replay.specs.declared.reading.Next.TheVariants.{Line as NextLine, End as NextEnd}
 use Rattle.trace_replay.specs.Cutting.{Word, Row, Cut, with_front, cut, filled, keep, first_place, is_blank, is_return}
-use Rattle.trace_replay.specs.Words.{is_name}
-use Rattle.trace_replay.specs.Traces.{places_of}
+use Rattle.lus_lexer.specs.Names.{is_name}
 
 infixl 10 ◌>>=◌
 abbrev pub ◌>>=◌ : {A B : Type 0} → Result A Pos → (A → Result B Pos) → Result B Pos
@@ -124,10 +123,10 @@ left p c = record { words = with_front c.front p c.words; end = c.end; later = f
 abbrev pub left_of : Cursor → Left
 left_of c = left c.at (cut c.at c.rest.now)
 
--- lines and columns stay small
+-- lines and columns stay below 2^32
 pub record IsWithin (c : Cursor) : Type 0 where
-  pub line : c.at.line + length c.rest.now ≤ 1048577
-  pub column : c.at.column + length c.rest.now ≤ 1048577
+  pub line : c.at.line + length c.rest.now < 4294967296
+  pub column : c.at.column + length c.rest.now < 4294967296
 
 abbrev pub begins_with_blank : List ℕ → Bool
 begins_with_blank [] = false
@@ -195,19 +194,19 @@ opening_of w l = do
   done ← none_of count.1
   Ok ((named, name.0.at), (n, count.0.at), count.1)
 
-abbrev pub values_in : List Word → Result (List Value) Pos
+abbrev pub values_in : List Word → Result (List PlacedValue) Pos
 values_in [] = Ok []
 values_in (w ∷ ws) = do
   v ← or_misfit w.at (value_of w.text)
   vs ← values_in ws
-  Ok (v ∷ vs)
+  Ok (record { value = v; at = w.at } ∷ vs)
 
--- the values that are left in a line, and their places
-abbrev pub values_left : Left → Result (List Value × List Pos × Left) Pos
-values_left l = values_in l.words >>= λ vs. Ok (vs, places_of l.words, without_words l)
+-- the values that are left in a line
+abbrev pub values_left : Left → Result (List PlacedValue × Left) Pos
+values_left l = values_in l.words >>= λ vs. Ok (vs, without_words l)
 
 -- at least one
-unfoldable pub values_of : Left → Result (List Value × List Pos × Left) Pos
+unfoldable pub values_of : Left → Result (List PlacedValue × Left) Pos
 values_of l = do
   first ← next_of l
   values_left l
@@ -217,7 +216,7 @@ unfoldable pub listed_of : Word → Left → Result (PlacedLine × Left) Pos
 listed_of w l = do
   place ← or_misfit w.at (place_of w.text)
   vs ← values_of l
-  Ok (record { at = w.at; line = record { path = place.0; subject = place.1; values = vs.0 }; places = vs.1 }, vs.2)
+  Ok (record { at = w.at; path = place.0; subject = place.1; values = vs.0 }, vs.1)
 
 abbrev pub nothing_in : Option (Word × Left) → Result (Unit {0}) Pos
 nothing_in None = Ok tt
@@ -261,14 +260,14 @@ unfoldable pub lines_in : Pos → List Row → Result (List PlacedLine × Pos) P
 lines_in e [] = Err e
 lines_in e (r ∷ rs) = line_from e (r ∷ rs) >>= λ x. onto x (lines_in e rs)
 
-abbrev pub lines_of : Left → Result (List PlacedLine × Pos) Pos
-lines_of l = lines_in l.last (rows_left l)
+abbrev pub lines_left : Left → Result (List PlacedLine × Pos) Pos
+lines_left l = lines_in l.last (rows_left l)
 
 unfoldable pub trace_of : Left → Result Listing Pos
 trace_of l = do
   first ← first_of l
   opening ← opening_of first.0 first.1
-  lines ← lines_of opening.2
+  lines ← lines_left opening.2
   Ok (record { node = opening.0.0; node_at = opening.0.1; length = opening.1.0; length_at = opening.1.1; lines = lines.0; end_at = lines.1 })
 
 abbrev pub reading : List ℕ → Result Listing Pos

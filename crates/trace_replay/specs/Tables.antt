@@ -1,15 +1,14 @@
 -- The sets by which names and first values are looked up.
 use Rattle.std.specs.Prelude.{◌≡◌, ℕ, Bool, ◌||◌, cond, List, [], ◌∷◌, Option, Some, nat_eq}
 use Rattle.std.specs.Borrow.{Bor}
-use Rattle.std.specs.List.{list_any}
 use Rattle.std.specs.Str.{bytes_eq}
 use Rattle.indexmap.specs.IndexSet.{IndexSet, contains, contains_by}
 use Rattle.lus_tree.specs.declared.place.Pos.{Pos}
 use Rattle.lus_tree.specs.Tree.{Name, Component}
 use Rattle.lus_meaning.specs.Depends.{named_in}
-use Rattle.lus_meaning.specs.Trace.{Subject, of_name, of_first}
+use Rattle.lus_meaning.specs.Trace.{Subject, of_name, of_first, Line}
 use Rattle.lus_meaning.specs.TraceView.{PlacedLine}
-use Rattle.lus_meaning.specs.Fits.{same_place}
+use Rattle.lus_meaning.specs.Fits.{is_listed}
 use Rattle.trace_replay.specs.Fitting.{last_pre_in, subject_need, need_misfit}
 use Rattle.trace_replay.specs.declared.listed.Listed.{Listed}
 
@@ -27,13 +26,14 @@ has_spot l (of_name x) = has_name l.names x
 has_spot l (of_first k) = contains nat_eq l.numbers k
 
 -- the names and first values that these lines list, and no others, were listed
-abbrev pub Lists : Listed → List PlacedLine → Type 0
-Lists t ls = (s : Subject) → has_spot t s ≡ list_any (λ p. same_place p.line.path p.line.subject [] s) ls
+abbrev pub Lists : Listed → List Line → Type 0
+Lists t ls = (s : Subject) → has_spot t s ≡ is_listed ls [] s
 
 -- the first word of a line that doesn't fit, where these were listed before
 abbrev pub spot_misfit : Listed → Component → ℕ → List ℕ → PlacedLine → Option Pos
-spot_misfit t d n [] l = cond (has_spot t l.line.subject) (Some l.at) (need_misfit (subject_need d (last_pre_in 0 d.body) n l.line.subject) l)
+spot_misfit t d n [] l =
+    cond (has_spot t l.subject) (Some l.at) (need_misfit (subject_need d (last_pre_in 0 d.body) n l.subject) l)
 spot_misfit t d n (k ∷ ks) l = Some l.at
 
 abbrev pub line_misfit : Listed → Component → ℕ → PlacedLine → Option Pos
-line_misfit t d n l = spot_misfit t d n l.line.path l
+line_misfit t d n l = spot_misfit t d n l.path l

@@ -1,14 +1,15 @@
 -- The format of traces: which bytes are which trace, where bytes outside the format first don't fit, and what is written.
-use Rattle.std.specs.Prelude.{◌≡◌, ℕ, ◌<◌, ◌⊎◌, true, List, [], ◌∷◌, ◌++◌, map, length, codes, decimal}
+use Rattle.std.specs.Prelude.{◌≡◌, ℕ, ◌<◌, ◌⊎◌, true, List, [], ◌∷◌, ◌++◌, map, codes, decimal}
 use Rattle.std.specs.List.{flat_map, AllByRecursion}
 use Rattle.lus_tree.specs.declared.place.Pos.{Pos}
 use Rattle.lus_meaning.specs.Value.{Value}
 use Rattle.lus_meaning.specs.Trace.{Line}
-use Rattle.lus_meaning.specs.TraceView.{PlacedLine, Listing}
+use Rattle.lus_meaning.specs.TraceView.{PlacedValue, PlacedLine, Listing, bare_line, lines_of}
 use Rattle.trace_replay.specs.declared.fault.TraceFault.{TraceFault}
 use Rattle.trace_replay.specs.declared.fault.TraceFault.TheVariants.{Form, Memory}
 use Rattle.trace_replay.specs.Cutting.{Word, Row, rows_of, end_of, filled}
-use Rattle.trace_replay.specs.Words.{is_name, IsNumber, IsPlace, FitsSubject, place_text, IsValue, FitsValue, value_text}
+use Rattle.lus_lexer.specs.Names.{is_name}
+use Rattle.trace_replay.specs.Words.{IsNumber, IsPlace, FitsSubject, place_text, IsValue, FitsValue, value_text}
 
 -- ---- what a trace is
 
@@ -27,9 +28,10 @@ pub record IsOpening (r : Row) (node : List ℕ) (node_at : Pos) (n : ℕ) (n_at
   pub name : is_name node ≡ true
   pub number : IsNumber count n
 
-abbrev pub AreValues : List Word → List Value → Type 0
+-- the words are the values, and stand at their places
+abbrev pub AreValues : List Word → List PlacedValue → Type 0
 AreValues [] [] = Unit {0}
-AreValues (w ∷ ws) (v ∷ vs) = IsValue w.text v × AreValues ws vs
+AreValues (w ∷ ws) (v ∷ vs) = IsValue w.text v.value × (v.at ≡ w.at) × AreValues ws vs
 AreValues _ _ = ⊥
 
 -- PLACE V .. V, with at least one value
@@ -39,9 +41,8 @@ pub record IsListed (r : Row) (l : PlacedLine) : Type 0 where
   pub others : List Word
   pub shape : r.words ≡ place ∷ first ∷ others
   pub at : l.at ≡ place.at
-  pub is_place : IsPlace place.text l.line.path l.line.subject
-  pub values : AreValues (first ∷ others) l.line.values
-  pub places : l.places ≡ places_of (first ∷ others)
+  pub is_place : IsPlace place.text l.path l.subject
+  pub values : AreValues (first ∷ others) l.values
 
 -- the one word end
 abbrev pub IsClosing : Row → Type 0
@@ -60,10 +61,6 @@ AreTrace (r ∷ rs) t = IsOpening r t.node t.node_at t.length t.length_at × Are
 -- the bytes are the trace
 abbrev pub IsTraceText : List ℕ → Listing → Type 0
 IsTraceText bytes t = AreTrace (filled (rows_of bytes)) t
-
--- each value of a line has its place
-abbrev pub ArePlaced : Listing → Type 0
-ArePlaced t = AllByRecursion (λ l. length l.places ≡ length l.line.values) t.lines
 
 -- ---- where it doesn't fit
 
@@ -137,11 +134,7 @@ abbrev pub line_text : Line → List ℕ
 line_text l = place_text l.path l.subject ++ (flat_map item_text l.values ++ 10 ∷ [])
 
 abbrev pub trace_text : Listing → List ℕ
-trace_text t = codes "trace " ++ (t.node ++ 32 ∷ (decimal t.length ++ 10 ∷ (flat_map (λ l. line_text l.line) t.lines ++ codes "end\n")))
-
--- the lines of a trace without their places
-abbrev pub bare : Listing → List Line
-bare t = map (λ l. l.line) t.lines
+trace_text t = codes "trace " ++ (t.node ++ 32 ∷ (decimal t.length ++ 10 ∷ (flat_map (λ l. line_text (bare_line l)) t.lines ++ codes "end\n")))
 
 -- names are names, numbers in range, and each line has a value
 abbrev pub HasValues : List Value → Type 0
@@ -156,4 +149,4 @@ pub record FitsLine (l : Line) : Type 0 where
 pub record FitsTrace (t : Listing) : Type 0 where
   pub node : is_name t.node ≡ true
   pub length : t.length < 4294967296
-  pub lines : AllByRecursion FitsLine (bare t)
+  pub lines : AllByRecursion FitsLine (lines_of t)

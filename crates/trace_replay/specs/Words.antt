@@ -1,20 +1,10 @@
 -- The words of a trace.
-use Rattle.std.specs.Prelude.{◌≡◌, ℕ, suc, ◌<◌, ◌&&◌, Bool, true, false, not, List, [], ◌∷◌, ◌++◌, map, get_or, codes, decimal, pos, negsuc}
-use Rattle.std.specs.List.{list_all, list_any, AllByRecursion}
-use Rattle.std.specs.Str.{bytes_eq}
+use Rattle.std.specs.Prelude.{◌≡◌, ℕ, suc, ◌<◌, true, false, List, [], ◌∷◌, ◌++◌, codes, decimal, pos, negsuc}
+use Rattle.std.specs.List.{AllByRecursion}
 use Rattle.std.specs.Fmt.{signed_decimal}
-use Rattle.lus_lexer.specs.Table.{keywords, left_out_words}
-use Rattle.lus_lexer.specs.Tokens.{is_letter, is_word}
+use Rattle.lus_lexer.specs.Names.{is_name}
 use Rattle.lus_meaning.specs.Value.{Value, absent, flag, whole}
 use Rattle.lus_meaning.specs.Trace.{Subject, of_name, of_first}
-
--- the words of the language that are no names
-abbrev pub reserved : List (List ℕ)
-reserved = map (λ r. r.text) (keywords ++ left_out_words)
-
--- a letter or _, then letters, digits and _, and no word of the language
-unfoldable pub is_name : List ℕ → Bool
-is_name w = is_letter (get_or w 0 0) && (list_all is_word w && not (list_any (bytes_eq w) reserved))
 
 -- a number below 2^32 without leading zeros
 pub record IsNumber (w : List ℕ) (n : ℕ) : Type 0 where

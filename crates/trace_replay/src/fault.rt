@@ -1,4 +1,4 @@
-//! Why a text gives no trace.
+//! Why a trace is refused.
 
 ghost use Rattle.std.specs.Prelude.{◌≡◌};
 ghost use Rattle.trace_replay.specs.declared.fault.TraceFault.TheVariants.{Form, Memory};
@@ -7,11 +7,12 @@ use lus_tree::Pos;
 use std::alloc::{AllocError, AllocFailed};
 use thiserror::Error;
 
-/// Why a trace is not read or not written.
-#[derive(Debug, Drop, Error)]
+/// Why a trace is not read, written or replayed.
+#[derive(Clone, Copy, Debug, Error)]
 pub enum TraceFault {
-    /// The text is outside the format. The place is the first word or line end that doesn't fit.
-    #[error("trace outside its format at {}:{}", .0.line, .0.column)]
+    /// The text is outside the format, or the trace doesn't fit the program. The place is the
+    /// first word or line end that goes wrong.
+    #[error("trace goes wrong at {}:{}", .0.line, .0.column)]
     Form(Pos),
     /// Want of memory.
     #[error("out of memory")]

@@ -2,21 +2,20 @@
 
 ghost use Rattle.std.specs.Prelude.{◌≡◌, ◌||◌, cond, map, IfErr, IfOk, OnOk, Some, []};
 ghost use Rattle.std.specs.List.{list_all};
-ghost use Rattle.lus_tree.specs.Tree.{Name};
 ghost use Rattle.lus_tree.specs.View.{node_view, param_view, program_view};
 ghost use Rattle.lus_meaning.specs.Rules.{names_of};
 ghost use Rattle.lus_meaning.specs.Fits.{same_place, FitsProgram};
 ghost use Rattle.lus_meaning.specs.Trace.{Subject, of_name, same_subject};
-ghost use Rattle.lus_meaning.specs.TraceView.{entry_view, spot_view, line_view, trace_view};
-ghost use Rattle.trace_replay.specs.Fitting.{misfit_of, last_pre_in, subject_need, takes_flag, flags_misfit, need_misfit, flag_lines_misfit, is_given, body_misfit, flag_misfit};
+ghost use Rattle.lus_meaning.specs.TraceView.{entry_view, placed_view, spot_view, line_view, bare_view, trace_view};
+ghost use Rattle.trace_replay.specs.Fitting.{misfit_of, last_pre_in, subject_need, takes_flag, flags_misfit, need_misfit, own_misfit, body_misfit, flag_misfit};
 ghost use Rattle.trace_replay.specs.Refused.{IsMisfit, Finds};
-ghost use Rattle.trace_replay.specs.Tables.{has_spot, line_misfit};
+ghost use Rattle.trace_replay.specs.Tables.{has_spot, line_misfit, Lists};
 
+use crate::fault::TraceFault;
 use crate::listed::Listed;
 use crate::needs::Needs;
-use crate::replay_fault::ReplayFault;
 use lus_checked::Checked;
-use lus_meaning::{Trace, TraceLine, Value};
+use lus_meaning::{PlacedValue, Trace, TraceLine, Value};
 use lus_tree::{Node, Param, Pos};
 use std::alloc::Global;
 
@@ -33,22 +32,17 @@ fn takes(needed: bool, value: Option<Value>) -> bool
 
 /// Refuses the first value that a line may not have, or the first behind `count` values.
 #[tactic(auto, unfolding(crate::specs::Fitting::flags_misfit))]
-fn values_fit(needed: bool, count: u32, values: &[Option<Value>], places: &[Pos]) -> Result<(), Pos>
-    ensures { misfit_of result ≡ flags_misfit needed count (map entry_view values.now) places.now }
+fn values_fit(needed: bool, count: u32, values: &[PlacedValue]) -> Result<(), Pos>
+    ensures { misfit_of result ≡ flags_misfit needed count (map placed_view values.now) }
 {
     let mut left = count;
     let mut rest = values;
-    let mut rest_places = places;
-    while let [value, later @ ..] = rest {
-        let [place, later_places @ ..] = rest_places else {
-            return Ok(());
-        };
-        if left == 0 || !takes(needed, *value) {
-            return Err(*place);
+    while let [placed, later @ ..] = rest {
+        if left == 0 || !takes(needed, placed.value) {
+            return Err(placed.at);
         }
         left -= 1;
         rest = later;
-        rest_places = later_places;
     }
     Ok(())
 }
@@ -59,21 +53,21 @@ fn own_line_fits<'a>(
     length: u32,
     listed: &mut Listed<'a>,
     line: &'a TraceLine,
-) -> Result<(), ReplayFault>
+) -> Result<(), TraceFault>
     ensures misfit { Finds result (cond (has_spot listed.old (spot_view line.now.what)) (Some line.now.at)
         (need_misfit (subject_need (node_view needs.now.node.now) (last_pre_in 0 (node_view needs.now.node.now).body) length (spot_view line.now.what)) (line_view line.now))) }
     ensures adds { OnOk result ((s : Subject) → has_spot listed.new s ≡ (has_spot listed.old s || same_subject (spot_view line.now.what) s)) }
 {
     if !listed.add(&line.what)? {
-        return Err(ReplayFault::Form(line.at));
+        return Err(TraceFault::Form(line.at));
     }
     let Some((count, needed)) = needs.spot_need(length, &line.what) else {
-        return Err(ReplayFault::Form(line.at));
+        return Err(TraceFault::Form(line.at));
     };
     if line.values.len() < count as usize {
-        return Err(ReplayFault::Form(line.at));
+        return Err(TraceFault::Form(line.at));
     }
-    values_fit(needed, count, &line.values, &line.places)?;
+    values_fit(needed, count, &line.values)?;
     Ok(())
 }
 
@@ -83,14 +77,14 @@ fn line_fits<'a>(
     length: u32,
     listed: &mut Listed<'a>,
     line: &'a TraceLine,
-) -> Result<(), ReplayFault>
+) -> Result<(), TraceFault>
     ensures misfit { Finds result (line_misfit listed.old (node_view needs.now.node.now) length (line_view line.now)) }
     ensures adds { OnOk result ((s : Subject) → has_spot listed.new s ≡ (has_spot listed.old s || same_place line.now.path.items (spot_view line.now.what) [] s)) }
 {
     if line.path.is_empty() {
         own_line_fits(needs, length, listed, line)
     } else {
-        Err(ReplayFault::Form(line.at))
+        Err(TraceFault::Form(line.at))
     }
 }
 
@@ -100,9 +94,9 @@ fn lines_fit<'a>(
     needs: &Needs,
     length: u32,
     lines: &'a [TraceLine],
-) -> Result<Listed<'a>, ReplayFault>
-    ensures misfit { Finds result (flag_lines_misfit (node_view needs.now.node.now) (last_pre_in 0 (node_view needs.now.node.now).body) length [] (map line_view lines.now)) }
-    ensures listed { IfOk result (λ l. (x : Name) → has_spot l (of_name x) ≡ is_given x (map line_view lines.now)) }
+) -> Result<Listed<'a>, TraceFault>
+    ensures misfit { Finds result (own_misfit (node_view needs.now.node.now) length [] (map line_view lines.now)) }
+    ensures listed { IfOk result (λ l. Lists l (map bare_view lines.now)) }
 {
     let mut listed = Listed::new(alloc);
     for line in lines {
@@ -125,7 +119,7 @@ fn are_listed(params: &[Param], listed: &Listed) -> bool
 
 /// Refuses the lines of a trace at their first word that doesn't fit the node, and its end where
 /// an input is missing.
-fn body_fits(alloc: Global, node: &Node, trace: &Trace) -> Result<(), ReplayFault>
+fn body_fits(alloc: Global, node: &Node, trace: &Trace) -> Result<(), TraceFault>
     ensures { Finds result (body_misfit (node_view node.now) (trace_view trace.now)) }
 {
     let needs = Needs::of(alloc, node)?;
@@ -133,19 +127,19 @@ fn body_fits(alloc: Global, node: &Node, trace: &Trace) -> Result<(), ReplayFaul
     if are_listed(&node.inputs, &listed) {
         Ok(())
     } else {
-        Err(ReplayFault::Form(trace.end_at))
+        Err(TraceFault::Form(trace.end_at))
     }
 }
 
 /// Refuses a trace at its first word that doesn't fit the node.
-pub fn fits_node(alloc: Global, node: &Node, trace: &Trace) -> Result<(), ReplayFault>
+pub fn fits_node(alloc: Global, node: &Node, trace: &Trace) -> Result<(), TraceFault>
     ensures { Finds result (flag_misfit (node_view node.now) (trace_view trace.now)) }
 {
     if trace.node.as_str() != node.name.text.as_str() {
-        return Err(ReplayFault::Form(trace.node_at));
+        return Err(TraceFault::Form(trace.node_at));
     }
     if trace.length < 1 || 1001 < trace.length {
-        return Err(ReplayFault::Form(trace.length_at));
+        return Err(TraceFault::Form(trace.length_at));
     }
     body_fits(alloc, node, trace)
 }
@@ -156,7 +150,7 @@ pub fn fits_node(alloc: Global, node: &Node, trace: &Trace) -> Result<(), Replay
 ///
 /// `Form` exactly where it doesn't, at the first word that doesn't fit; `Memory` for want of
 /// memory.
-pub(crate) fn fits(alloc: Global, checked: &Checked, trace: &Trace) -> Result<(), ReplayFault>
+pub(crate) fn fits(alloc: Global, checked: &Checked, trace: &Trace) -> Result<(), TraceFault>
     // A trace that is let through fits.
     ensures fits { OnOk result (FitsProgram (program_view checked.now) (trace_view trace.now)) }
     // A place is that of the first word that doesn't.

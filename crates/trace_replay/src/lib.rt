@@ -1,28 +1,34 @@
 //! Reads and writes traces, and replays them on a checked program.
 #![tactic(auto)]
 
+mod answers;
+mod broken_at;
+mod code;
 mod cursor;
+mod defined;
+mod equations;
 mod fault;
+mod filling;
 mod fitting;
-#[cfg(test)]
-mod fitting_tests;
+mod given;
 mod last_pre;
 pub mod laws;
+mod layout;
+mod line_table;
 mod listed;
+mod names;
 mod needs;
+mod places;
 mod reading;
-mod replay_fault;
 mod replaying;
+mod rows;
 mod sets;
-mod table;
-#[cfg(test)]
-mod tests;
+mod showing;
 mod words;
 mod writing;
 
-pub use boolean_replay::Replay;
+pub use answers::Replay;
 pub use fault::TraceFault;
 pub use reading::read_trace;
-pub use replay_fault::ReplayFault;
 pub use replaying::replay;
 pub use writing::write_trace;

@@ -1,53 +1,52 @@
 //! Reads a trace, line by line.
 
-ghost use Rattle.std.specs.Prelude.{◌≡◌, ◌≤◌, length, map, IfOk, IfErr, Ok, Err};
+ghost use Rattle.std.specs.Prelude.{◌≡◌, ◌<◌, ◌+◌, ◌^◌, length, map, IfOk, IfErr, Ok, Err};
 ghost use Rattle.std.specs.String.{string_bytes};
 ghost use Rattle.lus_tree.specs.declared.place.Pos.{Pos as Place};
-ghost use Rattle.lus_meaning.specs.TraceView.{Listing, entry_view, line_view, trace_view};
-ghost use Rattle.trace_replay.specs.Traces.{ArePlaced, IsTraceText, FirstMisfit, Refuses};
-ghost use Rattle.trace_replay.specs.Reading.{Gives, GoesOnWithin, IsWithin, left_of, next_view, word_view, opening_of, values_left, values_of, listed_of, is_closing, line_of, lines_of, reading};
+ghost use Rattle.lus_meaning.specs.TraceView.{Listing, placed_view, line_view, trace_view};
+ghost use Rattle.trace_replay.specs.Traces.{IsTraceText, FirstMisfit, Refuses};
+ghost use Rattle.trace_replay.specs.Reading.{Gives, GoesOnWithin, IsWithin, left_of, next_view, word_view, opening_of, values_left, values_of, listed_of, is_closing, line_of, lines_left, reading};
 
 use crate::cursor::{Cursor, Word, first_word, line_word, next_word, no_line, no_word};
 use crate::fault::TraceFault;
 use crate::words::{name, place, small, value};
-use lus_meaning::{Trace, TraceLine, Value};
+use lus_meaning::{PlacedValue, Trace, TraceLine};
 use lus_tree::Pos;
 use std::alloc::Global;
 
-/// The values that are left in a line, and their places, with room for so many.
+/// The values that are left in a line, with room for so many.
 fn values_left<'a>(
     alloc: Global,
     room: usize,
     start: Cursor<'a>,
-) -> Result<(Vec<Option<Value>>, Vec<Pos>, Cursor<'a>), TraceFault>
+) -> Result<(Vec<PlacedValue>, Cursor<'a>), TraceFault>
     requires { IsWithin start }
-    ensures values { Gives (λ x. (map entry_view x.0.items, x.1.items, left_of x.2)) result (values_left (left_of start.entry)) }
-    ensures within { IfOk result (λ x. IsWithin x.2) }
+    ensures values { Gives (λ x. (map placed_view x.0.items, left_of x.1)) result (values_left (left_of start.entry)) }
+    ensures within { IfOk result (λ x. IsWithin x.1) }
 {
     let mut values = Vec::with_capacity(alloc, room)?;
-    let mut places = Vec::with_capacity(alloc, room)?;
     let mut here = start;
     while let Some((word, after)) = line_word(here) {
         let Some(value) = value(word.text) else {
             return Err(TraceFault::Form(word.at));
         };
-        values.push(value)?;
-        places.push(word.at)?;
+        let at = word.at;
+        values.push(PlacedValue { value, at })?;
         here = after;
     }
-    Ok((values, places, here))
+    Ok((values, here))
 }
 
-/// The values that are left in a line, at least one, and their places, with room for so many.
+/// The values that are left in a line, at least one, with room for so many.
 #[tactic(auto, unfolding(crate::specs::Reading::values_of))]
 fn values<'a>(
     alloc: Global,
     room: usize,
     start: Cursor<'a>,
-) -> Result<(Vec<Option<Value>>, Vec<Pos>, Cursor<'a>), TraceFault>
+) -> Result<(Vec<PlacedValue>, Cursor<'a>), TraceFault>
     requires { IsWithin start }
-    ensures values { Gives (λ x. (map entry_view x.0.items, x.1.items, left_of x.2)) result (values_of (left_of start.entry)) }
-    ensures within { IfOk result (λ x. IsWithin x.2) }
+    ensures values { Gives (λ x. (map placed_view x.0.items, left_of x.1)) result (values_of (left_of start.entry)) }
+    ensures within { IfOk result (λ x. IsWithin x.1) }
 {
     next_word(start)?;
     values_left(alloc, room, start)
@@ -66,7 +65,7 @@ fn listed<'a>(
     ensures within { IfOk result (λ x. IsWithin x.1) }
 {
     let (path, what) = place(alloc, first)?;
-    let (values, places, after) = values(alloc, room, after)?;
+    let (values, after) = values(alloc, room, after)?;
     let at = first.at;
     Ok((
         TraceLine {
@@ -74,7 +73,6 @@ fn listed<'a>(
             what,
             values,
             at,
-            places,
         },
         after,
     ))
@@ -120,7 +118,7 @@ fn line<'a>(alloc: Global, room: usize, here: Cursor<'a>) -> Result<Next<'a>, Tr
 /// The lines up to the end line, and its place.
 fn lines(alloc: Global, start: Cursor) -> Result<(Vec<TraceLine>, Pos), TraceFault>
     requires { IsWithin start }
-    ensures { Gives (λ x. (map line_view x.0.items, x.1)) result (lines_of (left_of start.entry)) }
+    ensures { Gives (λ x. (map line_view x.0.items, x.1)) result (lines_left (left_of start.entry)) }
 {
     let mut lines = Vec::new(alloc);
     let mut here = start;
@@ -173,7 +171,7 @@ fn opening<'a>(
 /// What reading gives.
 #[tactic(auto, unfolding(crate::specs::Reading::trace_of))]
 fn whole(alloc: Global, bytes: &[u8]) -> Result<Trace, TraceFault>
-    requires { length bytes.now ≤ 1048576 }
+    requires { length bytes.now + 1 < 2 ^ 32 }
     ensures { Gives trace_view result (reading bytes.now) }
 {
     let at = Pos { line: 1, column: 1 };
@@ -190,18 +188,16 @@ fn whole(alloc: Global, bytes: &[u8]) -> Result<Trace, TraceFault>
     })
 }
 
-/// The trace that a text of at most 1,048,576 bytes is.
+/// The trace that a text is, whose places, that of its end among them, are below 2^32.
 ///
 /// # Errors
 ///
 /// `Form` exactly where the bytes are outside the format, at the first word or line end that
 /// doesn't fit; `Memory` for want of memory.
 pub fn read_trace(alloc: Global, bytes: &[u8]) -> Result<Trace, TraceFault>
-    requires { length bytes.now ≤ 1048576 }
+    requires { length bytes.now + 1 < 2 ^ 32 }
     // What is read is the trace that the bytes are.
     ensures found { IfOk result (λ t. IsTraceText bytes.now (trace_view t)) }
-    // Each of its values has a place.
-    ensures placed { IfOk result (λ t. ArePlaced (trace_view t)) }
     // A place is the first that doesn't fit.
     ensures form { IfErr result (Refuses bytes.now) }
     // A trace is read, unless memory runs out.

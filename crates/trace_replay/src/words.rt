@@ -1,17 +1,13 @@
 //! The words of a trace.
 
-ghost use Rattle.std.specs.Prelude.{◌≡◌, option_map, IfOk, map};
-ghost use Rattle.std.specs.List.{list_all, list_any};
-ghost use Rattle.std.specs.Str.{bytes_eq};
+ghost use Rattle.std.specs.Prelude.{◌≡◌, option_map, IfOk};
 ghost use Rattle.std.specs.String.{string_bytes};
-ghost use Rattle.lus_lexer.specs.Tokens.{is_letter, is_word};
 ghost use Rattle.lus_meaning.specs.TraceView.{spot_view, entry_view};
-ghost use Rattle.trace_replay.specs.Words.{is_name};
 ghost use Rattle.trace_replay.specs.Reading.{Gives, number_from, number_of, small_of, value_of, name_of, subject_of, place_of, or_misfit, word_view};
 
 use crate::cursor::Word;
 use crate::fault::TraceFault;
-use crate::table::words_from;
+use lus_lexer::is_name;
 use lus_meaning::{Spot, Value};
 use std::alloc::{AllocError, Global};
 
@@ -88,54 +84,6 @@ pub fn value(word: &[u8]) -> Option<Option<Value>>
         Some(None)
     } else {
         None
-    }
-}
-
-/// Is it an ASCII letter or `_`?
-fn is_letter(b: u8) -> bool
-    ensures { result ≡ is_letter b }
-{
-    b.is_ascii_alphabetic() || b == b'_'
-}
-
-/// Is each byte a letter, a digit or `_`?
-fn are_word(bytes: &[u8]) -> bool
-    ensures { result ≡ list_all is_word bytes.now }
-{
-    let mut rest = bytes;
-    while let [first, later @ ..] = rest {
-        if !is_letter(*first) && !first.is_ascii_digit() {
-            return false;
-        }
-        rest = later;
-    }
-    true
-}
-
-/// Is the word one of these?
-fn is_one_of(word: &[u8], words: &[&[u8]]) -> bool
-    ensures { result ≡ list_any (bytes_eq word.now) (map (λ w. w.now) words.now) }
-{
-    let mut rest = words;
-    while let [first, later @ ..] = rest {
-        if word == *first {
-            return true;
-        }
-        rest = later;
-    }
-    false
-}
-
-/// Is the word a name?
-#[tactic(auto, using(crate::proofs::Names::listed_at), unfolding(crate::specs::Words::is_name))]
-fn is_name(word: &[u8]) -> bool
-    ensures { result ≡ is_name word.now }
-{
-    match word {
-        [] => false,
-        [first, ..] => {
-            is_letter(*first) && are_word(word) && !is_one_of(word, words_from(*first))
-        }
     }
 }
 

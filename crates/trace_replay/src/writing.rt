@@ -2,13 +2,13 @@
 
 ghost use Rattle.std.specs.Prelude.{◌≡◌, ◌++◌, ◌∷◌, [], OnOk, IfOk, IfErr, decimal, map};
 ghost use Rattle.std.specs.List.{flat_map};
-ghost use Rattle.lus_meaning.specs.TraceView.{entry_view, spot_view, line_view, trace_view};
+ghost use Rattle.lus_meaning.specs.TraceView.{bare_line, bare_view, entry_view, spot_view, line_view, trace_view, values_view};
 ghost use Rattle.trace_replay.specs.Words.{step_text, subject_text};
 ghost use Rattle.trace_replay.specs.Traces.{item_text, line_text, trace_text};
 
 use crate::fault::TraceFault;
 use itoa::Buffer;
-use lus_meaning::{Spot, Trace, TraceLine, Value};
+use lus_meaning::{PlacedValue, Spot, Trace, TraceLine, Value};
 use std::alloc::{AllocError, Global};
 
 /// Adds a number.
@@ -58,18 +58,18 @@ fn put_value(out: &mut Vec<u8>, value: Option<Value>) -> Result<(), AllocError>
 }
 
 /// Adds the values of a line.
-fn put_values(out: &mut Vec<u8>, values: &[Option<Value>]) -> Result<(), AllocError>
-    ensures { OnOk result (out.new.items ≡ out.old.items ++ flat_map item_text (map entry_view values.now)) }
+fn put_values(out: &mut Vec<u8>, values: &[PlacedValue]) -> Result<(), AllocError>
+    ensures { OnOk result (out.new.items ≡ out.old.items ++ flat_map item_text (values_view values.now)) }
 {
-    for value in values {
-        put_value(out, *value)?;
+    for placed in values {
+        put_value(out, placed.value)?;
     }
     Ok(())
 }
 
 /// Adds a line.
 fn put_line(out: &mut Vec<u8>, line: &TraceLine) -> Result<(), AllocError>
-    ensures { OnOk result (out.new.items ≡ out.old.items ++ line_text (line_view line.now).line) }
+    ensures { OnOk result (out.new.items ≡ out.old.items ++ line_text (bare_view line.now)) }
 {
     put_path(out, &line.path)?;
     put_spot(out, &line.what)?;
@@ -80,7 +80,7 @@ fn put_line(out: &mut Vec<u8>, line: &TraceLine) -> Result<(), AllocError>
 
 /// Adds the lines.
 fn put_lines(out: &mut Vec<u8>, lines: &[TraceLine]) -> Result<(), AllocError>
-    ensures { OnOk result (out.new.items ≡ out.old.items ++ flat_map (λ l. line_text l.line) (map line_view lines.now)) }
+    ensures { OnOk result (out.new.items ≡ out.old.items ++ flat_map (λ l. line_text (bare_line l)) (map line_view lines.now)) }
 {
     for line in lines {
         put_line(out, line)?;

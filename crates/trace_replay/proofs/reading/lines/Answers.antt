@@ -3,14 +3,14 @@ use Rattle.std.proofs.lemmas.Result.{err_from_is_err_and}
 use Rattle.std.proofs.lemmas.List.{map_push}
 use Rattle.lus_meaning.specs.TraceView.{line_view}
 use Rattle.trace_replay.specs.declared.reading.Next.{Next}
-use Rattle.trace_replay.specs.Reading.{left_of, lines_of, next_view}
+use Rattle.trace_replay.specs.Reading.{left_of, lines_left, next_view}
 use Rattle.trace_replay.proofs.Lines.{fewer, lines_end_with, lines_go_on, lines_done}
 use Rattle.trace_replay.proofs.reading.lines.Goals as goal
 
 pub returns-in_err-line : goal.returns-in_err-line
 returns-in_err-line c =
     let p = err_from_is_err_and c.from_residual.result c.from_residual.ensures.1 in
-    rw (p.1, p.2) (lines_end_with c.in_err-line.field-0.0 (map line_view c.loop-lines.lines.items) (left_of c.loop-lines.here) (lines_of (left_of c.args.start)) c.in_err-line.ensures.line c.loop-lines.invariant.same)
+    rw (p.1, p.2) (lines_end_with c.in_err-line.field-0.0 (map line_view c.loop-lines.lines.items) (left_of c.loop-lines.here) (lines_left (left_of c.args.start)) c.in_err-line.ensures.line c.loop-lines.invariant.same)
 
 pub loop-lines-smaller : goal.loop-lines-smaller
 loop-lines-smaller c = fewer (left_of c.loop-lines.here) (line_view c.in-Line.line) (left_of c.in-Line.after) (c.in_ok-line.ensures.line ∙ ap (λ (o : Next). Ok (next_view o)) c.in-Line.is)
@@ -26,4 +26,4 @@ loop-lines-preserved c = record {
 }
 
 pub returns-in-End : goal.returns-in-End
-returns-in-End c = lines_done (map line_view c.loop-lines.lines.items) (left_of c.loop-lines.here) c.in-End.at (lines_of (left_of c.args.start)) (c.in_ok-line.ensures.line ∙ ap (λ (o : Next). Ok (next_view o)) c.in-End.is) c.loop-lines.invariant.same
+returns-in-End c = lines_done (map line_view c.loop-lines.lines.items) (left_of c.loop-lines.here) c.in-End.at (lines_left (left_of c.args.start)) (c.in_ok-line.ensures.line ∙ ap (λ (o : Next). Ok (next_view o)) c.in-End.is) c.loop-lines.invariant.same

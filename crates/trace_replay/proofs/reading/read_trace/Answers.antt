@@ -2,14 +2,11 @@ use Rattle.std.proofs.Common.{Result, subst}
 use Rattle.lus_tree.specs.declared.place.Pos.{Pos}
 use Rattle.lus_meaning.specs.TraceView.{Listing, trace_view}
 use Rattle.trace_replay.specs.Reading.{Gives}
-use Rattle.trace_replay.proofs.Unique.{trace_read, misfit_read, is_found, is_placed, is_refused}
+use Rattle.trace_replay.proofs.Unique.{trace_read, misfit_read, is_found, is_refused}
 use Rattle.trace_replay.proofs.reading.read_trace.Goals as goal
 
 pub returns-clause-found : goal.returns-clause-found
 returns-clause-found c = is_found c.args.bytes.now c.whole.result c.whole.ensures
-
-pub returns-clause-placed : goal.returns-clause-placed
-returns-clause-placed c = is_placed c.args.bytes.now c.whole.result c.whole.ensures
 
 pub returns-clause-form : goal.returns-clause-form
 returns-clause-form c = is_refused c.args.bytes.now c.whole.result c.whole.ensures

@@ -1,5 +1,5 @@
 use Rattle.std.proofs.Common.{rules}
-use Rattle.trace_replay.proofs.Names.{name_utf8}
+use Rattle.trace_replay.proofs.AsciiNames.{name_utf8}
 use Rattle.trace_replay.proofs.words.name.Goals as goal
 
 pub returns-in-Err : goal.returns-in-Err

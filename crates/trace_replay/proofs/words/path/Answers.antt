@@ -1,7 +1,7 @@
 use Rattle.std.proofs.Common.{Some, None, option_map, ap, sym, ◌∙◌, arith, rules}
 use Rattle.lus_meaning.specs.TraceView.{spot_view}
 use Rattle.trace_replay.specs.Reading.{place_of}
-use Rattle.trace_replay.proofs.Places.{after_dot, after_other, no_number, is_place}
+use Rattle.trace_replay.proofs.Addresses.{after_dot, after_other, no_number, is_place}
 use Rattle.trace_replay.proofs.words.path.Goals as goal
 use Rattle.trace_replay.proofs.words.path.Goals.{then-word-i-eq46+in-Some+in_ok-push, else-word-i-eq46}
 

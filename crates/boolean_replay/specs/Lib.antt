@@ -1,9 +1,0 @@
-pub mod Truth
-pub mod Code
-pub mod Columns
-pub mod Listed
-pub mod Tables
-pub mod Equations
-pub mod Broken
-pub mod Replayed
-pub mod Answer
