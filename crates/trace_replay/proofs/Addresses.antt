@@ -10,13 +10,13 @@ use Rattle.std.specs.Str.{all_ascii_digits}
 use Rattle.lus_lexer.specs.Tokens.{is_letter, is_word}
 use Rattle.lus_meaning.specs.Trace.{Subject, of_name, of_first}
 use Rattle.lus_lexer.specs.Names.{is_name}
-use Rattle.trace_replay.specs.Words.{IsPlace, FitsSubject, subject_text, step_text, place_text}
-use Rattle.trace_replay.specs.Reading.{place_from, place_of, small_of, name_of, subject_of, longer, joined}
+use Rattle.trace_replay.specs.Words.{IsAddress, FitsSubject, subject_text, step_text, address_text}
+use Rattle.trace_replay.specs.Reading.{address_from, address_of, small_of, name_of, subject_of, longer, joined}
 use Rattle.trace_replay.proofs.AsciiNames.{name_word, name_letter}
 use Rattle.trace_replay.proofs.Numbers.{and_left, and_right, both_true, some_is, none_some, equal_is, map_some, small_sound, small_complete, digits_of_decimal}
 
-pub nothing : (p w : List ℕ) → place_from None p w ≡ None
-unfolding place_from
+pub nothing : (p w : List ℕ) → address_from None p w ≡ None
+unfolding address_from
 nothing p w = refl
 
 abbrev pub piece : List ℕ → ℕ → ℕ → List ℕ
@@ -36,17 +36,17 @@ dot_is : (b : ℕ) → b ≡ 46 → (b == 46) ≡ true
 dot_is b e = ap (λ (x : ℕ). x == 46) e
 
 pub at_dot : (path : List ℕ) (w : List ℕ) (from i : ℕ) → i < length w → get_or w i 0 ≡ 46
-    → place_from (Some path) (piece w from i) (drop i w) ≡ place_from (longer path (small_of (piece w from i))) [] (drop (i + 1) w)
-unfolding place_from
+    → address_from (Some path) (piece w from i) (drop i w) ≡ address_from (longer path (small_of (piece w from i))) [] (drop (i + 1) w)
+unfolding address_from
 at_dot path w from i h e = rw (front w i h, dot_is (get_or w i 0) e) refl
 
 pub at_other : (path : List ℕ) (w : List ℕ) (from i : ℕ) → from ≤ i → i < length w → (get_or w i 0 == 46) ≡ false
-    → place_from (Some path) (piece w from i) (drop i w) ≡ place_from (Some path) (piece w from (i + 1)) (drop (i + 1) w)
-unfolding place_from
+    → address_from (Some path) (piece w from i) (drop i w) ≡ address_from (Some path) (piece w from (i + 1)) (drop (i + 1) w)
+unfolding address_from
 at_other path w from i o h e = rw (front w i h, e, piece_more w from i o h) refl
 
-pub at_end : (path : List ℕ) (w : List ℕ) (from i : ℕ) → from ≤ i → length w ≤ i → place_from (Some path) (piece w from i) (drop i w) ≡ joined path (subject_of (drop from w))
-unfolding place_from
+pub at_end : (path : List ℕ) (w : List ℕ) (from i : ℕ) → from ≤ i → length w ≤ i → address_from (Some path) (piece w from i) (drop i w) ≡ joined path (subject_of (drop from w))
+unfolding address_from
 at_end path w from i o h = rw (drop_all i w h, take_all (i - from) (drop from w) (omega (arith, length-drop from w))) refl
 
 not_dot : (b : ℕ) → (b ≡ 46 → ⊥) → (b == 46) ≡ false
@@ -54,30 +54,30 @@ not_dot b h = grind (arith, h)
 
 -- behind a dot
 pub after_dot : (path path' : List ℕ) (w : List ℕ) (from from' i n : ℕ) (total : Option (List ℕ × Subject)) → path' ≡ path ++ n ∷ [] → from' ≡ i + 1 → i < length w → get_or w i 0 ≡ 46 → Some n ≡ small_of (piece w from i)
-    → place_from (Some path) (piece w from i) (drop i w) ≡ total → place_from (Some path') (piece w from' (i + 1)) (drop (i + 1) w) ≡ total
+    → address_from (Some path) (piece w from i) (drop i w) ≡ total → address_from (Some path') (piece w from' (i + 1)) (drop (i + 1) w) ≡ total
 after_dot path path' w from from' i n total p f h e s so_far =
     let zero : i + 1 - (i + 1) ≡ 0 = omega arith in
     let none : piece w (i + 1) (i + 1) ≡ [] = ap (λ (k : ℕ). take k (drop (i + 1) w)) zero in
-    ap (λ (k : ℕ). place_from (Some path') (piece w k (i + 1)) (drop (i + 1) w)) f ∙ ap (λ (x : List ℕ). place_from (Some path') x (drop (i + 1) w)) none
-    ∙ ap (λ (x : List ℕ). place_from (Some x) [] (drop (i + 1) w)) p ∙ ap (λ (o : Option ℕ). place_from (longer path o) [] (drop (i + 1) w)) s ∙ sym (at_dot path w from i h e) ∙ so_far
+    ap (λ (k : ℕ). address_from (Some path') (piece w k (i + 1)) (drop (i + 1) w)) f ∙ ap (λ (x : List ℕ). address_from (Some path') x (drop (i + 1) w)) none
+    ∙ ap (λ (x : List ℕ). address_from (Some x) [] (drop (i + 1) w)) p ∙ ap (λ (o : Option ℕ). address_from (longer path o) [] (drop (i + 1) w)) s ∙ sym (at_dot path w from i h e) ∙ so_far
 
 -- behind another byte
 pub after_other : (path path' : List ℕ) (w : List ℕ) (from from' i : ℕ) (total : Option (List ℕ × Subject)) → path' ≡ path → from' ≡ from → from ≤ i → i < length w → (get_or w i 0 ≡ 46 → ⊥)
-    → place_from (Some path) (piece w from i) (drop i w) ≡ total → place_from (Some path') (piece w from' (i + 1)) (drop (i + 1) w) ≡ total
+    → address_from (Some path) (piece w from i) (drop i w) ≡ total → address_from (Some path') (piece w from' (i + 1)) (drop (i + 1) w) ≡ total
 after_other path path' w from from' i total p f o h e so_far =
-    ap (λ (k : ℕ). place_from (Some path') (piece w k (i + 1)) (drop (i + 1) w)) f ∙ ap (λ (x : List ℕ). place_from (Some x) (piece w from (i + 1)) (drop (i + 1) w)) p
+    ap (λ (k : ℕ). address_from (Some path') (piece w k (i + 1)) (drop (i + 1) w)) f ∙ ap (λ (x : List ℕ). address_from (Some x) (piece w from (i + 1)) (drop (i + 1) w)) p
     ∙ sym (at_other path w from i o h (not_dot (get_or w i 0) e)) ∙ so_far
 
 -- a piece before a dot that is no number
 pub no_number : (path : List ℕ) (w : List ℕ) (from i : ℕ) (total : Option (List ℕ × Subject)) → i < length w → get_or w i 0 ≡ 46 → None ≡ small_of (piece w from i)
-    → place_from (Some path) (piece w from i) (drop i w) ≡ total → None ≡ total
+    → address_from (Some path) (piece w from i) (drop i w) ≡ total → None ≡ total
 no_number path w from i total h e s so_far =
-    sym (nothing [] (drop (i + 1) w)) ∙ ap (λ (o : Option ℕ). place_from (longer path o) [] (drop (i + 1) w)) s ∙ sym (at_dot path w from i h e) ∙ so_far
+    sym (nothing [] (drop (i + 1) w)) ∙ ap (λ (o : Option ℕ). address_from (longer path o) [] (drop (i + 1) w)) s ∙ sym (at_dot path w from i h e) ∙ so_far
 
 -- the end of the word
-pub is_place : (path : List ℕ) (w : List ℕ) (from i : ℕ) (total : Option (List ℕ × Subject)) (s : Option Subject) → from ≤ i → length w ≤ i → s ≡ subject_of (take (length w - from) (drop from w))
-    → place_from (Some path) (piece w from i) (drop i w) ≡ total → joined path s ≡ total
-is_place path w from i total s o h e so_far = ap (joined path) (e ∙ ap subject_of (take_all (length w - from) (drop from w) (omega (arith, length-drop from w)))) ∙ sym (at_end path w from i o h) ∙ so_far
+pub is_address : (path : List ℕ) (w : List ℕ) (from i : ℕ) (total : Option (List ℕ × Subject)) (s : Option Subject) → from ≤ i → length w ≤ i → s ≡ subject_of (take (length w - from) (drop from w))
+    → address_from (Some path) (piece w from i) (drop i w) ≡ total → joined path s ≡ total
+is_address path w from i total s o h e so_far = ap (joined path) (e ∙ ap subject_of (take_all (length w - from) (drop from w) (omega (arith, length-drop from w)))) ∙ sym (at_end path w from i o h) ∙ so_far
 
 -- ---- what a place is
 
@@ -115,24 +115,24 @@ letter_no_hash b h = grind (arith, h)
 cons_is : (a b : ℕ) (v w : List ℕ) → a ≡ b → v ≡ w → (a ∷ v) ≡ (b ∷ w)
 cons_is a b v w e f = cc
 
-dot_read : (path piece r : List ℕ) → place_from (Some path) piece (46 ∷ r) ≡ place_from (longer path (small_of piece)) [] r
-unfolding place_from
+dot_read : (path piece r : List ℕ) → address_from (Some path) piece (46 ∷ r) ≡ address_from (longer path (small_of piece)) [] r
+unfolding address_from
 dot_read path piece r = refl
 
-piece_end : (path piece : List ℕ) → place_from (Some path) piece [] ≡ joined path (subject_of piece)
-unfolding place_from
+piece_end : (path piece : List ℕ) → address_from (Some path) piece [] ≡ joined path (subject_of piece)
+unfolding address_from
 piece_end path piece = refl
 
 -- bytes without a dot go to the piece
-to_piece : (path piece q r : List ℕ) → no_dots q ≡ true → place_from (Some path) piece (q ++ r) ≡ place_from (Some path) (piece ++ q) r
-unfolding place_from
-to_piece path piece [] r h = ap (λ (x : List ℕ). place_from (Some path) x r) (sym (append-nil piece))
+to_piece : (path piece q r : List ℕ) → no_dots q ≡ true → address_from (Some path) piece (q ++ r) ≡ address_from (Some path) (piece ++ q) r
+unfolding address_from
+to_piece path piece [] r h = ap (λ (x : List ℕ). address_from (Some path) x r) (sym (append-nil piece))
 to_piece path piece (b ∷ q) r h = go (b == 46) h (to_piece path (piece ++ b ∷ []) q r)
   where
-    go : (x : Bool) → (not x && no_dots q) ≡ true → (no_dots q ≡ true → place_from (Some path) (piece ++ b ∷ []) (q ++ r) ≡ place_from (Some path) ((piece ++ b ∷ []) ++ q) r)
-        → cond x (place_from (longer path (small_of piece)) [] (q ++ r)) (place_from (Some path) (piece ++ b ∷ []) (q ++ r)) ≡ place_from (Some path) (piece ++ b ∷ q) r
+    go : (x : Bool) → (not x && no_dots q) ≡ true → (no_dots q ≡ true → address_from (Some path) (piece ++ b ∷ []) (q ++ r) ≡ address_from (Some path) ((piece ++ b ∷ []) ++ q) r)
+        → cond x (address_from (longer path (small_of piece)) [] (q ++ r)) (address_from (Some path) (piece ++ b ∷ []) (q ++ r)) ≡ address_from (Some path) (piece ++ b ∷ q) r
     go true k f = absurd cc
-    go false k f = f k ∙ ap (λ (x : List ℕ). place_from (Some path) x r) (append_assoc piece (b ∷ []) q)
+    go false k f = f k ∙ ap (λ (x : List ℕ). address_from (Some path) x r) (append_assoc piece (b ∷ []) q)
 
 subject_complete : (s : Subject) → FitsSubject s → subject_of (subject_text s) ≡ Some s
 unfolding subject_of name_of
@@ -154,38 +154,38 @@ subject_sound (b ∷ bs) s h = go (b == 35) refl (is_name (b ∷ bs)) refl h
     go false e false f k = none_some s k
 
 -- a number and a dot
-step_read : (path : List ℕ) (k : ℕ) (r : List ℕ) → k < 4294967296 → place_from (Some path) [] (step_text k ++ r) ≡ place_from (Some (path ++ k ∷ [])) [] r
+step_read : (path : List ℕ) (k : ℕ) (r : List ℕ) → k < 4294967296 → address_from (Some path) [] (step_text k ++ r) ≡ address_from (Some (path ++ k ∷ [])) [] r
 step_read path k r l =
-    ap (place_from (Some path) []) (append_assoc (decimal k) (46 ∷ []) r) ∙ to_piece path [] (decimal k) (46 ∷ r) (decimal_no_dots k l) ∙ dot_read path (decimal k) r
-    ∙ ap (λ (o : Option ℕ). place_from (longer path o) [] r) (small_complete (decimal k) k (record { spelled = refl; small = l }))
+    ap (address_from (Some path) []) (append_assoc (decimal k) (46 ∷ []) r) ∙ to_piece path [] (decimal k) (46 ∷ r) (decimal_no_dots k l) ∙ dot_read path (decimal k) r
+    ∙ ap (λ (o : Option ℕ). address_from (longer path o) [] r) (small_complete (decimal k) k (record { spelled = refl; small = l }))
 
-read_place : (path ks : List ℕ) (s : Subject) → AllByRecursion (λ k. k < 4294967296) ks → FitsSubject s → place_from (Some path) [] (place_text ks s) ≡ Some (path ++ ks, s)
-read_place path [] s a f =
-    ap (place_from (Some path) []) (sym (append-nil (subject_text s))) ∙ to_piece path [] (subject_text s) [] (subject_no_dots s f) ∙ piece_end path (subject_text s)
+read_address : (path ks : List ℕ) (s : Subject) → AllByRecursion (λ k. k < 4294967296) ks → FitsSubject s → address_from (Some path) [] (address_text ks s) ≡ Some (path ++ ks, s)
+read_address path [] s a f =
+    ap (address_from (Some path) []) (sym (append-nil (subject_text s))) ∙ to_piece path [] (subject_text s) [] (subject_no_dots s f) ∙ piece_end path (subject_text s)
     ∙ ap (joined path) (subject_complete s f) ∙ ap (λ (x : List ℕ). Some (x, s)) (sym (append-nil path))
-read_place path (k ∷ ks) s a f =
-    step_read path k (place_text ks s) a.0 ∙ read_place (path ++ k ∷ []) ks s a.1 f ∙ ap (λ (x : List ℕ). Some (x, s)) (append_assoc path (k ∷ []) ks)
+read_address path (k ∷ ks) s a f =
+    step_read path k (address_text ks s) a.0 ∙ read_address (path ++ k ∷ []) ks s a.1 f ∙ ap (λ (x : List ℕ). Some (x, s)) (append_assoc path (k ∷ []) ks)
 
-pub place_complete : (w path : List ℕ) (s : Subject) → IsPlace w path s → place_of w ≡ Some (path, s)
-place_complete w path s p = ap place_of p.spelled ∙ read_place [] path s p.path_fits p.subject_fits
+pub address_complete : (w path : List ℕ) (s : Subject) → IsAddress w path s → address_of w ≡ Some (path, s)
+address_complete w path s p = ap address_of p.spelled ∙ read_address [] path s p.path_fits p.subject_fits
 
 pub record Spells (path piece bs : List ℕ) (x : List ℕ × Subject) : Type 0 where
   pub more : List ℕ
   pub path_is : x.0 ≡ path ++ more
-  pub spelled : piece ++ bs ≡ place_text more x.1
+  pub spelled : piece ++ bs ≡ address_text more x.1
   pub path_fits : AllByRecursion (λ k. k < 4294967296) more
   pub subject_fits : FitsSubject x.1
 
-spells : (bs path piece : List ℕ) (x : List ℕ × Subject) → place_from (Some path) piece bs ≡ Some x → Spells path piece bs x
-unfolding place_from
+spells : (bs path piece : List ℕ) (x : List ℕ × Subject) → address_from (Some path) piece bs ≡ Some x → Spells path piece bs x
+unfolding address_from
 spells [] path piece x h =
     let m = map_some (λ s. (path, s)) (subject_of piece) x h in
     let s = subject_sound piece m.0 m.1 in
     subst (λ y. Spells path piece [] y) (sym m.2) (record { more = []; path_is = sym (append-nil path); spelled = append-nil piece ∙ s.0; path_fits = tt; subject_fits = s.1 })
 spells (b ∷ bs) path piece x h = go (b == 46) refl (small_of piece) refl h (λ k. spells bs (path ++ k ∷ []) [] x) (spells bs path (piece ++ b ∷ []) x)
   where
-    go : (d : Bool) → (b == 46) ≡ d → (o : Option ℕ) → small_of piece ≡ o → cond d (place_from (longer path o) [] bs) (place_from (Some path) (piece ++ b ∷ []) bs) ≡ Some x
-        → ((k : ℕ) → place_from (Some (path ++ k ∷ [])) [] bs ≡ Some x → Spells (path ++ k ∷ []) [] bs x) → (place_from (Some path) (piece ++ b ∷ []) bs ≡ Some x → Spells path (piece ++ b ∷ []) bs x) → Spells path piece (b ∷ bs) x
+    go : (d : Bool) → (b == 46) ≡ d → (o : Option ℕ) → small_of piece ≡ o → cond d (address_from (longer path o) [] bs) (address_from (Some path) (piece ++ b ∷ []) bs) ≡ Some x
+        → ((k : ℕ) → address_from (Some (path ++ k ∷ [])) [] bs ≡ Some x → Spells (path ++ k ∷ []) [] bs x) → (address_from (Some path) (piece ++ b ∷ []) bs ≡ Some x → Spells path (piece ++ b ∷ []) bs x) → Spells path piece (b ∷ bs) x
     go true e None f k dot other = none_some x (sym (nothing [] bs) ∙ k)
     go true e (Some n) f k dot other =
         let s = dot n k in
@@ -193,7 +193,7 @@ spells (b ∷ bs) path piece x h = go (b == 46) refl (small_of piece) refl h (λ
         record {
           more = n ∷ s.more;
           path_is = s.path_is ∙ append_assoc path (n ∷ []) s.more;
-          spelled = ap (λ (c : ℕ). piece ++ c ∷ bs) (equal_is b 46 e) ∙ ap (λ (y : List ℕ). y ++ 46 ∷ bs) i.spelled ∙ ap (λ (y : List ℕ). decimal n ++ 46 ∷ y) s.spelled ∙ sym (append_assoc (decimal n) (46 ∷ []) (place_text s.more x.1));
+          spelled = ap (λ (c : ℕ). piece ++ c ∷ bs) (equal_is b 46 e) ∙ ap (λ (y : List ℕ). y ++ 46 ∷ bs) i.spelled ∙ ap (λ (y : List ℕ). decimal n ++ 46 ∷ y) s.spelled ∙ sym (append_assoc (decimal n) (46 ∷ []) (address_text s.more x.1));
           path_fits = (i.small, s.path_fits);
           subject_fits = s.subject_fits;
         }
@@ -201,8 +201,8 @@ spells (b ∷ bs) path piece x h = go (b == 46) refl (small_of piece) refl h (λ
         let s = other k in
         record { more = s.more; path_is = s.path_is; spelled = sym (append_assoc piece (b ∷ []) bs) ∙ s.spelled; path_fits = s.path_fits; subject_fits = s.subject_fits }
 
-pub place_sound : (w path : List ℕ) (s : Subject) → place_of w ≡ Some (path, s) → IsPlace w path s
-place_sound w path s h =
+pub address_sound : (w path : List ℕ) (s : Subject) → address_of w ≡ Some (path, s) → IsAddress w path s
+address_sound w path s h =
     let x = spells w [] [] (path, s) h in
     let e : x.more ≡ path = sym x.path_is in
-    record { spelled = x.spelled ∙ ap (λ (y : List ℕ). place_text y s) e; path_fits = subst (AllByRecursion (λ k. k < 4294967296)) e x.path_fits; subject_fits = x.subject_fits }
+    record { spelled = x.spelled ∙ ap (λ (y : List ℕ). address_text y s) e; path_fits = subst (AllByRecursion (λ k. k < 4294967296)) e x.path_fits; subject_fits = x.subject_fits }

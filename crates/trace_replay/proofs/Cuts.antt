@@ -2,7 +2,7 @@
 use Rattle.std.proofs.Common.{◌≡◌, ℕ, zero, suc, ◌<◌, ◌≤◌, Bool, true, false, ◌||◌, ◌&&◌, cond, List, [], ◌∷◌, length, take, drop, Option, Some, None, Err, refl, sym, ap, ◌∙◌, arith}
 use Rattle.std.specs.Prelude.{◌==◌}
 use Rattle.lus_tree.specs.declared.place.Pos.{Pos}
-use Rattle.trace_replay.specs.Cutting.{Word, Cut, cut, right, below, is_blank, is_return, begins_with_feed, with_front, before_feed, before_blank, before_return, before_byte, filled}
+use Rattle.trace_replay.specs.Cutting.{TraceWord, Cut, cut, right, below, is_blank, is_return, begins_with_feed, with_front, before_feed, before_blank, before_return, before_byte, filled}
 use Rattle.trace_replay.specs.Reading.{Left, left, word_length, blank_length, end_length, shift, ends_word, word_of, first_of, begins_with_blank}
 
 abbrev pub left_at : Pos → List ℕ → Left
@@ -102,7 +102,7 @@ cut_word p (b ∷ bs) = go (cut_word (right p) bs) (ends_word b bs) refl
     go h true e = onto_same (cut p (b ∷ bs)) (stops_at b bs e p) ∙ ap (λ q. onto [] (cut q (b ∷ bs))) (sym (shift_none p))
     go h false e = goes_on b bs p e ∙ ap (before_byte b) h ∙ ap (λ q. onto (b ∷ take n bs) (cut q (drop n bs))) (shift_more p n)
 
-with_front_some : (w : List ℕ) (p : Pos) (ws : List Word) → 0 < length w → with_front w p ws ≡ record { text = w; at = p } ∷ ws
+with_front_some : (w : List ℕ) (p : Pos) (ws : List TraceWord) → 0 < length w → with_front w p ws ≡ record { text = w; at = p } ∷ ws
 with_front_some [] p ws h = absurd (omega arith)
 with_front_some (b ∷ w) p ws h = refl
 

@@ -14,7 +14,7 @@ row-within t n w lt = grind arith
 below : (t n : ℕ) → t < suc n → (t < n) ⊎ (t ≡ n)
 below t n lt = grind arith
 
--- a code reads places before j at its own instant, and any place of a row at earlier ones
+-- a code reads places before j at its own instant, and any column_of of a row at earlier ones
 abbrev pub ReadsBelow : ℕ → ℕ → Coded → Type 0
 ReadsBelow w j (known b) = Unit {0}
 ReadsBelow w j (placed k) = k < j
@@ -33,7 +33,7 @@ abbrev pub AreReadable : ℕ → ℕ → List Source → Type 0
 AreReadable w j [] = w ≡ j
 AreReadable w j (c ∷ cs) = SourceBelow w j c × AreReadable w (suc j) cs
 
--- from a place on, the values of an instant are those of the columns
+-- from a column_of on, the values of an instant are those of the columns
 abbrev pub Meets : List Bool → ℕ → ℕ → ℕ → List Source → Type 0
 Meets kept w t j [] = Unit {0}
 Meets kept w t j (c ∷ cs) = (get_or kept (t * w + j) false ≡ source_truth kept w t c) × Meets kept w t (suc j) cs

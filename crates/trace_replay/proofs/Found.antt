@@ -1,4 +1,4 @@
--- What a list finds, with one more item, and what it says of a place.
+-- What a list finds, with one more item, and what it says of a column_of.
 use Rattle.std.proofs.Common.{◌≡◌, ◌<◌, ◌+◌, ℕ, suc, Bool, true, false, cond, List, [], ◌∷◌, ◌++◌, length, Option, Some, None, option_map, is_some, refl, ap, ◌∙◌, sym, subst, arith, map, take, get_or, add-one, true≢false, ◌||◌, if◌then◌else◌}
 use denote.Ref.{Bor}
 use Rattle.std.specs.List.{list_any}
@@ -13,16 +13,16 @@ use Rattle.lus_meaning.specs.Trace.{Line, Subject}
 use Rattle.std.specs.Option.{option_or}
 use Rattle.std.specs.Str.{bytes_eq}
 use Rattle.lus_tree.specs.Tree.{Name}
-use Rattle.trace_replay.specs.Columns.{place}
-use Rattle.trace_replay.specs.Found.{found_place, lists, found_values}
+use Rattle.trace_replay.specs.Columns.{column_of}
+use Rattle.trace_replay.specs.Found.{found_column, lists, found_values}
 
-pub found_place-snoc : (xs : List Name) (y x : Name) → found_place (xs ++ y ∷ []) x ≡ option_or (found_place xs x) (cond (bytes_eq x y) (Some (length xs)) None)
-found_place-snoc [] y x = go (bytes_eq x y)
+pub found_column-snoc : (xs : List Name) (y x : Name) → found_column (xs ++ y ∷ []) x ≡ option_or (found_column xs x) (cond (bytes_eq x y) (Some (length xs)) None)
+found_column-snoc [] y x = go (bytes_eq x y)
   where
     go : (b : Bool) → cond b (Some 0) (option_map suc None) ≡ cond b (Some 0) None
     go true = refl
     go false = refl
-found_place-snoc (z ∷ xs) y x = go (bytes_eq x z) (found_place xs x) (bytes_eq x y) (found_place (xs ++ y ∷ []) x) (found_place-snoc xs y x)
+found_column-snoc (z ∷ xs) y x = go (bytes_eq x z) (found_column xs x) (bytes_eq x y) (found_column (xs ++ y ∷ []) x) (found_column-snoc xs y x)
   where
     go : (b : Bool) (o : Option ℕ) (c : Bool) (p : Option ℕ) → p ≡ option_or o (cond c (Some (length xs)) None) → cond b (Some 0) (option_map suc p) ≡ option_or (cond b (Some 0) (option_map suc o)) (cond c (Some (suc (length xs))) None)
     go true o c p e = refl
@@ -30,18 +30,18 @@ found_place-snoc (z ∷ xs) y x = go (bytes_eq x z) (found_place xs x) (bytes_eq
     go false None true p e = ap (option_map suc) e
     go false None false p e = ap (option_map suc) e
 
--- what `place` says of the place that is found
-pub found_place-is : (xs : List Name) (x : Name) → MatchOption (found_place xs x) (place xs x ≡ length xs) (λ i. (place xs x ≡ i) × (i < length xs))
-found_place-is [] x = refl
-found_place-is (y ∷ xs) x = go (bytes_eq x y) (found_place xs x) (found_place-is xs x)
+-- what `column_of` says of the column_of that is found
+pub found_column-is : (xs : List Name) (x : Name) → MatchOption (found_column xs x) (column_of xs x ≡ length xs) (λ i. (column_of xs x ≡ i) × (i < length xs))
+found_column-is [] x = refl
+found_column-is (y ∷ xs) x = go (bytes_eq x y) (found_column xs x) (found_column-is xs x)
   where
-    go : (b : Bool) (o : Option ℕ) → MatchOption o (place xs x ≡ length xs) (λ i. (place xs x ≡ i) × (i < length xs))
-        → MatchOption (cond b (Some 0) (option_map suc o)) (cond b 0 (suc (place xs x)) ≡ suc (length xs)) (λ i. (cond b 0 (suc (place xs x)) ≡ i) × (i < suc (length xs)))
+    go : (b : Bool) (o : Option ℕ) → MatchOption o (column_of xs x ≡ length xs) (λ i. (column_of xs x ≡ i) × (i < length xs))
+        → MatchOption (cond b (Some 0) (option_map suc o)) (cond b 0 (suc (column_of xs x)) ≡ suc (length xs)) (λ i. (cond b 0 (suc (column_of xs x)) ≡ i) × (i < suc (length xs)))
     go true o h = (refl, omega arith)
     go false None h = ap suc h
     go false (Some i) h = (ap suc h.0, omega (arith, h.1))
 
--- a name whose place is noted where it has none yet
+-- a name whose column_of is noted where it has none yet
 pub noted : {V : Type 0} (old : Name → Option V) (y x : Name) (v : V) (new : Option V) → is_some (old y) ≡ false → new ≡ cond (bytes_eq y x) (Some v) (old x) → new ≡ option_or (old x) (cond (bytes_eq x y) (Some v) None)
 noted {V} old y x v new none e = e ∙ go (bytes_eq y x) refl (bytes_eq x y) refl (old x) refl
   where
@@ -55,19 +55,19 @@ noted {V} old y x v new none e = e ∙ go (bytes_eq y x) refl (bytes_eq x y) ref
 
 -- the first places among one name more of a row
 pub found_take : {Z : Type 0} (bytes : Z → Name) (names : List Z) (i : ℕ) (z : Z) → i < length names → z ≡ get_or names i z → (x : Name)
-    → found_place (map bytes (take (i + 1) names)) x ≡ option_or (found_place (map bytes (take i names)) x) (cond (bytes_eq x (bytes z)) (Some i) None)
+    → found_column (map bytes (take (i + 1) names)) x ≡ option_or (found_column (map bytes (take i names)) x) (cond (bytes_eq x (bytes z)) (Some i) None)
 found_take {Z} bytes names i z lt is x =
     let long : length (map bytes (take i names)) ≡ i = length-map (take i names) bytes ∙ length-take-le i names (omega (arith, lt)) in
     let cons : take (i + 1) names ≡ take i names ++ z ∷ [] = rw add-one (take-suc names i z lt ∙ ap (λ (y : Z). take i names ++ y ∷ []) (sym is)) in
-    ap (λ (l : List Z). found_place (map bytes l) x) cons
-    ∙ ap (λ (l : List Name). found_place l x) (map-append bytes (take i names) (z ∷ []))
-    ∙ found_place-snoc (map bytes (take i names)) (bytes z) x
-    ∙ ap (λ k. option_or (found_place (map bytes (take i names)) x) (cond (bytes_eq x (bytes z)) (Some k) None)) long
+    ap (λ (l : List Z). found_column (map bytes l) x) cons
+    ∙ ap (λ (l : List Name). found_column l x) (map-append bytes (take i names) (z ∷ []))
+    ∙ found_column-snoc (map bytes (take i names)) (bytes z) x
+    ∙ ap (λ k. option_or (found_column (map bytes (take i names)) x) (cond (bytes_eq x (bytes z)) (Some k) None)) long
 
-pub place_there : {Z : Type 0} (bytes : Z → Name) (names : List Z) (x : Name) (o : Option ℕ) → o ≡ found_place (map bytes names) x → MatchOption o (place (map bytes names) x ≡ length names) (λ i. (place (map bytes names) x ≡ i) × (i < length names))
-place_there bytes names x o e =
-    subst (λ k. MatchOption o (place (map bytes names) x ≡ k) (λ i. (place (map bytes names) x ≡ i) × (i < k))) (length-map names bytes)
-    (subst (λ (p : Option ℕ). MatchOption p (place (map bytes names) x ≡ length (map bytes names)) (λ i. (place (map bytes names) x ≡ i) × (i < length (map bytes names)))) (sym e) (found_place-is (map bytes names) x))
+pub column_there : {Z : Type 0} (bytes : Z → Name) (names : List Z) (x : Name) (o : Option ℕ) → o ≡ found_column (map bytes names) x → MatchOption o (column_of (map bytes names) x ≡ length names) (λ i. (column_of (map bytes names) x ≡ i) × (i < length names))
+column_there bytes names x o e =
+    subst (λ k. MatchOption o (column_of (map bytes names) x ≡ k) (λ i. (column_of (map bytes names) x ≡ i) × (i < k))) (length-map names bytes)
+    (subst (λ (p : Option ℕ). MatchOption p (column_of (map bytes names) x ≡ length (map bytes names)) (λ i. (column_of (map bytes names) x ≡ i) × (i < length (map bytes names)))) (sym e) (found_column-is (map bytes names) x))
 
 pub mapped_or : {V W : Type 0} (f : V → W) (o : Option V) (b : Bool) (v : V) → option_map f (option_or o (cond b (Some v) None)) ≡ option_or (option_map f o) (cond b (Some (f v)) None)
 mapped_or f (Some w) b v = refl

@@ -23,3 +23,4 @@ pub mod TableNames
 pub mod Replayed
 pub mod Shown
 pub mod Steps
+pub mod FitWritten

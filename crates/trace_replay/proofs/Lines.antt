@@ -5,8 +5,8 @@ use Rattle.lus_tree.specs.declared.place.Pos.{Pos}
 use Rattle.lus_meaning.specs.TraceView.{PlacedValue, PlacedLine}
 use Rattle.trace_replay.specs.declared.fault.TraceFault.{TraceFault}
 use Rattle.trace_replay.specs.declared.fault.TraceFault.TheVariants as faults
-use Rattle.trace_replay.specs.Cutting.{Word, Row}
-use Rattle.trace_replay.specs.Reading.{◌>>=◌, Fails, Left, word_in, values_in, values_left, without_words, or_misfit, Next, a_line, an_end, line_of, line_from, lines_left, lines_in, rows_left, listed_of, values_of, place_of, next_of, nothing_of, is_closing, onto}
+use Rattle.trace_replay.specs.Cutting.{TraceWord, TextLine}
+use Rattle.trace_replay.specs.Reading.{◌>>=◌, Fails, Left, word_in, values_in, values_left, without_words, or_misfit, Next, a_line, an_end, line_of, line_from, lines_left, lines_in, lines_ahead, line_read, values_of, address_of, next_of, nothing_of, is_closing, onto}
 
 abbrev pub values_onto : List PlacedValue → Result (List PlacedValue × Left) Pos → Result (List PlacedValue × Left) Pos
 values_onto front read = read >>= λ x. Ok (front ++ x.0, x.1)
@@ -32,18 +32,18 @@ pub err_is : {A : Type 0} (p q : Pos) → failed {A = A} p ≡ Err q → p ≡ q
 err_is p q e = cc
 
 -- a line takes all its words
-pub listed_left : (w : Word) (l : Left) (x : PlacedLine × Left) → listed_of w l ≡ Ok x → x.1 ≡ without_words l
-unfolding listed_of values_of
-listed_left w l x e =
-    let a = bind_ok (or_misfit w.at (place_of w.text)) _ x e in
+pub line_left : (w : TraceWord) (l : Left) (x : PlacedLine × Left) → line_read w l ≡ Ok x → x.1 ≡ without_words l
+unfolding line_read values_of
+line_left w l x e =
+    let a = bind_ok (or_misfit w.at (address_of w.text)) _ x e in
     let b = bind_ok (next_of l >>= λ first. values_left l) _ x a.2 in
     let c = bind_ok (next_of l) (λ first. values_left l) b.0 b.1 in
     let d = bind_ok (values_in l.words) (λ vs. Ok (vs, without_words l)) b.0 c.2 in
     sym (ap (λ y. y.1) (ok_is _ x b.2)) ∙ sym (ap (λ y. y.1) (ok_is (d.0, without_words l) b.0 d.2))
 
 pub record Steps (l m : Left) : Type 0 where
-  pub row : Row
-  pub rows : rows_left l ≡ row ∷ rows_left m
+  pub row : TextLine
+  pub rows : lines_ahead l ≡ row ∷ lines_ahead m
   pub last : m.last ≡ l.last
 
 end_or_line : (p : Pos) (x : PlacedLine) (m : Left) → done (an_end p) ≡ Ok (a_line x m) → ⊥
@@ -52,7 +52,7 @@ end_or_line p x m e = cc
 same_line : (x y : PlacedLine) (l m : Left) → done (a_line x l) ≡ Ok (a_line y m) → l ≡ m
 same_line x y l m e = cc
 
-steps_in : (e : Pos) (rows : List Row) (x : PlacedLine) (m : Left) → line_from e rows ≡ Ok (a_line x m) → (r : Row) × (rows ≡ r ∷ rows_left m) × (m.last ≡ e)
+steps_in : (e : Pos) (rows : List TextLine) (x : PlacedLine) (m : Left) → line_from e rows ≡ Ok (a_line x m) → (r : TextLine) × (rows ≡ r ∷ lines_ahead m) × (m.last ≡ e)
 unfolding line_from
 steps_in e [] x m h = absurd cc
 steps_in e (r ∷ rs) x m h = go r.words h
@@ -60,46 +60,46 @@ steps_in e (r ∷ rs) x m h = go r.words h
     whole : Left
     whole = record { words = r.words; end = r.end; later = rs; last = e }
 
-    behind : List Word → Left
+    behind : List TraceWord → Left
     behind ws = record { words = ws; end = r.end; later = rs; last = e }
 
-    listed : (w : Word) (ws : List Word) → (listed_of w (behind ws) >>= (λ y. Ok (a_line y.0 y.1))) ≡ Ok (a_line x m) → m ≡ without_words (behind ws)
-    listed w ws k =
-        let b = bind_ok (listed_of w (behind ws)) (λ y. Ok (a_line y.0 y.1)) (a_line x m) k in
-        sym (same_line b.0.0 x b.0.1 m b.2) ∙ listed_left w (behind ws) b.0 b.1
+    line_wanted : (w : TraceWord) (ws : List TraceWord) → (line_read w (behind ws) >>= (λ y. Ok (a_line y.0 y.1))) ≡ Ok (a_line x m) → m ≡ without_words (behind ws)
+    line_wanted w ws k =
+        let b = bind_ok (line_read w (behind ws)) (λ y. Ok (a_line y.0 y.1)) (a_line x m) k in
+        sym (same_line b.0.0 x b.0.1 m b.2) ∙ line_left w (behind ws) b.0 b.1
 
-    branch : (b : Bool) (w : Word) (ws : List Word) → cond b (nothing_of (behind ws) >>= (λ done. Ok (an_end w.at))) (listed_of w (behind ws) >>= (λ y. Ok (a_line y.0 y.1))) ≡ Ok (a_line x m) → m ≡ without_words (behind ws)
+    branch : (b : Bool) (w : TraceWord) (ws : List TraceWord) → cond b (nothing_of (behind ws) >>= (λ done. Ok (an_end w.at))) (line_read w (behind ws) >>= (λ y. Ok (a_line y.0 y.1))) ≡ Ok (a_line x m) → m ≡ without_words (behind ws)
     branch true w ws k = let b = bind_ok (nothing_of (behind ws)) (λ done. Ok (an_end w.at)) (a_line x m) k in absurd (end_or_line w.at x m b.2)
-    branch false w ws k = listed w ws k
+    branch false w ws k = line_wanted w ws k
 
-    go : (words : List Word) → (or_misfit e (word_in whole words) >>= λ first. cond (is_closing first.0 first.1) (nothing_of first.1 >>= (λ done. Ok (an_end first.0.at))) (listed_of first.0 first.1 >>= (λ y. Ok (a_line y.0 y.1)))) ≡ Ok (a_line x m)
-        → (q : Row) × ((r ∷ rs) ≡ q ∷ rows_left m) × (m.last ≡ e)
+    go : (words : List TraceWord) → (or_misfit e (word_in whole words) >>= λ first. cond (is_closing first.0 first.1) (nothing_of first.1 >>= (λ done. Ok (an_end first.0.at))) (line_read first.0 first.1 >>= (λ y. Ok (a_line y.0 y.1)))) ≡ Ok (a_line x m)
+        → (q : TextLine) × ((r ∷ rs) ≡ q ∷ lines_ahead m) × (m.last ≡ e)
     go [] k = absurd cc
-    go (w ∷ ws) k = let s = branch (is_closing w (behind ws)) w ws k in (r, ap (λ n. r ∷ rows_left n) (sym s), ap (λ n. n.last) s)
+    go (w ∷ ws) k = let s = branch (is_closing w (behind ws)) w ws k in (r, ap (λ n. r ∷ lines_ahead n) (sym s), ap (λ n. n.last) s)
 
 pub line_steps : (l : Left) (x : PlacedLine) (m : Left) → line_of l ≡ Ok (a_line x m) → Steps l m
-line_steps l x m h = let s = steps_in l.last (rows_left l) x m h in record { row = s.0; rows = s.1; last = s.2 }
+line_steps l x m h = let s = steps_in l.last (lines_ahead l) x m h in record { row = s.0; rows = s.1; last = s.2 }
 
-pub fewer : (l : Left) (x : PlacedLine) (m : Left) → line_of l ≡ Ok (a_line x m) → length (rows_left m) < length (rows_left l)
+pub fewer : (l : Left) (x : PlacedLine) (m : Left) → line_of l ≡ Ok (a_line x m) → length (lines_ahead m) < length (lines_ahead l)
 fewer l x m h = let s = line_steps l x m h in omega (arith, ap length s.rows)
 
-fail_in : (e p : Pos) (rows : List Row) → line_from e rows ≡ Err p → lines_in e rows ≡ Err p
+fail_in : (e p : Pos) (rows : List TextLine) → line_from e rows ≡ Err p → lines_in e rows ≡ Err p
 unfolding lines_in line_from
 fail_in e p [] k = ap (failed {A = List PlacedLine × Pos}) (err_is {A = Next} e p k)
 fail_in e p (r ∷ rs) k = ap (λ x. x >>= λ y. onto y (lines_in e rs)) k
 
 pub lines_fail : (l : Left) (p : Pos) → line_of l ≡ Err p → lines_left l ≡ Err p
-lines_fail l p h = fail_in l.last p (rows_left l) h
+lines_fail l p h = fail_in l.last p (lines_ahead l) h
 
-nothing_ends : (e p : Pos) (rows : List Row) → line_from e rows ≡ Ok (an_end p) → lines_in e rows ≡ Ok ([], p)
+nothing_ends : (e p : Pos) (rows : List TextLine) → line_from e rows ≡ Ok (an_end p) → lines_in e rows ≡ Ok ([], p)
 unfolding lines_in line_from
 nothing_ends e p [] k = absurd cc
 nothing_ends e p (r ∷ rs) k = ap (λ x. x >>= λ y. onto y (lines_in e rs)) k
 
 pub lines_end : (l : Left) (p : Pos) → line_of l ≡ Ok (an_end p) → lines_left l ≡ Ok ([], p)
-lines_end l p h = nothing_ends l.last p (rows_left l) h
+lines_end l p h = nothing_ends l.last p (lines_ahead l) h
 
-more_in : (e : Pos) (rows rs : List Row) (r : Row) (x : PlacedLine) (m : Left) → line_from e rows ≡ Ok (a_line x m) → rows ≡ r ∷ rs → lines_in e rows ≡ (lines_in e rs >>= λ o. Ok (x ∷ o.0, o.1))
+more_in : (e : Pos) (rows rs : List TextLine) (r : TextLine) (x : PlacedLine) (m : Left) → line_from e rows ≡ Ok (a_line x m) → rows ≡ r ∷ rs → lines_in e rows ≡ (lines_in e rs >>= λ o. Ok (x ∷ o.0, o.1))
 unfolding lines_in
 more_in e rows rs r x m k s =
     let q : line_from e (r ∷ rs) ≡ Ok (a_line x m) = ap (line_from e) (sym s) ∙ k in
@@ -108,7 +108,7 @@ more_in e rows rs r x m k s =
 pub lines_more : (l : Left) (x : PlacedLine) (m : Left) → line_of l ≡ Ok (a_line x m) → lines_left l ≡ (lines_left m >>= λ o. Ok (x ∷ o.0, o.1))
 lines_more l x m h =
     let s = line_steps l x m h in
-    more_in l.last (rows_left l) (rows_left m) s.row x m h s.rows ∙ ap (λ e. lines_in e (rows_left m) >>= λ o. Ok (x ∷ o.0, o.1)) (sym s.last)
+    more_in l.last (lines_ahead l) (lines_ahead m) s.row x m h s.rows ∙ ap (λ e. lines_in e (lines_ahead m) >>= λ o. Ok (x ∷ o.0, o.1)) (sym s.last)
 
 -- ---- the loop over the lines
 

@@ -14,7 +14,7 @@ use Rattle.lus_meaning.proofs.Exists.{self_bytes}
 use Rattle.lus_meaning.proofs.Lists.{named_append, or_true, or_left}
 use Rattle.lus_meaning.proofs.BooleanOrder.{named_either, one_named, first_name, first_is_named, one_left}
 use Rattle.lus_meaning.proofs.BooleanNode.{IsBooleanEquation}
-use Rattle.trace_replay.specs.Columns.{place}
+use Rattle.trace_replay.specs.Columns.{column_of}
 use Rattle.trace_replay.specs.Given.{free_among}
 
 pub in_first : (x : Name) (xs ys : List Name) → named_in x xs ≡ true → named_in x (xs ++ ys) ≡ true
@@ -34,24 +34,24 @@ each_named P x (y ∷ xs) a e = go (cases_Bool (bytes_eq x y)) (each_named P x x
 
 -- ---- places
 
--- a name that stands behind others has the place behind them
-pub place_behind : (done later : List Name) (x : Name) → named_in x done ≡ false → place (done ++ x ∷ later) x ≡ length done
-place_behind [] later x e = rw (self_bytes x) refl
-place_behind (y ∷ done) later x e = go (bytes_eq x y) (place_behind done later x) e
+-- a name that stands behind others has the column_of behind them
+pub column_behind : (done later : List Name) (x : Name) → named_in x done ≡ false → column_of (done ++ x ∷ later) x ≡ length done
+column_behind [] later x e = rw (self_bytes x) refl
+column_behind (y ∷ done) later x e = go (bytes_eq x y) (column_behind done later x) e
   where
-    go : (c : Bool) → (named_in x done ≡ false → place (done ++ x ∷ later) x ≡ length done) → (c || named_in x done) ≡ false → cond c 0 (suc (place (done ++ x ∷ later) x)) ≡ suc (length done)
+    go : (c : Bool) → (named_in x done ≡ false → column_of (done ++ x ∷ later) x ≡ length done) → (c || named_in x done) ≡ false → cond c 0 (suc (column_of (done ++ x ∷ later) x)) ≡ suc (length done)
     go true r k = absurd (true≢false k)
     go false r k = ap suc (r k)
 
--- a name of the first part has its place there
-pub place_within : (done later : List Name) (x : Name) → named_in x done ≡ true → (place (done ++ later) x < length done) × (place (done ++ later) x ≡ place done x)
-place_within [] later x e = absurd (false≢true e)
-place_within (y ∷ done) later x e = go (bytes_eq x y) (place_within done later x) e
+-- a name of the first part has its column_of there
+pub column_within : (done later : List Name) (x : Name) → named_in x done ≡ true → (column_of (done ++ later) x < length done) × (column_of (done ++ later) x ≡ column_of done x)
+column_within [] later x e = absurd (false≢true e)
+column_within (y ∷ done) later x e = go (bytes_eq x y) (column_within done later x) e
   where
-    go : (c : Bool) → (named_in x done ≡ true → (place (done ++ later) x < length done) × (place (done ++ later) x ≡ place done x)) → (c || named_in x done) ≡ true
-        → (cond c 0 (suc (place (done ++ later) x)) < suc (length done)) × (cond c 0 (suc (place (done ++ later) x)) ≡ cond c 0 (suc (place done x)))
+    go : (c : Bool) → (named_in x done ≡ true → (column_of (done ++ later) x < length done) × (column_of (done ++ later) x ≡ column_of done x)) → (c || named_in x done) ≡ true
+        → (cond c 0 (suc (column_of (done ++ later) x)) < suc (length done)) × (cond c 0 (suc (column_of (done ++ later) x)) ≡ cond c 0 (suc (column_of done x)))
     go true r k = (omega arith, refl)
-    go false r k = let q : (place (done ++ later) x < length done) × (place (done ++ later) x ≡ place done x) = r k in let l : place (done ++ later) x < length done = q.0 in (omega arith, ap suc q.1)
+    go false r k = let q : (column_of (done ++ later) x < length done) × (column_of (done ++ later) x ≡ column_of done x) = r k in let l : column_of (done ++ later) x < length done = q.0 in (omega arith, ap suc q.1)
 
 -- ---- free names
 

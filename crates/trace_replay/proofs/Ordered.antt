@@ -11,7 +11,8 @@ use Rattle.lus_meaning.specs.Depends.{named_in}
 use Rattle.lus_meaning.specs.WellMade.{AreDistinct}
 use Rattle.lus_meaning.specs.Rules.{names_of, declared_names, lefts, NoneAmong, AllAmong}
 use Rattle.lus_meaning.specs.Trace.{Line}
-use Rattle.lus_meaning.specs.Order.{is_listed, IsNext, AreNext, needed_names, needed_at, left_at, needs_equation, IsLeastEquationOrder}
+use Rattle.lus_meaning.specs.Order.{is_listed, Passes, IsNext, AreNext, left_at}
+use Rattle.lus_meaning.specs.BooleanNeeds.{needed_names, needed_at, needs_equation, IsLeastDirectOrder}
 use Rattle.lus_meaning.specs.BooleanRules.{IsBooleanExpression, used_names}
 use Rattle.lus_meaning.proofs.Now.{left_part, right_part}
 use Rattle.lus_meaning.proofs.Unique.{same_bytes}
@@ -21,19 +22,19 @@ use Rattle.lus_meaning.proofs.BooleanTypes.{needed_of_used}
 use Rattle.lus_meaning.proofs.BooleanOrder.{named_either, first_name, first_is_named, one_left, names_from_ready}
 use Rattle.trace_replay.specs.Truth.{Firsts, truth_at}
 use Rattle.trace_replay.specs.Code.{placed, known, code_truth}
-use Rattle.trace_replay.specs.Columns.{Source, place, held, coded_name, code_of, rows}
+use Rattle.trace_replay.specs.Columns.{Source, column_of, held, coded_name, code_of, rows}
 use Rattle.trace_replay.specs.Given.{given_bits, first_in, right_at, free_among, base_names, table_names, given_columns, computed_columns, table_columns}
 use Rattle.trace_replay.proofs.FilledRows.{ReadsBelow, AreReadable, Meets, meets-left, meets-right, IsTable, table}
-use Rattle.trace_replay.proofs.Named.{in_first, in_second, each_named, place_behind, place_within, free_new, free_there, the_left, in_done, from_done, left_of, left_named, same_left}
+use Rattle.trace_replay.proofs.Named.{in_first, in_second, each_named, column_behind, column_within, free_new, free_there, the_left, in_done, from_done, left_of, left_named, same_left}
 
 -- ---- codes
 
 -- a code has the truth of its expression
 pub code_means : (order : List Name) (kept : List Bool) (f : Firsts) (e : Expression) (t : ℕ) → code_truth kept (length order) (code_of order f e) t ≡ truth_at (held order kept) f e t
 code_means order kept f (truth p b) t = refl
-code_means order kept f (name p x) t = go (nat_lt (place order x) (length order))
+code_means order kept f (name p x) t = go (nat_lt (column_of order x) (length order))
   where
-    go : (c : Bool) → code_truth kept (length order) (cond c (placed (place order x)) (known false)) t ≡ cond c (get_or kept (t * length order + place order x) false) false
+    go : (c : Bool) → code_truth kept (length order) (cond c (placed (column_of order x)) (known false)) t ≡ cond c (get_or kept (t * length order + column_of order x) false) false
     go true = refl
     go false = refl
 code_means order kept f (negation p a) t = ap not (code_means order kept f a t)
@@ -51,10 +52,10 @@ code_means order kept f (call p k g as_) t = refl
 code_means order kept f (condact p k a g as_ ds) t = refl
 code_means order kept f (mode_name p c m) t = refl
 
-name-below : (order : List Name) (x : Name) (j : ℕ) → (place order x < length order → place order x < j) → ReadsBelow (length order) j (coded_name order x)
-name-below order x j h = go (nat_lt (place order x) (length order)) refl
+name-below : (order : List Name) (x : Name) (j : ℕ) → (column_of order x < length order → column_of order x < j) → ReadsBelow (length order) j (coded_name order x)
+name-below order x j h = go (nat_lt (column_of order x) (length order)) refl
   where
-    go : (c : Bool) → nat_lt (place order x) (length order) ≡ c → ReadsBelow (length order) j (cond c (placed (place order x)) (known false))
+    go : (c : Bool) → nat_lt (column_of order x) (length order) ≡ c → ReadsBelow (length order) j (cond c (placed (column_of order x)) (known false))
     go true e = h (grind (arith, e))
     go false e = tt
 
@@ -74,24 +75,24 @@ reads_any order f (call p k g as_) = tt
 reads_any order f (condact p k a g as_ ds) = tt
 reads_any order f (mode_name p c m) = tt
 
-pub reads_needed : (order : List Name) (f : Firsts) (j : ℕ) (e : Expression) → IsBooleanExpression e → AllByRecursion (λ x. place order x < j) (needed_names e) → ReadsBelow (length order) j (code_of order f e)
+pub reads_needed : (order : List Name) (f : Firsts) (j : ℕ) (e : Expression) → IsBooleanExpression e → AllByRecursion (λ x. column_of order x < j) (needed_names e) → ReadsBelow (length order) j (code_of order f e)
 reads_needed order f j (truth p b) q a = tt
 reads_needed order f j (name p x) q a = name-below order x j (λ _. a.0)
 reads_needed order f j (negation p e) q a = reads_needed order f j e q a
 reads_needed order f j (pre p k e) q a = reads_any order f e
 reads_needed order f j (arrow p k e g) q a = (
-  reads_needed order f j e q.0 (left_part (λ x. place order x < j) (needed_names e) (needed_names g) a),
-  reads_needed order f j g q.1 (right_part (λ x. place order x < j) (needed_names e) (needed_names g) a),
+  reads_needed order f j e q.0 (left_part (λ x. column_of order x < j) (needed_names e) (needed_names g) a),
+  reads_needed order f j g q.1 (right_part (λ x. column_of order x < j) (needed_names e) (needed_names g) a),
 )
 reads_needed order f j (binary p o e g) q a = (
-  reads_needed order f j e q.1 (left_part (λ x. place order x < j) (needed_names e) (needed_names g) a),
-  reads_needed order f j g q.2 (right_part (λ x. place order x < j) (needed_names e) (needed_names g) a),
+  reads_needed order f j e q.1 (left_part (λ x. column_of order x < j) (needed_names e) (needed_names g) a),
+  reads_needed order f j g q.2 (right_part (λ x. column_of order x < j) (needed_names e) (needed_names g) a),
 )
 reads_needed order f j (choice p e g h) q a =
-    let r : AllByRecursion (λ x. place order x < j) (needed_names g ++ needed_names h) = right_part (λ x. place order x < j) (needed_names e) (needed_names g ++ needed_names h) a in (
-      reads_needed order f j e q.0 (left_part (λ x. place order x < j) (needed_names e) (needed_names g ++ needed_names h) a),
-      reads_needed order f j g q.1 (left_part (λ x. place order x < j) (needed_names g) (needed_names h) r),
-      reads_needed order f j h q.2 (right_part (λ x. place order x < j) (needed_names g) (needed_names h) r),
+    let r : AllByRecursion (λ x. column_of order x < j) (needed_names g ++ needed_names h) = right_part (λ x. column_of order x < j) (needed_names e) (needed_names g ++ needed_names h) a in (
+      reads_needed order f j e q.0 (left_part (λ x. column_of order x < j) (needed_names e) (needed_names g ++ needed_names h) a),
+      reads_needed order f j g q.1 (left_part (λ x. column_of order x < j) (needed_names g) (needed_names h) r),
+      reads_needed order f j h q.2 (right_part (λ x. column_of order x < j) (needed_names g) (needed_names h) r),
     )
 reads_needed order f j _ q a = absurd q
 
@@ -120,23 +121,23 @@ given_length ls [] = refl
 given_length ls (x ∷ xs) = ap suc (given_length ls xs)
 
 -- a given name has its values
-pub given_holds : (ls : List Line) (kept : List Bool) (w t : ℕ) (xs : List Name) (j : ℕ) (x : Name) → Meets kept w t j (given_columns ls xs) → named_in x xs ≡ true → get_or kept (t * w + (j + place xs x)) false ≡ get_or (given_bits ls x) t false
+pub given_holds : (ls : List Line) (kept : List Bool) (w t : ℕ) (xs : List Name) (j : ℕ) (x : Name) → Meets kept w t j (given_columns ls xs) → named_in x xs ≡ true → get_or kept (t * w + (j + column_of xs x)) false ≡ get_or (given_bits ls x) t false
 given_holds ls kept w t [] j x m e = absurd (false≢true e)
 given_holds ls kept w t (y ∷ xs) j x m e = go (cases_Bool (bytes_eq x y)) (given_holds ls kept w t xs (suc j) x m.1)
   where
-    go : (bytes_eq x y ≡ true) ⊎ (bytes_eq x y ≡ false) → (named_in x xs ≡ true → get_or kept (t * w + (suc j + place xs x)) false ≡ get_or (given_bits ls x) t false)
-        → get_or kept (t * w + (j + cond (bytes_eq x y) 0 (suc (place xs x)))) false ≡ get_or (given_bits ls x) t false
+    go : (bytes_eq x y ≡ true) ⊎ (bytes_eq x y ≡ false) → (named_in x xs ≡ true → get_or kept (t * w + (suc j + column_of xs x)) false ≡ get_or (given_bits ls x) t false)
+        → get_or kept (t * w + (j + cond (bytes_eq x y) 0 (suc (column_of xs x)))) false ≡ get_or (given_bits ls x) t false
     go (inl s) r =
         let at : t * w + (j + 0) ≡ t * w + j = omega arith in
         rw (s, at) (m.0 ∙ ap (λ z. get_or (given_bits ls z) t false) (sym (same_bytes x y s)))
     go (inr f) r =
-        let at : t * w + (j + suc (place xs x)) ≡ t * w + (suc j + place xs x) = omega arith in
+        let at : t * w + (j + suc (column_of xs x)) ≡ t * w + (suc j + column_of xs x) = omega arith in
         rw (f, at) (r (rw f at e))
 
-held-at : (order : List Name) (kept : List Bool) (x : Name) (t j : ℕ) → place order x ≡ j → j < length order → held order kept x t ≡ get_or kept (t * length order + j) false
-held-at order kept x t j e l = go (nat_lt (place order x) (length order)) refl
+held-at : (order : List Name) (kept : List Bool) (x : Name) (t j : ℕ) → column_of order x ≡ j → j < length order → held order kept x t ≡ get_or kept (t * length order + j) false
+held-at order kept x t j e l = go (nat_lt (column_of order x) (length order)) refl
   where
-    go : (c : Bool) → nat_lt (place order x) (length order) ≡ c → cond c (get_or kept (t * length order + place order x) false) false ≡ get_or kept (t * length order + j) false
+    go : (c : Bool) → nat_lt (column_of order x) (length order) ≡ c → cond c (get_or kept (t * length order + column_of order x) false) false ≡ get_or kept (t * length order + j) false
     go true h = ap (λ (i : ℕ). get_or kept (t * length order + i) false) e
     go false h = absurd (grind (arith, h))
 
@@ -215,7 +216,7 @@ module _ (d : Component) (es : List Equation) (each : AllByRecursion IsBooleanEq
   pub declared_right : (k : ℕ) → k < length es → AllAmong (declared_names d) (used_names (right_at es k))
   declared_right k l = each_at (λ e. AllAmong (declared_names d) (used_names e.right)) (λ xs e. AllAmong (declared_names d) (used_names e)) (λ e q. q) es declared k l
 
-  pub needed_before : (done : List ℕ) (k : ℕ) → IsNext (length es) (needs_equation es) done k → AllByRecursion (λ x. named_in x (before done) ≡ true) (needed_names (right_at es k))
+  pub needed_before : (done : List ℕ) (k : ℕ) → IsNext (length es) (Passes (needs_equation es)) done k → AllByRecursion (λ x. named_in x (before done) ≡ true) (needed_names (right_at es k))
   needed_before done k n = all_from_both (λ x. named_in x (declared_names d) ≡ true) (λ z. (j : ℕ) → j < length es → named_in z (left_at es j) ≡ true → is_listed done j ≡ true) (λ x. named_in x (before done) ≡ true) one
       (needed_names (right_at es k))
       (needed_of_used (λ x. named_in x (declared_names d) ≡ true) (right_at es k) (boolean_right k n.below) (declared_right k n.below))
@@ -230,13 +231,13 @@ module _ (d : Component) (es : List Equation) (each : AllByRecursion IsBooleanEq
           go (inr f) = in_first x base (flat_map (left_at es) done) (covered x m f)
 
   pub record AtStep (order : List Name) (done ks : List ℕ) (k : ℕ) : Type 0 where
-    pub placed_at : place order (the_name k) ≡ length (before done)
+    pub placed_at : column_of order (the_name k) ≡ length (before done)
     pub within : length (before done) < length order
-    pub needed : AllByRecursion (λ x. place order x < length (before done)) (needed_names (right_at es k))
+    pub needed : AllByRecursion (λ x. column_of order x < length (before done)) (needed_names (right_at es k))
     pub next : order ≡ before (done ++ k ∷ []) ++ flat_map (left_at es) ks
     pub size : length (before (done ++ k ∷ [])) ≡ suc (length (before done))
 
-  pub at_step : (order : List Name) (done ks : List ℕ) (k : ℕ) → IsNext (length es) (needs_equation es) done k → order ≡ before done ++ flat_map (left_at es) (k ∷ ks) → AtStep order done ks k
+  pub at_step : (order : List Name) (done ks : List ℕ) (k : ℕ) → IsNext (length es) (Passes (needs_equation es)) done k → order ≡ before done ++ flat_map (left_at es) (k ∷ ks) → AtStep order done ks k
   at_step order done ks k n e =
       let one : left_at es k ≡ the_name k ∷ [] = the_left es each k n.below in
       let behind : order ≡ before done ++ the_name k ∷ flat_map (left_at es) ks = e ∙ ap (λ (l : List Name). before done ++ (l ++ flat_map (left_at es) ks)) one in
@@ -244,21 +245,21 @@ module _ (d : Component) (es : List Equation) (each : AllByRecursion IsBooleanEq
       ap (λ (l : List Name). base ++ l) (flat-snoc (left_at es) done k) ∙ sym (append_assoc base (flat_map (left_at es) done) (left_at es k)) ∙ ap (λ (l : List Name). before done ++ l) one in
       let long : length order ≡ length (before done) + suc (length (flat_map (left_at es) ks)) = ap length behind ∙ length-append (before done) (the_name k ∷ flat_map (left_at es) ks) in
       record {
-        placed_at = ap (λ (l : List Name). place l (the_name k)) behind ∙ place_behind (before done) (flat_map (left_at es) ks) (the_name k) (fresh done k n.below n.new);
+        placed_at = ap (λ (l : List Name). column_of l (the_name k)) behind ∙ column_behind (before done) (flat_map (left_at es) ks) (the_name k) (fresh done k n.below n.new);
         within = omega arith;
-        needed = each-place (needed_names (right_at es k)) (needed_before done k n);
+        needed = each-column (needed_names (right_at es k)) (needed_before done k n);
         next = behind ∙ sym (append_assoc (before done) (the_name k ∷ []) (flat_map (left_at es) ks)) ∙ ap (λ (l : List Name). l ++ flat_map (left_at es) ks) (sym grown);
         size = ap length grown ∙ length-append (before done) (the_name k ∷ []) ∙ omega arith;
       }
     where
-      each-place : (xs : List Name) → AllByRecursion (λ x. named_in x (before done) ≡ true) xs → AllByRecursion (λ x. place order x < length (before done)) xs
-      each-place [] a = tt
-      each-place (x ∷ xs) a = (subst (λ (l : List Name). place l x < length (before done)) (sym e) (place_within (before done) (flat_map (left_at es) (k ∷ ks)) x a.0).0, each-place xs a.1)
+      each-column : (xs : List Name) → AllByRecursion (λ x. named_in x (before done) ≡ true) xs → AllByRecursion (λ x. column_of order x < length (before done)) xs
+      each-column [] a = tt
+      each-column (x ∷ xs) a = (subst (λ (l : List Name). column_of l x < length (before done)) (sym e) (column_within (before done) (flat_map (left_at es) (k ∷ ks)) x a.0).0, each-column xs a.1)
 
   -- ---- the columns of equations
 
   module _ (ls : List Line) (order : List Name) where
-    pub readable_from : (done ks : List ℕ) → AreNext (length es) (needs_equation es) done ks → order ≡ before done ++ flat_map (left_at es) ks → AreReadable (length order) (length (before done)) (computed_columns ls order es ks)
+    pub readable_from : (done ks : List ℕ) → AreNext (length es) (Passes (needs_equation es)) done ks → order ≡ before done ++ flat_map (left_at es) ks → AreReadable (length order) (length (before done)) (computed_columns ls order es ks)
     readable_from done [] a e = ap length (e ∙ append_none (before done))
     readable_from done (k ∷ ks) a e =
         let s : AtStep order done ks k = at_step order done ks k a.0 e in (
@@ -269,7 +270,7 @@ module _ (d : Component) (es : List Equation) (each : AllByRecursion IsBooleanEq
     abbrev pub Holds : List Bool → ℕ → ℕ → Type 0
     Holds kept t k = held order kept (the_name k) t ≡ truth_at (held order kept) (first_in ls) (right_at es k) t
 
-    pub holds_from : (kept : List Bool) (t : ℕ) (done ks : List ℕ) → AreNext (length es) (needs_equation es) done ks → order ≡ before done ++ flat_map (left_at es) ks → Meets kept (length order) t (length (before done)) (computed_columns ls order es ks) →
+    pub holds_from : (kept : List Bool) (t : ℕ) (done ks : List ℕ) → AreNext (length es) (Passes (needs_equation es)) done ks → order ≡ before done ++ flat_map (left_at es) ks → Meets kept (length order) t (length (before done)) (computed_columns ls order es ks) →
         AllByRecursion (Holds kept t) ks
     holds_from kept t done [] a e m = tt
     holds_from kept t done (k ∷ ks) a e m =
@@ -280,7 +281,7 @@ module _ (d : Component) (es : List Equation) (each : AllByRecursion IsBooleanEq
 
   -- ---- the whole table
 
-  module _ (ls : List Line) (ks : List ℕ) (least : IsLeastEquationOrder es ks) (n : ℕ) where
+  module _ (ls : List Line) (ks : List ℕ) (least : IsLeastDirectOrder es ks) (n : ℕ) where
     abbrev pub names : List Name
     names = table_names es d ks
 
@@ -306,11 +307,11 @@ module _ (d : Component) (es : List Equation) (each : AllByRecursion IsBooleanEq
     -- what no equation defines has what the lines list
     pub base_values : (x : Name) → named_in x base ≡ true → (t : ℕ) → t < n → held names kept_rows x t ≡ get_or (given_bits ls x) t false
     base_values x e t l =
-        let q : (place names x < length base) × (place names x ≡ place base x) = place_within base (flat_map (left_at es) ks) x e in
-        let p : place base x < length base = subst (λ i. i < length base) q.1 q.0 in
+        let q : (column_of names x < length base) × (column_of names x ≡ column_of base x) = column_within base (flat_map (left_at es) ks) x e in
+        let p : column_of base x < length base = subst (λ i. i < length base) q.1 q.0 in
         let long : length names ≡ length base + length (flat_map (left_at es) ks) = length-append base (flat_map (left_at es) ks) in
-        let at : t * length names + place base x ≡ t * length names + (0 + place base x) = omega arith in
-        held-at names kept_rows x t (place base x) q.1 (omega arith)
+        let at : t * length names + column_of base x ≡ t * length names + (0 + column_of base x) = omega arith in
+        held-at names kept_rows x t (column_of base x) q.1 (omega arith)
         ∙ ap (λ (i : ℕ). get_or kept_rows i false) at
         ∙ given_holds ls kept_rows (length names) t base 0 x (meets-left kept_rows (length names) t 0 (given_columns ls base) (computed_columns ls names es ks) (the_table.meets t l)) e
 

@@ -13,8 +13,9 @@ use Rattle.lus_meaning.specs.Verdict.{throughout}
 use Rattle.lus_meaning.specs.Run.{Equation, equations}
 use Rattle.lus_meaning.specs.Trace.{Line, of_name, listed_at, IsFrameOf}
 use Rattle.lus_meaning.specs.Depends.{named_in, left_names}
-use Rattle.lus_meaning.specs.Rules.{AllAmong, declared_names, names_of, lefts}
-use Rattle.lus_meaning.specs.Order.{needs_equation, left_at, IsLeastEquationOrder}
+use Rattle.lus_meaning.specs.Rules.{AllAmong, declared_names, names_of, lefts, IsWithinCounts}
+use Rattle.lus_meaning.specs.Order.{left_at}
+use Rattle.lus_meaning.specs.BooleanNeeds.{needs_equation, IsLeastDirectOrder}
 use Rattle.lus_meaning.specs.BooleanRules.{IsBooleanExpression, IsBooleanItem, IsBooleanNode, HasBooleanNames, IsBooleanChecked, used_names}
 use Rattle.lus_meaning.proofs.Now.{left_part, right_part}
 use Rattle.lus_meaning.proofs.Orders.{order_length}
@@ -22,6 +23,7 @@ use Rattle.lus_meaning.proofs.FirstSorts.{right_parts}
 use Rattle.lus_meaning.proofs.BooleanNode.{boolean_variables, over_boolean, IsBooleanEquation, each_boolean, boolean_checked_instance}
 use Rattle.lus_meaning.proofs.BooleanOrder.{first_name}
 use Rattle.lus_meaning.proofs.BooleanFrame.{only_boolean_frame}
+use Rattle.lus_meaning.proofs.BooleanSizes.{few_counts}
 use Rattle.trace_replay.specs.Truth.{Held, truth_at}
 use Rattle.trace_replay.specs.Code.{code_truth}
 use Rattle.trace_replay.specs.Columns.{held, code_of, rows}
@@ -53,7 +55,7 @@ all_first a b h n (e ∷ es) (o ∷ hits) f = (same_first (a e) (b e) (h e) n o 
 
 -- ---- how many names
 
-module _ (d : Component) (boolean : IsBooleanNode d) (names : HasBooleanNames d) (most : length (declared_names d) ≤ 2000) (ks : List ℕ) (least : IsLeastEquationOrder (equations d) ks) where
+module _ (d : Component) (boolean : IsBooleanNode d) (names : HasBooleanNames d) (most : length (declared_names d) ≤ 2000) (ks : List ℕ) (least : IsLeastDirectOrder (equations d) ks) where
   few_base : length (base_names (equations d) d) ≤ 2000
   few_base =
       let all : length (declared_names d) ≡ length (variables d) = length-map (variables d) (λ v. v.name.text) in
@@ -88,7 +90,7 @@ module _ (d : Component) (boolean : IsBooleanNode d) (names : HasBooleanNames d)
 
 -- ---- the replay
 
-module _ (p : Program) (d : Component) (checked : IsBooleanChecked p d) (ls : List Line) (n : ℕ) (calm : AreCalm ls) (ks : List ℕ) (least : IsLeastEquationOrder (equations d) ks) where
+module _ (p : Program) (d : Component) (checked : IsBooleanChecked p d) (ls : List Line) (n : ℕ) (calm : AreCalm ls) (ks : List ℕ) (least : IsLeastDirectOrder (equations d) ks) where
   pub boolean : IsBooleanNode d
   boolean = checked.rules.shape
 
@@ -159,11 +161,12 @@ module _ (p : Program) (d : Component) (checked : IsBooleanChecked p d) (ls : Li
       }
 
 -- the same of names and rows that are known by equations
-pub replayed : (p : Program) (d : Component) → IsBooleanChecked p d → (ls : List Line) (n : ℕ) → AreCalm ls → (ks : List ℕ) → IsLeastEquationOrder (equations d) ks →
+pub replayed : (p : Program) (d : Component) → IsBooleanChecked p d → (ls : List Line) (n : ℕ) → AreCalm ls → (ks : List ℕ) → IsLeastDirectOrder (equations d) ks →
     (es : List Equation) → equations d ≡ es → (names : List Name) → names ≡ table_names es d ks → (kept : List Bool) → kept ≡ rows (length names) (table_columns ls es d ks) n →
     (hits : List (Option ℕ)) → AreFirstFalse (λ e. code_truth kept (length names) (code_of names (first_in ls) e)) n (property_values d.body) hits → IsReplayed ls p d n (held names kept) hits
 replayed p d checked ls n calm ks least es a names b kept c =
     rw (c, b, sym a) (replayed_now p d checked ls n calm ks least)
 
-pub names_few : (p : Program) (d : Component) → IsBooleanChecked p d → (ks : List ℕ) → IsLeastEquationOrder (equations d) ks → (es : List Equation) → equations d ≡ es → (names : List Name) → names ≡ table_names es d ks → length names ≤ 4000
-names_few p d checked ks least es a names b = rw (b, sym a) (few_names d checked.rules.shape checked.rules.names checked.rules.limits.names ks least)
+pub names_few : (p : Program) (d : Component) → IsBooleanChecked p d → IsWithinCounts p d → (ks : List ℕ) → IsLeastDirectOrder (equations d) ks → (es : List Equation) → equations d ≡ es → (names : List Name) → names ≡ table_names es d ks → length names ≤ 4000
+names_few p d checked within ks least es a names b =
+    rw (b, sym a) (few_names d checked.rules.shape checked.rules.names (few_counts p d checked.rules.shape checked.numbered (boolean_checked_instance p d checked) within).names ks least)

@@ -23,7 +23,7 @@ use Rattle.lus_meaning.specs.Replay.{frame_on, ReplaysTrace}
 use Rattle.lus_meaning.specs.BooleanRules.{IsBooleanChecked}
 use Rattle.lus_meaning.proofs.BooleanNode.{boolean_checked_instance}
 use Rattle.trace_replay.specs.declared.answers.Replay.{Replay}
-use Rattle.trace_replay.specs.Columns.{place, held}
+use Rattle.trace_replay.specs.Columns.{column_of, held}
 use Rattle.trace_replay.specs.Replayed.{EachBreaks, IsReplayed}
 use Rattle.trace_replay.specs.Answer.{shown, replay_view}
 use Rattle.trace_replay.proofs.Calm.{node_is}
@@ -64,13 +64,13 @@ no_calls n s (with_frame f fs) h = absurd h
 
 -- ---- names in a row
 
-placed : (names : List Name) (x : Name) → nat_lt (place names x) (length names) ≡ named_in x names
+placed : (names : List Name) (x : Name) → nat_lt (column_of names x) (length names) ≡ named_in x names
 placed [] x = refl
 placed (y ∷ names) x = go (bytes_eq x y) (placed names x)
   where
-    go : (b : Bool) → nat_lt (place names x) (length names) ≡ named_in x names → nat_lt (cond b 0 (suc (place names x))) (suc (length names)) ≡ (b || named_in x names)
+    go : (b : Bool) → nat_lt (column_of names x) (length names) ≡ named_in x names → nat_lt (cond b 0 (suc (column_of names x))) (suc (length names)) ≡ (b || named_in x names)
     go true h = grind arith
-    go false h = let e : nat_lt (suc (place names x)) (suc (length names)) ≡ nat_lt (place names x) (length names) = grind arith in e ∙ h
+    go false h = let e : nat_lt (suc (column_of names x)) (suc (length names)) ≡ nat_lt (column_of names x) (length names) = grind arith in e ∙ h
 
 -- ---- the values
 

@@ -1,15 +1,16 @@
 -- What is said of a fitting trace by the node's text is what is said by its instance.
-use Rattle.std.proofs.Common.{◌≡◌, ℕ, zero, suc, ◌+◌, ◌-◌, Bool, true, false, cond, not, ◌&&◌, ◌||◌, List, [], ◌∷◌, ◌++◌, map, flat_map, length, Option, Some, None, option_map, refl, sym, ap, ◌∙◌, subst, arith}
+use Rattle.std.proofs.Common.{◌≡◌, ◌<◌, ◌≤◌, eqb, ℕ, zero, suc, ◌+◌, ◌-◌, Bool, true, false, cond, not, ◌&&◌, ◌||◌, List, [], ◌∷◌, ◌++◌, map, flat_map, length, Option, Some, None, option_map, refl, sym, ap, ◌∙◌, subst, arith}
 use Rattle.std.specs.Prelude.{◌==◌, nat_le, nat_lt}
 use Rattle.std.specs.List.{AllByRecursion, list_all, list_any}
 use Rattle.std.specs.Str.{bytes_eq}
+use Rattle.std.proofs.lemmas.Bool.{eqb-true}
 use Rattle.std.proofs.lemmas.Slice.Eq.{bytes_eq-Decides}
 use Rattle.std.proofs.lemmas.Bool.Decides.{same_from_decides}
 use Rattle.lus_tree.specs.declared.place.Pos.{Pos}
 use Rattle.lus_tree.specs.declared.place.Sort.{Sort}
 use Rattle.lus_tree.specs.declared.place.Sort.TheVariants.{Bool as Flags}
 use Rattle.lus_tree.specs.Tree.{Name, Expression, truth, name, negation, pre, arrow, binary, choice, Variable, Statement, Component, declared_node, Program}
-use Rattle.lus_tree.specs.Numbers.{counting, pres, body_pres, IsNumbered}
+use Rattle.lus_tree.specs.Numbers.{counting, pres, body_pres, times, are_counted, IsNumbered}
 use Rattle.lus_meaning.specs.Value.{is_absent}
 use Rattle.lus_meaning.specs.Scene.{Instance, instance, no_instances}
 use Rattle.lus_meaning.specs.Run.{Equation, first_sorts}
@@ -22,51 +23,104 @@ use Rattle.lus_meaning.specs.BooleanRules.{IsBooleanExpression, IsBooleanItem, I
 use Rattle.lus_meaning.proofs.Lists.{both_parts}
 use Rattle.lus_meaning.proofs.Exists.{length_mapped}
 use Rattle.lus_meaning.proofs.BooleanNode.{of_boolean_item, boolean_equations, boolean_instance}
-use Rattle.lus_meaning.proofs.BooleanFirsts.{boolean_firsts}
-use Rattle.trace_replay.specs.Fitting.{last_pre, last_pre_in, is_left, line_need, takes_flag, flags_misfit, need_misfit, flag_line_misfit, or_else, own_misfit, are_listed, body_misfit, flag_misfit}
+use Rattle.lus_meaning.proofs.BooleanFirsts.{boolean_firsts, boolean_expressions, boolean_pres_all}
+use Rattle.trace_replay.specs.Fitting.{greater, greatest_pre, greatest_pre_in, is_left, line_need, takes_flag, flags_misfit, need_misfit, flag_line_misfit, or_else, own_misfit, are_listed, body_misfit, flag_misfit}
 
--- ---- the last number of a `pre`
+-- ---- the greatest number of a `pre`
 
-abbrev pub last_of : ℕ → List ℕ → ℕ
-last_of k [] = k
-last_of k (j ∷ js) = last_of j js
+abbrev pub greatest : ℕ → List ℕ → ℕ
+greatest k [] = k
+greatest k (j ∷ js) = greatest (greater k j) js
 
-last_append : (k : ℕ) (xs ys : List ℕ) → last_of k (xs ++ ys) ≡ last_of (last_of k xs) ys
-last_append k [] ys = refl
-last_append k (x ∷ xs) ys = last_append x xs ys
+greatest_append : (k : ℕ) (xs ys : List ℕ) → greatest k (xs ++ ys) ≡ greatest (greatest k xs) ys
+greatest_append k [] ys = refl
+greatest_append k (x ∷ xs) ys = greatest_append (greater k x) xs ys
 
-last_is : (e : Expression) (k : ℕ) → IsBooleanExpression e → last_pre k e ≡ last_of k (pres e)
-last_is (truth p b) k h = refl
-last_is (name p x) k h = refl
-last_is (negation p a) k h = last_is a k h
-last_is (pre p j a) k h = last_is a j h
-last_is (arrow p j a b) k h = last_is b (last_pre k a) h.1 ∙ ap (λ (m : ℕ). last_of m (pres b)) (last_is a k h.0) ∙ sym (last_append k (pres a) (pres b))
-last_is (binary p o a b) k h = last_is b (last_pre k a) h.2 ∙ ap (λ (m : ℕ). last_of m (pres b)) (last_is a k h.1) ∙ sym (last_append k (pres a) (pres b))
-last_is (choice p a b c) k h =
-    last_is c (last_pre (last_pre k a) b) h.2
-    ∙ ap (λ (m : ℕ). last_of m (pres c)) (last_is b (last_pre k a) h.1 ∙ ap (λ (m : ℕ). last_of m (pres b)) (last_is a k h.0) ∙ sym (last_append k (pres a) (pres b)))
-    ∙ sym (last_append k (pres a ++ pres b) (pres c))
-last_is _ k h = absurd h
+greatest_is : (e : Expression) (k : ℕ) → IsBooleanExpression e → greatest_pre k e ≡ greatest k (pres e)
+greatest_is (truth p b) k h = refl
+greatest_is (name p x) k h = refl
+greatest_is (negation p a) k h = greatest_is a k h
+greatest_is (pre p j a) k h = greatest_is a (greater k j) h
+greatest_is (arrow p j a b) k h = greatest_is b (greatest_pre k a) h.1 ∙ ap (λ (m : ℕ). greatest m (pres b)) (greatest_is a k h.0) ∙ sym (greatest_append k (pres a) (pres b))
+greatest_is (binary p o a b) k h = greatest_is b (greatest_pre k a) h.2 ∙ ap (λ (m : ℕ). greatest m (pres b)) (greatest_is a k h.1) ∙ sym (greatest_append k (pres a) (pres b))
+greatest_is (choice p a b c) k h =
+    greatest_is c (greatest_pre (greatest_pre k a) b) h.2
+    ∙ ap (λ (m : ℕ). greatest m (pres c)) (greatest_is b (greatest_pre k a) h.1 ∙ ap (λ (m : ℕ). greatest m (pres b)) (greatest_is a k h.0) ∙ sym (greatest_append k (pres a) (pres b)))
+    ∙ sym (greatest_append k (pres a ++ pres b) (pres c))
+greatest_is _ k h = absurd h
 
-last_in : (ss : List Statement) → AllByRecursion IsBooleanItem ss → (k : ℕ) → last_pre_in k ss ≡ last_of k (body_pres ss)
-last_in [] h k = refl
-last_in (s ∷ ss) h k = of_boolean_item (λ s. ((k : ℕ) → last_pre_in k ss ≡ last_of k (body_pres ss)) → (k : ℕ) → last_pre_in k (s ∷ ss) ≡ last_of k (body_pres (s ∷ ss)))
-    (λ x e b r k. r (last_pre k e) ∙ ap (λ (m : ℕ). last_of m (body_pres ss)) (last_is e k b) ∙ sym (last_append k (pres e) (body_pres ss)))
-    (λ l b r k. r (last_pre k l.value) ∙ ap (λ (m : ℕ). last_of m (body_pres ss)) (last_is l.value k b) ∙ sym (last_append k (pres l.value) (body_pres ss)))
-    (λ p r k. r k)
-    s h.0 (last_in ss h.1) k
+greatest_in : (ss : List Statement) → AllByRecursion IsBooleanItem ss → (k : ℕ) → greatest_pre_in k ss ≡ greatest k (body_pres ss)
+greatest_in [] h k = refl
+greatest_in (s ∷ ss) h k = of_boolean_item (λ s. ((k : ℕ) → greatest_pre_in k ss ≡ greatest k (body_pres ss)) → (k : ℕ) → greatest_pre_in k (s ∷ ss) ≡ greatest k (body_pres (s ∷ ss)))
+    (λ x e b r k. r (greatest_pre k e) ∙ ap (λ (m : ℕ). greatest m (body_pres ss)) (greatest_is e k b) ∙ sym (greatest_append k (pres e) (body_pres ss)))
+    (λ l b r k. r (greatest_pre k l.value) ∙ ap (λ (m : ℕ). greatest m (body_pres ss)) (greatest_is l.value k b) ∙ sym (greatest_append k (pres l.value) (body_pres ss)))
+    (λ i r k. r k) s h.0 (greatest_in ss h.1) k
 
-last_counting : (k n : ℕ) → last_of k (counting (suc k) n) ≡ k + n
-last_counting k zero = omega arith
-last_counting k (suc n) = let e : suc k + n ≡ k + suc n = omega arith in last_counting (suc k) n ∙ e
+greater_most : (k j n : ℕ) → k ≤ n → j ≤ n → greater k j ≤ n
+greater_most k j n a b = grind (arith, a, b)
+
+greater_left : (k j : ℕ) → k ≤ greater k j
+greater_left k j = grind arith
+
+greater_right : (k j : ℕ) → j ≤ greater k j
+greater_right k j = grind arith
+
+at_most : (n k : ℕ) (js : List ℕ) → k ≤ n → AllByRecursion (λ j. j ≤ n) js → greatest k js ≤ n
+at_most n k [] l h = l
+at_most n k (j ∷ js) l h = at_most n (greater k j) js (greater_most k j n l h.0) h.1
+
+grows : (k : ℕ) (js : List ℕ) → k ≤ greatest k js
+grows k [] = omega arith
+grows k (j ∷ js) = omega (arith, grows (greater k j) js, greater_left k j)
+
+equal_is : (n j : ℕ) → eqb n j ≡ true → n ≡ j
+equal_is n j h = eqb-true n j h
+
+at_least : (n k : ℕ) (js : List ℕ) → 0 < times n js → n ≤ greatest k js
+at_least n k [] h = absurd (omega (arith, h))
+at_least n k (j ∷ js) h = go (eqb n j) refl h (at_least n (greater k j) js)
+  where
+    go : (b : Bool) → eqb n j ≡ b → 0 < cond b (suc (times n js)) (times n js) → (0 < times n js → n ≤ greatest (greater k j) js) → n ≤ greatest (greater k j) js
+    go true e l r = omega (arith, grows (greater k j) js, greater_right k j, equal_is n j e)
+    go false e l r = r l
+
+counted_at : (f : ℕ → Bool) (a n k : ℕ) → list_all f (counting a n) ≡ true → a ≤ k → k < a + n → f k ≡ true
+counted_at f a zero k h l m = absurd (omega (arith, l, m))
+counted_at f a (suc n) k h l m = go (a == k) refl (counted_at f (suc a) n k)
+  where
+    split : (x y : Bool) → (x && y) ≡ true → (x ≡ true) × (y ≡ true)
+    split true y e = (refl, e)
+    split false y e = absurd cc
+
+    go : (b : Bool) → (a == k) ≡ b → (list_all f (counting (suc a) n) ≡ true → suc a ≤ k → k < suc a + n → f k ≡ true) → f k ≡ true
+    go true e r = let s : a ≡ k = grind (arith, e) in ap f (sym s) ∙ (split (f a) (list_all f (counting (suc a) n)) h).0
+    go false e r = r (split (f a) (list_all f (counting (suc a) n)) h).1 (grind (arith, e, l)) (omega (arith, m))
+
+once : (n : ℕ) (js : List ℕ) → (times n js == 1) ≡ true → 0 < times n js
+once n js h = grind (arith, h)
 
 -- it is how many there are
-pub last_numbered : (ss : List Statement) → AllByRecursion IsBooleanItem ss → IsNumbered ss → last_pre_in 0 ss ≡ length (body_pres ss)
-last_numbered ss h n = let z : 0 + length (body_pres ss) ≡ length (body_pres ss) = omega arith in last_in ss h 0 ∙ ap (last_of 0) n.pres ∙ last_counting 0 (length (body_pres ss)) ∙ z
+pub greatest_numbered : (d : Component) → IsBooleanNode d → IsNumbered d → greatest_pre_in 0 d.body ≡ length (body_pres d.body)
+greatest_numbered d node numbered = greatest_in d.body node.items 0 ∙ go (length ks) refl
+  where
+    ks : List ℕ
+    ks = body_pres d.body
+
+    counted : are_counted ks ≡ true
+    counted = ap (λ (es : List Expression). are_counted (flat_map pres es)) (sym (boolean_expressions d node)) ∙ numbered.pres
+
+    most : greatest 0 ks ≤ length ks
+    most = at_most (length ks) 0 ks (omega arith) (boolean_pres_all d node numbered (λ j. j ≤ length ks) (λ j a b. omega (arith, b)))
+
+    go : (n : ℕ) → length ks ≡ n → greatest 0 ks ≡ length ks
+    go zero e = omega (arith, most, e)
+    go (suc n) e =
+        let there : (times (length ks) ks == 1) ≡ true = counted_at (λ k. times k ks == 1) 1 (length ks) (length ks) counted (omega (arith, e)) (omega arith) in
+        omega (arith, most, at_least (length ks) 0 ks (once (length ks) ks there))
 
 -- ---- what a line may list
 
-abbrev told : Option Listable → Option (ℕ × Bool)
+abbrev pub told : Option Listable → Option (ℕ × Bool)
 told o = option_map (λ s. (s.count, s.needed)) o
 
 abbrev or_need : Option (ℕ × Bool) → Option (ℕ × Bool) → Option (ℕ × Bool)
@@ -174,18 +228,18 @@ or_back : (a b c : Bool) → (a || (b || c)) ≡ ((a || b) || c)
 or_back true b c = refl
 or_back false b c = refl
 
-named_append : (x : Name) (vs ws : List Variable) → named_in x (names_of (vs ++ ws)) ≡ (named_in x (names_of vs) || named_in x (names_of ws))
+pub named_append : (x : Name) (vs ws : List Variable) → named_in x (names_of (vs ++ ws)) ≡ (named_in x (names_of vs) || named_in x (names_of ws))
 named_append x [] ws = refl
 named_append x (v ∷ vs) ws = ap (λ c. bytes_eq x v.name.text || c) (named_append x vs ws) ∙ or_back (bytes_eq x v.name.text) (named_in x (names_of vs)) (named_in x (names_of ws))
 
 -- ---- the node
 
-module _ (d : Component) (node : IsBooleanNode d) (numbered : IsNumbered d.body) where
+module _ (d : Component) (node : IsBooleanNode d) (numbered : IsNumbered d) where
   abbrev pub one : Instance
   one = instance d [] no_instances
 
   abbrev pub last : ℕ
-  last = last_pre_in 0 d.body
+  last = greatest_pre_in 0 d.body
 
   defined_left : (x : Name) → is_defined d x ≡ is_left x d.body
   defined_left x = ap (λ (es : List Equation). list_any (λ e. named_in x e.names) es) (boolean_equations d node)
@@ -194,7 +248,7 @@ module _ (d : Component) (node : IsBooleanNode d) (numbered : IsNumbered d.body)
   free_named x = kept_named d x (d.outputs ++ d.locals) ∙ ap (λ c. c && not (is_defined d x)) (named_append x d.outputs d.locals) ∙ ap (λ c. (named_in x (names_of d.outputs) || named_in x (names_of d.locals)) && not c) (defined_left x)
 
   as_many_firsts : length (first_sorts one) ≡ last
-  as_many_firsts = ap (λ (ss : List Sort). length ss) (boolean_firsts d node numbered) ∙ length_mapped (λ _. Flags) (body_pres d.body) ∙ sym (last_numbered d.body node.items numbered)
+  as_many_firsts = ap (λ (ss : List Sort). length ss) (boolean_firsts d node numbered) ∙ length_mapped (λ _. Flags) (body_pres d.body) ∙ sym (greatest_numbered d node numbered)
 
   module _ (n : ℕ) where
     abbrev of_inputs : List Listable
@@ -304,7 +358,7 @@ given_is ls (v ∷ vs) = ap (λ b. is_given ls v && b) (given_is ls vs)
 
 -- ---- the whole trace
 
-module _ (d : Component) (node : IsBooleanNode d) (numbered : IsNumbered d.body) (n : ℕ) where
+module _ (d : Component) (node : IsBooleanNode d) (numbered : IsNumbered d) (n : ℕ) where
   pub all_flags : AreFlags (listable n (one d node numbered))
   all_flags =
       both_parts (λ s. s.sort ≡ Flags) (listable_names [] n true d.inputs) _ (named_flags n true d.inputs node.inputs)
@@ -314,7 +368,7 @@ module _ (d : Component) (node : IsBooleanNode d) (numbered : IsNumbered d.body)
   abbrev all : List Listable
   all = listable n (one d node numbered)
 
-  line_is : (before : List Line) (l : PlacedLine) → first_failed (line_tests all before l) ≡ flag_line_misfit d (last_pre_in 0 d.body) n before l
+  line_is : (before : List Line) (l : PlacedLine) → first_failed (line_tests all before l) ≡ flag_line_misfit d (greatest_pre_in 0 d.body) n before l
   line_is before l =
       turn (is_listed before l.path l.subject) (first_failed (taken_tests (listable_at all l.path l.subject) l)) l.at
       ∙ ap (λ o. cond (is_listed before l.path l.subject) (Some l.at) o)
@@ -325,9 +379,9 @@ module _ (d : Component) (node : IsBooleanNode d) (numbered : IsNumbered d.body)
   lines_are before (l ∷ ls) =
       failed_append (line_tests all before l) (lines_tests all (before ++ bare_line l ∷ []) ls)
       ∙ ap (λ o. or_else o (first_failed (lines_tests all (before ++ bare_line l ∷ []) ls))) (line_is before l)
-      ∙ ap (or_else (flag_line_misfit d (last_pre_in 0 d.body) n before l)) (lines_are (before ++ bare_line l ∷ []) ls)
+      ∙ ap (or_else (flag_line_misfit d (greatest_pre_in 0 d.body) n before l)) (lines_are (before ++ bare_line l ∷ []) ls)
 
-instance_is : (d : Component) → IsBooleanNode d → IsNumbered d.body → (t : Listing) → first_failed (instance_tests (instance d [] no_instances) t)
+instance_is : (d : Component) → IsBooleanNode d → IsNumbered d → (t : Listing) → first_failed (instance_tests (instance d [] no_instances) t)
     ≡ cond (nat_le 1 t.length && nat_le t.length 1001) (body_misfit d t) (Some t.length_at)
 instance_is d node numbered t = ap (λ o. cond (nat_le 1 t.length && nat_le t.length 1001) o (Some t.length_at))
     (failed_append (lines_tests (listable t.length (instance d [] no_instances)) [] t.lines) ((t.end_at, list_all (is_given (lines_of t)) d.inputs) ∷ [])

@@ -4,13 +4,17 @@ use Rattle.std.specs.Prelude.{IfOk}
 use Rattle.std.proofs.lemmas.List.{length-map}
 use Rattle.std.proofs.lemmas.Nat.{mul-le}
 use Rattle.lus_tree.specs.Tree.{Name, Program, Component}
+use Rattle.lus_meaning.specs.Program.{instance_of}
 use Rattle.lus_meaning.specs.Run.{Equation, equations, body_equations}
 use Rattle.lus_meaning.specs.Trace.{Line}
 use Rattle.lus_meaning.specs.declared.trace.TraceLine.{TraceLine}
 use Rattle.lus_meaning.specs.TraceView.{bare_line, bare_view, line_view}
 use Rattle.lus_meaning.specs.Order.{left_at, IsLeastEquationOrder}
+use Rattle.lus_meaning.specs.BooleanNeeds.{IsLeastDirectOrder}
 use Rattle.lus_meaning.specs.BooleanRules.{IsBooleanChecked}
-use Rattle.lus_meaning.proofs.BooleanNode.{boolean_equations}
+use Rattle.lus_meaning.specs.Rules.{IsWithinCounts}
+use Rattle.lus_meaning.proofs.BooleanNode.{boolean_equations, boolean_checked_instance}
+use Rattle.lus_meaning.proofs.BooleanNeeds.{least_direct}
 use Rattle.trace_replay.specs.Code.{code_truth}
 use Rattle.trace_replay.specs.Columns.{Source, held, code_of, rows}
 use Rattle.trace_replay.specs.Given.{first_in, base_names, table_names, given_columns, computed_columns, table_columns}
@@ -28,12 +32,16 @@ columns_are ls es d ks start names first columns begins grown a b =
     b ∙ ap (λ (l : List Source). l ++ computed_columns ls names es ks) (a ∙ ap (given_columns ls) begins)
     ∙ ap (λ (l : List Name). given_columns ls (base_names es d) ++ computed_columns ls l es ks) (grown ∙ ap (λ (l : List Name). l ++ flat_map (left_at es) ks) begins)
 
-module _ (p : Program) (d : Component) (checked : IsBooleanChecked p d) (ks : List ℕ) (least : IsLeastEquationOrder (equations d) ks) (es : List Equation) (body : es ≡ body_equations d.body) where
+-- an order by ways of needs is one by the names of the right sides
+pub direct : (p : Program) (d : Component) → IsBooleanChecked p d → (ks : List ℕ) → IsLeastEquationOrder (instance_of p d) (equations d) ks → IsLeastDirectOrder (equations d) ks
+direct p d checked ks o = least_direct d checked.rules.shape checked.rules.names.one_equation ks (subst (λ i. IsLeastEquationOrder i (equations d) ks) (boolean_checked_instance p d checked) o)
+
+module _ (p : Program) (d : Component) (checked : IsBooleanChecked p d) (within : IsWithinCounts p d) (ks : List ℕ) (least : IsLeastDirectOrder (equations d) ks) (es : List Equation) (body : es ≡ body_equations d.body) where
   all_equations : equations d ≡ es
   all_equations = boolean_equations d checked.rules.shape ∙ sym body
 
   pub few_names : length (table_names es d ks) ≤ 4000
-  few_names = names_few p d checked ks least es all_equations (table_names es d ks) refl
+  few_names = names_few p d checked within ks least es all_equations (table_names es d ks) refl
 
   module _ {Z : Type 0} (bytes : Z → Name) (names : List Z) (all_names : map bytes names ≡ table_names es d ks) where
     same_length : length names ≡ length (map bytes names)

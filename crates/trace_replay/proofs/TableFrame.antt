@@ -12,9 +12,8 @@ use Rattle.lus_tree.specs.Tree.{Name, Expression, truth, name, negation, pre, ar
 use Rattle.lus_tree.specs.Numbers.{pres, body_pres, IsNumbered}
 use Rattle.lus_meaning.specs.Value.{Value, absent, flag, whole, not_value, apply, choose, has_sort}
 use Rattle.lus_meaning.specs.Frame.{Frame, frame, no_frames, entry, first_value}
-use Rattle.lus_meaning.specs.Scene.{Scene, base, Instance, instance, no_instances, variables, clock_from, is_on}
+use Rattle.lus_meaning.specs.Scene.{Scene, base, Instance, instance, no_instances, variables, clock_from, clock_of_names, is_on}
 use Rattle.lus_meaning.specs.Meaning.{value}
-use Rattle.lus_meaning.specs.Program.{clock_of_names}
 use Rattle.lus_meaning.specs.Contract.{scene}
 use Rattle.lus_meaning.specs.Run.{Equation, equations, right_values, entries, at_instant, IsBalanced, first_sorts, have_sorts, is_typed, IsRun}
 use Rattle.lus_meaning.specs.Depends.{named_in, left_names}
@@ -29,9 +28,8 @@ use Rattle.lus_meaning.proofs.Stable.{sample_at}
 use Rattle.lus_meaning.proofs.Exists.{sampled_names, sampled_lengths}
 use Rattle.lus_meaning.proofs.Lists.{all_from_both, mapped_all}
 use Rattle.lus_meaning.proofs.Ranked.{all_named}
-use Rattle.lus_meaning.proofs.InOrder.{counting_all}
 use Rattle.lus_meaning.proofs.BooleanNode.{boolean_flags, boolean_names_on_base, over_boolean, IsBooleanEquation, each_boolean}
-use Rattle.lus_meaning.proofs.BooleanFirsts.{boolean_firsts}
+use Rattle.lus_meaning.proofs.BooleanFirsts.{boolean_firsts, boolean_pres_all}
 use Rattle.lus_meaning.proofs.BooleanTypes.{boolean_value}
 use Rattle.lus_meaning.proofs.FirstSorts.{right_parts}
 use Rattle.lus_meaning.proofs.BooleanOrder.{one_named, first_name, first_is_named}
@@ -76,7 +74,7 @@ pub flags_chosen : (c a b : Bool) → choose (flag c) (flag a) (flag b) ≡ flag
 flags_chosen true a b = refl
 flags_chosen false a b = refl
 
-module _ (d : Component) (boolean : IsBooleanNode d) (names : HasBooleanNames d) (numbered : IsNumbered d.body) (ls : List Line) (n : ℕ) (calm : AreCalm ls) (h : Held)
+module _ (d : Component) (boolean : IsBooleanNode d) (names : HasBooleanNames d) (numbered : IsNumbered d) (ls : List Line) (n : ℕ) (calm : AreCalm ls) (h : Held)
     (meets : (t : ℕ) → t < n → AllByRecursion (λ e. h (first_name e.names) t ≡ truth_at h (first_in ls) e.right t) (equations d))
     (free : (x : Name) → named_in x (declared_names d) ≡ true → named_in x (left_names d) ≡ false → (t : ℕ) → t < n → h x t ≡ truth_in (listed_at ls [] (of_name x) t)) where
   abbrev pub node : Instance
@@ -119,7 +117,7 @@ module _ (d : Component) (boolean : IsBooleanNode d) (names : HasBooleanNames d)
   firsts_listed (s ∷ ss) f k h = (h 0 k (omega arith) (omega arith), firsts_listed ss f (suc k) (λ t j l e. h (suc t) j (omega arith) (omega arith)))
 
   pub firsts_are : AllByRecursion IsFirst (body_pres d.body)
-  firsts_are = subst (AllByRecursion IsFirst) (sym numbered.pres) (counting_all IsFirst 1 (length (body_pres d.body)) one)
+  firsts_are = boolean_pres_all d boolean numbered IsFirst one
     where
       one : (j : ℕ) → 1 ≤ j → j < 1 + length (body_pres d.body) → IsFirst j
       one zero a b = absurd (omega arith)

@@ -6,7 +6,8 @@ use Rattle.lus_tree.specs.Tree.{Name, Variable, Component, Program}
 use Rattle.lus_meaning.specs.Run.{Equation, equations, body_equations}
 use Rattle.lus_meaning.specs.Depends.{named_in}
 use Rattle.lus_meaning.specs.Rules.{names_of, declared_names, lefts}
-use Rattle.lus_meaning.specs.Order.{is_listed, left_at, IsLeastEquationOrder}
+use Rattle.lus_meaning.specs.Order.{is_listed, left_at}
+use Rattle.lus_meaning.specs.BooleanNeeds.{IsLeastDirectOrder}
 use Rattle.lus_meaning.specs.BooleanRules.{IsBooleanChecked}
 use Rattle.lus_meaning.proofs.BooleanNode.{boolean_variables, boolean_equations}
 use Rattle.lus_meaning.proofs.BooleanOrder.{named_either}
@@ -31,7 +32,7 @@ both_ways true b f g = sym (f refl)
 both_ways false true f g = g refl
 both_ways false false f g = refl
 
-module _ (p : Program) (d : Component) (checked : IsBooleanChecked p d) (ks : List ℕ) (least : IsLeastEquationOrder (equations d) ks) where
+module _ (p : Program) (d : Component) (checked : IsBooleanChecked p d) (ks : List ℕ) (least : IsLeastDirectOrder (equations d) ks) where
   abbrev es : List Equation
   es = equations d
 

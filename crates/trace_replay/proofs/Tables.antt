@@ -16,7 +16,7 @@ use Rattle.lus_meaning.specs.Trace.{Subject, of_name, Line}
 use Rattle.lus_meaning.specs.TraceView.{PlacedLine, Listing, bare_line, lines_of, line_view, bare_view}
 use Rattle.lus_meaning.specs.Fits.{same_place, is_listed, misfit, FitsProgram}
 use Rattle.lus_meaning.proofs.FitOrMisfit.{passes_fits}
-use Rattle.trace_replay.specs.Fitting.{last_pre_in, line_need, need_misfit, flag_line_misfit, or_else, own_misfit, are_listed, body_misfit}
+use Rattle.trace_replay.specs.Fitting.{greatest_pre_in, line_need, need_misfit, flag_line_misfit, or_else, own_misfit, are_listed, body_misfit}
 use Rattle.trace_replay.specs.Tables.{has_spot, line_misfit, spot_misfit, Lists}
 use Rattle.trace_replay.specs.Refused.{IsMisfit, Finds, FindsAt}
 use Rattle.trace_replay.specs.declared.fault.TraceFault.{TraceFault}
@@ -45,15 +45,15 @@ name_added x ks k = go (list_any (λ j. bytes_eq k.now j.now) ks) refl
 
 -- a line is refused by what was listed as by the lines that listed it
 pub listed_line : (t : Listed) (before : List Line) → Lists t before
-    → (d : Component) (n : ℕ) (l : PlacedLine) → line_misfit t d n l ≡ flag_line_misfit d (last_pre_in 0 d.body) n before l
+    → (d : Component) (n : ℕ) (l : PlacedLine) → line_misfit t d n l ≡ flag_line_misfit d (greatest_pre_in 0 d.body) n before l
 listed_line t before h d n l = go l.path
   where
     either : (b : Bool) → Some l.at ≡ cond b (Some l.at) (Some l.at)
     either true = refl
     either false = refl
 
-    go : (path : List ℕ) → spot_misfit t d n path l ≡ cond (is_listed before path l.subject) (Some l.at) (need_misfit (line_need d (last_pre_in 0 d.body) n path l.subject) l)
-    go [] = ap (λ b. cond b (Some l.at) (need_misfit (line_need d (last_pre_in 0 d.body) n [] l.subject) l)) (h l.subject)
+    go : (path : List ℕ) → spot_misfit t d n path l ≡ cond (is_listed before path l.subject) (Some l.at) (need_misfit (line_need d (greatest_pre_in 0 d.body) n path l.subject) l)
+    go [] = ap (λ b. cond b (Some l.at) (need_misfit (line_need d (greatest_pre_in 0 d.body) n [] l.subject) l)) (h l.subject)
     go (k ∷ ks) = either (is_listed before (k ∷ ks) l.subject)
 
 -- the names that were listed
@@ -111,5 +111,5 @@ module _ (xs : List TraceLine) (i : ℕ) (x : TraceLine) (within : i < length xs
       pub fault_step : (e : TraceFault) → FindsAt e (line_misfit t d n (line_view x)) → FindsAt e (own_misfit d n before (map line_view (drop i xs)))
       fault_step e k =
           subst (λ (ls : List PlacedLine). FindsAt e (own_misfit d n before ls)) (sym now_left)
-          (finds_first e (flag_line_misfit d (last_pre_in 0 d.body) n before (line_view x)) (own_misfit d n (before ++ bare_view x ∷ []) (map line_view (drop (i + 1) xs)))
+          (finds_first e (flag_line_misfit d (greatest_pre_in 0 d.body) n before (line_view x)) (own_misfit d n (before ++ bare_view x ∷ []) (map line_view (drop (i + 1) xs)))
           (subst (FindsAt e) (listed_line t before h d n (line_view x)) k))

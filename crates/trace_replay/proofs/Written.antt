@@ -12,12 +12,12 @@ use Rattle.lus_tree.specs.declared.place.Pos.{Pos}
 use Rattle.lus_meaning.specs.Value.{Value, absent, flag, whole}
 use Rattle.lus_meaning.specs.Trace.{Subject, of_name, of_first, Line}
 use Rattle.lus_meaning.specs.TraceView.{PlacedValue, PlacedLine, Listing, bare_values, bare_line}
-use Rattle.trace_replay.specs.Cutting.{Word, Row, cut, right, below, first_place, is_blank, begins_with_feed, rows_of, filled}
+use Rattle.trace_replay.specs.Cutting.{TraceWord, TextLine, cut, right, below, first_place, is_blank, begins_with_feed, text_lines, filled}
 use Rattle.lus_lexer.specs.Names.{is_name}
-use Rattle.trace_replay.specs.Words.{spelled, FitsSubject, FitsValue, subject_text, step_text, place_text, value_text}
-use Rattle.trace_replay.specs.Traces.{texts, places_of, IsOpening, AreValues, IsListed, AreListed, AreTrace, item_text, line_text, trace_text, HasValues, FitsLine}
+use Rattle.trace_replay.specs.Words.{spelled, FitsSubject, FitsValue, subject_text, step_text, address_text, value_text}
+use Rattle.trace_replay.specs.Traces.{texts, places_of, IsOpening, AreValues, IsLine, AreLines, AreTrace, item_text, line_text, trace_text, HasValues, FitsLine}
 use Rattle.trace_replay.specs.Laws.{ReadBack}
-use Rattle.trace_replay.specs.Reading.{Left, ends_word, word_length, word_of, rows_left, shift}
+use Rattle.trace_replay.specs.Reading.{Left, ends_word, word_length, word_of, lines_ahead, shift}
 use Rattle.trace_replay.proofs.Numbers.{and_left, and_right, both_true, some_is, digits_of_decimal}
 use Rattle.trace_replay.proofs.AsciiNames.{name_word, name_letter}
 use Rattle.trace_replay.proofs.Cuts.{left_at, left_blank, left_word, rest_of}
@@ -48,19 +48,19 @@ unfolding word_length
 solid_length [] b bs h e = rw e refl
 solid_length (c ∷ w) b bs h e = rw (solid_goes_on c (w ++ b ∷ bs) (and_left (is_solid c) (are_solid w) h)) (ap suc (solid_length w b bs (and_right (is_solid c) (are_solid w) h) e))
 
-pub record Shows (l : Left) (ws : List (List ℕ)) (more : List Row) : Type 0 where
+pub record Shows (l : Left) (ws : List (List ℕ)) (more : List TextLine) : Type 0 where
   pub words : texts l.words ≡ ws
   pub later : l.later ≡ more
 
-word_is : (l : Left) (x : Word × Left) → word_of l ≡ Some x → (l.words ≡ x.0 ∷ x.1.words) × (l.later ≡ x.1.later)
+word_is : (l : Left) (x : TraceWord × Left) → word_of l ≡ Some x → (l.words ≡ x.0 ∷ x.1.words) × (l.later ≡ x.1.later)
 word_is l x h = go l.words h
   where
-    go : (ws : List Word) → word_of (record { words = ws; end = l.end; later = l.later; last = l.last }) ≡ Some x → (ws ≡ x.0 ∷ x.1.words) × (l.later ≡ x.1.later)
+    go : (ws : List TraceWord) → word_of (record { words = ws; end = l.end; later = l.later; last = l.last }) ≡ Some x → (ws ≡ x.0 ∷ x.1.words) × (l.later ≡ x.1.later)
     go [] k = absurd cc
     go (w ∷ ws) k = let e = some_is (w, record { words = ws; end = l.end; later = l.later; last = l.last }) x k in (ap (λ y. y.0 ∷ y.1.words) e, ap (λ y. y.1.later) e)
 
 -- a word before what ends it
-shows_word : (w : List ℕ) (b : ℕ) (bs : List ℕ) (p : Pos) (ws : List (List ℕ)) (more : List Row) → IsSolid w → ends_word b bs ≡ true
+shows_word : (w : List ℕ) (b : ℕ) (bs : List ℕ) (p : Pos) (ws : List (List ℕ)) (more : List TextLine) → IsSolid w → ends_word b bs ≡ true
     → Shows (left_at (shift (length w) p) (b ∷ bs)) ws more → Shows (left_at p (w ++ b ∷ bs)) (w ∷ ws) more
 shows_word w b bs p ws more s e h =
     let n : word_length (w ++ b ∷ bs) ≡ length w = solid_length w b bs s.each e in
@@ -97,43 +97,43 @@ abbrev pub next_place : Pos → List (List ℕ) → Pos
 next_place p [] = below p
 next_place p (w ∷ ws) = next_place (shift (length w) (right p)) ws
 
-feed_shows : (p : Pos) (rest : List ℕ) → Shows (left_at p (10 ∷ rest)) [] (rows_left (left_at (below p) rest))
+feed_shows : (p : Pos) (rest : List ℕ) → Shows (left_at p (10 ∷ rest)) [] (lines_ahead (left_at (below p) rest))
 unfolding cut
 feed_shows p rest = record { words = refl; later = refl }
 
-tail_shows : (ws : List (List ℕ)) (p : Pos) (rest : List ℕ) → AreSolid ws → Shows (left_at p (tail_text ws rest)) ws (rows_left (left_at (next_place p ws) rest))
+tail_shows : (ws : List (List ℕ)) (p : Pos) (rest : List ℕ) → AreSolid ws → Shows (left_at p (tail_text ws rest)) ws (lines_ahead (left_at (next_place p ws) rest))
 tail_shows [] p rest s = feed_shows p rest
 tail_shows (w ∷ ws) p rest s =
     let t = tail_ends ws rest in
-    let more : List Row = rows_left (left_at (next_place (shift (length w) (right p)) ws) rest) in
+    let more : List TextLine = lines_ahead (left_at (next_place (shift (length w) (right p)) ws) rest) in
     let h : Shows (left_at (shift (length w) (right p)) (t.0 ∷ t.1)) ws more = subst (λ (x : List ℕ). Shows (left_at (shift (length w) (right p)) x) ws more) t.2 (tail_shows ws (shift (length w) (right p)) rest s.1) in
     let k : Shows (left_at (right p) (w ++ t.0 ∷ t.1)) (w ∷ ws) more = shows_word w t.0 t.1 (right p) ws more s.0 t.3 h in
     let e : left_at (right p) (w ++ t.0 ∷ t.1) ≡ left_at p (32 ∷ (w ++ tail_text ws rest)) = ap (λ (x : List ℕ). left_at (right p) (w ++ x)) (sym t.2) ∙ sym (left_blank p 32 (w ++ tail_text ws rest) refl) in
     subst (λ (l : Left). Shows l (w ∷ ws) more) e k
 
 -- a line of words, and the rows below
-pub record Begins (rows : List Row) (ws : List (List ℕ)) (rest : List ℕ) : Type 0 where
-  pub row : Row
+pub record Begins (rows : List TextLine) (ws : List (List ℕ)) (rest : List ℕ) : Type 0 where
+  pub row : TextLine
   pub place : Pos
-  pub shape : rows ≡ row ∷ rows_left (left_at place rest)
+  pub shape : rows ≡ row ∷ lines_ahead (left_at place rest)
   pub words : texts row.words ≡ ws
 
-line_begins : (w : List ℕ) (ws : List (List ℕ)) (p : Pos) (rest : List ℕ) → IsSolid w → AreSolid ws → Begins (rows_left (left_at p (w ++ tail_text ws rest))) (w ∷ ws) rest
+line_begins : (w : List ℕ) (ws : List (List ℕ)) (p : Pos) (rest : List ℕ) → IsSolid w → AreSolid ws → Begins (lines_ahead (left_at p (w ++ tail_text ws rest))) (w ∷ ws) rest
 line_begins w ws p rest s r =
     let t = tail_ends ws rest in
     let q : Pos = next_place (shift (length w) p) ws in
-    let more : List Row = rows_left (left_at q rest) in
+    let more : List TextLine = lines_ahead (left_at q rest) in
     let h : Shows (left_at (shift (length w) p) (t.0 ∷ t.1)) ws more = subst (λ (x : List ℕ). Shows (left_at (shift (length w) p) x) ws more) t.2 (tail_shows ws (shift (length w) p) rest r) in
     let k : Shows (left_at p (w ++ t.0 ∷ t.1)) (w ∷ ws) more = shows_word w t.0 t.1 p ws more s t.3 h in
     let l : Shows (left_at p (w ++ tail_text ws rest)) (w ∷ ws) more = subst (λ (x : List ℕ). Shows (left_at p (w ++ x)) (w ∷ ws) more) (sym t.2) k in
     go (left_at p (w ++ tail_text ws rest)) q l
   where
-    go : (l : Left) (q : Pos) → Shows l (w ∷ ws) (rows_left (left_at q rest)) → Begins (rows_left l) (w ∷ ws) rest
+    go : (l : Left) (q : Pos) → Shows l (w ∷ ws) (lines_ahead (left_at q rest)) → Begins (lines_ahead l) (w ∷ ws) rest
     go l q h = some_words l.words h.words
       where
-        some_words : (us : List Word) → texts us ≡ w ∷ ws → Begins (rows_left (record { words = us; end = l.end; later = l.later; last = l.last })) (w ∷ ws) rest
+        some_words : (us : List TraceWord) → texts us ≡ w ∷ ws → Begins (lines_ahead (record { words = us; end = l.end; later = l.later; last = l.last })) (w ∷ ws) rest
         some_words [] e = absurd cc
-        some_words (u ∷ us) e = record { row = record { words = u ∷ us; end = l.end }; place = q; shape = ap (λ (x : List Row). record { words = u ∷ us; end = l.end } ∷ x) h.later; words = e }
+        some_words (u ∷ us) e = record { row = record { words = u ∷ us; end = l.end }; place = q; shape = ap (λ (x : List TextLine). record { words = u ∷ us; end = l.end } ∷ x) h.later; words = e }
 
 -- ---- the words of traces are solid
 
@@ -166,16 +166,16 @@ subject_solid : (s : Subject) → FitsSubject s → IsSolid (subject_text s)
 subject_solid (of_name x) h = name_solid x h
 subject_solid (of_first k) h = record { some = omega arith; each = (decimal_solid k (omega arith)).each }
 
-place_solid : (ks : List ℕ) (s : Subject) → AllByRecursion (λ k. k < 4294967296) ks → FitsSubject s → IsSolid (place_text ks s)
-place_solid [] s a f = subject_solid s f
-place_solid (k ∷ ks) s a f =
+address_solid : (ks : List ℕ) (s : Subject) → AllByRecursion (λ k. k < 4294967296) ks → FitsSubject s → IsSolid (address_text ks s)
+address_solid [] s a f = subject_solid s f
+address_solid (k ∷ ks) s a f =
     let low : k < 4294967296 = a.0 in
     let d = decimal_solid k (omega arith) in
-    let r = place_solid ks s a.1 f in
+    let r = address_solid ks s a.1 f in
     let dl : 0 < length (decimal k) = d.some in
     record {
-      some = omega (arith, length-append (step_text k) (place_text ks s), length-append (decimal k) (46 ∷ []), dl);
-      each = join_solid (step_text k) (place_text ks s) (join_solid (decimal k) (46 ∷ []) d.each refl) r.each;
+      some = omega (arith, length-append (step_text k) (address_text ks s), length-append (decimal k) (46 ∷ []), dl);
+      each = join_solid (step_text k) (address_text ks s) (join_solid (decimal k) (46 ∷ []) d.each refl) r.each;
     }
 
 value_solid : (v : Value) → FitsValue v → IsSolid (value_text v)
@@ -196,15 +196,15 @@ values_tail [] rest = refl
 values_tail (v ∷ vs) rest =
     ap (λ (x : List ℕ). x ++ 10 ∷ rest) (flat_map-cons item_text v vs) ∙ append_assoc (item_text v) (flat_map item_text vs) (10 ∷ rest) ∙ ap (λ (x : List ℕ). 32 ∷ (value_text v ++ x)) (values_tail vs rest)
 
-line_tail : (l : Line) (rest : List ℕ) → line_text l ++ rest ≡ place_text l.path l.subject ++ tail_text (map value_text l.values) rest
+line_tail : (l : Line) (rest : List ℕ) → line_text l ++ rest ≡ address_text l.path l.subject ++ tail_text (map value_text l.values) rest
 line_tail l rest =
-    append_assoc (place_text l.path l.subject) (flat_map item_text l.values ++ 10 ∷ []) rest
-    ∙ ap (λ (x : List ℕ). place_text l.path l.subject ++ x) (append_assoc (flat_map item_text l.values) (10 ∷ []) rest ∙ values_tail l.values rest)
+    append_assoc (address_text l.path l.subject) (flat_map item_text l.values ++ 10 ∷ []) rest
+    ∙ ap (λ (x : List ℕ). address_text l.path l.subject ++ x) (append_assoc (flat_map item_text l.values) (10 ∷ []) rest ∙ values_tail l.values rest)
 
 abbrev pub below_text : List PlacedLine → List ℕ
 below_text ls = flat_map (λ l. line_text (bare_line l)) ls ++ codes "end\n"
 
-below_more : (l : PlacedLine) (ls : List PlacedLine) → below_text (l ∷ ls) ≡ place_text l.path l.subject ++ tail_text (map value_text (bare_values l.values)) (below_text ls)
+below_more : (l : PlacedLine) (ls : List PlacedLine) → below_text (l ∷ ls) ≡ address_text l.path l.subject ++ tail_text (map value_text (bare_values l.values)) (below_text ls)
 below_more l ls =
     ap (λ (x : List ℕ). x ++ codes "end\n") (flat_map-cons (λ k. line_text (bare_line k)) l ls)
     ∙ append_assoc (line_text (bare_line l)) (flat_map (λ k. line_text (bare_line k)) ls) (codes "end\n")
@@ -216,10 +216,10 @@ opening_tail t = refl
 -- ---- rows of such words
 
 -- values at the places of their words
-abbrev PlacedAs : List Word → List Value → Type 0
+abbrev PlacedAs : List TraceWord → List Value → Type 0
 PlacedAs ws vs = (us : List PlacedValue) × AreValues ws us × (bare_values us ≡ vs)
 
-are_values : (ws : List Word) (vs : List Value) → texts ws ≡ map value_text vs → AllByRecursion FitsValue vs → PlacedAs ws vs
+are_values : (ws : List TraceWord) (vs : List Value) → texts ws ≡ map value_text vs → AllByRecursion FitsValue vs → PlacedAs ws vs
 are_values [] [] e h = ([], tt, refl)
 are_values [] (v ∷ vs) e h = absurd cc
 are_values (w ∷ ws) [] e h = absurd cc
@@ -229,19 +229,19 @@ are_values (w ∷ ws) (v ∷ vs) e h =
     let r = are_values ws vs b h.1 in
     (record { value = v; at = w.at } ∷ r.0, (spelled v a h.0, refl, r.1), ap (λ us. v ∷ us) r.2)
 
-is_listed : (r : Row) (l : Line) → texts r.words ≡ place_text l.path l.subject ∷ map value_text l.values → FitsLine l → (u : PlacedLine) × IsListed r u × (bare_line u ≡ l)
+is_listed : (r : TextLine) (l : Line) → texts r.words ≡ address_text l.path l.subject ∷ map value_text l.values → FitsLine l → (u : PlacedLine) × IsLine r u × (bare_line u ≡ l)
 is_listed r l e f = go r.words refl l.values refl e f.values
   where
-    go : (ws : List Word) → r.words ≡ ws → (vs : List Value) → l.values ≡ vs → texts ws ≡ place_text l.path l.subject ∷ map value_text vs → HasValues vs → (u : PlacedLine) × IsListed r u × (bare_line u ≡ l)
+    go : (ws : List TraceWord) → r.words ≡ ws → (vs : List Value) → l.values ≡ vs → texts ws ≡ address_text l.path l.subject ∷ map value_text vs → HasValues vs → (u : PlacedLine) × IsLine r u × (bare_line u ≡ l)
     go [] s vs t k h = absurd cc
     go (w ∷ ws) s [] t k h = absurd h
     go (w ∷ []) s (v ∷ vs) t k h = absurd cc
     go (w ∷ x ∷ xs) s (v ∷ vs) t k h =
-        let a : w.text ≡ place_text l.path l.subject = cc in
+        let a : w.text ≡ address_text l.path l.subject = cc in
         let b : texts (x ∷ xs) ≡ map value_text (v ∷ vs) = cc in
         let i = are_values (x ∷ xs) (v ∷ vs) b h in (
           record { at = w.at; path = l.path; subject = l.subject; values = i.0 },
-          record { place = w; first = x; others = xs; shape = s; at = refl; is_place = record { spelled = a; path_fits = f.path; subject_fits = f.subject }; values = i.1 },
+          record { place = w; first = x; others = xs; shape = s; at = refl; is_address = record { spelled = a; path_fits = f.path; subject_fits = f.subject }; values = i.1 },
           ap (λ us. record { path = l.path; subject = l.subject; values = us }) (i.2 ∙ sym t),
         )
 
@@ -249,7 +249,7 @@ has_values : (vs : List Value) → HasValues vs → AllByRecursion FitsValue vs
 has_values [] h = absurd h
 has_values (v ∷ vs) h = h
 
-no_rows : (p : Pos) → rows_left (left_at p []) ≡ []
+no_rows : (p : Pos) → lines_ahead (left_at p []) ≡ []
 unfolding cut
 no_rows p = refl
 
@@ -257,38 +257,38 @@ abbrev lines_only : List PlacedLine → List Line
 lines_only ls = map bare_line ls
 
 -- the places of the words of a line
-one_word : (ws : List Word) (x : List ℕ) → texts ws ≡ x ∷ [] → (p : Pos) × (places_of ws ≡ p ∷ [])
+one_word : (ws : List TraceWord) (x : List ℕ) → texts ws ≡ x ∷ [] → (p : Pos) × (places_of ws ≡ p ∷ [])
 one_word [] x h = absurd cc
 one_word (w ∷ []) x h = (w.at, refl)
 one_word (w ∷ v ∷ vs) x h = absurd cc
 
-three_words : (ws : List Word) (x y z : List ℕ) → texts ws ≡ x ∷ y ∷ z ∷ [] → (p q r : Pos) × (places_of ws ≡ p ∷ q ∷ r ∷ [])
+three_words : (ws : List TraceWord) (x y z : List ℕ) → texts ws ≡ x ∷ y ∷ z ∷ [] → (p q r : Pos) × (places_of ws ≡ p ∷ q ∷ r ∷ [])
 three_words [] x y z h = absurd cc
 three_words (w ∷ []) x y z h = absurd cc
 three_words (w ∷ v ∷ []) x y z h = absurd cc
 three_words (w ∷ v ∷ u ∷ []) x y z h = (w.at, v.at, u.at, refl)
 three_words (w ∷ v ∷ u ∷ t ∷ ts) x y z h = absurd cc
 
-written_below : (ls : List PlacedLine) (p : Pos) → AllByRecursion FitsLine (lines_only ls) → (us : List PlacedLine) × (e : Pos) × AreListed (rows_left (left_at p (below_text ls))) us e × (lines_only us ≡ lines_only ls)
+written_below : (ls : List PlacedLine) (p : Pos) → AllByRecursion FitsLine (lines_only ls) → (us : List PlacedLine) × (e : Pos) × AreLines (lines_ahead (left_at p (below_text ls))) us e × (lines_only us ≡ lines_only ls)
 written_below [] p h =
     let b = line_begins (codes "end") [] p [] (record { some = omega arith; each = refl }) tt in
     let w = one_word b.row.words (codes "end") b.words in
-    ([], w.0, subst (λ (rs : List Row). AreListed rs [] w.0) (sym (b.shape ∙ ap (λ (x : List Row). b.row ∷ x) (no_rows b.place))) (b.words, w.1, refl), refl)
+    ([], w.0, subst (λ (rs : List TextLine). AreLines rs [] w.0) (sym (b.shape ∙ ap (λ (x : List TextLine). b.row ∷ x) (no_rows b.place))) (b.words, w.1, refl), refl)
 written_below (l ∷ ls) p h =
     let f = h.0 in
-    let b = line_begins (place_text l.path l.subject) (map value_text (bare_values l.values)) p (below_text ls) (place_solid l.path l.subject f.path f.subject) (values_solid (bare_values l.values) (has_values (bare_values l.values) f.values)) in
+    let b = line_begins (address_text l.path l.subject) (map value_text (bare_values l.values)) p (below_text ls) (address_solid l.path l.subject f.path f.subject) (values_solid (bare_values l.values) (has_values (bare_values l.values) f.values)) in
     let i = is_listed b.row (bare_line l) b.words f in
     let r = written_below ls b.place h.1 in
-    let e : rows_left (left_at p (below_text (l ∷ ls))) ≡ b.row ∷ rows_left (left_at b.place (below_text ls)) = ap (λ (x : List ℕ). rows_left (left_at p x)) (below_more l ls) ∙ b.shape in
-    (i.0 ∷ r.0, r.1, subst (λ (rs : List Row). AreListed rs (i.0 ∷ r.0) r.1) (sym e) (i.1, r.2), ap (λ (x : Line). x ∷ lines_only r.0) i.2 ∙ ap (λ (x : List Line). bare_line l ∷ x) r.3)
+    let e : lines_ahead (left_at p (below_text (l ∷ ls))) ≡ b.row ∷ lines_ahead (left_at b.place (below_text ls)) = ap (λ (x : List ℕ). lines_ahead (left_at p x)) (below_more l ls) ∙ b.shape in
+    (i.0 ∷ r.0, r.1, subst (λ (rs : List TextLine). AreLines rs (i.0 ∷ r.0) r.1) (sym e) (i.1, r.2), ap (λ (x : Line). x ∷ lines_only r.0) i.2 ∙ ap (λ (x : List Line). bare_line l ∷ x) r.3)
 
 pub read_back : ReadBack
 read_back t f =
     let n : t.length < 4294967296 = f.length in
     let b = line_begins (codes "trace") (t.node ∷ decimal t.length ∷ []) first_place (below_text t.lines) (record { some = omega arith; each = refl }) (name_solid t.node f.node, (decimal_solid t.length (omega arith), tt)) in
     let r = written_below t.lines b.place f.lines in
-    let e : filled (rows_of (trace_text t)) ≡ b.row ∷ rows_left (left_at b.place (below_text t.lines)) = ap (λ (x : List ℕ). filled (rows_of x)) (opening_tail t) ∙ b.shape in
+    let e : filled (text_lines (trace_text t)) ≡ b.row ∷ lines_ahead (left_at b.place (below_text t.lines)) = ap (λ (x : List ℕ). filled (text_lines x)) (opening_tail t) ∙ b.shape in
     let w = three_words b.row.words (codes "trace") t.node (decimal t.length) b.words in
     let u : Listing = record { node = t.node; node_at = w.1; length = t.length; length_at = w.2; lines = r.0; end_at = r.1 } in
     let o : IsOpening b.row t.node w.1 t.length w.2 = record { count = decimal t.length; shape = b.words; first = w.0; places = w.3; name = f.node; number = record { spelled = refl; small = n } } in
-    (u, subst (λ (rs : List Row). AreTrace rs u) (sym e) (o, r.2), record { node = refl; length = refl; lines = r.3 })
+    (u, subst (λ (rs : List TextLine). AreTrace rs u) (sym e) (o, r.2), record { node = refl; length = refl; lines = r.3 })

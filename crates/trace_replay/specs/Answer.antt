@@ -5,7 +5,7 @@ use Rattle.lus_tree.specs.Tree.{Name}
 use Rattle.lus_meaning.specs.Value.{Stream, flag, absent}
 use Rattle.lus_meaning.specs.Replay.{Shown}
 use Rattle.trace_replay.specs.declared.answers.Replay.{Replay}
-use Rattle.trace_replay.specs.Columns.{place, held}
+use Rattle.trace_replay.specs.Columns.{column_of, held}
 
 abbrev pub is_empty : List ℕ → Bool
 is_empty [] = true
@@ -14,7 +14,7 @@ is_empty (_ ∷ _) = false
 -- what a table shows for a name of the node itself
 abbrev pub shown : List Name → List Bool → ℕ → List ℕ → Name → Stream
 shown names kept n path x t =
-    cond (is_empty path && nat_lt t n && nat_lt (place names x) (length names)) (flag (held names kept x t)) absent
+    cond (is_empty path && nat_lt t n && nat_lt (column_of names x) (length names)) (flag (held names kept x t)) absent
 
 abbrev pub replay_view : Replay → Shown
 replay_view r = record {

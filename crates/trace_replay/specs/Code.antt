@@ -14,7 +14,7 @@ pub data Coded : Type 0 where
   operated : Operator → Coded → Coded → Coded
   chosen : Coded → Coded → Coded → Coded
 
--- one layer of a code, with the views of its parts in their place
+-- one layer of a code, with the views of its parts in their column_of
 abbrev pub code_step : Code-F Coded → Coded
 code_step (Truth b) = known b
 code_step (Name k) = placed k

@@ -7,18 +7,18 @@ use Rattle.trace_replay.specs.declared.code.Column.TheVariants.{Given, Computed}
 use Rattle.trace_replay.specs.Truth.{Held, Firsts}
 use Rattle.trace_replay.specs.Code.{Coded, known, placed, negated, earlier, started, operated, chosen, code_view, code_truth}
 
--- the place of a name, or the length where it is not there
-abbrev pub place : List Name → Name → ℕ
-place [] x = 0
-place (y ∷ ys) x = cond (bytes_eq x y) 0 (suc (place ys x))
+-- the column_of of a name, or the length where it is not there
+abbrev pub column_of : List Name → Name → ℕ
+column_of [] x = 0
+column_of (y ∷ ys) x = cond (bytes_eq x y) 0 (suc (column_of ys x))
 
--- what the rows have for a name at an instant; a name without a place is false
+-- what the rows have for a name at an instant; a name without a column_of is false
 abbrev pub held : List Name → List Bool → Held
-held order kept x t = cond (nat_lt (place order x) (length order)) (slice_index_or kept (t * length order + place order x) false) false
+held order kept x t = cond (nat_lt (column_of order x) (length order)) (slice_index_or kept (t * length order + column_of order x) false) false
 
--- the code of a name; one without a place is false
+-- the code of a name; one without a column_of is false
 abbrev pub coded_name : List Name → Name → Coded
-coded_name order x = cond (nat_lt (place order x) (length order)) (placed (place order x)) (known false)
+coded_name order x = cond (nat_lt (column_of order x) (length order)) (placed (column_of order x)) (known false)
 
 abbrev pub code_of : List Name → Firsts → Expression → Coded
 code_of order f (truth p b) = known b

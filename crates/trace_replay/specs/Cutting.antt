@@ -3,13 +3,13 @@ use Rattle.std.specs.Prelude.{ℕ, ◌+◌, ◌==◌, ◌||◌, ◌&&◌, Bool, 
 use Rattle.lus_tree.specs.declared.place.Pos.{Pos}
 
 -- a word and the place of its first byte
-pub record Word : Type 0 where
+pub record TraceWord : Type 0 where
   pub text : List ℕ
   pub at : Pos
 
 -- the words of a line, and the place of its end
-pub record Row : Type 0 where
-  pub words : List Word
+pub record TextLine : Type 0 where
+  pub words : List TraceWord
   pub end : Pos
 
 abbrev pub first_place : Pos
@@ -37,25 +37,25 @@ is_return b bs = b == 13 && begins_with_feed bs
 -- the lines below it, and the end of the text
 pub record Cut : Type 0 where
   pub front : List ℕ
-  pub words : List Word
+  pub words : List TraceWord
   pub end : Pos
-  pub later : List Row
+  pub later : List TextLine
   pub last : Pos
 
 -- the front is a word, if it isn't empty
-abbrev pub with_front : List ℕ → Pos → List Word → List Word
+abbrev pub with_front : List ℕ → Pos → List TraceWord → List TraceWord
 with_front [] p ws = ws
 with_front (b ∷ bs) p ws = record { text = b ∷ bs; at = p } ∷ ws
 
-abbrev pub row_of : Pos → Cut → Row
-row_of p c = record { words = with_front c.front p c.words; end = c.end }
+abbrev pub text_line : Pos → Cut → TextLine
+text_line p c = record { words = with_front c.front p c.words; end = c.end }
 
 abbrev pub at_end : Pos → Cut
 at_end p = record { front = []; words = []; end = p; later = []; last = p }
 
 -- before a line feed at p, where q is the place below it
 abbrev pub before_feed : Pos → Pos → Cut → Cut
-before_feed p q c = record { front = []; words = []; end = p; later = row_of q c ∷ c.later; last = c.last }
+before_feed p q c = record { front = []; words = []; end = p; later = text_line q c ∷ c.later; last = c.last }
 
 -- before a blank, where q is the place right of it
 abbrev pub before_blank : Pos → Cut → Cut
@@ -77,17 +77,17 @@ cut p (b ∷ bs) =
     if is_return b bs then before_return p (cut (right p) bs) else before_byte b (cut (right p) bs)
 
 -- the lines of a text, and the place behind its last byte
-abbrev pub rows_of : List ℕ → List Row
-rows_of bytes = row_of first_place (cut first_place bytes) ∷ (cut first_place bytes).later
+abbrev pub text_lines : List ℕ → List TextLine
+text_lines bytes = text_line first_place (cut first_place bytes) ∷ (cut first_place bytes).later
 
 abbrev pub end_of : List ℕ → Pos
 end_of bytes = (cut first_place bytes).last
 
-abbrev pub keep : List Word → Row → List Row → List Row
+abbrev pub keep : List TraceWord → TextLine → List TextLine → List TextLine
 keep [] r rs = rs
 keep (w ∷ ws) r rs = r ∷ rs
 
 -- the lines that have words
-abbrev pub filled : List Row → List Row
+abbrev pub filled : List TextLine → List TextLine
 filled [] = []
 filled (r ∷ rs) = keep r.words r (filled rs)

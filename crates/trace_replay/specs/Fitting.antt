@@ -18,23 +18,27 @@ abbrev pub misfit_of : Result (Unit {0}) Pos → Option Pos
 misfit_of (Ok x) = None
 misfit_of (Err p) = Some p
 
--- the number of the last `pre`, or k where there is none
-abbrev pub last_pre : ℕ → Expression → ℕ
-last_pre k (negation p a) = last_pre k a
-last_pre k (pre p j a) = last_pre j a
-last_pre k (arrow p j a b) = last_pre (last_pre k a) b
-last_pre k (binary p o a b) = last_pre (last_pre k a) b
-last_pre k (choice p a b c) = last_pre (last_pre (last_pre k a) b) c
-last_pre k _ = k
+-- the greater of two numbers
+abbrev pub greater : ℕ → ℕ → ℕ
+greater k j = cond (nat_lt k j) j k
 
-abbrev pub last_pre_at : ℕ → Statement → ℕ
-last_pre_at k (equation xs e) = last_pre k e
-last_pre_at k (property l) = last_pre k l.value
-last_pre_at k _ = k
+-- the greatest number of a `pre`, or k where that is greater
+abbrev pub greatest_pre : ℕ → Expression → ℕ
+greatest_pre k (negation p a) = greatest_pre k a
+greatest_pre k (pre p j a) = greatest_pre (greater k j) a
+greatest_pre k (arrow p j a b) = greatest_pre (greatest_pre k a) b
+greatest_pre k (binary p o a b) = greatest_pre (greatest_pre k a) b
+greatest_pre k (choice p a b c) = greatest_pre (greatest_pre (greatest_pre k a) b) c
+greatest_pre k _ = k
 
-abbrev pub last_pre_in : ℕ → List Statement → ℕ
-last_pre_in k [] = k
-last_pre_in k (s ∷ ss) = last_pre_in (last_pre_at k s) ss
+abbrev pub greatest_pre_at : ℕ → Statement → ℕ
+greatest_pre_at k (equation xs e) = greatest_pre k e
+greatest_pre_at k (property l) = greatest_pre k l.value
+greatest_pre_at k _ = k
+
+abbrev pub greatest_pre_in : ℕ → List Statement → ℕ
+greatest_pre_in k [] = k
+greatest_pre_in k (s ∷ ss) = greatest_pre_in (greatest_pre_at k s) ss
 
 -- whether an equation defines the name
 abbrev pub is_left : Name → List Statement → Bool
@@ -84,7 +88,7 @@ flag_lines_misfit d last n before (l ∷ ls) =
 
 -- the misfit of the lines of a node itself
 abbrev pub own_misfit : Component → ℕ → List Line → List PlacedLine → Option Pos
-own_misfit d n before ls = flag_lines_misfit d (last_pre_in 0 d.body) n before ls
+own_misfit d n before ls = flag_lines_misfit d (greatest_pre_in 0 d.body) n before ls
 
 -- whether each of these names is listed
 abbrev pub are_listed : List Name → List Line → Bool

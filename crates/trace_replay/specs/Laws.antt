@@ -1,7 +1,13 @@
 -- What holds of the format.
-use Rattle.std.specs.Prelude.{◌≡◌, ℕ, List, ◌⊎◌}
+use Rattle.std.specs.Prelude.{◌≡◌, true, ℕ, List, ◌⊎◌}
+use Rattle.std.specs.List.{AllByRecursion}
 use Rattle.lus_tree.specs.declared.place.Pos.{Pos}
+use Rattle.lus_tree.specs.Tree.{Component, Program}
+use Rattle.lus_lexer.specs.Names.{is_name}
 use Rattle.lus_meaning.specs.TraceView.{Listing, lines_of}
+use Rattle.lus_meaning.specs.Fits.{FitsProgram}
+use Rattle.lus_meaning.specs.Rules.{declared_names, IsWithinCounts}
+use Rattle.lus_meaning.specs.BooleanRules.{IsBooleanChecked}
 use Rattle.trace_replay.specs.Traces.{IsTraceText, FirstMisfit, FitsTrace, trace_text}
 
 -- Bytes are one trace at most.
@@ -19,6 +25,11 @@ NeverBoth = (bytes : List ℕ) (t : Listing) (p : Pos) → IsTraceText bytes t �
 abbrev pub OneMisfit : Type 0
 OneMisfit = (bytes : List ℕ) (p q : Pos) → FirstMisfit bytes p → FirstMisfit bytes q → p ≡ q
 
+-- a node and what it declares are named by identifiers
+pub record HasIdentifiers (d : Component) : Type 0 where
+  pub node : is_name d.name.text ≡ true
+  pub declared : AllByRecursion (λ x. is_name x ≡ true) (declared_names d)
+
 -- the same but for places
 pub record SameButPlaces (s t : Listing) : Type 0 where
   pub node : s.node ≡ t.node
@@ -28,3 +39,8 @@ pub record SameButPlaces (s t : Listing) : Type 0 where
 -- What is written of a trace whose parts are well formed is read back.
 abbrev pub ReadBack : Type 0
 ReadBack = (t : Listing) → FitsTrace t → (u : Listing) × IsTraceText (trace_text t) u × SameButPlaces u t
+
+-- What is written of a trace that fits a checked program is read back, where the program's names are identifiers.
+abbrev pub FitReadBack : Type 0
+FitReadBack = (p : Program) (d : Component) → IsBooleanChecked p d → IsWithinCounts p d → HasIdentifiers d → (t : Listing) → FitsProgram p t →
+    (u : Listing) × IsTraceText (trace_text t) u × SameButPlaces u t

@@ -14,4 +14,5 @@ pub mod Found
 pub mod Equations
 pub mod Broken
 pub mod Replayed
+pub mod Coding
 pub mod Answer

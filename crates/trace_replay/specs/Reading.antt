@@ -9,10 +9,10 @@ use Rattle.lus_meaning.specs.TraceView.{PlacedValue, PlacedLine, Listing, line_v
 use Rattle.trace_replay.specs.declared.fault.TraceFault.{TraceFault}
 use Rattle.trace_replay.specs.declared.fault.TraceFault.TheVariants.{Form, Memory}
 use Rattle.trace_replay.specs.declared.cursor.Cursor.{Cursor}
-use Rattle.trace_replay.specs.declared.cursor.Word.{Word as CodeWord}
+use Rattle.trace_replay.specs.declared.cursor.TraceWord.{TraceWord as CodeWord}
 use Rattle.trace_replay.specs.declared.reading.Next.{Next as CodeNext}
 use Rattle.trace_replay.specs.declared.reading.Next.TheVariants.{Line as NextLine, End as NextEnd}
-use Rattle.trace_replay.specs.Cutting.{Word, Row, Cut, with_front, cut, filled, keep, first_place, is_blank, is_return}
+use Rattle.trace_replay.specs.Cutting.{TraceWord, TextLine, Cut, with_front, cut, filled, keep, first_place, is_blank, is_return}
 use Rattle.lus_lexer.specs.Names.{is_name}
 
 infixl 10 ◌>>=◌
@@ -80,13 +80,13 @@ longer xs None = None
 longer xs (Some x) = Some (xs ++ x ∷ [])
 
 -- a word goes on after a path and a piece
-unfoldable pub place_from : Option (List ℕ) → List ℕ → List ℕ → Option (List ℕ × Subject)
-place_from None piece bs = None
-place_from (Some path) piece [] = joined path (subject_of piece)
-place_from (Some path) piece (b ∷ bs) = if b == 46 then place_from (longer path (small_of piece)) [] bs else place_from (Some path) (piece ++ b ∷ []) bs
+unfoldable pub address_from : Option (List ℕ) → List ℕ → List ℕ → Option (List ℕ × Subject)
+address_from None piece bs = None
+address_from (Some path) piece [] = joined path (subject_of piece)
+address_from (Some path) piece (b ∷ bs) = if b == 46 then address_from (longer path (small_of piece)) [] bs else address_from (Some path) (piece ++ b ∷ []) bs
 
-abbrev pub place_of : List ℕ → Option (List ℕ × Subject)
-place_of w = place_from (Some []) [] w
+abbrev pub address_of : List ℕ → Option (List ℕ × Subject)
+address_of w = address_from (Some []) [] w
 
 -- ---- lines
 
@@ -112,9 +112,9 @@ shift n p = record { line = p.line; column = p.column + n }
 
 -- what is left of a line, and the lines below it that have words
 pub record Left : Type 0 where
-  pub words : List Word
+  pub words : List TraceWord
   pub end : Pos
-  pub later : List Row
+  pub later : List TextLine
   pub last : Pos
 
 abbrev pub left : Pos → Cut → Left
@@ -132,15 +132,15 @@ abbrev pub begins_with_blank : List ℕ → Bool
 begins_with_blank [] = false
 begins_with_blank (b ∷ bs) = is_blank b
 
-abbrev pub word_view : CodeWord → Word
+abbrev pub word_view : CodeWord → TraceWord
 word_view w = record { text = w.text.now; at = w.at }
 
 -- the next word of the line
-abbrev pub word_in : Left → List Word → Option (Word × Left)
+abbrev pub word_in : Left → List TraceWord → Option (TraceWord × Left)
 word_in l [] = None
 word_in l (w ∷ ws) = Some (w, record { words = ws; end = l.end; later = l.later; last = l.last })
 
-abbrev pub word_of : Left → Option (Word × Left)
+abbrev pub word_of : Left → Option (TraceWord × Left)
 word_of l = word_in l l.words
 
 abbrev pub or_misfit : {A : Type 0} → Pos → Option A → Result A Pos
@@ -152,10 +152,10 @@ check true p = Ok tt
 check false p = Err p
 
 -- which has to be there
-abbrev pub next_of : Left → Result (Word × Left) Pos
+abbrev pub next_of : Left → Result (TraceWord × Left) Pos
 next_of l = or_misfit l.end (word_of l)
 
-abbrev pub none_in : List Word → Result (Unit {0}) Pos
+abbrev pub none_in : List TraceWord → Result (Unit {0}) Pos
 none_in [] = Ok tt
 none_in (w ∷ ws) = Err w.at
 
@@ -167,16 +167,16 @@ abbrev pub without_words : Left → Left
 without_words l = record { words = []; end = l.end; later = l.later; last = l.last }
 
 -- the lines that are left and have words
-abbrev pub rows_left : Left → List Row
-rows_left l = keep l.words (record { words = l.words; end = l.end }) l.later
+abbrev pub lines_ahead : Left → List TextLine
+lines_ahead l = keep l.words (record { words = l.words; end = l.end }) l.later
 
-abbrev pub first_in : Pos → List Row → Option (Word × Left)
+abbrev pub first_in : Pos → List TextLine → Option (TraceWord × Left)
 first_in e [] = None
 first_in e (r ∷ rs) = word_in (record { words = r.words; end = r.end; later = rs; last = e }) r.words
 
 -- the first word of the next of them
-abbrev pub first_of : Left → Result (Word × Left) Pos
-first_of l = or_misfit l.last (first_in l.last (rows_left l))
+abbrev pub first_of : Left → Result (TraceWord × Left) Pos
+first_of l = or_misfit l.last (first_in l.last (lines_ahead l))
 
 -- on to the line below, or the end of the text
 abbrev pub Goes : Result Cursor Pos → Left → Type 0
@@ -184,7 +184,7 @@ Goes (Ok c) l = first_of l ≡ first_of (left_of c)
 Goes (Err p) l = first_of l ≡ Err p
 
 -- trace NODE N, from its first word on
-unfoldable pub opening_of : Word → Left → Result ((List ℕ × Pos) × (ℕ × Pos) × Left) Pos
+unfoldable pub opening_of : TraceWord → Left → Result ((List ℕ × Pos) × (ℕ × Pos) × Left) Pos
 opening_of w l = do
   checked ← check (bytes_eq w.text (codes "trace")) w.at
   name ← next_of l
@@ -194,7 +194,7 @@ opening_of w l = do
   done ← none_of count.1
   Ok ((named, name.0.at), (n, count.0.at), count.1)
 
-abbrev pub values_in : List Word → Result (List PlacedValue) Pos
+abbrev pub values_in : List TraceWord → Result (List PlacedValue) Pos
 values_in [] = Ok []
 values_in (w ∷ ws) = do
   v ← or_misfit w.at (value_of w.text)
@@ -212,21 +212,21 @@ values_of l = do
   values_left l
 
 -- a line from its first word on
-unfoldable pub listed_of : Word → Left → Result (PlacedLine × Left) Pos
-listed_of w l = do
-  place ← or_misfit w.at (place_of w.text)
+unfoldable pub line_read : TraceWord → Left → Result (PlacedLine × Left) Pos
+line_read w l = do
+  place ← or_misfit w.at (address_of w.text)
   vs ← values_of l
   Ok (record { at = w.at; path = place.0; subject = place.1; values = vs.0 }, vs.1)
 
-abbrev pub nothing_in : Option (Word × Left) → Result (Unit {0}) Pos
+abbrev pub nothing_in : Option (TraceWord × Left) → Result (Unit {0}) Pos
 nothing_in None = Ok tt
 nothing_in (Some x) = Err x.0.at
 
 -- behind the end line no word is left
 abbrev pub nothing_of : Left → Result (Unit {0}) Pos
-nothing_of l = nothing_in (first_in l.last (rows_left l))
+nothing_of l = nothing_in (first_in l.last (lines_ahead l))
 
-abbrev pub is_closing : Word → Left → Bool
+abbrev pub is_closing : TraceWord → Left → Bool
 is_closing w l = bytes_eq w.text (codes "end") && is_empty l.words
 
 -- what comes next: a line, or the end line at this place
@@ -243,25 +243,25 @@ abbrev pub GoesOnWithin : CodeNext → Type 0
 GoesOnWithin (NextLine l c) = IsWithin c
 GoesOnWithin (NextEnd p) = Unit {0}
 
-unfoldable pub line_from : Pos → List Row → Result Next Pos
+unfoldable pub line_from : Pos → List TextLine → Result Next Pos
 line_from e rows = do
   first ← or_misfit e (first_in e rows)
-  if is_closing first.0 first.1 then (nothing_of first.1 >>= (λ done. Ok (an_end first.0.at))) else (listed_of first.0 first.1 >>= (λ x. Ok (a_line x.0 x.1)))
+  if is_closing first.0 first.1 then (nothing_of first.1 >>= (λ done. Ok (an_end first.0.at))) else (line_read first.0 first.1 >>= (λ x. Ok (a_line x.0 x.1)))
 
 abbrev pub line_of : Left → Result Next Pos
-line_of l = line_from l.last (rows_left l)
+line_of l = line_from l.last (lines_ahead l)
 
 -- the lines, and the place of the end line
 abbrev pub onto : Next → Result (List PlacedLine × Pos) Pos → Result (List PlacedLine × Pos) Pos
 onto (an_end p) ls = Ok ([], p)
 onto (a_line x l) ls = ls >>= λ others. Ok (x ∷ others.0, others.1)
 
-unfoldable pub lines_in : Pos → List Row → Result (List PlacedLine × Pos) Pos
+unfoldable pub lines_in : Pos → List TextLine → Result (List PlacedLine × Pos) Pos
 lines_in e [] = Err e
 lines_in e (r ∷ rs) = line_from e (r ∷ rs) >>= λ x. onto x (lines_in e rs)
 
 abbrev pub lines_left : Left → Result (List PlacedLine × Pos) Pos
-lines_left l = lines_in l.last (rows_left l)
+lines_left l = lines_in l.last (lines_ahead l)
 
 unfoldable pub trace_of : Left → Result Listing Pos
 trace_of l = do

@@ -9,7 +9,7 @@ use Rattle.lus_meaning.specs.Depends.{named_in}
 use Rattle.lus_meaning.specs.Trace.{Subject, of_name, of_first, Line}
 use Rattle.lus_meaning.specs.TraceView.{PlacedLine}
 use Rattle.lus_meaning.specs.Fits.{is_listed}
-use Rattle.trace_replay.specs.Fitting.{last_pre_in, subject_need, need_misfit}
+use Rattle.trace_replay.specs.Fitting.{greatest_pre_in, subject_need, need_misfit}
 use Rattle.trace_replay.specs.declared.listed.Listed.{Listed}
 
 -- whether the set has the name
@@ -32,7 +32,7 @@ Lists t ls = (s : Subject) → has_spot t s ≡ is_listed ls [] s
 -- the first word of a line that doesn't fit, where these were listed before
 abbrev pub spot_misfit : Listed → Component → ℕ → List ℕ → PlacedLine → Option Pos
 spot_misfit t d n [] l =
-    cond (has_spot t l.subject) (Some l.at) (need_misfit (subject_need d (last_pre_in 0 d.body) n l.subject) l)
+    cond (has_spot t l.subject) (Some l.at) (need_misfit (subject_need d (greatest_pre_in 0 d.body) n l.subject) l)
 spot_misfit t d n (k ∷ ks) l = Some l.at
 
 abbrev pub line_misfit : Listed → Component → ℕ → PlacedLine → Option Pos

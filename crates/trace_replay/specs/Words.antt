@@ -20,16 +20,16 @@ subject_text (of_first k) = 35 ∷ decimal k
 abbrev pub step_text : ℕ → List ℕ
 step_text k = decimal k ++ 46 ∷ []
 
-abbrev pub place_text : List ℕ → Subject → List ℕ
-place_text [] s = subject_text s
-place_text (k ∷ ks) s = step_text k ++ place_text ks s
+abbrev pub address_text : List ℕ → Subject → List ℕ
+address_text [] s = subject_text s
+address_text (k ∷ ks) s = step_text k ++ address_text ks s
 
 abbrev pub FitsSubject : Subject → Type 0
 FitsSubject (of_name x) = is_name x ≡ true
 FitsSubject (of_first k) = k < 4294967296
 
-pub record IsPlace (w : List ℕ) (path : List ℕ) (s : Subject) : Type 0 where
-  pub spelled : w ≡ place_text path s
+pub record IsAddress (w : List ℕ) (path : List ℕ) (s : Subject) : Type 0 where
+  pub spelled : w ≡ address_text path s
   pub path_fits : AllByRecursion (λ k. k < 4294967296) path
   pub subject_fits : FitsSubject s
 

@@ -1,21 +1,19 @@
-//! Expressions whose names are replaced by their places in a row.
+//! Expressions whose names are replaced by their row in a row.
 
-ghost use Rattle.std.specs.Prelude.{◌≡◌, ◌+◌, ◌*◌, ◌^◌, ◌<◌, map, IfOk};
-ghost use Rattle.std.specs.String.{string_bytes};
+ghost use Rattle.std.specs.Prelude.{◌≡◌, ◌+◌, ◌*◌, ◌^◌, ◌<◌, IfOk};
 ghost use Rattle.lus_tree.specs.View.{expr_view};
-ghost use Rattle.lus_meaning.specs.TraceView.{bare_view};
 ghost use Rattle.trace_replay.specs.Truth.{operate};
 ghost use Rattle.trace_replay.specs.Code.{code_view, code_truth};
-ghost use Rattle.trace_replay.specs.Columns.{coded_name, code_of};
-ghost use Rattle.trace_replay.specs.Given.{first_in};
+ghost use Rattle.trace_replay.specs.Columns.{coded_name};
+ghost use Rattle.trace_replay.specs.Coding.{names_in, code_in};
 
 use crate::given::first_listed;
 use crate::line_table::LineTable;
-use crate::places::Places;
+use crate::row_names::RowNames;
 use lus_tree::{Expr, Form, Operator};
 use std::alloc::{AllocError, Global};
 
-/// An expression as it is evaluated: a name is its place in a row, and `pre` has its first value.
+/// An expression as it is evaluated: a name is its column, and `pre` has its first value.
 #[derive(Drop)]
 pub(crate) enum Code {
     Truth(bool),
@@ -36,11 +34,11 @@ pub(crate) enum Column {
 
 /// The code of a name.
 #[tactic(auto, using(crate::proofs::Views::code_views))]
-fn name_code(places: &Places, name: &str) -> Code
-    ensures { code_view result ≡ coded_name (map string_bytes places.now.names.items) name.now }
+fn name_code(row: &RowNames, name: &str) -> Code
+    ensures { code_view result ≡ coded_name (names_in row.now) name.now }
 {
-    match places.place_of(name) {
-        Some(place) => Code::Name(place),
+    match row.column_of(name) {
+        Some(column) => Code::Name(column),
         None => Code::Truth(false),
     }
 }
@@ -49,13 +47,13 @@ fn name_code(places: &Places, name: &str) -> Code
 #[cycle(coded)]
 fn boxed(
     alloc: Global,
-    places: &Places,
+    row: &RowNames,
     listing: &LineTable,
     e: &Expr,
 ) -> Result<Box<Code>, AllocError>
-    ensures { IfOk result (λ c. code_view c.value ≡ code_of (map string_bytes places.now.names.items) (first_in (map bare_view listing.now.lines.now)) (expr_view e.now)) }
+    ensures { IfOk result (λ c. code_view c.value ≡ code_in row.now listing.now (expr_view e.now)) }
 {
-    let code = coded(alloc, places, listing, e)?;
+    let code = coded(alloc, row, listing, e)?;
     Ok(Box::new(alloc, code)?)
 }
 
@@ -65,34 +63,34 @@ fn boxed(
 #[tactic(auto, using(crate::proofs::Views::code_views, lus_tree::proofs::Views::form_views))]
 pub(crate) fn coded(
     alloc: Global,
-    places: &Places,
+    row: &RowNames,
     listing: &LineTable,
     e: &Expr,
 ) -> Result<Code, AllocError>
-    ensures { IfOk result (λ c. code_view c ≡ code_of (map string_bytes places.now.names.items) (first_in (map bare_view listing.now.lines.now)) (expr_view e.now)) }
+    ensures { IfOk result (λ c. code_view c ≡ code_in row.now listing.now (expr_view e.now)) }
 {
     match &e.form {
         Form::Truth(b) => Ok(Code::Truth(*b)),
-        Form::Name(x) => Ok(name_code(places, x)),
-        Form::Not(a) => Ok(Code::Not(boxed(alloc, places, listing, a)?)),
+        Form::Name(x) => Ok(name_code(row, x)),
+        Form::Not(a) => Ok(Code::Not(boxed(alloc, row, listing, a)?)),
         Form::Pre(k, a) => {
             let first = first_listed(listing, *k);
-            Ok(Code::Pre(first, boxed(alloc, places, listing, a)?))
+            Ok(Code::Pre(first, boxed(alloc, row, listing, a)?))
         }
         Form::Arrow(_, a, b) => {
-            let a = boxed(alloc, places, listing, a)?;
-            let b = boxed(alloc, places, listing, b)?;
+            let a = boxed(alloc, row, listing, a)?;
+            let b = boxed(alloc, row, listing, b)?;
             Ok(Code::Arrow(a, b))
         }
         Form::Binary(o, a, b) => {
-            let a = boxed(alloc, places, listing, a)?;
-            let b = boxed(alloc, places, listing, b)?;
+            let a = boxed(alloc, row, listing, a)?;
+            let b = boxed(alloc, row, listing, b)?;
             Ok(Code::Binary(*o, a, b))
         }
         Form::If(a, b, c) => {
-            let a = boxed(alloc, places, listing, a)?;
-            let b = boxed(alloc, places, listing, b)?;
-            let c = boxed(alloc, places, listing, c)?;
+            let a = boxed(alloc, row, listing, a)?;
+            let b = boxed(alloc, row, listing, b)?;
+            let c = boxed(alloc, row, listing, c)?;
             Ok(Code::If(a, b, c))
         }
         Form::Number(_)

@@ -15,7 +15,7 @@ pub struct Cursor<'a> {
 
 /// A word, and the place of its first byte.
 #[derive(Clone, Copy)]
-pub struct Word<'a> {
+pub struct TraceWord<'a> {
     pub text: &'a [u8],
     pub at: Pos,
 }
@@ -120,7 +120,7 @@ fn past_blanks(here: Cursor) -> Cursor
 }
 
 /// The next word of the line, and what is left behind it.
-pub fn line_word(here: Cursor) -> Option<(Word, Cursor)>
+pub fn line_word(here: Cursor) -> Option<(TraceWord, Cursor)>
     requires { IsWithin here }
     ensures word { option_map (λ x. (word_view x.0, left_of x.1)) result ≡ word_of (left_of here.entry) }
     ensures within { IfSome result (λ x. IsWithin x.1) }
@@ -131,11 +131,11 @@ pub fn line_word(here: Cursor) -> Option<(Word, Cursor)>
         return None;
     }
     let (text, _) = start.rest.split_at(count);
-    Some((Word { text, at: start.at }, past(start, count)))
+    Some((TraceWord { text, at: start.at }, past(start, count)))
 }
 
 /// The next word of the line, which has to be there.
-pub fn next_word(here: Cursor) -> Result<(Word, Cursor), Pos>
+pub fn next_word(here: Cursor) -> Result<(TraceWord, Cursor), Pos>
     requires { IsWithin here }
     ensures word { seen (λ x. (word_view x.0, left_of x.1)) result ≡ next_of (left_of here.entry) }
     ensures within { IfOk result (λ x. IsWithin x.1) }
@@ -179,7 +179,7 @@ fn below(here: Cursor) -> Result<Cursor, Pos>
 }
 
 /// The first word that is left in the text.
-pub fn first_word(start: Cursor) -> Result<(Word, Cursor), Pos>
+pub fn first_word(start: Cursor) -> Result<(TraceWord, Cursor), Pos>
     requires { IsWithin start }
     ensures word { seen (λ x. (word_view x.0, left_of x.1)) result ≡ first_of (left_of start.entry) }
     ensures within { IfOk result (λ x. IsWithin x.1) }

@@ -7,7 +7,7 @@ ghost use Rattle.lus_tree.specs.Tree.{text_of};
 ghost use Rattle.lus_tree.specs.View.{word_view};
 ghost use Rattle.lus_meaning.specs.Depends.{named_in};
 ghost use Rattle.lus_meaning.specs.Rules.{lefts};
-ghost use Rattle.trace_replay.specs.Equations.{equation_view};
+ghost use Rattle.trace_replay.specs.Equations.{equations_in};
 
 use crate::equations::Equation;
 use indexmap::IndexSet;
@@ -19,7 +19,7 @@ use std::alloc::{AllocError, Global};
 pub(crate) struct Defined<'a> {
     pub(crate) equations: &'a [Equation<'a>],
     names: IndexSet<&'a str>,
-    ghost known: { (x : List ℕ) → contains_by (λ k. bytes_eq x k.now) names ≡ named_in x (lefts (map equation_view equations.now)) },
+    ghost known: { (x : List ℕ) → contains_by (λ k. bytes_eq x k.now) names ≡ named_in x (lefts (equations_in equations.now)) },
 }
 
 impl<'a> Defined<'a> {
@@ -33,7 +33,7 @@ impl<'a> Defined<'a> {
 
     /// Whether an equation defines this name.
     pub(crate) fn has(&self, name: &str) -> bool
-        ensures { result ≡ named_in name.now (lefts (map equation_view self.now.equations.now)) }
+        ensures { result ≡ named_in name.now (lefts (equations_in self.now.equations.now)) }
     {
         self.names.contains(name)
     }
@@ -44,7 +44,7 @@ fn defined_by<'a>(
     alloc: Global,
     equations: &[Equation<'a>],
 ) -> Result<IndexSet<&'a str>, AllocError>
-    ensures { IfOk result (λ s. (x : List ℕ) → contains_by (λ k. bytes_eq x k.now) s ≡ named_in x (lefts (map equation_view equations.now))) }
+    ensures { IfOk result (λ s. (x : List ℕ) → contains_by (λ k. bytes_eq x k.now) s ≡ named_in x (lefts (equations_in equations.now))) }
 {
     let mut names = IndexSet::new(alloc);
     for equation in equations {

@@ -4,7 +4,7 @@ ghost use Rattle.std.specs.Prelude.{◌≡◌, map, slice_get, option_map, IfOk}
 ghost use Rattle.lus_tree.specs.Tree.{text_of};
 ghost use Rattle.lus_tree.specs.View.{expr_view, item_view, word_view};
 ghost use Rattle.lus_meaning.specs.Run.{body_equations};
-ghost use Rattle.trace_replay.specs.Equations.{equation_view};
+ghost use Rattle.trace_replay.specs.Equations.{equations_in};
 ghost use Rattle.trace_replay.specs.Given.{rights_of};
 
 use lus_tree::{Expr, Item, Word};
@@ -19,7 +19,7 @@ pub(crate) struct Equation<'a> {
 
 /// The equations of a body, in text order.
 pub(crate) fn equations_of(alloc: Global, items: &[Item]) -> Result<Vec<Equation>, AllocError>
-    ensures { IfOk result (λ es. map equation_view es.items ≡ body_equations (map item_view items.now)) }
+    ensures { IfOk result (λ es. equations_in es.items ≡ body_equations (map item_view items.now)) }
 {
     let mut equations = Vec::new(alloc);
     for item in items {
@@ -32,7 +32,7 @@ pub(crate) fn equations_of(alloc: Global, items: &[Item]) -> Result<Vec<Equation
 
 /// The left names of the equation with this number; they count from 0 in text order.
 pub(crate) fn left<'a>(equations: &[Equation<'a>], number: u32) -> Option<&'a [Word]>
-    ensures { option_map (λ w. map text_of (map word_view w.now)) result ≡ slice_get (map (λ e. e.names) (map equation_view equations.now)) number }
+    ensures { option_map (λ w. map text_of (map word_view w.now)) result ≡ slice_get (map (λ e. e.names) (equations_in equations.now)) number }
 {
     match equations.get(number as usize) {
         Some(equation) => Some(equation.left),
@@ -42,7 +42,7 @@ pub(crate) fn left<'a>(equations: &[Equation<'a>], number: u32) -> Option<&'a [W
 
 /// The right side of the equation with this number.
 pub(crate) fn right<'a>(equations: &[Equation<'a>], number: u32) -> Option<&'a Expr>
-    ensures { option_map (λ e. expr_view e.now) result ≡ slice_get (rights_of (map equation_view equations.now)) number }
+    ensures { option_map (λ e. expr_view e.now) result ≡ slice_get (rights_of (equations_in equations.now)) number }
 {
     match equations.get(number as usize) {
         Some(equation) => Some(equation.right),

@@ -1,23 +1,21 @@
 //! The replay of a trace that fits.
 
 ghost use Rattle.std.specs.Prelude.{◌≡◌, ◌≤◌, ◌+◌, ◌*◌, ◌<◌, ◌^◌, length, map, IfOk};
-ghost use Rattle.std.specs.String.{string_bytes};
 ghost use Rattle.lus_tree.specs.View.{item_view, program_view};
-ghost use Rattle.lus_meaning.specs.TraceView.{bare_view, trace_view};
+ghost use Rattle.lus_meaning.specs.TraceView.{trace_view};
 ghost use Rattle.lus_meaning.specs.Fits.{FitsProgram};
 ghost use Rattle.lus_meaning.specs.Replay.{ReplaysTrace};
 ghost use Rattle.trace_replay.specs.Broken.{property_values, AreFirstFalse};
-ghost use Rattle.trace_replay.specs.Code.{code_truth};
-ghost use Rattle.trace_replay.specs.Columns.{code_of, column_view, rows};
-ghost use Rattle.trace_replay.specs.Given.{first_in};
+ghost use Rattle.trace_replay.specs.Columns.{column_view, rows};
 ghost use Rattle.trace_replay.specs.Answer.{replay_view};
+ghost use Rattle.trace_replay.specs.Coding.{truth_by};
 
 use crate::answers::Replay;
 use crate::broken_at::broken;
 use crate::equations::equations_of;
 use crate::layout::{Layout, laid_out};
 use crate::line_table::LineTable;
-use crate::places::Places;
+use crate::row_names::RowNames;
 use crate::rows::table;
 use lus_checked::Checked;
 use lus_meaning::Trace;
@@ -32,18 +30,18 @@ pub(crate) fn filled(
     items: &[Item],
     n: u32,
 ) -> Result<Replay, AllocError>
-    requires few { length layout.places.names.items ≤ 4000 }
-    requires fits { (n + 1) * length layout.places.names.items < 2 ^ 62 }
+    requires few { length layout.row.names.items ≤ 4000 }
+    requires fits { (n + 1) * length layout.row.names.items < 2 ^ 62 }
     ensures instants { IfOk result (λ r. r.instants ≡ n) }
-    ensures names { IfOk result (λ r. r.names.items ≡ layout.places.names.items) }
-    ensures kept { IfOk result (λ r. r.kept.items ≡ rows (length layout.places.names.items) (map column_view layout.columns.items) n) }
-    ensures broken { IfOk result (λ r. AreFirstFalse (λ e. code_truth r.kept.items (length layout.places.names.items) (code_of (map string_bytes layout.places.names.items) (first_in (map bare_view listing.now.lines.now)) e)) n
+    ensures names { IfOk result (λ r. r.names.items ≡ layout.row.names.items) }
+    ensures kept { IfOk result (λ r. r.kept.items ≡ rows (length layout.row.names.items) (map column_view layout.columns.items) n) }
+    ensures broken { IfOk result (λ r. AreFirstFalse (λ e. truth_by r.kept.items layout.row listing.now e) n
         (property_values (map item_view items.now)) r.broken.items) }
 {
-    let Layout { places, columns } = layout;
-    let kept = table(alloc, &columns, places.names.len(), n)?;
-    let broken = broken(alloc, &places, listing, &kept, items, n)?;
-    let Places { names, first } = places;
+    let Layout { row, columns } = layout;
+    let kept = table(alloc, &columns, row.names.len(), n)?;
+    let broken = broken(alloc, &row, listing, &kept, items, n)?;
+    let RowNames { names, first } = row;
     Ok(Replay {
         names,
         kept,

@@ -7,7 +7,7 @@ ghost use Rattle.lus_meaning.specs.Rules.{names_of};
 ghost use Rattle.lus_meaning.specs.Fits.{same_place, FitsProgram};
 ghost use Rattle.lus_meaning.specs.Trace.{Subject, of_name, same_subject};
 ghost use Rattle.lus_meaning.specs.TraceView.{entry_view, placed_view, spot_view, line_view, bare_view, trace_view};
-ghost use Rattle.trace_replay.specs.Fitting.{misfit_of, last_pre_in, subject_need, takes_flag, flags_misfit, need_misfit, own_misfit, body_misfit, flag_misfit};
+ghost use Rattle.trace_replay.specs.Fitting.{misfit_of, greatest_pre_in, subject_need, takes_flag, flags_misfit, need_misfit, own_misfit, body_misfit, flag_misfit};
 ghost use Rattle.trace_replay.specs.Refused.{IsMisfit, Finds};
 ghost use Rattle.trace_replay.specs.Tables.{has_spot, line_misfit, Lists};
 
@@ -55,7 +55,7 @@ fn own_line_fits<'a>(
     line: &'a TraceLine,
 ) -> Result<(), TraceFault>
     ensures misfit { Finds result (cond (has_spot listed.old (spot_view line.now.what)) (Some line.now.at)
-        (need_misfit (subject_need (node_view needs.now.node.now) (last_pre_in 0 (node_view needs.now.node.now).body) length (spot_view line.now.what)) (line_view line.now))) }
+        (need_misfit (subject_need (node_view needs.now.node.now) (greatest_pre_in 0 (node_view needs.now.node.now).body) length (spot_view line.now.what)) (line_view line.now))) }
     ensures adds { OnOk result ((s : Subject) → has_spot listed.new s ≡ (has_spot listed.old s || same_subject (spot_view line.now.what) s)) }
 {
     if !listed.add(&line.what)? {

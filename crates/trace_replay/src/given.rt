@@ -1,8 +1,9 @@
 //! What a trace lists for the names and the first values of its node.
 
 ghost use Rattle.std.specs.Prelude.{◌≡◌, map, IfOk};
-ghost use Rattle.lus_meaning.specs.TraceView.{entry_view, bare_view, values_view};
+ghost use Rattle.lus_meaning.specs.TraceView.{entry_view, values_view};
 ghost use Rattle.trace_replay.specs.Given.{truth_in, given_bits, first_in};
+ghost use Rattle.trace_replay.specs.Coding.{lines_in};
 
 use crate::line_table::LineTable;
 use lus_meaning::{PlacedValue, Value};
@@ -35,7 +36,7 @@ pub(crate) fn bits_listed(
     listing: &LineTable,
     name: &str,
 ) -> Result<Vec<bool>, AllocError>
-    ensures { IfOk result (λ bits. bits.items ≡ given_bits (map bare_view listing.now.lines.now) name.now) }
+    ensures { IfOk result (λ bits. bits.items ≡ given_bits (lines_in listing.now) name.now) }
 {
     match listing.of_name(name) {
         Some(values) => bits_of(alloc, values),
@@ -45,7 +46,7 @@ pub(crate) fn bits_listed(
 
 /// The first value that the lines list for a number.
 pub(crate) fn first_listed(listing: &LineTable, number: u32) -> bool
-    ensures { result ≡ first_in (map bare_view listing.now.lines.now) number }
+    ensures { result ≡ first_in (lines_in listing.now) number }
 {
     match listing.of_first(number) {
         Some([placed, ..]) => truth_listed(placed.value),

@@ -1,6 +1,6 @@
 //! What holds of the format of traces.
 
-ghost use Rattle.trace_replay.specs.Laws.{OneTrace, TraceOrMisfit, NeverBoth, OneMisfit, ReadBack};
+ghost use Rattle.trace_replay.specs.Laws.{OneTrace, TraceOrMisfit, NeverBoth, OneMisfit, ReadBack, FitReadBack};
 
 /// Bytes are one trace at most.
 pub fn one_trace()
@@ -25,4 +25,10 @@ pub fn one_misfit()
 /// What is written of a trace whose parts are well formed is read back.
 pub fn read_back()
     ensures { ReadBack }
+{}
+
+/// What is written of a trace that fits a checked program is read back, where the names of the
+/// program are identifiers, as those of a source are.
+pub fn fit_read_back()
+    ensures { FitReadBack }
 {}

@@ -4,26 +4,26 @@ ghost use Rattle.std.specs.Prelude.{◌≡◌, ◌++◌, map, flat_map, IfOk, On
 ghost use Rattle.std.specs.String.{string_bytes};
 ghost use Rattle.lus_tree.specs.Tree.{text_of};
 ghost use Rattle.lus_tree.specs.View.{node_view, param_view, word_view};
-ghost use Rattle.lus_meaning.specs.TraceView.{bare_view};
 ghost use Rattle.lus_meaning.specs.Rules.{lefts, names_of};
 ghost use Rattle.lus_meaning.specs.Order.{left_at};
-ghost use Rattle.trace_replay.specs.Columns.{column_view, code_of};
+ghost use Rattle.trace_replay.specs.Columns.{column_view};
 ghost use Rattle.trace_replay.specs.Code.{code_view};
-ghost use Rattle.trace_replay.specs.Equations.{equation_view};
-ghost use Rattle.trace_replay.specs.Given.{first_in, right_at, free_among, base_names, given_columns, computed_columns};
+ghost use Rattle.trace_replay.specs.Equations.{equations_in, PushesNames};
+ghost use Rattle.trace_replay.specs.Given.{right_at, free_among, base_names, given_columns, computed_columns};
+ghost use Rattle.trace_replay.specs.Coding.{names_in, lines_in, code_in};
 
 use crate::code::{Code, Column, coded};
 use crate::defined::Defined;
 use crate::equations::{Equation, left, right};
 use crate::given::bits_listed;
 use crate::line_table::LineTable;
-use crate::places::Places;
+use crate::row_names::RowNames;
 use lus_tree::{Node, Param, Word};
 use std::alloc::{AllocError, Global};
 
 /// Adds the names of variables.
 fn push_params(names: &mut Vec<String>, params: &[Param]) -> Result<(), AllocError>
-    ensures { OnOk result (map string_bytes names.new.items ≡ map string_bytes names.old.items ++ names_of (map param_view params.now)) }
+    ensures { OnOk result (PushesNames names.old.items names.new.items (names_of (map param_view params.now))) }
 {
     for param in params {
         names.push(param.name.text.clone()?)?;
@@ -33,7 +33,7 @@ fn push_params(names: &mut Vec<String>, params: &[Param]) -> Result<(), AllocErr
 
 /// Adds the names of variables that no equation defines.
 fn push_free(names: &mut Vec<String>, defined: &Defined, params: &[Param]) -> Result<(), AllocError>
-    ensures { OnOk result (map string_bytes names.new.items ≡ map string_bytes names.old.items ++ free_among (lefts (map equation_view defined.now.equations.now)) (map param_view params.now)) }
+    ensures { OnOk result (PushesNames names.old.items names.new.items (free_among (lefts (equations_in defined.now.equations.now)) (map param_view params.now))) }
 {
     for param in params {
         if !defined.has(&param.name.text) {
@@ -45,7 +45,7 @@ fn push_free(names: &mut Vec<String>, defined: &Defined, params: &[Param]) -> Re
 
 /// The names of inputs and free names.
 pub(crate) fn free(alloc: Global, node: &Node, defined: &Defined) -> Result<Vec<String>, AllocError>
-    ensures { IfOk result (λ names. map string_bytes names.items ≡ base_names (map equation_view defined.now.equations.now) (node_view node.now)) }
+    ensures { IfOk result (λ names. map string_bytes names.items ≡ base_names (equations_in defined.now.equations.now) (node_view node.now)) }
 {
     let mut names = Vec::new(alloc);
     push_params(&mut names, &node.inputs)?;
@@ -56,7 +56,7 @@ pub(crate) fn free(alloc: Global, node: &Node, defined: &Defined) -> Result<Vec<
 
 /// Adds words.
 fn push_words(names: &mut Vec<String>, words: &[Word]) -> Result<(), AllocError>
-    ensures { OnOk result (map string_bytes names.new.items ≡ map string_bytes names.old.items ++ map text_of (map word_view words.now)) }
+    ensures { OnOk result (PushesNames names.old.items names.new.items (map text_of (map word_view words.now))) }
 {
     for word in words {
         names.push(word.text.clone()?)?;
@@ -66,7 +66,7 @@ fn push_words(names: &mut Vec<String>, words: &[Word]) -> Result<(), AllocError>
 
 /// Adds the left names of an equation.
 fn push_left(names: &mut Vec<String>, equations: &[Equation], number: u32) -> Result<(), AllocError>
-    ensures { OnOk result (map string_bytes names.new.items ≡ map string_bytes names.old.items ++ left_at (map equation_view equations.now) number) }
+    ensures { OnOk result (PushesNames names.old.items names.new.items (left_at (equations_in equations.now) number)) }
 {
     match left(equations, number) {
         Some(words) => push_words(names, words),
@@ -80,7 +80,7 @@ pub(crate) fn push_lefts(
     equations: &[Equation],
     order: &[u32],
 ) -> Result<(), AllocError>
-    ensures { OnOk result (map string_bytes names.new.items ≡ map string_bytes names.old.items ++ flat_map (left_at (map equation_view equations.now)) order.now) }
+    ensures { OnOk result (PushesNames names.old.items names.new.items (flat_map (left_at (equations_in equations.now)) order.now)) }
 {
     for number in order {
         push_left(names, equations, *number)?;
@@ -94,7 +94,7 @@ pub(crate) fn given(
     listing: &LineTable,
     names: &[String],
 ) -> Result<Vec<Column>, AllocError>
-    ensures { IfOk result (λ columns. map column_view columns.items ≡ given_columns (map bare_view listing.now.lines.now) (map string_bytes names.now)) }
+    ensures { IfOk result (λ columns. map column_view columns.items ≡ given_columns (lines_in listing.now) (map string_bytes names.now)) }
 {
     let mut columns = Vec::new(alloc);
     for name in names {
@@ -108,15 +108,15 @@ pub(crate) fn given(
 #[tactic(auto, using(crate::proofs::Views::code_views))]
 fn right_code(
     alloc: Global,
-    places: &Places,
+    row: &RowNames,
     listing: &LineTable,
     equations: &[Equation],
     number: u32,
 ) -> Result<Code, AllocError>
-    ensures { IfOk result (λ c. code_view c ≡ code_of (map string_bytes places.now.names.items) (first_in (map bare_view listing.now.lines.now)) (right_at (map equation_view equations.now) number)) }
+    ensures { IfOk result (λ c. code_view c ≡ code_in row.now listing.now (right_at (equations_in equations.now) number)) }
 {
     match right(equations, number) {
-        Some(e) => coded(alloc, places, listing, e),
+        Some(e) => coded(alloc, row, listing, e),
         None => Ok(Code::Truth(false)),
     }
 }
@@ -125,16 +125,16 @@ fn right_code(
 pub(crate) fn push_computed(
     alloc: Global,
     columns: &mut Vec<Column>,
-    places: &Places,
+    row: &RowNames,
     listing: &LineTable,
     equations: &[Equation],
     order: &[u32],
 ) -> Result<(), AllocError>
     ensures { OnOk result (map column_view columns.new.items ≡ map column_view columns.old.items
-        ++ computed_columns (map bare_view listing.now.lines.now) (map string_bytes places.now.names.items) (map equation_view equations.now) order.now) }
+        ++ computed_columns (lines_in listing.now) (names_in row.now) (equations_in equations.now) order.now) }
 {
     for number in order {
-        let code = right_code(alloc, places, listing, equations, *number)?;
+        let code = right_code(alloc, row, listing, equations, *number)?;
         columns.push(Column::Computed(code))?;
     }
     Ok(())

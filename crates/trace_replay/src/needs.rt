@@ -6,10 +6,10 @@ ghost use Rattle.lus_tree.specs.View.{node_view};
 ghost use Rattle.lus_meaning.specs.Depends.{named_in};
 ghost use Rattle.lus_meaning.specs.Rules.{names_of};
 ghost use Rattle.lus_meaning.specs.TraceView.{spot_view};
-ghost use Rattle.trace_replay.specs.Fitting.{last_pre_in, is_left, name_need, first_need, subject_need};
+ghost use Rattle.trace_replay.specs.Fitting.{greatest_pre_in, is_left, name_need, first_need, subject_need};
 ghost use Rattle.trace_replay.specs.Tables.{has_name};
 
-use crate::last_pre::last_pre_in;
+use crate::greatest_pre::greatest_pre_in;
 use crate::sets::{add_lefts, add_streams};
 use indexmap::IndexSet;
 use lus_meaning::Spot;
@@ -27,7 +27,7 @@ pub struct Needs<'a> {
     ghost has_inputs: { (x : Name) → has_name inputs x ≡ named_in x (names_of (node_view node.now).inputs) },
     ghost has_others: { (x : Name) → has_name others x ≡ (named_in x (names_of (node_view node.now).outputs) || named_in x (names_of (node_view node.now).locals)) },
     ghost has_lefts: { (x : Name) → has_name lefts x ≡ is_left x (node_view node.now).body },
-    ghost is_last: { last ≡ last_pre_in 0 (node_view node.now).body },
+    ghost is_last: { last ≡ greatest_pre_in 0 (node_view node.now).body },
 }
 
 impl<'a> Needs<'a> {
@@ -42,7 +42,7 @@ impl<'a> Needs<'a> {
         add_streams(&mut others, &node.locals)?;
         let mut lefts = IndexSet::new(alloc);
         add_lefts(&mut lefts, &node.items)?;
-        let last = last_pre_in(&node.items);
+        let last = greatest_pre_in(&node.items);
         Ok(Needs {
             node,
             inputs,
@@ -68,7 +68,7 @@ impl<'a> Needs<'a> {
 
     /// The same of a first value.
     fn first_need(&self, number: u32) -> Option<(u32, bool)>
-        ensures { result ≡ first_need (last_pre_in 0 (node_view self.now.node.now).body) number }
+        ensures { result ≡ first_need (greatest_pre_in 0 (node_view self.now.node.now).body) number }
     {
         if 1 <= number && number <= self.last {
             Some((1, false))
@@ -79,7 +79,7 @@ impl<'a> Needs<'a> {
 
     /// The same of a line of the node itself.
     pub fn spot_need(&self, length: u32, what: &Spot) -> Option<(u32, bool)>
-        ensures { result ≡ subject_need (node_view self.now.node.now) (last_pre_in 0 (node_view self.now.node.now).body) length (spot_view what.now) }
+        ensures { result ≡ subject_need (node_view self.now.node.now) (greatest_pre_in 0 (node_view self.now.node.now).body) length (spot_view what.now) }
     {
         match what {
             Spot::Name(name) => self.name_need(length, name.as_str()),

@@ -5,11 +5,11 @@ ghost use Rattle.std.specs.String.{string_bytes};
 ghost use Rattle.lus_tree.specs.declared.place.Pos.{Pos as Place};
 ghost use Rattle.lus_meaning.specs.TraceView.{Listing, placed_view, line_view, trace_view};
 ghost use Rattle.trace_replay.specs.Traces.{IsTraceText, FirstMisfit, Refuses};
-ghost use Rattle.trace_replay.specs.Reading.{Gives, GoesOnWithin, IsWithin, left_of, next_view, word_view, opening_of, values_left, values_of, listed_of, is_closing, line_of, lines_left, reading};
+ghost use Rattle.trace_replay.specs.Reading.{Gives, GoesOnWithin, IsWithin, left_of, next_view, word_view, opening_of, values_left, values_of, line_read, is_closing, line_of, lines_left, reading};
 
-use crate::cursor::{Cursor, Word, first_word, line_word, next_word, no_line, no_word};
+use crate::cursor::{Cursor, TraceWord, first_word, line_word, next_word, no_line, no_word};
 use crate::fault::TraceFault;
-use crate::words::{name, place, small, value};
+use crate::words::{address, name, small, value};
 use lus_meaning::{PlacedValue, Trace, TraceLine};
 use lus_tree::Pos;
 use std::alloc::Global;
@@ -53,18 +53,18 @@ fn values<'a>(
 }
 
 /// A line from its first word on, with room for so many values.
-#[tactic(auto, unfolding(crate::specs::Reading::listed_of))]
-fn listed<'a>(
+#[tactic(auto, unfolding(crate::specs::Reading::line_read))]
+fn read_line<'a>(
     alloc: Global,
     room: usize,
-    first: Word,
+    first: TraceWord,
     after: Cursor<'a>,
 ) -> Result<(TraceLine, Cursor<'a>), TraceFault>
     requires { IsWithin after }
-    ensures line { Gives (λ x. (line_view x.0, left_of x.1)) result (listed_of (word_view first.entry) (left_of after.entry)) }
+    ensures line { Gives (λ x. (line_view x.0, left_of x.1)) result (line_read (word_view first.entry) (left_of after.entry)) }
     ensures within { IfOk result (λ x. IsWithin x.1) }
 {
-    let (path, what) = place(alloc, first)?;
+    let (path, what) = address(alloc, first)?;
     let (values, after) = values(alloc, room, after)?;
     let at = first.at;
     Ok((
@@ -79,7 +79,7 @@ fn listed<'a>(
 }
 
 /// Is this word of a line the whole end line?
-fn is_closing(word: Word, after: Cursor) -> bool
+fn is_closing(word: TraceWord, after: Cursor) -> bool
     requires { IsWithin after }
     ensures { result ≡ is_closing (word_view word.entry) (left_of after.entry) }
 {
@@ -111,7 +111,7 @@ fn line<'a>(alloc: Global, room: usize, here: Cursor<'a>) -> Result<Next<'a>, Tr
         no_line(after)?;
         return Ok(Next::End(start.at));
     }
-    let (line, below) = listed(alloc, room, start, after)?;
+    let (line, below) = read_line(alloc, room, start, after)?;
     Ok(Next::Line(line, below))
 }
 
@@ -146,7 +146,7 @@ type Length = (u32, Pos);
 #[tactic(auto, unfolding(crate::specs::Reading::opening_of))]
 fn opening<'a>(
     alloc: Global,
-    first: Word,
+    first: TraceWord,
     after: Cursor<'a>,
 ) -> Result<(Node, Length, Cursor<'a>), TraceFault>
     requires { IsWithin after }

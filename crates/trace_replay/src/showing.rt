@@ -35,8 +35,8 @@ impl Replay {
         if !path.is_empty() || instant >= self.instants {
             return None;
         }
-        let place = self.place_of(name)?;
-        let at = instant as usize * self.names.len() + place as usize;
+        let column = self.column_of(name)?;
+        let at = instant as usize * self.names.len() + column as usize;
         let truth = self.kept.get(at).copied().unwrap_or(false);
         Some(Value::Truth(truth))
     }

@@ -3,9 +3,9 @@
 ghost use Rattle.std.specs.Prelude.{◌≡◌, option_map, IfOk};
 ghost use Rattle.std.specs.String.{string_bytes};
 ghost use Rattle.lus_meaning.specs.TraceView.{spot_view, entry_view};
-ghost use Rattle.trace_replay.specs.Reading.{Gives, number_from, number_of, small_of, value_of, name_of, subject_of, place_of, or_misfit, word_view};
+ghost use Rattle.trace_replay.specs.Reading.{Gives, number_from, number_of, small_of, value_of, name_of, subject_of, address_of, or_misfit, word_view};
 
-use crate::cursor::Word;
+use crate::cursor::TraceWord;
 use crate::fault::TraceFault;
 use lus_lexer::is_name;
 use lus_meaning::{Spot, Value};
@@ -123,7 +123,7 @@ fn spot(alloc: Global, word: &[u8]) -> Result<Option<Spot>, AllocError>
 
 /// The numbers before dots, and what they lead to.
 fn path(alloc: Global, word: &[u8]) -> Result<Option<(Vec<u32>, Spot)>, AllocError>
-    ensures { IfOk result (λ p. option_map (λ x. (x.0.items, spot_view x.1)) p ≡ place_of word.now) }
+    ensures { IfOk result (λ p. option_map (λ x. (x.0.items, spot_view x.1)) p ≡ address_of word.now) }
 {
     let mut path = Vec::new(alloc);
     let mut from = 0;
@@ -142,9 +142,9 @@ fn path(alloc: Global, word: &[u8]) -> Result<Option<(Vec<u32>, Spot)>, AllocErr
     }
 }
 
-/// The place that a word spells, which has to be one.
-pub fn place(alloc: Global, word: Word) -> Result<(Vec<u32>, Spot), TraceFault>
-    ensures { Gives (λ x. (x.0.items, spot_view x.1)) result (or_misfit word.entry.at (place_of word.entry.text.now)) }
+/// The way and the subject that a word spells, which has to spell them.
+pub fn address(alloc: Global, word: TraceWord) -> Result<(Vec<u32>, Spot), TraceFault>
+    ensures { Gives (λ x. (x.0.items, spot_view x.1)) result (or_misfit word.entry.at (address_of word.entry.text.now)) }
 {
     match path(alloc, word.text)? {
         Some(found) => Ok(found),

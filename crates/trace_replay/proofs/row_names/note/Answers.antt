@@ -1,6 +1,6 @@
 use Rattle.std.proofs.Common.{arith}
 use Rattle.std.proofs.lemmas.Map.Text.{text_keys}
-use Rattle.trace_replay.proofs.places.note.Goals as goal
+use Rattle.trace_replay.proofs.row_names.note.Goals as goal
 
 pub returns-in_ok-insert : goal.returns-in_ok-insert
 returns-in_ok-insert c = grind (arith, text_keys)
