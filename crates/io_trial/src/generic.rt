@@ -1,13 +1,12 @@
-// Callers over any shelf and any sink: the traits' clauses suffice for each of theirs.
+//! Callers over any shelf and any sink: the traits' clauses suffice for each of theirs.
+
 ghost use Rattle.std.specs.Prelude.{◌≡◌, ◌≢◌, ◌≤◌, ◌++◌, ℕ, List, Some, None, OnOk, IsErrOf};
 ghost use Rattle.kind_io.specs.Counts.{Rose};
 
-use crate::{
-    FetchFault, KeepFault, MemoryShelf, MemorySink, NeverShelf, NeverSink, PutFault, Shelf, Sink,
-};
+use kind_io::{FetchFault, KeepFault, NeverShelf, PutFault, Shelf, Sink};
 use std::alloc::Global;
-use std::test::Fail;
 
+/// How a copy ended.
 #[derive(Clone, Copy, Debug, PartialEq, Eq)]
 pub enum End {
     Copied,
@@ -58,23 +57,4 @@ pub fn copy_surely(alloc: Global, shelf: &mut NeverShelf, from: &str, to: &str) 
         End::Memory => false,
         End::Unread | End::Unkept => unreachable!(),
     }
-}
-
-#[test]
-fn each_shelf_and_sink_serves_a_caller_over_all(rt: HostRuntime) -> Result<(), Fail> {
-    let alloc = rt.alloc();
-    let mut shelf = MemoryShelf::new(Vec::new(alloc), Vec::new(alloc));
-    assert_eq!(rt; copy(alloc, &mut shelf, "a", "b"), End::Unread);
-    shelf.keep(alloc, "a", b"one")?;
-    assert_eq!(rt; copy(alloc, &mut shelf, "a", "b"), End::Copied);
-    assert_eq!(rt; shelf.get("b"), Some(b"one".as_slice()));
-
-    let mut never = NeverShelf::new(Vec::new(alloc));
-    assert!(rt; copy_surely(alloc, &mut never, "a", "b"));
-
-    let mut sink = MemorySink::new(alloc, Vec::new(alloc));
-    put_both(&mut sink, b"one", b" two")?;
-    assert_eq!(rt; sink.bytes(), b"one two".as_slice());
-    put_both(&mut NeverSink::new(alloc), b"one", b" two")?;
-    Ok(())
 }
