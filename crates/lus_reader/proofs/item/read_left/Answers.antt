@@ -7,7 +7,7 @@ use Rattle.lus_grammar.specs.Syntax.{leaf, node, ◌·◌, this, that}
 use Rattle.lus_grammar.specs.Run.{line, line_stop, both, first_stop, second_stop, this_one, this_stop, that_one, that_stop}
 use Rattle.lus_reader.proofs.Classes.{not_true, enters_by, passes_one}
 use Rattle.lus_reader.proofs.Stops.{at_err, refuses_by}
-use Rattle.lus_reader.proofs.item.left.Goals as goal
+use Rattle.lus_reader.proofs.item.read_left.Goals as goal
 
 pub returns-in_err-names-clause-stop : goal.returns-in_err-names-clause-stop
 returns-in_err-names-clause-stop c = at_err _ _ _ c.from_residual.ensures.1 (λ n.

@@ -4,7 +4,7 @@ use Rattle.lus_grammar.specs.Run.{both, first_stop, second_stop}
 use Rattle.lus_reader.specs.View.{counts_view}
 use Rattle.lus_reader.proofs.Cuts.{next_fits}
 use Rattle.lus_reader.proofs.Stops.{at_err, refuses_by}
-use Rattle.lus_reader.proofs.ends.labelled.Goals as goal
+use Rattle.lus_reader.proofs.ends.read_labelled.Goals as goal
 
 pub overflow_add-first : goal.overflow_add-first
 overflow_add-first c = next_fits c.args.bytes.now c.args.tokens.now c.args.first c.requires.cut c.requires.small c.requires.inside

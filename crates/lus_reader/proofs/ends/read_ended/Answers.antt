@@ -2,7 +2,7 @@ use Rattle.lus_grammar.specs.Stream.{stream}
 use Rattle.lus_grammar.specs.Run.{both, first_stop, second_stop}
 use Rattle.lus_reader.specs.View.{counts_view}
 use Rattle.lus_reader.proofs.Stops.{at_err, refuses_by}
-use Rattle.lus_reader.proofs.ends.ended.Goals as goal
+use Rattle.lus_reader.proofs.ends.read_ended.Goals as goal
 
 pub returns-in_err-value-clause-stop : goal.returns-in_err-value-clause-stop
 returns-in_err-value-clause-stop c = at_err _ _ _ c.from_residual.ensures.1 (refuses_by (λ d k u. first_stop u) c.in_err-value.ensures.stop)

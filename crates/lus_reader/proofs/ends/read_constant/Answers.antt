@@ -5,7 +5,7 @@ use Rattle.lus_grammar.specs.Syntax.{leaf, node, ◌·◌}
 use Rattle.lus_grammar.specs.Run.{line, line_stop, both, first_stop, second_stop}
 use Rattle.lus_reader.specs.View.{counts_view}
 use Rattle.lus_reader.proofs.Stops.{at_err, refuses_by}
-use Rattle.lus_reader.proofs.ends.constant.Goals as goal
+use Rattle.lus_reader.proofs.ends.read_constant.Goals as goal
 
 pub returns-in_err-next-clause-stop : goal.returns-in_err-next-clause-stop
 returns-in_err-next-clause-stop c = at_err _ _ _ c.from_residual.ensures.1 (refuses_by (λ d k u. line_stop (first_stop u)) (c.in_err-next.ensures.stop (counts_view c.args.counts.now)))
