@@ -8,7 +8,7 @@ ghost use Rattle.lus_grammar.specs.Phrase.{◌⨾◌, one_of, optional, repeated
 ghost use Rattle.lus_grammar.specs.Phrase as P;
 ghost use Rattle.lus_grammar.specs.Grammar.{labelled, semicolon};
 ghost use Rattle.lus_grammar.specs.Text.{IsOneOf};
-ghost use Rattle.lus_grammar.specs.Starts.{Passes, code, listed, starts};
+ghost use Rattle.lus_grammar.specs.Starts.{Passes, class_code, code, codes_of, listed, starts};
 ghost use Rattle.lus_grammar.specs.Answers.{IsText, IsNoText};
 ghost use Rattle.lus_grammar.specs.Source.{AreTokens};
 ghost use Rattle.lus_grammar.specs.Programs.{left_of, items_of};
@@ -89,7 +89,14 @@ pub fn begins_item(tokens: &[Token], at: u32) -> bool
     ensures begins { (bytes : List ℕ)
         → listed (code (stream bytes tokens.now at).class) (starts (part P.Item)) ≡ result }
 {
-    match class_at(tokens, at) {
+    is_item_class(class_at(tokens, at))
+}
+
+/// Whether an item begins with a token of this class.
+fn is_item_class(class: Option<Class>) -> bool
+    ensures { listed (code class) (starts (part P.Item)) ≡ result }
+{
+    match class {
         Some(Class::Ident) | Some(Class::Sign(Sign::Open)) => true,
         Some(Class::Keyword(Keyword::Assert)) | Some(Class::Keyword(Keyword::Check)) => true,
         Some(Class::Annotation(_)) => true,
@@ -130,7 +137,14 @@ fn begins_equation(tokens: &[Token], at: u32) -> bool
     ensures begins { (bytes : List ℕ)
         → listed (code (stream bytes tokens.now at).class) (starts (part P.Left)) ≡ result }
 {
-    match class_at(tokens, at) {
+    is_left_class(class_at(tokens, at))
+}
+
+/// Whether the left side of an equation begins with a token of this class.
+fn is_left_class(class: Option<Class>) -> bool
+    ensures { listed (code class) (starts (part P.Left)) ≡ result }
+{
+    match class {
         Some(Class::Ident) | Some(Class::Sign(Sign::Open)) => true,
         _ => false,
     }
@@ -144,8 +158,18 @@ fn begins_property(tokens: &[Token], at: u32) -> bool
     ensures inside { IsTrue result → at < length tokens.now }
 {
     match class_at(tokens, at) {
-        Some(Class::Keyword(Keyword::Check)) => true,
-        Some(Class::Annotation(Annotation::Property)) => true,
+        Some(class) => is_property_class(class),
+        None => false,
+    }
+}
+
+/// Whether a property begins with a token of this class.
+fn is_property_class(class: Class) -> bool
+    ensures { listed (class_code class) (codes_of property_classes) ≡ result }
+{
+    match class {
+        Class::Keyword(Keyword::Check) => true,
+        Class::Annotation(Annotation::Property) => true,
         _ => false,
     }
 }
