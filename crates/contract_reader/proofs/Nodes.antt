@@ -13,13 +13,13 @@ use Rattle.lus_grammar.specs.Source.{limit}
 use Rattle.lus_grammar.specs.Trees.{spelled}
 use Rattle.lus_grammar.specs.Programs.{nodes_of, contract_nodes_of, is_function, parameters_of, contract_of, items_of, clauses_of}
 use Rattle.lus_grammar.specs.Answers.{Reads}
-use Rattle.contract_reader.specs.Parts.{Leads, headed}
-use Rattle.contract_reader.specs.Values.{node_class, locals_of}
+use Rattle.contract_reader.specs.Parts.{IsNodeBody, Leads, headed}
+use Rattle.contract_reader.specs.Values.{node_body, node_class, locals_of}
 use Rattle.contract_reader.proofs.Leads.{into, behind_token}
 
 -- what stands in a node behind its head
 abbrev pub behind_head : Phrase
-behind_head = optional semicolon ⨾ optional (part Contract) ⨾ repeated (part Locals) ⨾ word K.Let ⨾ repeated (part Item) ⨾ word K.Tel ⨾ optional semicolon
+behind_head = optional semicolon ⨾ optional (part Contract) ⨾ repeated (part Locals) ⨾ node_body
 
 -- and in a contract node
 abbrev pub behind_contract_head : Phrase
@@ -45,17 +45,19 @@ parts a a' b b' c c' d d' e e' f f' g g' h h' i j k l m n o p = rw (i, j, k, l, 
 made : (v v' : Component) → v.name ≡ v'.name → v.function ≡ v'.function → v.inputs ≡ v'.inputs → v.outputs ≡ v'.outputs → v.locals ≡ v'.locals → v.constants ≡ v'.constants → v.contract ≡ v'.contract → v.body ≡ v'.body → v ≡ v'
 made v v' a b c d e f g h = parts v.name v'.name v.function v'.function v.inputs v'.inputs v.outputs v'.outputs v.locals v'.locals v.constants v'.constants v.contract v'.contract v.body v'.body a b c d e f g h
 
-module _ {s : Stream} {i : ℕ} {n : Counts} {k j : ℕ} {m : Counts} {x : Mark} {ps r qs is z : Syntax} where
-  pub reads_node : {a c ls b d : Syntax} (v : Component) → (s i).class ≡ Some (node_class v.function) → Leads s (part Node) i n (optional semicolon) k m (λ y. node Node (leaf (s i) · leaf x · ps · r · qs · a · c · ls · b · is · d · y)) → Run limit s (optional semicolon) k m (read j m z)
-      → v.name ≡ spelled x → v.inputs ≡ parameters_of ps → v.outputs ≡ parameters_of qs → v.contract ≡ contract_of c → (let pair : List Variable × List Constant = (v.locals, v.constants) in pair ≡ locals_of ls) → v.body ≡ items_of is
-      → Reads nodes_of s (part Node) i n j m (declared_node v ∷ [])
-  reads_node v w l q e f g h p u = record {
+module _ {s : Stream} {i : ℕ} {n : Counts} {k j : ℕ} {m : Counts} {x : Mark} {ps r qs : Syntax} where
+  pub reads_node : {a c ls : Syntax} {o : Counts} (v : Component) → (s i).class ≡ Some (node_class v.function)
+      → Leads s (part Node) i n node_body k m (λ y. node Node (leaf (s i) · leaf x · ps · r · qs · a · c · ls · y))
+      → v.name ≡ spelled x → v.inputs ≡ parameters_of ps → v.outputs ≡ parameters_of qs → v.contract ≡ contract_of c
+      → (let pair : List Variable × List Constant = (v.locals, v.constants) in pair ≡ locals_of ls) → IsNodeBody s k m j o v.body
+      → Reads nodes_of s (part Node) i n j o (declared_node v ∷ [])
+  reads_node v w l e f g h p b = record {
     syntax = _;
-    run = l.reads _ _ _ q;
-    is = ap (λ y. declared_node y ∷ []) (made v _ e (function_is (s i).class v.function w) f g (ap (λ y. y.0) p) (ap (λ y. y.1) p) h u);
+    run = l.reads _ _ _ b.run;
+    is = ap (λ y. declared_node y ∷ []) (made v _ e (function_is (s i).class v.function w) f g (ap (λ y. y.0) p) (ap (λ y. y.1) p) h b.is);
   }
 
-  pub reads_contract_node : {t : Mark} {a b d : Syntax} (v : Component) → v.function ≡ false → v.locals ≡ [] → v.constants ≡ [] → v.body ≡ [] → Leads s (part ContractNode) i n (optional semicolon) k m (λ y. node ContractNode (leaf t · leaf x · ps · r · qs · a · b · is · d · y)) → Run limit s (optional semicolon) k m (read j m z)
+  pub reads_contract_node : {t : Mark} {a b d is z : Syntax} (v : Component) → v.function ≡ false → v.locals ≡ [] → v.constants ≡ [] → v.body ≡ [] → Leads s (part ContractNode) i n (optional semicolon) k m (λ y. node ContractNode (leaf t · leaf x · ps · r · qs · a · b · is · d · y)) → Run limit s (optional semicolon) k m (read j m z)
       → v.name ≡ spelled x → v.inputs ≡ parameters_of ps → v.outputs ≡ parameters_of qs → v.contract ≡ Some (clauses_of is)
       → Reads contract_nodes_of s (part ContractNode) i n j m (declared_contract v ∷ [])
   reads_contract_node v w' l' c' b' l q e f g h = record {

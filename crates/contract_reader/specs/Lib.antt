@@ -1,3 +1,4 @@
 pub mod Begin
 pub mod Parts
+pub mod Told
 pub mod Values

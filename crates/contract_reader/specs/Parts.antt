@@ -1,14 +1,14 @@
 -- What a reader of some part of a phrase answers.
 use Rattle.std.specs.Prelude.{◌≡◌, ℕ, List, ◌++◌}
-use Rattle.lus_tree.specs.Tree.{Spelled, Variable}
+use Rattle.lus_tree.specs.Tree.{Spelled, Statement, Variable}
 use Rattle.lus_grammar.specs.Stream.{Mark, Stream}
 use Rattle.lus_grammar.specs.Phrase.{Phrase, Parameters, LocalGroup, part, word, identifier, ◌⨾◌}
 use Rattle.lus_grammar.specs.Grammar.{semicolon}
 use Rattle.lus_lexer.specs.declared.token.Keyword.TheVariants as K
 use Rattle.lus_grammar.specs.Syntax.{Counts, Syntax, leaf, ◌·◌, some}
 use Rattle.lus_grammar.specs.Trees.{spelled}
-use Rattle.lus_grammar.specs.Programs.{parameters_of, local_group_of, optional_names_of}
-use Rattle.contract_reader.specs.Values.{outputs}
+use Rattle.lus_grammar.specs.Programs.{items_of, parameters_of, local_group_of, optional_names_of}
+use Rattle.contract_reader.specs.Values.{node_body, outputs}
 use Rattle.lus_grammar.specs.Run.{Cause, read, stop, Run}
 use Rattle.lus_grammar.specs.Source.{limit}
 
@@ -53,6 +53,15 @@ pub record IsOutputs (s : Stream) (i : ℕ) (n : Counts) (j : ℕ) (words : List
   pub last : Syntax
   pub run : Run limit s outputs i n (read j n (opening · names · closing · last))
   pub is : words ≡ optional_names_of names
+
+-- "let" { item } "tel" [ ";" ] stands from i up to j, and what is its items
+pub record IsNodeBody (s : Stream) (i : ℕ) (n : Counts) (j : ℕ) (m : Counts) (what : List Statement) : Type 0 where
+  pub opening : Syntax
+  pub items : Syntax
+  pub closing : Syntax
+  pub last : Syntax
+  pub run : Run limit s node_body i n (read j m (opening · items · closing · last))
+  pub is : what ≡ items_of items
 
 -- ID params "returns" params, and then h
 abbrev pub headed : Phrase → Phrase

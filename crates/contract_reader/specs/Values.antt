@@ -9,7 +9,7 @@ use Rattle.lus_lexer.specs.declared.token.Opening.{Opening}
 use Rattle.lus_lexer.specs.declared.token.Opening.TheVariants as O
 use Rattle.lus_lexer.specs.declared.token.Closing.{Closing}
 use Rattle.lus_lexer.specs.declared.token.Closing.TheVariants as E
-use Rattle.lus_grammar.specs.Phrase.{Phrase, Names, part, sign, optional, ◌⨾◌}
+use Rattle.lus_grammar.specs.Phrase.{Phrase, Item, Names, part, sign, word, optional, repeated, ◌⨾◌}
 use Rattle.lus_grammar.specs.Grammar.{semicolon}
 use Rattle.lus_grammar.specs.Syntax.{Syntax, present}
 use Rattle.lus_grammar.specs.Programs.{contract_of, local_variables_of, local_constants_of, requires_of, ensures_of}
@@ -27,6 +27,10 @@ closing_of O.Slash = E.Slash
 -- "(" [ names ] ")" ";"
 abbrev pub outputs : Phrase
 outputs = sign S.Open ⨾ optional (part Names) ⨾ sign S.Close ⨾ semicolon
+
+-- "let" { item } "tel" [ ";" ]
+abbrev pub node_body : Phrase
+node_body = word K.Let ⨾ repeated (part Item) ⨾ word K.Tel ⨾ optional semicolon
 
 -- both kinds of locals
 abbrev pub locals_of : Syntax → List Variable × List Constant

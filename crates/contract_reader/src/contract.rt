@@ -1,25 +1,22 @@
 //! Reads contracts and their items.
 
-ghost use Rattle.std.specs.Prelude.{◌≡◌, ◌<◌, ◌≤◌, [], ◌∷◌, length, map, IfOk, IfErr, Some};
+ghost use Rattle.std.specs.Prelude.{◌≡◌, ◌<◌, ◌≤◌, length, map, IfOk, IfErr, Some};
 ghost use Rattle.lus_tree.specs.View.{contract_item_view, contract_view};
-ghost use Rattle.lus_tree.specs.Reason.{refusal_view};
 ghost use Rattle.lus_grammar.specs.Stream.{stream};
 ghost use Rattle.lus_grammar.specs.Phrase as P;
 ghost use Rattle.lus_grammar.specs.Phrase.{part, optional, repeated};
 ghost use Rattle.lus_grammar.specs.Programs.{clauses_of, contract_of};
-ghost use Rattle.lus_grammar.specs.Answers.{Reads, Refuses};
 ghost use Rattle.lus_grammar.specs.Source.{AreTokens};
-ghost use Rattle.lus_reader.specs.View.{counts_view};
 ghost use Rattle.contract_reader.specs.Begin.{contract_item_class};
-ghost use Rattle.contract_reader.specs.Parts.{Adds};
 ghost use Rattle.contract_reader.specs.Values.{closing_of, enclosed_of};
+ghost use Rattle.lus_reader.specs.Told.{ReadsFrom, RefusesFrom};
+ghost use Rattle.contract_reader.specs.Told.{ReadsContractItem};
 
 use crate::begin::{ContractItemStart, contract_item_start, contract_start};
 use crate::import::read_import;
-use crate::list::add;
 use crate::mode::{ModeItems, read_mode_items};
 use lus_lexer::{Class, Closing, Keyword, Opening, Sign, Token};
-use lus_reader::{Counts, class_at, constant, ended, expect, identifier, labelled, sort};
+use lus_reader::{Counts, class_at, expect, identifier, push, read_ended, read_labelled, sort};
 use lus_tree::{ContractItem, Param, Refusal};
 use std::alloc::Global;
 
@@ -35,8 +32,9 @@ pub fn read_contract(
     requires small { length bytes.now ≤ 1048576 }
     requires few { length tokens.now ≤ 1048576 }
     requires inside { at ≤ length tokens.now }
-    ensures run { IfOk result (λ r. Reads contract_of (stream bytes.now tokens.now) (optional (part P.Contract)) at (counts_view counts.old) r.1 (counts_view counts.new) (contract_view r.0)) }
-    ensures stop { IfErr result (λ e. Refuses (stream bytes.now tokens.now) (optional (part P.Contract)) at (counts_view counts.old) (refusal_view e)) }
+    ensures run { IfOk result (λ r. ReadsFrom contract_of bytes.now tokens.now
+        (optional (part P.Contract)) at counts.old r.1 counts.new (contract_view r.0)) }
+    ensures stop { IfErr result (λ e. RefusesFrom bytes.now tokens.now (optional (part P.Contract)) at counts.old e) }
     ensures inside { IfOk result (λ r. (at ≤ r.1) × (r.1 ≤ length tokens.now)) }
 {
     let Some(opening) = contract_start(class_at(tokens, at)) else {
@@ -70,8 +68,9 @@ fn read_enclosed(
     requires few { length tokens.now ≤ 1048576 }
     requires word { (stream bytes.now tokens.now at).class ≡ Some (Class.ContractOpen opening) }
     requires inside { at < length tokens.now }
-    ensures run { IfOk result (λ r. Reads enclosed_of (stream bytes.now tokens.now) (part P.Contract) at (counts_view counts.old) r.1 (counts_view counts.new) (Some (map contract_item_view r.0.items))) }
-    ensures stop { IfErr result (λ e. Refuses (stream bytes.now tokens.now) (part P.Contract) at (counts_view counts.old) (refusal_view e)) }
+    ensures run { IfOk result (λ r. ReadsFrom enclosed_of bytes.now tokens.now
+        (part P.Contract) at counts.old r.1 counts.new (Some (map contract_item_view r.0.items))) }
+    ensures stop { IfErr result (λ e. RefusesFrom bytes.now tokens.now (part P.Contract) at counts.old e) }
     ensures inside { IfOk result (λ r. (at < r.1) × (r.1 ≤ length tokens.now)) }
 {
     let (items, close) = read_contract_items(alloc, tokens, bytes, at + 1, counts)?;
@@ -92,15 +91,17 @@ pub fn read_contract_items(
     requires small { length bytes.now ≤ 1048576 }
     requires few { length tokens.now ≤ 1048576 }
     requires inside { at ≤ length tokens.now }
-    ensures run { IfOk result (λ r. Reads clauses_of (stream bytes.now tokens.now) (repeated (part P.ContractItem)) at (counts_view counts.old) r.1 (counts_view counts.new) (map contract_item_view r.0.items)) }
-    ensures stop { IfErr result (λ e. Refuses (stream bytes.now tokens.now) (repeated (part P.ContractItem)) at (counts_view counts.old) (refusal_view e)) }
+    ensures run { IfOk result (λ r. ReadsFrom clauses_of bytes.now tokens.now
+        (repeated (part P.ContractItem)) at counts.old r.1 counts.new (map contract_item_view r.0.items)) }
+    ensures stop { IfErr result (λ e. RefusesFrom bytes.now tokens.now
+        (repeated (part P.ContractItem)) at counts.old e) }
     ensures inside { IfOk result (λ r. (at ≤ r.1) × (r.1 ≤ length tokens.now)) }
 {
     let mut items = Vec::new(alloc);
     let mut next = at;
     while let Some(start) = contract_item_start(class_at(tokens, next)) {
         let (item, end) = read_contract_item(alloc, tokens, bytes, next, start, counts)?;
-        add(&mut items, item)?;
+        push(&mut items, item)?;
         next = end;
     }
     Ok((items, next))
@@ -120,8 +121,8 @@ fn read_contract_item(
     requires few { length tokens.now ≤ 1048576 }
     requires word { (stream bytes.now tokens.now at).class ≡ Some (contract_item_class start) }
     requires inside { at < length tokens.now }
-    ensures run { IfOk result (λ r. Adds clauses_of (stream bytes.now tokens.now) (part P.ContractItem) at (counts_view counts.old) r.1 (counts_view counts.new) (contract_item_view r.0 ∷ [])) }
-    ensures stop { IfErr result (λ e. Refuses (stream bytes.now tokens.now) (part P.ContractItem) at (counts_view counts.old) (refusal_view e)) }
+    ensures run { IfOk result (λ r. ReadsContractItem bytes.now tokens.now at counts.old r.1 counts.new r.0) }
+    ensures stop { IfErr result (λ e. RefusesFrom bytes.now tokens.now (part P.ContractItem) at counts.old e) }
     ensures inside { IfOk result (λ r. (at < r.1) × (r.1 ≤ length tokens.now)) }
 {
     match start {
@@ -147,11 +148,11 @@ fn read_assumption(
     requires few { length tokens.now ≤ 1048576 }
     requires word { (stream bytes.now tokens.now at).class ≡ Some (Class.Keyword Keyword.Assume) }
     requires inside { at < length tokens.now }
-    ensures run { IfOk result (λ r. Adds clauses_of (stream bytes.now tokens.now) (part P.ContractItem) at (counts_view counts.old) r.1 (counts_view counts.new) (contract_item_view r.0 ∷ [])) }
-    ensures stop { IfErr result (λ e. Refuses (stream bytes.now tokens.now) (part P.ContractItem) at (counts_view counts.old) (refusal_view e)) }
+    ensures run { IfOk result (λ r. ReadsContractItem bytes.now tokens.now at counts.old r.1 counts.new r.0) }
+    ensures stop { IfErr result (λ e. RefusesFrom bytes.now tokens.now (part P.ContractItem) at counts.old e) }
     ensures inside { IfOk result (λ r. (at < r.1) × (r.1 ≤ length tokens.now)) }
 {
-    let (named, next) = labelled(alloc, tokens, bytes, at, counts)?;
+    let (named, next) = read_labelled(alloc, tokens, bytes, at, counts)?;
     Ok((ContractItem::Assume(named), next))
 }
 
@@ -168,11 +169,11 @@ fn read_guarantee(
     requires few { length tokens.now ≤ 1048576 }
     requires word { (stream bytes.now tokens.now at).class ≡ Some (Class.Keyword Keyword.Guarantee) }
     requires inside { at < length tokens.now }
-    ensures run { IfOk result (λ r. Adds clauses_of (stream bytes.now tokens.now) (part P.ContractItem) at (counts_view counts.old) r.1 (counts_view counts.new) (contract_item_view r.0 ∷ [])) }
-    ensures stop { IfErr result (λ e. Refuses (stream bytes.now tokens.now) (part P.ContractItem) at (counts_view counts.old) (refusal_view e)) }
+    ensures run { IfOk result (λ r. ReadsContractItem bytes.now tokens.now at counts.old r.1 counts.new r.0) }
+    ensures stop { IfErr result (λ e. RefusesFrom bytes.now tokens.now (part P.ContractItem) at counts.old e) }
     ensures inside { IfOk result (λ r. (at < r.1) × (r.1 ≤ length tokens.now)) }
 {
-    let (named, next) = labelled(alloc, tokens, bytes, at, counts)?;
+    let (named, next) = read_labelled(alloc, tokens, bytes, at, counts)?;
     Ok((ContractItem::Guarantee(named), next))
 }
 
@@ -189,15 +190,15 @@ fn read_ghost(
     requires few { length tokens.now ≤ 1048576 }
     requires word { (stream bytes.now tokens.now at).class ≡ Some (Class.Keyword Keyword.Var) }
     requires inside { at < length tokens.now }
-    ensures run { IfOk result (λ r. Adds clauses_of (stream bytes.now tokens.now) (part P.ContractItem) at (counts_view counts.old) r.1 (counts_view counts.new) (contract_item_view r.0 ∷ [])) }
-    ensures stop { IfErr result (λ e. Refuses (stream bytes.now tokens.now) (part P.ContractItem) at (counts_view counts.old) (refusal_view e)) }
+    ensures run { IfOk result (λ r. ReadsContractItem bytes.now tokens.now at counts.old r.1 counts.new r.0) }
+    ensures stop { IfErr result (λ e. RefusesFrom bytes.now tokens.now (part P.ContractItem) at counts.old e) }
     ensures inside { IfOk result (λ r. (at < r.1) × (r.1 ≤ length tokens.now)) }
 {
     let (name, colon) = identifier(alloc, tokens, bytes, at + 1)?;
     let kind = expect(alloc, tokens, bytes, colon, Class::Sign(Sign::Colon))?;
     let (sort, equals) = sort(alloc, tokens, bytes, kind)?;
     let first = expect(alloc, tokens, bytes, equals, Class::Sign(Sign::Equals))?;
-    let (value, next) = ended(alloc, tokens, bytes, first, counts)?;
+    let (value, next) = read_ended(alloc, tokens, bytes, first, counts)?;
     let param = Param {
         name,
         sort,
@@ -219,11 +220,11 @@ fn read_constant(
     requires few { length tokens.now ≤ 1048576 }
     requires word { (stream bytes.now tokens.now at).class ≡ Some (Class.Keyword Keyword.Const) }
     requires inside { at < length tokens.now }
-    ensures run { IfOk result (λ r. Adds clauses_of (stream bytes.now tokens.now) (part P.ContractItem) at (counts_view counts.old) r.1 (counts_view counts.new) (contract_item_view r.0 ∷ [])) }
-    ensures stop { IfErr result (λ e. Refuses (stream bytes.now tokens.now) (part P.ContractItem) at (counts_view counts.old) (refusal_view e)) }
+    ensures run { IfOk result (λ r. ReadsContractItem bytes.now tokens.now at counts.old r.1 counts.new r.0) }
+    ensures stop { IfErr result (λ e. RefusesFrom bytes.now tokens.now (part P.ContractItem) at counts.old e) }
     ensures inside { IfOk result (λ r. (at < r.1) × (r.1 ≤ length tokens.now)) }
 {
-    let (definition, next) = constant(alloc, tokens, bytes, at, counts)?;
+    let (definition, next) = lus_reader::read_constant(alloc, tokens, bytes, at, counts)?;
     Ok((ContractItem::Constant(definition), next))
 }
 
@@ -240,8 +241,8 @@ fn read_mode(
     requires few { length tokens.now ≤ 1048576 }
     requires word { (stream bytes.now tokens.now at).class ≡ Some (Class.Keyword Keyword.Mode) }
     requires inside { at < length tokens.now }
-    ensures run { IfOk result (λ r. Adds clauses_of (stream bytes.now tokens.now) (part P.ContractItem) at (counts_view counts.old) r.1 (counts_view counts.new) (contract_item_view r.0 ∷ [])) }
-    ensures stop { IfErr result (λ e. Refuses (stream bytes.now tokens.now) (part P.ContractItem) at (counts_view counts.old) (refusal_view e)) }
+    ensures run { IfOk result (λ r. ReadsContractItem bytes.now tokens.now at counts.old r.1 counts.new r.0) }
+    ensures stop { IfErr result (λ e. RefusesFrom bytes.now tokens.now (part P.ContractItem) at counts.old e) }
     ensures inside { IfOk result (λ r. (at < r.1) × (r.1 ≤ length tokens.now)) }
 {
     let (name, open) = identifier(alloc, tokens, bytes, at + 1)?;

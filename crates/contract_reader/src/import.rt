@@ -1,23 +1,21 @@
 //! Reads imports of contracts.
 
-ghost use Rattle.std.specs.Prelude.{◌≡◌, ◌<◌, ◌≤◌, [], ◌∷◌, length, map, IfOk, IfErr, Some};
-ghost use Rattle.lus_tree.specs.View.{contract_item_view, expr_view, word_view};
-ghost use Rattle.lus_tree.specs.Reason.{refusal_view};
+ghost use Rattle.std.specs.Prelude.{◌≡◌, ◌<◌, ◌≤◌, length, map, IfOk, IfErr, Some};
+ghost use Rattle.lus_tree.specs.View.{expr_view, word_view};
 ghost use Rattle.lus_grammar.specs.Stream.{stream};
 ghost use Rattle.lus_grammar.specs.Phrase as P;
 ghost use Rattle.lus_grammar.specs.Phrase.{part, limited, optional, repeated, sign, ◌⨾◌};
 ghost use Rattle.lus_grammar.specs.Syntax.{Counts as Occurrences};
-ghost use Rattle.lus_grammar.specs.Programs.{clauses_of, import_arguments_of, more_arguments_of, optional_names_of};
-ghost use Rattle.lus_grammar.specs.Answers.{Reads, Refuses};
+ghost use Rattle.lus_grammar.specs.Programs.{import_arguments_of, more_arguments_of, optional_names_of};
 ghost use Rattle.lus_grammar.specs.Source.{AreTokens};
-ghost use Rattle.lus_reader.specs.View.{counts_view};
-ghost use Rattle.contract_reader.specs.Parts.{Adds, IsOutputs};
+ghost use Rattle.contract_reader.specs.Parts.{IsOutputs};
 ghost use Rattle.contract_reader.specs.Values.{behind, outputs};
+ghost use Rattle.lus_reader.specs.Told.{ReadsAt, RefusesAt, ReadsFrom, RefusesFrom};
+ghost use Rattle.contract_reader.specs.Told.{ReadsContractItem};
 
 use crate::begin::{begins_expression, is_comma, is_name};
-use crate::list::{add, out_of_memory};
 use lus_lexer::{Class, Keyword, Sign, Token};
-use lus_reader::{Counts, class_at, expect, identifier, names, read_expr};
+use lus_reader::{Counts, class_at, expect, identifier, names, out_of_memory, push, read_expr};
 use lus_tree::{ContractItem, Expr, Refusal, Word};
 use std::alloc::Global;
 
@@ -34,8 +32,8 @@ pub fn read_import(
     requires few { length tokens.now ≤ 1048576 }
     requires word { (stream bytes.now tokens.now at).class ≡ Some (Class.Keyword Keyword.Import) }
     requires inside { at < length tokens.now }
-    ensures run { IfOk result (λ r. Adds clauses_of (stream bytes.now tokens.now) (part P.ContractItem) at (counts_view counts.old) r.1 (counts_view counts.new) (contract_item_view r.0 ∷ [])) }
-    ensures stop { IfErr result (λ e. Refuses (stream bytes.now tokens.now) (part P.ContractItem) at (counts_view counts.old) (refusal_view e)) }
+    ensures run { IfOk result (λ r. ReadsContractItem bytes.now tokens.now at counts.old r.1 counts.new r.0) }
+    ensures stop { IfErr result (λ e. RefusesFrom bytes.now tokens.now (part P.ContractItem) at counts.old e) }
     ensures inside { IfOk result (λ r. (at < r.1) × (r.1 ≤ length tokens.now)) }
 {
     let Some(number) = counts.calls.checked_add(1) else {
@@ -66,14 +64,15 @@ fn read_arguments(
     requires small { length bytes.now ≤ 1048576 }
     requires few { length tokens.now ≤ 1048576 }
     requires inside { at ≤ length tokens.now }
-    ensures run { IfOk result (λ r. Reads import_arguments_of (stream bytes.now tokens.now) (optional (part P.Arguments)) at (counts_view counts.old) r.1 (counts_view counts.new) (map expr_view r.0.items)) }
-    ensures stop { IfErr result (λ e. Refuses (stream bytes.now tokens.now) (optional (part P.Arguments)) at (counts_view counts.old) (refusal_view e)) }
+    ensures run { IfOk result (λ r. ReadsFrom import_arguments_of bytes.now tokens.now
+        (optional (part P.Arguments)) at counts.old r.1 counts.new (map expr_view r.0.items)) }
+    ensures stop { IfErr result (λ e. RefusesFrom bytes.now tokens.now (optional (part P.Arguments)) at counts.old e) }
     ensures inside { IfOk result (λ r. (at ≤ r.1) × (r.1 ≤ length tokens.now)) }
 {
     let mut arguments = Vec::new(alloc);
     if begins_expression(class_at(tokens, at)) {
         let (first, end) = read_expr(alloc, tokens, bytes, at, counts)?;
-        add(&mut arguments, first)?;
+        push(&mut arguments, first)?;
         let next = add_arguments(alloc, tokens, bytes, end, &mut arguments, counts)?;
         return Ok((arguments, next));
     }
@@ -93,14 +92,18 @@ fn add_arguments(
     requires small { length bytes.now ≤ 1048576 }
     requires few { length tokens.now ≤ 1048576 }
     requires inside { at ≤ length tokens.now }
-    ensures run { IfOk result (λ r. Reads (behind more_arguments_of (map expr_view arguments.old.items)) (stream bytes.now tokens.now) (repeated (sign Sign.Comma ⨾ limited P.Expression)) at (counts_view counts.old) r (counts_view counts.new) (map expr_view arguments.new.items)) }
-    ensures stop { IfErr result (λ e. Refuses (stream bytes.now tokens.now) (repeated (sign Sign.Comma ⨾ limited P.Expression)) at (counts_view counts.old) (refusal_view e)) }
+    ensures run { IfOk result (λ r. ReadsFrom
+        (behind more_arguments_of (map expr_view arguments.old.items)) bytes.now tokens.now
+        (repeated (sign Sign.Comma ⨾ limited P.Expression)) at counts.old r counts.new
+        (map expr_view arguments.new.items)) }
+    ensures stop { IfErr result (λ e. RefusesFrom bytes.now tokens.now
+        (repeated (sign Sign.Comma ⨾ limited P.Expression)) at counts.old e) }
     ensures inside { IfOk result (λ r. (at ≤ r) × (r ≤ length tokens.now)) }
 {
     let mut next = at;
     while is_comma(class_at(tokens, next)) {
         let (argument, end) = read_expr(alloc, tokens, bytes, next + 1, counts)?;
-        add(arguments, argument)?;
+        push(arguments, argument)?;
         next = end;
     }
     Ok(next)
@@ -117,8 +120,9 @@ fn read_outputs(
     requires small { length bytes.now ≤ 1048576 }
     requires few { length tokens.now ≤ 1048576 }
     requires inside { at ≤ length tokens.now }
-    ensures run { IfOk result (λ r. (n : Occurrences) → IsOutputs (stream bytes.now tokens.now) at n r.1 (map word_view r.0.items)) }
-    ensures stop { IfErr result (λ e. (n : Occurrences) → Refuses (stream bytes.now tokens.now) outputs at n (refusal_view e)) }
+    ensures run { IfOk result (λ r. (n : Occurrences)
+        → IsOutputs (stream bytes.now tokens.now) at n r.1 (map word_view r.0.items)) }
+    ensures stop { IfErr result (λ e. RefusesAt bytes.now tokens.now outputs at e) }
     ensures inside { IfOk result (λ r. (at < r.1) × (r.1 ≤ length tokens.now)) }
 {
     let first = expect(alloc, tokens, bytes, at, Class::Sign(Sign::Open))?;
@@ -139,8 +143,9 @@ fn read_optional_names(
     requires small { length bytes.now ≤ 1048576 }
     requires few { length tokens.now ≤ 1048576 }
     requires inside { at ≤ length tokens.now }
-    ensures run { IfOk result (λ r. (n : Occurrences) → Reads optional_names_of (stream bytes.now tokens.now) (optional (part P.Names)) at n r.1 n (map word_view r.0.items)) }
-    ensures stop { IfErr result (λ e. (n : Occurrences) → Refuses (stream bytes.now tokens.now) (optional (part P.Names)) at n (refusal_view e)) }
+    ensures run { IfOk result (λ r. ReadsAt optional_names_of bytes.now tokens.now (optional (part P.Names)) at r.1
+        (map word_view r.0.items)) }
+    ensures stop { IfErr result (λ e. RefusesAt bytes.now tokens.now (optional (part P.Names)) at e) }
     ensures inside { IfOk result (λ r. (at ≤ r.1) × (r.1 ≤ length tokens.now)) }
 {
     if is_name(class_at(tokens, at)) {

@@ -6,12 +6,9 @@ mod begin;
 mod contract;
 mod declaration;
 mod import;
-mod list;
 mod locals;
 mod mode;
 mod node;
 mod program;
-#[cfg(test)]
-mod tests;
 
 pub use program::{one_tree, read_program};

@@ -1,26 +1,22 @@
 //! Reads the locals of a node.
 
-ghost use Rattle.std.specs.Prelude.{◌≡◌, ◌<◌, ◌≤◌, List, length, map, IfOk, IfErr, Some};
+ghost use Rattle.std.specs.Prelude.{◌≡◌, ◌<◌, ◌≤◌, ◌++◌, length, map, IfOk, IfErr, Some};
 ghost use Rattle.lus_tree.specs.Tree.{Constant};
 ghost use Rattle.lus_tree.specs.View.{param_view, definition_view};
-ghost use Rattle.lus_tree.specs.Reason.{refusal_view};
+ghost use Rattle.lus_tree.specs.Reason.{refusal_view, memory};
 ghost use Rattle.lus_grammar.specs.Stream.{stream};
 ghost use Rattle.lus_grammar.specs.Phrase as P;
-ghost use Rattle.lus_grammar.specs.Phrase.{Phrase, part, repeated, ◌⨾◌};
+ghost use Rattle.lus_grammar.specs.Phrase.{part, repeated, ◌⨾◌};
 ghost use Rattle.lus_grammar.specs.Grammar.{semicolon};
-ghost use Rattle.lus_grammar.specs.Syntax.{Counts as Occurrences};
-ghost use Rattle.lus_grammar.specs.Programs.{local_variables_of, local_constants_of};
-ghost use Rattle.lus_grammar.specs.Answers.{Reads, Refuses};
 ghost use Rattle.lus_grammar.specs.Source.{AreTokens};
-ghost use Rattle.lus_reader.specs.View.{counts_view};
 ghost use Rattle.contract_reader.specs.Begin.{locals_class};
-ghost use Rattle.contract_reader.specs.Parts.{GrowsBoth, IsGroup};
 ghost use Rattle.contract_reader.specs.Values.{locals_of};
+ghost use Rattle.lus_reader.specs.Told.{RefusesAt, ReadsFrom, RefusesFrom};
+ghost use Rattle.contract_reader.specs.Told.{GrowsLocals, GrowsVariables, GrowsGroup, RefusesBefore};
 
 use crate::begin::{LocalsStart, is_name, locals_start};
-use crate::list::add;
 use lus_lexer::{Class, Keyword, Sign, Token};
-use lus_reader::{Counts, add_local_group, class_at, constant, expect};
+use lus_reader::{Counts, class_at, expect, local_group, out_of_memory, push, read_constant};
 use lus_tree::{Definition, Param, Refusal};
 use std::alloc::Global;
 
@@ -43,8 +39,10 @@ pub fn read_locals(
     requires small { length bytes.now ≤ 1048576 }
     requires few { length tokens.now ≤ 1048576 }
     requires inside { at ≤ length tokens.now }
-    ensures run { IfOk result (λ r. Reads locals_of (stream bytes.now tokens.now) (repeated (part P.Locals)) at (counts_view counts.old) r.1 (counts_view counts.new) (map param_view r.0.variables.items, map definition_view r.0.constants.items)) }
-    ensures stop { IfErr result (λ e. Refuses (stream bytes.now tokens.now) (repeated (part P.Locals)) at (counts_view counts.old) (refusal_view e)) }
+    ensures run { IfOk result (λ r. ReadsFrom locals_of bytes.now tokens.now
+        (repeated (part P.Locals)) at counts.old r.1 counts.new
+        (map param_view r.0.variables.items, map definition_view r.0.constants.items)) }
+    ensures stop { IfErr result (λ e. RefusesFrom bytes.now tokens.now (repeated (part P.Locals)) at counts.old e) }
     ensures inside { IfOk result (λ r. (at ≤ r.1) × (r.1 ≤ length tokens.now)) }
 {
     let mut locals = Locals {
@@ -73,8 +71,9 @@ fn add_locals(
     requires few { length tokens.now ≤ 1048576 }
     requires word { (stream bytes.now tokens.now at).class ≡ Some (locals_class start) }
     requires inside { at < length tokens.now }
-    ensures run { IfOk result (λ r. GrowsBoth local_variables_of local_constants_of (stream bytes.now tokens.now) (part P.Locals) at (counts_view counts.old) r (counts_view counts.new) (map param_view locals.old.variables.items) (map param_view locals.new.variables.items) (map definition_view locals.old.constants.items) (map definition_view locals.new.constants.items)) }
-    ensures stop { IfErr result (λ e. Refuses (stream bytes.now tokens.now) (part P.Locals) at (counts_view counts.old) (refusal_view e)) }
+    ensures run { IfOk result (λ r. GrowsLocals bytes.now tokens.now at counts.old r counts.new
+        locals.old locals.new) }
+    ensures stop { IfErr result (λ e. RefusesFrom bytes.now tokens.now (part P.Locals) at counts.old e) }
     ensures inside { IfOk result (λ r. (at < r) × (r ≤ length tokens.now)) }
 {
     match start {
@@ -83,8 +82,8 @@ fn add_locals(
             Ok(next)
         }
         LocalsStart::Constant => {
-            let (definition, next) = constant(alloc, tokens, bytes, at, counts)?;
-            add(&mut locals.constants, definition)?;
+            let (definition, next) = read_constant(alloc, tokens, bytes, at, counts)?;
+            push(&mut locals.constants, definition)?;
             Ok(next)
         }
     }
@@ -103,8 +102,8 @@ fn add_variables(
     requires few { length tokens.now ≤ 1048576 }
     requires word { (stream bytes.now tokens.now at).class ≡ Some (Class.Keyword Keyword.Var) }
     requires inside { at < length tokens.now }
-    ensures run { IfOk result (λ r. (n : Occurrences) → (cs : List Constant) → GrowsBoth local_variables_of local_constants_of (stream bytes.now tokens.now) (part P.Locals) at n r n (map param_view variables.old.items) (map param_view variables.new.items) cs cs) }
-    ensures stop { IfErr result (λ e. (n : Occurrences) → Refuses (stream bytes.now tokens.now) (part P.Locals) at n (refusal_view e)) }
+    ensures run { IfOk result (λ r. GrowsVariables bytes.now tokens.now at r variables.old.items variables.new.items) }
+    ensures stop { IfErr result (λ e. RefusesAt bytes.now tokens.now (part P.Locals) at e) }
     ensures inside { IfOk result (λ r. (at < r) × (r ≤ length tokens.now)) }
 {
     let mut next = add_group(alloc, tokens, bytes, at + 1, variables)?;
@@ -126,12 +125,27 @@ fn add_group(
     requires small { length bytes.now ≤ 1048576 }
     requires few { length tokens.now ≤ 1048576 }
     requires inside { at ≤ length tokens.now }
-    ensures run { IfOk result (λ r. (n : Occurrences) → IsGroup (stream bytes.now tokens.now) at n r (map param_view variables.old.items) (map param_view variables.new.items)) }
-    ensures stop { IfErr result (λ e. (n : Occurrences) → Refuses (stream bytes.now tokens.now) (part P.LocalGroup ⨾ semicolon) at n (refusal_view e)) }
-    ensures stop_before { IfErr result (λ e. (n : Occurrences) (h : Phrase) → Refuses (stream bytes.now tokens.now) (part P.LocalGroup ⨾ semicolon ⨾ h) at n (refusal_view e)) }
+    ensures run { IfOk result (λ r. GrowsGroup bytes.now tokens.now at r variables.old.items variables.new.items) }
+    ensures stop { IfErr result (λ e. RefusesAt bytes.now tokens.now (part P.LocalGroup ⨾ semicolon) at e) }
+    ensures stop_before { IfErr result
+        (λ e. RefusesBefore (λ h. part P.LocalGroup ⨾ semicolon ⨾ h) bytes.now tokens.now at e) }
     ensures inside { IfOk result (λ r. (at < r) × (r ≤ length tokens.now)) }
 {
-    let end = add_local_group(alloc, tokens, bytes, at, variables)?;
+    let (group, end) = local_group(alloc, tokens, bytes, at)?;
     let next = expect(alloc, tokens, bytes, end, Class::Sign(Sign::Semicolon))?;
+    append(variables, group)?;
     Ok(next)
+}
+
+/// Puts values behind a list's last one. The refusal is `Memory`, and leaves the list as it was.
+fn append<T: Drop>(list: &mut Vec<T>, values: Vec<T>) -> Result<(), Refusal>
+    ensures items { IfOk result (λ u. list.new.items ≡ list.old.items ++ values.items) }
+    ensures memory { IfErr result (λ e. (refusal_view e).reason ≡ memory) }
+    ensures kept { IfErr result (λ e. list.new.items ≡ list.old.items) }
+{
+    let mut values = values;
+    match list.append(&mut values) {
+        Ok(()) => Ok(()),
+        Err(_) => Err(out_of_memory()),
+    }
 }

@@ -2,22 +2,18 @@
 
 ghost use Rattle.std.specs.Prelude.{◌≡◌, ◌<◌, ◌≤◌, length, map, IfOk, IfErr, Some};
 ghost use Rattle.lus_tree.specs.View.{named_view};
-ghost use Rattle.lus_tree.specs.Reason.{refusal_view};
 ghost use Rattle.lus_grammar.specs.Stream.{stream};
 ghost use Rattle.lus_grammar.specs.Phrase as P;
 ghost use Rattle.lus_grammar.specs.Phrase.{part, repeated};
-ghost use Rattle.lus_grammar.specs.Programs.{requires_of, ensures_of};
-ghost use Rattle.lus_grammar.specs.Answers.{Reads, Refuses};
 ghost use Rattle.lus_grammar.specs.Source.{AreTokens};
-ghost use Rattle.lus_reader.specs.View.{counts_view};
 ghost use Rattle.contract_reader.specs.Begin.{mode_item_class};
-ghost use Rattle.contract_reader.specs.Parts.{GrowsBoth};
 ghost use Rattle.contract_reader.specs.Values.{mode_items_of};
+ghost use Rattle.lus_reader.specs.Told.{ReadsFrom, RefusesFrom};
+ghost use Rattle.contract_reader.specs.Told.{GrowsModeItems};
 
 use crate::begin::{ModeItemStart, mode_item_start};
-use crate::list::add;
 use lus_lexer::Token;
-use lus_reader::{Counts, class_at, labelled};
+use lus_reader::{Counts, class_at, push, read_labelled};
 use lus_tree::{Named, Refusal};
 use std::alloc::Global;
 
@@ -40,8 +36,10 @@ pub fn read_mode_items(
     requires small { length bytes.now ≤ 1048576 }
     requires few { length tokens.now ≤ 1048576 }
     requires inside { at ≤ length tokens.now }
-    ensures run { IfOk result (λ r. Reads mode_items_of (stream bytes.now tokens.now) (repeated (part P.ModeItem)) at (counts_view counts.old) r.1 (counts_view counts.new) (map named_view r.0.required.items, map named_view r.0.ensured.items)) }
-    ensures stop { IfErr result (λ e. Refuses (stream bytes.now tokens.now) (repeated (part P.ModeItem)) at (counts_view counts.old) (refusal_view e)) }
+    ensures run { IfOk result (λ r. ReadsFrom mode_items_of bytes.now tokens.now
+        (repeated (part P.ModeItem)) at counts.old r.1 counts.new
+        (map named_view r.0.required.items, map named_view r.0.ensured.items)) }
+    ensures stop { IfErr result (λ e. RefusesFrom bytes.now tokens.now (repeated (part P.ModeItem)) at counts.old e) }
     ensures inside { IfOk result (λ r. (at ≤ r.1) × (r.1 ≤ length tokens.now)) }
 {
     let mut items = ModeItems {
@@ -70,18 +68,19 @@ fn add_mode_item(
     requires few { length tokens.now ≤ 1048576 }
     requires word { (stream bytes.now tokens.now at).class ≡ Some (mode_item_class start) }
     requires inside { at < length tokens.now }
-    ensures run { IfOk result (λ r. GrowsBoth requires_of ensures_of (stream bytes.now tokens.now) (part P.ModeItem) at (counts_view counts.old) r (counts_view counts.new) (map named_view items.old.required.items) (map named_view items.new.required.items) (map named_view items.old.ensured.items) (map named_view items.new.ensured.items)) }
-    ensures stop { IfErr result (λ e. Refuses (stream bytes.now tokens.now) (part P.ModeItem) at (counts_view counts.old) (refusal_view e)) }
+    ensures run { IfOk result (λ r. GrowsModeItems bytes.now tokens.now at counts.old r counts.new items.old
+        items.new) }
+    ensures stop { IfErr result (λ e. RefusesFrom bytes.now tokens.now (part P.ModeItem) at counts.old e) }
     ensures inside { IfOk result (λ r. (at < r) × (r ≤ length tokens.now)) }
 {
-    let (named, next) = labelled(alloc, tokens, bytes, at, counts)?;
+    let (named, next) = read_labelled(alloc, tokens, bytes, at, counts)?;
     match start {
         ModeItemStart::Require => {
-            add(&mut items.required, named)?;
+            push(&mut items.required, named)?;
             Ok(next)
         }
         ModeItemStart::Ensure => {
-            add(&mut items.ensured, named)?;
+            push(&mut items.ensured, named)?;
             Ok(next)
         }
     }

@@ -60,7 +60,9 @@ impl<'r, R: Files + Input> Shelf for FileShelf<'r, R> {
     }
 }
 
-/// All that is left to read. It stops where it has read more than the limit.
+/// All that is left to read, of which there are at most `limit` bytes and at most 2^40. More than
+/// `limit` is `TooLong`, a read that fails or more than 2^40 is `Failed`; it stops reading where it
+/// has seen that there is more. Only want of memory is `Memory`.
 pub fn read_within<T: Read + Drop>(
     alloc: Global,
     from: T,

@@ -11,13 +11,10 @@ mod shelf;
 mod sink;
 mod std_sink;
 
-pub use file_shelf::FileShelf;
+pub use file_shelf::{FileShelf, read_within};
 pub use memory_shelf::MemoryShelf;
 pub use memory_sink::MemorySink;
 pub use never::{NeverShelf, NeverSink};
 pub use shelf::{FetchFault, KeepFault, Shelf};
 pub use sink::{PutFault, Sink};
-pub use std_sink::StdSink;
-
-#[cfg(test)]
-mod tests;
+pub use std_sink::{StdSink, write_whole};

@@ -1,7 +1,7 @@
 // A shelf in memory whose calls fail by their number.
 ghost use Rattle.std.specs.Prelude.{◌≡◌, ◌≢◌, ◌-◌, ◌^◌, ◌<◌, ◌≤◌, ◌↔◌, ◌⊎◌, ℕ, List, Some, None, OnOk, IfOk, IsErrOf, vec_len};
 ghost use Rattle.std.specs.Option.{option_map};
-ghost use Rattle.kind_io.specs.Counts.{Rose, one_more};
+ghost use Rattle.kind_io.specs.Counts.{Rose, StandsUnless, one_more};
 ghost use Rattle.kind_io.specs.Held.{held_of};
 ghost use Rattle.kind_io.specs.MemoryShelf.{told_of, faults_of, calls_of, failing_of, IsDue};
 ghost use Rattle.kind_io.specs.Told.{MayHold, MayExceed, NowHolds, StillTells};
@@ -56,6 +56,7 @@ impl Shelf for MemoryShelf {
         ensures cause { IsErrOf result FetchFault.Failed → Rose (faults_of self.old) (faults_of self.new) }
 
         ensures fails { IsErrOf result FetchFault.Failed ↔ (IsDue self.old ⊎ (told_of self.old name.now ≡ Some None)) }
+        ensures stands { StandsUnless (IsErrOf result FetchFault.Failed) (faults_of self.old) (faults_of self.new) }
         ensures calls { calls_of self.new ≡ one_more (calls_of self.old) }
         ensures failing { failing_of self.new ≡ failing_of self.old }
     {
@@ -79,6 +80,7 @@ impl Shelf for MemoryShelf {
 
         ensures fails { IsErrOf result KeepFault.Failed ↔ IsDue self.old }
         ensures unchanged { IsErrOf result KeepFault.Failed → told_of self.new name.now ≡ told_of self.old name.now }
+        ensures stands { StandsUnless (IsErrOf result KeepFault.Failed) (faults_of self.old) (faults_of self.new) }
         ensures calls { calls_of self.new ≡ one_more (calls_of self.old) }
         ensures failing { failing_of self.new ≡ failing_of self.old }
     {

@@ -1,7 +1,7 @@
 // A sink in memory whose puts fail by their number.
 ghost use Rattle.std.specs.Prelude.{◌≡◌, ◌+◌, ◌≤◌, ◌<◌, ◌↔◌, [], Some, OnOk, OnErr, IsErrOf, length};
 ghost use Rattle.std.specs.Io.KnownBytes.{Appends};
-ghost use Rattle.kind_io.specs.Counts.{Rose, one_more};
+ghost use Rattle.kind_io.specs.Counts.{Rose, StandsUnless, one_more};
 ghost use Rattle.kind_io.specs.MemorySink.{bytes_of, room_of, faults_of, calls_of, failing_of, IsDue};
 ghost use Rattle.kind_io.specs.Written.{AppendsFront};
 
@@ -72,6 +72,7 @@ impl Sink for MemorySink {
         ensures covered { length bytes.now ≤ room_of self.old → IsErrOf result PutFault.Memory → ⊥ }
         ensures room { room_of self.old ≤ room_of self.new + length bytes.now }
         ensures room_stays { OnErr result (room_of self.old ≤ room_of self.new) }
+        ensures stands { StandsUnless (IsErrOf result PutFault.Failed) (faults_of self.old) (faults_of self.new) }
         ensures calls { calls_of self.new ≡ one_more (calls_of self.old) }
         ensures failing { failing_of self.new ≡ failing_of self.old }
     {

@@ -38,7 +38,8 @@ impl<'r, R: Print> Sink for StdSink<'r, R> {
     }
 }
 
-/// Writes all of the bytes, in as many writes as it takes. A write that takes nothing is an error.
+/// Writes all of the bytes, in as many writes as it takes; one that is interrupted is tried again. A
+/// write that takes nothing is the error `WriteZero`. At an error some front of them was written.
 pub fn write_whole<W: Write>(out: &mut W, bytes: &[u8]) -> io::Result<()>
     ensures all { OnOk result (Appends (W.contents out.old) (W.contents out.new) bytes.now) }
     ensures front { AppendsFront (W.contents out.old) (W.contents out.new) bytes.now }

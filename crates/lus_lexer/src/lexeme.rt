@@ -7,11 +7,11 @@ ghost use Rattle.lus_lexer.specs.Search.{sign_in, word_in, row_of, word_of};
 
 use crate::scan::{digits_end, is_letter, is_word, peek, text_end, word_end};
 use crate::spelling::Lexeme;
-use crate::table::{Row, Word, signs_from, words_from};
+use crate::table::{ReservedWord, SignRow, signs_from, words_from};
 use crate::token::Class;
 
 /// The first of the signs that stands at `at`, and where it ends.
-fn sign_in(mut signs: &[Row], bytes: &[u8], at: usize) -> Option<(Lexeme, usize)>
+fn sign_in(mut signs: &[SignRow], bytes: &[u8], at: usize) -> Option<(Lexeme, usize)>
     requires { at ≤ length bytes.now }
     ensures { result ≡ sign_in (map row_of signs.entry.now) bytes.now at }
 {
@@ -29,7 +29,7 @@ fn sign_in(mut signs: &[Row], bytes: &[u8], at: usize) -> Option<(Lexeme, usize)
 }
 
 /// The class of a word.
-pub fn word_in(mut words: &[Word], word: &[u8]) -> Class
+pub fn word_in(mut words: &[ReservedWord], word: &[u8]) -> Class
     ensures { result ≡ word_in (map word_of words.entry.now) word.now }
 {
     while let [(text, class), later @ ..] = words {

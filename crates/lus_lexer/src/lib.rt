@@ -10,8 +10,6 @@ mod name;
 mod scan;
 mod spelling;
 mod table;
-#[cfg(test)]
-mod tests;
 mod token;
 
 pub use cursor::end;

@@ -7,12 +7,12 @@ use crate::spelling::{Comment, Lexeme};
 use crate::token::{Annotation, Class, Closing, Keyword, LeftOut, Opening, Sign};
 
 /// A sign, what it is, and whether a letter, a digit or `_` may not follow it.
-pub type Row = (&'static [u8], Lexeme, bool);
+pub type SignRow = (&'static [u8], Lexeme, bool);
 
 /// A word that is no name, and its class.
-pub type Word = (&'static [u8], Class);
+pub type ReservedWord = (&'static [u8], Class);
 
-const ROUND: [Row; 3] = [
+const ROUND: [SignRow; 3] = [
     (
         b"(*@contract",
         Lexeme::Token(Class::ContractOpen(Opening::Round)),
@@ -22,36 +22,36 @@ const ROUND: [Row; 3] = [
     (b"(", Lexeme::Token(Class::Sign(Sign::Open)), false),
 ];
 
-const CLOSE: [Row; 1] = [(b")", Lexeme::Token(Class::Sign(Sign::Close)), false)];
+const CLOSE: [SignRow; 1] = [(b")", Lexeme::Token(Class::Sign(Sign::Close)), false)];
 
-const COMMA: [Row; 1] = [(b",", Lexeme::Token(Class::Sign(Sign::Comma)), false)];
+const COMMA: [SignRow; 1] = [(b",", Lexeme::Token(Class::Sign(Sign::Comma)), false)];
 
-const SEMICOLON: [Row; 1] = [(b";", Lexeme::Token(Class::Sign(Sign::Semicolon)), false)];
+const SEMICOLON: [SignRow; 1] = [(b";", Lexeme::Token(Class::Sign(Sign::Semicolon)), false)];
 
-const COLON: [Row; 2] = [
+const COLON: [SignRow; 2] = [
     (b"::", Lexeme::Token(Class::Sign(Sign::DoubleColon)), false),
     (b":", Lexeme::Token(Class::Sign(Sign::Colon)), false),
 ];
 
-const EQUALS: [Row; 2] = [
+const EQUALS: [SignRow; 2] = [
     (b"=>", Lexeme::Token(Class::Sign(Sign::Implies)), false),
     (b"=", Lexeme::Token(Class::Sign(Sign::Equals)), false),
 ];
 
-const LESS: [Row; 3] = [
+const LESS: [SignRow; 3] = [
     (b"<=", Lexeme::Token(Class::Sign(Sign::AtMost)), false),
     (b"<>", Lexeme::Token(Class::Sign(Sign::Differs)), false),
     (b"<", Lexeme::Token(Class::Sign(Sign::Less)), false),
 ];
 
-const MORE: [Row; 2] = [
+const MORE: [SignRow; 2] = [
     (b">=", Lexeme::Token(Class::Sign(Sign::AtLeast)), false),
     (b">", Lexeme::Token(Class::Sign(Sign::More)), false),
 ];
 
-const PLUS: [Row; 1] = [(b"+", Lexeme::Token(Class::Sign(Sign::Plus)), false)];
+const PLUS: [SignRow; 1] = [(b"+", Lexeme::Token(Class::Sign(Sign::Plus)), false)];
 
-const MINUS: [Row; 7] = [
+const MINUS: [SignRow; 7] = [
     (
         b"--%PROPERTY",
         Lexeme::Token(Class::Annotation(Annotation::Property)),
@@ -77,7 +77,7 @@ const MINUS: [Row; 7] = [
     (b"-", Lexeme::Token(Class::Sign(Sign::Minus)), false),
 ];
 
-const STAR: [Row; 3] = [
+const STAR: [SignRow; 3] = [
     (
         b"*)",
         Lexeme::Token(Class::ContractClose(Closing::Round)),
@@ -91,7 +91,7 @@ const STAR: [Row; 3] = [
     (b"*", Lexeme::Token(Class::Sign(Sign::Times)), false),
 ];
 
-const SLASH: [Row; 3] = [
+const SLASH: [SignRow; 3] = [
     (
         b"/*@contract",
         Lexeme::Token(Class::ContractOpen(Opening::Slash)),
@@ -101,39 +101,39 @@ const SLASH: [Row; 3] = [
     (b"/", Lexeme::Token(Class::LeftOut(LeftOut::Slash)), false),
 ];
 
-const CARET: [Row; 1] = [(b"^", Lexeme::Token(Class::LeftOut(LeftOut::Caret)), false)];
+const CARET: [SignRow; 1] = [(b"^", Lexeme::Token(Class::LeftOut(LeftOut::Caret)), false)];
 
-const OPEN_BRACKET: [Row; 1] = [(
+const OPEN_BRACKET: [SignRow; 1] = [(
     b"[",
     Lexeme::Token(Class::LeftOut(LeftOut::OpenBracket)),
     false,
 )];
 
-const CLOSE_BRACKET: [Row; 1] = [(
+const CLOSE_BRACKET: [SignRow; 1] = [(
     b"]",
     Lexeme::Token(Class::LeftOut(LeftOut::CloseBracket)),
     false,
 )];
 
-const OPEN_BRACE: [Row; 1] = [(
+const OPEN_BRACE: [SignRow; 1] = [(
     b"{",
     Lexeme::Token(Class::LeftOut(LeftOut::OpenBrace)),
     false,
 )];
 
-const CLOSE_BRACE: [Row; 1] = [(
+const CLOSE_BRACE: [SignRow; 1] = [(
     b"}",
     Lexeme::Token(Class::LeftOut(LeftOut::CloseBrace)),
     false,
 )];
 
-const DOT: [Row; 1] = [(b".", Lexeme::Token(Class::LeftOut(LeftOut::Dot)), false)];
+const DOT: [SignRow; 1] = [(b".", Lexeme::Token(Class::LeftOut(LeftOut::Dot)), false)];
 
-const HASH: [Row; 1] = [(b"#", Lexeme::Token(Class::LeftOut(LeftOut::Hash)), false)];
+const HASH: [SignRow; 1] = [(b"#", Lexeme::Token(Class::LeftOut(LeftOut::Hash)), false)];
 
-const BAR: [Row; 1] = [(b"|", Lexeme::Token(Class::LeftOut(LeftOut::Bar)), false)];
+const BAR: [SignRow; 1] = [(b"|", Lexeme::Token(Class::LeftOut(LeftOut::Bar)), false)];
 
-const WORDS_A: [Word; 6] = [
+const WORDS_A: [ReservedWord; 6] = [
     (b"assume", Class::Keyword(Keyword::Assume)),
     (b"assert", Class::Keyword(Keyword::Assert)),
     (b"activate", Class::Keyword(Keyword::Activate)),
@@ -142,9 +142,9 @@ const WORDS_A: [Word; 6] = [
     (b"array", Class::LeftOut(LeftOut::Array)),
 ];
 
-const WORDS_B: [Word; 1] = [(b"bool", Class::Keyword(Keyword::Bool))];
+const WORDS_B: [ReservedWord; 1] = [(b"bool", Class::Keyword(Keyword::Bool))];
 
-const WORDS_C: [Word; 5] = [
+const WORDS_C: [ReservedWord; 5] = [
     (b"contract", Class::Keyword(Keyword::Contract)),
     (b"const", Class::Keyword(Keyword::Const)),
     (b"check", Class::Keyword(Keyword::Check)),
@@ -152,12 +152,12 @@ const WORDS_C: [Word; 5] = [
     (b"current", Class::LeftOut(LeftOut::Current)),
 ];
 
-const WORDS_D: [Word; 2] = [
+const WORDS_D: [ReservedWord; 2] = [
     (b"default", Class::Keyword(Keyword::Default)),
     (b"div", Class::Keyword(Keyword::Div)),
 ];
 
-const WORDS_E: [Word; 5] = [
+const WORDS_E: [ReservedWord; 5] = [
     (b"ensure", Class::Keyword(Keyword::Ensure)),
     (b"else", Class::Keyword(Keyword::Else)),
     (b"every", Class::Keyword(Keyword::Every)),
@@ -165,16 +165,16 @@ const WORDS_E: [Word; 5] = [
     (b"exists", Class::LeftOut(LeftOut::Exists)),
 ];
 
-const WORDS_F: [Word; 4] = [
+const WORDS_F: [ReservedWord; 4] = [
     (b"function", Class::Keyword(Keyword::Function)),
     (b"false", Class::Keyword(Keyword::False)),
     (b"fby", Class::LeftOut(LeftOut::Fby)),
     (b"forall", Class::LeftOut(LeftOut::Forall)),
 ];
 
-const WORDS_G: [Word; 1] = [(b"guarantee", Class::Keyword(Keyword::Guarantee))];
+const WORDS_G: [ReservedWord; 1] = [(b"guarantee", Class::Keyword(Keyword::Guarantee))];
 
-const WORDS_I: [Word; 9] = [
+const WORDS_I: [ReservedWord; 9] = [
     (b"import", Class::Keyword(Keyword::Import)),
     (b"if", Class::Keyword(Keyword::If)),
     (b"initial", Class::Keyword(Keyword::Initial)),
@@ -186,60 +186,60 @@ const WORDS_I: [Word; 9] = [
     (b"int64", Class::LeftOut(LeftOut::Int64)),
 ];
 
-const WORDS_L: [Word; 1] = [(b"let", Class::Keyword(Keyword::Let))];
+const WORDS_L: [ReservedWord; 1] = [(b"let", Class::Keyword(Keyword::Let))];
 
-const WORDS_M: [Word; 3] = [
+const WORDS_M: [ReservedWord; 3] = [
     (b"mode", Class::Keyword(Keyword::Mode)),
     (b"merge", Class::Keyword(Keyword::Merge)),
     (b"mod", Class::Keyword(Keyword::Mod)),
 ];
 
-const WORDS_N: [Word; 2] = [
+const WORDS_N: [ReservedWord; 2] = [
     (b"node", Class::Keyword(Keyword::Node)),
     (b"not", Class::Keyword(Keyword::Not)),
 ];
 
-const WORDS_O: [Word; 1] = [(b"or", Class::Keyword(Keyword::Or))];
+const WORDS_O: [ReservedWord; 1] = [(b"or", Class::Keyword(Keyword::Or))];
 
-const WORDS_P: [Word; 1] = [(b"pre", Class::Keyword(Keyword::Pre))];
+const WORDS_P: [ReservedWord; 1] = [(b"pre", Class::Keyword(Keyword::Pre))];
 
-const WORDS_R: [Word; 4] = [
+const WORDS_R: [ReservedWord; 4] = [
     (b"returns", Class::Keyword(Keyword::Returns)),
     (b"require", Class::Keyword(Keyword::Require)),
     (b"real", Class::LeftOut(LeftOut::Real)),
     (b"restart", Class::LeftOut(LeftOut::Restart)),
 ];
 
-const WORDS_S: [Word; 2] = [
+const WORDS_S: [ReservedWord; 2] = [
     (b"struct", Class::LeftOut(LeftOut::Struct)),
     (b"subrange", Class::LeftOut(LeftOut::Subrange)),
 ];
 
-const WORDS_T: [Word; 4] = [
+const WORDS_T: [ReservedWord; 4] = [
     (b"tel", Class::Keyword(Keyword::Tel)),
     (b"then", Class::Keyword(Keyword::Then)),
     (b"true", Class::Keyword(Keyword::True)),
     (b"type", Class::LeftOut(LeftOut::TypeWord)),
 ];
 
-const WORDS_U: [Word; 4] = [
+const WORDS_U: [ReservedWord; 4] = [
     (b"uint8", Class::LeftOut(LeftOut::Uint8)),
     (b"uint16", Class::LeftOut(LeftOut::Uint16)),
     (b"uint32", Class::LeftOut(LeftOut::Uint32)),
     (b"uint64", Class::LeftOut(LeftOut::Uint64)),
 ];
 
-const WORDS_V: [Word; 1] = [(b"var", Class::Keyword(Keyword::Var))];
+const WORDS_V: [ReservedWord; 1] = [(b"var", Class::Keyword(Keyword::Var))];
 
-const WORDS_W: [Word; 2] = [
+const WORDS_W: [ReservedWord; 2] = [
     (b"when", Class::Keyword(Keyword::When)),
     (b"weakly", Class::LeftOut(LeftOut::Weakly)),
 ];
 
-const WORDS_X: [Word; 1] = [(b"xor", Class::Keyword(Keyword::Xor))];
+const WORDS_X: [ReservedWord; 1] = [(b"xor", Class::Keyword(Keyword::Xor))];
 
 /// The signs that begin with a byte, the longest first.
-pub fn signs_from(first: u8) -> &'static [Row]
+pub fn signs_from(first: u8) -> &'static [SignRow]
     ensures { map row_of result.now ≡ looked_up first sign_groups }
 {
     match first {
@@ -268,7 +268,7 @@ pub fn signs_from(first: u8) -> &'static [Row]
 }
 
 /// The words that begin with a letter and are no names.
-pub fn words_from(first: u8) -> &'static [Word]
+pub fn words_from(first: u8) -> &'static [ReservedWord]
     ensures { map word_of result.now ≡ looked_up first word_groups }
 {
     match first {

@@ -3,5 +3,6 @@ pub mod Look
 pub mod Operators
 pub mod Outcome
 pub mod Marks
+pub mod Told
 pub mod Values
 pub mod Leads

@@ -1,6 +1,10 @@
 -- What stands in a text, where a whole line of the grammar is needed to say it.
-use Rattle.std.specs.Prelude.{◌≡◌, ℕ, Bool, List, ◌∷◌, ◌++◌, Option}
+use Rattle.std.specs.Prelude.{◌≡◌, ℕ, Bool, List, [], ◌∷◌, ◌++◌, Option}
 use Rattle.lus_tree.specs.Tree.{Spelled, Expression, Variable, Statement}
+use Rattle.lus_lexer.specs.declared.token.Class.{Class}
+use Rattle.lus_lexer.specs.declared.token.Class.TheVariants as C
+use Rattle.lus_lexer.specs.declared.token.Keyword.TheVariants as K
+use Rattle.lus_lexer.specs.declared.token.Annotation.TheVariants as A
 use Rattle.lus_grammar.specs.Stream.{Mark, Stream}
 use Rattle.lus_grammar.specs.Phrase.{◌⨾◌, limited}
 use Rattle.lus_grammar.specs.Phrase as P
@@ -34,6 +38,10 @@ property_of x = item_of (node P.Item (that (that (this x))))
 
 abbrev pub main_of : Syntax → Syntax → List Statement
 main_of x = item_of (node P.Item (that (that (that x))))
+
+-- what a property begins with
+abbrev pub property_classes : List Class
+property_classes = C.Keyword K.Check ∷ C.Annotation A.Property ∷ []
 
 -- what an item is before others
 abbrev pub before : Statement → Syntax → List Statement

@@ -1,18 +1,16 @@
 //! What ends with an expression and a semicolon.
 
 ghost use Rattle.std.specs.Prelude.{◌≡◌, ◌<◌, ◌≤◌, ◌+◌, [], ◌∷◌, length, IfOk, IfErr};
-ghost use Rattle.lus_tree.specs.Reason.{refusal_view};
 ghost use Rattle.lus_tree.specs.View.{expr_view, named_view, definition_view};
 ghost use Rattle.lus_grammar.specs.Stream.{stream};
 ghost use Rattle.lus_grammar.specs.Phrase.{◌⨾◌, optional, part, limited};
 ghost use Rattle.lus_grammar.specs.Phrase as P;
 ghost use Rattle.lus_grammar.specs.Grammar.{labelled, semicolon};
-ghost use Rattle.lus_grammar.specs.Syntax.{Counts as Occurrences};
-ghost use Rattle.lus_grammar.specs.Answers.{Reads, Refuses};
 ghost use Rattle.lus_grammar.specs.Source.{AreTokens};
 ghost use Rattle.lus_grammar.specs.Programs.{labelled_of, constants_of, optional_sort_of};
 ghost use Rattle.lus_reader.specs.View.{counts_view};
 ghost use Rattle.lus_reader.specs.Values.{ReadsEnded};
+ghost use Rattle.lus_reader.specs.Told.{ReadsAt, RefusesAt, ReadsFrom, RefusesFrom};
 
 use crate::counts::Counts;
 use crate::look::{expect, is_at, place_at};
@@ -24,7 +22,7 @@ use lus_tree::{Definition, Expr, Named, Refusal, Sort};
 use std::alloc::Global;
 
 /// An expression and its semicolon, and the place behind them.
-pub fn ended(
+pub fn read_ended(
     alloc: Global,
     tokens: &[Token],
     bytes: &[u8],
@@ -34,8 +32,10 @@ pub fn ended(
     requires cut { AreTokens bytes.now tokens.now }
     requires small { length bytes.now ≤ 1048576 }
     requires inside { at ≤ length tokens.now }
-    ensures run { IfOk result (λ r. ReadsEnded (stream bytes.now tokens.now) at (counts_view counts.old) r.1 (counts_view counts.new) (expr_view r.0)) }
-    ensures stop { IfErr result (λ e. Refuses (stream bytes.now tokens.now) (limited P.Expression ⨾ semicolon) at (counts_view counts.old) (refusal_view e)) }
+    ensures run { IfOk result (λ r. ReadsEnded (stream bytes.now tokens.now) at (counts_view counts.old) r.1
+        (counts_view counts.new) (expr_view r.0)) }
+    ensures stop { IfErr result (λ e. RefusesFrom bytes.now tokens.now
+        (limited P.Expression ⨾ semicolon) at counts.old e) }
     ensures kept { IfErr result (λ e. counts.new ≡ counts.old) }
     ensures inside { IfOk result (λ r. (at < r.1) × (r.1 ≤ length tokens.now)) }
 {
@@ -48,7 +48,7 @@ pub fn ended(
 
 /// What follows the first token of an item, an expression that may have a label, and the place
 /// behind its semicolon.
-pub fn labelled(
+pub fn read_labelled(
     alloc: Global,
     tokens: &[Token],
     bytes: &[u8],
@@ -58,13 +58,15 @@ pub fn labelled(
     requires cut { AreTokens bytes.now tokens.now }
     requires small { length bytes.now ≤ 1048576 }
     requires inside { first < length tokens.now }
-    ensures run { IfOk result (λ r. Reads (labelled_of (stream bytes.now tokens.now first)) (stream bytes.now tokens.now) labelled (first + 1) (counts_view counts.old) r.1 (counts_view counts.new) (named_view r.0)) }
-    ensures stop { IfErr result (λ e. Refuses (stream bytes.now tokens.now) labelled (first + 1) (counts_view counts.old) (refusal_view e)) }
+    ensures run { IfOk result (λ r. ReadsFrom
+        (labelled_of (stream bytes.now tokens.now first)) bytes.now tokens.now labelled
+        (first + 1) counts.old r.1 counts.new (named_view r.0)) }
+    ensures stop { IfErr result (λ e. RefusesFrom bytes.now tokens.now labelled (first + 1) counts.old e) }
     ensures kept { IfErr result (λ e. counts.new ≡ counts.old) }
     ensures inside { IfOk result (λ r. (first < r.1) × (r.1 ≤ length tokens.now)) }
 {
     let (label, next) = label(alloc, tokens, bytes, first + 1)?;
-    let (value, next) = ended(alloc, tokens, bytes, next, counts)?;
+    let (value, next) = read_ended(alloc, tokens, bytes, next, counts)?;
     let named = Named {
         label,
         at: place_at(tokens, bytes, first),
@@ -83,8 +85,10 @@ fn optional_sort(
     requires cut { AreTokens bytes.now tokens.now }
     requires small { length bytes.now ≤ 1048576 }
     requires inside { at ≤ length tokens.now }
-    ensures run { IfOk result (λ r. (n : Occurrences) → Reads optional_sort_of (stream bytes.now tokens.now) (optional (P.sign Sign.Colon ⨾ part P.Sort)) at n r.1 n r.0) }
-    ensures stop { IfErr result (λ e. (n : Occurrences) → Refuses (stream bytes.now tokens.now) (optional (P.sign Sign.Colon ⨾ part P.Sort)) at n (refusal_view e)) }
+    ensures run { IfOk result (λ r. ReadsAt optional_sort_of bytes.now tokens.now
+        (optional (P.sign Sign.Colon ⨾ part P.Sort)) at r.1 r.0) }
+    ensures stop { IfErr result (λ e. RefusesAt bytes.now tokens.now
+        (optional (P.sign Sign.Colon ⨾ part P.Sort)) at e) }
     ensures inside { IfOk result (λ r. (at ≤ r.1) × (r.1 ≤ length tokens.now)) }
 {
     if !is_at(tokens, at, Class::Sign(Sign::Colon)) {
@@ -95,7 +99,7 @@ fn optional_sort(
 }
 
 /// A constant's definition, and the place behind its semicolon.
-pub fn constant(
+pub fn read_constant(
     alloc: Global,
     tokens: &[Token],
     bytes: &[u8],
@@ -104,8 +108,9 @@ pub fn constant(
 ) -> Result<(Definition, u32), Refusal>
     requires cut { AreTokens bytes.now tokens.now }
     requires small { length bytes.now ≤ 1048576 }
-    ensures run { IfOk result (λ r. Reads constants_of (stream bytes.now tokens.now) (part P.Constant) at (counts_view counts.old) r.1 (counts_view counts.new) (definition_view r.0 ∷ [])) }
-    ensures stop { IfErr result (λ e. Refuses (stream bytes.now tokens.now) (part P.Constant) at (counts_view counts.old) (refusal_view e)) }
+    ensures run { IfOk result (λ r. ReadsFrom constants_of bytes.now tokens.now
+        (part P.Constant) at counts.old r.1 counts.new (definition_view r.0 ∷ [])) }
+    ensures stop { IfErr result (λ e. RefusesFrom bytes.now tokens.now (part P.Constant) at counts.old e) }
     ensures kept { IfErr result (λ e. counts.new ≡ counts.old) }
     ensures inside { IfOk result (λ r. (at < r.1) × (r.1 ≤ length tokens.now)) }
 {
@@ -113,6 +118,6 @@ pub fn constant(
     let (name, next) = identifier(alloc, tokens, bytes, next)?;
     let (sort, next) = optional_sort(alloc, tokens, bytes, next)?;
     let next = expect(alloc, tokens, bytes, next, Class::Sign(Sign::Equals))?;
-    let (value, next) = ended(alloc, tokens, bytes, next, counts)?;
+    let (value, next) = read_ended(alloc, tokens, bytes, next, counts)?;
     Ok((Definition { name, sort, value }, next))
 }

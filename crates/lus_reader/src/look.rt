@@ -6,11 +6,9 @@ ghost use Rattle.std.specs.String.{string_bytes};
 ghost use Rattle.lus_tree.specs.Reason.{refusal_view, memory};
 ghost use Rattle.lus_grammar.specs.Stream.{stream};
 ghost use Rattle.lus_grammar.specs.Phrase.{one_of, optional};
-ghost use Rattle.lus_grammar.specs.Syntax.{Counts as Occurrences, leaf};
-ghost use Rattle.lus_grammar.specs.Run.{Run, read};
-ghost use Rattle.lus_grammar.specs.Answers.{Reads, Refuses};
-ghost use Rattle.lus_grammar.specs.Source.{AreTokens, limit};
+ghost use Rattle.lus_grammar.specs.Source.{AreTokens};
 ghost use Rattle.lus_reader.specs.Marks.{RefusesMark, is_kept, nothing_of};
+ghost use Rattle.lus_reader.specs.Told.{ReadsAt, RefusesAt, Takes};
 
 use crate::{refusal, token, word};
 use lus_lexer::{Class, Token};
@@ -54,8 +52,8 @@ fn same(one: Class, other: Class) -> bool
     }
 }
 
-/// Memory ran out.
-pub(crate) fn out_of_memory() -> Refusal
+/// The refusal for want of memory. Its place says nothing.
+pub fn out_of_memory() -> Refusal
     ensures { (refusal_view result).reason ≡ memory }
 {
     Refusal {
@@ -118,9 +116,9 @@ pub fn expect(
 ) -> Result<u32, Refusal>
     requires cut { AreTokens bytes.now tokens.now }
     requires small { length bytes.now ≤ 1048576 }
-    ensures run { IfOk result (λ j. (n : Occurrences) → Run limit (stream bytes.now tokens.now) (one_of (class ∷ [])) at n (read j n (leaf (stream bytes.now tokens.now at)))) }
+    ensures run { IfOk result (λ j. Takes bytes.now tokens.now (one_of (class ∷ [])) at j) }
     ensures token { IfOk result (λ j. (stream bytes.now tokens.now at).class ≡ Some class) }
-    ensures stop { IfErr result (λ e. (n : Occurrences) → Refuses (stream bytes.now tokens.now) (one_of (class ∷ [])) at n (refusal_view e)) }
+    ensures stop { IfErr result (λ e. RefusesAt bytes.now tokens.now (one_of (class ∷ [])) at e) }
     ensures next { IfOk result (λ j. j ≡ at + 1) }
     ensures inside { IfOk result (λ j. j ≤ length tokens.now) }
 {
@@ -136,7 +134,7 @@ pub fn optional_token(tokens: &[Token], bytes: &[u8], at: u32, class: Class) -> 
     requires small { length bytes.now ≤ 1048576 }
     requires inside { at ≤ length tokens.now }
     requires kept { is_kept class ≡ true }
-    ensures run { (n : Occurrences) → Reads nothing_of (stream bytes.now tokens.now) (optional (one_of (class ∷ []))) at n result n tt }
+    ensures run { ReadsAt nothing_of bytes.now tokens.now (optional (one_of (class ∷ []))) at result tt }
     ensures inside { (at ≤ result) × (result ≤ length tokens.now) }
 {
     if is_at(tokens, at, class) { at + 1 } else { at }

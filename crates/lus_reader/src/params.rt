@@ -1,17 +1,15 @@
 //! Declared streams: types, clocks, groups of names and lists of parameters.
 
-ghost use Rattle.std.specs.Prelude.{◌≡◌, ◌<◌, ◌≤◌, ◌++◌, List, ℕ, None, map, length, IfOk, IfErr};
+ghost use Rattle.std.specs.Prelude.{◌≡◌, ◌<◌, ◌≤◌, ◌++◌, None, map, length, IfOk, IfErr};
 ghost use Rattle.lus_tree.specs.Reason.{refusal_view, memory};
 ghost use Rattle.lus_tree.specs.View.{word_view, clock_view, param_view};
-ghost use Rattle.lus_grammar.specs.Stream.{stream};
 ghost use Rattle.lus_grammar.specs.Phrase.{optional, part};
 ghost use Rattle.lus_grammar.specs.Phrase as P;
 ghost use Rattle.lus_grammar.specs.Grammar.{when};
-ghost use Rattle.lus_grammar.specs.Syntax.{Counts as Occurrences};
-ghost use Rattle.lus_grammar.specs.Answers.{Reads, Refuses};
 ghost use Rattle.lus_grammar.specs.Source.{AreTokens};
 ghost use Rattle.lus_grammar.specs.Programs.{sort_of, clock_of, variable_of, group_of, groups_of, parameters_of, local_group_of};
 ghost use Rattle.lus_reader.specs.Values.{typed_of, more_of};
+ghost use Rattle.lus_reader.specs.Told.{ReadsAt, RefusesAt};
 
 use crate::list::push;
 use crate::look::{expect, is_at, out_of_memory};
@@ -24,8 +22,8 @@ use std::alloc::Global;
 pub fn sort(alloc: Global, tokens: &[Token], bytes: &[u8], at: u32) -> Result<(Sort, u32), Refusal>
     requires cut { AreTokens bytes.now tokens.now }
     requires small { length bytes.now ≤ 1048576 }
-    ensures run { IfOk result (λ r. (n : Occurrences) → Reads sort_of (stream bytes.now tokens.now) (part P.Sort) at n r.1 n r.0) }
-    ensures stop { IfErr result (λ e. (n : Occurrences) → Refuses (stream bytes.now tokens.now) (part P.Sort) at n (refusal_view e)) }
+    ensures run { IfOk result (λ r. ReadsAt sort_of bytes.now tokens.now (part P.Sort) at r.1 r.0) }
+    ensures stop { IfErr result (λ e. RefusesAt bytes.now tokens.now (part P.Sort) at e) }
     ensures inside { IfOk result (λ r. (at < r.1) × (r.1 ≤ length tokens.now)) }
 {
     if is_at(tokens, at, Class::Keyword(Keyword::Bool)) {
@@ -45,8 +43,8 @@ pub fn when_clock(
     requires cut { AreTokens bytes.now tokens.now }
     requires small { length bytes.now ≤ 1048576 }
     requires inside { at ≤ length tokens.now }
-    ensures run { IfOk result (λ r. (n : Occurrences) → Reads clock_of (stream bytes.now tokens.now) (optional when) at n r.1 n (clock_view r.0)) }
-    ensures stop { IfErr result (λ e. (n : Occurrences) → Refuses (stream bytes.now tokens.now) (optional when) at n (refusal_view e)) }
+    ensures run { IfOk result (λ r. ReadsAt clock_of bytes.now tokens.now (optional when) at r.1 (clock_view r.0)) }
+    ensures stop { IfErr result (λ e. RefusesAt bytes.now tokens.now (optional when) at e) }
     ensures inside { IfOk result (λ r. (at ≤ r.1) × (r.1 ≤ length tokens.now)) }
 {
     if !is_at(tokens, at, Class::Keyword(Keyword::When)) {
@@ -70,8 +68,9 @@ fn typed_names(
 ) -> Result<((Vec<Word>, Sort), u32), Refusal>
     requires cut { AreTokens bytes.now tokens.now }
     requires small { length bytes.now ≤ 1048576 }
-    ensures run { IfOk result (λ r. (n : Occurrences) → Reads typed_of (stream bytes.now tokens.now) (part P.Group) at n r.1 n (λ c. map (variable_of r.0.1 c) (map word_view r.0.0.items))) }
-    ensures stop { IfErr result (λ e. (n : Occurrences) → Refuses (stream bytes.now tokens.now) (part P.Group) at n (refusal_view e)) }
+    ensures run { IfOk result (λ r. ReadsAt typed_of bytes.now tokens.now (part P.Group) at r.1
+        (λ c. map (variable_of r.0.1 c) (map word_view r.0.0.items))) }
+    ensures stop { IfErr result (λ e. RefusesAt bytes.now tokens.now (part P.Group) at e) }
     ensures inside { IfOk result (λ r. (at < r.1) × (r.1 ≤ length tokens.now)) }
 {
     let (words, next) = names(alloc, tokens, bytes, at)?;
@@ -88,7 +87,8 @@ fn add_params(
     sort: Sort,
     clock: &Option<(bool, Word)>,
 ) -> Result<(), Refusal>
-    ensures params { IfOk result (λ u. map param_view params.new.items ≡ map param_view params.old.items ++ map (variable_of sort (clock_view clock.now)) (map word_view names.items)) }
+    ensures params { IfOk result (λ u. map param_view params.new.items ≡ map param_view params.old.items ++ map
+        (variable_of sort (clock_view clock.now)) (map word_view names.items)) }
     ensures memory { IfErr result (λ e. (refusal_view e).reason ≡ memory) }
 {
     for name in names {
@@ -116,7 +116,7 @@ fn copied_clock(
 }
 
 /// Puts the streams of a group behind others, and gives the place behind the group.
-pub fn add_group(
+fn add_group(
     alloc: Global,
     tokens: &[Token],
     bytes: &[u8],
@@ -125,8 +125,10 @@ pub fn add_group(
 ) -> Result<u32, Refusal>
     requires cut { AreTokens bytes.now tokens.now }
     requires small { length bytes.now ≤ 1048576 }
-    ensures run { IfOk result (λ r. (n : Occurrences) → Reads (more_of (map param_view params.old.items) (group_of None)) (stream bytes.now tokens.now) (part P.Group) at n r n (map param_view params.new.items)) }
-    ensures stop { IfErr result (λ e. (n : Occurrences) → Refuses (stream bytes.now tokens.now) (part P.Group) at n (refusal_view e)) }
+    ensures run { IfOk result (λ r. ReadsAt
+        (more_of (map param_view params.old.items) (group_of None)) bytes.now tokens.now (part P.Group) at r
+        (map param_view params.new.items)) }
+    ensures stop { IfErr result (λ e. RefusesAt bytes.now tokens.now (part P.Group) at e) }
     ensures inside { IfOk result (λ r. (at < r) × (r ≤ length tokens.now)) }
 {
     let ((names, sort), next) = typed_names(alloc, tokens, bytes, at)?;
@@ -143,8 +145,9 @@ pub fn group(
 ) -> Result<(Vec<Param>, u32), Refusal>
     requires cut { AreTokens bytes.now tokens.now }
     requires small { length bytes.now ≤ 1048576 }
-    ensures run { IfOk result (λ r. (n : Occurrences) → Reads (group_of None) (stream bytes.now tokens.now) (part P.Group) at n r.1 n (map param_view r.0.items)) }
-    ensures stop { IfErr result (λ e. (n : Occurrences) → Refuses (stream bytes.now tokens.now) (part P.Group) at n (refusal_view e)) }
+    ensures run { IfOk result (λ r. ReadsAt (group_of None) bytes.now tokens.now (part P.Group) at r.1
+        (map param_view r.0.items)) }
+    ensures stop { IfErr result (λ e. RefusesAt bytes.now tokens.now (part P.Group) at e) }
     ensures inside { IfOk result (λ r. (at < r.1) × (r.1 ≤ length tokens.now)) }
 {
     let mut params = Vec::new(alloc);
@@ -162,8 +165,9 @@ pub fn groups(
 ) -> Result<(Vec<Param>, u32), Refusal>
     requires cut { AreTokens bytes.now tokens.now }
     requires small { length bytes.now ≤ 1048576 }
-    ensures run { IfOk result (λ r. (n : Occurrences) → Reads groups_of (stream bytes.now tokens.now) (part P.Groups) at n r.1 n (map param_view r.0.items)) }
-    ensures stop { IfErr result (λ e. (n : Occurrences) → Refuses (stream bytes.now tokens.now) (part P.Groups) at n (refusal_view e)) }
+    ensures run { IfOk result (λ r. ReadsAt groups_of bytes.now tokens.now (part P.Groups) at r.1
+        (map param_view r.0.items)) }
+    ensures stop { IfErr result (λ e. RefusesAt bytes.now tokens.now (part P.Groups) at e) }
     ensures inside { IfOk result (λ r. (at < r.1) × (r.1 ≤ length tokens.now)) }
 {
     let mut params = Vec::new(alloc);
@@ -189,8 +193,9 @@ pub fn parameters(
 ) -> Result<(Vec<Param>, u32), Refusal>
     requires cut { AreTokens bytes.now tokens.now }
     requires small { length bytes.now ≤ 1048576 }
-    ensures run { IfOk result (λ r. (n : Occurrences) → Reads parameters_of (stream bytes.now tokens.now) (part P.Parameters) at n r.1 n (map param_view r.0.items)) }
-    ensures stop { IfErr result (λ e. (n : Occurrences) → Refuses (stream bytes.now tokens.now) (part P.Parameters) at n (refusal_view e)) }
+    ensures run { IfOk result (λ r. ReadsAt parameters_of bytes.now tokens.now (part P.Parameters) at r.1
+        (map param_view r.0.items)) }
+    ensures stop { IfErr result (λ e. RefusesAt bytes.now tokens.now (part P.Parameters) at e) }
     ensures inside { IfOk result (λ r. (at < r.1) × (r.1 ≤ length tokens.now)) }
 {
     let first = expect(alloc, tokens, bytes, at, Class::Sign(Sign::Open))?;
@@ -204,7 +209,7 @@ pub fn parameters(
 }
 
 /// Puts the streams of a local group behind others, and gives the place behind the group.
-pub fn add_local_group(
+fn add_local_group(
     alloc: Global,
     tokens: &[Token],
     bytes: &[u8],
@@ -213,8 +218,10 @@ pub fn add_local_group(
 ) -> Result<u32, Refusal>
     requires cut { AreTokens bytes.now tokens.now }
     requires small { length bytes.now ≤ 1048576 }
-    ensures run { IfOk result (λ r. (n : Occurrences) → Reads (more_of (map param_view params.old.items) local_group_of) (stream bytes.now tokens.now) (part P.LocalGroup) at n r n (map param_view params.new.items)) }
-    ensures stop { IfErr result (λ e. (n : Occurrences) → Refuses (stream bytes.now tokens.now) (part P.LocalGroup) at n (refusal_view e)) }
+    ensures run { IfOk result (λ r. ReadsAt
+        (more_of (map param_view params.old.items) local_group_of) bytes.now tokens.now (part P.LocalGroup) at r
+        (map param_view params.new.items)) }
+    ensures stop { IfErr result (λ e. RefusesAt bytes.now tokens.now (part P.LocalGroup) at e) }
     ensures inside { IfOk result (λ r. (at < r) × (r ≤ length tokens.now)) }
 {
     let ((names, sort), next) = typed_names(alloc, tokens, bytes, at)?;
@@ -232,8 +239,9 @@ pub fn local_group(
 ) -> Result<(Vec<Param>, u32), Refusal>
     requires cut { AreTokens bytes.now tokens.now }
     requires small { length bytes.now ≤ 1048576 }
-    ensures run { IfOk result (λ r. (n : Occurrences) → Reads local_group_of (stream bytes.now tokens.now) (part P.LocalGroup) at n r.1 n (map param_view r.0.items)) }
-    ensures stop { IfErr result (λ e. (n : Occurrences) → Refuses (stream bytes.now tokens.now) (part P.LocalGroup) at n (refusal_view e)) }
+    ensures run { IfOk result (λ r. ReadsAt local_group_of bytes.now tokens.now (part P.LocalGroup) at r.1
+        (map param_view r.0.items)) }
+    ensures stop { IfErr result (λ e. RefusesAt bytes.now tokens.now (part P.LocalGroup) at e) }
     ensures inside { IfOk result (λ r. (at < r.1) × (r.1 ≤ length tokens.now)) }
 {
     let mut params = Vec::new(alloc);

@@ -1,18 +1,16 @@
 //! Names and labels.
 
-ghost use Rattle.std.specs.Prelude.{◌≡◌, ◌<◌, ◌≤◌, ◌+◌, ◌++◌, [], ◌∷◌, List, ℕ, Some, map, option_map, length, IfOk, IfErr};
+ghost use Rattle.std.specs.Prelude.{◌≡◌, ◌<◌, ◌≤◌, ◌+◌, ◌++◌, [], ◌∷◌, Some, map, option_map, length, IfOk, IfErr};
 ghost use Rattle.std.specs.String.{string_bytes};
 ghost use Rattle.lus_tree.specs.Reason.{refusal_view, memory};
 ghost use Rattle.lus_tree.specs.View.{word_view};
 ghost use Rattle.lus_grammar.specs.Stream.{stream};
 ghost use Rattle.lus_grammar.specs.Phrase.{one_of, optional, part, Names};
 ghost use Rattle.lus_grammar.specs.Phrase as P;
-ghost use Rattle.lus_grammar.specs.Syntax.{Counts as Occurrences, leaf};
-ghost use Rattle.lus_grammar.specs.Run.{Run, read};
-ghost use Rattle.lus_grammar.specs.Answers.{Reads, Refuses};
-ghost use Rattle.lus_grammar.specs.Source.{AreTokens, limit};
+ghost use Rattle.lus_grammar.specs.Source.{AreTokens};
 ghost use Rattle.lus_grammar.specs.Trees.{spelled};
 ghost use Rattle.lus_grammar.specs.Programs.{names_of, label_of, unquoted};
+ghost use Rattle.lus_reader.specs.Told.{ReadsAt, RefusesAt, Takes};
 
 use crate::list::push;
 use crate::look::{copied, expect, is_at, place_at, slice_at};
@@ -29,9 +27,9 @@ pub fn identifier(
 ) -> Result<(Word, u32), Refusal>
     requires cut { AreTokens bytes.now tokens.now }
     requires small { length bytes.now ≤ 1048576 }
-    ensures run { IfOk result (λ r. (n : Occurrences) → Run limit (stream bytes.now tokens.now) P.identifier at n (read r.1 n (leaf (stream bytes.now tokens.now at)))) }
+    ensures run { IfOk result (λ r. Takes bytes.now tokens.now P.identifier at r.1) }
     ensures word { IfOk result (λ r. word_view r.0 ≡ spelled (stream bytes.now tokens.now at)) }
-    ensures stop { IfErr result (λ e. (n : Occurrences) → Refuses (stream bytes.now tokens.now) P.identifier at n (refusal_view e)) }
+    ensures stop { IfErr result (λ e. RefusesAt bytes.now tokens.now P.identifier at e) }
     ensures next { IfOk result (λ r. r.1 ≡ at + 1) }
     ensures inside { IfOk result (λ r. r.1 ≤ length tokens.now) }
 {
@@ -50,8 +48,9 @@ pub fn names(
 ) -> Result<(Vec<Word>, u32), Refusal>
     requires cut { AreTokens bytes.now tokens.now }
     requires small { length bytes.now ≤ 1048576 }
-    ensures run { IfOk result (λ r. (n : Occurrences) → Reads names_of (stream bytes.now tokens.now) (part Names) at n r.1 n (map word_view r.0.items)) }
-    ensures stop { IfErr result (λ e. (n : Occurrences) → Refuses (stream bytes.now tokens.now) (part Names) at n (refusal_view e)) }
+    ensures run { IfOk result (λ r. ReadsAt names_of bytes.now tokens.now (part Names) at r.1
+        (map word_view r.0.items)) }
+    ensures stop { IfErr result (λ e. RefusesAt bytes.now tokens.now (part Names) at e) }
     ensures inside { IfOk result (λ r. (at < r.1) × (r.1 ≤ length tokens.now)) }
 {
     let mut words = Vec::new(alloc);
@@ -72,9 +71,10 @@ fn add_name(
 ) -> Result<u32, Refusal>
     requires cut { AreTokens bytes.now tokens.now }
     requires small { length bytes.now ≤ 1048576 }
-    ensures run { IfOk result (λ j. (n : Occurrences) → Run limit (stream bytes.now tokens.now) P.identifier at n (read j n (leaf (stream bytes.now tokens.now at)))) }
-    ensures word { IfOk result (λ j. map word_view words.new.items ≡ map word_view words.old.items ++ spelled (stream bytes.now tokens.now at) ∷ []) }
-    ensures stop { IfErr result (λ e. (n : Occurrences) → Refuses (stream bytes.now tokens.now) P.identifier at n (refusal_view e)) }
+    ensures run { IfOk result (λ j. Takes bytes.now tokens.now P.identifier at j) }
+    ensures word { IfOk result (λ j. map word_view words.new.items ≡ map word_view words.old.items ++ spelled
+        (stream bytes.now tokens.now at) ∷ []) }
+    ensures stop { IfErr result (λ e. RefusesAt bytes.now tokens.now P.identifier at e) }
     ensures next { IfOk result (λ j. j ≡ at + 1) }
     ensures inside { IfOk result (λ j. j ≤ length tokens.now) }
 {
@@ -93,8 +93,9 @@ pub fn label(
     requires cut { AreTokens bytes.now tokens.now }
     requires small { length bytes.now ≤ 1048576 }
     requires inside { at ≤ length tokens.now }
-    ensures run { IfOk result (λ r. (n : Occurrences) → Reads label_of (stream bytes.now tokens.now) (optional (one_of (Class.Text ∷ []))) at n r.1 n (option_map string_bytes r.0)) }
-    ensures stop { IfErr result (λ e. (n : Occurrences) → Refuses (stream bytes.now tokens.now) (optional (one_of (Class.Text ∷ []))) at n (refusal_view e)) }
+    ensures run { IfOk result (λ r. ReadsAt label_of bytes.now tokens.now
+        (optional (one_of (Class.Text ∷ []))) at r.1 (option_map string_bytes r.0)) }
+    ensures stop { IfErr result (λ e. RefusesAt bytes.now tokens.now (optional (one_of (Class.Text ∷ []))) at e) }
     ensures inside { IfOk result (λ r. (at ≤ r.1) × (r.1 ≤ length tokens.now)) }
 {
     if !is_at(tokens, at, Class::Text) {

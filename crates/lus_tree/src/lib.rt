@@ -6,8 +6,6 @@ mod expression;
 mod lookup;
 mod place;
 mod refusal;
-#[cfg(test)]
-mod tests;
 
 pub use declaration::{ContractItem, ContractNode, Decl, Definition, Item, Named, Node, Program};
 pub use expression::{Expr, Form, Operator};

@@ -22,7 +22,7 @@ loop-alloc-preserved c =
     record {
       added = c.loop-alloc.invariant.added ++ expr_view c.in_ok-argument.argument ∷ [];
       loops = one_more c.loop-alloc.invariant.loops e (adds_argument k c.in_ok-argument.ensures.run);
-      are = more_behind _ _ _ _ _ c.in_ok-add.ensures.more c.loop-alloc.invariant.are;
+      are = more_behind _ _ _ _ _ c.in_ok-push.ensures.items c.loop-alloc.invariant.are;
       since = omega (arith, c.in_ok-argument.ensures.inside.0);
       within = c.in_ok-argument.ensures.inside.1;
     }

@@ -18,7 +18,7 @@ returns-in_err-next-clause-stop c =
 pub returns-then-begins_expression-clause-run : goal.returns-then-begins_expression-clause-run
 returns-then-begins_expression-clause-run c =
     let e = told (part Arguments) (c.class_at.ensures.class c.args.bytes.now) c.begins_expression.ensures c.if-begins_expression.true in
-    some_arguments _ _ _ e c.new-arguments.ensures.items c.in_ok-add.ensures.more c.in_ok-first.ensures.run c.in_ok-next.ensures.run
+    some_arguments _ _ _ e c.new-arguments.ensures.items c.in_ok-push.ensures.items c.in_ok-first.ensures.run c.in_ok-next.ensures.run
 
 pub returns-clause-run : goal.returns-clause-run
 returns-clause-run c =

@@ -23,15 +23,6 @@ returns-in_err-locals-clause-stop c =
     let l3 = behind l2 c.in_ok-contract.ensures.run.run in
     at_err _ _ _ c.from_residual-in_err-locals.ensures.1 (stops_first l3 c.in_err-locals.ensures.stop)
 
-pub returns-in_err-first-clause-stop : goal.returns-in_err-first-clause-stop
-returns-in_err-first-clause-stop c =
-    let l0 = into_node _ _ _ _ c.requires.word in
-    let l1 = then l0 ((c.in_ok-head.ensures.run _).leads behind_head) in
-    let l2 = behind l1 (c.past_semicolon-begin.ensures.run c.args.bytes.now _).1 in
-    let l3 = behind l2 c.in_ok-contract.ensures.run.run in
-    let l4 = behind l3 c.in_ok-locals.ensures.run.run in
-    at_err _ _ _ c.from_residual-in_err-first.ensures.1 (stops_first l4 (c.in_err-first.ensures.stop _))
-
 pub returns-in_err-items-clause-stop : goal.returns-in_err-items-clause-stop
 returns-in_err-items-clause-stop c =
     let l0 = into_node _ _ _ _ c.requires.word in
@@ -39,19 +30,7 @@ returns-in_err-items-clause-stop c =
     let l2 = behind l1 (c.past_semicolon-begin.ensures.run c.args.bytes.now _).1 in
     let l3 = behind l2 c.in_ok-contract.ensures.run.run in
     let l4 = behind l3 c.in_ok-locals.ensures.run.run in
-    let l5 = behind l4 (c.in_ok-first.ensures.run _) in
-    at_err _ _ _ c.from_residual-in_err-items.ensures.1 (stops_first l5 c.in_err-items.ensures.stop)
-
-pub returns-in_err-past-clause-stop : goal.returns-in_err-past-clause-stop
-returns-in_err-past-clause-stop c =
-    let l0 = into_node _ _ _ _ c.requires.word in
-    let l1 = then l0 ((c.in_ok-head.ensures.run _).leads behind_head) in
-    let l2 = behind l1 (c.past_semicolon-begin.ensures.run c.args.bytes.now _).1 in
-    let l3 = behind l2 c.in_ok-contract.ensures.run.run in
-    let l4 = behind l3 c.in_ok-locals.ensures.run.run in
-    let l5 = behind l4 (c.in_ok-first.ensures.run _) in
-    let l6 = behind l5 c.in_ok-items.ensures.run.run in
-    at_err _ _ _ c.from_residual-in_err-past.ensures.1 (stops_first l6 (c.in_err-past.ensures.stop _))
+    at_err _ _ _ c.from_residual-in_err-items.ensures.1 (stops l4 c.in_err-items.ensures.stop)
 
 pub returns-clause-run : goal.returns-clause-run
 returns-clause-run c =
@@ -61,7 +40,4 @@ returns-clause-run c =
     let l2 = behind l1 (c.past_semicolon-begin.ensures.run c.args.bytes.now _).1 in
     let l3 = behind l2 c.in_ok-contract.ensures.run.run in
     let l4 = behind l3 c.in_ok-locals.ensures.run.run in
-    let l5 = behind l4 (c.in_ok-first.ensures.run _) in
-    let l6 = behind l5 c.in_ok-items.ensures.run.run in
-    let l7 = behind l6 (c.in_ok-past.ensures.run _) in
-    reads_node _ c.requires.word l7 (c.past_semicolon.ensures.run c.args.bytes.now _).1 head.are_named head.are_taken head.are_given c.in_ok-contract.ensures.run.is c.in_ok-locals.ensures.run.is c.in_ok-items.ensures.run.is
+    reads_node _ c.requires.word l4 head.are_named head.are_taken head.are_given c.in_ok-contract.ensures.run.is c.in_ok-locals.ensures.run.is c.in_ok-items.ensures.run
