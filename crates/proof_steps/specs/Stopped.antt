@@ -11,7 +11,7 @@ use Rattle.proof_steps.specs.declared.stops.Budgets.{Budgets}
 use Rattle.proof_steps.specs.View.{Inequality}
 use Rattle.proof_steps.specs.StopView.{Halt, conflicts, splits, pivots, past, Beginning, Operation}
 use Rattle.proof_steps.specs.Meaning.{Values, Solves, clause_true, opposite}
-use Rattle.proof_steps.specs.Rows.{Form, IsRow, IsBasis, AllDiffer, combined, entry, rows_of}
+use Rattle.proof_steps.specs.Rows.{Form, IsRow, IsBasis, AllDiffer, combined, entry, rows_of, columns_of}
 use Rattle.proof_steps.specs.Bounds.{Bound, IsBound, atoms_with}
 use Rattle.proof_steps.specs.Splits.{AreSplits}
 use Rattle.proof_steps.specs.Pivots.{CanPivot, first_position, ArePlaces}
@@ -42,20 +42,21 @@ bound_view (c, side, z) = record { column = c; upper = side; limit = z }
 
 -- from this start Bland's rule makes more pivots than the budget
 pub record IsLong (f : Form) (pairs : List (ℕ × ℤ)) (start : Beginning) : Type 0 where
-  pub is_basis : IsBasis f start.basis
+  pub is_basis : IsBasis (rows_of f) (columns_of f) start.basis
   pub bounds : All (λ b. IsBound f pairs (bound_view b)) start.bounds
-  pub places : ArePlaces f start
-  pub more : CanPivot f start.bounds (suc start.pivots) (first_position start)
+  pub places : ArePlaces (columns_of f) start
+  pub more : CanPivot (rows_of f) (columns_of f) start.bounds (suc start.pivots) (first_position start)
 
--- a kept row with its multipliers: the row of some column in some basis
+-- a kept row with its multipliers: the row of some column in some basis, each column listed once
 pub record Row : Type 0 where
   pub entries : List (ℕ × ℤ)
   pub multipliers : List ℤ
 
-abbrev pub IsRowOf : Form → Row → Type 0
-IsRowOf f r =
-    (basis : List ℕ) × (x : ℕ) × IsBasis f basis × IsRow f basis x r.multipliers
-    × ((c : ℕ) → entry r.entries c ≡ combined r.multipliers (rows_of f) c)
+abbrev pub IsRowOf : List (List (ℕ × ℤ)) → ℕ → Row → Type 0
+IsRowOf given columns r =
+    AllDiffer (map (λ (t : ℕ × ℤ). t.0) r.entries)
+    × (basis : List ℕ) × (x : ℕ) × IsBasis given columns basis × IsRow given basis x r.multipliers
+    × ((c : ℕ) → entry r.entries c ≡ combined r.multipliers given c)
 
 -- the entries of a row, and its multipliers
 abbrev pub numbers : Row → List ℤ
@@ -73,10 +74,14 @@ IsSplitEnd pairs z = (x : ℕ) × (Contains pairs (x, z) ⊎ Contains pairs (x, 
 abbrev pub IsOfOther : List Row → ℕ → ℤ → Type 0
 IsOfOther rows i z = (j : ℕ) × (r : Row) × (j ≢ i) × (slice_get rows j ≡ Some r) × Contains (numbers r) z
 
--- by what a number of row i is multiplied: a number of another row, an atom's coefficient, a bound
--- of the query's literals, or an end of a split
-abbrev pub IsFactor : Form → List (ℕ × ℤ) → List Row → ℕ → ℤ → Type 0
-IsFactor f pairs rows i z = IsOfOther rows i z ⊎ (IsCoefficient f z ⊎ (IsLimit f z ⊎ IsSplitEnd pairs z))
+-- by what a number of a kept row of the query is multiplied, beside the numbers of other kept rows:
+-- an atom's coefficient, a bound of the query's literals, or an end of a split
+abbrev pub IsNumberOf : Form → List (ℕ × ℤ) → ℤ → Type 0
+IsNumberOf f pairs z = IsCoefficient f z ⊎ (IsLimit f z ⊎ IsSplitEnd pairs z)
+
+-- by what a number of row i is multiplied: a number of another kept row, or one of the others
+abbrev pub IsFactor : (ℤ → Type 0) → List Row → ℕ → ℤ → Type 0
+IsFactor others rows i z = IsOfOther rows i z ⊎ others z
 
 -- a product in a sum over one row: which of its numbers, its factor, and whether it is taken away
 pub record Product : Type 0 where
@@ -85,9 +90,9 @@ pub record Product : Type 0 where
   pub factor : ℤ
   pub negative : Bool
 
-pub record IsProduct (f : Form) (pairs : List (ℕ × ℤ)) (rows : List Row) (i : ℕ) (r : Row) (p : Product) : Type 0 where
+pub record IsProduct (others : ℤ → Type 0) (rows : List Row) (i : ℕ) (r : Row) (p : Product) : Type 0 where
   pub of_row : slice_get (numbers r) p.place ≡ Some p.number
-  pub by_factor : IsFactor f pairs rows i p.factor
+  pub by_factor : IsFactor others rows i p.factor
 
 abbrev pub signed : Bool → ℤ → ℤ
 signed true z = neg_ℤ z
@@ -101,16 +106,16 @@ abbrev pub HasOperands : ℤ → ℤ → ℤ → ℤ → Type 0
 HasOperands left right x y = ((left ≡ x) × (right ≡ y)) ⊎ ((left ≡ y) × (right ≡ x))
 
 -- the operands are those of a product, or two sums of products over one row
-abbrev pub AreOperands : Form → List (ℕ × ℤ) → List Row → ℕ → Row → Op → ℤ → ℤ → Type 0
-AreOperands f pairs rows i r Mul left right =
-    (p : Product) × IsProduct f pairs rows i r p × HasOperands left right p.number p.factor
-AreOperands f pairs rows i r Add left right =
-    (ps : List Product) × (qs : List Product) × All (IsProduct f pairs rows i r) (ps ++ qs)
+abbrev pub AreOperands : (ℤ → Type 0) → List Row → ℕ → Row → Op → ℤ → ℤ → Type 0
+AreOperands others rows i r Mul left right =
+    (p : Product) × IsProduct others rows i r p × HasOperands left right p.number p.factor
+AreOperands others rows i r Add left right =
+    (ps : List Product) × (qs : List Product) × All (IsProduct others rows i r) (ps ++ qs)
     × AllDiffer (map (λ (p : Product). p.place) (ps ++ qs)) × (left ≡ total ps) × (right ≡ total qs)
-AreOperands f pairs rows i r Sub left right =
-    (ps : List Product) × (qs : List Product) × All (IsProduct f pairs rows i r) (ps ++ qs)
+AreOperands others rows i r Sub left right =
+    (ps : List Product) × (qs : List Product) × All (IsProduct others rows i r) (ps ++ qs)
     × AllDiffer (map (λ (p : Product). p.place) (ps ++ qs)) × (left ≡ total ps) × (right ≡ total qs)
-AreOperands f pairs rows i r Div left right = ⊥
+AreOperands others rows i r Div left right = ⊥
 
 abbrev pub result_of : Op → ℤ → ℤ → ℤ
 result_of Add x y = x +ℤ y
@@ -118,15 +123,16 @@ result_of Sub x y = x -ℤ y
 result_of Mul x y = x *ℤ y
 result_of Div x y = pos 0
 
--- an operation over kept rows is outside 128 bits
-pub record IsPastStep (f : Form) (pairs : List (ℕ × ℤ)) (step : Operation) : Type 0 where
+-- an operation over kept rows is outside 128 bits; their numbers are multiplied by one another, and
+-- by the others
+pub record IsPastStep (given : List (List (ℕ × ℤ))) (columns : ℕ) (others : ℤ → Type 0) (step : Operation) : Type 0 where
   pub rows : List Row
   pub kept : map (λ (r : Row). r.entries) rows ≡ step.rows
-  pub are_rows : All (IsRowOf f) rows
+  pub are_rows : All (IsRowOf given columns) rows
   pub place : ℕ
   pub row : Row
   pub is_row : slice_get rows place ≡ Some row
-  pub operands : AreOperands f pairs rows place row step.past.op step.past.left step.past.right
+  pub operands : AreOperands others rows place row step.past.op step.past.left step.past.right
   pub outside : within (result_of step.past.op step.past.left step.past.right) ≡ false
 
 -- the stop is true of the query with these budgets
@@ -136,4 +142,5 @@ IsTrueOf f budgets (conflicts clauses pairs) =
 IsTrueOf f budgets (splits pairs) = AreSplits f pairs × (length pairs ≡ budgets.splits)
 IsTrueOf f budgets (pivots start pairs) =
     AreSplits f pairs × (start.pivots ≡ budgets.pivots) × IsLong f pairs start
-IsTrueOf f budgets (past step pairs) = AreSplits f pairs × IsPastStep f pairs step
+IsTrueOf f budgets (past step pairs) =
+    AreSplits f pairs × IsPastStep (rows_of f) (columns_of f) (IsNumberOf f pairs) step

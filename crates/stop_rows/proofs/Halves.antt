@@ -15,7 +15,7 @@ use Rattle.proof_steps.specs.Bounds.{IsBound}
 use Rattle.proof_steps.specs.StopView.{pivots}
 use Rattle.proof_steps.specs.Pivots.{Position, Misses, CanEnter, Pivots, first_position}
 use Rattle.proof_steps.specs.Stopped.{IsTrueOf, bound_view}
-use Rattle.proof_steps.specs.Examples.{halves, nothing_spent, sum_below_2}
+use Rattle.stop_rows.specs.Numbers.{halves, nothing_spent, sum_below_2}
 
 abbrev minus : List ℤ
 minus = negsuc 0 ∷ []
@@ -25,14 +25,14 @@ places zero = pos 0
 places (suc zero) = pos 0
 places (suc (suc n)) = pos 1
 
-alone-in : {X : Type 0} (x y : X) → Contains (x ∷ []) y → x ≡ y
+pub alone-in : {X : Type 0} (x y : X) → Contains (x ∷ []) y → x ≡ y
 alone-in x y (zero, h, e) = e
 alone-in x y (suc k, h, e) = absurd (omega arith)
 
-one-divides : (d : ℕ) → d ∣ 1 → d ≡ 1
+pub one-divides : (d : ℕ) → d ∣ 1 → d ≡ 1
 one-divides d h = dvd_antisymm h (dvd_of_mod-eq-zero 1 (omega arith))
 
-is-row : IsRow halves (0 ∷ []) 0 minus
+is-row : IsRow (rows_of halves) (0 ∷ []) 0 minus
 is-row = record {
   multipliers = refl;
   in_basis = (0, omega arith, refl);
@@ -41,15 +41,15 @@ is-row = record {
   coprime = λ d a f. one-divides d (All-head (λ m. d ∣ unsigned_abs m) (negsuc 0) [] a);
 }
 
-is-basis : IsBasis halves (0 ∷ [])
+is-basis : IsBasis (rows_of halves) (columns_of halves) (0 ∷ [])
 is-basis = record {
   count = refl;
   different = ((λ (k, h, e). absurd (omega arith)), tt);
   in_range = All-cons (λ c. c < columns_of halves) 0 [] (omega arith) (All-nil (λ c. c < columns_of halves));
-  rows = λ x c. (minus, subst (λ y. IsRow halves (0 ∷ []) y minus) (alone-in 0 x c) is-row);
+  rows = λ x c. (minus, subst (λ y. IsRow (rows_of halves) (0 ∷ []) y minus) (alone-in 0 x c) is-row);
 }
 
-value : HasValue halves (0 ∷ []) places 0 minus (pos 1) (pos 2)
+value : HasValue (rows_of halves) (columns_of halves) (0 ∷ []) places 0 minus (pos 1) (pos 2)
 value = record { row = is-row; positive = omega (arith, ints); denominator = refl; numerator = refl }
 
 far-entry : (k : ℕ) → combined minus (rows_of halves) (suc (suc (suc k))) ≡ pos 0
@@ -100,10 +100,10 @@ halves-split = (
   tt,
 )
 
-abbrev plus : List ℤ
+abbrev pub plus : List ℤ
 plus = pos 1 ∷ []
 
-sum-row : IsRow halves (2 ∷ []) 2 plus
+pub sum-row : IsRow (rows_of halves) (2 ∷ []) 2 plus
 sum-row = record {
   multipliers = refl;
   in_basis = (0, omega arith, refl);
@@ -112,12 +112,12 @@ sum-row = record {
   coprime = λ d a f. one-divides d (All-head (λ m. d ∣ unsigned_abs m) (pos 1) [] a);
 }
 
-sum-basis : IsBasis halves (2 ∷ [])
+pub sum-basis : IsBasis (rows_of halves) (columns_of halves) (2 ∷ [])
 sum-basis = record {
   count = refl;
   different = ((λ (k, h, e). absurd (omega arith)), tt);
   in_range = All-cons (λ c. c < columns_of halves) 2 [] (omega arith) (All-nil (λ c. c < columns_of halves));
-  rows = λ x c. (plus, subst (λ y. IsRow halves (2 ∷ []) y plus) (alone-in 2 x c) sum-row);
+  rows = λ x c. (plus, subst (λ y. IsRow (rows_of halves) (2 ∷ []) y plus) (alone-in 2 x c) sum-row);
 }
 
 abbrev bounds : List (ℕ × Bool × ℤ)
@@ -129,7 +129,7 @@ here = first_position sum_below_2
 abbrev there : Position
 there = record { basis = 0 ∷ []; places = λ c. cond (c == 2) (pos 2) (here.places c) }
 
-sum-misses : Misses halves bounds here 2 false (pos 2) plus
+sum-misses : Misses (rows_of halves) (columns_of halves) bounds here 2 false (pos 2) plus
 sum-misses = record {
   top = pos 0;
   bottom = pos 1;
@@ -138,10 +138,10 @@ sum-misses = record {
   past = omega (arith, ints);
 }
 
-none-least : (y : ℕ) (b : Bool) (z : ℤ) (ms : List ℤ) → y < 2 → ¬ Misses halves bounds here y b z ms
+none-least : (y : ℕ) (b : Bool) (z : ℤ) (ms : List ℤ) → y < 2 → ¬ Misses (rows_of halves) (columns_of halves) bounds here y b z ms
 none-least y b z ms l m = let e : 2 ≡ y = alone-in 2 y m.value.row.in_basis in omega arith
 
-x-enters : CanEnter halves bounds here false plus 0
+x-enters : CanEnter (rows_of halves) (columns_of halves) bounds here false plus 0
 x-enters = record { in_range = omega arith; outside = λ c. two-zero (alone-in 2 0 c); room = inl (omega (arith, ints), tt) }
 
 stays : (c : ℕ) → c ≢ 2 → there.places c ≡ here.places c
@@ -149,7 +149,7 @@ stays c n = ap (λ b. cond b (pos 2) (here.places c)) (no-number c n) where
   no-number : (c : ℕ) → c ≢ 2 → (c == 2) ≡ false
   no-number c n = grind (arith, nat_tests)
 
-pivot : Pivots halves bounds here there
+pivot : Pivots (rows_of halves) (columns_of halves) bounds here there
 pivot = record {
   leaving = 2;
   side = false;
