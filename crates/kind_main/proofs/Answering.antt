@@ -1,42 +1,66 @@
--- The answer to the words, put together from what each step knows.
-use Rattle.std.proofs.Common.{◌≡◌, ◌⊎◌, inl, inr, ℕ, ◌≤◌, List, length, subst, Some}
-use Rattle.kind_io.specs.Told.{MayHold, MayExceed}
-use Rattle.lus_tree.specs.declared.place.Pos.{Pos}
+-- How a replay ends, put together from what each step knows.
+use Rattle.std.proofs.Common.{◌≡◌, ℕ, ◌≤◌, List, length, subst}
+use Rattle.kind_io.specs.Told.{Told, MayHold, MayExceed}
 use Rattle.lus_tree.specs.Tree.{Program}
 use Rattle.lus_meaning.specs.TraceView.{Listing}
-use Rattle.lus_meaning.specs.Fits.{misfit}
-use Rattle.trace_replay.specs.Traces.{IsTraceText, FirstMisfit}
-use Rattle.kind_main.specs.Lines.{Line, formless_line}
-use Rattle.kind_main.specs.Words.{AreReplay}
-use Rattle.kind_main.specs.Answer.{Tells, limit, HoldsTrace, IsRefusedTrace, trace_too_long, trace_formless, trace_unfit, IsAnswer, no_source, source_refused, no_trace, trace_refused, replayed}
-use Rattle.kind_main.specs.Fetched as F
-use Rattle.kind_main.specs.Fetched.{IsTraceAnswer, IsFilesAnswer}
+use Rattle.lus_meaning.specs.Fits.{FitsProgram}
+use Rattle.trace_replay.specs.Traces.{IsTraceText}
+use Rattle.kind_main.specs.Lines.{Line}
+use Rattle.kind_main.specs.Report.{IsReplay}
+use Rattle.kind_main.specs.declared.ending.Stopped.{Stopped}
+use Rattle.kind_main.specs.declared.ending.Stopped.TheVariants.{Usage, Unread, Refused, Memory}
+use Rattle.kind_main.specs.Ending.{Ending, usage, unread, refused, done, IfStopped}
+use Rattle.kind_main.specs.Fetched.{Tells, limit, IsUnfetched}
+use Rattle.kind_main.specs.Source as S
+use Rattle.kind_main.specs.Source.{EndsAtSource, HoldsSource}
+use Rattle.kind_main.specs.Traced as R
+use Rattle.kind_main.specs.Traced.{EndsAtTrace, IsReplayed, EndsReplay}
 use Rattle.kind_main.proofs.Printing.{rose-later}
 
--- a trace that is read and refused
-pub misfit_refused : (told : Tells) (trace : List ℕ) (p : Program) (bytes : List ℕ) (at : Pos) (line : Line) → MayHold (told trace) bytes → length bytes ≤ limit
-    → FirstMisfit bytes at ⊎ ((t : Listing) × IsTraceText bytes t × (misfit p t ≡ Some at)) → line ≡ formless_line at → IsRefusedTrace told trace p line
-misfit_refused told trace p bytes at line h s (inl f) l = trace_formless bytes at h s f l
-misfit_refused told trace p bytes at line h s (inr u) l = trace_unfit bytes u.0 at h s u.1 u.2 l
+-- a stop keeps what follows of its ending
+pub stop_as : (P Q : Ending → Type 0) → ((e : Ending) → P e → Q e) → (s : Stopped) → IfStopped P s → IfStopped Q s
+stop_as P Q f Usage h = f _ h
+stop_as P Q f (Unread name) h = f _ h
+stop_as P Q f (Refused line) h = f _ h
+stop_as P Q f Memory h = h
 
--- a shelf that tells the same
-module _ (told now : Tells) (same : (name : List ℕ) → now name ≡ told name) where
-  pub same_refused : (trace : List ℕ) (p : Program) (line : Line) → IsRefusedTrace now trace p line → IsRefusedTrace told trace p line
-  same_refused trace p line (trace_too_long e l) = trace_too_long (subst (λ w. MayExceed w limit) (same trace) e) l
-  same_refused trace p line (trace_formless bytes at h s f l) = trace_formless bytes at (subst (λ w. MayHold w bytes) (same trace) h) s f l
-  same_refused trace p line (trace_unfit bytes t at h s x m l) = trace_unfit bytes t at (subst (λ w. MayHold w bytes) (same trace) h) s x m l
+module _ (told : Tells) (before now : ℕ) (file trace : List ℕ) where
+  -- the source gives no bytes
+  pub no_source : (e : Ending) → IsUnfetched (told file) before now file e → EndsReplay told before now file trace e
+  no_source usage h = absurd h
+  no_source (unread name) h = (h.0, R.source h.1)
+  no_source (refused line) h = R.source (S.too_long h.0 h.1)
+  no_source (done lines code) h = absurd h
 
-  pub same_held : (trace : List ℕ) (p : Program) (t : Listing) → HoldsTrace now trace p t → HoldsTrace told trace p t
-  same_held trace p t h = record { bytes = h.bytes; held = subst (λ w. MayHold w h.bytes) (same trace) h.held; short = h.short; text = h.text; fits = h.fits }
+  -- its bytes are refused
+  pub bad_source : (bytes : List ℕ) → MayHold (told file) bytes → length bytes ≤ limit → (e : Ending) → EndsAtSource bytes e → EndsReplay told before now file trace e
+  bad_source bytes m le usage h = absurd h
+  bad_source bytes m le (unread name) h = absurd h
+  bad_source bytes m le (refused line) h = R.source (S.refused_bytes bytes m le h)
+  bad_source bytes m le (done lines code) h = absurd h
 
-  pub same_answer : (before mid after : ℕ) → before ≤ mid → (trace : List ℕ) (p : Program) (d : _) (lines : List Line) (code : ℕ) → IsTraceAnswer now mid after trace p d lines code → IsTraceAnswer told before after trace p d lines code
-  same_answer before mid after le trace p d lines code (F.trace_unread r l c) = F.trace_unread (rose-later before mid after le r) l c
-  same_answer before mid after le trace p d lines code (F.trace_refused line r l c) = F.trace_refused line (same_refused trace p line r) l c
-  same_answer before mid after le trace p d lines code (F.trace_replayed t h r) = F.trace_replayed t (same_held trace p t h) r
+  module _ (p : Program) (source : HoldsSource (told file) p) where
+    -- the trace gives no bytes
+    pub no_trace : (mid : ℕ) → before ≤ mid → (tells : Told) → tells ≡ told trace → (e : Ending) → IsUnfetched tells mid now trace e → EndsReplay told before now file trace e
+    no_trace mid le tells same usage h = absurd h
+    no_trace mid le tells same (unread name) h = (rose-later before mid now le h.0, R.trace p source h.1)
+    no_trace mid le tells same (refused line) h = R.trace p source (R.too_long (subst (λ w. MayExceed w limit) same h.0) h.1)
+    no_trace mid le tells same (done lines code) h = absurd h
 
-pub whole_answer : (told : Tells) (before now : ℕ) (words : List (List ℕ)) (file trace : List ℕ) (lines : List Line) (code : ℕ) → AreReplay words file trace → IsFilesAnswer told before now file trace lines code → IsAnswer told before now words lines code
-whole_answer told before now words file trace lines code w (F.unread r l c) = no_source file trace w r l c
-whole_answer told before now words file trace lines code w (F.refused line r l c) = source_refused file trace line w r l c
-whole_answer told before now words file trace lines code w (F.held p d h (F.trace_unread r l c)) = no_trace file trace p d w h r l c
-whole_answer told before now words file trace lines code w (F.held p d h (F.trace_refused line r l c)) = trace_refused file trace p d line w h r l c
-whole_answer told before now words file trace lines code w (F.held p d h (F.trace_replayed t x r)) = replayed file trace p d t w h x r
+    -- its bytes are refused
+    pub bad_trace : (tells : Told) → tells ≡ told trace → (bytes : List ℕ) → MayHold tells bytes → length bytes ≤ limit → (e : Ending) → EndsAtTrace bytes p e → EndsReplay told before now file trace e
+    bad_trace tells same bytes m le usage h = absurd h
+    bad_trace tells same bytes m le (unread name) h = absurd h
+    bad_trace tells same bytes m le (refused line) h = R.trace p source (R.misfit_at bytes h.0 (subst (λ w. MayHold w bytes) same m) le h.1 h.2)
+    bad_trace tells same bytes m le (done lines code) h = absurd h
+
+    -- the trace is replayed
+    pub traced : (tells : Told) → tells ≡ told trace → (bytes : List ℕ) → MayHold tells bytes → length bytes ≤ limit → (t : Listing) → IsTraceText bytes t → FitsProgram p t
+        → (lines : List Line) (code : ℕ) → IsReplay p t lines code → IsReplayed told file trace lines code
+    traced tells same bytes m le t text fits lines code r = record {
+      program = p;
+      source = source;
+      listing = t;
+      held = record { bytes = bytes; held = subst (λ w. MayHold w bytes) same m; short = le; text = text; fits = fits };
+      replay = r;
+    }

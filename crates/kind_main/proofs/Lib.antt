@@ -3,9 +3,5 @@ pub mod FirstToken
 pub mod Reporting
 pub mod Printing
 pub mod Answering
-pub mod Ends
-pub mod Numbering
-pub mod Silent
-pub mod BooleanTexts
-pub mod Numbered
+pub mod Leaving
 pub mod Replayed

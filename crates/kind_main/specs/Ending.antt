@@ -1,86 +1,49 @@
--- What a call leaves, status by status.
-use Rattle.std.specs.Prelude.{◌≡◌, ◌++◌, ◌⊎◌, ℕ, List, [], Option}
-use Rattle.std.specs.Io.KnownBytes.{Appends}
-use Rattle.kind_io.specs.Counts.{Rose}
-use Rattle.kind_io.specs.Written.{AppendsFront}
-use Rattle.lus_tree.specs.Tree.{Program, Component}
-use Rattle.kind_main.specs.Words.{AreReplay, AreNoCommand}
-use Rattle.kind_main.specs.Lines.{Line, text_of, usage_line, memory_line, read_fault_line}
-use Rattle.lus_meaning.specs.TraceView.{Listing}
-use Rattle.kind_main.specs.Report.{IsReplay}
-use Rattle.kind_main.specs.Answer.{Tells, HoldsSource, IsRefused, HoldsTrace, IsRefusedTrace, IsAnswer}
+-- How a command ends, where memory is found.
+use Rattle.std.specs.Prelude.{◌≡◌, ℕ, List, [], ◌∷◌, map, Result, Ok, Err, Option, Some, None, IfSome}
+use Rattle.std.specs.String.{string_bytes}
+use Rattle.kind_main.specs.declared.ending.Report.{Report}
+use Rattle.kind_main.specs.declared.ending.Stopped.{Stopped}
+use Rattle.kind_main.specs.declared.ending.Stopped.TheVariants.{Usage, Unread, Refused, Memory}
+use Rattle.kind_main.specs.Lines.{Line, usage_line, read_fault_line}
 
--- whole first lines of the answer
-pub data AreFirst (told : Tells) (before now : ℕ) (words : List (List ℕ)) (lines : List Line) : Type 0 where
-  nothing : lines ≡ [] → AreFirst told before now words lines
-  some : (rest : List Line) (code : ℕ) → IsAnswer told before now words (lines ++ rest) code → AreFirst told before now words lines
+-- the words are of no form that is built; the file of this name could not be read; this line says what is refused; or the command was carried out, with these lines and this status
+pub data Ending : Type 0 where
+  usage : Ending
+  unread : List ℕ → Ending
+  refused : Line → Ending
+  done : List Line → ℕ → Ending
 
--- what a call writes where no put fails: the answer, or where memory runs out its first lines and a line that says so
-pub data IsWhole (told : Tells) (before now : ℕ) (words : List (List ℕ)) (text : List ℕ) : Type 0 where
-  answered : (lines : List Line) (code : ℕ) → IsAnswer told before now words lines code → text ≡ text_of lines → IsWhole told before now words text
-  short : (lines : List Line) → AreFirst told before now words lines → text ≡ text_of lines ++ memory_line → IsWhole told before now words text
+-- what is printed
+abbrev pub lines_of : Ending → List Line
+lines_of usage = usage_line ∷ []
+lines_of (unread name) = read_fault_line name ∷ []
+lines_of (refused line) = line ∷ []
+lines_of (done lines code) = lines
 
--- How a call ends: with its answer written, with a put that failed, or without memory.
-pub data Ends (told : Tells) (before now : ℕ) (words : List (List ℕ)) (puts_before puts_now : ℕ) (old new : Option (List ℕ)) (code : ℕ) : Type 0 where
-  answer : (lines : List Line) → IsAnswer told before now words lines code → Appends old new (text_of lines) → Ends told before now words puts_before puts_now old new code
-  failed : (text : List ℕ) → code ≡ 6 → Rose puts_before puts_now → IsWhole told before now words text → AppendsFront old new text → Ends told before now words puts_before puts_now old new code
-  no_memory : (lines : List Line) → code ≡ 7 → AreFirst told before now words lines → Appends old new (text_of lines ++ memory_line) ⊎ Appends old new (text_of lines) → Ends told before now words puts_before puts_now old new code
+abbrev pub status_of : Ending → ℕ
+status_of usage = 2
+status_of (unread name) = 5
+status_of (refused line) = 3
+status_of (done lines code) = code
 
--- what was written before and is written now, where that is told
-abbrev pub Written : Type 0
-Written = Option (List ℕ)
+-- the ending that a stop is; want of memory is none
+abbrev pub stop_of : Stopped → Option Ending
+stop_of Usage = Some usage
+stop_of (Unread name) = Some (unread (string_bytes name))
+stop_of (Refused line) = Some (refused (string_bytes line))
+stop_of Memory = None
 
--- Status 1 or 10: the files hold a source that follows the rules and a trace that fits it, and what was written grew by the lines of the trace's one frame.
-pub record IsReplayed (told : Tells) (words : List (List ℕ)) (old new : Written) (code : ℕ) : Type 0 where
-  pub file : List ℕ
-  pub trace : List ℕ
-  pub command : AreReplay words file trace
-  pub program : Program
-  pub node : Component
-  pub source_held : HoldsSource told file program node
-  pub listing : Listing
-  pub trace_held : HoldsTrace told trace program listing
-  pub lines : List Line
-  pub replay : IsReplay program node listing lines code
-  pub printed : Appends old new (text_of lines)
+abbrev pub ending_of : Result Report Stopped → Option Ending
+ending_of (Ok r) = Some (done (map string_bytes r.lines.items) r.status.code)
+ending_of (Err s) = stop_of s
 
--- Status 2: the words are of no form that is built, and the usage line was written.
-pub record IsUsage (words : List (List ℕ)) (old new : Written) : Type 0 where
-  pub other : AreNoCommand words
-  pub printed : Appends old new usage_line
+abbrev pub IfStopped : (Ending → Type 0) → Stopped → Type 0
+IfStopped P s = IfSome (stop_of s) P
 
--- Status 3: the source is refused, or it is held and the trace is refused, and the line that says so was written.
-pub record IsRefusal (told : Tells) (words : List (List ℕ)) (old new : Written) : Type 0 where
-  pub file : List ℕ
-  pub trace : List ℕ
-  pub command : AreReplay words file trace
-  pub line : Line
-  pub cause : IsRefused told file line ⊎ ((p : Program) × (d : Component) × HoldsSource told file p d × IsRefusedTrace told trace p line)
-  pub printed : Appends old new line
+abbrev pub IfEnded : (Ending → Type 0) → Result Report Stopped → Type 0
+IfEnded P r = IfSome (ending_of r) P
 
--- Status 5: a file could not be read, the source or, where that is held, the trace, and the line that names it was written.
-pub record IsUnread (told : Tells) (before now : ℕ) (words : List (List ℕ)) (old new : Written) : Type 0 where
-  pub rose : Rose before now
-  pub file : List ℕ
-  pub trace : List ℕ
-  pub command : AreReplay words file trace
-  pub name : List ℕ
-  pub which : (name ≡ file) ⊎ ((name ≡ trace) × (p : Program) × (d : Component) × HoldsSource told file p d)
-  pub printed : Appends old new (read_fault_line name)
-
--- Status 6: a put failed, and a front of what the call would have written was written.
-pub record IsBroken (told : Tells) (before now : ℕ) (words : List (List ℕ)) (puts_before puts_now : ℕ) (old new : Written) : Type 0 where
-  pub rose : Rose puts_before puts_now
-  pub text : List ℕ
-  pub whole : IsWhole told before now words text
-  pub printed : AppendsFront old new text
-
--- Status 7: memory ran out; some whole first lines of the answer were written and then, unless that put wanted memory too, the line that says so.
-pub record IsShort (told : Tells) (before now : ℕ) (words : List (List ℕ)) (old new : Written) : Type 0 where
-  pub lines : List Line
-  pub first : AreFirst told before now words lines
-  pub printed : Appends old new (text_of lines ++ memory_line) ⊎ Appends old new (text_of lines)
-
--- the statuses
-abbrev pub IsKnown : ℕ → Type 0
-IsKnown code = (code ≡ 1) ⊎ ((code ≡ 2) ⊎ ((code ≡ 3) ⊎ ((code ≡ 5) ⊎ ((code ≡ 6) ⊎ ((code ≡ 7) ⊎ (code ≡ 10))))))
+-- these lines and this status are those of the ending
+pub record Shows (lines : List Line) (code : ℕ) (e : Ending) : Type 0 where
+  pub printed : lines ≡ lines_of e
+  pub status : code ≡ status_of e

@@ -1,8 +1,10 @@
 pub mod Lines
 pub mod Words
 pub mod Report
-pub mod CheckWord
+pub mod Ending
+pub mod Fetched
+pub mod Source
+pub mod Traced
 pub mod Answer
 pub mod Printing
-pub mod Fetched
-pub mod Ending
+pub mod Left

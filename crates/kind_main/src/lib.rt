@@ -2,9 +2,12 @@
 #![tactic(auto)]
 
 mod answer;
-mod check_word;
+mod ending;
+mod fetching;
 mod print;
+mod replaying;
 mod report;
+mod source;
 mod status;
 mod text;
 mod top;

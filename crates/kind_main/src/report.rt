@@ -1,12 +1,14 @@
 //! The lines of the properties that break.
-ghost use Rattle.std.specs.Prelude.{◌≡◌, ◌++◌, ◌∷◌, [], map, IfOk, OnOk};
+ghost use Rattle.std.specs.Prelude.{◌≡◌, ◌≤◌, ◌++◌, ◌∷◌, [], length, map, IfOk, OnOk};
 ghost use Rattle.std.specs.String.{string_bytes};
 ghost use Rattle.lus_tree.specs.View.{item_view, named_view};
-ghost use Rattle.kind_main.specs.Report.{property_line, AreLines, AreMany, GoesOn};
+ghost use Rattle.trace_replay.specs.Answer.{replay_view};
+ghost use Rattle.kind_main.specs.Report.{property_line, labelled_in, body_report, GoesOn};
 
 use crate::text::breaks_text;
 use lus_tree::{Item, Named};
 use std::alloc::{AllocError, Global};
+use trace_replay::Replay;
 
 /// Adds the line of a property, where it breaks.
 #[tactic(auto, using(crate::proofs::FirstToken::expr_token))]
@@ -25,40 +27,38 @@ fn push_break(
     Ok(())
 }
 
-/// Adds the line of an item, where it is a property that breaks, and answers the instants that are
-/// left for the items behind it.
-fn push_item<'i>(
+/// Adds the line of an item, where it is a property that breaks, and answers how many properties
+/// there are up to it.
+fn push_item(
     alloc: Global,
     item: &Item,
-    instants: &'i [Option<u32>],
+    replay: &Replay,
+    count: u32,
     lines: &mut Vec<String>,
-) -> Result<&'i [Option<u32>], AllocError>
-    requires { AreMany (item_view item.now ∷ []) instants.now }
-    ensures { IfOk result (λ left. GoesOn (item_view item.now) instants.now left.now (map string_bytes lines.old.items) (map string_bytes lines.new.items)) }
+) -> Result<u32, AllocError>
+    requires { count ≤ 500 }
+    ensures { IfOk result (λ after. GoesOn (item_view item.now) (replay_view replay.now).breaks count after (map string_bytes lines.old.items) (map string_bytes lines.new.items)) }
 {
     let Item::Property(property) = item else {
-        return Ok(instants);
+        return Ok(count);
     };
-    let [instant, left @ ..] = instants else {
-        unreachable!()
-    };
-    push_break(alloc, property, *instant, lines)?;
-    Ok(left)
+    push_break(alloc, property, replay.breaks(count), lines)?;
+    Ok(count + 1)
 }
 
-/// The lines of a body's properties, each of which breaks at the instant that stands at its place.
+/// The lines of a body's properties that a replay shows to break.
 pub fn break_lines(
     alloc: Global,
     items: &[Item],
-    instants: &[Option<u32>],
+    replay: &Replay,
 ) -> Result<Vec<String>, AllocError>
-    requires { AreMany (map item_view items.now) instants.now }
-    ensures { IfOk result (λ lines. AreLines (map item_view items.now) instants.now (map string_bytes lines.items)) }
+    requires { length (labelled_in (map item_view items.now)) ≤ 500 }
+    ensures { IfOk result (λ lines. map string_bytes lines.items ≡ body_report 0 (labelled_in (map item_view items.now)) (replay_view replay.now).breaks) }
 {
     let mut lines = Vec::new(alloc);
-    let mut left = instants;
+    let mut count = 0;
     for item in items {
-        left = push_item(alloc, item, left, &mut lines)?;
+        count = push_item(alloc, item, replay, count, &mut lines)?;
     }
     Ok(lines)
 }

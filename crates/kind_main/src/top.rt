@@ -1,7 +1,7 @@
 //! All that the program does.
 ghost use Rattle.std.specs.Prelude.{◌≡◌, ◌+◌, ◌-◌, ◌^◌, ◌<◌, ◌≤◌, ◌++◌, ◌⊎◌, ◌∷◌, [], List, ℕ, map};
 ghost use Rattle.std.specs.String.{string_bytes};
-ghost use Rattle.kind_main.specs.Ending.{Ends, IsUsage, IsRefusal, IsUnread, IsReplayed, IsBroken, IsShort, IsKnown};
+ghost use Rattle.kind_main.specs.Left.{Leaves, IsUsage, IsRefusal, IsUnread, IsDone, IsBroken, IsShort, IsKnown};
 ghost use Rattle.kind_main.specs.Words.{AreReplay};
 
 use crate::answer::answer_to;
@@ -12,7 +12,7 @@ use std::alloc::Global;
 
 /// Answers the words and prints the answer.
 fn run<H: Shelf, K: Sink>(alloc: Global, words: &[String], shelf: &mut H, out: &mut K) -> Status
-    ensures { Ends (H.told shelf.old) (H.faults shelf.old) (H.faults shelf.new) (map string_bytes words.now)
+    ensures { Leaves (H.told shelf.old) (H.faults shelf.old) (H.faults shelf.new) (map string_bytes words.now)
         (K.faults out.old) (K.faults out.new) (K.written out.old) (K.written out.new) result.code }
 {
     match answer_to(alloc, words, shelf) {
@@ -34,7 +34,7 @@ pub fn kind_top<H: Shelf, K: Sink>(
     out: &mut K,
 ) -> Status
     // 1 and 10: the files hold a source and a trace, and the lines say what the trace's one frame breaks.
-    ensures replayed { (result.code ≡ 1) ⊎ (result.code ≡ 10) → IsReplayed (H.told shelf.old) (map string_bytes words.now) (K.written out.old) (K.written out.new) result.code }
+    ensures replayed { (result.code ≡ 1) ⊎ (result.code ≡ 10) → IsDone (H.told shelf.old) (map string_bytes words.now) (K.written out.old) (K.written out.new) result.code }
     // 2: the words are of no form that is built.
     ensures usage { result.code ≡ 2 → IsUsage (map string_bytes words.now) (K.written out.old) (K.written out.new) }
     // Where they are of a form that is built, 2 never comes.

@@ -1,9 +1,9 @@
-use Rattle.kind_main.proofs.Ends.{replayed_of, usage_of, words_of, refusal_of, unread_of, broken_of, short_of, known_of}
+use Rattle.kind_main.proofs.Leaving.{done_of, usage_of, words_of, refusal_of, unread_of, broken_of, short_of, known_of}
 use Rattle.kind_main.proofs.top.kind_top.Goals as goal
 
 pub returns : goal.returns
 returns g c = record {
-  replayed = replayed_of _ _ _ _ _ _ _ _ _ c.run.ensures;
+  replayed = done_of _ _ _ _ _ _ _ _ _ c.run.ensures;
   usage = usage_of _ _ _ _ _ _ _ _ _ c.run.ensures;
   words = words_of _ _ _ _ _ _ _ _ _ c.run.ensures;
   refused = refusal_of _ _ _ _ _ _ _ _ _ c.run.ensures;

@@ -1,0 +1,41 @@
+-- The source of a command.
+use Rattle.std.specs.Prelude.{◌≡◌, ◌≤◌, ℕ, List, length}
+use Rattle.kind_io.specs.Told.{Told, MayHold, MayExceed}
+use Rattle.lus_tree.specs.Tree.{Program}
+use Rattle.lus_tree.specs.Reason.{Refused}
+use Rattle.lus_meaning.specs.BooleanRules.{BreaksNoBooleanRule}
+use Rattle.lus_grammar.specs.Source.{IsSource, IsRefused as IsMisread}
+use Rattle.kind_main.specs.Lines.{Line, too_long_line, not_built_line, refused_line}
+use Rattle.kind_main.specs.Fetched.{limit}
+use Rattle.kind_main.specs.Ending.{Ending, usage, unread, refused, done}
+
+-- the bytes are a source, and its tree is not one of a program that is built and follows the rules
+pub record IsNotBuilt (bytes : List ℕ) : Type 0 where
+  pub tree : Program
+  pub source : IsSource bytes tree
+  pub because : BreaksNoBooleanRule tree → ⊥
+
+-- why the bytes of a source are refused, and the line that says so: their tokens or their grammar have a first fault, or they are not built
+pub data IsRefusedSource (bytes : List ℕ) (line : Line) : Type 0 where
+  misread : (r : Refused) → IsMisread bytes r → line ≡ refused_line r → IsRefusedSource bytes line
+  unbuilt : IsNotBuilt bytes → line ≡ not_built_line → IsRefusedSource bytes line
+
+-- how a command ends whose source is refused
+abbrev pub EndsAtSource : List ℕ → Ending → Type 0
+EndsAtSource bytes (refused line) = IsRefusedSource bytes line
+EndsAtSource bytes usage = ⊥
+EndsAtSource bytes (unread name) = ⊥
+EndsAtSource bytes (done lines code) = ⊥
+
+-- the file holds a source that follows the rules
+pub record HoldsSource (told : Told) (p : Program) : Type 0 where
+  pub bytes : List ℕ
+  pub held : MayHold told bytes
+  pub short : length bytes ≤ limit
+  pub source : IsSource bytes p
+  pub follows : BreaksNoBooleanRule p
+
+-- why a file is refused as a source, and the line that says so
+pub data IsRefusedFile (told : Told) (line : Line) : Type 0 where
+  too_long : MayExceed told limit → line ≡ too_long_line → IsRefusedFile told line
+  refused_bytes : (bytes : List ℕ) → MayHold told bytes → length bytes ≤ limit → IsRefusedSource bytes line → IsRefusedFile told line
