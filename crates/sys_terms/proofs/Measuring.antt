@@ -61,8 +61,13 @@ pair-light : (a b : Amount) → light_weight a ≡ cond (is_light_weight (heavie
     → light_weight b ≡ cond (is_light_weight (heaviest_in b)) (Some (weight b)) None
     → is_there (light_weight a) && is_there (light_weight b) ≡ is_light_weight (max (heaviest_in a) (heaviest_in b))
 pair-light a b e g =
-    rw (e, g, same-there (is_light_weight (heaviest_in a)) (weight a), same-there (is_light_weight (heaviest_in b)) (weight b),
-      light-max (heaviest_in a) (heaviest_in b)) refl
+    rw (
+      e,
+      g,
+      same-there (is_light_weight (heaviest_in a)) (weight a),
+      same-there (is_light_weight (heaviest_in b)) (weight b),
+      light-max (heaviest_in a) (heaviest_in b),
+    ) refl
 
 -- three weights of which the second and the third are the parts'
 three-light : (x y z : ℕ) → is_light_weight (max x (max y z)) ≡ is_light_weight x && (is_light_weight y && is_light_weight z)

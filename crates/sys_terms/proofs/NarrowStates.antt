@@ -118,9 +118,10 @@ state-bounds (k.Number ∷ hs) s more v (e.Number z ∷ tail) t f =
     let u = upper-is s v z q in
     let l = lower-is s v z q in
     let w = within-bounds z in
-    let r = state-bounds hs s more (suc v) tail (next-tail s v (e.Number z) tail t) f in
-    (λ a. both_from _ _ (w.0 (sym u ∙ a.0, sym l ∙ a.1.0)) (r.0 a.1.1),
-    λ a. let k = both_true _ _ a in let b = w.1 k.0 in (u ∙ b.0, (l ∙ b.1, r.1 k.1)))
+    let r = state-bounds hs s more (suc v) tail (next-tail s v (e.Number z) tail t) f in (
+      λ a. both_from _ _ (w.0 (sym u ∙ a.0, sym l ∙ a.1.0)) (r.0 a.1.1),
+      λ a. let k = both_true _ _ a in let b = w.1 k.0 in (u ∙ b.0, (l ∙ b.1, r.1 k.1)),
+    )
 
 later-bounds-at : (s : List Entry) (more : List (List Entry)) (j v : ℕ) (shapes : List Shape)
     → EachAt (s ∷ more) (bounds_at (suc j) v shapes) ↔ EachAt more (bounds_at j v shapes)
@@ -169,19 +170,20 @@ narrow-answers m task cites (s ∷ more) =
     let states = s ∷ more in
     let P : ℕ × Formula → Type 0 = λ p. IsTrueAtSome p.1 (slice_get (s ∷ more) p.0) in
     let N : List Entry → Type 0 = λ t. is_narrow t ≡ true in
-    let x = each-of-both (s ∷ more) (asked_at m task) (narrow_bounds m task) in
-    (λ a. let t = asked-terms m task s more (omega (arith, a.count)) in
-        let w = all-bounds m.shapes (s ∷ more) (suc (last_of task)) a.count (path-fits m (begins_first task) (s ∷ more) a.path) in
-        let c = x.0 (recursion_from_All P (asked_at m task ++ narrow_bounds m task) a.against) in
-        (record { path = a.path; count = a.count; cited = a.cited; against = t.0 c.0 }, All-from_recursion N (s ∷ more) (w.0 c.1)),
-    λ a. let t = asked-terms m task s more (omega (arith, a.0.count)) in
-        let w = all-bounds m.shapes (s ∷ more) (suc (last_of task)) a.0.count (path-fits m (begins_first task) (s ∷ more) a.0.path) in
-        record {
-          path = a.0.path;
-          count = a.0.count;
-          cited = a.0.cited;
-          against = All-from_recursion P (asked_at m task ++ narrow_bounds m task) (x.1 (t.1 a.0.against, w.1 (recursion_from_All N (s ∷ more) a.1)));
-        })
+    let x = each-of-both (s ∷ more) (asked_at m task) (narrow_bounds m task) in (
+      λ a. let t = asked-terms m task s more (omega (arith, a.count)) in
+          let w = all-bounds m.shapes (s ∷ more) (suc (last_of task)) a.count (path-fits m (begins_first task) (s ∷ more) a.path) in
+          let c = x.0 (recursion_from_All P (asked_at m task ++ narrow_bounds m task) a.against) in
+          (record { path = a.path; count = a.count; cited = a.cited; against = t.0 c.0 }, All-from_recursion N (s ∷ more) (w.0 c.1)),
+      λ a. let t = asked-terms m task s more (omega (arith, a.0.count)) in
+          let w = all-bounds m.shapes (s ∷ more) (suc (last_of task)) a.0.count (path-fits m (begins_first task) (s ∷ more) a.0.path) in
+          record {
+            path = a.0.path;
+            count = a.0.count;
+            cited = a.0.cited;
+            against = All-from_recursion P (asked_at m task ++ narrow_bounds m task) (x.1 (t.1 a.0.against, w.1 (recursion_from_All N (s ∷ more) a.1)));
+          },
+    )
 
 -- the same conditions
 each-append-at : (m : Machine) (xs ys : List (ℕ × Formula)) → each_at m (xs ++ ys) ≡ each_at m xs ++ each_at m ys
@@ -213,7 +215,7 @@ same-conditions : (m : Machine) (task : Task) (cites : List Formula)
     → conditions_of m (narrow_task m task) cites ≡ conditions_of m task cites ++ each_at m (narrow_bounds m task)
 same-conditions m task cites =
     ap (λ l. some_path_to m cites (begins_first task) (last_of task) ++ l)
-      (each-append-at m (asked_at m task) (narrow_bounds m task) ∙ ap (λ l. l ++ each_at m (narrow_bounds m task)) (same-asked m task))
+    (each-append-at m (asked_at m task) (narrow_bounds m task) ∙ ap (λ l. l ++ each_at m (narrow_bounds m task)) (same-asked m task))
     ∙ ap (λ l. l ++ (asked_of m task ++ each_at m (narrow_bounds m task))) (sym (path_is m cites task))
     ∙ sym (append_assoc (path_of m cites task) (asked_of m task) (each_at m (narrow_bounds m task)))
 
@@ -263,21 +265,21 @@ bounds-at-fit shapes j n h v (k.Number ∷ tail) t =
     let q = bound-shape shapes v tail t in
     let l = below-next j n h in
     both_from _ _ l (both_from _ _ (upper-fits shapes v q) (both_from _ _ l (both_from _ _ (lower-fits shapes v q)
-      (bounds-at-fit shapes j n h (suc v) tail (next-shapes shapes v k.Number tail t)))))
+    (bounds-at-fit shapes j n h (suc v) tail (next-shapes shapes v k.Number tail t)))))
 
 bounds-fit : (shapes : List Shape) (count j n : ℕ) → j + count ≤ suc n → places_fit shapes (suc n) (bounds_from shapes j count) ≡ true
 bounds-fit shapes zero j n h = refl
 bounds-fit shapes (suc count) j n h =
     fit-append shapes (suc n) (bounds_at j 0 shapes) (bounds_from shapes (suc j) count)
-      (bounds-at-fit shapes j n (omega arith) 0 shapes (λ y. ap (slice_get shapes) (no-shift y)))
-      (bounds-fit shapes count (suc j) n (omega arith))
+    (bounds-at-fit shapes j n (omega arith) 0 shapes (λ y. ap (slice_get shapes) (no-shift y)))
+    (bounds-fit shapes count (suc j) n (omega arith))
 
 asked-fit : (m : Machine) → IsFit m → (task : Task) → is_asked m task ≡ true → places_fit m.shapes (suc (last_of task)) (asked_at m task) ≡ true
 asked-fit m fit (base p i) a = one-fits m.shapes i i (negation (property_term m p)) (omega arith) (property-fits m.shapes m.properties p fit.properties)
 asked-fit m fit (step p k) a =
     let g = property-fits m.shapes m.properties p fit.properties in
     fit-append m.shapes (suc k) (from_state 0 k (property_term m p)) ((k, negation (property_term m p)) ∷ [])
-      (from-fits m.shapes (property_term m p) g k 0 k (omega arith)) (one-fits m.shapes k k (negation (property_term m p)) (omega arith) g)
+    (from-fits m.shapes (property_term m p) g k 0 k (omega arith)) (one-fits m.shapes k k (negation (property_term m p)) (omega arith) g)
 asked-fit m fit (lemma_first f) a = one-fits m.shapes 0 0 (negation f) (omega arith) a
 asked-fit m fit (lemma_next f) a = both_from _ _ refl (both_from _ _ a (one-fits m.shapes 1 1 (negation f) (omega arith) a))
 asked-fit m fit (implied f p) a = both_from _ _ refl (both_from _ _ (both_true _ _ a).0
@@ -291,7 +293,7 @@ asked-fit m fit (with_states n b at) a = let c = both_true _ _ a in
 narrow-asked : (m : Machine) (task : Task) → IsFit m → is_asked m task ≡ true → is_asked m (narrow_task m task) ≡ true
 narrow-asked m task fit a =
     both_from _ _ (below-next 0 (last_of task) (omega arith)) (fit-append m.shapes (suc (last_of task)) (asked_at m task) (narrow_bounds m task) (asked-fit m fit task a)
-      (bounds-fit m.shapes (suc (last_of task)) 0 (last_of task) (omega arith)))
+    (bounds-fit m.shapes (suc (last_of task)) 0 (last_of task) (omega arith)))
 
 -- and is as light
 light-append : (xs ys : List (ℕ × Formula)) → all_light_at xs ≡ true → all_light_at ys ≡ true → all_light_at (xs ++ ys) ≡ true

@@ -1,18 +1,25 @@
-//! Whether a system's terms fit its shapes, and whether it is mild. Neither takes memory.
+//! Whether a system's terms fit its shapes, whether it is mild, and whether an obligation speaks of
+//! it. None of these takes memory.
 
-ghost use Rattle.std.specs.Prelude.{◌≡◌, ◌↔◌, IsTrue, true};
-ghost use Rattle.sys_terms.specs.View.{terms_view, system_view};
-ghost use Rattle.sys_terms.specs.Fits.{all_fit, all_fit_one, all_light, IsFit, IsMild};
+ghost use Rattle.std.specs.Prelude.{◌≡◌, ◌↔◌, IsTrue, true, map, length, nat_lt};
+ghost use Rattle.sys_terms.specs.View.{term_view, terms_view, system_view, placed_view, obligation_view};
+ghost use Rattle.sys_terms.specs.Fits.{fits_one, all_fit, all_fit_one, all_light, places_fit, is_asked, IsFit, IsMild};
 
-use crate::term::{System, Term};
+use crate::term::{Obligation, System, Term};
 use kind_num::Shape;
 
-/// Whether each term fits and is over one state.
+/// Whether the term fits and is over one state.
+fn fits_one_state(shapes: &[Shape], term: &Term) -> bool
+    ensures { result ≡ fits_one shapes.now (term_view term.now) }
+{
+    term.fits(shapes) && term.is_present()
+}
+
 fn all_fit_one_state(shapes: &[Shape], terms: &[Term]) -> bool
     ensures { result ≡ all_fit_one shapes.now (terms_view terms.now) }
 {
     for term in terms {
-        if !(term.fits(shapes) && term.is_present()) {
+        if !fits_one_state(shapes, term) {
             return false;
         }
     }
@@ -63,5 +70,46 @@ impl System {
             && all_are_light(&self.next)
             && all_are_light(&self.legal)
             && all_are_light(&self.properties)
+    }
+}
+
+fn has_property(system: &System, property: u32) -> bool
+    ensures { result ≡ nat_lt property (length (system_view system.now).properties) }
+{
+    (property as usize) < system.properties.len()
+}
+
+/// Whether each term fits, is over one state and stands at one of so many states.
+fn all_places_fit(shapes: &[Shape], states: u32, at: &[(u32, Term)]) -> bool
+    ensures { result ≡ places_fit shapes.now states (map placed_view at.now) }
+{
+    for (state, term) in at {
+        if !(*state < states && fits_one_state(shapes, term)) {
+            return false;
+        }
+    }
+    true
+}
+
+impl Obligation {
+    /// Whether the obligation speaks of the system: of one of its properties, with terms that fit
+    /// and are over one state, and with one state at least.
+    pub fn is_asked(&self, system: &System) -> bool
+        ensures { result ≡ is_asked (system_view system.now) (obligation_view self.now) }
+    {
+        match self {
+            Obligation::Base { property, .. } | Obligation::Step { property, .. } => {
+                has_property(system, *property)
+            }
+            Obligation::LemmaFirst(lemma) | Obligation::LemmaNext(lemma) => {
+                fits_one_state(&system.shapes, lemma)
+            }
+            Obligation::Implied { lemma, property } => {
+                fits_one_state(&system.shapes, lemma) && has_property(system, *property)
+            }
+            Obligation::Open { states, at, .. } => {
+                *states > 0 && all_places_fit(&system.shapes, *states, at)
+            }
+        }
     }
 }
