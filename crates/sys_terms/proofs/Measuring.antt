@@ -1,5 +1,5 @@
 -- The weight found part by part is that of the whole; each term has a level.
-use Rattle.std.specs.Prelude.{ℕ, zero, suc, ◌≡◌, ◌≤◌, ◌+◌, ◌*◌, ◌^◌, max, Bool, true, false, ◌&&◌, cond, Option, Some, None, unsigned_abs, nat_lt, refl}
+use Rattle.std.specs.Prelude.{ℕ, ◌≡◌, ◌≤◌, ◌+◌, ◌*◌, max, Bool, true, false, ◌&&◌, cond, Some, None, unsigned_abs, nat_lt, refl}
 use Rattle.std.proofs.Common.{ap, sym, ◌∙◌, arith}
 use lib.IntN.{ℤ}
 use Rattle.std.proofs.lemmas.Bool.Decides.{nat_tests}

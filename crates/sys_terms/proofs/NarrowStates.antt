@@ -1,11 +1,10 @@
 -- A narrow query is answered by the answers of its obligation that are narrow.
-use Rattle.std.specs.Prelude.{ℕ, zero, suc, ◌≡◌, ◌+◌, ◌≤◌, ◌<◌, ◌^◌, Bool, true, false, not, ◌&&◌, List, [], ◌∷◌, ◌++◌, Option, Some, None, slice_get, length, ◌↔◌, All, nat_lt, nat_le, refl}
+use Rattle.std.specs.Prelude.{ℕ, zero, suc, ◌≡◌, ◌+◌, ◌≤◌, Bool, true, false, not, List, [], ◌∷◌, ◌++◌, Some, slice_get, length, ◌↔◌, All, nat_lt, refl}
 use Rattle.std.specs.List.{AllByRecursion}
 use Rattle.std.proofs.Common.{ap, sym, ◌∙◌, subst, arith}
 use Rattle.std.proofs.lemmas.List.{append_assoc}
 use Rattle.std.proofs.lemmas.List.Elements.{All-from_recursion, recursion_from_All}
 use Rattle.std.proofs.lemmas.Bool.Decides.{nat_tests}
-use Rattle.std.proofs.lemmas.Int.{ints}
 use lib.IntN.{ℤ, pos, negsuc}
 use lib.Signed.{le_z}
 use Rattle.kind_num.specs.declared.Shape.{Shape}
@@ -15,8 +14,8 @@ use Rattle.sys_terms.specs.declared.term.Entry.TheVariants as e
 use Rattle.sys_terms.specs.View.{Formula, negation, Machine, Task, base, step, lemma_first, lemma_next, implied, with_states}
 use Rattle.sys_terms.specs.Meaning.{values_of, as_number, truth_of}
 use Rattle.sys_terms.specs.Fits.{fits_one, is_light, is_light_weight, all_light_at, is_light_task, state_fits, is_narrow, is_narrow_number, is_asked, places_fit, is_number, IsFit, IsMild}
-use Rattle.sys_terms.specs.Paths.{IsState, IsPath, IsLoosePath, IsTrueAt, IsFalseAt, IsFalseAtLast, IsFalseAtLastAlone}
-use Rattle.sys_terms.specs.Queries.{placed, variables, property_term, some_path_to, false_at, true_from, each_at, before, last_of, path_of, asked_of, conditions_of}
+use Rattle.sys_terms.specs.Paths.{IsState, IsFalseAtLast, IsFalseAtLastAlone}
+use Rattle.sys_terms.specs.Queries.{placed, variables, property_term, some_path_to, true_from, each_at, before, last_of, path_of, asked_of, conditions_of}
 use Rattle.sys_terms.specs.Answers.{IsPathIf, begins_first, IsTrueAtSome, IsAgainst, IsAnswer}
 use Rattle.sys_terms.specs.NarrowQuery.{from_state, asked_at, greatest_narrow, least_narrow, upper_bound, lower_bound, bounds_at, bounds_from, narrow_bounds, narrow_task}
 use Rattle.sys_terms.specs.Laws.{IsNarrowed}
