@@ -27,14 +27,18 @@ use Rattle.sys_terms.proofs.Lightness.{property-light}
 abbrev EachAt : List (List Entry) → List (ℕ × Formula) → Type 0
 EachAt states at = AllByRecursion (λ (p : ℕ × Formula). IsTrueAtSome p.1 (slice_get states p.0)) at
 
-each-of-both : (states : List (List Entry)) (xs ys : List (ℕ × Formula)) → EachAt states (xs ++ ys) ↔ (EachAt states xs × EachAt states ys)
+each-of-both : (states : List (List Entry)) (xs ys : List (ℕ × Formula))
+    → EachAt states (xs ++ ys) ↔ (EachAt states xs × EachAt states ys)
 each-of-both states [] ys = (λ a. (tt, a), λ a. a.1)
 each-of-both states (x ∷ xs) ys = let r = each-of-both states xs ys in
     (λ a. ((a.0, (r.0 a.1).0), (r.0 a.1).1), λ a. (a.0.0, r.1 (a.0.1, a.1)))
 
 -- the places of the states after the first one
 later-terms : (s : List Entry) (more : List (List Entry)) (j k : ℕ) (f g : Formula) (count : ℕ)
-    → EachAt (s ∷ more) (from_state (suc j) count f ++ (suc k, g) ∷ []) ↔ EachAt more (from_state j count f ++ (k, g) ∷ [])
+    → EachAt (s ∷ more) (from_state (suc j) count f ++ (suc k, g) ∷ []) ↔ EachAt more (from_state j count f ++ (
+      k,
+      g,
+    ) ∷ [])
 later-terms s more j k f g zero = (λ a. a, λ a. a)
 later-terms s more j k f g (suc count) = let r = later-terms s more (suc j) k f g count in
     (λ a. (a.0, r.0 a.1), λ a. (a.0, r.1 a.1))
@@ -97,19 +101,23 @@ head-tail s v x tail t = ap (slice_get s) (same v) ∙ t 0 where
   same : (m : ℕ) → m ≡ m + 0
   same m = omega arith
 
-upper-is : (s : List Entry) (v : ℕ) (z : ℤ) → slice_get s v ≡ Some (e.Number z) → truth_of (values_of s) (values_of s) (upper_bound v) ≡ le_z z greatest_narrow
+upper-is : (s : List Entry) (v : ℕ) (z : ℤ) → slice_get s v ≡ Some (e.Number z)
+    → truth_of (values_of s) (values_of s) (upper_bound v) ≡ le_z z greatest_narrow
 upper-is s v z q = ap (λ o. le_z (as_number o) greatest_narrow) q
 
-lower-is : (s : List Entry) (v : ℕ) (z : ℤ) → slice_get s v ≡ Some (e.Number z) → truth_of (values_of s) (values_of s) (lower_bound v) ≡ le_z least_narrow z
+lower-is : (s : List Entry) (v : ℕ) (z : ℤ) → slice_get s v ≡ Some (e.Number z)
+    → truth_of (values_of s) (values_of s) (lower_bound v) ≡ le_z least_narrow z
 lower-is s v z q = ap (λ o. le_z least_narrow (as_number o)) q
 
-state-bounds : (shapes : List Shape) (s : List Entry) (more : List (List Entry)) (v : ℕ) (tail : List Entry) → IsTail s v tail → state_fits shapes tail ≡ true
+state-bounds : (shapes : List Shape) (s : List Entry) (more : List (List Entry)) (v : ℕ) (tail : List Entry)
+    → IsTail s v tail → state_fits shapes tail ≡ true
     → EachAt (s ∷ more) (bounds_at 0 v shapes) ↔ (is_narrow tail ≡ true)
 state-bounds [] s more v [] t f = (λ a. refl, λ a. tt)
 state-bounds [] s more v (x ∷ tail) t f = absurd cc
 state-bounds (k.Flag ∷ hs) s more v [] t f = absurd cc
 state-bounds (k.Number ∷ hs) s more v [] t f = absurd cc
-state-bounds (k.Flag ∷ hs) s more v (e.Flag b ∷ tail) t f = state-bounds hs s more (suc v) tail (next-tail s v (e.Flag b) tail t) f
+state-bounds (k.Flag ∷ hs) s more v (e.Flag b ∷ tail) t f = state-bounds hs s more (suc v) tail
+    (next-tail s v (e.Flag b) tail t) f
 state-bounds (k.Flag ∷ hs) s more v (e.Number z ∷ tail) t f = absurd cc
 state-bounds (k.Number ∷ hs) s more v (e.Flag b ∷ tail) t f = absurd cc
 state-bounds (k.Number ∷ hs) s more v (e.Number z ∷ tail) t f =
@@ -142,7 +150,8 @@ later-bounds s more shapes (suc count) j =
 no-shift : (n : ℕ) → 0 + n ≡ n
 no-shift n = omega arith
 
-all-bounds : (shapes : List Shape) (states : List (List Entry)) (count : ℕ) → length states ≡ count → AllByRecursion (λ s. state_fits shapes s ≡ true) states
+all-bounds : (shapes : List Shape) (states : List (List Entry)) (count : ℕ) → length states ≡ count
+    → AllByRecursion (λ s. state_fits shapes s ≡ true) states
     → EachAt states (bounds_from shapes 0 count) ↔ AllByRecursion (λ s. is_narrow s ≡ true) states
 all-bounds shapes [] zero e f = (λ a. tt, λ a. tt)
 all-bounds shapes (s ∷ more) zero e f = absurd (omega arith)
@@ -154,15 +163,18 @@ all-bounds shapes (s ∷ more) (suc count) e f =
     let r = all-bounds shapes more count (omega arith) f.1 in
     (λ a. let c = x.0 a in (b.0 c.0, r.0 (l.0 c.1)), λ a. x.1 (b.1 a.0, l.1 (r.1 a.1)))
 
-loose-fits : (m : Machine) (states : List (List Entry)) → AllByRecursion (IsState m) states → AllByRecursion (λ s. state_fits m.shapes s ≡ true) states
+loose-fits : (m : Machine) (states : List (List Entry)) → AllByRecursion (IsState m) states
+    → AllByRecursion (λ s. state_fits m.shapes s ≡ true) states
 loose-fits m [] a = tt
 loose-fits m (s ∷ more) a = (a.0.fit, loose-fits m more a.1)
 
-path-fits : (m : Machine) (b : Bool) (states : List (List Entry)) → IsPathIf b m states → AllByRecursion (λ s. state_fits m.shapes s ≡ true) states
+path-fits : (m : Machine) (b : Bool) (states : List (List Entry)) → IsPathIf b m states
+    → AllByRecursion (λ s. state_fits m.shapes s ≡ true) states
 path-fits m true states p = loose-fits m states (recursion_from_All (IsState m) states p.loose.each)
 path-fits m false states p = loose-fits m states (recursion_from_All (IsState m) states p.each)
 
-narrow-answers : (m : Machine) (task : Task) (cites : List Formula) (states : List (List Entry)) → IsAnswer m (narrow_task m task) cites states
+narrow-answers : (m : Machine) (task : Task) (cites : List Formula) (states : List (List Entry))
+    → IsAnswer m (narrow_task m task) cites states
     ↔ (IsAnswer m task cites states × All (λ s. is_narrow s ≡ true) states)
 narrow-answers m task cites [] = (λ a. absurd (omega (arith, a.count)), λ a. absurd (omega (arith, a.0.count)))
 narrow-answers m task cites (s ∷ more) =
@@ -171,16 +183,23 @@ narrow-answers m task cites (s ∷ more) =
     let N : List Entry → Type 0 = λ t. is_narrow t ≡ true in
     let x = each-of-both (s ∷ more) (asked_at m task) (narrow_bounds m task) in (
       λ a. let t = asked-terms m task s more (omega (arith, a.count)) in
-          let w = all-bounds m.shapes (s ∷ more) (suc (last_of task)) a.count (path-fits m (begins_first task) (s ∷ more) a.path) in
-          let c = x.0 (recursion_from_All P (asked_at m task ++ narrow_bounds m task) a.against) in
-          (record { path = a.path; count = a.count; cited = a.cited; against = t.0 c.0 }, All-from_recursion N (s ∷ more) (w.0 c.1)),
+          let w = all-bounds m.shapes (s ∷ more) (suc (last_of task)) a.count
+          (path-fits m (begins_first task) (s ∷ more) a.path) in
+          let c = x.0 (recursion_from_All P (asked_at m task ++ narrow_bounds m task) a.against) in (
+            record { path = a.path; count = a.count; cited = a.cited; against = t.0 c.0 },
+            All-from_recursion N (s ∷ more) (w.0 c.1),
+          ),
       λ a. let t = asked-terms m task s more (omega (arith, a.0.count)) in
-          let w = all-bounds m.shapes (s ∷ more) (suc (last_of task)) a.0.count (path-fits m (begins_first task) (s ∷ more) a.0.path) in
+          let w = all-bounds m.shapes (s ∷ more) (suc (last_of task)) a.0.count
+          (path-fits m (begins_first task) (s ∷ more) a.0.path) in
           record {
             path = a.0.path;
             count = a.0.count;
             cited = a.0.cited;
-            against = All-from_recursion P (asked_at m task ++ narrow_bounds m task) (x.1 (t.1 a.0.against, w.1 (recursion_from_All N (s ∷ more) a.1)));
+            against = All-from_recursion P (asked_at m task ++ narrow_bounds m task) (x.1 (
+              t.1 a.0.against,
+              w.1 (recursion_from_All N (s ∷ more) a.1),
+            ));
           },
     )
 
@@ -202,7 +221,8 @@ same-asked m (lemma_next f) = refl
 same-asked m (implied f p) = refl
 same-asked m (with_states n b at) = refl
 
-path_is : (m : Machine) (cites : List Formula) (task : Task) → path_of m cites task ≡ some_path_to m cites (begins_first task) (last_of task)
+path_is : (m : Machine) (cites : List Formula) (task : Task)
+    → path_of m cites task ≡ some_path_to m cites (begins_first task) (last_of task)
 path_is m cites (base p i) = refl
 path_is m cites (step p k) = refl
 path_is m cites (lemma_first f) = refl
@@ -214,12 +234,14 @@ same-conditions : (m : Machine) (task : Task) (cites : List Formula)
     → conditions_of m (narrow_task m task) cites ≡ conditions_of m task cites ++ each_at m (narrow_bounds m task)
 same-conditions m task cites =
     ap (λ l. some_path_to m cites (begins_first task) (last_of task) ++ l)
-    (each-append-at m (asked_at m task) (narrow_bounds m task) ∙ ap (λ l. l ++ each_at m (narrow_bounds m task)) (same-asked m task))
+    (each-append-at m (asked_at m task) (narrow_bounds m task)
+    ∙ ap (λ l. l ++ each_at m (narrow_bounds m task)) (same-asked m task))
     ∙ ap (λ l. l ++ (asked_of m task ++ each_at m (narrow_bounds m task))) (sym (path_is m cites task))
     ∙ sym (append_assoc (path_of m cites task) (asked_of m task) (each_at m (narrow_bounds m task)))
 
 -- it speaks of the system
-fit-append : (shapes : List Shape) (n : ℕ) (xs ys : List (ℕ × Formula)) → places_fit shapes n xs ≡ true → places_fit shapes n ys ≡ true → places_fit shapes n (xs ++ ys) ≡ true
+fit-append : (shapes : List Shape) (n : ℕ) (xs ys : List (ℕ × Formula)) → places_fit shapes n xs ≡ true
+    → places_fit shapes n ys ≡ true → places_fit shapes n (xs ++ ys) ≡ true
 fit-append shapes n [] ys a b = b
 fit-append shapes n ((j, f) ∷ xs) ys a b =
     let c = both_true _ _ a in
@@ -229,10 +251,12 @@ fit-append shapes n ((j, f) ∷ xs) ys a b =
 below-next : (j n : ℕ) → j ≤ n → nat_lt j (suc n) ≡ true
 below-next j n h = grind (arith, nat_tests)
 
-one-fits : (shapes : List Shape) (j n : ℕ) (f : Formula) → j ≤ n → fits_one shapes f ≡ true → places_fit shapes (suc n) ((j, f) ∷ []) ≡ true
+one-fits : (shapes : List Shape) (j n : ℕ) (f : Formula) → j ≤ n → fits_one shapes f ≡ true
+    → places_fit shapes (suc n) ((j, f) ∷ []) ≡ true
 one-fits shapes j n f h g = both_from _ _ (below-next j n h) (both_from _ _ g refl)
 
-from-fits : (shapes : List Shape) (f : Formula) → fits_one shapes f ≡ true → (count j n : ℕ) → j + count ≤ suc n → places_fit shapes (suc n) (from_state j count f) ≡ true
+from-fits : (shapes : List Shape) (f : Formula) → fits_one shapes f ≡ true → (count j n : ℕ) → j + count ≤ suc n
+    → places_fit shapes (suc n) (from_state j count f) ≡ true
 from-fits shapes f g zero j n h = refl
 from-fits shapes f g (suc count) j n h =
     both_from _ _ (below-next j n (omega arith)) (both_from _ _ g (from-fits shapes f g count (suc j) n (omega arith)))
@@ -241,48 +265,60 @@ from-fits shapes f g (suc count) j n h =
 abbrev AreFrom : List Shape → ℕ → List Shape → Type 0
 AreFrom shapes v tail = (x : ℕ) → slice_get shapes (v + x) ≡ slice_get tail x
 
-bound-shape : (shapes : List Shape) (v : ℕ) (tail : List Shape) → AreFrom shapes v (k.Number ∷ tail) → is_number (slice_get shapes v) ≡ true
+bound-shape : (shapes : List Shape) (v : ℕ) (tail : List Shape) → AreFrom shapes v (k.Number ∷ tail)
+    → is_number (slice_get shapes v) ≡ true
 bound-shape shapes v tail t = ap is_number (ap (slice_get shapes) (same v) ∙ t 0) where
   same : (m : ℕ) → m ≡ m + 0
   same m = omega arith
 
-next-shapes : (shapes : List Shape) (v : ℕ) (x : Shape) (tail : List Shape) → AreFrom shapes v (x ∷ tail) → AreFrom shapes (suc v) tail
+next-shapes : (shapes : List Shape) (v : ℕ) (x : Shape) (tail : List Shape) → AreFrom shapes v (x ∷ tail)
+    → AreFrom shapes (suc v) tail
 next-shapes shapes v x tail t y = ap (slice_get shapes) (one_more v y) ∙ t (suc y) where
   one_more : (m k : ℕ) → suc m + k ≡ m + suc k
   one_more m k = omega arith
 
-upper-fits : (shapes : List Shape) (v : ℕ) → is_number (slice_get shapes v) ≡ true → fits_one shapes (upper_bound v) ≡ true
+upper-fits : (shapes : List Shape) (v : ℕ) → is_number (slice_get shapes v) ≡ true
+    → fits_one shapes (upper_bound v) ≡ true
 upper-fits shapes v h = both_from _ _ (both_from _ _ h refl) refl
 
-lower-fits : (shapes : List Shape) (v : ℕ) → is_number (slice_get shapes v) ≡ true → fits_one shapes (lower_bound v) ≡ true
+lower-fits : (shapes : List Shape) (v : ℕ) → is_number (slice_get shapes v) ≡ true
+    → fits_one shapes (lower_bound v) ≡ true
 lower-fits shapes v h = both_from _ _ h refl
 
-bounds-at-fit : (shapes : List Shape) (j n : ℕ) → j ≤ n → (v : ℕ) (tail : List Shape) → AreFrom shapes v tail → places_fit shapes (suc n) (bounds_at j v tail) ≡ true
+bounds-at-fit : (shapes : List Shape) (j n : ℕ) → j ≤ n → (v : ℕ) (tail : List Shape) → AreFrom shapes v tail
+    → places_fit shapes (suc n) (bounds_at j v tail) ≡ true
 bounds-at-fit shapes j n h v [] t = refl
-bounds-at-fit shapes j n h v (k.Flag ∷ tail) t = bounds-at-fit shapes j n h (suc v) tail (next-shapes shapes v k.Flag tail t)
+bounds-at-fit shapes j n h v (k.Flag ∷ tail) t = bounds-at-fit shapes j n h (suc v) tail
+    (next-shapes shapes v k.Flag tail t)
 bounds-at-fit shapes j n h v (k.Number ∷ tail) t =
     let q = bound-shape shapes v tail t in
     let l = below-next j n h in
     both_from _ _ l (both_from _ _ (upper-fits shapes v q) (both_from _ _ l (both_from _ _ (lower-fits shapes v q)
     (bounds-at-fit shapes j n h (suc v) tail (next-shapes shapes v k.Number tail t)))))
 
-bounds-fit : (shapes : List Shape) (count j n : ℕ) → j + count ≤ suc n → places_fit shapes (suc n) (bounds_from shapes j count) ≡ true
+bounds-fit : (shapes : List Shape) (count j n : ℕ) → j + count ≤ suc n
+    → places_fit shapes (suc n) (bounds_from shapes j count) ≡ true
 bounds-fit shapes zero j n h = refl
 bounds-fit shapes (suc count) j n h =
     fit-append shapes (suc n) (bounds_at j 0 shapes) (bounds_from shapes (suc j) count)
     (bounds-at-fit shapes j n (omega arith) 0 shapes (λ y. ap (slice_get shapes) (no-shift y)))
     (bounds-fit shapes count (suc j) n (omega arith))
 
-asked-fit : (m : Machine) → IsFit m → (task : Task) → is_asked m task ≡ true → places_fit m.shapes (suc (last_of task)) (asked_at m task) ≡ true
-asked-fit m fit (base p i) a = one-fits m.shapes i i (negation (property_term m p)) (omega arith) (property-fits m.shapes m.properties p fit.properties)
+asked-fit : (m : Machine) → IsFit m → (task : Task) → is_asked m task ≡ true
+    → places_fit m.shapes (suc (last_of task)) (asked_at m task) ≡ true
+asked-fit m fit (base p i) a = one-fits m.shapes i i (negation (property_term m p)) (omega arith)
+    (property-fits m.shapes m.properties p fit.properties)
 asked-fit m fit (step p k) a =
     let g = property-fits m.shapes m.properties p fit.properties in
     fit-append m.shapes (suc k) (from_state 0 k (property_term m p)) ((k, negation (property_term m p)) ∷ [])
-    (from-fits m.shapes (property_term m p) g k 0 k (omega arith)) (one-fits m.shapes k k (negation (property_term m p)) (omega arith) g)
+    (from-fits m.shapes (property_term m p) g k 0 k (omega arith))
+    (one-fits m.shapes k k (negation (property_term m p)) (omega arith) g)
 asked-fit m fit (lemma_first f) a = one-fits m.shapes 0 0 (negation f) (omega arith) a
-asked-fit m fit (lemma_next f) a = both_from _ _ refl (both_from _ _ a (one-fits m.shapes 1 1 (negation f) (omega arith) a))
+asked-fit m fit (lemma_next f) a = both_from _ _ refl
+    (both_from _ _ a (one-fits m.shapes 1 1 (negation f) (omega arith) a))
 asked-fit m fit (implied f p) a = both_from _ _ refl (both_from _ _ (both_true _ _ a).0
-    (one-fits m.shapes 0 0 (negation (property_term m p)) (omega arith) (property-fits m.shapes m.properties p fit.properties)))
+    (one-fits m.shapes 0 0 (negation (property_term m p)) (omega arith)
+    (property-fits m.shapes m.properties p fit.properties)))
 asked-fit m fit (with_states n b at) a = let c = both_true _ _ a in
     subst (λ k. places_fit m.shapes k at ≡ true) (counted n c.0) c.1 where
       counted : (k : ℕ) → nat_lt 0 k ≡ true → k ≡ suc (before k)
@@ -291,11 +327,13 @@ asked-fit m fit (with_states n b at) a = let c = both_true _ _ a in
 
 narrow-asked : (m : Machine) (task : Task) → IsFit m → is_asked m task ≡ true → is_asked m (narrow_task m task) ≡ true
 narrow-asked m task fit a =
-    both_from _ _ (below-next 0 (last_of task) (omega arith)) (fit-append m.shapes (suc (last_of task)) (asked_at m task) (narrow_bounds m task) (asked-fit m fit task a)
+    both_from _ _ (below-next 0 (last_of task) (omega arith))
+    (fit-append m.shapes (suc (last_of task)) (asked_at m task) (narrow_bounds m task) (asked-fit m fit task a)
     (bounds-fit m.shapes (suc (last_of task)) 0 (last_of task) (omega arith)))
 
 -- and is as light
-light-append : (xs ys : List (ℕ × Formula)) → all_light_at xs ≡ true → all_light_at ys ≡ true → all_light_at (xs ++ ys) ≡ true
+light-append : (xs ys : List (ℕ × Formula)) → all_light_at xs ≡ true → all_light_at ys ≡ true
+    → all_light_at (xs ++ ys) ≡ true
 light-append [] ys a b = b
 light-append ((j, f) ∷ xs) ys a b = let c = both_true _ _ a in both_from _ _ c.0 (light-append xs ys c.1 b)
 
@@ -314,24 +352,33 @@ lower-light v = refl
 bounds-at-light : (j v : ℕ) (shapes : List Shape) → all_light_at (bounds_at j v shapes) ≡ true
 bounds-at-light j v [] = refl
 bounds-at-light j v (k.Flag ∷ hs) = bounds-at-light j (suc v) hs
-bounds-at-light j v (k.Number ∷ hs) = both_from _ _ (upper-light v) (both_from _ _ (lower-light v) (bounds-at-light j (suc v) hs))
+bounds-at-light j v (k.Number ∷ hs) = both_from _ _ (upper-light v)
+    (both_from _ _ (lower-light v) (bounds-at-light j (suc v) hs))
 
 bounds-light : (shapes : List Shape) (count j : ℕ) → all_light_at (bounds_from shapes j count) ≡ true
 bounds-light shapes zero j = refl
-bounds-light shapes (suc count) j = light-append (bounds_at j 0 shapes) (bounds_from shapes (suc j) count) (bounds-at-light j 0 shapes) (bounds-light shapes count (suc j))
+bounds-light shapes (suc count) j = light-append (bounds_at j 0 shapes) (bounds_from shapes (suc j) count)
+    (bounds-at-light j 0 shapes) (bounds-light shapes count (suc j))
 
-asked-light : (m : Machine) → IsMild m → (task : Task) → is_light_task task ≡ true → all_light_at (asked_at m task) ≡ true
+asked-light : (m : Machine) → IsMild m → (task : Task) → is_light_task task ≡ true
+    → all_light_at (asked_at m task) ≡ true
 asked-light m mild (base p i) a = both_from _ _ (property-light m.properties p mild.properties) refl
 asked-light m mild (step p k) a =
     let g = property-light m.properties p mild.properties in
-    light-append (from_state 0 k (property_term m p)) ((k, negation (property_term m p)) ∷ []) (from-light (property_term m p) g k 0) (both_from _ _ g refl)
+    light-append (from_state 0 k (property_term m p)) ((
+      k,
+      negation (property_term m p),
+    ) ∷ []) (from-light (property_term m p) g k 0) (both_from _ _ g refl)
 asked-light m mild (lemma_first f) a = both_from _ _ a refl
 asked-light m mild (lemma_next f) a = both_from _ _ a (both_from _ _ a refl)
-asked-light m mild (implied f p) a = both_from _ _ a (both_from _ _ (property-light m.properties p mild.properties) refl)
+asked-light m mild (implied f p) a = both_from _ _ a
+    (both_from _ _ (property-light m.properties p mild.properties) refl)
 asked-light m mild (with_states n b at) a = a
 
-narrow-light : (m : Machine) (task : Task) → IsMild m → is_light_task task ≡ true → is_light_task (narrow_task m task) ≡ true
-narrow-light m task mild a = light-append (asked_at m task) (narrow_bounds m task) (asked-light m mild task a) (bounds-light m.shapes (suc (last_of task)) 0)
+narrow-light : (m : Machine) (task : Task) → IsMild m → is_light_task task ≡ true
+    → is_light_task (narrow_task m task) ≡ true
+narrow-light m task mild a = light-append (asked_at m task) (narrow_bounds m task) (asked-light m mild task a)
+    (bounds-light m.shapes (suc (last_of task)) 0)
 
 pub narrow-queries : (m : Machine) (task : Task) (cites : List Formula) → IsNarrowed m task cites
 narrow-queries m task cites = record {

@@ -37,7 +37,9 @@ abbrev mutual
   light_weight (minus a b) = with_weights (light_weight a) (light_weight b) (λ x y. if_light (x + y))
   light_weight (multiple n a) = with_weight (light_weight a) (λ x. if_light (unsigned_abs n * x))
   light_weight (chosen c a b) =
-      cond (has_light_parts c) (with_weights (light_weight a) (light_weight b) (λ x y. if_light (max (max x y) 1))) None
+      cond (has_light_parts c)
+      (with_weights (light_weight a) (light_weight b) (λ x y. if_light (max (max x y) 1)))
+      None
   light_weight (quotient a d) =
       with_weights (light_weight a) (if_light (unsigned_abs d)) (λ x y. if_light (max x 1))
   light_weight (remainder a d) = with_weight (light_weight a) (λ x. if_light (unsigned_abs d))

@@ -5,4 +5,5 @@ use Rattle.sys_terms.proofs.systems.all_places_fit.Given as goal
 
 abbrev pub invariant-loop-state : goal.invariant-loop-state
 invariant-loop-state l =
-    places_fit l.shapes l.states (map placed_view (drop l.state-index l.at)) ≡ places_fit l.fn.shapes l.fn.states (map placed_view l.fn.at)
+    places_fit l.shapes l.states (map placed_view (drop l.state-index l.at))
+    ≡ places_fit l.fn.shapes l.fn.states (map placed_view l.fn.at)
