@@ -1,0 +1,16 @@
+//! Queries in clause form.
+//!
+//! Flags and variables are numbered from 0, atoms and clauses from 1. The first variable after the
+//! query's own is a flag, the truth.
+
+#![tactic(auto)]
+
+mod cnf;
+mod fault;
+mod form;
+pub mod laws;
+mod maker;
+
+pub use cnf::Cnf;
+pub use fault::CnfFault;
+pub use maker::clauses;
