@@ -9,6 +9,7 @@ mod cnf;
 mod fault;
 mod form;
 pub mod laws;
+mod linear;
 mod maker;
 
 pub use cnf::Cnf;
