@@ -11,6 +11,7 @@ use Rattle.proof_steps.specs.Rows.{Form}
 use Rattle.cnf_maker.specs.Linear.{Linear as Sum}
 use Rattle.cnf_maker.specs.declared.cnf.Cnf.{Cnf}
 use Rattle.cnf_maker.specs.declared.linear.Linear.{Linear}
+use Rattle.cnf_maker.specs.declared.maker.Maker.{Maker}
 use Rattle.cnf_maker.specs.declared.linear.Sign.{Sign}
 use Rattle.cnf_maker.specs.declared.linear.Sign.TheVariants.{Plus, Minus}
 use Rattle.cnf_maker.specs.declared.fault.CnfFault.{CnfFault}
@@ -29,6 +30,14 @@ linear_view l = record { terms = l.terms.items; constant = l.constant }
 -- the terms and the bound of an inequality
 abbrev pub key_view : Vec (ℕ × ℤ) Global × ℤ → Inequality
 key_view k = record { terms = k.0.items; bound = k.1 }
+
+-- the form that is made so far
+abbrev pub made : Maker → Form
+made m = record {
+  shapes = m.shapes.items;
+  atoms = map key_view m.atoms.keys;
+  clauses = map clause_view m.clauses.items;
+}
 
 abbrev pub op_of : Sign → Op
 op_of Plus = Add

@@ -5,13 +5,14 @@
 
 #![tactic(auto)]
 
+mod clause;
 mod cnf;
 mod fault;
-mod form;
 pub mod laws;
 mod linear;
 mod maker;
+mod query;
 
 pub use cnf::Cnf;
 pub use fault::CnfFault;
-pub use maker::clauses;
+pub use query::clauses;
