@@ -7,6 +7,7 @@ use Rattle.kind_num.specs.declared.Op.{Op}
 use Rattle.kind_num.specs.declared.Op.TheVariants.{Add, Sub}
 use Rattle.kind_num.specs.declared.Past.{Past as Operands}
 use Rattle.proof_steps.specs.View.{Inequality, atom_view, clause_view}
+use Rattle.proof_steps.specs.declared.Literal.{Literal}
 use Rattle.proof_steps.specs.Rows.{Form}
 use Rattle.cnf_maker.specs.Linear.{Linear as Sum}
 use Rattle.cnf_maker.specs.declared.cnf.Cnf.{Cnf}
@@ -63,10 +64,18 @@ abbrev pub Makes : Result Form Operands → Result Cnf CnfFault → Type 0
 Makes o (Ok c) = o ≡ Ok (form_view c)
 Makes o (Err e) = Fails o e
 
--- the form that is left, and what is answered, are what the definition gives
-abbrev pub Leaves : {X : Type 0} → Result (Form × X) Operands → Result X CnfFault → Form → Type 0
-Leaves o (Ok x) f = o ≡ Ok (f, x)
-Leaves o (Err e) f = Fails o e
+-- the form that is left is what the definition gives
+abbrev pub Reaches : {X : Type 0} → Result Form Operands → Result X CnfFault → Form → Type 0
+Reaches o (Ok x) f = o ≡ Ok f
+Reaches o (Err e) f = Fails o e
+
+-- the form that is left, and the literal or the sum that is answered, are what the definition gives
+abbrev pub Leaves : {X Y : Type 0} → (X → Y) → Result (Form × Y) Operands → Result X CnfFault → Form → Type 0
+Leaves view o (Ok x) f = o ≡ Ok (f, view x)
+Leaves view o (Err e) f = Fails o e
+
+abbrev pub itself : Literal → Literal
+itself x = x
 
 -- variables, atoms and clauses have numbers of 32 bits
 pub record AreFew (f : Form) : Type 0 where

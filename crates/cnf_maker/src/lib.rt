@@ -5,6 +5,7 @@
 
 #![tactic(auto)]
 
+mod bounds;
 mod clause;
 mod cnf;
 mod fault;
@@ -12,6 +13,7 @@ pub mod laws;
 mod linear;
 mod maker;
 mod query;
+mod walk;
 
 pub use cnf::Cnf;
 pub use fault::CnfFault;

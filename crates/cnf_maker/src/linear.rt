@@ -1,11 +1,12 @@
 //! Sums of variables with coefficients, made within 128 bits.
 
-ghost use Rattle.std.specs.Prelude.{◌≡◌, ◌≤◌, ◌<◌, ◌+◌, ◌++◌, [], ◌∷◌, true, length, slice_index_or, Ok, IfOk, OnOk, drop};
-ghost use lib.IntN.{ℤ, pos};
+ghost use Rattle.std.specs.Prelude.{◌≡◌, ◌≤◌, ◌<◌, ◌+◌, ◌++◌, [], ◌∷◌, true, length, suc, unsigned_abs, slice_index_or, Ok, IfOk, OnOk, drop};
+ghost use lib.IntN.{ℤ, pos, ◌-ℤ◌};
 ghost use Rattle.kind_num.specs.declared.Op.{Op as Operation};
 ghost use Rattle.kind_num.specs.declared.Op.TheVariants.{Mul, Sub};
 ghost use Rattle.sys_terms.specs.Evaluated.{exact};
 ghost use Rattle.cnf_maker.specs.Linear.{put as put_of, with_terms, scaled_terms as scaled_terms_of, combined as combined_of, scaled as scaled_of, of_constant as constant_of, of_variable as variable_of, inequality_of as inequality_for, is_increasing};
+ghost use Rattle.cnf_maker.specs.ClauseForm.{of_division as division_of};
 ghost use Rattle.cnf_maker.specs.View.{linear_view, key_view, op_of, Gives, Goes};
 ghost use Rattle.cnf_maker.specs.Joining.{HasAt, pending};
 
@@ -47,6 +48,25 @@ pub(crate) fn of_variable(alloc: Global, x: u32) -> Result<Linear, AllocError>
     let mut terms = Vec::new(alloc);
     terms.push((x, 1))?;
     Ok(Linear { terms, constant: 0 })
+}
+
+/// The sum `d * q + r`, where r is the variable after q.
+pub(crate) fn of_division(alloc: Global, q: u32, r: u32, d: i128) -> Result<Linear, AllocError>
+    requires { r ≡ suc q }
+    ensures exact { IfOk result (λ l. linear_view l ≡ division_of q d) }
+    ensures increasing { IfOk result (λ l. is_increasing (linear_view l).terms ≡ true) }
+{
+    let mut terms = Vec::new(alloc);
+    terms.push((q, d))?;
+    terms.push((r, 1))?;
+    Ok(Linear { terms, constant: 0 })
+}
+
+/// The size of a divisor less 1.
+pub(crate) fn size_less_one(d: i128) -> i128
+    ensures { result ≡ pos (unsigned_abs d) -ℤ pos 1 }
+{
+    if 0 < d { d - 1 } else { -1 - d }
 }
 
 fn joined(sign: Sign, left: i128, right: i128) -> Result<i128, CnfFault>

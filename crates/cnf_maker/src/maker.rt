@@ -1,6 +1,6 @@
 //! A clause form in the making: its variables, atoms and clauses so far.
 
-ghost use Rattle.std.specs.Prelude.{◌≡◌, [], ◌∷◌, IfOk, length};
+ghost use Rattle.std.specs.Prelude.{◌≡◌, suc, [], ◌∷◌, IfOk, length};
 ghost use Rattle.kind_num.specs.declared.Shape.TheVariants.{Number};
 ghost use Rattle.cnf_maker.specs.View.{key_view, made};
 ghost use Rattle.cnf_maker.specs.ClauseForm.{with_clause, with_shapes, with_flag, with_both, with_same, with_choice_of, literal_of_atom, literal_of_inequality};
@@ -58,6 +58,17 @@ impl Maker {
         let number = self.next_variable()?;
         self.shapes.push(Shape::Number)?;
         Ok(number)
+    }
+
+    /// Two new numbers, one after the other.
+    pub(crate) fn two_numbers(&mut self) -> Result<(u32, u32), AllocError>
+        ensures first { IfOk result (λ p. p.0 ≡ length (made self.old).shapes) }
+        ensures second { IfOk result (λ p. p.1 ≡ suc p.0) }
+        ensures form { IfOk result (λ p. made self.new ≡ with_shapes (made self.old) (Number ∷ Number ∷ [])) }
+    {
+        let first = self.number()?;
+        let second = self.number()?;
+        Ok((first, second))
     }
 
     /// A new flag that is both.
@@ -129,7 +140,7 @@ impl Maker {
     }
 
     /// The literal of an inequality: its atom, or the truth or its opposite where it has no variable.
-    fn literal_of(&mut self, truth: u32, key: AtomKey) -> Result<Literal, AllocError>
+    pub(crate) fn literal_of(&mut self, truth: u32, key: AtomKey) -> Result<Literal, AllocError>
         ensures { IfOk result (λ l. (made self.new, l) ≡ literal_of_inequality truth (made self.old) (key_view key)) }
     {
         if key.0.is_empty() {
