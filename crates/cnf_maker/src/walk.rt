@@ -3,8 +3,8 @@
 ghost use Rattle.std.specs.Prelude.{◌≡◌, true, IfOk};
 ghost use Rattle.sys_terms.specs.View.{term_view, num_view};
 ghost use Rattle.cnf_maker.specs.Linear.{is_increasing};
-ghost use Rattle.cnf_maker.specs.ClauseForm.{literal_of, linear_of, combination_of};
-ghost use Rattle.cnf_maker.specs.View.{Leaves, itself, linear_view, made, op_of};
+ghost use Rattle.cnf_maker.specs.ClauseForm.{literal_of, linear_of};
+ghost use Rattle.cnf_maker.specs.View.{Leaves, itself, linear_view, made};
 
 use crate::clause::opposite;
 use crate::fault::CnfFault;
@@ -67,8 +67,16 @@ impl Maker {
         match num {
             Num::Constant(n) => Ok(of_constant(alloc, *n)),
             Num::Value(v) => Ok(of_variable(alloc, v.number)?),
-            Num::Add(a, b) => self.combination(alloc, truth, Sign::Plus, a, b),
-            Num::Sub(a, b) => self.combination(alloc, truth, Sign::Minus, a, b),
+            Num::Add(a, b) => {
+                let left = self.linear(alloc, truth, a)?;
+                let right = self.linear(alloc, truth, b)?;
+                combined(alloc, Sign::Plus, &left, &right)
+            }
+            Num::Sub(a, b) => {
+                let left = self.linear(alloc, truth, a)?;
+                let right = self.linear(alloc, truth, b)?;
+                combined(alloc, Sign::Minus, &left, &right)
+            }
             Num::Scale(n, a) => {
                 let sum = self.linear(alloc, truth, a)?;
                 scaled(alloc, *n, &sum)
@@ -90,23 +98,5 @@ impl Maker {
                 Ok(of_variable(alloc, r)?)
             }
         }
-    }
-
-    /// The sum or the difference of two numbers.
-    #[cycle(literal)]
-    fn combination(
-        &mut self,
-        alloc: Global,
-        truth: u32,
-        sign: Sign,
-        a: &Num,
-        b: &Num,
-    ) -> Result<Linear, CnfFault>
-        ensures exact { Leaves linear_view (combination_of truth (op_of sign) (made self.old) (num_view a.now) (num_view b.now)) result (made self.new) }
-        ensures increasing { IfOk result (λ l. is_increasing (linear_view l).terms ≡ true) }
-    {
-        let left = self.linear(alloc, truth, a)?;
-        let right = self.linear(alloc, truth, b)?;
-        combined(alloc, sign, &left, &right)
     }
 }
