@@ -1,5 +1,5 @@
 -- Terms that may be cited fit.
-use Rattle.std.specs.Prelude.{ℕ, ◌≡◌, Bool, true, false, ◌&&◌, List, [], ◌∷◌, Option, Some, None, refl}
+use Rattle.std.specs.Prelude.{◌≡◌, Bool, true, false, ◌&&◌, List, [], ◌∷◌, None, refl}
 use Rattle.proof_checker.specs.declared.rule.Rule.{Rule}
 use Rattle.proof_steps.specs.View.{Refutation}
 use Rattle.sys_terms.specs.View.{Formula, Machine}
@@ -26,6 +26,7 @@ unless-none true rule after e = refl
 unless-none false rule after e = absurd cc
 
 -- the term of a lemma fits
-pub lemma_fits : (m : Machine) (f : Formula) (cites : List Formula) (first next : Refutation) → lemma_fault m f cites first next ≡ None
+pub lemma_fits : (m : Machine) (f : Formula) (cites : List Formula) (first next : Refutation)
+    → lemma_fault m f cites first next ≡ None
     → fits_one m.shapes f ≡ true
 lemma_fits m f cites first next h = term_fits m f (both-true _ _ (unless-none _ _ _ h)).0

@@ -20,12 +20,14 @@ Allows misfit (Ok x) = misfit ≡ None
 Allows misfit (Err e) = IsMisfit misfit e
 
 -- a made fact is this one, of this system, and breaks no rule
-pub record IsMade {T : Type 0} (view : T → Fact) (machine : T → Machine) (m : Machine) (fact : Fact) (misfit : Misfit) (x : T) : Type 0 where
+pub record IsMade {T : Type 0} (view : T → Fact) (machine : T
+    → Machine) (m : Machine) (fact : Fact) (misfit : Misfit) (x : T) : Type 0 where
   pub says : view x ≡ fact
   pub system : machine x ≡ m
   pub unbroken : misfit ≡ None
 
-abbrev pub Makes : {T : Type 0} → (T → Fact) → (T → Machine) → Machine → Fact → Misfit → Result T RuleFault → Type 0
+abbrev pub Makes : {T : Type 0}
+    → (T → Fact) → (T → Machine) → Machine → Fact → Misfit → Result T RuleFault → Type 0
 Makes view machine m fact misfit (Ok x) = IsMade view machine m fact misfit x
 Makes view machine m fact misfit (Err e) = IsMisfit misfit e
 

@@ -1,5 +1,5 @@
 -- The facts themselves as clauses see them: what each says and keeps, and of which system.
-use Rattle.std.specs.Prelude.{ℕ, ◌≡◌, List, map, Option, Some, None}
+use Rattle.std.specs.Prelude.{ℕ, List, Option, Some, None}
 use Rattle.proof_steps.specs.View.{Refutation, proof_view}
 use Rattle.sys_terms.specs.View.{Formula, Machine, term_view, system_view}
 use Rattle.cert_rules.specs.Facts.{Citation, Fact, base_fact, step_fact, lemma_fact, held_fact, held_by_fact}

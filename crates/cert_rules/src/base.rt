@@ -19,5 +19,6 @@ pub struct Base {
     pub(crate) cites: Vec<Cited>,
     pub(crate) proofs: Vec<Proof>,
     pub(crate) of: Snapshot<System>,
-    ghost right: { base_fault (system_view of.value) property instant (cited_terms cites.items) (proofs_view proofs.items) ≡ None },
+    ghost right: { base_fault (system_view of.value) property instant
+        (cited_terms cites.items) (proofs_view proofs.items) ≡ None },
 }

@@ -14,7 +14,7 @@ use crate::base::Base;
 use crate::cited::{Cited, copied_cites, copied_proofs, terms_of};
 use crate::fault::RuleFault;
 use crate::lemma::Lemma;
-use crate::refuting::{are_terms, has_property, is_term, refute, refute_bases, refused};
+use crate::refuting::{are_terms, has_property, is_term, refused, refute, refute_bases};
 use crate::step::Step;
 use proof_checker::Rule;
 use proof_steps::Proof;
@@ -32,7 +32,8 @@ fn allow_base(
 ) -> Result<(), RuleFault>
     requires mild { IsMild (system_view system.now) }
     requires few { length (system_view system.now).shapes < 2 ^ 32 }
-    ensures { Allows (base_fault (system_view system.now) property instant (terms_view cites.now) (proofs_view proofs.now)) result }
+    ensures { Allows (base_fault (system_view system.now) property instant
+        (terms_view cites.now) (proofs_view proofs.now)) result }
 {
     if !has_property(system, property) {
         return Err(refused(0, Rule::Property));
@@ -89,7 +90,8 @@ fn allow_step(
 ) -> Result<(), RuleFault>
     requires mild { IsMild (system_view system.now) }
     requires few { length (system_view system.now).shapes < 2 ^ 32 }
-    ensures { Allows (step_fault (system_view system.now) property k (terms_view cites.now) (proof_view proof.now)) result }
+    ensures { Allows (step_fault (system_view system.now) property k
+        (terms_view cites.now) (proof_view proof.now)) result }
 {
     if !has_property(system, property) {
         return Err(refused(0, Rule::Property));
@@ -100,7 +102,14 @@ fn allow_step(
     if k == 0 {
         return Err(refused(0, Rule::Parts));
     }
-    refute(alloc, system, 0, &Obligation::Step { property, k }, cites, proof)
+    refute(
+        alloc,
+        system,
+        0,
+        &Obligation::Step { property, k },
+        cites,
+        proof,
+    )
 }
 
 /// The property after k states at which it is true, by one refutation.
@@ -144,7 +153,8 @@ fn allow_lemma(
 ) -> Result<(), RuleFault>
     requires mild { IsMild (system_view system.now) }
     requires few { length (system_view system.now).shapes < 2 ^ 32 }
-    ensures { Allows (lemma_fault (system_view system.now) (term_view term.now) (terms_view cites.now) (proof_view first.now) (proof_view next.now)) result }
+    ensures { Allows (lemma_fault (system_view system.now) (term_view term.now)
+        (terms_view cites.now) (proof_view first.now) (proof_view next.now)) result }
 {
     if !is_term(system, term) {
         return Err(refused(0, Rule::Term));
@@ -174,7 +184,8 @@ pub fn check_lemma(
     requires few { length (system_view system.now).shapes < 2 ^ 32 }
     ensures { Makes lemma_view lemma_machine (system_view system.now)
         (lemma_fact (term_view term.now) (cites_view cites.now) (proof_view first.now) (proof_view next.now))
-        (lemma_fault (system_view system.now) (term_view term.now) (cited_terms cites.now) (proof_view first.now) (proof_view next.now)) result }
+        (lemma_fault (system_view system.now) (term_view term.now)
+        (cited_terms cites.now) (proof_view first.now) (proof_view next.now)) result }
 {
     let terms = terms_of(alloc, cites)?;
     allow_lemma(alloc, system, &terms, term, first, next)?;

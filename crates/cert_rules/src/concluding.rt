@@ -12,7 +12,7 @@ use crate::base::Base;
 use crate::fault::RuleFault;
 use crate::held::{Held, Reason};
 use crate::lemma::Lemma;
-use crate::refuting::{has_property, refute, refused};
+use crate::refuting::{has_property, refused, refute};
 use crate::step::Step;
 use proof_checker::Rule;
 use proof_steps::Proof;
@@ -25,7 +25,8 @@ use sys_terms::{Obligation, System};
 pub fn conclude(base: &Base, step: &Step) -> Result<Held, RuleFault>
     requires one_system { base_machine base.now ≡ step_machine step.now }
     ensures { Holds (base_machine base.now) (both_named (base_property base.now))
-        (held_fault (base_property base.now) (base_instant base.now) (step_property step.now) (step_k step.now)) result }
+        (held_fault (base_property base.now) (base_instant base.now)
+        (step_property step.now) (step_k step.now)) result }
 {
     if base.property == step.property && step.k as u64 <= base.instant as u64 + 1 {
         Ok(Held {

@@ -20,5 +20,6 @@ pub struct Lemma {
     pub(crate) first: Proof,
     pub(crate) next: Proof,
     pub(crate) of: Snapshot<System>,
-    ghost right: { lemma_fault (system_view of.value) (term_view term) (cited_terms cites.items) (proof_view first) (proof_view next) ≡ None },
+    ghost right: { lemma_fault (system_view of.value) (term_view term)
+        (cited_terms cites.items) (proof_view first) (proof_view next) ≡ None },
 }

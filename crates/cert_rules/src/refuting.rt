@@ -113,7 +113,8 @@ pub(crate) fn refute_bases(
     requires named { has_property (system_view system.now) property ≡ true }
     requires cited { all_fit_one (system_view system.now).shapes (terms_view cites.now) ≡ true }
     requires numbered { length proofs.now ≤ 2 ^ 32 }
-    ensures { Allows (bases_fault (system_view system.now) property (terms_view cites.now) 0 (proofs_view proofs.now)) result }
+    ensures { Allows (bases_fault (system_view system.now) property
+        (terms_view cites.now) 0 (proofs_view proofs.now)) result }
 {
     for i in 0..proofs.len() {
         let instant = i as u32;

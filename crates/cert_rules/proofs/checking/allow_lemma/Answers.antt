@@ -7,4 +7,5 @@ pub refute-requires-clause-cited : goal.refute-requires-clause-cited
 refute-requires-clause-cited c = terms_fit (system_view c.args.system.now) (terms_view c.args.cites.now) (search rules)
 
 pub refute-requires-2-clause-cited : goal.refute-requires-2-clause-cited
-refute-requires-2-clause-cited c = terms_fit (system_view c.args.system.now) (terms_view c.args.cites.now) (search rules)
+refute-requires-2-clause-cited c = terms_fit (system_view c.args.system.now) (terms_view c.args.cites.now)
+    (search rules)
