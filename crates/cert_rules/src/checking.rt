@@ -102,14 +102,8 @@ fn allow_step(
     if k == 0 {
         return Err(refused(0, Rule::Parts));
     }
-    refute(
-        alloc,
-        system,
-        0,
-        &Obligation::Step { property, k },
-        cites,
-        proof,
-    )
+    let what = Obligation::Step { property, k };
+    refute(alloc, system, 0, &what, cites, proof)
 }
 
 /// The property after k states at which it is true, by one refutation.
