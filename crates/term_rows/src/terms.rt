@@ -1,0 +1,104 @@
+//! Terms by themselves: their values at a state, and how large, deep and heavy they are.
+
+ghost use Rattle.std.specs.Prelude.{◌≡◌, true};
+
+use crate::build::*;
+use crate::text::term_text;
+use kind_num::Shape;
+use std::alloc::{AllocError, Global};
+use sys_terms::{Entry, Num, State, Term, eval, same_term};
+
+/// A number, a divisor, and their quotient and remainder.
+type Division = (i128, i128, i128, i128);
+
+const DIVISIONS: [Division; 5] = [
+    (7, 2, 3, 1),
+    (7, -2, -3, 1),
+    (-7, 2, -4, 1),
+    (-7, -2, 4, 1),
+    (i128::MIN, -1, 0, 0),
+];
+
+/// That the quotient and the remainder are these.
+fn division_term(alloc: Global, division: Division) -> Result<Term, AllocError> {
+    let (n, d, q, r) = division;
+    let quotient = Num::Div(Box::new(alloc, Num::Constant(n))?, d);
+    let remainder = Num::Mod(Box::new(alloc, Num::Constant(n))?, d);
+    let first = equal(alloc, quotient, Num::Constant(q))?;
+    let second = equal(alloc, remainder, Num::Constant(r))?;
+    and(alloc, first, second)
+}
+
+/// The numbers at which sums, products and branches are tried.
+const EDGES: [i128; 3] = [2, i128::MAX, i128::MIN];
+
+/// Both branches of a choice are evaluated, and a product before the sum that it stands in.
+fn edge_term(alloc: Global) -> Result<Term, AllocError> {
+    let product = Num::Scale(i128::MAX, Box::new(alloc, Num::Value(now(1)))?);
+    let sum = plus(alloc, Num::Value(now(1)), Num::Constant(1))?;
+    let chosen = choose(alloc, Term::Flag(now(0)), Num::Constant(0), product)?;
+    let total = plus(alloc, sum, chosen)?;
+    at_most(alloc, total, Num::Constant(3))
+}
+
+fn state(alloc: Global, number: i128) -> Result<State, AllocError> {
+    let values = vec![in alloc; Entry::Flag(true), Entry::Number(number)]?;
+    Ok(State { values })
+}
+
+/// The term's truth at the state, where it fits a flag and a number.
+fn value_line(alloc: Global, term: &Term, state: &State) -> Result<String, AllocError> {
+    sys_terms::laws::fitting_terms_are_divided();
+    let text = term_text(alloc, term)?;
+    if term.fits(&[Shape::Flag, Shape::Number]) {
+        let value = eval(term, state, state);
+        format!(in alloc; "{text}: {value:?}")
+    } else {
+        format!(in alloc; "{text}: does not fit")
+    }
+}
+
+/// Terms that break one demand each, or none.
+fn samples(alloc: Global) -> Result<Vec<Term>, AllocError> {
+    let heaviest = Num::Scale(1 << 63, Box::new(alloc, Num::Value(now(1)))?);
+    let heavier = plus(alloc, heaviest, Num::Constant(1))?;
+    let half = Num::Div(Box::new(alloc, Num::Value(now(1)))?, 0);
+    let mut terms = Vec::new(alloc);
+    terms.push(Term::Truth(true))?;
+    terms.push(not(alloc, Term::Flag(now(0)))?)?;
+    terms.push(Term::Flag(now(1)))?;
+    terms.push(same(alloc, Term::Flag(now(0)), Term::Flag(next(0)))?)?;
+    terms.push(at_most(alloc, half, Num::Constant(0))?)?;
+    terms.push(at_most(alloc, Num::Constant(1 << 63), Num::Value(now(1)))?)?;
+    terms.push(at_most(alloc, heavier, Num::Value(now(1)))?)?;
+    Ok(terms)
+}
+
+/// Its parts, whether it fits, is of one state and light, has at most two levels, and equals its copy.
+fn sample_line(alloc: Global, term: &Term) -> Result<String, AllocError> {
+    let text = term_text(alloc, term)?;
+    let parts = term.parts();
+    let fits = term.fits(&[Shape::Flag, Shape::Number]);
+    let present = term.is_present();
+    let light = term.is_light();
+    let shallow = term.is_within_levels(2);
+    let same = same_term(term, &term.copied(alloc)?);
+    format!(in alloc;
+        "{text}: {parts} parts, fits {fits}, present {present}, light {light}, shallow {shallow}, same {same}"
+    )
+}
+
+pub fn lines(alloc: Global) -> Result<Vec<String>, AllocError> {
+    let mut lines = Vec::new(alloc);
+    for division in DIVISIONS {
+        let term = division_term(alloc, division)?;
+        lines.push(value_line(alloc, &term, &state(alloc, 0)?)?)?;
+    }
+    for number in EDGES {
+        lines.push(value_line(alloc, &edge_term(alloc)?, &state(alloc, number)?)?)?;
+    }
+    for term in samples(alloc)? {
+        lines.push(sample_line(alloc, &term)?)?;
+    }
+    Ok(lines)
+}
