@@ -1,0 +1,11 @@
+pub mod Trail
+pub mod Shown
+pub mod Held
+pub mod Set
+pub mod Accepted
+pub mod Few
+pub mod Variables
+pub mod Refuted
+pub mod Appended
+pub mod Propagation
+pub mod Analysis

@@ -1,0 +1,19 @@
+//! A search for an assignment under which each of a list of clauses has a true literal. What it
+//! learns on the way it logs as derived steps, which the checker of proofs accepts.
+
+#![tactic(auto)]
+
+mod analysis;
+mod assigned;
+mod assignment;
+mod derived;
+mod found;
+pub mod laws;
+mod propagation;
+mod search;
+mod set;
+mod variables;
+
+pub use assigned::Assigned;
+pub use found::{Found, SearchFault};
+pub use search::Search;

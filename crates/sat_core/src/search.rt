@@ -1,0 +1,193 @@
+ghost use Rattle.std.specs.Prelude.{◌≡◌, ◌++◌, ◌∷◌, ◌<◌, ◌≤◌, ◌^◌, [], OnOk, OnErr, IfOk, IsTrue, true, map, length, ℕ};
+ghost use Rattle.proof_steps.specs.View.{clause_view, step_view};
+ghost use Rattle.sat_core.specs.Shown.{Begins, IsAsBefore, Adds, Learns, Finds, learnt_count};
+ghost use Rattle.sat_core.specs.Trail.{value_of};
+ghost use Rattle.cnf_maker.specs.View.{form_view};
+
+use crate::analysis::{Analysis, analysed, last_decision, next_decision};
+use crate::assigned::Assigned;
+use crate::assignment::Assignment;
+use crate::derived::{append, refuted};
+use crate::found::{Found, SearchFault};
+use crate::propagation::run;
+use crate::set::LiteralSet;
+use crate::variables::{add_atoms, admit, admit_all, flags_of};
+use cnf_maker::Cnf;
+use proof_steps::{Clause, Literal, Step};
+use std::alloc::{AllocError, Global};
+use std::marker::Model;
+
+/// As many clauses as numbers can name.
+const MOST: usize = 4294967295;
+
+/// A search over the clauses of a query and those that are added and learnt.
+#[derive(Drop)]
+pub struct Search {
+    clauses: Vec<Clause>,
+    log: Vec<Step>,
+    variables: Vec<Literal>,
+    assignment: Assignment,
+    marked: LiteralSet,
+    in_conflict: bool,
+    conflict: u32,
+    ended: bool,
+}
+
+impl Model for Search {
+    ghost use Rattle.std.specs.Prelude.{map};
+    ghost use Rattle.proof_steps.specs.View.{clause_view, step_view};
+    ghost use Rattle.sat_core.specs.Shown.{Shown};
+    ghost use Rattle.sat_core.specs.Held.{IsHeld};
+
+    ghost Value = { Shown };
+
+    ghost view = { λ s. record { known = map clause_view s.clauses.items; log = map step_view s.log.items; variables = s.variables.items; trail = s.assignment; in_conflict = s.in_conflict } };
+
+    ghost invariant = { λ s. IsHeld (map clause_view s.clauses.items) (map step_view s.log.items) s.variables.items s.assignment s.in_conflict s.conflict s.ended };
+}
+
+impl Search {
+    /// A search over the clauses of a query, in which nothing is assigned.
+    pub fn new(alloc: Global, cnf: &Cnf) -> Result<Search, SearchFault>
+        requires clauses { length cnf.now.clauses.items < 2 ^ 32 }
+        requires atoms { length cnf.now.atoms.items < 2 ^ 32 }
+        requires shapes { length cnf.now.shapes.items < 2 ^ 32 }
+        ensures { IfOk result (Begins (form_view cnf.now)) }
+    {
+        let mut variables = flags_of(alloc, &cnf.shapes)?;
+        add_atoms(&mut variables, &cnf.atoms)?;
+        let mut clauses = Vec::new(alloc);
+        admit_all(alloc, &mut clauses, &mut variables, &cnf.clauses)?;
+        let assignment = Assignment::new(alloc);
+        let marked = LiteralSet::new(alloc);
+        Ok(Search {
+            clauses,
+            log: Vec::new(alloc),
+            variables,
+            assignment,
+            marked,
+            in_conflict: false,
+            conflict: 0,
+            ended: false,
+        })
+    }
+
+    /// The steps that were derived, in order: what was learnt, and the empty clause.
+    pub fn log(&self) -> &[Step]
+        ensures { map step_view result.now ≡ self.now.log }
+    {
+        &self.log
+    }
+
+    /// How many clauses were learnt.
+    pub fn conflicts(&self) -> u64
+        ensures { result ≡ learnt_count self.now.log }
+    {
+        if self.ended {
+            self.log.len() as u64 - 1
+        } else {
+            self.log.len() as u64
+        }
+    }
+
+    /// The truth of a literal, if its variable has a value.
+    pub fn value(&self, literal: Literal) -> Option<bool>
+        ensures { result ≡ value_of self.now.trail literal }
+    {
+        self.assignment.value(literal)
+    }
+
+    /// Adds a clause, which is then no longer false or unit before a decision.
+    pub fn add(&mut self, alloc: Global, clause: &Clause) -> Result<(), SearchFault>
+        ensures ok { OnOk result (Adds self.old self.new (clause_view clause.now)) }
+        ensures err { OnErr result (IsAsBefore self.old self.new) }
+    {
+        if self.clauses.len() >= MOST {
+            return Err(SearchFault::Memory(AllocError));
+        }
+        admit(alloc, &mut self.clauses, &mut self.variables, clause)?;
+        let entries = self.assignment.entries();
+        let first = next_decision(entries, 0, entries.len());
+        self.assignment.cut(first);
+        self.in_conflict = false;
+        Ok(())
+    }
+
+    /// Adds the clause of the last conflict's cause to what is known.
+    pub fn learn(&mut self, alloc: Global) -> Result<(), SearchFault>
+        requires { self.old.in_conflict ≡ true }
+        ensures ok { OnOk result (Learns self.old self.new) }
+        ensures err { OnErr result (IsAsBefore self.old self.new) }
+    {
+        if self.clauses.len() >= MOST {
+            return Err(SearchFault::Memory(AllocError));
+        }
+        let Analysis {
+            clause,
+            hints,
+            back,
+        } = analysed(
+            alloc,
+            &self.clauses,
+            self.assignment.entries(),
+            &mut self.marked,
+            self.conflict,
+        )?;
+        append(alloc, &mut self.clauses, &mut self.log, clause, hints)?;
+        self.assignment.cut(back);
+        self.in_conflict = false;
+        Ok(())
+    }
+
+    /// Goes on with what is assigned until every variable has a value, or a clause is false.
+    pub fn decide_or_conflict(&mut self, alloc: Global) -> Result<Found, SearchFault>
+        ensures ok { IfOk result (λ f. Finds self.old self.new f) }
+        ensures err { OnErr result (IsAsBefore self.old self.new) }
+    {
+        let before = self.assignment.entries().len();
+        match run(&self.clauses, &self.variables, &mut self.assignment) {
+            Err(fault) => {
+                self.assignment.cut(before);
+                Err(SearchFault::Memory(fault))
+            }
+            Ok(None) => {
+                self.in_conflict = false;
+                Ok(Found::Full)
+            }
+            Ok(Some(number)) => match last_decision(self.assignment.entries()) {
+                Some(_) => {
+                    self.conflict = number;
+                    self.in_conflict = true;
+                    Ok(Found::Conflict)
+                }
+                None => {
+                    if self.ended {
+                        self.in_conflict = false;
+                        return Ok(Found::Empty);
+                    }
+                    if self.clauses.len() >= MOST {
+                        self.assignment.cut(before);
+                        return Err(SearchFault::Memory(AllocError));
+                    }
+                    match refuted(
+                        alloc,
+                        &mut self.clauses,
+                        &mut self.log,
+                        self.assignment.entries(),
+                        number,
+                    ) {
+                        Ok(()) => {
+                            self.ended = true;
+                            self.in_conflict = false;
+                            Ok(Found::Empty)
+                        }
+                        Err(fault) => {
+                            self.assignment.cut(before);
+                            Err(SearchFault::Memory(fault))
+                        }
+                    }
+                }
+            },
+        }
+    }
+}

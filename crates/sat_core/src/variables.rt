@@ -1,0 +1,125 @@
+ghost use Rattle.std.specs.Prelude.{◌≡◌, ◌++◌, ◌∷◌, ◌+◌, ◌<◌, ◌^◌, [], OnOk, OnErr, IfOk, map, length, List};
+ghost use Rattle.proof_steps.specs.View.{clause_view, atom_view};
+ghost use Rattle.proof_steps.specs.declared.Literal.{Literal as SignedLiteral};
+ghost use Rattle.sat_core.specs.Shown.{plain as plain_of, with_literal, with_clause, with_clauses, flags_from, atoms_from};
+ghost use Rattle.sat_core.specs.Variables.{Extends};
+ghost use Rattle.proof_checker.specs.Derived.{has};
+
+use crate::set::same;
+use kind_num::Shape;
+use proof_steps::{Atom, Clause, Literal};
+use std::alloc::{AllocError, Global};
+
+/// The flag or atom, as it stands where true.
+fn plain(literal: Literal) -> Literal
+    ensures { result ≡ plain_of literal }
+{
+    match literal {
+        Literal::Flag(number, _) => Literal::Flag(number, true),
+        Literal::Atom(number, _) => Literal::Atom(number, true),
+    }
+}
+
+fn listed(literals: &[Literal], literal: Literal) -> bool
+    ensures { result ≡ has literals.now literal }
+{
+    for member in literals {
+        if same(*member, literal) {
+            return true;
+        }
+    }
+    false
+}
+
+fn extend_by(variables: &mut Vec<Literal>, literal: Literal) -> Result<(), AllocError>
+    ensures ok { OnOk result (variables.new.items ≡ with_literal variables.old.items literal) }
+    ensures extends { Extends variables.old.items variables.new.items }
+{
+    if listed(variables, plain(literal)) {
+        return Ok(());
+    }
+    variables.push(plain(literal))?;
+    Ok(())
+}
+
+/// Takes in the variables of a clause; on an error it has done so in part.
+fn extend(variables: &mut Vec<Literal>, clause: &[Literal]) -> Result<(), AllocError>
+    ensures ok { OnOk result (variables.new.items ≡ with_clause variables.old.items clause.now) }
+    ensures extends { Extends variables.old.items variables.new.items }
+{
+    for literal in clause {
+        extend_by(variables, *literal)?;
+    }
+    Ok(())
+}
+
+/// Takes in a clause with its variables.
+pub fn admit(
+    alloc: Global,
+    clauses: &mut Vec<Clause>,
+    variables: &mut Vec<Literal>,
+    clause: &Clause,
+) -> Result<(), AllocError>
+    ensures clauses { OnOk result (map clause_view clauses.new.items ≡ map clause_view clauses.old.items ++ clause_view clause.now ∷ []) }
+    ensures variables { OnOk result (variables.new.items ≡ with_clause variables.old.items (clause_view clause.now)) }
+    ensures same_clauses { OnErr result (clauses.new.items ≡ clauses.old.items) }
+    ensures same_variables { OnErr result (variables.new.items ≡ variables.old.items) }
+{
+    let copy = clause.copied(alloc)?;
+    let before = variables.len();
+    match extend(variables, clause.literals.as_slice()) {
+        Ok(()) => match clauses.push(copy) {
+            Ok(()) => Ok(()),
+            Err(failed) => {
+                variables.truncate(before);
+                Err(failed.into())
+            }
+        },
+        Err(fault) => {
+            variables.truncate(before);
+            Err(fault)
+        }
+    }
+}
+
+/// Takes in clauses with their variables.
+pub fn admit_all(
+    alloc: Global,
+    clauses: &mut Vec<Clause>,
+    variables: &mut Vec<Literal>,
+    more: &[Clause],
+) -> Result<(), AllocError>
+    ensures clauses { OnOk result (map clause_view clauses.new.items ≡ map clause_view clauses.old.items ++ map clause_view more.now) }
+    ensures variables { OnOk result (variables.new.items ≡ with_clauses variables.old.items (map clause_view more.now)) }
+{
+    for clause in more {
+        admit(alloc, clauses, variables, clause)?;
+    }
+    Ok(())
+}
+
+/// The flags among the variables of these shapes.
+pub fn flags_of(alloc: Global, shapes: &[Shape]) -> Result<Vec<Literal>, AllocError>
+    requires { length shapes.now < 2 ^ 32 }
+    ensures { IfOk result (λ v. v.items ≡ flags_from 0 shapes.now) }
+{
+    let mut flags = Vec::new(alloc);
+    for i in 0..shapes.len() {
+        match shapes[i] {
+            Shape::Flag => flags.push(Literal::Flag(i as u32, true))?,
+            Shape::Number => {}
+        }
+    }
+    Ok(flags)
+}
+
+/// Takes in the atoms.
+pub fn add_atoms(variables: &mut Vec<Literal>, atoms: &[Atom]) -> Result<(), AllocError>
+    requires { length atoms.now < 2 ^ 32 }
+    ensures { OnOk result (variables.new.items ≡ variables.old.items ++ atoms_from 1 (map atom_view atoms.now)) }
+{
+    for i in 0..atoms.len() {
+        variables.push(Literal::Atom(i as u32 + 1, true))?;
+    }
+    Ok(())
+}
