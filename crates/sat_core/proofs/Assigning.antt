@@ -32,7 +32,8 @@ has-falses [] l = refl
 has-falses (a ∷ rest) l =
     ap (λ b. cond b true (has (falses rest) l)) (same-flipped a.literal l) ∙ ap (cond (same a.literal (opposite l)) true) (has-falses rest l)
 
-pub value_false : (trail : List Assigned) (l m : Literal) → has (trues trail) l ≡ false → m ≡ opposite l → has (trues trail) m ≡ true → Some false ≡ value_of trail l
+pub value_false : (trail : List Assigned) (l m : Literal) → has (trues trail) l ≡ false → m ≡ opposite l → has (trues trail) m ≡ true
+    → Some false ≡ value_of trail l
 value_false trail l m t e f =
     let g : has (falses trail) l ≡ true = has-falses trail l ∙ ap (has (trues trail)) (sym e) ∙ f in
     sym (ap (λ b. cond b (Some true) (cond (has (falses trail) l) (Some false) None)) t ∙ ap (λ b. cond b (Some false) None) g)

@@ -41,9 +41,12 @@ impl Model for Search {
 
     ghost Value = { Shown };
 
-    ghost view = { λ s. record { known = map clause_view s.clauses.items; log = map step_view s.log.items; variables = s.variables.items; trail = s.assignment; in_conflict = s.in_conflict } };
+    ghost view = { λ s. record {
+        known = map clause_view s.clauses.items; log = map step_view s.log.items;
+        variables = s.variables.items; trail = s.assignment; in_conflict = s.in_conflict } };
 
-    ghost invariant = { λ s. IsHeld (map clause_view s.clauses.items) (map step_view s.log.items) s.variables.items s.assignment s.in_conflict s.conflict s.ended };
+    ghost invariant = { λ s. IsHeld (map clause_view s.clauses.items) (map step_view s.log.items) s.variables.items
+        s.assignment s.in_conflict s.conflict s.ended };
 }
 
 impl Search {

@@ -60,7 +60,8 @@ pub fn admit(
     variables: &mut Vec<Literal>,
     clause: &Clause,
 ) -> Result<(), AllocError>
-    ensures clauses { OnOk result (map clause_view clauses.new.items ≡ map clause_view clauses.old.items ++ clause_view clause.now ∷ []) }
+    ensures clauses { OnOk result (map clause_view clauses.new.items
+        ≡ map clause_view clauses.old.items ++ clause_view clause.now ∷ []) }
     ensures variables { OnOk result (variables.new.items ≡ with_clause variables.old.items (clause_view clause.now)) }
     ensures same_clauses { OnErr result (clauses.new.items ≡ clauses.old.items) }
     ensures same_variables { OnErr result (variables.new.items ≡ variables.old.items) }
@@ -89,8 +90,10 @@ pub fn admit_all(
     variables: &mut Vec<Literal>,
     more: &[Clause],
 ) -> Result<(), AllocError>
-    ensures clauses { OnOk result (map clause_view clauses.new.items ≡ map clause_view clauses.old.items ++ map clause_view more.now) }
-    ensures variables { OnOk result (variables.new.items ≡ with_clauses variables.old.items (map clause_view more.now)) }
+    ensures clauses { OnOk result (map clause_view clauses.new.items
+        ≡ map clause_view clauses.old.items ++ map clause_view more.now) }
+    ensures variables { OnOk result
+        (variables.new.items ≡ with_clauses variables.old.items (map clause_view more.now)) }
 {
     for clause in more {
         admit(alloc, clauses, variables, clause)?;
