@@ -13,7 +13,7 @@ has-snoc : (xs : List Literal) (l m : Literal) → has (xs ++ l ∷ []) m ≡ co
 has-snoc [] l m = grind arith
 has-snoc (x ∷ xs) l m = grind (arith, has-snoc xs l m)
 
-same-number : (l m : Literal) → place_of l ≡ place_of m → l ≡ m
+pub same-number : (l m : Literal) → place_of l ≡ place_of m → l ≡ m
 same-number (Flag n true) (Flag m true) e = let k : n ≡ m = omega arith in cc
 same-number (Flag n true) (Flag m false) e = absurd (omega arith)
 same-number (Flag n true) (Atom m true) e = absurd (omega arith)

@@ -9,3 +9,5 @@ pub mod Refuted
 pub mod Appended
 pub mod Propagation
 pub mod Analysis
+pub mod Watching
+pub mod Visiting

@@ -63,10 +63,18 @@ impl Assignment {
         &self.entries
     }
 
-    fn is_true(&self, literal: Literal) -> bool
+    /// Whether the literal is true.
+    pub fn is_true(&self, literal: Literal) -> bool
         ensures { result ≡ has (trues self.now) literal }
     {
         is_marked(&self.marks, literal)
+    }
+
+    /// Whether the literal is false.
+    pub fn is_false(&self, literal: Literal) -> bool
+        ensures { result ≡ has (falses self.now) literal }
+    {
+        self.is_true(opposite(literal))
     }
 
     /// The truth of a literal, if its variable has a value.

@@ -13,6 +13,9 @@ mod propagation;
 mod search;
 mod set;
 mod variables;
+mod visiting;
+mod watcher;
+mod watches;
 
 pub use assigned::Assigned;
 pub use found::{Found, SearchFault};

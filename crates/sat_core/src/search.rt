@@ -1,8 +1,10 @@
-ghost use Rattle.std.specs.Prelude.{◌≡◌, ◌++◌, ◌∷◌, ◌<◌, ◌≤◌, ◌^◌, [], OnOk, OnErr, IfOk, IsTrue, true, map, length, ℕ};
+ghost use Rattle.std.specs.Prelude.{◌≡◌, ◌++◌, ◌∷◌, ◌<◌, ◌≤◌, ◌^◌, [], OnOk, OnErr, IfOk, IsTrue, true, map, length, take, List, ℕ};
 ghost use Rattle.proof_steps.specs.View.{clause_view, step_view};
 ghost use Rattle.sat_core.specs.Shown.{Begins, IsAsBefore, Adds, Learns, Finds, learnt_count};
 ghost use Rattle.sat_core.specs.Trail.{value_of};
 ghost use Rattle.cnf_maker.specs.View.{form_view};
+ghost use Rattle.proof_steps.specs.declared.Literal.{Literal as SignedLiteral};
+ghost use Rattle.sat_core.specs.Watching.{Watching, IsWatched, IsHead};
 
 use crate::analysis::{Analysis, analysed, last_decision, next_decision};
 use crate::assigned::Assigned;
@@ -12,6 +14,7 @@ use crate::found::{Found, SearchFault};
 use crate::propagation::run;
 use crate::set::LiteralSet;
 use crate::variables::{add_atoms, admit, admit_all, flags_of};
+use crate::watches::Watches;
 use cnf_maker::Cnf;
 use proof_steps::{Clause, Literal, Step};
 use std::alloc::{AllocError, Global};
@@ -27,6 +30,8 @@ pub struct Search {
     log: Vec<Step>,
     variables: Vec<Literal>,
     assignment: Assignment,
+    watches: Watches,
+    head: usize,
     marked: LiteralSet,
     in_conflict: bool,
     conflict: u32,
@@ -38,6 +43,7 @@ impl Model for Search {
     ghost use Rattle.proof_steps.specs.View.{clause_view, step_view};
     ghost use Rattle.sat_core.specs.Shown.{Shown};
     ghost use Rattle.sat_core.specs.Held.{IsHeld};
+    ghost use Rattle.sat_core.specs.Watching.{IsWatched};
 
     ghost Value = { Shown };
 
@@ -45,8 +51,24 @@ impl Model for Search {
         known = map clause_view s.clauses.items; log = map step_view s.log.items;
         variables = s.variables.items; trail = s.assignment; in_conflict = s.in_conflict } };
 
-    ghost invariant = { λ s. IsHeld (map clause_view s.clauses.items) (map step_view s.log.items) s.variables.items
-        s.assignment s.in_conflict s.conflict s.ended };
+    ghost invariant = { λ s.
+        IsHeld (map clause_view s.clauses.items) (map step_view s.log.items) s.variables.items s.assignment
+            s.in_conflict s.conflict s.ended
+        × IsWatched (map clause_view s.clauses.items) s.assignment s.watches s.head };
+}
+
+/// Leaves the first entries alone, and lets the lists be gone through again from the last decision on.
+fn cut_back(assignment: &mut Assignment, head: &mut usize, length: usize)
+    ensures cut { assignment.new ≡ take length assignment.old }
+    ensures head { IsHead assignment.new head.new }
+    ensures watched { (known : List (List SignedLiteral)) (w : Watching) → IsWatched known assignment.old w head.old
+        → IsWatched known assignment.new w head.new }
+{
+    assignment.cut(length);
+    *head = match last_decision(assignment.entries()) {
+        Some(place) => place,
+        None => 0,
+    };
 }
 
 impl Search {
@@ -60,7 +82,8 @@ impl Search {
         let mut variables = flags_of(alloc, &cnf.shapes)?;
         add_atoms(&mut variables, &cnf.atoms)?;
         let mut clauses = Vec::new(alloc);
-        admit_all(alloc, &mut clauses, &mut variables, &cnf.clauses)?;
+        let mut watches = Watches::new(alloc);
+        admit_all(alloc, &mut clauses, &mut watches, &mut variables, &cnf.clauses)?;
         let assignment = Assignment::new(alloc);
         let marked = LiteralSet::new(alloc);
         Ok(Search {
@@ -68,6 +91,8 @@ impl Search {
             log: Vec::new(alloc),
             variables,
             assignment,
+            watches,
+            head: 0,
             marked,
             in_conflict: false,
             conflict: 0,
@@ -108,10 +133,10 @@ impl Search {
         if self.clauses.len() >= MOST {
             return Err(SearchFault::Memory(AllocError));
         }
-        admit(alloc, &mut self.clauses, &mut self.variables, clause)?;
+        admit(alloc, &mut self.clauses, &mut self.watches, &mut self.variables, clause)?;
         let entries = self.assignment.entries();
         let first = next_decision(entries, 0, entries.len());
-        self.assignment.cut(first);
+        cut_back(&mut self.assignment, &mut self.head, first);
         self.in_conflict = false;
         Ok(())
     }
@@ -129,6 +154,7 @@ impl Search {
             clause,
             hints,
             back,
+            watched,
         } = analysed(
             alloc,
             &self.clauses,
@@ -136,8 +162,16 @@ impl Search {
             &mut self.marked,
             self.conflict,
         )?;
-        append(alloc, &mut self.clauses, &mut self.log, clause, hints)?;
-        self.assignment.cut(back);
+        append(
+            alloc,
+            &mut self.clauses,
+            &mut self.watches,
+            &mut self.log,
+            clause,
+            hints,
+            watched,
+        )?;
+        cut_back(&mut self.assignment, &mut self.head, back);
         self.in_conflict = false;
         Ok(())
     }
@@ -148,9 +182,16 @@ impl Search {
         ensures err { OnErr result (IsAsBefore self.old self.new) }
     {
         let before = self.assignment.entries().len();
-        match run(&self.clauses, &self.variables, &mut self.assignment) {
+        match run(
+            alloc,
+            &self.clauses,
+            &self.variables,
+            &mut self.watches,
+            &mut self.assignment,
+            &mut self.head,
+        ) {
             Err(fault) => {
-                self.assignment.cut(before);
+                cut_back(&mut self.assignment, &mut self.head, before);
                 Err(SearchFault::Memory(fault))
             }
             Ok(None) => {
@@ -169,12 +210,13 @@ impl Search {
                         return Ok(Found::Empty);
                     }
                     if self.clauses.len() >= MOST {
-                        self.assignment.cut(before);
+                        cut_back(&mut self.assignment, &mut self.head, before);
                         return Err(SearchFault::Memory(AllocError));
                     }
                     match refuted(
                         alloc,
                         &mut self.clauses,
+                        &mut self.watches,
                         &mut self.log,
                         self.assignment.entries(),
                         number,
@@ -185,7 +227,7 @@ impl Search {
                             Ok(Found::Empty)
                         }
                         Err(fault) => {
-                            self.assignment.cut(before);
+                            cut_back(&mut self.assignment, &mut self.head, before);
                             Err(SearchFault::Memory(fault))
                         }
                     }

@@ -3,9 +3,11 @@ ghost use Rattle.proof_steps.specs.View.{clause_view, atom_view};
 ghost use Rattle.proof_steps.specs.declared.Literal.{Literal as SignedLiteral};
 ghost use Rattle.sat_core.specs.Shown.{plain as plain_of, with_literal, with_clause, with_clauses, flags_from, atoms_from};
 ghost use Rattle.sat_core.specs.Variables.{Extends};
+ghost use Rattle.sat_core.specs.Watching.{CanWatch, IsWatching, IsEnteredFor, IsUnmoved};
 ghost use Rattle.proof_checker.specs.Derived.{has};
 
 use crate::set::same;
+use crate::watches::Watches;
 use kind_num::Shape;
 use proof_steps::{Atom, Clause, Literal};
 use std::alloc::{AllocError, Global};
@@ -53,27 +55,54 @@ fn extend(variables: &mut Vec<Literal>, clause: &[Literal]) -> Result<(), AllocE
     Ok(())
 }
 
-/// Takes in a clause with its variables.
+/// Two different literals of a clause, the first and the last that differs from it.
+fn two_of(clause: &[Literal]) -> Option<(Literal, Literal)>
+    ensures { CanWatch clause.now result }
+{
+    if clause.len() == 0 {
+        return None;
+    }
+    let first = clause[0];
+    let mut i = clause.len();
+    while i > 1 {
+        i -= 1;
+        if !same(first, clause[i]) {
+            return Some((first, clause[i]));
+        }
+    }
+    None
+}
+
+/// Takes in a clause with its variables, and lets it watch two of its literals.
 pub fn admit(
     alloc: Global,
     clauses: &mut Vec<Clause>,
+    watches: &mut Watches,
     variables: &mut Vec<Literal>,
     clause: &Clause,
 ) -> Result<(), AllocError>
+    requires watching { IsWatching (map clause_view clauses.old.items) watches.old }
+    requires few { length clauses.old.items < 4294967295 }
     ensures clauses { OnOk result (map clause_view clauses.new.items
         ≡ map clause_view clauses.old.items ++ clause_view clause.now ∷ []) }
     ensures variables { OnOk result (variables.new.items ≡ with_clause variables.old.items (clause_view clause.now)) }
+    ensures watching { OnOk result (IsEnteredFor (clause_view clause.now) watches.old watches.new) }
     ensures same_clauses { OnErr result (clauses.new.items ≡ clauses.old.items) }
     ensures same_variables { OnErr result (variables.new.items ≡ variables.old.items) }
+    ensures same_watches { OnErr result (IsUnmoved watches.old watches.new) }
 {
     let copy = clause.copied(alloc)?;
+    clauses.reserve(1)?;
     let before = variables.len();
     match extend(variables, clause.literals.as_slice()) {
-        Ok(()) => match clauses.push(copy) {
-            Ok(()) => Ok(()),
-            Err(failed) => {
+        Ok(()) => match watches.enter(alloc, two_of(clause.literals.as_slice())) {
+            Ok(()) => {
+                clauses.push_reserved(copy);
+                Ok(())
+            }
+            Err(fault) => {
                 variables.truncate(before);
-                Err(failed.into())
+                Err(fault)
             }
         },
         Err(fault) => {
@@ -87,16 +116,20 @@ pub fn admit(
 pub fn admit_all(
     alloc: Global,
     clauses: &mut Vec<Clause>,
+    watches: &mut Watches,
     variables: &mut Vec<Literal>,
     more: &[Clause],
 ) -> Result<(), AllocError>
+    requires watching { IsWatching (map clause_view clauses.old.items) watches.old }
+    requires few { length clauses.old.items + length more.now < 2 ^ 32 }
     ensures clauses { OnOk result (map clause_view clauses.new.items
         ≡ map clause_view clauses.old.items ++ map clause_view more.now) }
     ensures variables { OnOk result
         (variables.new.items ≡ with_clauses variables.old.items (map clause_view more.now)) }
+    ensures watching { OnOk result (IsWatching (map clause_view clauses.new.items) watches.new) }
 {
     for clause in more {
-        admit(alloc, clauses, variables, clause)?;
+        admit(alloc, clauses, watches, variables, clause)?;
     }
     Ok(())
 }

@@ -4,6 +4,7 @@ use Rattle.std.proofs.lemmas.List.{length-map}
 use Rattle.proof_steps.specs.View.{clause_view, step_view, atom_view}
 use Rattle.sat_core.specs.Shown.{with_clauses, flags_from, atoms_from}
 use Rattle.cnf_maker.specs.View.{form_view}
+use Rattle.sat_core.proofs.Guards.{watched_new}
 use Rattle.sat_core.proofs.Widening.{held_first}
 use Rattle.sat_core.proofs.search.Search.new.Goals as goal
 
@@ -11,7 +12,7 @@ pub invariant_of-result : goal.invariant_of-result
 invariant_of-result c =
     let m = length-map c.args.cnf.now.clauses.items clause_view in
     let few : length (map clause_view c.args.cnf.now.clauses.items) < 2 ^ 32 = omega arith in
-    held_first (form_view c.args.cnf.now) _ _ _ _ 0
+    (held_first (form_view c.args.cnf.now) _ _ _ _ 0
     (c.in_ok-admit_all.ensures.clauses
     ∙ ap (λ xs. map clause_view xs ++ map clause_view c.deref-3.result.now) c.new-clauses.ensures.items
     ∙ ap (map clause_view) c.deref-3.ensures.value)
@@ -23,4 +24,6 @@ invariant_of-result c =
     ∙ ap (λ x. c.in_ok-variables.variables.items ++ atoms_from 1 (map atom_view x)) c.deref-2.ensures.value
     ∙ ap (λ x. x ++ atoms_from 1 (map atom_view c.args.cnf.now.atoms.items)) (c.in_ok-variables.ensures ∙ ap (flags_from 0) c.deref.ensures.value)))
     c.new-assignment.ensures
-    few
+    few,
+    watched_new (map clause_view c.admit_all.new.clauses.items) c.new-assignment.result c.admit_all.new.watches c.new-assignment.ensures
+        c.in_ok-admit_all.ensures.watching)

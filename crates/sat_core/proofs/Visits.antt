@@ -1,0 +1,134 @@
+-- What a visit keeps.
+use Rattle.std.specs.Prelude.{ℕ, suc, ◌≡◌, ◌≢◌, ◌⊎◌, ◌+◌, ◌-◌, ◌<◌, ◌≤◌, Bool, true, false, List, [], ◌∷◌, ◌++◌, length, Option, Some, None, All, Contains, take, get_or, slice_get, refl}
+use Rattle.std.proofs.Common.{sym, ◌∙◌, ap, subst, arith, inl, inr}
+use Rattle.std.proofs.lemmas.List.{append-nil, append_assoc, length-append}
+use Rattle.std.proofs.lemmas.List.Elements.{All-contains, All-push, Contains-push}
+use Rattle.std.proofs.lemmas.List.{map-append}
+use Rattle.proof_steps.specs.declared.Literal.{Literal}
+use Rattle.proof_steps.specs.Meaning.{at, opposite}
+use Rattle.proof_checker.specs.Derived.{has, same}
+use Rattle.sat_core.specs.declared.assigned.Assigned.{Assigned}
+use Rattle.sat_core.specs.declared.watcher.Watcher.{Watcher}
+use Rattle.sat_core.specs.declared.visiting.Visit.TheVariants.{Next, Failed}
+use Rattle.sat_core.specs.Trail.{trues, falses, IsApart, IsFalse, IsTrail}
+use Rattle.sat_core.specs.Shown.{plain, Grows}
+use Rattle.sat_core.specs.Held.{Covers}
+use Rattle.sat_core.specs.Propagation.{IsFalseAt}
+use Rattle.sat_core.specs.Watching.{Watching, list_at, IsWatch, IsOther, IsPair, IsWatching, IsWatched, IsVisiting, IsUnmoved, IsDropped, IsMoved}
+use Rattle.sat_core.specs.Visiting.{CanStand, IsReplacement, IsAdvance, IsVisit}
+use Rattle.sat_core.proofs.Places.{some_is, within, get-contains, at-contains, to_map}
+use Rattle.sat_core.proofs.Sets.{either, one-or-other, has-contains, has-not, same-is, same-refl}
+use Rattle.sat_core.proofs.Growth.{grow}
+use Rattle.sat_core.proofs.Fresh.{all_from}
+use Rattle.sat_core.proofs.Watched.{watch-of, watching_same, at-within}
+use Rattle.sat_core.proofs.Guards.{visiting_push, guard_true, visit_kept, visit_moved, visit_dropped}
+
+pub advance_none : (known : List (List Literal)) (trail : List Assigned) → IsTrail known trail → IsAdvance known trail trail
+advance_none known trail t = record { is_trail = t; within = λ variables c w. w; grows = ([], sym (append-nil trail)) }
+
+pub advance_more : (known : List (List Literal)) (a b c : List Assigned) → IsAdvance known a b → IsAdvance known b c → IsAdvance known a c
+advance_more known a b c p q = record {
+  is_trail = q.is_trail;
+  within = λ variables k w. q.within variables k (p.within variables k w);
+  grows = (p.grows.0 ++ q.grows.0, q.grows.1 ∙ ap (λ x. x ++ q.grows.0) p.grows.1 ∙ append_assoc a p.grows.0 q.grows.0);
+}
+
+pub advance_as : (known : List (List Literal)) (a b b' : List Assigned) → b' ≡ b → IsAdvance known a b → IsAdvance known a b'
+advance_as known a b b' e p = subst (IsAdvance known a) (sym e) p
+
+pub watched_same : (known : List (List Literal)) (trail : List Assigned) (w w' : Watching) (head : ℕ) → IsUnmoved w w'
+    → IsWatched known trail w head → IsWatched known trail w' head
+watched_same known trail w w' head u k = record {
+  watching = watching_same known w w' u k.watching;
+  within = k.within;
+  late = k.late;
+  guarded = λ n c l e x. k.guarded n c l e (watch-of w w' n l (ap (λ z. at z n) u.pairs) x);
+}
+
+-- one literal is implied by a clause whose others are false
+module _ (known : List (List Literal)) (trail : List Assigned) (t : IsTrail known trail) (number : ℕ) (clause : List Literal)
+    (here : at known number ≡ Some clause) (l : Literal) (in_clause : Contains clause l)
+    (others : IsReplacement trail clause l None) (nt : has (trues trail) l ≡ false) (nf : has (falses trail) l ≡ false) where
+  others-false : (m : Literal) → Contains clause m → (¬ Contains (falses trail) m) → m ≡ l
+  others-false m c n = one-or-other m l (λ e. e)
+      (λ ne. absurd (n (has-contains (falses trail) m (All-contains (λ x. CanStand trail x l false) clause m others c ne))))
+
+  implied : IsTrail known (trail ++ record { literal = l; reason = number } ∷ [])
+  implied = grow known trail t record { literal = l; reason = number } (has-not (trues trail) l nt) (has-not (falses trail) l nf)
+      (λ ne. record { clause = clause; is_reason = here;
+          unit = record { in_clause = in_clause; outside = has-not (falses trail) l nf; others = others-false } })
+      (λ e. absurd (let p = (at-within known number clause here).0 in let z : number ≡ 0 = e in omega arith))
+
+  pub advance_push : IsAdvance known trail (trail ++ record { literal = l; reason = number } ∷ [])
+  advance_push = record {
+    is_trail = implied;
+    within = λ variables c w. All-push (λ (a : Assigned). Contains variables (plain a.literal)) trail record { literal = l; reason = number } w
+        (All-contains (λ x. Contains variables (plain x)) clause l
+            (All-contains (Covers variables) known clause c (at-contains known number clause here)) in_clause);
+    grows = (record { literal = l; reason = number } ∷ [], refl);
+  }
+
+module _ (known : List (List Literal)) (trail : List Assigned) (t : IsTrail known trail) (w : Watching) (head : ℕ) (f : Literal) (j : ℕ)
+    (v : IsVisiting known trail w head f j) (e : Watcher) (here : slice_get (list_at w f) j ≡ Some e) where
+  entry-clause : (c : List Literal) × (at known e.clause ≡ Some c) × Contains c e.blocker
+  entry-clause = v.watched.watching.blockers f e (get-contains (list_at w f) j e here)
+
+  pub entry_number : (0 < e.clause) × (e.clause ≤ length known)
+  entry_number = at-within known e.clause entry-clause.0 entry-clause.1
+
+  kept : (c : List Literal) (l : Literal) → at known e.clause ≡ Some c → Contains c l → Contains (trues trail) l
+      → IsVisit known trail w w head f j (Next (j + 1))
+  kept c l k i h = (visit_kept known trail w head f t.apart j v e here c k (guard_true known trail w head f t.apart j v c l i h),
+      (let q = within (list_at w f) j e here in omega arith))
+
+  pub blocked : has (trues trail) e.blocker ≡ true → IsVisit known trail w w head f j (Next (j + 1))
+  blocked h = kept entry-clause.0 e.blocker entry-clause.1 entry-clause.2 (has-contains (trues trail) e.blocker h)
+
+  pub forgotten : (w' : Watching) → IsDropped w w' f j → IsOther w e.clause f None → IsVisit known trail w w' head f j (Next j)
+  forgotten w' m out = (visit_dropped known trail w head f t.apart j v e here w' m out,
+      (let q = within (list_at w f) j e here in let z = m.from.fewer in omega arith))
+
+  module _ (other : Literal) (o : IsOther w e.clause f (Some other)) where
+    pair-in : (c : List Literal) → at known e.clause ≡ Some c → Contains c other
+    pair-in c k = let p = v.watched.watching.pairs e.clause c o.0 k o.1 in elim o.2 as (λ _. Contains c other)
+        [ inl x ↦ subst (Contains c) x.1 p.second | inr x ↦ subst (Contains c) x.1 p.first ]
+
+    pub other_true : has (trues trail) other ≡ true → IsVisit known trail w w head f j (Next (j + 1))
+    other_true h = kept entry-clause.0 other entry-clause.1 (pair-in entry-clause.0 entry-clause.1) (has-contains (trues trail) other h)
+
+    pub found_apart : (c : List Literal) (found : Literal) → at known e.clause ≡ Some c → IsReplacement trail c other (Some found)
+        → found ≢ f
+    found_apart c found k r q = has-not (falses trail) found r.1.1 (subst (Contains (falses trail)) (sym q) f-is) where
+      f-is : Contains (falses trail) f
+      f-is = subst (Contains (falses trail)) v.is_next.2
+          (to_map (λ (x : Assigned). opposite x.literal) trail head v.is_next.0 v.is_next.1)
+
+    pub replaced : (c : List Literal) (found : Literal) (w' : Watching) → at known e.clause ≡ Some c → IsReplacement trail c other (Some found)
+        → IsMoved w w' f j e.clause other found → IsVisit known trail w w' head f j (Next j)
+    replaced c found w' k r m = (
+      visit_moved known trail w head f t.apart j v e here w' e.clause other found m refl c k r.0 r.1.0 (has-not (falses trail) found r.1.1) o,
+      (let q = within (list_at w f) j e here in let z = m.from.fewer in omega arith),
+    )
+
+    pub failed : (c : List Literal) → at known e.clause ≡ Some c → IsReplacement trail c other None → has (falses trail) other ≡ true
+        → IsVisit known trail w w head f j (Failed e.clause)
+    failed c k r h = ((c, k, all_from (Contains (falses trail)) c (λ m i. one-or-other m other
+        (λ q. subst (Contains (falses trail)) (sym q) (has-contains (falses trail) other h))
+        (λ ne. has-contains (falses trail) m (All-contains (λ x. CanStand trail x other false) c m r i ne)))), v.watched)
+
+    module _ (c : List Literal) (k : at known e.clause ≡ Some c) (r : IsReplacement trail c other None)
+        (nt : has (trues trail) other ≡ false) (nf : has (falses trail) other ≡ false) where
+      pub pushed_advance : IsAdvance known trail (trail ++ record { literal = other; reason = e.clause } ∷ [])
+      pushed_advance = advance_push known trail t e.clause c k other (pair-in c k) r nt nf
+
+      pub pushed : IsVisit known (trail ++ record { literal = other; reason = e.clause } ∷ []) w w head f j (Next (j + 1))
+      pushed =
+          let more = trail ++ record { literal = other; reason = e.clause } ∷ [] in
+          let v' = visiting_push trail record { literal = other; reason = e.clause } known w head f j
+              (λ z. let p = entry_number.0 in let y : e.clause ≡ 0 = z in omega arith) v in
+          let apart = pushed_advance.is_trail.apart in
+          (visit_kept known (trail ++ record { literal = other; reason = e.clause } ∷ []) w head f apart j v' e here c k
+              (guard_true known (trail ++ record { literal = other; reason = e.clause } ∷ []) w head f apart j v' c other (pair-in c k)
+              (subst (λ x. Contains x other) (sym (map-append (λ (x : Assigned). x.literal) trail (record { literal = other; reason = e.clause } ∷ [])))
+                  (Contains-push (trues trail) other))),
+          (let q = within (list_at w f) j e here in omega arith))

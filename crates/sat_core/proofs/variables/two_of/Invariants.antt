@@ -1,0 +1,11 @@
+use Rattle.std.specs.Prelude.{ℕ, ◌≡◌, ◌≤◌, ◌<◌, Some, length, slice_get}
+use Rattle.proof_steps.specs.declared.Literal.{Literal}
+use Rattle.sat_core.proofs.variables.two_of.Given as goal
+
+abbrev pub invariant-loop-i : goal.invariant-loop-i
+invariant-loop-i l =
+    (l.i ≤ length l.clause)
+    × ((k : ℕ) (m : Literal) → l.i ≤ k → slice_get l.clause k ≡ Some m → l.first ≡ m)
+
+abbrev pub decreases-loop-i : goal.decreases-loop-i
+decreases-loop-i l = l.i

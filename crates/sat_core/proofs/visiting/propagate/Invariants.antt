@@ -1,0 +1,14 @@
+use Rattle.std.specs.Prelude.{◌≡◌, ◌-◌, length, map}
+use Rattle.proof_steps.specs.View.{clause_view}
+use Rattle.sat_core.specs.Watching.{IsWatched}
+use Rattle.sat_core.specs.Visiting.{IsAdvance}
+use Rattle.sat_core.proofs.visiting.propagate.Given as goal
+
+abbrev pub invariant-loop-head : goal.invariant-loop-head
+invariant-loop-head l =
+    IsWatched (map clause_view l.clauses) l.assignment l.watches l.head
+    × IsAdvance (map clause_view l.clauses) l.fn.assignment l.assignment
+    × (l.watches.shorts ≡ l.fn.watches.shorts)
+
+abbrev pub decreases-loop-head : goal.decreases-loop-head
+decreases-loop-head l = length l.variables - l.head

@@ -1,0 +1,174 @@
+-- Clauses that watch two of their literals, after Moskewicz and others, "Chaff", 2001.
+use Rattle.std.specs.Prelude.{ℕ, suc, ◌≡◌, ◌≢◌, ◌⊎◌, ◌+◌, ◌<◌, ◌≤◌, ◌++◌, ◌∷◌, List, [], length, map, Option, Some, None, Contains, drop, get_or, slice_get, slice_set}
+use Rattle.std.specs.declared.vec.Vec.{Vec}
+use Rattle.std.specs.declared.alloc.Global.{Global}
+use Rattle.proof_steps.specs.declared.Literal.{Literal}
+use Rattle.proof_steps.specs.Meaning.{at, opposite}
+use Rattle.sat_core.specs.declared.assigned.Assigned.{Assigned}
+use Rattle.sat_core.specs.declared.watcher.Watcher.{Watcher}
+use Rattle.sat_core.specs.Set.{place_of}
+use Rattle.sat_core.specs.Trail.{trues}
+
+-- the lists of the clauses that watch a literal, by its place, with a literal of each clause; of
+-- each clause the two literals that it watches; and the numbers of the clauses that watch none
+pub record Watching : Type 0 where
+  pub lists : List (List Watcher)
+  pub pairs : List (Option (Literal × Literal))
+  pub shorts : List ℕ
+
+abbrev pub lists_of : List (Vec Watcher Global) → List (List Watcher)
+lists_of rows = map (λ (v : Vec Watcher Global). v.items) rows
+
+abbrev pub row : List (List Watcher) → ℕ → List Watcher
+row lists p = get_or lists p []
+
+abbrev pub list_at : Watching → Literal → List Watcher
+list_at w l = row w.lists (place_of l)
+
+-- the numbered clause is listed
+abbrev pub IsListed : List Watcher → ℕ → Type 0
+IsListed list n = (e : Watcher) × Contains list e × (e.clause ≡ n)
+
+-- the literal is one of the two that the numbered clause watches
+abbrev pub IsWatch : Watching → ℕ → Literal → Type 0
+IsWatch w n l = (p : Literal × Literal) × (at w.pairs n ≡ Some (Some p)) × ((p.0 ≡ l) ⊎ (p.1 ≡ l))
+
+-- the numbered clause watches these two
+abbrev pub IsOther : Watching → ℕ → Literal → Option Literal → Type 0
+IsOther w n l None = IsWatch w n l → ⊥
+IsOther w n l (Some m) =
+    (p : Literal × Literal) × (at w.pairs n ≡ Some (Some p))
+    × (((p.0 ≡ l) × (p.1 ≡ m)) ⊎ ((p.1 ≡ l) × (p.0 ≡ m)))
+
+-- the clause has no two different literals
+abbrev pub IsShort : List Literal → Type 0
+IsShort clause = (l m : Literal) → Contains clause l → Contains clause m → l ≡ m
+
+pub record IsPair (clause : List Literal) (p : Literal × Literal) : Type 0 where
+  pub first : Contains clause p.0
+  pub second : Contains clause p.1
+  pub apart : p.0 ≢ p.1
+
+-- a clause with two different literals watches two and is in their lists; the others are short
+pub record IsWatching (known : List (List Literal)) (w : Watching) : Type 0 where
+  pub count : length w.pairs ≡ length known
+  pub pairs : (n : ℕ) (c : List Literal) (p : Literal × Literal) → at known n ≡ Some c
+      → at w.pairs n ≡ Some (Some p) → IsPair c p
+  pub listed : (n : ℕ) (l : Literal) → IsWatch w n l → IsListed (list_at w l) n
+  pub shorts : (n : ℕ) (c : List Literal) → at known n ≡ Some c → at w.pairs n ≡ Some None
+      → Contains w.shorts n × IsShort c
+  pub known_shorts : (n : ℕ) → Contains w.shorts n → (c : List Literal) × (at known n ≡ Some c) × IsShort c
+  pub blockers : (l : Literal) (e : Watcher) → Contains (list_at w l) e
+      → (c : List Literal) × (at known e.clause ≡ Some c) × Contains c e.blocker
+
+-- a literal of the clause is true, and no decision stands after the place up to it
+pub record IsGuard (trail : List Assigned) (clause : List Literal) (i : ℕ) : Type 0 where
+  pub place : ℕ
+  pub entry : Assigned
+  pub is_there : slice_get trail place ≡ Some entry
+  pub in_clause : Contains clause entry.literal
+  pub undecided : (k : ℕ) (b : Assigned) → i < k → k ≤ place → slice_get trail k ≡ Some b → b.reason ≢ 0
+
+-- where the literal became false before place n, such a literal of the clause is true
+abbrev pub IsGuarded : List Assigned → List Literal → Literal → ℕ → Type 0
+IsGuarded trail clause l n =
+    (i : ℕ) (a : Assigned) → i < n → slice_get trail i ≡ Some a → opposite a.literal ≡ l → IsGuard trail clause i
+
+-- the lists of what became false before place `head` were gone over; decisions stand no later
+pub record IsWatched (known : List (List Literal)) (trail : List Assigned) (w : Watching) (head : ℕ) : Type 0 where
+  pub watching : IsWatching known w
+  pub within : head ≤ length trail
+  pub late : (i : ℕ) (a : Assigned) → head < i → slice_get trail i ≡ Some a → a.reason ≢ 0
+  pub guarded : (n : ℕ) (c : List Literal) (l : Literal) → at known n ≡ Some c → IsWatch w n l
+      → IsGuarded trail c l head
+
+-- of the list of what became false at `head` the entries before place j were gone over
+pub record IsVisiting (known : List (List Literal)) (trail : List Assigned) (w : Watching) (head : ℕ) (f : Literal)
+    (j : ℕ) : Type 0 where
+  pub watched : IsWatched known trail w head
+  pub is_next : (a : Assigned) × (slice_get trail head ≡ Some a) × (opposite a.literal ≡ f)
+  pub visited : (n : ℕ) (c : List Literal) → at known n ≡ Some c → IsWatch w n f
+      → IsGuarded trail c f (suc head) ⊎ IsListed (drop j (list_at w f)) n
+
+-- one element less: those from place j on but it are there from place j on
+pub record IsWithout (old new : List Watcher) (j : ℕ) : Type 0 where
+  pub fewer : length new + 1 ≡ length old
+  pub kept : (k : ℕ) (e : Watcher) → k ≢ j → slice_get old k ≡ Some e
+      → (i : ℕ) × (j ≤ k → j ≤ i) × (slice_get new i ≡ Some e)
+  pub only : (e : Watcher) → Contains new e → Contains old e
+
+-- the list at a place has changed, and no other
+pub record IsSameBut (old new : List (List Watcher)) (p : ℕ) (list : List Watcher) : Type 0 where
+  pub here : row new p ≡ list
+  pub others : (q : ℕ) → q ≢ p → row new q ≡ row old q
+
+abbrev pub AreSame : List (List Watcher) → List (List Watcher) → Type 0
+AreSame old new = (p : ℕ) → row new p ≡ row old p
+
+-- an entry more in each of two lists
+pub record AreBoth (old new : List (List Watcher)) (number : ℕ) (a b : Literal) : Type 0 where
+  pub first : row new (place_of a) ≡ row old (place_of a) ++ record { clause = number; blocker = b } ∷ []
+  pub second : row new (place_of b) ≡ row old (place_of b) ++ record { clause = number; blocker = a } ∷ []
+  pub others : (l : Literal) → l ≢ a → l ≢ b → row new (place_of l) ≡ row old (place_of l)
+
+abbrev pub IsApartPair : Option (Literal × Literal) → Type 0
+IsApartPair None = Unit {0}
+IsApartPair (Some p) = p.0 ≢ p.1
+
+-- nothing has changed that is asked for
+pub record IsUnmoved (old new : Watching) : Type 0 where
+  pub lists : AreSame old.lists new.lists
+  pub pairs : new.pairs ≡ old.pairs
+  pub shorts : new.shorts ≡ old.shorts
+
+-- an entry is taken out of a list
+pub record IsDropped (old new : Watching) (f : Literal) (j : ℕ) : Type 0 where
+  pub from : IsWithout (list_at old f) (list_at new f) j
+  pub others : (l : Literal) → l ≢ f → list_at new l ≡ list_at old l
+  pub pairs : new.pairs ≡ old.pairs
+  pub shorts : new.shorts ≡ old.shorts
+
+-- the numbered clause watches another literal, and its entry stands there
+pub record IsMoved (old new : Watching) (f : Literal) (j : ℕ) (number : ℕ) (other found : Literal) : Type 0 where
+  pub from : IsWithout (list_at old f) (list_at new f) j
+  pub to : list_at new found ≡ list_at old found ++ record { clause = number; blocker = other } ∷ []
+  pub others : (l : Literal) → l ≢ f → l ≢ found → list_at new l ≡ list_at old l
+  pub here : at new.pairs number ≡ Some (Some (found, other))
+  pub pairs : (n : ℕ) → n ≢ number → at new.pairs n ≡ at old.pairs n
+  pub count : length new.pairs ≡ length old.pairs
+  pub shorts : new.shorts ≡ old.shorts
+
+-- some literal of the clause is true
+abbrev pub HasTrue : List Assigned → List Literal → Type 0
+HasTrue trail clause = (l : Literal) × Contains clause l × Contains (trues trail) l
+
+-- one clause more, which watches two literals or none
+pub record IsPaired (old new : Watching) (a b : Literal) : Type 0 where
+  pub pairs : new.pairs ≡ old.pairs ++ Some (a, b) ∷ []
+  pub first : list_at new a ≡ list_at old a ++ record { clause = length old.pairs + 1; blocker = b } ∷ []
+  pub second : list_at new b ≡ list_at old b ++ record { clause = length old.pairs + 1; blocker = a } ∷ []
+  pub others : (l : Literal) → l ≢ a → l ≢ b → list_at new l ≡ list_at old l
+  pub shorts : new.shorts ≡ old.shorts
+
+pub record IsShortened (old new : Watching) : Type 0 where
+  pub pairs : new.pairs ≡ old.pairs ++ None ∷ []
+  pub lists : new.lists ≡ old.lists
+  pub shorts : new.shorts ≡ old.shorts ++ (length old.pairs + 1) ∷ []
+
+abbrev pub IsEntered : Watching → Watching → Option (Literal × Literal) → Type 0
+IsEntered old new None = IsShortened old new
+IsEntered old new (Some p) = IsPaired old new p.0 p.1
+
+-- these two literals of the clause may be watched, or it is short
+abbrev pub CanWatch : List Literal → Option (Literal × Literal) → Type 0
+CanWatch clause None = IsShort clause
+CanWatch clause (Some p) = IsPair clause p
+
+-- a clause more that watches two of its literals, or is short
+abbrev pub IsEnteredFor : List Literal → Watching → Watching → Type 0
+IsEnteredFor clause old new =
+    (watched : Option (Literal × Literal)) × CanWatch clause watched × IsEntered old new watched
+
+-- the lists are gone through from the last decision on, or from the first entry
+abbrev pub IsHead : List Assigned → ℕ → Type 0
+IsHead trail head = (head ≡ 0) ⊎ ((a : Assigned) × (slice_get trail head ≡ Some a) × (a.reason ≡ 0))

@@ -1,0 +1,140 @@
+use anyhow::{Result, bail};
+use cnf_maker::Cnf;
+use proof_checker::check;
+use proof_steps::{Clause, Literal, Proof, Step};
+use sat_core::{Found, Search};
+use std::alloc::Global;
+
+/// What a search over a form came to: its first answer, its last, and what the assignment or the
+/// log shows.
+#[derive(Clone, Copy)]
+pub struct Report {
+    pub first: &'static str,
+    pub answer: &'static str,
+    pub shown: &'static str,
+}
+
+/// The word for an answer.
+fn word(found: Found) -> &'static str {
+    match found {
+        Found::Full => "full",
+        Found::Conflict => "conflict",
+        Found::Empty => "empty",
+    }
+}
+
+/// Searches until all variables have values or the empty clause is derived.
+fn searched(alloc: Global, search: &mut Search) -> Result<Found> {
+    for _ in 0..1_000_000u32 {
+        match search.decide_or_conflict(alloc)? {
+            Found::Conflict => search.learn(alloc)?,
+            found => return Ok(found),
+        }
+    }
+    bail!("a million conflicts");
+}
+
+fn clause_of(step: &Step) -> &Clause {
+    match step {
+        Step::Derived { clause, .. } => clause,
+        Step::Theory { clause, .. } => clause,
+    }
+}
+
+fn has(clause: &Clause, literal: Literal) -> bool {
+    for other in clause.literals.as_slice() {
+        if *other == literal {
+            return true;
+        }
+    }
+    false
+}
+
+/// Whether a clause has all literals of another.
+fn includes(clause: &Clause, other: &Clause) -> bool {
+    for literal in other.literals.as_slice() {
+        if !has(clause, *literal) {
+            return false;
+        }
+    }
+    true
+}
+
+fn includes_any(clause: &Clause, others: &[Step]) -> bool {
+    for other in others {
+        if includes(clause, clause_of(other)) {
+            return true;
+        }
+    }
+    false
+}
+
+/// Whether no clause of the log contains one before it.
+fn is_new(log: &[Step]) -> bool {
+    for i in 0..log.len() {
+        if includes_any(clause_of(&log[i]), &log[..i]) {
+            return false;
+        }
+    }
+    true
+}
+
+fn copied(alloc: Global, steps: &[Step]) -> Result<Proof> {
+    let mut list = Vec::new(alloc);
+    for step in steps {
+        list.push(step.copied(alloc)?)?;
+    }
+    Ok(Proof {
+        atoms: Vec::new(alloc),
+        steps: list,
+    })
+}
+
+/// Whether the values give each clause of the form a true literal.
+fn solves(search: &Search, form: &Cnf) -> bool {
+    for clause in &form.clauses {
+        let mut some = false;
+        for literal in clause.literals.as_slice() {
+            if search.value(*literal) == Some(true) {
+                some = true;
+            }
+        }
+        if !some {
+            return false;
+        }
+    }
+    true
+}
+
+/// What the log, or the assignment, shows.
+fn shown(alloc: Global, search: &Search, form: &Cnf, found: Found) -> Result<&'static str> {
+    if found == Found::Full {
+        return Ok(if solves(search, form) { "solved" } else { "NOT SOLVED" });
+    }
+    if !is_new(search.log()) {
+        return Ok("NOT NEW");
+    }
+    let proof = copied(alloc, search.log())?;
+    match check(alloc, &form.shapes, &form.atoms, &form.clauses, &proof) {
+        Ok(_) => Ok("log accepted"),
+        Err(_) => Ok("LOG REFUSED"),
+    }
+}
+
+/// Searches through a form of few enough clauses.
+pub fn tried(alloc: Global, form: &Cnf) -> Result<Report> {
+    if form.clauses.len() > 1_000_000 || form.atoms.len() > 1_000_000 || form.shapes.len() > 1_000_000 {
+        bail!("too many clauses");
+    }
+    let mut search = Search::new(alloc, form)?;
+    let first = search.decide_or_conflict(alloc)?;
+    if first == Found::Conflict {
+        search.learn(alloc)?;
+    }
+    let found = searched(alloc, &mut search)?;
+    Ok(Report {
+        first: word(first),
+        answer: word(found),
+        shown: shown(alloc, &search, form, found)?,
+    })
+}
