@@ -10,7 +10,7 @@ use Rattle.lus_tree.specs.declared.place.Pos.{Pos}
 use Rattle.lus_tree.specs.declared.place.Sort.{Sort}
 use Rattle.lus_tree.specs.declared.place.Sort.TheVariants.{Bool as Flags}
 use Rattle.lus_tree.specs.Tree.{Name, Expression, truth, name, negation, pre, arrow, binary, choice, Variable, Statement, Component, declared_node, Program}
-use Rattle.lus_tree.specs.Numbers.{counting, pres, body_pres, times, are_counted, IsNumbered}
+use Rattle.lus_tree.specs.Numbers.{a_pre, counting, pres, body_pres, times, are_counted, IsNumbered}
 use Rattle.lus_meaning.specs.Value.{is_absent}
 use Rattle.lus_meaning.specs.Scene.{Instance, instance, no_instances}
 use Rattle.lus_meaning.specs.Run.{Equation, first_sorts}
@@ -23,7 +23,7 @@ use Rattle.lus_meaning.specs.BooleanRules.{IsBooleanExpression, IsBooleanItem, I
 use Rattle.lus_meaning.proofs.Lists.{both_parts}
 use Rattle.lus_meaning.proofs.Exists.{length_mapped}
 use Rattle.lus_meaning.proofs.BooleanNode.{of_boolean_item, boolean_equations, boolean_instance}
-use Rattle.lus_meaning.proofs.BooleanFirsts.{boolean_firsts, boolean_expressions, boolean_pres_all}
+use Rattle.lus_meaning.proofs.BooleanFirsts.{boolean_firsts, boolean_expressions, boolean_counted, boolean_pres_all}
 use Rattle.trace_replay.specs.Fitting.{greater, greatest_pre, greatest_pre_in, is_left, line_need, takes_flag, flags_misfit, need_misfit, flag_line_misfit, or_else, own_misfit, are_listed, body_misfit, flag_misfit}
 
 -- ---- the greatest number of a `pre`
@@ -107,7 +107,7 @@ greatest_numbered d node numbered = greatest_in d.body node.items 0 ∙ go (leng
     ks = body_pres d.body
 
     counted : are_counted ks ≡ true
-    counted = ap (λ (es : List Expression). are_counted (flat_map pres es)) (sym (boolean_expressions d node)) ∙ numbered.pres
+    counted = ap (λ (es : List Expression). are_counted (flat_map pres es)) (sym (boolean_expressions d node)) ∙ boolean_counted d node numbered a_pre
 
     most : greatest 0 ks ≤ length ks
     most = at_most (length ks) 0 ks (omega arith) (boolean_pres_all d node numbered (λ j. j ≤ length ks) (λ j a b. omega (arith, b)))
