@@ -4,3 +4,5 @@ pub mod ClockRows
 pub mod ContractRows
 pub mod Loops
 pub mod BooleanRows
+pub mod Written
+pub mod OperatorRows

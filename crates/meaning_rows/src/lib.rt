@@ -7,9 +7,11 @@ mod boolean_rows;
 mod clock_rows;
 mod contract_rows;
 mod need_rows;
+mod operator_rows;
 
 pub use body_rows::{assertion_row, broken_row, free_name_row, toggle_alternates, toggle_row};
 pub use boolean_rows::{against_row, circle_row};
 pub use clock_rows::{held_output_row, merge_of_clocks_row, slow_pre_row};
 pub use contract_rows::{callee_assumption_row, import_row};
 pub use need_rows::late_circle_row;
+pub use operator_rows::{division_row, flag_row, number_row, operand_row, order_row};
