@@ -6,3 +6,5 @@ pub mod Loops
 pub mod BooleanRows
 pub mod Written
 pub mod OperatorRows
+pub mod SamplingRows
+pub mod CallRows

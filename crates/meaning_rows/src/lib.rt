@@ -4,14 +4,20 @@
 
 mod body_rows;
 mod boolean_rows;
+mod call_rows;
 mod clock_rows;
 mod contract_rows;
 mod need_rows;
 mod operator_rows;
+mod sampling_rows;
 
 pub use body_rows::{assertion_row, broken_row, free_name_row, toggle_alternates, toggle_row};
 pub use boolean_rows::{against_row, circle_row};
+pub use call_rows::{
+    calls_everywhere_row, deep_call_row, merge_branches_row, sampled_call_row, several_outputs_row,
+};
 pub use clock_rows::{held_output_row, merge_of_clocks_row, slow_pre_row};
 pub use contract_rows::{callee_assumption_row, import_row};
 pub use need_rows::late_circle_row;
 pub use operator_rows::{division_row, flag_row, number_row, operand_row, order_row};
+pub use sampling_rows::{clock_of_clock_row, sampling_row};
