@@ -8,3 +8,5 @@ pub mod Written
 pub mod OperatorRows
 pub mod SamplingRows
 pub mod CallRows
+pub mod ModeRows
+pub mod ItemRows

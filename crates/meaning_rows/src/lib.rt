@@ -7,6 +7,8 @@ mod boolean_rows;
 mod call_rows;
 mod clock_rows;
 mod contract_rows;
+mod item_rows;
+mod mode_rows;
 mod need_rows;
 mod operator_rows;
 mod sampling_rows;
@@ -18,6 +20,8 @@ pub use call_rows::{
 };
 pub use clock_rows::{held_output_row, merge_of_clocks_row, slow_pre_row};
 pub use contract_rows::{callee_assumption_row, import_row};
+pub use item_rows::{items_row, label_row};
+pub use mode_rows::{empty_mode_row, mode_memory_row, two_modes_row};
 pub use need_rows::late_circle_row;
 pub use operator_rows::{division_row, flag_row, number_row, operand_row, order_row};
 pub use sampling_rows::{clock_of_clock_row, sampling_row};
