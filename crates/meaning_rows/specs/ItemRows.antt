@@ -123,22 +123,22 @@ items_frame = frame
 -- the properties at the three instants, each with its name
 abbrev pub items_truths : List (List Value)
 items_truths =
-    flags_of (true ∷ false ∷ true ∷ [])      -- property "p"
-    ∷ flags_of (false ∷ false ∷ true ∷ [])      -- property @25:15
-    ∷ flags_of (true ∷ false ∷ true ∷ [])      -- guarantee 1.1."g"
-    ∷ flags_of (false ∷ false ∷ true ∷ [])      -- guarantee 1.@8:13
-    ∷ flags_of (true ∷ true ∷ false ∷ [])      -- guarantee "own"
-    ∷ flags_of (true ∷ true ∷ true ∷ [])      -- ensure 1.1.m @4:33: m is active at 0 and 2, and o > 1 is true there
-    ∷ flags_of (false ∷ true ∷ true ∷ [])      -- ensure 1.1.m "e"
-    ∷ flags_of (true ∷ false ∷ true ∷ [])      -- ensure n "f": n is active at 1
-    ∷ flags_of (true ∷ true ∷ true ∷ [])      -- ensure n @21:51
-    ∷ flags_of (true ∷ true ∷ true ∷ [])      -- one mode active
-    ∷ flags_of (true ∷ true ∷ false ∷ [])      -- assume 2."small"
-    ∷ flags_of (true ∷ false ∷ true ∷ [])      -- assume 2.1.1.@2:10: a is 3, 1, 10
-    ∷ flags_of (false ∷ true ∷ true ∷ [])      -- assume 2.@14:10
-    ∷ flags_of (true ∷ true ∷ false ∷ [])      -- assume 3."small"
-    ∷ flags_of (true ∷ false ∷ true ∷ [])      -- assume 3.1.1.@2:10
-    ∷ flags_of (true ∷ true ∷ true ∷ [])      -- assume 3.@14:10: the callee is not active at 0
+    flags_of (true ∷ false ∷ true ∷ [])  -- property "p"
+    ∷ flags_of (false ∷ false ∷ true ∷ [])  -- property @25:15
+    ∷ flags_of (true ∷ false ∷ true ∷ [])  -- guarantee 1.1."g"
+    ∷ flags_of (false ∷ false ∷ true ∷ [])  -- guarantee 1.@8:13
+    ∷ flags_of (true ∷ true ∷ false ∷ [])  -- guarantee "own"
+    ∷ flags_of (true ∷ true ∷ true ∷ [])  -- ensure 1.1.m @4:33: m is active at 0 and 2, and o > 1 is true there
+    ∷ flags_of (false ∷ true ∷ true ∷ [])  -- ensure 1.1.m "e"
+    ∷ flags_of (true ∷ false ∷ true ∷ [])  -- ensure n "f": n is active at 1
+    ∷ flags_of (true ∷ true ∷ true ∷ [])  -- ensure n @21:51
+    ∷ flags_of (true ∷ true ∷ true ∷ [])  -- one mode active
+    ∷ flags_of (true ∷ true ∷ false ∷ [])  -- assume 2."small"
+    ∷ flags_of (true ∷ false ∷ true ∷ [])  -- assume 2.1.1.@2:10: a is 3, 1, 10
+    ∷ flags_of (false ∷ true ∷ true ∷ [])  -- assume 2.@14:10
+    ∷ flags_of (true ∷ true ∷ false ∷ [])  -- assume 3."small"
+    ∷ flags_of (true ∷ false ∷ true ∷ [])  -- assume 3.1.1.@2:10
+    ∷ flags_of (true ∷ true ∷ true ∷ [])  -- assume 3.@14:10: the callee is not active at 0
     ∷ []
 
 abbrev pub items_labels : List (List ℕ)

@@ -10,3 +10,6 @@ pub mod SamplingRows
 pub mod CallRows
 pub mod ModeRows
 pub mod ItemRows
+pub mod ConstantRows
+pub mod OwedRows
+pub mod RunRows

@@ -3,7 +3,7 @@ use Prim.Native.String.{String}
 use Rattle.std.specs.Prelude.{ℕ, Bool, true, false, List, [], ◌∷◌, map, Option, Some, None, codes, pos, neg_ℤ}
 use Rattle.lus_tree.specs.declared.place.Sort.TheVariants.{Bool as Flags, Int as Numbers}
 use Rattle.lus_tree.specs.declared.expression.Operator.{Operator}
-use Rattle.lus_tree.specs.Tree.{Name, Expression, Expressions, truth, number, name, negation, minus, pre, arrow, binary, choice, sampled, merged, call, condact, mode_name, no_more, more, Spelled, Variable, Constant, Labelled, Statement, equation, assertion, property, Clause, assume, guarantee, ghost_variable, constant, mode, «import»}
+use Rattle.lus_tree.specs.Tree.{Name, Expression, Expressions, truth, number, name, negation, minus, pre, arrow, binary, choice, sampled, merged, call, condact, mode_name, no_more, more, Spelled, Variable, Constant, Labelled, Statement, equation, assertion, property, Clause, assume, guarantee, ghost_variable, constant, mode, «import», Component}
 use Rattle.lus_meaning.specs.Value.{Value, absent, flag, whole}
 use Rattle.lus_meaning.specs.Trace.{Line}
 use Rattle.meaning_rows.specs.RowParts.{here, spelled, start, lists, lists_first, natural}
@@ -84,6 +84,9 @@ off c v = record v { clock = Some (false, spelled (codes c)) }
 
 abbrev pub defined : String → Expression → Constant
 defined x e = record { name = spelled (codes x); sort = None; value = e }
+
+abbrev pub with_constants : List Constant → Component → Component
+with_constants cs d = record d { constants = cs }
 
 -- `x = e;`
 abbrev pub sets : String → Expression → Statement

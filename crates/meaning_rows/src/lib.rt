@@ -6,11 +6,14 @@ mod body_rows;
 mod boolean_rows;
 mod call_rows;
 mod clock_rows;
+mod constant_rows;
 mod contract_rows;
 mod item_rows;
 mod mode_rows;
 mod need_rows;
 mod operator_rows;
+mod owed_rows;
+mod run_rows;
 mod sampling_rows;
 
 pub use body_rows::{assertion_row, broken_row, free_name_row, toggle_alternates, toggle_row};
@@ -19,9 +22,14 @@ pub use call_rows::{
     calls_everywhere_row, deep_call_row, merge_branches_row, sampled_call_row, several_outputs_row,
 };
 pub use clock_rows::{held_output_row, merge_of_clocks_row, slow_pre_row};
+pub use constant_rows::constants_row;
 pub use contract_rows::{callee_assumption_row, import_row};
 pub use item_rows::{items_row, label_row};
 pub use mode_rows::{empty_mode_row, mode_memory_row, two_modes_row};
 pub use need_rows::late_circle_row;
 pub use operator_rows::{division_row, flag_row, number_row, operand_row, order_row};
+pub use owed_rows::{
+    deep_assertion_row, direct_caller_row, first_break_row, lawless_row, two_calls_row,
+};
+pub use run_rows::{run_row, unbalanced_row, unshaped_row, untyped_row};
 pub use sampling_rows::{clock_of_clock_row, sampling_row};
