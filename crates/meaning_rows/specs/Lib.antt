@@ -13,3 +13,5 @@ pub mod ItemRows
 pub mod ConstantRows
 pub mod OwedRows
 pub mod RunRows
+pub mod TraceRows
+pub mod SqueezeRows

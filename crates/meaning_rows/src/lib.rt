@@ -15,6 +15,8 @@ mod operator_rows;
 mod owed_rows;
 mod run_rows;
 mod sampling_rows;
+mod squeeze_rows;
+mod trace_rows;
 
 pub use body_rows::{assertion_row, broken_row, free_name_row, toggle_alternates, toggle_row};
 pub use boolean_rows::{against_row, circle_row};
@@ -33,3 +35,5 @@ pub use owed_rows::{
 };
 pub use run_rows::{run_row, unbalanced_row, unshaped_row, untyped_row};
 pub use sampling_rows::{clock_of_clock_row, sampling_row};
+pub use squeeze_rows::{squeezed_call_row, squeezed_row};
+pub use trace_rows::{nested_trace_row, other_frame_row};
