@@ -1,7 +1,9 @@
 -- Worked rows of the Boolean language: a node whose equations stand against their order, and one whose equations need each other.
 use Rattle.std.specs.Prelude.{[], ◌∷◌, None, codes}
 use Rattle.lus_tree.specs.declared.expression.Operator.TheVariants.{Implies, Xor, And, Equal}
-use Rattle.lus_tree.specs.Tree.{negation, pre, arrow, binary, choice, property, main_mark, Component}
+use Rattle.lus_tree.specs.Tree.{negation, pre, arrow, binary, choice, property, main_mark, Component, declared_node}
+use Rattle.lus_meaning.specs.Scene.{Instance}
+use Rattle.lus_meaning.specs.Program.{instance_of}
 use Rattle.meaning_rows.specs.RowParts.{start, here, called, flags, unlabelled, defines, checks, declares}
 
 -- node main(a : bool) returns (x : bool); var y, z : bool;
@@ -16,9 +18,15 @@ against_node = declares (codes "main") (flags (codes "a") ∷ []) (flags (codes 
     ∷ main_mark start
     ∷ [])
 
+abbrev pub against : Instance
+against = instance_of (declared_node against_node ∷ []) against_node
+
 -- node main() returns (x, y : bool); let x = not y; y = pre x -> x; tel
 abbrev pub circle_node : Component
 circle_node = declares (codes "main") [] (flags (codes "x") ∷ flags (codes "y") ∷ []) [] None
     (defines (codes "x") (negation here (called (codes "y")))
     ∷ defines (codes "y") (arrow here 1 (pre here 1 (called (codes "x"))) (called (codes "x")))
     ∷ [])
+
+abbrev pub circle : Instance
+circle = instance_of (declared_node circle_node ∷ []) circle_node

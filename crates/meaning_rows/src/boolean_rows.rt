@@ -2,21 +2,23 @@
 
 ghost use Rattle.std.specs.Prelude.{[], ◌∷◌};
 ghost use Rattle.lus_tree.specs.Tree.{declared_node};
-ghost use Rattle.lus_meaning.specs.Program.{instance_of};
 ghost use Rattle.lus_meaning.specs.Run.{equations};
 ghost use Rattle.lus_meaning.specs.Cycle.{NoCycle};
-ghost use Rattle.lus_meaning.specs.Order.{IsLeastEquationOrder, IsStuckAt};
+ghost use Rattle.lus_meaning.specs.Order.{IsLeastEquationOrder, IsStuck, NeedsEquation};
+ghost use Rattle.lus_meaning.specs.Rules.{IsWithinCounts};
 ghost use Rattle.lus_meaning.specs.BooleanRules.{IsBooleanChecked};
-ghost use Rattle.meaning_rows.specs.BooleanRows.{against_node, circle_node};
+ghost use Rattle.meaning_rows.specs.BooleanRows.{against, against_node, circle, circle_node};
 
-/// A node with an input, two locals and a free name, whose first equation needs its second one, follows the rules.
+/// A node with an input, two locals and a free name, whose first equation needs its second one, follows the
+/// rules and is within the limits.
 pub fn against_row()
     ensures checked { IsBooleanChecked (declared_node against_node ∷ []) against_node }
-    ensures order { IsLeastEquationOrder (equations against_node) (1 ∷ 0 ∷ []) }
+    ensures within { IsWithinCounts (declared_node against_node ∷ []) against_node }
+    ensures order { IsLeastEquationOrder against (equations against_node) (1 ∷ 0 ∷ []) }
 {}
 
 /// `x = not y` and `y = pre x -> x` need each other.
 pub fn circle_row()
-    ensures stuck { IsStuckAt (equations circle_node) [] }
-    ensures circle { NoCycle (instance_of (declared_node circle_node ∷ []) circle_node) → ⊥ }
+    ensures stuck { IsStuck 2 (NeedsEquation circle (equations circle_node)) [] }
+    ensures circle { NoCycle circle → ⊥ }
 {}

@@ -1,4 +1,4 @@
-use Rattle.meaning_rows.proofs.BooleanRows.{against_checked, against_order}
+use Rattle.meaning_rows.proofs.BooleanRows.{against_checked, against_order, against_within}
 use Rattle.meaning_rows.proofs.boolean_rows.against_row.Goals as goal
 
 pub returns-clause-checked : goal.returns-clause-checked
@@ -6,3 +6,6 @@ returns-clause-checked c = against_checked
 
 pub returns-clause-order : goal.returns-clause-order
 returns-clause-order c = against_order
+
+pub returns-clause-within : goal.returns-clause-within
+returns-clause-within c = against_within
