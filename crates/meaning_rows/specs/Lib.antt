@@ -15,3 +15,5 @@ pub mod OwedRows
 pub mod RunRows
 pub mod TraceRows
 pub mod SqueezeRows
+pub mod PlacedParts
+pub mod RefusalRows

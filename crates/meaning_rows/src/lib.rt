@@ -13,8 +13,10 @@ mod mode_rows;
 mod need_rows;
 mod operator_rows;
 mod owed_rows;
+mod refusal_rows;
 mod run_rows;
 mod sampling_rows;
+mod slot_rows;
 mod squeeze_rows;
 mod trace_rows;
 
@@ -33,7 +35,9 @@ pub use operator_rows::{division_row, flag_row, number_row, operand_row, order_r
 pub use owed_rows::{
     deep_assertion_row, direct_caller_row, first_break_row, lawless_row, two_calls_row,
 };
+pub use refusal_rows::{equation_rows, limit_rows, name_rows, type_rows};
 pub use run_rows::{run_row, unbalanced_row, unshaped_row, untyped_row};
 pub use sampling_rows::{clock_of_clock_row, sampling_row};
+pub use slot_rows::layout_row;
 pub use squeeze_rows::{squeezed_call_row, squeezed_row};
 pub use trace_rows::{nested_trace_row, other_frame_row};
