@@ -1,1 +1,3 @@
 pub mod BooleanRows
+pub mod Ways
+pub mod Chained

@@ -17,3 +17,4 @@ pub mod TraceRows
 pub mod SqueezeRows
 pub mod PlacedParts
 pub mod RefusalRows
+pub mod NeedRows

@@ -30,7 +30,7 @@ pub use constant_rows::constants_row;
 pub use contract_rows::{callee_assumption_row, import_row};
 pub use item_rows::{items_row, label_row};
 pub use mode_rows::{empty_mode_row, mode_memory_row, two_modes_row};
-pub use need_rows::late_circle_row;
+pub use need_rows::{chained_order_row, circles_row, late_circle_row, needs_row};
 pub use operator_rows::{division_row, flag_row, number_row, operand_row, order_row};
 pub use owed_rows::{
     deep_assertion_row, direct_caller_row, first_break_row, lawless_row, two_calls_row,
