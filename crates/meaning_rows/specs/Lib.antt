@@ -18,3 +18,4 @@ pub mod SqueezeRows
 pub mod PlacedParts
 pub mod RefusalRows
 pub mod NeedRows
+pub mod FitRows

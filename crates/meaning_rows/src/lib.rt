@@ -8,6 +8,7 @@ mod call_rows;
 mod clock_rows;
 mod constant_rows;
 mod contract_rows;
+mod fit_rows;
 mod item_rows;
 mod mode_rows;
 mod need_rows;
@@ -28,6 +29,7 @@ pub use call_rows::{
 pub use clock_rows::{held_output_row, merge_of_clocks_row, slow_pre_row};
 pub use constant_rows::constants_row;
 pub use contract_rows::{callee_assumption_row, import_row};
+pub use fit_rows::{fitting_row, places_misfit_row, values_misfit_row, words_misfit_row};
 pub use item_rows::{items_row, label_row};
 pub use mode_rows::{empty_mode_row, mode_memory_row, two_modes_row};
 pub use need_rows::{chained_order_row, circles_row, late_circle_row, needs_row};
