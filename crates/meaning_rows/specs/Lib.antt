@@ -19,3 +19,4 @@ pub mod PlacedParts
 pub mod RefusalRows
 pub mod NeedRows
 pub mod FitRows
+pub mod SortRows

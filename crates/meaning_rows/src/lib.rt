@@ -18,6 +18,7 @@ mod refusal_rows;
 mod run_rows;
 mod sampling_rows;
 mod slot_rows;
+mod sort_rows;
 mod squeeze_rows;
 mod trace_rows;
 
@@ -41,5 +42,6 @@ pub use refusal_rows::{equation_rows, limit_rows, name_rows, type_rows};
 pub use run_rows::{run_row, unbalanced_row, unshaped_row, untyped_row};
 pub use sampling_rows::{clock_of_clock_row, sampling_row};
 pub use slot_rows::layout_row;
+pub use sort_rows::{first_sorts_row, no_call_row};
 pub use squeeze_rows::{squeezed_call_row, squeezed_row};
 pub use trace_rows::{nested_trace_row, other_frame_row};
