@@ -20,3 +20,4 @@ pub mod RefusalRows
 pub mod NeedRows
 pub mod FitRows
 pub mod SortRows
+pub mod SlotRows

@@ -10,9 +10,10 @@ use Rattle.meaning_rows.specs.Written.{the, literal, previous, followed, when_tr
 
 -- ---- an operator before `when` runs on the fast clock, one after it on the slow clock
 
--- node main(c : bool; x : int) returns (o, k : int); var d, e, f, g : int when c; h : int when not c;
+-- node main(c : bool; x : int) returns (o, k, j : int); var d, e, f, g : int when c; h : int when not c;
 -- let d = 0 -> (x when c); e = (0 -> x) when c; f = pre (x when c); g = (pre x) when c; h = 5;
---   o = merge c (true -> d) (false -> h); k = merge c (true -> 1) (false -> 2); tel
+--   o = merge c (true -> d) (false -> h); k = merge c (true -> 1) (false -> 2);
+--   j = merge c (true -> 0 -> (x when c)) (false -> pre (x when not c)); tel
 --   c | false  true false  true
 --   x |     1     2     3     4
 --   d |     -     0     -     4      the first instant of c is 1
@@ -22,8 +23,9 @@ use Rattle.meaning_rows.specs.Written.{the, literal, previous, followed, when_tr
 --   h |     5     -     5     -
 --   o |     5     0     5     4
 --   k |     2     1     2     1
+--   j |     6     0     1     4      the first value is 6, and the first instant of not c is 0
 abbrev pub sampling_node : Component
-sampling_node = declares (codes "main") (flag_named "c" ∷ number_named "x" ∷ []) (number_named "o" ∷ number_named "k" ∷ [])
+sampling_node = declares (codes "main") (flag_named "c" ∷ number_named "x" ∷ []) (number_named "o" ∷ number_named "k" ∷ number_named "j" ∷ [])
     (on "c" (number_named "d") ∷ on "c" (number_named "e") ∷ on "c" (number_named "f") ∷ on "c" (number_named "g") ∷ off "c" (number_named "h") ∷ []) None
     (sets "d" (followed 1 (literal 0) (when_true (the "x") "c"))
     ∷ sets "e" (when_true (followed 2 (literal 0) (the "x")) "c")
@@ -32,6 +34,7 @@ sampling_node = declares (codes "main") (flag_named "c" ∷ number_named "x" ∷
     ∷ sets "h" (literal 5)
     ∷ sets "o" (merged_on "c" (the "d") (the "h"))
     ∷ sets "k" (merged_on "c" (literal 1) (literal 2))
+    ∷ sets "j" (merged_on "c" (followed 3 (literal 0) (when_true (the "x") "c")) (previous 3 (when_false (the "x") "c")))
     ∷ [])
 
 abbrev pub sampling : Instance
@@ -43,13 +46,14 @@ sampling_frame = frame
     ∷ stream "x" (naturals (1 ∷ 2 ∷ 3 ∷ 4 ∷ []))
     ∷ stream "o" (naturals (5 ∷ 0 ∷ 5 ∷ 4 ∷ []))
     ∷ stream "k" (naturals (2 ∷ 1 ∷ 2 ∷ 1 ∷ []))
+    ∷ stream "j" (naturals (6 ∷ 0 ∷ 1 ∷ 4 ∷ []))
     ∷ stream "d" (absent ∷ natural 0 ∷ absent ∷ natural 4 ∷ [])
     ∷ stream "e" (absent ∷ natural 2 ∷ absent ∷ natural 4 ∷ [])
     ∷ stream "f" (absent ∷ natural 8 ∷ absent ∷ natural 2 ∷ [])
     ∷ stream "g" (absent ∷ natural 1 ∷ absent ∷ natural 3 ∷ [])
     ∷ stream "h" (natural 5 ∷ absent ∷ natural 5 ∷ absent ∷ [])
     ∷ [])
-    (natural 8 ∷ natural 9 ∷ []) no_frames
+    (natural 8 ∷ natural 9 ∷ natural 6 ∷ []) no_frames
 
 -- ---- a clock of a clock
 

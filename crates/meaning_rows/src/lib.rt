@@ -36,12 +36,12 @@ pub use mode_rows::{empty_mode_row, mode_memory_row, two_modes_row};
 pub use need_rows::{chained_order_row, circles_row, late_circle_row, needs_row};
 pub use operator_rows::{division_row, flag_row, number_row, operand_row, order_row};
 pub use owed_rows::{
-    deep_assertion_row, direct_caller_row, first_break_row, lawless_row, two_calls_row,
+    breaks_row, deep_assertion_row, direct_caller_row, first_break_row, lawless_row, two_calls_row,
 };
 pub use refusal_rows::{equation_rows, limit_rows, name_rows, type_rows};
 pub use run_rows::{run_row, unbalanced_row, unshaped_row, untyped_row};
 pub use sampling_rows::{clock_of_clock_row, sampling_row};
-pub use slot_rows::layout_row;
+pub use slot_rows::{layout_row, variables_row};
 pub use sort_rows::{first_sorts_row, no_call_row};
 pub use squeeze_rows::{squeezed_call_row, squeezed_row};
 pub use trace_rows::{nested_trace_row, other_frame_row};

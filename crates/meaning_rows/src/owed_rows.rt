@@ -1,10 +1,11 @@
 //! Worked rows of what calls owe, of assertions and of lawful instants, with the programs of `specs/OwedRows.antt`.
 
-ghost use Rattle.std.specs.Prelude.{◌≡◌, true, false, [], ◌∷◌};
+ghost use Rattle.std.specs.Prelude.{◌≡◌, true, false, [], ◌∷◌, None, Some};
 ghost use Rattle.lus_meaning.specs.Value.{flag};
 ghost use Rattle.lus_meaning.specs.Contract.{Property, guaranteed, assumed};
 ghost use Rattle.lus_meaning.specs.Run.{IsRun};
-ghost use Rattle.lus_meaning.specs.Property.{IsLawful};
+ghost use Rattle.lus_meaning.specs.Property.{IsLawful, properties};
+ghost use Rattle.lus_meaning.specs.FirstBreak.{AreBreaks, AreLawful};
 ghost use Rattle.lus_meaning.specs.Verdict.{Breaks, Holds, throughout};
 ghost use Rattle.meaning_rows.specs.RowParts.{kinds, meetings, property_at, truths};
 ghost use Rattle.meaning_rows.specs.OwedRows.{two_calls, two_calls_frame, owing, deep_assertion, deep_assertion_frame, bounded, lawless_frame, broken_frame};
@@ -56,4 +57,16 @@ pub fn first_break_row()
     ensures there { (other : Property) → Breaks bounded (property_at bounded 0 other) broken_frame 1 }
     ensures later { (other : Property) → Breaks bounded (property_at bounded 0 other) broken_frame 2 → ⊥ }
     ensures holds { (other : Property) → Holds bounded (property_at bounded 0 other) → ⊥ }
+{}
+
+/// The break of each property and the number of lawful instants, of these two frames.
+pub fn breaks_row()
+    ensures none { AreBreaks bounded lawless_frame 3 (properties bounded) (None ∷ []) }
+    ensures one { AreBreaks bounded broken_frame 3 (properties bounded) (Some 1 ∷ []) }
+    ensures not_none { AreBreaks bounded broken_frame 3 (properties bounded) (None ∷ []) → ⊥ }
+    ensures not_later { AreBreaks bounded broken_frame 3 (properties bounded) (Some 2 ∷ []) → ⊥ }
+    ensures first { AreLawful bounded lawless_frame 3 1 }
+    ensures all { AreLawful bounded broken_frame 3 3 }
+    ensures not_fewer { AreLawful bounded broken_frame 3 2 → ⊥ }
+    ensures not_more { AreLawful bounded lawless_frame 3 2 → ⊥ }
 {}
