@@ -6,8 +6,8 @@ use Rattle.lus_meaning.specs.Value.{absent}
 use Rattle.lus_meaning.specs.Frame.{Frame, frame, no_frames, with_frame}
 use Rattle.lus_meaning.specs.Scene.{Instance}
 use Rattle.lus_meaning.specs.Program.{instance_of}
-use Rattle.meaning_rows.specs.RowParts.{declares, natural}
-use Rattle.meaning_rows.specs.Written.{the, literal, previous, followed, combined, when_true, calling, flag_named, number_named, on, sets, saying, checked, importing, negative, naturals, flags_of, stream}
+use Rattle.meaning_rows.specs.RowParts.{declares, natural, unlabelled}
+use Rattle.meaning_rows.specs.Written.{the, truth_of, literal, previous, followed, combined, when_true, calling, flag_named, number_named, on, sets, saying, checked, importing, negative, naturals, flags_of, stream}
 
 -- ---- two plain calls of a node whose assumption looks back
 
@@ -113,3 +113,18 @@ lawless_frame = frame (stream "a" (naturals (1 ∷ 5 ∷ 4 ∷ [])) ∷ stream "
 -- a is 1, 3, 4: all are lawful, and low is false for the first time at 1
 abbrev pub broken_frame : Frame
 broken_frame = frame (stream "a" (naturals (1 ∷ 3 ∷ 4 ∷ [])) ∷ stream "b" (naturals (1 ∷ 3 ∷ 4 ∷ [])) ∷ []) [] no_frames
+
+-- ---- an assumption that is never true
+
+-- node main(x : int) returns (y : int); (*@contract assume false; guarantee "g" y > 0; *) let y = x; tel
+abbrev pub impossible_node : Component
+impossible_node = declares (codes "main") (number_named "x" ∷ []) (number_named "y" ∷ []) []
+    (Some (assume (unlabelled (truth_of false)) ∷ guarantee (saying "g" (combined More (the "y") (literal 0))) ∷ []))
+    (sets "y" (the "x") ∷ [])
+
+abbrev pub impossible : Instance
+impossible = instance_of (declared_node impossible_node ∷ []) impossible_node
+
+-- y is 0, where g is false
+abbrev pub impossible_frame : Frame
+impossible_frame = frame (stream "x" (naturals (0 ∷ [])) ∷ stream "y" (naturals (0 ∷ [])) ∷ []) [] no_frames

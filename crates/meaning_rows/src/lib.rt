@@ -36,7 +36,8 @@ pub use mode_rows::{empty_mode_row, mode_memory_row, two_modes_row};
 pub use need_rows::{chained_order_row, circles_row, late_circle_row, needs_row};
 pub use operator_rows::{division_row, flag_row, number_row, operand_row, order_row};
 pub use owed_rows::{
-    breaks_row, deep_assertion_row, direct_caller_row, first_break_row, lawless_row, two_calls_row,
+    breaks_row, deep_assertion_row, direct_caller_row, first_break_row, impossible_row,
+    lawless_row, two_calls_row,
 };
 pub use refusal_rows::{equation_rows, limit_rows, name_rows, type_rows};
 pub use run_rows::{run_row, unbalanced_row, unshaped_row, untyped_row};

@@ -8,7 +8,7 @@ ghost use Rattle.lus_meaning.specs.Property.{IsLawful, properties};
 ghost use Rattle.lus_meaning.specs.FirstBreak.{AreBreaks, AreLawful};
 ghost use Rattle.lus_meaning.specs.Verdict.{Breaks, Holds, throughout};
 ghost use Rattle.meaning_rows.specs.RowParts.{kinds, meetings, property_at, truths};
-ghost use Rattle.meaning_rows.specs.OwedRows.{two_calls, two_calls_frame, owing, deep_assertion, deep_assertion_frame, bounded, lawless_frame, broken_frame};
+ghost use Rattle.meaning_rows.specs.OwedRows.{two_calls, two_calls_frame, owing, deep_assertion, deep_assertion_frame, bounded, lawless_frame, broken_frame, impossible, impossible_frame};
 
 /// Each of two plain calls owes the callee's assumption, which looks back along the instants of its own frame. Each
 /// call's assertions say which instants are lawful.
@@ -69,4 +69,12 @@ pub fn breaks_row()
     ensures all { AreLawful bounded broken_frame 3 3 }
     ensures not_fewer { AreLawful bounded broken_frame 3 2 → ⊥ }
     ensures not_more { AreLawful bounded lawless_frame 3 2 → ⊥ }
+{}
+
+/// Where an assumption is never true no instant is lawful, and each property holds.
+pub fn impossible_row()
+    ensures run { IsRun impossible 1 throughout impossible_frame }
+    ensures properties { truths impossible 1 impossible_frame ≡ (flag false ∷ []) ∷ [] }
+    ensures lawless { IsLawful impossible throughout impossible_frame 0 → ⊥ }
+    ensures holds { (other : Property) → Holds impossible (property_at impossible 0 other) }
 {}
