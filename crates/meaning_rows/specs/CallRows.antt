@@ -1,6 +1,6 @@
 -- Worked rows of calls: on which clock each runs, with which arguments, and what its outputs are.
 use Rattle.std.specs.Prelude.{ℕ, true, false, [], ◌∷◌, Some, None, codes}
-use Rattle.lus_tree.specs.declared.expression.Operator.TheVariants.{Less, More, Add}
+use Rattle.lus_tree.specs.declared.expression.Operator.TheVariants.{Less, Differs, More, Add}
 use Rattle.lus_tree.specs.Tree.{Component, declared_node, declared_contract, assertion, assume, guarantee, ghost_variable}
 use Rattle.lus_meaning.specs.Value.{absent, flag}
 use Rattle.lus_meaning.specs.Frame.{Frame, frame, no_frames, with_frame}
@@ -8,7 +8,7 @@ use Rattle.lus_meaning.specs.Scene.{Instance}
 use Rattle.lus_meaning.specs.Program.{instance_of}
 use Rattle.meaning_rows.specs.RowParts.{declares, natural, unlabelled}
 use Rattle.meaning_rows.specs.ClockRows.{counter}
-use Rattle.meaning_rows.specs.Written.{the, literal, previous, followed, combined, when_true, when_false, merged_on, calling, calling_while, flag_named, number_named, on, sets, sets_all, saying, checked, mode_named, importing, naturals, flags_of, stream}
+use Rattle.meaning_rows.specs.Written.{the, truth_of, literal, previous, followed, combined, when_true, when_false, merged_on, calling, calling_while, flag_named, number_named, on, sets, sets_all, saying, checked, mode_named, importing, naturals, flags_of, stream}
 
 -- ---- a call before `when` runs on the fast clock, one of sampled arguments on the slow clock
 
@@ -158,7 +158,7 @@ abbrev pub lim : Component
 lim = declares (codes "lim") (number_named "b" ∷ []) (number_named "r" ∷ []) [] (Some (guarantee (saying "lim" (combined More (the "r") (the "b"))) ∷ [])) []
 
 -- node main(x : int) returns (o : int);
--- (*@contract assume next(x) < 9; var g : int = next(x + 1); guarantee "g" next(o) > g;
+-- (*@contract assume next(x) < 9; assume x <> 1; var g : int = next(x + 1); guarantee "g" next(o) > g;
 --   mode m (require next(x) > 2; ensure "e" next(o) > 20;); import lim(next(x)) returns (o); *)
 -- let o = next(next(x)); assert next(x) < 10; check "p" next(o) > 4; tel
 -- The calls in the order of the text: 1 in the assumption, 2 in g, 3 in the guarantee, 4 and 5 in the mode, 6 the import, 7 in
@@ -167,7 +167,7 @@ lim = declares (codes "lim") (number_named "b" ∷ []) (number_named "r" ∷ [])
 --   o |     3    10
 --   g |     3    10
 -- next(x) is 2, 9 and next(o) is 4, 11.
---   assume |  true false
+--   assume |  true false, and false  true
 --   assert |  true  true
 --   p      | false  true
 --   g      |  true  true
@@ -178,6 +178,7 @@ abbrev pub calls_everywhere_node : Component
 calls_everywhere_node = declares (codes "main") (number_named "x" ∷ []) (number_named "o" ∷ []) []
     (Some
     (assume (unlabelled (combined Less (calling 1 "next" (the "x" ∷ [])) (literal 9)))
+    ∷ assume (unlabelled (combined Differs (the "x") (literal 1)))
     ∷ ghost_variable (number_named "g") (calling 2 "next" (combined Add (the "x") (literal 1) ∷ []))
     ∷ guarantee (saying "g" (combined More (calling 3 "next" (the "o" ∷ [])) (the "g")))
     ∷ mode_named "m" (unlabelled (combined More (calling 4 "next" (the "x" ∷ [])) (literal 2)) ∷ []) (saying "e" (combined More (calling 5 "next" (the "o" ∷ [])) (literal 20)) ∷ [])
@@ -211,3 +212,41 @@ calls_everywhere_frame = frame
     (with_frame (next_frame 1 8 2 9)
     (with_frame (next_frame 3 10 4 11)
     no_frames)))))))))))
+
+-- ---- operands of calls on a slow clock
+
+-- node main(c : bool; x : int) returns (o : int); var w, v : int when c;
+-- let w = next(0 -> (x when c)); v = condact(true -> (x when c) > 5, next(pre (x when c)), 7);
+--   o = merge c (true -> w + v) (false -> 0); tel
+--   c          | false  true false  true  true
+--   x          |     1     2     3     4     8
+--   argument 1 |     -     0     -     4     8
+--   w          |     -     1     -     5     9
+--   condition  |     -  true     - false  true
+--   argument 2 |     -    20     -     2     4      where it runs: -, 20, -, -, 4
+--   v          |     -    21     -    21     5
+--   o          |     0    22     0    26    14
+abbrev pub slow_operands_node : Component
+slow_operands_node = declares (codes "main") (flag_named "c" ∷ number_named "x" ∷ []) (number_named "o" ∷ []) (on "c" (number_named "w") ∷ on "c" (number_named "v") ∷ []) None
+    (sets "w" (calling 1 "next" (followed 1 (literal 0) (when_true (the "x") "c") ∷ []))
+    ∷ sets "v" (calling_while 2 (followed 2 (truth_of true) (combined More (when_true (the "x") "c") (literal 5))) "next" (previous 1 (when_true (the "x") "c") ∷ []) (literal 7 ∷ []))
+    ∷ sets "o" (merged_on "c" (combined Add (the "w") (the "v")) (literal 0))
+    ∷ [])
+
+abbrev pub slow_operands : Instance
+slow_operands = instance_of (declared_node next ∷ declared_node slow_operands_node ∷ []) slow_operands_node
+
+abbrev pub slow_operands_frame : Frame
+slow_operands_frame = frame
+    (stream "c" (flags_of (false ∷ true ∷ false ∷ true ∷ true ∷ []))
+    ∷ stream "x" (naturals (1 ∷ 2 ∷ 3 ∷ 4 ∷ 8 ∷ []))
+    ∷ stream "o" (naturals (0 ∷ 22 ∷ 0 ∷ 26 ∷ 14 ∷ []))
+    ∷ stream "w" (absent ∷ natural 1 ∷ absent ∷ natural 5 ∷ natural 9 ∷ [])
+    ∷ stream "v" (absent ∷ natural 21 ∷ absent ∷ natural 21 ∷ natural 5 ∷ [])
+    ∷ [])
+    (natural 20 ∷ [])
+    (with_frame
+    (frame (stream "a" (absent ∷ natural 0 ∷ absent ∷ natural 4 ∷ natural 8 ∷ []) ∷ stream "o" (absent ∷ natural 1 ∷ absent ∷ natural 5 ∷ natural 9 ∷ []) ∷ []) [] no_frames)
+    (with_frame
+    (frame (stream "a" (absent ∷ natural 20 ∷ absent ∷ absent ∷ natural 4 ∷ []) ∷ stream "o" (absent ∷ natural 21 ∷ absent ∷ absent ∷ natural 5 ∷ []) ∷ []) [] no_frames)
+    no_frames))

@@ -1,6 +1,6 @@
 -- Worked rows of modes: requires and ensures, one mode active, `::m`, and `pre` in a mode.
 use Rattle.std.specs.Prelude.{true, false, [], ◌∷◌, Some, None, codes}
-use Rattle.lus_tree.specs.declared.expression.Operator.TheVariants.{And, Less, More}
+use Rattle.lus_tree.specs.declared.expression.Operator.TheVariants.{And, Less, Equal, More}
 use Rattle.lus_tree.specs.Tree.{Component, declared_node}
 use Rattle.lus_meaning.specs.Value.{absent, flag}
 use Rattle.lus_meaning.specs.Frame.{Frame, frame, no_frames, with_frame}
@@ -9,36 +9,44 @@ use Rattle.lus_meaning.specs.Program.{instance_of}
 use Rattle.meaning_rows.specs.RowParts.{declares, natural, unlabelled}
 use Rattle.meaning_rows.specs.Written.{the, literal, truth_of, previous, combined, when_true, when_false, merged_on, calling, own_mode, flag_named, number_named, on, sets, sets_all, saying, checked, mode_named, negative, naturals, flags_of, stream}
 
--- ---- two modes
+-- ---- three modes
 
 -- node main(a, b : int) returns (o : int);
--- (*@contract mode up (require a > 0; require b > 0; ensure "e" o > 0; ensure "f" o > 1;); mode down (require a < 0;); *)
+-- (*@contract
+--   mode up (require a > 0; require b > 0; require o < 3; ensure "e" o > 0; ensure "f" o > 1;);
+--   mode down (require a < 0;); mode zero (require a = 0;);
+-- *)
 -- let o = b; check "up" ::up; tel
---   a      |     1     1    -1     0
---   b, o   |     1     0     5     1
---   up     |  true false false false      both requires
---   down   | false false  true false
---   e      |  true  true  true  true      o > 0 is true, false, true, true
---   f      | false  true  true  true      o > 1 is false, false, true, false
---   active |  true false  true false      up or down
-abbrev pub two_modes_node : Component
-two_modes_node = declares (codes "main") (number_named "a" ∷ number_named "b" ∷ []) (number_named "o" ∷ []) []
+--   a      |     1     1    -1     0     1
+--   b, o   |     1     0     5     1     4
+--   up     |  true false false false false      all three requires
+--   down   | false false  true false false
+--   zero   | false false false  true false
+--   e      |  true  true  true  true  true      o > 0 is true, false, true, true, true
+--   f      | false  true  true  true  true      o > 1 is false, false, true, false, true
+--   active |  true false  true  true false      up, down or zero
+abbrev pub three_modes_node : Component
+three_modes_node = declares (codes "main") (number_named "a" ∷ number_named "b" ∷ []) (number_named "o" ∷ []) []
     (Some
     (mode_named "up"
-    (unlabelled (combined More (the "a") (literal 0)) ∷ unlabelled (combined More (the "b") (literal 0)) ∷ [])
+    (unlabelled (combined More (the "a") (literal 0))
+    ∷ unlabelled (combined More (the "b") (literal 0))
+    ∷ unlabelled (combined Less (the "o") (literal 3))
+    ∷ [])
     (saying "e" (combined More (the "o") (literal 0)) ∷ saying "f" (combined More (the "o") (literal 1)) ∷ [])
     ∷ mode_named "down" (unlabelled (combined Less (the "a") (literal 0)) ∷ []) []
+    ∷ mode_named "zero" (unlabelled (combined Equal (the "a") (literal 0)) ∷ []) []
     ∷ []))
     (sets "o" (the "b") ∷ checked "up" (own_mode "up") ∷ [])
 
-abbrev pub two_modes : Instance
-two_modes = instance_of (declared_node two_modes_node ∷ []) two_modes_node
+abbrev pub three_modes : Instance
+three_modes = instance_of (declared_node three_modes_node ∷ []) three_modes_node
 
-abbrev pub two_modes_frame : Frame
-two_modes_frame = frame
-    (stream "a" (natural 1 ∷ natural 1 ∷ negative 1 ∷ natural 0 ∷ [])
-    ∷ stream "b" (naturals (1 ∷ 0 ∷ 5 ∷ 1 ∷ []))
-    ∷ stream "o" (naturals (1 ∷ 0 ∷ 5 ∷ 1 ∷ []))
+abbrev pub three_modes_frame : Frame
+three_modes_frame = frame
+    (stream "a" (natural 1 ∷ natural 1 ∷ negative 1 ∷ natural 0 ∷ natural 1 ∷ [])
+    ∷ stream "b" (naturals (1 ∷ 0 ∷ 5 ∷ 1 ∷ 4 ∷ []))
+    ∷ stream "o" (naturals (1 ∷ 0 ∷ 5 ∷ 1 ∷ 4 ∷ []))
     ∷ [])
     [] no_frames
 

@@ -16,18 +16,18 @@ abbrev pub late_part : Component
 late_part = declares (codes "late") (number_named "i" ∷ []) (number_named "o" ∷ []) [] None (sets "o" (followed 1 (literal 0) (previous 1 (the "i"))) ∷ [])
 
 -- node main(c, u : bool; x : int) returns (r, a, p, g, h, q, w, v, m : int; z : bool);
--- (*@contract mode positive (require r > 0;); *) var k, d : bool; b : int when d;
+-- (*@contract mode positive (require r > 0;); *) var k, d : bool; b, l : int when d;
 -- let r = x + 1; k = u; d = c;
 --   a = -r; p = next(r); g = condact(k, next(x), 0); h = condact(c, next(r), 0); b = r when d;
 --   m = merge d (true -> b) (false -> r when not d); z = ::positive;
 --   q = pre r; w = late(r); v = condact(c, late(r), 0); tel
--- a, p, h, b, m and z need r, and g needs k. b and m need d. q, w and v need neither r nor, but for its clock, anything else
+-- a, p, h, b, m and z need r, and g needs k. b, m and l, which has no equation, need d. q, w and v need neither r nor, but for its clock, anything else
 -- than c.
 abbrev pub needing_node : Component
 needing_node = declares (codes "main")
     (flag_named "c" ∷ flag_named "u" ∷ number_named "x" ∷ [])
     (number_named "r" ∷ number_named "a" ∷ number_named "p" ∷ number_named "g" ∷ number_named "h" ∷ number_named "q" ∷ number_named "w" ∷ number_named "v" ∷ number_named "m" ∷ flag_named "z" ∷ [])
-    (flag_named "k" ∷ flag_named "d" ∷ on "d" (number_named "b") ∷ [])
+    (flag_named "k" ∷ flag_named "d" ∷ on "d" (number_named "b") ∷ on "d" (number_named "l") ∷ [])
     (Some (mode_named "positive" (unlabelled (combined More (the "r") (literal 0)) ∷ []) [] ∷ []))
     (sets "r" (combined Add (the "x") (literal 1))
     ∷ sets "k" (the "u")

@@ -1,6 +1,6 @@
 -- Worked rows of what calls owe, of assertions in callees, and of lawful instants.
 use Rattle.std.specs.Prelude.{true, false, [], ◌∷◌, Some, None, codes}
-use Rattle.lus_tree.specs.declared.expression.Operator.TheVariants.{Less, More}
+use Rattle.lus_tree.specs.declared.expression.Operator.TheVariants.{Less, Differs, More}
 use Rattle.lus_tree.specs.Tree.{Component, assertion, assume, guarantee, declared_node, declared_contract}
 use Rattle.lus_meaning.specs.Value.{absent}
 use Rattle.lus_meaning.specs.Frame.{Frame, frame, no_frames, with_frame}
@@ -11,11 +11,11 @@ use Rattle.meaning_rows.specs.Written.{the, truth_of, literal, previous, followe
 
 -- ---- two plain calls of a node whose assumption looks back
 
--- node part(a : int) returns (o : int); (*@contract assume "grows" (0 < a) -> (pre a < a); *) let o = a; assert a < 50; tel
+-- node part(a : int) returns (o : int); (*@contract assume "grows" (0 < a) -> (pre a < a); *) let o = a; assert a < 50; assert a <> 3; tel
 abbrev pub growing : Component
 growing = declares (codes "part") (number_named "a" ∷ []) (number_named "o" ∷ []) []
     (Some (assume (saying "grows" (followed 1 (combined Less (literal 0) (the "a")) (combined Less (previous 1 (the "a")) (the "a")))) ∷ []))
-    (sets "o" (the "a") ∷ assertion (combined Less (the "a") (literal 50)) ∷ [])
+    (sets "o" (the "a") ∷ assertion (combined Less (the "a") (literal 50)) ∷ assertion (combined Differs (the "a") (literal 3)) ∷ [])
 
 -- node main(c : bool; x, y : int) returns (z : int); var s : int when c; let s = part(x when c); z = part(y); tel
 --   c       | false  true false  true false
@@ -24,7 +24,7 @@ growing = declares (codes "part") (number_named "a" ∷ []) (number_named "o" �
 --   y, z    |     1     2     2     3    60
 --   1 grows |  true  true  true false  true      at instant 3 the last a is that of instant 1
 --   2 grows |  true  true false  true  true
---   asserts |  true  true  true  true false      of the second call; where the first one does not run, its a is no matter
+--   asserts |  true  true  true false false      both of the second call; where the first one does not run, its a is no matter
 abbrev pub two_calls_node : Component
 two_calls_node = declares (codes "main") (flag_named "c" ∷ number_named "x" ∷ number_named "y" ∷ []) (number_named "z" ∷ []) (on "c" (number_named "s") ∷ []) None
     (sets "s" (calling 1 "part" (when_true (the "x") "c" ∷ [])) ∷ sets "z" (calling 2 "part" (the "y" ∷ [])) ∷ [])
@@ -113,6 +113,24 @@ lawless_frame = frame (stream "a" (naturals (1 ∷ 5 ∷ 4 ∷ [])) ∷ stream "
 -- a is 1, 3, 4: all are lawful, and low is false for the first time at 1
 abbrev pub broken_frame : Frame
 broken_frame = frame (stream "a" (naturals (1 ∷ 3 ∷ 4 ∷ [])) ∷ stream "b" (naturals (1 ∷ 3 ∷ 4 ∷ [])) ∷ []) [] no_frames
+
+-- low is false at 0, and b is not a
+abbrev pub no_run_frame : Frame
+no_run_frame = frame (stream "a" (naturals (3 ∷ [])) ∷ stream "b" (naturals (1 ∷ [])) ∷ []) [] no_frames
+
+-- ---- a property that is false without a value of any name
+
+-- node main(a : int) returns (b : int); let b = a; check "first" true -> false; tel
+abbrev pub ending_node : Component
+ending_node = declares (codes "main") (number_named "a" ∷ []) (number_named "b" ∷ []) [] None
+    (sets "b" (the "a") ∷ checked "first" (followed 1 (truth_of true) (truth_of false)) ∷ [])
+
+abbrev pub ending : Instance
+ending = instance_of (declared_node ending_node ∷ []) ending_node
+
+-- one instant, at which it is true
+abbrev pub ending_frame : Frame
+ending_frame = frame (stream "a" (naturals (1 ∷ [])) ∷ stream "b" (naturals (1 ∷ [])) ∷ []) [] no_frames
 
 -- ---- an assumption that is never true
 

@@ -26,17 +26,18 @@ pub use body_rows::{assertion_row, broken_row, free_name_row, toggle_alternates,
 pub use boolean_rows::{against_row, circle_row};
 pub use call_rows::{
     calls_everywhere_row, deep_call_row, merge_branches_row, sampled_call_row, several_outputs_row,
+    slow_operands_row,
 };
 pub use clock_rows::{held_output_row, merge_of_clocks_row, slow_pre_row};
 pub use constant_rows::constants_row;
 pub use contract_rows::{callee_assumption_row, import_row};
 pub use fit_rows::{fitting_row, places_misfit_row, values_misfit_row, words_misfit_row};
 pub use item_rows::{items_row, label_row};
-pub use mode_rows::{empty_mode_row, mode_memory_row, two_modes_row};
+pub use mode_rows::{empty_mode_row, mode_memory_row, three_modes_row};
 pub use need_rows::{chained_order_row, circles_row, late_circle_row, needs_row};
 pub use operator_rows::{division_row, flag_row, number_row, operand_row, order_row};
 pub use owed_rows::{
-    breaks_row, deep_assertion_row, direct_caller_row, first_break_row, impossible_row,
+    breaks_row, deep_assertion_row, direct_caller_row, end_row, first_break_row, impossible_row,
     lawless_row, two_calls_row,
 };
 pub use refusal_rows::{equation_rows, limit_rows, name_rows, type_rows};

@@ -25,6 +25,7 @@ pub fn needs_row()
     ensures condact { Reaches needing (codes "h" ∷ []) (codes "r" ∷ []) }
     ensures sampled { Reaches needing (codes "b" ∷ []) (codes "r" ∷ []) }
     ensures clock { Reaches needing (codes "b" ∷ []) (codes "d" ∷ []) }
+    ensures free_clock { Reaches needing (codes "l" ∷ []) (codes "d" ∷ []) }
     ensures merged { Reaches needing (codes "m" ∷ []) (codes "r" ∷ []) }
     ensures merge_clock { Reaches needing (codes "m" ∷ []) (codes "d" ∷ []) }
     ensures mode { Reaches needing (codes "z" ∷ []) (codes "r" ∷ []) }

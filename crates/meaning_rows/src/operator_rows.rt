@@ -4,6 +4,7 @@ ghost use Rattle.std.specs.Prelude.{◌≡◌, true, false};
 ghost use Rattle.lus_tree.specs.declared.expression.Operator.{Operator};
 ghost use Rattle.lus_tree.specs.declared.expression.Operator.TheVariants.{Add, And, Equal, Less};
 ghost use Rattle.lus_meaning.specs.Value.{Value, absent, flag, not_value, minus_value, apply, choose};
+ghost use Rattle.lus_meaning.specs.Meaning.{merge_values};
 ghost use Rattle.lus_meaning.specs.Run.{IsRun};
 ghost use Rattle.lus_meaning.specs.Verdict.{throughout};
 ghost use Rattle.meaning_rows.specs.RowParts.{natural};
@@ -41,6 +42,8 @@ pub fn operand_row()
     ensures not_of_number { not_value (natural 1) ≡ absent }
     ensures opposite { minus_value absent ≡ absent }
     ensures opposite_of_flag { minus_value (flag true) ≡ absent }
+    ensures merge { (v : Value) → merge_values absent v v ≡ absent }
+    ensures merge_by_number { (v : Value) → merge_values (natural 1) v v ≡ absent }
     ensures choice { (v : Value) → choose absent v v ≡ absent }
     ensures choice_by_number { (v : Value) → choose (natural 1) v v ≡ absent }
 {}

@@ -8,7 +8,7 @@ ghost use Rattle.lus_meaning.specs.Property.{IsLawful, properties};
 ghost use Rattle.lus_meaning.specs.FirstBreak.{AreBreaks, AreLawful};
 ghost use Rattle.lus_meaning.specs.Verdict.{Breaks, Holds, throughout};
 ghost use Rattle.meaning_rows.specs.RowParts.{kinds, meetings, property_at, truths};
-ghost use Rattle.meaning_rows.specs.OwedRows.{two_calls, two_calls_frame, owing, deep_assertion, deep_assertion_frame, bounded, lawless_frame, broken_frame, impossible, impossible_frame};
+ghost use Rattle.meaning_rows.specs.OwedRows.{two_calls, two_calls_frame, owing, deep_assertion, deep_assertion_frame, bounded, lawless_frame, broken_frame, no_run_frame, ending, ending_frame, impossible, impossible_frame};
 
 /// Each of two plain calls owes the callee's assumption, which looks back along the instants of its own frame. Each
 /// call's assertions say which instants are lawful.
@@ -19,7 +19,7 @@ pub fn two_calls_row()
         ≡ (flag true ∷ flag true ∷ flag true ∷ flag false ∷ flag true ∷ [])
         ∷ (flag true ∷ flag true ∷ flag false ∷ flag true ∷ flag true ∷ [])
         ∷ [] }
-    ensures meets { meetings two_calls 5 two_calls_frame ≡ true ∷ true ∷ true ∷ true ∷ false ∷ [] }
+    ensures meets { meetings two_calls 5 two_calls_frame ≡ true ∷ true ∷ true ∷ false ∷ false ∷ [] }
 {}
 
 /// A call owes what its callee assumes, in a contract too. Neither a callee's calls nor an imported contract's are owed
@@ -56,6 +56,7 @@ pub fn first_break_row()
     ensures before { (other : Property) → Breaks bounded (property_at bounded 0 other) broken_frame 0 → ⊥ }
     ensures there { (other : Property) → Breaks bounded (property_at bounded 0 other) broken_frame 1 }
     ensures later { (other : Property) → Breaks bounded (property_at bounded 0 other) broken_frame 2 → ⊥ }
+    ensures no_run { (other : Property) → Breaks bounded (property_at bounded 0 other) no_run_frame 0 → ⊥ }
     ensures holds { (other : Property) → Holds bounded (property_at bounded 0 other) → ⊥ }
 {}
 
@@ -77,4 +78,11 @@ pub fn impossible_row()
     ensures properties { truths impossible 1 impossible_frame ≡ (flag false ∷ []) ∷ [] }
     ensures lawless { IsLawful impossible throughout impossible_frame 0 → ⊥ }
     ensures holds { (other : Property) → Holds impossible (property_at impossible 0 other) }
+{}
+
+/// A run breaks nothing at an instant that it does not have.
+pub fn end_row()
+    ensures run { IsRun ending 1 throughout ending_frame }
+    ensures properties { truths ending 1 ending_frame ≡ (flag true ∷ []) ∷ [] }
+    ensures behind { (other : Property) → Breaks ending (property_at ending 0 other) ending_frame 1 → ⊥ }
 {}

@@ -21,6 +21,9 @@ returns-clause-sampled c = by_way needing (codes "b") (codes "r") refl refl (3, 
 pub returns-clause-clock : goal.returns-clause-clock
 returns-clause-clock c = by_way needing (codes "b") (codes "d") refl refl (0, at_name (codes "d")) [] (refl, tt) refl
 
+pub returns-clause-free_clock : goal.returns-clause-free_clock
+returns-clause-free_clock c = by_way needing (codes "l") (codes "d") refl refl (0, at_name (codes "d")) [] (refl, tt) refl
+
 pub returns-clause-merged : goal.returns-clause-merged
 returns-clause-merged c = by_way needing (codes "m") (codes "r") refl refl (6, at_name (codes "r")) [] (refl, tt) refl
 
