@@ -250,3 +250,34 @@ slow_operands_frame = frame
     (with_frame
     (frame (stream "a" (absent ∷ natural 20 ∷ absent ∷ absent ∷ natural 4 ∷ []) ∷ stream "o" (absent ∷ natural 21 ∷ absent ∷ absent ∷ natural 5 ∷ []) ∷ []) [] no_frames)
     no_frames))
+
+-- ---- a condact in an expression
+
+-- node main(c, d : bool; x : int) returns (o : int); var s : int when d;
+-- let o = condact(c, next(x), 7) + 100; s = condact(c when d, next(x when d), 5) + 100; tel
+--   c | false  true false  true
+--   d |  true  true false  true
+--   x |     1     2     3     4
+--   o |   107   103   103   105
+--   s |   105   103     -   105
+abbrev pub inner_condact_node : Component
+inner_condact_node = declares (codes "main") (flag_named "c" ∷ flag_named "d" ∷ number_named "x" ∷ []) (number_named "o" ∷ []) (on "d" (number_named "s") ∷ []) None
+    (sets "o" (combined Add (calling_while 1 (the "c") "next" (the "x" ∷ []) (literal 7 ∷ [])) (literal 100))
+    ∷ sets "s" (combined Add (calling_while 2 (when_true (the "c") "d") "next" (when_true (the "x") "d" ∷ []) (literal 5 ∷ [])) (literal 100))
+    ∷ [])
+
+abbrev pub inner_condact : Instance
+inner_condact = instance_of (declared_node next ∷ declared_node inner_condact_node ∷ []) inner_condact_node
+
+abbrev pub inner_condact_frame : Frame
+inner_condact_frame = frame
+    (stream "c" (flags_of (false ∷ true ∷ false ∷ true ∷ []))
+    ∷ stream "d" (flags_of (true ∷ true ∷ false ∷ true ∷ []))
+    ∷ stream "x" (naturals (1 ∷ 2 ∷ 3 ∷ 4 ∷ []))
+    ∷ stream "o" (naturals (107 ∷ 103 ∷ 103 ∷ 105 ∷ []))
+    ∷ stream "s" (natural 105 ∷ natural 103 ∷ absent ∷ natural 105 ∷ [])
+    ∷ [])
+    []
+    (with_frame (frame (stream "a" (absent ∷ natural 2 ∷ absent ∷ natural 4 ∷ []) ∷ stream "o" (absent ∷ natural 3 ∷ absent ∷ natural 5 ∷ []) ∷ []) [] no_frames)
+    (with_frame (frame (stream "a" (absent ∷ natural 2 ∷ absent ∷ natural 4 ∷ []) ∷ stream "o" (absent ∷ natural 3 ∷ absent ∷ natural 5 ∷ []) ∷ []) [] no_frames)
+    no_frames))

@@ -6,7 +6,7 @@ ghost use Rattle.lus_meaning.specs.Contract.{body, guaranteed, ensured, one_mode
 ghost use Rattle.lus_meaning.specs.Run.{IsRun};
 ghost use Rattle.lus_meaning.specs.Verdict.{throughout};
 ghost use Rattle.meaning_rows.specs.RowParts.{kinds, meetings, truths};
-ghost use Rattle.meaning_rows.specs.CallRows.{sampled_call, sampled_call_frame, branches, branches_frame, deep_call, deep_call_frame, held_pair, held_pair_frame, calls_everywhere, calls_everywhere_frame, slow_operands, slow_operands_frame};
+ghost use Rattle.meaning_rows.specs.CallRows.{sampled_call, sampled_call_frame, branches, branches_frame, deep_call, deep_call_frame, held_pair, held_pair_frame, calls_everywhere, calls_everywhere_frame, slow_operands, slow_operands_frame, inner_condact, inner_condact_frame};
 
 /// `count(c when c)` counts the instants of the slow clock, and `count(c) when c` those of the fast one.
 pub fn sampled_call_row()
@@ -32,6 +32,11 @@ pub fn several_outputs_row()
 /// `->` and `pre` in the arguments and in the condition of a call run on the clock of the call.
 pub fn slow_operands_row()
     ensures run { IsRun slow_operands 5 throughout slow_operands_frame }
+{}
+
+/// A condact that stands in an expression, on the base clock and on a slow one.
+pub fn inner_condact_row()
+    ensures run { IsRun inner_condact 4 throughout inner_condact_frame }
 {}
 
 /// Calls stand in every kind of item of a contract and of a body, and are numbered in the order of the text.
