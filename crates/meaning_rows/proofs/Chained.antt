@@ -83,7 +83,9 @@ chained_order = record {
   order = chained_is_order;
   next = (
     record { below = omega arith; new = refl; ready = r_ready; least = none_before_r },
-    (record { below = omega arith; new = refl; ready = q_ready; least = none_before_q },
-    (record { below = omega arith; new = refl; ready = p_ready; least = λ j l e h. absurd (omega arith) }, tt)),
+    (
+      record { below = omega arith; new = refl; ready = q_ready; least = none_before_q },
+      (record { below = omega arith; new = refl; ready = p_ready; least = λ j l e h. absurd (omega arith) }, tt),
+    ),
   );
 }

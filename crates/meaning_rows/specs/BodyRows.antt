@@ -9,6 +9,7 @@ use Rattle.lus_meaning.specs.Scene.{Instance}
 use Rattle.lus_meaning.specs.Program.{instance_of}
 use Rattle.lus_meaning.specs.Trace.{Line}
 use Rattle.meaning_rows.specs.RowParts.{here, called, flags, numbers, defines, checks, unlabelled, declares, natural, lists, lists_first}
+use Rattle.meaning_rows.specs.Written.{stream}
 
 -- ---- `x = true -> not pre x`
 
@@ -83,7 +84,9 @@ free = instance_of (declared_node free_node ∷ []) free_node
 
 -- x is any truth value at each instant
 abbrev pub free_frame : Bool → Bool → Frame
-free_frame v w = frame ((codes "x", flag v ∷ flag w ∷ []) ∷ (codes "y", flag (not v) ∷ flag (not w) ∷ []) ∷ []) [] no_frames
+free_frame v w =
+    frame ((stream "x" (flag v ∷ flag w ∷ [])) ∷ (stream "y" (flag (not v) ∷ flag (not w) ∷ [])) ∷ []) []
+    no_frames
 
 abbrev pub free_lines : Bool → Bool → List Line
 free_lines v w = lists [] (codes "x") (flag v ∷ flag w ∷ []) ∷ []

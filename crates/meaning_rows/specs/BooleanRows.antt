@@ -9,8 +9,11 @@ use Rattle.meaning_rows.specs.RowParts.{start, here, called, flags, unlabelled, 
 -- node main(a : bool) returns (x : bool); var y, z : bool;
 -- let x = if y then a else not z; y = a and pre x; check "p" x => a; check x xor y; check y = z; --%MAIN tel
 abbrev pub against_node : Component
-against_node = declares (codes "main") (flags (codes "a") ∷ []) (flags (codes "x") ∷ []) (flags (codes "y") ∷ flags (codes "z") ∷ []) None
-    (defines (codes "x") (choice here (called (codes "y")) (called (codes "a")) (negation here (called (codes "z"))))
+against_node =
+    declares (codes "main") (flags (codes "a") ∷ []) (flags (codes "x") ∷ [])
+    (flags (codes "y") ∷ flags (codes "z") ∷ []) None
+    (defines (codes "x")
+    (choice here (called (codes "y")) (called (codes "a")) (negation here (called (codes "z"))))
     ∷ defines (codes "y") (binary here And (called (codes "a")) (pre here 1 (called (codes "x"))))
     ∷ checks (codes "p") (binary here Implies (called (codes "x")) (called (codes "a")))
     ∷ property (unlabelled (binary here Xor (called (codes "x")) (called (codes "y"))))

@@ -3,17 +3,19 @@ use Rattle.std.specs.Prelude.{List, true, false, [], ◌∷◌, Some, None, code
 use Rattle.lus_tree.specs.declared.expression.Operator.TheVariants.{Less, More, Add, Mul}
 use Rattle.lus_tree.specs.Tree.{Constant, Component, guarantee, constant, declared_constant, declared_node}
 use Rattle.lus_meaning.specs.Value.{absent}
-use Rattle.lus_meaning.specs.Frame.{Frame, frame, no_frames, with_frame}
+use Rattle.lus_meaning.specs.Frame.{Frame, frame, no_frames}
 use Rattle.lus_meaning.specs.Scene.{Instance}
 use Rattle.lus_meaning.specs.Program.{instance_of}
 use Rattle.meaning_rows.specs.RowParts.{declares, natural}
-use Rattle.meaning_rows.specs.Written.{the, literal, combined, chosen, merged_on, calling, calling_while, flag_named, number_named, on, defined, with_constants, sets, saying, naturals, flags_of, stream}
+use Rattle.meaning_rows.specs.Written.{the, literal, combined, chosen, merged_on, calling, calling_while, flag_named, number_named, on, defined, with_constants, sets, saying, naturals, flags_of, stream, framed}
 
 -- const N = 2; const M = N + 1; const B = N < M;
 -- node part(a : int) returns (o : int); const L = 1; let o = a + L + N; tel
 abbrev pub part : Component
-part = with_constants (defined "L" (literal 1) ∷ [])
-    (declares (codes "part") (number_named "a" ∷ []) (number_named "o" ∷ []) [] None (sets "o" (combined Add (combined Add (the "a") (the "L")) (the "N")) ∷ []))
+part =
+    with_constants (defined "L" (literal 1) ∷ [])
+    (declares (codes "part") (number_named "a" ∷ []) (number_named "o" ∷ []) [] None
+    (sets "o" (combined Add (combined Add (the "a") (the "L")) (the "N")) ∷ []))
 
 -- node main(c : bool; x : int) returns (o, p, h : int); (*@contract const K = M * 2; guarantee "k" o > K; *)
 -- var s : int when c; const L = K + N;
@@ -27,8 +29,10 @@ part = with_constants (defined "L" (literal 1) ∷ [])
 --   p |     3    11
 --   h |     6     8
 abbrev pub constants_node : Component
-constants_node = with_constants (defined "L" (combined Add (the "K") (the "N")) ∷ [])
-    (declares (codes "main") (flag_named "c" ∷ number_named "x" ∷ []) (number_named "o" ∷ number_named "p" ∷ number_named "h" ∷ []) (on "c" (number_named "s") ∷ [])
+constants_node =
+    with_constants (defined "L" (combined Add (the "K") (the "N")) ∷ [])
+    (declares (codes "main") (flag_named "c" ∷ number_named "x" ∷ [])
+    (number_named "o" ∷ number_named "p" ∷ number_named "h" ∷ []) (on "c" (number_named "s") ∷ [])
     (Some
     (constant (defined "K" (combined Mul (the "M") (literal 2)))
     ∷ guarantee (saying "k" (combined More (the "o") (the "K")))
@@ -50,15 +54,17 @@ constants = instance_of
     constants_node
 
 abbrev pub constants_frame : Frame
-constants_frame = frame
+constants_frame =
+    frame
     (stream "c" (flags_of (false ∷ true ∷ []))
     ∷ stream "x" (naturals (1 ∷ 5 ∷ []))
     ∷ stream "o" (naturals (4 ∷ 8 ∷ []))
     ∷ stream "p" (naturals (3 ∷ 11 ∷ []))
     ∷ stream "h" (naturals (6 ∷ 8 ∷ []))
     ∷ stream "s" (absent ∷ natural 8 ∷ [])
-    ∷ [])
-    []
-    (with_frame (frame (stream "a" (naturals (1 ∷ 5 ∷ [])) ∷ stream "o" (naturals (4 ∷ 8 ∷ [])) ∷ []) [] no_frames)
-    (with_frame (frame (stream "a" (absent ∷ natural 5 ∷ []) ∷ stream "o" (absent ∷ natural 8 ∷ []) ∷ []) [] no_frames)
-    no_frames))
+    ∷ []) []
+    (framed
+    (frame (stream "a" (naturals (1 ∷ 5 ∷ [])) ∷ stream "o" (naturals (4 ∷ 8 ∷ [])) ∷ []) [] no_frames
+    ∷ frame (stream "a" (absent ∷ natural 5 ∷ []) ∷ stream "o" (absent ∷ natural 8 ∷ []) ∷ []) []
+    no_frames
+    ∷ []))

@@ -76,6 +76,14 @@ too_small = negative 9223372036854775808
 abbrev pub fifth_with : PlacedLine → Option Pos
 fifth_with l = misfit_with 3 l
 
+-- 1, 2 and 3 in these columns
+abbrev pub in_columns : ℕ → ℕ → ℕ → List (ℕ × Value)
+in_columns j k l = (j, natural 1) ∷ (k, natural 2) ∷ (l, natural 3) ∷ []
+
+-- the lines of the inputs alone
+abbrev pub inputs_alone : Listing
+inputs_alone = trace_of "main" 3 (take 2 placed_lines)
+
 -- without the line of x
 abbrev pub input_missing : Option Pos
 input_missing = misfit listing_program (trace_of "main" 3 (take 1 placed_lines ++ drop 2 placed_lines))

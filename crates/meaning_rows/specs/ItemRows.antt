@@ -4,11 +4,11 @@ use Rattle.std.specs.Prelude.{ℕ, List, true, false, [], ◌∷◌, Some, None,
 use Rattle.lus_tree.specs.declared.expression.Operator.TheVariants.{And, Less, Equal, Differs, More, Add, Sub}
 use Rattle.lus_tree.specs.Tree.{Place, binary, name, Component, property, assume, guarantee, declared_node, declared_contract, Program}
 use Rattle.lus_meaning.specs.Value.{Value, absent, flag}
-use Rattle.lus_meaning.specs.Frame.{Frame, frame, no_frames, with_frame}
+use Rattle.lus_meaning.specs.Frame.{Frame, frame, no_frames}
 use Rattle.lus_meaning.specs.Scene.{Instance}
 use Rattle.lus_meaning.specs.Program.{instance_of}
 use Rattle.meaning_rows.specs.RowParts.{declares, natural, unlabelled}
-use Rattle.meaning_rows.specs.Written.{the, literal, combined, calling, calling_while, flag_named, number_named, sets, saying, checked, mode_named, importing, negative, naturals, flags_of, stream}
+use Rattle.meaning_rows.specs.Written.{the, literal, combined, calling, calling_while, flag_named, number_named, sets, saying, checked, mode_named, importing, negative, naturals, flags_of, stream, framed}
 
 --  1 contract deep(a : int) returns (o : int); let
 --  2   assume a <> 9 and a <> 1;
@@ -42,14 +42,19 @@ abbrev pub placed : ℕ → ℕ → Place
 placed l k = record { from = record { line = l; column = k }; at = record { line = 1; column = 1 } }
 
 abbrev pub deep : Component
-deep = declares (codes "deep") (number_named "a" ∷ []) (number_named "o" ∷ []) []
+deep =
+    declares (codes "deep") (number_named "a" ∷ []) (number_named "o" ∷ []) []
     (Some
-    (assume (unlabelled (binary (placed 2 10) And (combined Differs (the "a") (literal 9)) (combined Differs (the "a") (literal 1))))
+    (assume
+    (unlabelled
+    (binary (placed 2 10) And (combined Differs (the "a") (literal 9))
+    (combined Differs (the "a") (literal 1))))
     ∷ guarantee (saying "g" (combined More (the "o") (literal 0)))
     ∷ mode_named "m" (unlabelled (combined More (the "a") (literal 1)) ∷ [])
-    (unlabelled (binary (placed 4 33) More (the "o") (literal 1)) ∷ saying "e" (combined More (the "o") (literal 2)) ∷ [])
-    ∷ []))
-    []
+    (unlabelled (binary (placed 4 33) More (the "o") (literal 1))
+    ∷ saying "e" (combined More (the "o") (literal 2))
+    ∷ [])
+    ∷ [])) []
 
 abbrev pub outer : Component
 outer = declares (codes "outer") (number_named "a" ∷ []) (number_named "o" ∷ []) []
@@ -69,12 +74,16 @@ callee_node = declares (codes "callee") (number_named "a" ∷ []) (number_named 
     (sets "o" (the "a") ∷ [])
 
 abbrev pub items_node : Component
-items_node = declares (codes "main") (number_named "x" ∷ flag_named "c" ∷ []) (number_named "y" ∷ number_named "z" ∷ []) []
+items_node =
+    declares (codes "main") (number_named "x" ∷ flag_named "c" ∷ []) (number_named "y" ∷ number_named "z" ∷ [])
+    []
     (Some
     (importing 1 "outer" (combined Sub (the "x") (literal 1) ∷ []) ("y" ∷ [])
     ∷ guarantee (saying "own" (combined Less (the "y") (literal 5)))
     ∷ mode_named "n" (unlabelled (combined Less (the "y") (literal 2)) ∷ [])
-    (saying "f" (combined More (the "y") (literal 0)) ∷ unlabelled (binary (placed 21 51) Equal (the "y") (literal 0)) ∷ [])
+    (saying "f" (combined More (the "y") (literal 0))
+    ∷ unlabelled (binary (placed 21 51) Equal (the "y") (literal 0))
+    ∷ [])
     ∷ []))
     (sets "y" (calling 2 "callee" (the "x" ∷ []))
     ∷ sets "z" (calling_while 3 (the "c") "callee" (the "x" ∷ []) (literal 1 ∷ []))
@@ -83,7 +92,8 @@ items_node = declares (codes "main") (number_named "x" ∷ flag_named "c" ∷ []
     ∷ [])
 
 abbrev pub items_program : Program
-items_program = declared_contract deep ∷ declared_contract outer ∷ declared_node callee_node ∷ declared_node items_node ∷ []
+items_program =
+    declared_contract deep ∷ declared_contract outer ∷ declared_node callee_node ∷ declared_node items_node ∷ []
 
 abbrev pub items : Instance
 items = instance_of items_program items_node
@@ -99,7 +109,7 @@ contract_frame as_ os = frame (stream "a" as_ ∷ stream "o" os ∷ []) [] no_fr
 
 -- with an import
 abbrev pub importing_frame : List Value → List Value → Frame → Frame
-importing_frame as_ os f = frame (stream "a" as_ ∷ stream "o" os ∷ []) [] (with_frame f no_frames)
+importing_frame as_ os f = frame (stream "a" as_ ∷ stream "o" os ∷ []) [] (framed (f ∷ []))
 
 abbrev pub all_three : List Value
 all_three = naturals (2 ∷ 0 ∷ 9 ∷ [])
@@ -108,17 +118,22 @@ abbrev pub last_two : List Value
 last_two = absent ∷ natural 0 ∷ natural 9 ∷ []
 
 abbrev pub items_frame : Frame
-items_frame = frame
+items_frame =
+    frame
     (stream "x" all_three
     ∷ stream "c" (flags_of (false ∷ true ∷ true ∷ []))
     ∷ stream "y" all_three
     ∷ stream "z" (naturals (1 ∷ 0 ∷ 9 ∷ []))
-    ∷ [])
-    []
-    (with_frame (importing_frame (natural 1 ∷ negative 1 ∷ natural 8 ∷ []) all_three (contract_frame all_three all_three))
-    (with_frame (importing_frame all_three all_three (importing_frame all_three all_three (contract_frame (naturals (3 ∷ 1 ∷ 10 ∷ [])) all_three)))
-    (with_frame (importing_frame last_two last_two (importing_frame last_two last_two (contract_frame (absent ∷ natural 1 ∷ natural 10 ∷ []) last_two)))
-    no_frames)))
+    ∷ []) []
+    (framed
+    (importing_frame (natural 1 ∷ negative 1 ∷ natural 8 ∷ []) all_three
+    (contract_frame all_three all_three)
+    ∷ importing_frame all_three all_three
+    (importing_frame all_three all_three (contract_frame (naturals (3 ∷ 1 ∷ 10 ∷ [])) all_three))
+    ∷ importing_frame last_two last_two
+    (importing_frame last_two last_two
+    (contract_frame (absent ∷ natural 1 ∷ natural 10 ∷ []) last_two))
+    ∷ []))
 
 -- the properties at the three instants, each with its name
 abbrev pub items_truths : List (List Value)

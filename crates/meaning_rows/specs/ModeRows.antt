@@ -3,11 +3,11 @@ use Rattle.std.specs.Prelude.{true, false, [], ◌∷◌, Some, None, codes}
 use Rattle.lus_tree.specs.declared.expression.Operator.TheVariants.{And, Less, Equal, More}
 use Rattle.lus_tree.specs.Tree.{Component, declared_node}
 use Rattle.lus_meaning.specs.Value.{absent, flag}
-use Rattle.lus_meaning.specs.Frame.{Frame, frame, no_frames, with_frame}
+use Rattle.lus_meaning.specs.Frame.{Frame, frame, no_frames}
 use Rattle.lus_meaning.specs.Scene.{Instance}
 use Rattle.lus_meaning.specs.Program.{instance_of}
 use Rattle.meaning_rows.specs.RowParts.{declares, natural, unlabelled}
-use Rattle.meaning_rows.specs.Written.{the, literal, truth_of, previous, combined, when_true, when_false, merged_on, calling, own_mode, flag_named, number_named, on, sets, sets_all, saying, checked, mode_named, negative, naturals, flags_of, stream}
+use Rattle.meaning_rows.specs.Written.{the, literal, truth_of, previous, combined, when_true, when_false, merged_on, calling, own_mode, flag_named, number_named, on, sets, sets_all, saying, checked, mode_named, negative, naturals, flags_of, stream, framed}
 
 -- ---- three modes
 
@@ -71,7 +71,9 @@ moded_part = declares (codes "part") (flag_named "u" ∷ []) (flag_named "p" ∷
 --   t |  true     - false
 --   o |  true  true false
 abbrev pub modes_when_node : Component
-modes_when_node = declares (codes "main") (flag_named "c" ∷ flag_named "e" ∷ []) (flag_named "o" ∷ []) (on "c" (flag_named "s") ∷ on "c" (flag_named "t") ∷ []) None
+modes_when_node =
+    declares (codes "main") (flag_named "c" ∷ flag_named "e" ∷ []) (flag_named "o" ∷ [])
+    (on "c" (flag_named "s") ∷ on "c" (flag_named "t") ∷ []) None
     (sets_all ("s" ∷ "t" ∷ []) (calling 1 "part" (when_true (the "e") "c" ∷ []))
     ∷ sets "o" (merged_on "c" (combined And (the "s") (the "t")) (when_false (the "e") "c"))
     ∷ [])
@@ -80,31 +82,33 @@ abbrev pub modes_when : Instance
 modes_when = instance_of (declared_node moded_part ∷ declared_node modes_when_node ∷ []) modes_when_node
 
 abbrev pub modes_when_frame : Frame
-modes_when_frame = frame
+modes_when_frame =
+    frame
     (stream "c" (flags_of (true ∷ false ∷ true ∷ []))
     ∷ stream "e" (flags_of (true ∷ true ∷ false ∷ []))
     ∷ stream "o" (flags_of (true ∷ true ∷ false ∷ []))
     ∷ stream "s" (flag true ∷ absent ∷ flag true ∷ [])
     ∷ stream "t" (flag true ∷ absent ∷ flag false ∷ [])
-    ∷ [])
-    []
-    (with_frame
+    ∷ []) []
+    (framed
     (frame
     (stream "u" (flag true ∷ absent ∷ flag false ∷ [])
     ∷ stream "p" (flag true ∷ absent ∷ flag true ∷ [])
     ∷ stream "q" (flag true ∷ absent ∷ flag false ∷ [])
-    ∷ [])
-    [] no_frames)
-    no_frames)
+    ∷ []) [] no_frames
+    ∷ []))
 
 -- the same part by itself
 abbrev pub modes_alone : Instance
 modes_alone = instance_of (declared_node moded_part ∷ []) moded_part
 
 abbrev pub modes_alone_frame : Frame
-modes_alone_frame = frame
-    (stream "u" (flags_of (true ∷ false ∷ [])) ∷ stream "p" (flags_of (true ∷ true ∷ [])) ∷ stream "q" (flags_of (true ∷ false ∷ [])) ∷ [])
-    [] no_frames
+modes_alone_frame =
+    frame
+    (stream "u" (flags_of (true ∷ false ∷ []))
+    ∷ stream "p" (flags_of (true ∷ true ∷ []))
+    ∷ stream "q" (flags_of (true ∷ false ∷ []))
+    ∷ []) [] no_frames
 
 -- ---- `pre` in a mode: the first values are in the order of the text, also where an ensure stands before a require
 
@@ -121,9 +125,11 @@ modes_alone_frame = frame
 --   late     | false  true  true
 --   held     | false false  true
 abbrev pub mode_memory_node : Component
-mode_memory_node = declares (codes "main") (number_named "a" ∷ flag_named "b" ∷ []) (number_named "o" ∷ []) []
+mode_memory_node =
+    declares (codes "main") (number_named "a" ∷ flag_named "b" ∷ []) (number_named "o" ∷ []) []
     (Some
-    (mode_named "rise" (unlabelled (previous 2 (the "b")) ∷ []) (saying "up" (combined Less (previous 1 (the "o")) (the "o")) ∷ [])
+    (mode_named "rise" (unlabelled (previous 2 (the "b")) ∷ [])
+    (saying "up" (combined Less (previous 1 (the "o")) (the "o")) ∷ [])
     ∷ []))
     (sets "o" (the "a")
     ∷ checked "late" (combined Less (literal 5) (previous 3 (the "a")))

@@ -13,7 +13,9 @@ use Rattle.meaning_rows.specs.Written.{the, truth_of, literal, negated, opposite
 -- node next(a : int) returns (o : int); let o = a + 1; tel
 -- node late(i : int) returns (o : int); let o = 0 -> pre i; tel
 abbrev pub late_part : Component
-late_part = declares (codes "late") (number_named "i" ∷ []) (number_named "o" ∷ []) [] None (sets "o" (followed 1 (literal 0) (previous 1 (the "i"))) ∷ [])
+late_part =
+    declares (codes "late") (number_named "i" ∷ []) (number_named "o" ∷ []) [] None
+    (sets "o" (followed 1 (literal 0) (previous 1 (the "i"))) ∷ [])
 
 -- node main(c, u : bool; x : int) returns (r, a, p, g, h, q, w, v, m : int; z : bool);
 -- (*@contract mode positive (require r > 0;); *) var k, d : bool; b, l : int when d;
@@ -24,10 +26,19 @@ late_part = declares (codes "late") (number_named "i" ∷ []) (number_named "o" 
 -- a, p, h, b, m and z need r, and g needs k. b, m and l, which has no equation, need d. q, w and v need neither r nor, but for its clock, anything else
 -- than c.
 abbrev pub needing_node : Component
-needing_node = declares (codes "main")
-    (flag_named "c" ∷ flag_named "u" ∷ number_named "x" ∷ [])
-    (number_named "r" ∷ number_named "a" ∷ number_named "p" ∷ number_named "g" ∷ number_named "h" ∷ number_named "q" ∷ number_named "w" ∷ number_named "v" ∷ number_named "m" ∷ flag_named "z" ∷ [])
-    (flag_named "k" ∷ flag_named "d" ∷ on "d" (number_named "b") ∷ on "d" (number_named "l") ∷ [])
+needing_node =
+    declares (codes "main") (flag_named "c" ∷ flag_named "u" ∷ number_named "x" ∷ [])
+    (number_named "r"
+    ∷ number_named "a"
+    ∷ number_named "p"
+    ∷ number_named "g"
+    ∷ number_named "h"
+    ∷ number_named "q"
+    ∷ number_named "w"
+    ∷ number_named "v"
+    ∷ number_named "m"
+    ∷ flag_named "z"
+    ∷ []) (flag_named "k" ∷ flag_named "d" ∷ on "d" (number_named "b") ∷ on "d" (number_named "l") ∷ [])
     (Some (mode_named "positive" (unlabelled (combined More (the "r") (literal 0)) ∷ []) [] ∷ []))
     (sets "r" (combined Add (the "x") (literal 1))
     ∷ sets "k" (the "u")
@@ -61,12 +72,15 @@ import_mode_node = declares (codes "main") (number_named "x" ∷ []) (flag_named
     (Some (importing 1 "C" (the "x" ∷ []) ("y" ∷ []) ∷ [])) (sets "y" (negated (mode_of "C" "m")) ∷ [])
 
 abbrev pub import_mode_circle : Instance
-import_mode_circle = instance_of (declared_contract required_output ∷ declared_node import_mode_node ∷ []) import_mode_node
+import_mode_circle =
+    instance_of (declared_contract required_output ∷ declared_node import_mode_node ∷ []) import_mode_node
 
 -- the same with `y = true -> pre ::C::m`, where y needs nothing but its clock
 abbrev pub late_mode_node : Component
-late_mode_node = declares (codes "main") (number_named "x" ∷ []) (flag_named "y" ∷ []) []
-    (Some (importing 1 "C" (the "x" ∷ []) ("y" ∷ []) ∷ [])) (sets "y" (followed 1 (truth_of true) (previous 1 (mode_of "C" "m"))) ∷ [])
+late_mode_node =
+    declares (codes "main") (number_named "x" ∷ []) (flag_named "y" ∷ []) []
+    (Some (importing 1 "C" (the "x" ∷ []) ("y" ∷ []) ∷ []))
+    (sets "y" (followed 1 (truth_of true) (previous 1 (mode_of "C" "m"))) ∷ [])
 
 abbrev pub late_mode : Instance
 late_mode = instance_of (declared_contract required_output ∷ declared_node late_mode_node ∷ []) late_mode_node
@@ -111,8 +125,11 @@ merge_circle = instance_of (declared_node merge_node ∷ []) merge_node
 -- let s = true; y = merge x (true -> same(x when x)) (false -> false); tel
 -- s needs y by its clock alone; y does not need s.
 abbrev pub clocked_node : Component
-clocked_node = declares (codes "main") (flag_named "x" ∷ []) (flag_named "y" ∷ []) (on "y" (flag_named "s") ∷ []) None
-    (sets "s" (truth_of true) ∷ sets "y" (merged_on "x" (calling 1 "same" (when_true (the "x") "x" ∷ [])) (truth_of false)) ∷ [])
+clocked_node =
+    declares (codes "main") (flag_named "x" ∷ []) (flag_named "y" ∷ []) (on "y" (flag_named "s") ∷ []) None
+    (sets "s" (truth_of true)
+    ∷ sets "y" (merged_on "x" (calling 1 "same" (when_true (the "x") "x" ∷ [])) (truth_of false))
+    ∷ [])
 
 abbrev pub clocked : Instance
 clocked = instance_of (declared_node same_node ∷ declared_node clocked_node ∷ []) clocked_node
@@ -121,7 +138,9 @@ clocked = instance_of (declared_node same_node ∷ declared_node clocked_node �
 
 -- node main(c : bool; x : int) returns (p, q, r : int); let p = next(q); q = condact(c, next(r), 0); r = -x; tel
 abbrev pub chained_node : Component
-chained_node = declares (codes "main") (flag_named "c" ∷ number_named "x" ∷ []) (number_named "p" ∷ number_named "q" ∷ number_named "r" ∷ []) [] None
+chained_node =
+    declares (codes "main") (flag_named "c" ∷ number_named "x" ∷ [])
+    (number_named "p" ∷ number_named "q" ∷ number_named "r" ∷ []) [] None
     (sets "p" (calling 1 "next" (the "q" ∷ []))
     ∷ sets "q" (calling_while 2 (the "c") "next" (the "r" ∷ []) (literal 0 ∷ []))
     ∷ sets "r" (opposite (the "x"))

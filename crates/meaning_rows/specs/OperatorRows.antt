@@ -20,7 +20,15 @@ use Rattle.meaning_rows.specs.Written.{the, literal, negated, opposite, combined
 --   e |  1   2
 --   f | -7   7
 abbrev pub counting_node : Component
-counting_node = declares (codes "main") (number_named "x" ∷ []) (number_named "a" ∷ number_named "b" ∷ number_named "c" ∷ number_named "d" ∷ number_named "e" ∷ number_named "f" ∷ []) [] None
+counting_node =
+    declares (codes "main") (number_named "x" ∷ [])
+    (number_named "a"
+    ∷ number_named "b"
+    ∷ number_named "c"
+    ∷ number_named "d"
+    ∷ number_named "e"
+    ∷ number_named "f"
+    ∷ []) [] None
     (sets "a" (combined Add (the "x") (literal 3))
     ∷ sets "b" (combined Sub (the "x") (literal 3))
     ∷ sets "c" (combined Mul (the "x") (literal 3))
@@ -54,7 +62,9 @@ counting_frame = frame
 --   c | -2   3  -2   2       7 = -3 * -2 + 1 and -7 = -3 * 3 + 2
 --   d |  1   2   0   0
 abbrev pub dividing_node : Component
-dividing_node = declares (codes "main") (number_named "x" ∷ []) (number_named "a" ∷ number_named "b" ∷ number_named "c" ∷ number_named "d" ∷ []) [] None
+dividing_node =
+    declares (codes "main") (number_named "x" ∷ [])
+    (number_named "a" ∷ number_named "b" ∷ number_named "c" ∷ number_named "d" ∷ []) [] None
     (sets "a" (combined Div (the "x") (literal 3))
     ∷ sets "b" (combined Mod (the "x") (literal 3))
     ∷ sets "c" (combined Div (the "x") (opposite (literal 3)))
@@ -86,7 +96,10 @@ dividing_frame = frame
 --   e | false  true  true false
 --   f | false false  true false
 abbrev pub ordering_node : Component
-ordering_node = declares (codes "main") (number_named "x" ∷ []) (flag_named "a" ∷ flag_named "b" ∷ flag_named "c" ∷ flag_named "d" ∷ flag_named "e" ∷ flag_named "f" ∷ []) [] None
+ordering_node =
+    declares (codes "main") (number_named "x" ∷ [])
+    (flag_named "a" ∷ flag_named "b" ∷ flag_named "c" ∷ flag_named "d" ∷ flag_named "e" ∷ flag_named "f" ∷ [])
+    [] None
     (sets "a" (combined Less (the "x") (literal 2))
     ∷ sets "b" (combined AtMost (the "x") (literal 2))
     ∷ sets "c" (combined Equal (the "x") (literal 2))
@@ -125,8 +138,17 @@ ordering_frame = frame
 --   g | false false  true  true
 --   h |     1     1     2     2
 abbrev pub deciding_node : Component
-deciding_node = declares (codes "main") (flag_named "x" ∷ flag_named "y" ∷ [])
-    (flag_named "a" ∷ flag_named "b" ∷ flag_named "c" ∷ flag_named "d" ∷ flag_named "e" ∷ flag_named "f" ∷ flag_named "g" ∷ number_named "h" ∷ []) [] None
+deciding_node =
+    declares (codes "main") (flag_named "x" ∷ flag_named "y" ∷ [])
+    (flag_named "a"
+    ∷ flag_named "b"
+    ∷ flag_named "c"
+    ∷ flag_named "d"
+    ∷ flag_named "e"
+    ∷ flag_named "f"
+    ∷ flag_named "g"
+    ∷ number_named "h"
+    ∷ []) [] None
     (sets "a" (combined And (the "x") (the "y"))
     ∷ sets "b" (combined Or (the "x") (the "y"))
     ∷ sets "c" (combined Xor (the "x") (the "y"))

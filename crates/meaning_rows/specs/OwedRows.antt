@@ -3,19 +3,28 @@ use Rattle.std.specs.Prelude.{true, false, [], ◌∷◌, Some, None, codes}
 use Rattle.lus_tree.specs.declared.expression.Operator.TheVariants.{Less, Differs, More}
 use Rattle.lus_tree.specs.Tree.{Component, assertion, assume, guarantee, declared_node, declared_contract}
 use Rattle.lus_meaning.specs.Value.{absent}
-use Rattle.lus_meaning.specs.Frame.{Frame, frame, no_frames, with_frame}
+use Rattle.lus_meaning.specs.Frame.{Frame, frame, no_frames}
 use Rattle.lus_meaning.specs.Scene.{Instance}
 use Rattle.lus_meaning.specs.Program.{instance_of}
 use Rattle.meaning_rows.specs.RowParts.{declares, natural, unlabelled}
-use Rattle.meaning_rows.specs.Written.{the, truth_of, literal, previous, followed, combined, when_true, calling, flag_named, number_named, on, sets, saying, checked, importing, negative, naturals, flags_of, stream}
+use Rattle.meaning_rows.specs.Written.{the, truth_of, literal, previous, followed, combined, when_true, calling, flag_named, number_named, on, sets, saying, checked, importing, negative, naturals, flags_of, stream, framed}
 
 -- ---- two plain calls of a node whose assumption looks back
 
 -- node part(a : int) returns (o : int); (*@contract assume "grows" (0 < a) -> (pre a < a); *) let o = a; assert a < 50; assert a <> 3; tel
 abbrev pub growing : Component
-growing = declares (codes "part") (number_named "a" ∷ []) (number_named "o" ∷ []) []
-    (Some (assume (saying "grows" (followed 1 (combined Less (literal 0) (the "a")) (combined Less (previous 1 (the "a")) (the "a")))) ∷ []))
-    (sets "o" (the "a") ∷ assertion (combined Less (the "a") (literal 50)) ∷ assertion (combined Differs (the "a") (literal 3)) ∷ [])
+growing =
+    declares (codes "part") (number_named "a" ∷ []) (number_named "o" ∷ []) []
+    (Some
+    (assume
+    (saying "grows"
+    (followed 1 (combined Less (literal 0) (the "a"))
+    (combined Less (previous 1 (the "a")) (the "a"))))
+    ∷ []))
+    (sets "o" (the "a")
+    ∷ assertion (combined Less (the "a") (literal 50))
+    ∷ assertion (combined Differs (the "a") (literal 3))
+    ∷ [])
 
 -- node main(c : bool; x, y : int) returns (z : int); var s : int when c; let s = part(x when c); z = part(y); tel
 --   c       | false  true false  true false
@@ -26,26 +35,35 @@ growing = declares (codes "part") (number_named "a" ∷ []) (number_named "o" �
 --   2 grows |  true  true false  true  true
 --   asserts |  true  true  true false false      both of the second call; where the first one does not run, its a is no matter
 abbrev pub two_calls_node : Component
-two_calls_node = declares (codes "main") (flag_named "c" ∷ number_named "x" ∷ number_named "y" ∷ []) (number_named "z" ∷ []) (on "c" (number_named "s") ∷ []) None
-    (sets "s" (calling 1 "part" (when_true (the "x") "c" ∷ [])) ∷ sets "z" (calling 2 "part" (the "y" ∷ [])) ∷ [])
+two_calls_node =
+    declares (codes "main") (flag_named "c" ∷ number_named "x" ∷ number_named "y" ∷ []) (number_named "z" ∷ [])
+    (on "c" (number_named "s") ∷ []) None
+    (sets "s" (calling 1 "part" (when_true (the "x") "c" ∷ []))
+    ∷ sets "z" (calling 2 "part" (the "y" ∷ []))
+    ∷ [])
 
 abbrev pub two_calls : Instance
 two_calls = instance_of (declared_node growing ∷ declared_node two_calls_node ∷ []) two_calls_node
 
 abbrev pub two_calls_frame : Frame
-two_calls_frame = frame
+two_calls_frame =
+    frame
     (stream "c" (flags_of (false ∷ true ∷ false ∷ true ∷ false ∷ []))
     ∷ stream "x" (naturals (90 ∷ 1 ∷ 80 ∷ 1 ∷ 3 ∷ []))
     ∷ stream "y" (naturals (1 ∷ 2 ∷ 2 ∷ 3 ∷ 60 ∷ []))
     ∷ stream "z" (naturals (1 ∷ 2 ∷ 2 ∷ 3 ∷ 60 ∷ []))
     ∷ stream "s" (absent ∷ natural 1 ∷ absent ∷ natural 1 ∷ absent ∷ [])
-    ∷ [])
-    []
-    (with_frame
-    (frame (stream "a" (absent ∷ natural 1 ∷ absent ∷ natural 1 ∷ absent ∷ []) ∷ stream "o" (absent ∷ natural 1 ∷ absent ∷ natural 1 ∷ absent ∷ []) ∷ []) (natural 0 ∷ []) no_frames)
-    (with_frame
-    (frame (stream "a" (naturals (1 ∷ 2 ∷ 2 ∷ 3 ∷ 60 ∷ [])) ∷ stream "o" (naturals (1 ∷ 2 ∷ 2 ∷ 3 ∷ 60 ∷ [])) ∷ []) (natural 0 ∷ []) no_frames)
-    no_frames))
+    ∷ []) []
+    (framed
+    (frame
+    (stream "a" (absent ∷ natural 1 ∷ absent ∷ natural 1 ∷ absent ∷ [])
+    ∷ stream "o" (absent ∷ natural 1 ∷ absent ∷ natural 1 ∷ absent ∷ [])
+    ∷ []) (natural 0 ∷ []) no_frames
+    ∷ frame
+    (stream "a" (naturals (1 ∷ 2 ∷ 2 ∷ 3 ∷ 60 ∷ []))
+    ∷ stream "o" (naturals (1 ∷ 2 ∷ 2 ∷ 3 ∷ 60 ∷ []))
+    ∷ []) (natural 0 ∷ []) no_frames
+    ∷ []))
 
 -- ---- who owes: the direct caller alone, for calls in its contract too, and not for those of a contract that it imports
 
@@ -57,7 +75,9 @@ positive = declares (codes "part") (number_named "a" ∷ []) (number_named "o" �
 
 -- node mid(a : int) returns (o : int); let o = part(a); tel
 abbrev pub mid : Component
-mid = declares (codes "mid") (number_named "a" ∷ []) (number_named "o" ∷ []) [] None (sets "o" (calling 1 "part" (the "a" ∷ [])) ∷ [])
+mid =
+    declares (codes "mid") (number_named "a" ∷ []) (number_named "o" ∷ []) [] None
+    (sets "o" (calling 1 "part" (the "a" ∷ [])) ∷ [])
 
 -- contract lim(b : int) returns (r : int); let guarantee "l" part(b) > 0; tel
 abbrev pub lim : Component
@@ -69,12 +89,18 @@ lim = declares (codes "lim") (number_named "b" ∷ []) (number_named "r" ∷ [])
 -- let y = mid(part(x)); tel
 -- The calls are 1 in the guarantee, 2 the import, 3 mid and 4 part.
 abbrev pub owing_node : Component
-owing_node = declares (codes "main") (number_named "x" ∷ []) (number_named "y" ∷ []) []
-    (Some (guarantee (saying "g" (combined More (calling 1 "part" (the "y" ∷ [])) (literal 0))) ∷ importing 2 "lim" (the "x" ∷ []) ("y" ∷ []) ∷ []))
-    (sets "y" (calling 3 "mid" (calling 4 "part" (the "x" ∷ []) ∷ [])) ∷ [])
+owing_node =
+    declares (codes "main") (number_named "x" ∷ []) (number_named "y" ∷ []) []
+    (Some
+    (guarantee (saying "g" (combined More (calling 1 "part" (the "y" ∷ [])) (literal 0)))
+    ∷ importing 2 "lim" (the "x" ∷ []) ("y" ∷ [])
+    ∷ [])) (sets "y" (calling 3 "mid" (calling 4 "part" (the "x" ∷ []) ∷ [])) ∷ [])
 
 abbrev pub owing : Instance
-owing = instance_of (declared_node positive ∷ declared_node mid ∷ declared_contract lim ∷ declared_node owing_node ∷ []) owing_node
+owing =
+    instance_of
+    (declared_node positive ∷ declared_node mid ∷ declared_contract lim ∷ declared_node owing_node ∷ [])
+    owing_node
 
 -- ---- an assertion two levels deep
 
@@ -82,37 +108,57 @@ owing = instance_of (declared_node positive ∷ declared_node mid ∷ declared_c
 -- x, y    |     4     5    -1
 -- asserts |  true false  true      at -1 the assumption of part is false, which is no matter here
 abbrev pub deep_assertion_node : Component
-deep_assertion_node = declares (codes "main") (number_named "x" ∷ []) (number_named "y" ∷ []) [] None (sets "y" (calling 1 "mid" (the "x" ∷ [])) ∷ [])
+deep_assertion_node =
+    declares (codes "main") (number_named "x" ∷ []) (number_named "y" ∷ []) [] None
+    (sets "y" (calling 1 "mid" (the "x" ∷ [])) ∷ [])
 
 abbrev pub deep_assertion : Instance
-deep_assertion = instance_of (declared_node positive ∷ declared_node mid ∷ declared_node deep_assertion_node ∷ []) deep_assertion_node
+deep_assertion =
+    instance_of (declared_node positive ∷ declared_node mid ∷ declared_node deep_assertion_node ∷ [])
+    deep_assertion_node
 
 abbrev pub deep_assertion_frame : Frame
-deep_assertion_frame = frame
-    (stream "x" (natural 4 ∷ natural 5 ∷ negative 1 ∷ []) ∷ stream "y" (natural 4 ∷ natural 5 ∷ negative 1 ∷ []) ∷ [])
-    []
-    (with_frame
-    (frame (stream "a" (natural 4 ∷ natural 5 ∷ negative 1 ∷ []) ∷ stream "o" (natural 4 ∷ natural 5 ∷ negative 1 ∷ []) ∷ []) []
-    (with_frame (frame (stream "a" (natural 4 ∷ natural 5 ∷ negative 1 ∷ []) ∷ stream "o" (natural 4 ∷ natural 5 ∷ negative 1 ∷ []) ∷ []) [] no_frames) no_frames))
-    no_frames)
+deep_assertion_frame =
+    frame
+    (stream "x" (natural 4 ∷ natural 5 ∷ negative 1 ∷ [])
+    ∷ stream "y" (natural 4 ∷ natural 5 ∷ negative 1 ∷ [])
+    ∷ []) []
+    (framed
+    (frame
+    (stream "a" (natural 4 ∷ natural 5 ∷ negative 1 ∷ [])
+    ∷ stream "o" (natural 4 ∷ natural 5 ∷ negative 1 ∷ [])
+    ∷ []) []
+    (framed
+    (frame
+    (stream "a" (natural 4 ∷ natural 5 ∷ negative 1 ∷ [])
+    ∷ stream "o" (natural 4 ∷ natural 5 ∷ negative 1 ∷ [])
+    ∷ []) [] no_frames
+    ∷ []))
+    ∷ []))
 
 -- ---- lawful instants, and the first break
 
 -- node main(a : int) returns (b : int); let b = a; assert a < 5; check "low" a < 3; tel
 abbrev pub bounded_node : Component
-bounded_node = declares (codes "main") (number_named "a" ∷ []) (number_named "b" ∷ []) [] None
-    (sets "b" (the "a") ∷ assertion (combined Less (the "a") (literal 5)) ∷ checked "low" (combined Less (the "a") (literal 3)) ∷ [])
+bounded_node =
+    declares (codes "main") (number_named "a" ∷ []) (number_named "b" ∷ []) [] None
+    (sets "b" (the "a")
+    ∷ assertion (combined Less (the "a") (literal 5))
+    ∷ checked "low" (combined Less (the "a") (literal 3))
+    ∷ [])
 
 abbrev pub bounded : Instance
 bounded = instance_of (declared_node bounded_node ∷ []) bounded_node
 
 -- a is 1, 5, 4: the assertion is false at 1, so neither 1 nor 2 is lawful; low is true, false, false
 abbrev pub lawless_frame : Frame
-lawless_frame = frame (stream "a" (naturals (1 ∷ 5 ∷ 4 ∷ [])) ∷ stream "b" (naturals (1 ∷ 5 ∷ 4 ∷ [])) ∷ []) [] no_frames
+lawless_frame =
+    frame (stream "a" (naturals (1 ∷ 5 ∷ 4 ∷ [])) ∷ stream "b" (naturals (1 ∷ 5 ∷ 4 ∷ [])) ∷ []) [] no_frames
 
 -- a is 1, 3, 4: all are lawful, and low is false for the first time at 1
 abbrev pub broken_frame : Frame
-broken_frame = frame (stream "a" (naturals (1 ∷ 3 ∷ 4 ∷ [])) ∷ stream "b" (naturals (1 ∷ 3 ∷ 4 ∷ [])) ∷ []) [] no_frames
+broken_frame =
+    frame (stream "a" (naturals (1 ∷ 3 ∷ 4 ∷ [])) ∷ stream "b" (naturals (1 ∷ 3 ∷ 4 ∷ [])) ∷ []) [] no_frames
 
 -- low is false at 0, and b is not a
 abbrev pub no_run_frame : Frame

@@ -8,20 +8,29 @@ use Rattle.lus_meaning.specs.Scene.{Instance}
 use Rattle.lus_meaning.specs.Program.{instance_of}
 use Rattle.meaning_rows.specs.RowParts.{declares, natural}
 use Rattle.meaning_rows.specs.CallRows.{next}
-use Rattle.meaning_rows.specs.Written.{the, previous, combined, when_true, calling, flag_named, number_named, on, sets, saying, checked, importing, naturals, flags_of, stream}
+use Rattle.meaning_rows.specs.Written.{the, previous, combined, when_true, calling, flag_named, number_named, on, sets, saying, checked, importing, naturals, flags_of, stream, framed}
 
 -- node next(a : int) returns (o : int); let o = a + 1; tel
 -- contract lim(b : int) returns (r : int); let var up : bool = b < r; guarantee "up" up; tel
 abbrev pub lim : Component
-lim = declares (codes "lim") (number_named "b" ∷ []) (number_named "r" ∷ []) []
-    (Some (ghost_variable (flag_named "up") (combined Less (the "b") (the "r")) ∷ guarantee (saying "up" (the "up")) ∷ [])) []
+lim =
+    declares (codes "lim") (number_named "b" ∷ []) (number_named "r" ∷ []) []
+    (Some
+    (ghost_variable (flag_named "up") (combined Less (the "b") (the "r"))
+    ∷ guarantee (saying "up" (the "up"))
+    ∷ [])) []
 
 -- node main(c, u : bool; x : int) returns (y : int); (*@contract import lim(x) returns (y); *) var s, t : int when c;
 -- let s = next(x when c); y = pre x; check "u" pre u; tel
 abbrev pub running_node : Component
-running_node = declares (codes "main") (flag_named "c" ∷ flag_named "u" ∷ number_named "x" ∷ []) (number_named "y" ∷ []) (on "c" (number_named "s") ∷ on "c" (number_named "t") ∷ [])
+running_node =
+    declares (codes "main") (flag_named "c" ∷ flag_named "u" ∷ number_named "x" ∷ []) (number_named "y" ∷ [])
+    (on "c" (number_named "s") ∷ on "c" (number_named "t") ∷ [])
     (Some (importing 1 "lim" (the "x" ∷ []) ("y" ∷ []) ∷ []))
-    (sets "s" (calling 2 "next" (when_true (the "x") "c" ∷ [])) ∷ sets "y" (previous 1 (the "x")) ∷ checked "u" (previous 2 (the "u")) ∷ [])
+    (sets "s" (calling 2 "next" (when_true (the "x") "c" ∷ []))
+    ∷ sets "y" (previous 1 (the "x"))
+    ∷ checked "u" (previous 2 (the "u"))
+    ∷ [])
 
 abbrev pub running : Instance
 running = instance_of (declared_node next ∷ declared_contract lim ∷ declared_node running_node ∷ []) running_node
@@ -68,7 +77,7 @@ abbrev pub next_frame : List Value → List Value → Frame
 next_frame as_ os = frame (stream "a" as_ ∷ stream "o" os ∷ []) [] no_frames
 
 abbrev pub frames_of : Frame → Frame → Frames
-frames_of f g = with_frame f (with_frame g no_frames)
+frames_of f g = framed (f ∷ g ∷ [])
 
 abbrev pub running_frames : Frames
 running_frames = frames_of (lim_frame y_values u_values) (next_frame (natural 1 ∷ absent ∷ []) s_values)
@@ -83,6 +92,12 @@ abbrev pub first_alone : Instants
 first_alone zero = true
 first_alone (suc t) = false
 
+abbrev pub alone_frame : Frame
+alone_frame = next_frame (natural 1 ∷ absent ∷ []) (natural 2 ∷ absent ∷ [])
+
+abbrev pub alone_off_beat : Frame
+alone_off_beat = next_frame (natural 1 ∷ natural 1 ∷ []) (natural 2 ∷ absent ∷ [])
+
 abbrev pub next_alone : Instance
 next_alone = instance_of (declared_node next ∷ []) next
 
@@ -90,31 +105,47 @@ next_alone = instance_of (declared_node next ∷ []) next
 
 -- y is 2 at instant 1, where the last x is 1
 abbrev pub equation : Frame
-equation = frame (streams_with u_values (naturals (5 ∷ 2 ∷ [])) s_values t_values) firsts (frames_of (lim_frame (naturals (5 ∷ 2 ∷ [])) u_values) (next_frame (natural 1 ∷ absent ∷ []) s_values))
+equation =
+    frame (streams_with u_values (naturals (5 ∷ 2 ∷ [])) s_values t_values) firsts
+    (frames_of (lim_frame (naturals (5 ∷ 2 ∷ [])) u_values) (next_frame (natural 1 ∷ absent ∷ []) s_values))
 
 -- up is true at instant 1, where b < r is false
 abbrev pub ghost_equation : Frame
-ghost_equation = frame running_streams firsts (frames_of (lim_frame y_values (flags_of (true ∷ true ∷ []))) (next_frame (natural 1 ∷ absent ∷ []) s_values))
+ghost_equation =
+    frame running_streams firsts
+    (frames_of (lim_frame y_values (flags_of (true ∷ true ∷ [])))
+    (next_frame (natural 1 ∷ absent ∷ []) s_values))
 
 -- o and s are 3, where a is 1
 abbrev pub callee : Frame
-callee = frame (streams_with u_values y_values (natural 3 ∷ absent ∷ []) t_values) firsts (frames_of (lim_frame y_values u_values) (next_frame (natural 1 ∷ absent ∷ []) (natural 3 ∷ absent ∷ [])))
+callee =
+    frame (streams_with u_values y_values (natural 3 ∷ absent ∷ []) t_values) firsts
+    (frames_of (lim_frame y_values u_values) (next_frame (natural 1 ∷ absent ∷ []) (natural 3 ∷ absent ∷ [])))
 
 -- a is 2, where x is 1
 abbrev pub argument : Frame
-argument = frame (streams_with u_values y_values (natural 3 ∷ absent ∷ []) t_values) firsts (frames_of (lim_frame y_values u_values) (next_frame (natural 2 ∷ absent ∷ []) (natural 3 ∷ absent ∷ [])))
+argument =
+    frame (streams_with u_values y_values (natural 3 ∷ absent ∷ []) t_values) firsts
+    (frames_of (lim_frame y_values u_values) (next_frame (natural 2 ∷ absent ∷ []) (natural 3 ∷ absent ∷ [])))
 
 -- a is there, where the call is not active
 abbrev pub inactive_argument : Frame
-inactive_argument = frame running_streams firsts (frames_of (lim_frame y_values u_values) (next_frame (natural 1 ∷ natural 2 ∷ []) s_values))
+inactive_argument =
+    frame running_streams firsts
+    (frames_of (lim_frame y_values u_values) (next_frame (natural 1 ∷ natural 2 ∷ []) s_values))
 
 -- o is there, where the call is not active
 abbrev pub inactive_output : Frame
-inactive_output = frame running_streams firsts (frames_of (lim_frame y_values u_values) (next_frame (natural 1 ∷ absent ∷ []) (natural 2 ∷ natural 3 ∷ [])))
+inactive_output =
+    frame running_streams firsts
+    (frames_of (lim_frame y_values u_values)
+    (next_frame (natural 1 ∷ absent ∷ []) (natural 2 ∷ natural 3 ∷ [])))
 
 -- r is 2, where y is 1
 abbrev pub shared_output : Frame
-shared_output = frame running_streams firsts (frames_of (lim_frame (naturals (5 ∷ 2 ∷ [])) u_values) (next_frame (natural 1 ∷ absent ∷ []) s_values))
+shared_output =
+    frame running_streams firsts
+    (frames_of (lim_frame (naturals (5 ∷ 2 ∷ [])) u_values) (next_frame (natural 1 ∷ absent ∷ []) s_values))
 
 -- u is a number
 abbrev pub other_type : Frame
@@ -154,8 +185,12 @@ other_name = frame (stream "w" (naturals (1 ∷ 2 ∷ [])) ∷ running_streams) 
 
 -- a call has no frame
 abbrev pub too_few_calls : Frame
-too_few_calls = frame running_streams firsts (with_frame (lim_frame y_values u_values) no_frames)
+too_few_calls = frame running_streams firsts (framed ((lim_frame y_values u_values) ∷ []))
 
 -- there is a frame without a call
 abbrev pub too_many_calls : Frame
-too_many_calls = frame running_streams firsts (with_frame (lim_frame y_values u_values) (frames_of (next_frame (natural 1 ∷ absent ∷ []) s_values) (next_frame (natural 1 ∷ absent ∷ []) s_values)))
+too_many_calls =
+    frame running_streams firsts
+    (with_frame (lim_frame y_values u_values)
+    (frames_of (next_frame (natural 1 ∷ absent ∷ []) s_values)
+    (next_frame (natural 1 ∷ absent ∷ []) s_values)))

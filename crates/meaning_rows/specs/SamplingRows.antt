@@ -25,8 +25,15 @@ use Rattle.meaning_rows.specs.Written.{the, literal, previous, followed, when_tr
 --   k |     2     1     2     1
 --   j |     6     0     1     4      the first value is 6, and the first instant of not c is 0
 abbrev pub sampling_node : Component
-sampling_node = declares (codes "main") (flag_named "c" ∷ number_named "x" ∷ []) (number_named "o" ∷ number_named "k" ∷ number_named "j" ∷ [])
-    (on "c" (number_named "d") ∷ on "c" (number_named "e") ∷ on "c" (number_named "f") ∷ on "c" (number_named "g") ∷ off "c" (number_named "h") ∷ []) None
+sampling_node =
+    declares (codes "main") (flag_named "c" ∷ number_named "x" ∷ [])
+    (number_named "o" ∷ number_named "k" ∷ number_named "j" ∷ [])
+    (on "c" (number_named "d")
+    ∷ on "c" (number_named "e")
+    ∷ on "c" (number_named "f")
+    ∷ on "c" (number_named "g")
+    ∷ off "c" (number_named "h")
+    ∷ []) None
     (sets "d" (followed 1 (literal 0) (when_true (the "x") "c"))
     ∷ sets "e" (when_true (followed 2 (literal 0) (the "x")) "c")
     ∷ sets "f" (previous 1 (when_true (the "x") "c"))
@@ -34,7 +41,9 @@ sampling_node = declares (codes "main") (flag_named "c" ∷ number_named "x" ∷
     ∷ sets "h" (literal 5)
     ∷ sets "o" (merged_on "c" (the "d") (the "h"))
     ∷ sets "k" (merged_on "c" (literal 1) (literal 2))
-    ∷ sets "j" (merged_on "c" (followed 3 (literal 0) (when_true (the "x") "c")) (previous 3 (when_false (the "x") "c")))
+    ∷ sets "j"
+    (merged_on "c" (followed 3 (literal 0) (when_true (the "x") "c"))
+    (previous 3 (when_false (the "x") "c")))
     ∷ [])
 
 abbrev pub sampling : Instance
@@ -72,8 +81,15 @@ sampling_frame = frame
 --   m |     1     2     -     4
 --   o |     1     2     0     4
 abbrev pub nesting_node : Component
-nesting_node = declares (codes "main") (flag_named "c" ∷ flag_named "y" ∷ number_named "x" ∷ []) (number_named "o" ∷ [])
-    (on "c" (flag_named "d") ∷ on "d" (number_named "z") ∷ on "d" (number_named "p") ∷ off "d" (number_named "w") ∷ off "d" (number_named "q") ∷ on "c" (number_named "m") ∷ []) None
+nesting_node =
+    declares (codes "main") (flag_named "c" ∷ flag_named "y" ∷ number_named "x" ∷ []) (number_named "o" ∷ [])
+    (on "c" (flag_named "d")
+    ∷ on "d" (number_named "z")
+    ∷ on "d" (number_named "p")
+    ∷ off "d" (number_named "w")
+    ∷ off "d" (number_named "q")
+    ∷ on "c" (number_named "m")
+    ∷ []) None
     (sets "d" (when_true (the "y") "c")
     ∷ sets "z" (when_true (when_true (the "x") "c") "d")
     ∷ sets "w" (when_false (when_true (the "x") "c") "d")

@@ -110,7 +110,7 @@ sorted = instance_of
 -- the types in the order of the checks, and at the end those of `pre x = 0` and of x
 abbrev pub sorts : List Sort
 sorts =
-    Flags ∷ Numbers ∷ Numbers ∷ Flags ∷ Numbers ∷ Flags ∷ Flags ∷ Numbers ∷ Numbers ∷ Flags ∷ Numbers ∷ 
-    Numbers ∷ Numbers ∷ Numbers ∷ Numbers ∷ Flags ∷ Flags ∷ Flags ∷ Flags ∷ Flags ∷ Flags ∷ Flags ∷ Flags ∷ 
-    Flags ∷ Flags ∷ Flags ∷ Numbers ∷ Flags ∷ Numbers ∷ Flags ∷ Numbers ∷ Flags ∷ Numbers ∷ Flags ∷ Numbers ∷ 
+    Flags ∷ Numbers ∷ Numbers ∷ Flags ∷ Numbers ∷ Flags ∷ Flags ∷ Numbers ∷ Numbers ∷ Flags ∷ Numbers ∷
+    Numbers ∷ Numbers ∷ Numbers ∷ Numbers ∷ Flags ∷ Flags ∷ Flags ∷ Flags ∷ Flags ∷ Flags ∷ Flags ∷ Flags ∷
+    Flags ∷ Flags ∷ Flags ∷ Numbers ∷ Flags ∷ Numbers ∷ Flags ∷ Numbers ∷ Flags ∷ Numbers ∷ Flags ∷ Numbers ∷
     Flags ∷ Flags ∷ Numbers ∷ []

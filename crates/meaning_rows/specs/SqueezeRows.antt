@@ -3,12 +3,12 @@
 use Rattle.std.specs.Prelude.{zero, suc, true, false, [], ◌∷◌, None, codes}
 use Rattle.lus_tree.specs.Tree.{Component, declared_node}
 use Rattle.lus_meaning.specs.Value.{Instants, absent, flag}
-use Rattle.lus_meaning.specs.Frame.{Frame, frame, no_frames, with_frame}
+use Rattle.lus_meaning.specs.Frame.{Frame, frame, no_frames}
 use Rattle.lus_meaning.specs.Scene.{Instance}
 use Rattle.lus_meaning.specs.Program.{instance_of}
 use Rattle.meaning_rows.specs.RowParts.{declares, natural}
 use Rattle.meaning_rows.specs.CallRows.{next, pair}
-use Rattle.meaning_rows.specs.Written.{the, literal, calling_while, flag_named, number_named, sets, naturals, flags_of, stream}
+use Rattle.meaning_rows.specs.Written.{the, literal, calling_while, flag_named, number_named, sets, naturals, flags_of, stream, framed}
 
 -- node next(a : int) returns (o : int); let o = a + 1; tel
 -- node hold(c : bool; a : int) returns (h : int); let h = condact(c, next(a), 7); tel
@@ -32,20 +32,33 @@ uneven (suc (suc t)) = true
 -- next a |     -     -     3     -
 -- next o |     -     -     4     -
 abbrev pub hold_frame : Frame
-hold_frame = frame
+hold_frame =
+    frame
     (stream "c" (flag false ∷ absent ∷ flag true ∷ flag false ∷ [])
     ∷ stream "a" (natural 1 ∷ absent ∷ natural 3 ∷ natural 4 ∷ [])
     ∷ stream "h" (natural 7 ∷ absent ∷ natural 4 ∷ natural 4 ∷ [])
-    ∷ [])
-    []
-    (with_frame (frame (stream "a" (absent ∷ absent ∷ natural 3 ∷ absent ∷ []) ∷ stream "o" (absent ∷ absent ∷ natural 4 ∷ absent ∷ []) ∷ []) [] no_frames) no_frames)
+    ∷ []) []
+    (framed
+    (frame
+    (stream "a" (absent ∷ absent ∷ natural 3 ∷ absent ∷ [])
+    ∷ stream "o" (absent ∷ absent ∷ natural 4 ∷ absent ∷ [])
+    ∷ []) [] no_frames
+    ∷ []))
 
 -- without instant 1
 abbrev pub squeezed_frame : Frame
-squeezed_frame = frame
-    (stream "c" (flags_of (false ∷ true ∷ false ∷ [])) ∷ stream "a" (naturals (1 ∷ 3 ∷ 4 ∷ [])) ∷ stream "h" (naturals (7 ∷ 4 ∷ 4 ∷ [])) ∷ [])
-    []
-    (with_frame (frame (stream "a" (absent ∷ natural 3 ∷ absent ∷ []) ∷ stream "o" (absent ∷ natural 4 ∷ absent ∷ []) ∷ []) [] no_frames) no_frames)
+squeezed_frame =
+    frame
+    (stream "c" (flags_of (false ∷ true ∷ false ∷ []))
+    ∷ stream "a" (naturals (1 ∷ 3 ∷ 4 ∷ []))
+    ∷ stream "h" (naturals (7 ∷ 4 ∷ 4 ∷ []))
+    ∷ []) []
+    (framed
+    (frame
+    (stream "a" (absent ∷ natural 3 ∷ absent ∷ [])
+    ∷ stream "o" (absent ∷ natural 4 ∷ absent ∷ [])
+    ∷ []) [] no_frames
+    ∷ []))
 
 -- ---- the frame of a condact's call
 
@@ -62,4 +75,9 @@ middle (suc (suc (suc t))) = false
 
 -- a | 2 3, p | 3 4, q | 0 2
 abbrev pub pair_frame : Frame
-pair_frame = frame (stream "a" (naturals (2 ∷ 3 ∷ [])) ∷ stream "p" (naturals (3 ∷ 4 ∷ [])) ∷ stream "q" (naturals (0 ∷ 2 ∷ [])) ∷ []) (natural 6 ∷ []) no_frames
+pair_frame =
+    frame
+    (stream "a" (naturals (2 ∷ 3 ∷ []))
+    ∷ stream "p" (naturals (3 ∷ 4 ∷ []))
+    ∷ stream "q" (naturals (0 ∷ 2 ∷ []))
+    ∷ []) (natural 6 ∷ []) no_frames

@@ -3,12 +3,14 @@ use Rattle.std.specs.Prelude.{List, true, false, [], ◌∷◌, Some, None, code
 use Rattle.lus_tree.specs.declared.expression.Operator.TheVariants.{Add, Less}
 use Rattle.lus_tree.specs.Tree.{Component, Program, guarantee, declared_node, declared_contract}
 use Rattle.lus_meaning.specs.Value.{Value, absent, flag}
-use Rattle.lus_meaning.specs.Frame.{Frame, frame, no_frames, with_frame}
+use Rattle.lus_meaning.specs.Frame.{Frame, frame, no_frames}
 use Rattle.lus_meaning.specs.Scene.{Instance}
 use Rattle.lus_meaning.specs.Program.{instance_of}
-use Rattle.lus_meaning.specs.Trace.{Line}
+use Rattle.lus_meaning.specs.Run.{IsRun}
+use Rattle.lus_meaning.specs.Verdict.{throughout}
+use Rattle.lus_meaning.specs.Trace.{Line, IsFrameOf}
 use Rattle.meaning_rows.specs.RowParts.{declares, natural, lists_first}
-use Rattle.meaning_rows.specs.Written.{the, literal, previous, followed, combined, when_true, calling, flag_named, number_named, on, sets, sets_all, saying, importing, naturals, flags_of, stream, line}
+use Rattle.meaning_rows.specs.Written.{the, literal, previous, followed, combined, when_true, calling, flag_named, number_named, on, sets, sets_all, saying, importing, naturals, flags_of, stream, line, framed}
 
 -- node inner(a : int) returns (o : int); var f : int; let o = 0 -> pre a; tel
 -- f has no equation.
@@ -30,8 +32,12 @@ outer = declares (codes "outer") (number_named "a" ∷ []) (number_named "o" ∷
 
 -- node main(c : bool; x : int) returns (y, z : int); var s : int when c; let y, z = outer(x); s = inner(x when c); tel
 abbrev pub listing_node : Component
-listing_node = declares (codes "main") (flag_named "c" ∷ number_named "x" ∷ []) (number_named "y" ∷ number_named "z" ∷ []) (on "c" (number_named "s") ∷ []) None
-    (sets_all ("y" ∷ "z" ∷ []) (calling 1 "outer" (the "x" ∷ [])) ∷ sets "s" (calling 2 "inner" (when_true (the "x") "c" ∷ [])) ∷ [])
+listing_node =
+    declares (codes "main") (flag_named "c" ∷ number_named "x" ∷ []) (number_named "y" ∷ number_named "z" ∷ [])
+    (on "c" (number_named "s") ∷ []) None
+    (sets_all ("y" ∷ "z" ∷ []) (calling 1 "outer" (the "x" ∷ []))
+    ∷ sets "s" (calling 2 "inner" (when_true (the "x") "c" ∷ []))
+    ∷ [])
 
 abbrev pub listing_program : Program
 listing_program = declared_node inner ∷ declared_contract lim ∷ declared_node outer ∷ declared_node listing_node ∷ []
@@ -63,21 +69,35 @@ listing_lines = lines_with (naturals (1 ∷ 2 ∷ 3 ∷ []))
 
 -- g in 1, the first value in 1.1, f and the first value in 1.2, and both in 2
 abbrev pub listing_frame : List Value → Value → List Value → Value → List Value → Value → Frame
-listing_frame gs v fs w ks u = frame
+listing_frame gs v fs w ks u =
+    frame
     (stream "c" (flags_of (false ∷ true ∷ true ∷ []))
     ∷ stream "x" (naturals (1 ∷ 2 ∷ 3 ∷ []))
     ∷ stream "y" (naturals (1 ∷ 2 ∷ 3 ∷ []))
     ∷ stream "z" gs
     ∷ stream "s" (absent ∷ natural 0 ∷ natural 2 ∷ [])
-    ∷ [])
-    []
-    (with_frame
-    (frame (stream "a" (naturals (1 ∷ 2 ∷ 3 ∷ [])) ∷ stream "o" (naturals (1 ∷ 2 ∷ 3 ∷ [])) ∷ stream "g" gs ∷ []) []
-    (with_frame (frame (stream "b" (naturals (1 ∷ 2 ∷ 3 ∷ [])) ∷ stream "r" (naturals (1 ∷ 2 ∷ 3 ∷ [])) ∷ []) (v ∷ []) no_frames)
-    (with_frame (frame (stream "a" (naturals (1 ∷ 2 ∷ 3 ∷ [])) ∷ stream "o" (naturals (0 ∷ 1 ∷ 2 ∷ [])) ∷ stream "f" fs ∷ []) (w ∷ []) no_frames)
-    no_frames)))
-    (with_frame (frame (stream "a" (absent ∷ natural 2 ∷ natural 3 ∷ []) ∷ stream "o" (absent ∷ natural 0 ∷ natural 2 ∷ []) ∷ stream "f" ks ∷ []) (u ∷ []) no_frames)
-    no_frames))
+    ∷ []) []
+    (framed
+    (frame
+    (stream "a" (naturals (1 ∷ 2 ∷ 3 ∷ []))
+    ∷ stream "o" (naturals (1 ∷ 2 ∷ 3 ∷ []))
+    ∷ stream "g" gs
+    ∷ []) []
+    (framed
+    (frame (stream "b" (naturals (1 ∷ 2 ∷ 3 ∷ [])) ∷ stream "r" (naturals (1 ∷ 2 ∷ 3 ∷ [])) ∷ [])
+    (v ∷ []) no_frames
+    ∷ frame
+    (stream "a" (naturals (1 ∷ 2 ∷ 3 ∷ []))
+    ∷ stream "o" (naturals (0 ∷ 1 ∷ 2 ∷ []))
+    ∷ stream "f" fs
+    ∷ []) (w ∷ []) no_frames
+    ∷ []))
+    ∷ frame
+    (stream "a" (absent ∷ natural 2 ∷ natural 3 ∷ [])
+    ∷ stream "o" (absent ∷ natural 0 ∷ natural 2 ∷ [])
+    ∷ stream "f" ks
+    ∷ []) (u ∷ []) no_frames
+    ∷ []))
 
 abbrev pub g_values : List Value
 g_values = naturals (4 ∷ 5 ∷ 6 ∷ [])
@@ -93,7 +113,10 @@ listed_frame = listing_frame g_values (natural 7) f_values (natural 3) k_values 
 
 -- the output of the import, and an argument of a call
 abbrev pub lines_of_no_matter : List Line
-lines_of_no_matter = line (1 ∷ 1 ∷ []) "r" (naturals (9 ∷ 9 ∷ 9 ∷ [])) ∷ line (2 ∷ []) "a" (naturals (9 ∷ 9 ∷ 9 ∷ [])) ∷ listing_lines
+lines_of_no_matter =
+    line (1 ∷ 1 ∷ []) "r" (naturals (9 ∷ 9 ∷ 9 ∷ []))
+    ∷ line (2 ∷ []) "a" (naturals (9 ∷ 9 ∷ 9 ∷ []))
+    ∷ listing_lines
 
 -- frames that differ from it in one value
 abbrev pub other_output : Frame
@@ -109,7 +132,12 @@ abbrev pub other_first : Frame
 other_first = listing_frame g_values (natural 7) f_values (natural 4) k_values (natural 0)
 
 abbrev pub other_default : Frame
-other_default = listing_frame g_values (natural 7) f_values (natural 3) (absent ∷ natural 60 ∷ natural 1 ∷ []) (natural 0)
+other_default =
+    listing_frame g_values (natural 7) f_values (natural 3) (absent ∷ natural 60 ∷ natural 1 ∷ []) (natural 0)
 
 abbrev pub other_first_default : Frame
 other_first_default = listing_frame g_values (natural 7) f_values (natural 3) k_values (natural 1)
+
+-- a run that is not the frame of the trace
+abbrev pub IsOtherRun : Frame → Type 0
+IsOtherRun f = IsRun listing 3 throughout f × (IsFrameOf listing_lines listing 3 f → ⊥)

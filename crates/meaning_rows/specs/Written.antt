@@ -5,6 +5,7 @@ use Rattle.lus_tree.specs.declared.place.Sort.TheVariants.{Bool as Flags, Int as
 use Rattle.lus_tree.specs.declared.expression.Operator.{Operator}
 use Rattle.lus_tree.specs.Tree.{Name, Expression, Expressions, truth, number, name, negation, minus, pre, arrow, binary, choice, sampled, merged, call, condact, mode_name, no_more, more, Spelled, Variable, Constant, Labelled, Statement, equation, assertion, property, Clause, assume, guarantee, ghost_variable, constant, mode, «import», Component}
 use Rattle.lus_meaning.specs.Value.{Value, absent, flag, whole}
+use Rattle.lus_meaning.specs.Frame.{Frame, Frames, no_frames, with_frame}
 use Rattle.lus_meaning.specs.Trace.{Line}
 use Rattle.meaning_rows.specs.RowParts.{here, spelled, start, lists, lists_first, natural}
 
@@ -124,6 +125,11 @@ flags_of bs = map flag bs
 -- a stream of a frame
 abbrev pub stream : String → List Value → Name × List Value
 stream x vs = (codes x, vs)
+
+-- the frames of the calls, in the order of their numbers
+abbrev pub framed : List Frame → Frames
+framed [] = no_frames
+framed (f ∷ fs) = with_frame f (framed fs)
 
 -- ---- traces
 

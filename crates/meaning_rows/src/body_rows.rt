@@ -17,7 +17,8 @@ ghost use Rattle.meaning_rows.specs.BodyRows.{asserting, asserting_frame, assert
 pub fn toggle_row()
     ensures run { (v w : Bool) → IsRun toggle 3 throughout (toggle_frame v w) }
     ensures trace { (v w : Bool) → IsFrameOf (toggle_lines v w) toggle 3 (toggle_frame v w) }
-    ensures properties { (v w : Bool) → truths toggle 3 (toggle_frame v w) ≡ (flag true ∷ flag true ∷ flag true ∷ []) ∷ [] }
+    ensures properties { (v w : Bool) → truths toggle 3 (toggle_frame v w)
+        ≡ (flag true ∷ flag true ∷ flag true ∷ []) ∷ [] }
     ensures meets { (v w : Bool) → meetings toggle 3 (toggle_frame v w) ≡ true ∷ true ∷ true ∷ [] }
     ensures lawful { (v w : Bool) → IsLawful toggle throughout (toggle_frame v w) 2 }
 {}
@@ -25,7 +26,8 @@ pub fn toggle_row()
 /// In each run of it the output alternates, and the property holds.
 pub fn toggle_alternates()
     ensures start { (n : ℕ) (f : Frame) → IsRun toggle n throughout f → 0 < n → entry f (codes "x") 0 ≡ flag true }
-    ensures step { (n : ℕ) (f : Frame) (t : ℕ) → IsRun toggle n throughout f → suc t < n → entry f (codes "x") (suc t) ≡ not_value (entry f (codes "x") t) }
+    ensures step { (n : ℕ) (f : Frame) (t : ℕ) → IsRun toggle n throughout f → suc t < n → entry f (codes "x") (suc t)
+        ≡ not_value (entry f (codes "x") t) }
     ensures holds { (other : Property) → Holds toggle (property_at toggle 0 other) }
 {}
 
@@ -37,7 +39,8 @@ pub fn broken_row()
     ensures properties { truths output_checked 2 output_checked_frame ≡ (flag true ∷ flag false ∷ []) ∷ [] }
     ensures meets { meetings output_checked 2 output_checked_frame ≡ true ∷ true ∷ [] }
     ensures lawful { IsLawful output_checked throughout output_checked_frame 1 }
-    ensures breaks { (other : Property) → Breaks output_checked (property_at output_checked 0 other) output_checked_frame 1 }
+    ensures breaks { (other : Property) →
+        Breaks output_checked (property_at output_checked 0 other) output_checked_frame 1 }
     ensures label { map label_of (properties output_checked) ≡ codes "property @4:15" ∷ [] }
 {}
 

@@ -24,7 +24,8 @@ pub fn merge_of_clocks_row()
 pub fn held_output_row()
     ensures run { IsRun holding 3 throughout holding_frame }
     ensures trace { IsFrameOf holding_lines holding 3 holding_frame }
-    ensures properties { truths holding 3 holding_frame ≡ (flag true ∷ flag true ∷ flag true ∷ []) ∷ (flag true ∷ flag false ∷ flag false ∷ []) ∷ [] }
+    ensures properties { truths holding 3 holding_frame
+        ≡ (flag true ∷ flag true ∷ flag true ∷ []) ∷ (flag true ∷ flag false ∷ flag false ∷ []) ∷ [] }
     ensures meets { meetings holding 3 holding_frame ≡ true ∷ true ∷ true ∷ [] }
     ensures lawful { IsLawful holding throughout holding_frame 2 }
 {}

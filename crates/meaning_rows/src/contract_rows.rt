@@ -15,7 +15,8 @@ ghost use Rattle.meaning_rows.specs.ContractRows.{guarding, guarding_frame, guar
 pub fn import_row()
     ensures run { IsRun importing 3 throughout importing_frame }
     ensures trace { IsFrameOf importing_lines importing 3 importing_frame }
-    ensures kinds { kinds importing ≡ (body, []) ∷ (guaranteed, 1 ∷ []) ∷ (ensured (codes "rise"), 1 ∷ []) ∷ (one_mode_active, []) ∷ [] }
+    ensures kinds { kinds importing
+        ≡ (body, []) ∷ (guaranteed, 1 ∷ []) ∷ (ensured (codes "rise"), 1 ∷ []) ∷ (one_mode_active, []) ∷ [] }
     ensures properties { truths importing 3 importing_frame
         ≡ (flag false ∷ flag true ∷ flag false ∷ [])
         ∷ (flag true ∷ flag false ∷ flag true ∷ [])
@@ -33,7 +34,8 @@ pub fn callee_assumption_row()
     ensures run { IsRun guarding 3 throughout guarding_frame }
     ensures trace { IsFrameOf guarding_lines guarding 3 guarding_frame }
     ensures kinds { kinds guarding ≡ (body, []) ∷ (assumed, 1 ∷ []) ∷ [] }
-    ensures properties { truths guarding 3 guarding_frame ≡ (flag true ∷ flag false ∷ flag true ∷ []) ∷ (flag true ∷ flag false ∷ flag true ∷ []) ∷ [] }
+    ensures properties { truths guarding 3 guarding_frame
+        ≡ (flag true ∷ flag false ∷ flag true ∷ []) ∷ (flag true ∷ flag false ∷ flag true ∷ []) ∷ [] }
     ensures meets { meetings guarding 3 guarding_frame ≡ true ∷ true ∷ false ∷ [] }
     ensures lawful { IsLawful guarding throughout guarding_frame 1 }
     ensures lawless { IsLawful guarding throughout guarding_frame 2 → ⊥ }

@@ -25,8 +25,8 @@ mod trace_rows;
 pub use body_rows::{assertion_row, broken_row, free_name_row, toggle_alternates, toggle_row};
 pub use boolean_rows::{against_row, circle_row};
 pub use call_rows::{
-    calls_everywhere_row, deep_call_row, inner_condact_row, merge_branches_row, sampled_call_row, several_outputs_row,
-    slow_operands_row,
+    calls_everywhere_row, deep_call_row, inner_condact_row, merge_branches_row, sampled_call_row,
+    several_outputs_row, slow_operands_row,
 };
 pub use clock_rows::{held_output_row, merge_of_clocks_row, slow_pre_row};
 pub use constant_rows::constants_row;

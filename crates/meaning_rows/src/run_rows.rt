@@ -1,18 +1,15 @@
 //! Worked rows of what a run is, with the program of `specs/RunRows.antt`.
 
-ghost use Rattle.std.specs.Prelude.{[], ◌∷◌};
-ghost use Rattle.lus_meaning.specs.Value.{absent};
 ghost use Rattle.lus_meaning.specs.Run.{IsRun};
 ghost use Rattle.lus_meaning.specs.Verdict.{throughout};
-ghost use Rattle.meaning_rows.specs.RowParts.{natural};
-ghost use Rattle.meaning_rows.specs.RunRows.{running, running_frame, first_alone, next_alone, next_frame, equation, ghost_equation, callee, argument, inactive_argument, inactive_output, shared_output, other_type, absent_input, off_its_clock, absent_on_its_clock, first_of_other_type, too_few_firsts, too_many_firsts, too_long, other_name, too_few_calls, too_many_calls};
+ghost use Rattle.meaning_rows.specs.RunRows.{running, running_frame, first_alone, next_alone, alone_frame, alone_off_beat, equation, ghost_equation, callee, argument, inactive_argument, inactive_output, shared_output, other_type, absent_input, off_its_clock, absent_on_its_clock, first_of_other_type, too_few_firsts, too_many_firsts, too_long, other_name, too_few_calls, too_many_calls};
 
 /// A frame that is a run, and a run on a beat.
 pub fn run_row()
     ensures run { IsRun running 2 throughout running_frame }
-    ensures beat { IsRun next_alone 2 first_alone (next_frame (natural 1 ∷ absent ∷ []) (natural 2 ∷ absent ∷ [])) }
-    ensures input_off_beat { IsRun next_alone 2 first_alone (next_frame (natural 1 ∷ natural 1 ∷ []) (natural 2 ∷ absent ∷ [])) → ⊥ }
-    ensures absent_on_beat { IsRun next_alone 2 throughout (next_frame (natural 1 ∷ absent ∷ []) (natural 2 ∷ absent ∷ [])) → ⊥ }
+    ensures beat { IsRun next_alone 2 first_alone alone_frame }
+    ensures input_off_beat { IsRun next_alone 2 first_alone alone_off_beat → ⊥ }
+    ensures absent_on_beat { IsRun next_alone 2 throughout alone_frame → ⊥ }
 {}
 
 /// An equation of the node, of an import and of a callee holds, and a callee has its arguments where it is active.

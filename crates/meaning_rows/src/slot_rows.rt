@@ -15,8 +15,10 @@ ghost use Rattle.meaning_rows.specs.SlotRows.{signs, two_calls_signs, held_pair_
 /// A call under a condition has what it holds before its frame, in the caller's frame. An import's frame has no
 /// assumptions of its own to keep.
 pub fn layout_row()
-    ensures held { map (λ s. s.path) (slots holding) ≡ [] ∷ [] ∷ [] ∷ [] ∷ [] ∷ [] ∷ (1 ∷ []) ∷ (1 ∷ []) ∷ (1 ∷ []) ∷ [] }
-    ensures sorts { map (λ s. s.sort) (slots holding) ≡ Flags ∷ Flags ∷ Numbers ∷ Numbers ∷ Flags ∷ Numbers ∷ Flags ∷ Numbers ∷ Numbers ∷ [] }
+    ensures held { map (λ s. s.path) (slots holding)
+        ≡ [] ∷ [] ∷ [] ∷ [] ∷ [] ∷ [] ∷ (1 ∷ []) ∷ (1 ∷ []) ∷ (1 ∷ []) ∷ [] }
+    ensures sorts { map (λ s. s.sort) (slots holding)
+        ≡ Flags ∷ Flags ∷ Numbers ∷ Numbers ∷ Flags ∷ Numbers ∷ Flags ∷ Numbers ∷ Numbers ∷ [] }
     ensures width { width importing ≡ 10 }
 {}
 

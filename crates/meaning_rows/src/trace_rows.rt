@@ -1,11 +1,9 @@
 //! Worked rows of the frame of a trace, with the program of `specs/TraceRows.antt`.
 
 ghost use Rattle.std.specs.Prelude.{[], ◌∷◌};
-ghost use Rattle.lus_meaning.specs.Run.{IsRun};
-ghost use Rattle.lus_meaning.specs.Verdict.{throughout};
 ghost use Rattle.lus_meaning.specs.Trace.{IsFrameOf};
 ghost use Rattle.meaning_rows.specs.Written.{naturals};
-ghost use Rattle.meaning_rows.specs.TraceRows.{listing, listing_lines, lines_with, lines_of_no_matter, listed_frame, other_output, other_first_in_import, other_local, other_first, other_default, other_first_default};
+ghost use Rattle.meaning_rows.specs.TraceRows.{listing, listing_lines, lines_with, lines_of_no_matter, listed_frame, IsOtherRun, other_output, other_first_in_import, other_local, other_first, other_default, other_first_default};
 
 /// The lines of a trace give the free names and the first values of the frames of calls, by the calls on the way. What
 /// they list of an import's output or of an argument is no matter.
@@ -17,10 +15,10 @@ pub fn nested_trace_row()
 
 /// A run with another free value or another first value is not the frame of the trace.
 pub fn other_frame_row()
-    ensures other_output { IsRun listing 3 throughout other_output × (IsFrameOf listing_lines listing 3 other_output → ⊥) }
-    ensures other_first_in_import { IsRun listing 3 throughout other_first_in_import × (IsFrameOf listing_lines listing 3 other_first_in_import → ⊥) }
-    ensures other_local { IsRun listing 3 throughout other_local × (IsFrameOf listing_lines listing 3 other_local → ⊥) }
-    ensures other_first { IsRun listing 3 throughout other_first × (IsFrameOf listing_lines listing 3 other_first → ⊥) }
-    ensures other_default { IsRun listing 3 throughout other_default × (IsFrameOf listing_lines listing 3 other_default → ⊥) }
-    ensures other_first_default { IsRun listing 3 throughout other_first_default × (IsFrameOf listing_lines listing 3 other_first_default → ⊥) }
+    ensures other_output { IsOtherRun other_output }
+    ensures other_first_in_import { IsOtherRun other_first_in_import }
+    ensures other_local { IsOtherRun other_local }
+    ensures other_first { IsOtherRun other_first }
+    ensures other_default { IsOtherRun other_default }
+    ensures other_first_default { IsOtherRun other_first_default }
 {}

@@ -9,9 +9,19 @@ returns-clause-fits c = record {
   some = omega arith;
   few = omega arith;
   lines = record {
-    taken =
-        (record { count = refl; each = (refl, (refl, (refl, tt))) }, (record { count = refl; each = (refl, (refl, (refl, tt))) }, (record { count = refl; each = (refl, (refl, (refl, tt))) }, (record { count = refl; each = (refl, tt) },
-        (record { count = refl; each = (refl, (refl, (refl, tt))) }, (record { count = refl; each = (refl, tt) }, (record { count = refl; each = (refl, (refl, (refl, tt))) }, tt)))))));
+    taken = (
+      record { count = refl; each = (refl, (refl, (refl, tt))) },
+      (
+        record { count = refl; each = (refl, (refl, (refl, tt))) },
+        (
+          record { count = refl; each = (refl, (refl, (refl, tt))) },
+          (
+            record { count = refl; each = (refl, tt) },
+            (record { count = refl; each = (refl, (refl, (refl, tt))) }, (record { count = refl; each = (refl, tt) }, (record { count = refl; each = (refl, (refl, (refl, tt))) }, tt))),
+          ),
+        ),
+      ),
+    );
     once = (refl, (refl, (refl, (refl, (refl, (refl, (refl, tt)))))));
     given = (refl, (refl, tt));
   };

@@ -50,4 +50,3 @@ returns-clause-turned c r = no_way needing 9 (codes "r") (codes "a") refl refl r
 
 pub returns-clause-input : goal.returns-clause-input
 returns-clause-input c r = no_way needing 9 (codes "r") (codes "c") refl refl r
-
