@@ -2,7 +2,6 @@
 use Rattle.std.proofs.Common.{◌≡◌, ℕ, zero, suc, ◌<◌, false, [], ◌∷◌, refl, arith, codes, Some}
 use Rattle.std.proofs.lemmas.Bool.{false≢true}
 use Rattle.lus_tree.specs.Tree.{declared_node}
-use Rattle.lus_meaning.specs.Program.{instance_of}
 use Rattle.lus_meaning.specs.Run.{equations}
 use Rattle.lus_meaning.specs.Cycle.{NoCycle}
 use Rattle.lus_meaning.specs.WellMade.{AreDistinct}

@@ -2,7 +2,7 @@
 use Rattle.std.proofs.Common.{◌≡◌, ℕ, zero, suc, ◌<◌, false, true, [], ◌∷◌, Some, codes, refl, arith}
 use Rattle.std.proofs.lemmas.Bool.{false≢true}
 use Rattle.lus_meaning.specs.Run.{equations}
-use Rattle.lus_meaning.specs.Order.{is_listed, IsReady, AreReady, AreNext, IsOrder, NeedsEquation, IsLeastEquationOrder}
+use Rattle.lus_meaning.specs.Order.{is_listed, IsReady, IsOrder, NeedsEquation, IsLeastEquationOrder}
 use Rattle.lus_meaning.proofs.Orders.{distinct-cons, no_numbers}
 use Rattle.meaning_rows.specs.NeedRows.{chained, chained_node}
 use Rattle.meaning_rows.proofs.Ways.{at_name, by_way, no_way}

@@ -1,7 +1,7 @@
 -- A worked row of constants: those of the program, of a contract and of a node, each defined by those before it.
-use Rattle.std.specs.Prelude.{List, true, false, [], ◌∷◌, Some, None, codes}
+use Rattle.std.specs.Prelude.{true, false, [], ◌∷◌, Some, None, codes}
 use Rattle.lus_tree.specs.declared.expression.Operator.TheVariants.{Less, More, Add, Mul}
-use Rattle.lus_tree.specs.Tree.{Constant, Component, guarantee, constant, declared_constant, declared_node}
+use Rattle.lus_tree.specs.Tree.{Component, guarantee, constant, declared_constant, declared_node}
 use Rattle.lus_meaning.specs.Value.{absent}
 use Rattle.lus_meaning.specs.Frame.{Frame, frame, no_frames}
 use Rattle.lus_meaning.specs.Scene.{Instance}

@@ -1,10 +1,9 @@
 -- Worked rows of when a trace fits, over the program of `TraceRows.antt`, whose trace lists values in the frames of calls.
 use Prim.Native.String.{String}
-use Rattle.std.specs.Prelude.{ℕ, suc, List, true, false, [], ◌∷◌, ◌++◌, map, take, drop, Option, Some, codes}
+use Rattle.std.specs.Prelude.{ℕ, suc, List, true, false, [], ◌∷◌, ◌++◌, map, take, drop, Option, codes}
 use Rattle.lus_tree.specs.declared.place.Pos.{Pos}
-use Rattle.lus_tree.specs.Tree.{Name}
 use Rattle.lus_meaning.specs.Value.{Value, absent, flag}
-use Rattle.lus_meaning.specs.Trace.{Subject, of_name, of_first}
+use Rattle.lus_meaning.specs.Trace.{of_name, of_first}
 use Rattle.lus_meaning.specs.TraceView.{PlacedValue, PlacedLine, Listing}
 use Rattle.lus_meaning.specs.Fits.{misfit}
 use Rattle.meaning_rows.specs.RowParts.{natural}

@@ -1,9 +1,9 @@
 -- A worked row of the items of contracts: imports of imports, a plain call and a condact of a node with a contract, and the name
 -- of each property.
-use Rattle.std.specs.Prelude.{ℕ, List, true, false, [], ◌∷◌, Some, None, codes}
+use Rattle.std.specs.Prelude.{ℕ, List, true, false, [], ◌∷◌, Some, codes}
 use Rattle.lus_tree.specs.declared.expression.Operator.TheVariants.{And, Less, Equal, Differs, More, Add, Sub}
-use Rattle.lus_tree.specs.Tree.{Place, binary, name, Component, property, assume, guarantee, declared_node, declared_contract, Program}
-use Rattle.lus_meaning.specs.Value.{Value, absent, flag}
+use Rattle.lus_tree.specs.Tree.{Place, binary, Component, property, assume, guarantee, declared_node, declared_contract, Program}
+use Rattle.lus_meaning.specs.Value.{Value, absent}
 use Rattle.lus_meaning.specs.Frame.{Frame, frame, no_frames}
 use Rattle.lus_meaning.specs.Scene.{Instance}
 use Rattle.lus_meaning.specs.Program.{instance_of}

@@ -1,5 +1,5 @@
 -- Worked rows of what a run is: a program with a frame that is a run, and frames that differ from it in one thing and are none.
-use Rattle.std.specs.Prelude.{zero, suc, List, true, false, [], ◌∷◌, Some, None, codes}
+use Rattle.std.specs.Prelude.{zero, suc, List, true, false, [], ◌∷◌, Some, codes}
 use Rattle.lus_tree.specs.declared.expression.Operator.TheVariants.{Less}
 use Rattle.lus_tree.specs.Tree.{Name, Component, guarantee, ghost_variable, declared_node, declared_contract}
 use Rattle.lus_meaning.specs.Value.{Value, absent, flag, Instants}

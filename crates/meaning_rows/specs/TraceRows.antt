@@ -2,7 +2,7 @@
 use Rattle.std.specs.Prelude.{List, true, false, [], ◌∷◌, Some, None, codes}
 use Rattle.lus_tree.specs.declared.expression.Operator.TheVariants.{Add, Less}
 use Rattle.lus_tree.specs.Tree.{Component, Program, guarantee, declared_node, declared_contract}
-use Rattle.lus_meaning.specs.Value.{Value, absent, flag}
+use Rattle.lus_meaning.specs.Value.{Value, absent}
 use Rattle.lus_meaning.specs.Frame.{Frame, frame, no_frames}
 use Rattle.lus_meaning.specs.Scene.{Instance}
 use Rattle.lus_meaning.specs.Program.{instance_of}

@@ -1,13 +1,13 @@
 -- Programs, frames and traces as the rows write them: names as texts, without places.
 use Prim.Native.String.{String}
-use Rattle.std.specs.Prelude.{ℕ, Bool, true, false, List, [], ◌∷◌, map, Option, Some, None, codes, pos, neg_ℤ}
+use Rattle.std.specs.Prelude.{ℕ, Bool, true, false, List, [], ◌∷◌, map, Some, None, codes, pos, neg_ℤ}
 use Rattle.lus_tree.specs.declared.place.Sort.TheVariants.{Bool as Flags, Int as Numbers}
 use Rattle.lus_tree.specs.declared.expression.Operator.{Operator}
-use Rattle.lus_tree.specs.Tree.{Name, Expression, Expressions, truth, number, name, negation, minus, pre, arrow, binary, choice, sampled, merged, call, condact, mode_name, no_more, more, Spelled, Variable, Constant, Labelled, Statement, equation, assertion, property, Clause, assume, guarantee, ghost_variable, constant, mode, «import», Component}
-use Rattle.lus_meaning.specs.Value.{Value, absent, flag, whole}
+use Rattle.lus_tree.specs.Tree.{Name, Expression, Expressions, truth, number, name, negation, minus, pre, arrow, binary, choice, sampled, merged, call, condact, mode_name, no_more, more, Variable, Constant, Labelled, Statement, equation, property, Clause, mode, «import», Component}
+use Rattle.lus_meaning.specs.Value.{Value, flag, whole}
 use Rattle.lus_meaning.specs.Frame.{Frame, Frames, no_frames, with_frame}
 use Rattle.lus_meaning.specs.Trace.{Line}
-use Rattle.meaning_rows.specs.RowParts.{here, spelled, start, lists, lists_first, natural}
+use Rattle.meaning_rows.specs.RowParts.{here, spelled, start, lists, natural}
 
 -- ---- expressions
 

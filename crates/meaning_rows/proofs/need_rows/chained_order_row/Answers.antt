@@ -1,4 +1,3 @@
-use Rattle.std.proofs.Common.{[], ◌∷◌, refl}
 use Rattle.meaning_rows.proofs.Chained.{chained_order}
 use Rattle.meaning_rows.proofs.need_rows.chained_order_row.Goals as goal
 

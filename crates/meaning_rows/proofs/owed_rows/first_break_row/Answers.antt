@@ -1,4 +1,4 @@
-use Rattle.std.proofs.Common.{rules, ◌≡◌, true, false, ◌<◌, ap, arith}
+use Rattle.std.proofs.Common.{rules, ◌≡◌, true, false, ap, arith}
 use Rattle.std.proofs.lemmas.Bool.{false≢true}
 use Rattle.lus_meaning.specs.Value.{flag, is}
 use Rattle.lus_meaning.specs.Run.{IsRun}
