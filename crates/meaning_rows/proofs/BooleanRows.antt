@@ -1,7 +1,8 @@
 -- The worked rows of the Boolean language.
-use Rattle.std.proofs.Common.{◌≡◌, ℕ, zero, suc, ◌<◌, false, [], ◌∷◌, refl, arith, codes, Some}
+use Rattle.std.proofs.Common.{◌≡◌, ℕ, zero, suc, ◌<◌, false, true, [], ◌∷◌, refl, arith, codes, Some}
 use Rattle.std.proofs.lemmas.Bool.{false≢true}
 use Rattle.lus_tree.specs.Tree.{declared_node}
+use Rattle.lus_tree.specs.Numbers.{Counted, a_pre, an_arrow, a_call, are_counted, numbers_in}
 use Rattle.lus_meaning.specs.Run.{equations}
 use Rattle.lus_meaning.specs.Cycle.{NoCycle}
 use Rattle.lus_meaning.specs.WellMade.{AreDistinct}
@@ -55,6 +56,11 @@ against_order = least_needed against_node against_shape lefts_once (1 ∷ 0 ∷ 
 pub against_within : IsWithinCounts (declared_node against_node ∷ []) against_node
 against_within = record { names = omega arith; properties = omega arith; variables = omega arith }
 
+against_counted : (c : Counted) → are_counted (numbers_in c against_node) ≡ true
+against_counted a_pre = refl
+against_counted an_arrow = refl
+against_counted a_call = refl
+
 pub against_checked : IsBooleanChecked (declared_node against_node ∷ []) against_node
 against_checked = record {
   one_node = refl;
@@ -70,7 +76,7 @@ against_checked = record {
     labels = (refl, tt);
     no_cycle = listed_no_cycle against_node against_shape (1 ∷ 0 ∷ []) against_next refl;
   };
-  numbered = record { pres = refl; arrows = refl; calls = refl };
+  numbered = record { each = against_counted };
 }
 
 -- x = not y

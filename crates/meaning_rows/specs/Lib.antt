@@ -21,3 +21,4 @@ pub mod NeedRows
 pub mod FitRows
 pub mod SortRows
 pub mod SlotRows
+pub mod NumberRows

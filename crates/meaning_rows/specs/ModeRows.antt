@@ -1,7 +1,7 @@
 -- Worked rows of modes: requires and ensures, one mode active, `::m`, and `pre` in a mode.
 use Rattle.std.specs.Prelude.{true, false, [], ◌∷◌, Some, None, codes}
-use Rattle.lus_tree.specs.declared.expression.Operator.TheVariants.{And, Less, Equal, More}
-use Rattle.lus_tree.specs.Tree.{Component, declared_node}
+use Rattle.lus_tree.specs.declared.expression.Operator.TheVariants.{Or, And, Less, Equal, More}
+use Rattle.lus_tree.specs.Tree.{Component, guarantee, declared_node}
 use Rattle.lus_meaning.specs.Value.{absent, flag}
 use Rattle.lus_meaning.specs.Frame.{Frame, frame, no_frames}
 use Rattle.lus_meaning.specs.Scene.{Instance}
@@ -14,7 +14,7 @@ use Rattle.meaning_rows.specs.Written.{the, literal, truth_of, previous, combine
 -- node main(a, b : int) returns (o : int);
 -- (*@contract
 --   mode up (require a > 0; require b > 0; require o < 3; ensure "e" o > 0; ensure "f" o > 1;);
---   mode down (require a < 0;); mode zero (require a = 0;);
+--   mode down (require a < 0;); mode zero (require a = 0; ensure "d" ::down;); guarantee "g" ::down or ::up;
 -- *)
 -- let o = b; check "up" ::up; tel
 --   a      |     1     1    -1     0     1
@@ -24,6 +24,8 @@ use Rattle.meaning_rows.specs.Written.{the, literal, truth_of, previous, combine
 --   zero   | false false false  true false
 --   e      |  true  true  true  true  true      o > 0 is true, false, true, true, true
 --   f      | false  true  true  true  true      o > 1 is false, false, true, false, true
+--   d      |  true  true  true false  true      asked where zero is active
+--   g      |  true false  true false false
 --   active |  true false  true  true false      up, down or zero
 abbrev pub three_modes_node : Component
 three_modes_node = declares (codes "main") (number_named "a" ∷ number_named "b" ∷ []) (number_named "o" ∷ []) []
@@ -35,7 +37,8 @@ three_modes_node = declares (codes "main") (number_named "a" ∷ number_named "b
     ∷ [])
     (saying "e" (combined More (the "o") (literal 0)) ∷ saying "f" (combined More (the "o") (literal 1)) ∷ [])
     ∷ mode_named "down" (unlabelled (combined Less (the "a") (literal 0)) ∷ []) []
-    ∷ mode_named "zero" (unlabelled (combined Equal (the "a") (literal 0)) ∷ []) []
+    ∷ mode_named "zero" (unlabelled (combined Equal (the "a") (literal 0)) ∷ []) (saying "d" (own_mode "down") ∷ [])
+    ∷ guarantee (saying "g" (combined Or (own_mode "down") (own_mode "up")))
     ∷ []))
     (sets "o" (the "b") ∷ checked "up" (own_mode "up") ∷ [])
 

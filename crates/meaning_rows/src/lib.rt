@@ -12,6 +12,7 @@ mod fit_rows;
 mod item_rows;
 mod mode_rows;
 mod need_rows;
+mod number_rows;
 mod operator_rows;
 mod owed_rows;
 mod refusal_rows;
@@ -35,6 +36,7 @@ pub use fit_rows::{fitting_row, places_misfit_row, values_misfit_row, words_misf
 pub use item_rows::{items_row, label_row};
 pub use mode_rows::{empty_mode_row, mode_memory_row, three_modes_row};
 pub use need_rows::{chained_order_row, circles_row, late_circle_row, needs_row};
+pub use number_rows::{first_token_row, numbered_row, unnumbered_row};
 pub use operator_rows::{division_row, flag_row, number_row, operand_row, order_row};
 pub use owed_rows::{
     breaks_row, deep_assertion_row, direct_caller_row, end_row, first_break_row, impossible_row,

@@ -1,8 +1,9 @@
-use Rattle.std.proofs.Common.{refl, get_or, Some, None, codes}
+use Rattle.std.proofs.Common.{◌≡◌, true, refl, get_or, Some, None, codes}
 use Rattle.lus_tree.specs.Reason.{main_unknown, too_many}
 use Rattle.lus_meaning.specs.Faults.{fault}
 use Rattle.lus_meaning.specs.Limits.{size_faults}
 use Rattle.lus_tree.specs.Tree.{Component}
+use Rattle.lus_tree.specs.Numbers.{Counted, a_pre, an_arrow, a_call, are_counted, numbers_in}
 use Rattle.lus_meaning.specs.Scene.{no_component}
 use Rattle.lus_meaning.specs.ClockFaults.{components}
 use Rattle.lus_meaning.specs.Grammatical.{IsGrammaticalComponent}
@@ -27,11 +28,21 @@ late_part = get_or (components late_argument) 0 no_component
 abbrev late_main : Component
 late_main = get_or (components late_argument) 1 no_component
 
+part_counted : (c : Counted) → are_counted (numbers_in c late_part) ≡ true
+part_counted a_pre = refl
+part_counted an_arrow = refl
+part_counted a_call = refl
+
+main_counted : (c : Counted) → are_counted (numbers_in c late_main) ≡ true
+main_counted a_pre = refl
+main_counted an_arrow = refl
+main_counted a_call = refl
+
 part_is_plain : IsGrammaticalComponent late_part
-part_is_plain = record { name = refl; names = refl; modes = refl; clocks = refl; forms = refl; lefts = refl; labels = refl; numbered = record { pres = refl; arrows = refl; calls = refl } }
+part_is_plain = record { name = refl; names = refl; modes = refl; clocks = refl; forms = refl; lefts = refl; labels = refl; numbered = record { each = part_counted } }
 
 main_is_plain : IsGrammaticalComponent late_main
-main_is_plain = record { name = refl; names = refl; modes = refl; clocks = refl; forms = refl; lefts = refl; labels = refl; numbered = record { pres = refl; arrows = refl; calls = refl } }
+main_is_plain = record { name = refl; names = refl; modes = refl; clocks = refl; forms = refl; lefts = refl; labels = refl; numbered = record { each = main_counted } }
 
 pub returns-clause-grammatical : goal.returns-clause-grammatical
 returns-clause-grammatical c = (part_is_plain, (main_is_plain, tt))
