@@ -1,3 +1,3 @@
 pub mod BooleanRows
 pub mod Ways
-pub mod Chained
+pub mod EquationOrders

@@ -148,3 +148,12 @@ chained_node =
 
 abbrev pub chained : Instance
 chained = instance_of (declared_node next ∷ declared_node chained_node ∷ []) chained_node
+
+-- node main(x : int) returns (p, q : int); let p = x; q = -x; tel
+abbrev pub apart_node : Component
+apart_node =
+    declares (codes "main") (number_named "x" ∷ []) (number_named "p" ∷ number_named "q" ∷ []) [] None
+    (sets "p" (the "x") ∷ sets "q" (opposite (the "x")) ∷ [])
+
+abbrev pub apart : Instance
+apart = instance_of (declared_node apart_node ∷ []) apart_node

@@ -35,7 +35,7 @@ pub use contract_rows::{callee_assumption_row, import_row};
 pub use fit_rows::{fitting_row, places_misfit_row, values_misfit_row, words_misfit_row};
 pub use item_rows::{items_row, label_row};
 pub use mode_rows::{empty_mode_row, mode_memory_row, three_modes_row};
-pub use need_rows::{chained_order_row, circles_row, late_circle_row, needs_row};
+pub use need_rows::{chained_order_row, circles_row, late_circle_row, least_order_row, needs_row};
 pub use number_rows::{first_token_row, numbered_row, unnumbered_row};
 pub use operator_rows::{division_row, flag_row, number_row, operand_row, order_row};
 pub use owed_rows::{

@@ -4,9 +4,9 @@ ghost use Rattle.std.specs.Prelude.{[], ◌∷◌, codes};
 ghost use Rattle.lus_meaning.specs.Run.{equations};
 ghost use Rattle.lus_meaning.specs.Depends.{Rank, IsRanked};
 ghost use Rattle.lus_meaning.specs.Cycle.{NoCycle, Reaches};
-ghost use Rattle.lus_meaning.specs.Order.{IsLeastEquationOrder};
+ghost use Rattle.lus_meaning.specs.Order.{IsEquationOrder, IsLeastEquationOrder};
 ghost use Rattle.meaning_rows.specs.Loops.{direct, late, late_rank};
-ghost use Rattle.meaning_rows.specs.NeedRows.{needing, import_mode_circle, late_mode, own_mode_circle, condition_circle, argument_circle, merge_circle, clocked, chained, chained_node};
+ghost use Rattle.meaning_rows.specs.NeedRows.{needing, import_mode_circle, late_mode, own_mode_circle, condition_circle, argument_circle, merge_circle, clocked, chained, chained_node, apart, apart_node};
 
 /// `x = d(x) + 1` has a rank where d's output is late, and none where it is not.
 pub fn late_circle_row()
@@ -49,7 +49,19 @@ pub fn circles_row()
     ensures no_clock { Reaches clocked (codes "y" ∷ []) (codes "s" ∷ []) → ⊥ }
 {}
 
-/// Equations in the order against their text, by a call and a condact.
+/// Equations in the order against their text, by a call and a condact. In an order each equation stands once, after
+/// those that it needs.
 pub fn chained_order_row()
+    ensures turned { IsEquationOrder chained (equations chained_node) (1 ∷ 2 ∷ 0 ∷ []) → ⊥ }
+    ensures too_few { IsEquationOrder chained (equations chained_node) (2 ∷ 1 ∷ []) → ⊥ }
+    ensures twice { IsEquationOrder chained (equations chained_node) (2 ∷ 1 ∷ 0 ∷ 0 ∷ []) → ⊥ }
+    ensures another { IsEquationOrder chained (equations chained_node) (2 ∷ 1 ∷ 0 ∷ 3 ∷ []) → ⊥ }
     ensures order { IsLeastEquationOrder chained (equations chained_node) (2 ∷ 1 ∷ 0 ∷ []) }
+{}
+
+/// Of two equations that do not need each other both orders are orders, and that of the text is the least one.
+pub fn least_order_row()
+    ensures least { IsLeastEquationOrder apart (equations apart_node) (0 ∷ 1 ∷ []) }
+    ensures order { IsEquationOrder apart (equations apart_node) (1 ∷ 0 ∷ []) }
+    ensures not_least { IsLeastEquationOrder apart (equations apart_node) (1 ∷ 0 ∷ []) → ⊥ }
 {}
