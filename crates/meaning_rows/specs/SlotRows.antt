@@ -1,9 +1,12 @@
 -- Worked rows of the layout: what the variables of a system stand for, in their order.
 use Prim.Native.String.{String}
-use Rattle.std.specs.Prelude.{ℕ, List, [], ◌∷◌, ◌++◌, map, codes}
-use Rattle.lus_tree.specs.Tree.{Name}
+use Rattle.std.specs.Prelude.{ℕ, List, [], ◌∷◌, ◌++◌, map, Some, codes}
+use Rattle.lus_tree.specs.Tree.{Name, Component, declared_node}
 use Rattle.lus_meaning.specs.Scene.{Instance}
+use Rattle.lus_meaning.specs.Program.{instance_of}
 use Rattle.lus_meaning.specs.Slots.{Cell, beat_cell, name_cell, memory_cell, start_cell, sofar_cell, held_cell, slots}
+use Rattle.meaning_rows.specs.RowParts.{declares}
+use Rattle.meaning_rows.specs.Written.{the, number_named, sets}
 
 -- A cell by a word and a number: a name, `#` and `>` with the number of the `pre` and of the `->`, and a held output with
 -- the number of its call.
@@ -79,3 +82,10 @@ abbrev pub mode_memory_signs : List (List ℕ × Sign)
 mode_memory_signs =
     words [] ("beat" ∷ "a" ∷ "b" ∷ "o" ∷ [])
     ++ (numbered [] "#" 1 ∷ numbered [] "#" 2 ∷ numbered [] "#" 3 ∷ numbered [] "#" 4 ∷ words [] ("sofar" ∷ []))
+
+-- node main(x : int) returns (y : int); (*@contract *) let y = x; tel
+abbrev pub empty_contract : Component
+empty_contract = declares (codes "main") (number_named "x" ∷ []) (number_named "y" ∷ []) [] (Some []) (sets "y" (the "x") ∷ [])
+
+abbrev pub with_empty_contract : Instance
+with_empty_contract = instance_of (declared_node empty_contract ∷ []) empty_contract

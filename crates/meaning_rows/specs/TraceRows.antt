@@ -10,7 +10,7 @@ use Rattle.lus_meaning.specs.Run.{IsRun}
 use Rattle.lus_meaning.specs.Verdict.{throughout}
 use Rattle.lus_meaning.specs.Trace.{Line, IsFrameOf}
 use Rattle.meaning_rows.specs.RowParts.{declares, natural, lists_first}
-use Rattle.meaning_rows.specs.Written.{the, literal, previous, followed, combined, when_true, calling, flag_named, number_named, on, sets, sets_all, saying, importing, naturals, flags_of, stream, line, framed}
+use Rattle.meaning_rows.specs.Written.{the, literal, previous, followed, combined, when_true, calling, calling_while, flag_named, number_named, on, sets, sets_all, saying, importing, naturals, flags_of, stream, line, framed}
 
 -- node inner(a : int) returns (o : int); var f : int; let o = 0 -> pre a; tel
 -- f has no equation.
@@ -30,13 +30,15 @@ outer = declares (codes "outer") (number_named "a" ∷ []) (number_named "o" ∷
     (Some (importing 1 "lim" (the "a" ∷ []) ("o" ∷ []) ∷ []))
     (sets "o" (combined Add (calling 2 "inner" (the "a" ∷ [])) (literal 1)) ∷ [])
 
--- node main(c : bool; x : int) returns (y, z : int); var s : int when c; let y, z = outer(x); s = inner(x when c); tel
+-- node main(c : bool; x : int) returns (y, z, u : int); var s : int when c;
+-- let y, z = outer(x); s = inner(x when c); u = condact(c, inner(x), 9); tel
 abbrev pub listing_node : Component
 listing_node =
-    declares (codes "main") (flag_named "c" ∷ number_named "x" ∷ []) (number_named "y" ∷ number_named "z" ∷ [])
+    declares (codes "main") (flag_named "c" ∷ number_named "x" ∷ []) (number_named "y" ∷ number_named "z" ∷ number_named "u" ∷ [])
     (on "c" (number_named "s") ∷ []) None
     (sets_all ("y" ∷ "z" ∷ []) (calling 1 "outer" (the "x" ∷ []))
     ∷ sets "s" (calling 2 "inner" (when_true (the "x") "c" ∷ []))
+    ∷ sets "u" (calling_while 3 (the "c") "inner" (the "x" ∷ []) (literal 9 ∷ []))
     ∷ [])
 
 abbrev pub listing_program : Program
@@ -49,10 +51,12 @@ listing = instance_of listing_program listing_node
 -- x               |     1     2     3
 -- y               |     1     2     3      outer of x: 1 more than the last x, and 1 at first
 -- z, g in 1       |     4     5     6
+-- u               |     9     0     2
 -- s               |     -     0     2
 -- f in 1.2        |    10    20    30
 -- f in 2          |     -    60     0      the frame is not active at 0, and at 2 the trace lists no value
--- The first values are 7 in 1.1, 3 in 1.2, and 0 in 2, where the trace lists none.
+-- f in 3          |     -    80    90
+-- The first values are 7 in 1.1, 3 in 1.2, and 0 in 2 and in 3, where the trace lists none.
 abbrev pub lines_with : List Value → List Line
 lines_with xs =
     line [] "c" (flags_of (false ∷ true ∷ true ∷ []))
@@ -62,19 +66,21 @@ lines_with xs =
     ∷ line (1 ∷ 2 ∷ []) "f" (naturals (10 ∷ 20 ∷ 30 ∷ []))
     ∷ lists_first (1 ∷ 2 ∷ []) 1 (natural 3)
     ∷ line (2 ∷ []) "f" (natural 50 ∷ natural 60 ∷ absent ∷ [])
+    ∷ line (3 ∷ []) "f" (naturals (70 ∷ 80 ∷ 90 ∷ []))
     ∷ []
 
 abbrev pub listing_lines : List Line
 listing_lines = lines_with (naturals (1 ∷ 2 ∷ 3 ∷ []))
 
--- g in 1, the first value in 1.1, f and the first value in 1.2, and both in 2
-abbrev pub listing_frame : List Value → Value → List Value → Value → List Value → Value → Frame
-listing_frame gs v fs w ks u =
+-- g in 1, the first value in 1.1, f and the first value in 1.2, both in 2, and f in 3
+abbrev pub listing_frame : List Value → Value → List Value → Value → List Value → Value → List Value → Frame
+listing_frame gs v fs w ks u hs =
     frame
     (stream "c" (flags_of (false ∷ true ∷ true ∷ []))
     ∷ stream "x" (naturals (1 ∷ 2 ∷ 3 ∷ []))
     ∷ stream "y" (naturals (1 ∷ 2 ∷ 3 ∷ []))
     ∷ stream "z" gs
+    ∷ stream "u" (naturals (9 ∷ 0 ∷ 2 ∷ []))
     ∷ stream "s" (absent ∷ natural 0 ∷ natural 2 ∷ [])
     ∷ []) []
     (framed
@@ -97,6 +103,11 @@ listing_frame gs v fs w ks u =
     ∷ stream "o" (absent ∷ natural 0 ∷ natural 2 ∷ [])
     ∷ stream "f" ks
     ∷ []) (u ∷ []) no_frames
+    ∷ frame
+    (stream "a" (absent ∷ natural 2 ∷ natural 3 ∷ [])
+    ∷ stream "o" (absent ∷ natural 0 ∷ natural 2 ∷ [])
+    ∷ stream "f" hs
+    ∷ []) (natural 0 ∷ []) no_frames
     ∷ []))
 
 abbrev pub g_values : List Value
@@ -108,8 +119,11 @@ f_values = naturals (10 ∷ 20 ∷ 30 ∷ [])
 abbrev pub k_values : List Value
 k_values = absent ∷ natural 60 ∷ natural 0 ∷ []
 
+abbrev pub h_values : List Value
+h_values = absent ∷ natural 80 ∷ natural 90 ∷ []
+
 abbrev pub listed_frame : Frame
-listed_frame = listing_frame g_values (natural 7) f_values (natural 3) k_values (natural 0)
+listed_frame = listing_frame g_values (natural 7) f_values (natural 3) k_values (natural 0) h_values
 
 -- the output of the import, and an argument of a call
 abbrev pub lines_of_no_matter : List Line
@@ -120,23 +134,27 @@ lines_of_no_matter =
 
 -- frames that differ from it in one value
 abbrev pub other_output : Frame
-other_output = listing_frame (naturals (4 ∷ 5 ∷ 7 ∷ [])) (natural 7) f_values (natural 3) k_values (natural 0)
+other_output = listing_frame (naturals (4 ∷ 5 ∷ 7 ∷ [])) (natural 7) f_values (natural 3) k_values (natural 0) h_values
 
 abbrev pub other_first_in_import : Frame
-other_first_in_import = listing_frame g_values (natural 8) f_values (natural 3) k_values (natural 0)
+other_first_in_import = listing_frame g_values (natural 8) f_values (natural 3) k_values (natural 0) h_values
 
 abbrev pub other_local : Frame
-other_local = listing_frame g_values (natural 7) (naturals (10 ∷ 20 ∷ 31 ∷ [])) (natural 3) k_values (natural 0)
+other_local = listing_frame g_values (natural 7) (naturals (10 ∷ 20 ∷ 31 ∷ [])) (natural 3) k_values (natural 0) h_values
 
 abbrev pub other_first : Frame
-other_first = listing_frame g_values (natural 7) f_values (natural 4) k_values (natural 0)
+other_first = listing_frame g_values (natural 7) f_values (natural 4) k_values (natural 0) h_values
 
 abbrev pub other_default : Frame
 other_default =
-    listing_frame g_values (natural 7) f_values (natural 3) (absent ∷ natural 60 ∷ natural 1 ∷ []) (natural 0)
+    listing_frame g_values (natural 7) f_values (natural 3) (absent ∷ natural 60 ∷ natural 1 ∷ []) (natural 0) h_values
+
+abbrev pub other_held_local : Frame
+other_held_local =
+    listing_frame g_values (natural 7) f_values (natural 3) k_values (natural 0) (absent ∷ natural 80 ∷ natural 91 ∷ [])
 
 abbrev pub other_first_default : Frame
-other_first_default = listing_frame g_values (natural 7) f_values (natural 3) k_values (natural 1)
+other_first_default = listing_frame g_values (natural 7) f_values (natural 3) k_values (natural 1) h_values
 
 -- a run that is not the frame of the trace
 abbrev pub IsOtherRun : Frame → Type 0

@@ -41,6 +41,8 @@ pub fn places_misfit_row()
     ensures no_such_first { fifth_with (first_line 5 (1 ∷ 1 ∷ []) 2 ((8, natural 7) ∷ [])) ≡ Some (at 5 1) }
     ensures first_elsewhere { fifth_with (first_line 5 (1 ∷ []) 1 ((6, natural 7) ∷ [])) ≡ Some (at 5 1) }
     ensures twice { fifth_with (first_line 5 (1 ∷ 2 ∷ []) 1 ((8, natural 7) ∷ [])) ≡ Some (at 7 1) }
+    ensures of_condact { fifth_with (name_line 5 (3 ∷ []) "f" (in_columns 5 7 9)) ≡ None }
+    ensures first_of_condact { fifth_with (first_line 5 (3 ∷ []) 1 ((6, natural 7) ∷ [])) ≡ None }
     ensures import_output { fifth_with (name_line 5 (1 ∷ 1 ∷ []) "r" (in_columns 7 9 11)) ≡ Some (at 5 1) }
     ensures argument { fifth_with (name_line 5 (1 ∷ 2 ∷ []) "a" (in_columns 7 9 11)) ≡ Some (at 5 1) }
     ensures defined { fifth_with (name_line 5 [] "y" (in_columns 3 5 7)) ≡ Some (at 5 1) }

@@ -10,7 +10,7 @@ ghost use Rattle.meaning_rows.specs.ItemRows.{items};
 ghost use Rattle.meaning_rows.specs.ModeRows.{mode_memory};
 ghost use Rattle.meaning_rows.specs.OwedRows.{two_calls};
 ghost use Rattle.meaning_rows.specs.RunRows.{running};
-ghost use Rattle.meaning_rows.specs.SlotRows.{signs, two_calls_signs, held_pair_signs, running_signs, guarding_signs, items_signs, mode_memory_signs};
+ghost use Rattle.meaning_rows.specs.SlotRows.{signs, two_calls_signs, held_pair_signs, running_signs, guarding_signs, items_signs, mode_memory_signs, with_empty_contract, words};
 
 /// A call under a condition has what it holds before its frame, in the caller's frame. An import's frame has no
 /// assumptions of its own to keep.
@@ -30,5 +30,6 @@ pub fn variables_row()
     ensures import { signs running ≡ running_signs }
     ensures condact { signs guarding ≡ guarding_signs }
     ensures nested { signs items ≡ items_signs }
+    ensures empty { signs with_empty_contract ≡ words [] ("beat" ∷ "x" ∷ "y" ∷ "sofar" ∷ []) }
     ensures memories { signs mode_memory ≡ mode_memory_signs }
 {}

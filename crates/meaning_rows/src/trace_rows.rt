@@ -3,7 +3,7 @@
 ghost use Rattle.std.specs.Prelude.{[], ◌∷◌};
 ghost use Rattle.lus_meaning.specs.Trace.{IsFrameOf};
 ghost use Rattle.meaning_rows.specs.Written.{naturals};
-ghost use Rattle.meaning_rows.specs.TraceRows.{listing, listing_lines, lines_with, lines_of_no_matter, listed_frame, IsOtherRun, other_output, other_first_in_import, other_local, other_first, other_default, other_first_default};
+ghost use Rattle.meaning_rows.specs.TraceRows.{listing, listing_lines, lines_with, lines_of_no_matter, listed_frame, IsOtherRun, other_output, other_first_in_import, other_local, other_first, other_default, other_first_default, other_held_local};
 
 /// The lines of a trace give the free names and the first values of the frames of calls, by the calls on the way. What
 /// they list of an import's output or of an argument is no matter.
@@ -20,5 +20,6 @@ pub fn other_frame_row()
     ensures other_local { IsOtherRun other_local }
     ensures other_first { IsOtherRun other_first }
     ensures other_default { IsOtherRun other_default }
+    ensures other_held_local { IsOtherRun other_held_local }
     ensures other_first_default { IsOtherRun other_first_default }
 {}
