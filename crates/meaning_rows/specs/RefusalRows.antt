@@ -1,9 +1,17 @@
 -- Programs that break one rule each, with their places, and some that break none.
-use Rattle.std.specs.Prelude.{true, false, replicate, [], ◌∷◌, Some, None, codes}
+use Rattle.std.specs.Prelude.{ℕ, List, true, false, replicate, [], ◌∷◌, Some, None, codes}
 use Rattle.lus_tree.specs.declared.place.Sort.TheVariants.{Bool as Flags, Int as Numbers}
 use Rattle.lus_tree.specs.declared.expression.Operator.TheVariants as O
-use Rattle.lus_tree.specs.Tree.{Program, truth, number, name, pre, arrow, binary, sampled, call, mode_name, no_more, more, equation, property, assume, guarantee, declared_constant, declared_node}
+use Rattle.lus_tree.specs.Tree.{Program, Declaration, Statement, truth, number, name, pre, arrow, binary, sampled, call, mode_name, no_more, more, equation, property, assume, guarantee, declared_constant, declared_node}
 use Rattle.meaning_rows.specs.PlacedParts.{at, here, from, word, variable, fixed, said, component}
+
+-- `node main(x : int; b : bool) returns (y : int);` in a line, with this body
+abbrev pub main_in_line : ℕ → List Statement → Declaration
+main_in_line l ss =
+    declared_node
+    (component (word (codes "main") l 6) false
+    (variable (word (codes "x") l 11) Numbers None ∷ variable (word (codes "b") l 20) Flags None ∷ [])
+    (variable (word (codes "y") l 39) Numbers None ∷ []) [] [] None ss)
 
 -- nothing
 abbrev pub nothing : Program
@@ -89,14 +97,11 @@ no_such_mode =
 -- check "p" b; tel
 abbrev pub label_twice : Program
 label_twice =
-    declared_node
-    (component (word (codes "main") 1 6) false
-    (variable (word (codes "x") 1 11) Numbers None ∷ variable (word (codes "b") 1 20) Flags None ∷ [])
-    (variable (word (codes "y") 1 39) Numbers None ∷ []) [] [] None
+    main_in_line 1
     (equation (word (codes "y") 2 5 ∷ []) (name (here 2 9) (codes "x"))
     ∷ property (said (Some (codes "p")) (at 2 12) (name (here 2 22) (codes "b")))
     ∷ property (said (Some (codes "p")) (at 3 1) (name (here 3 11) (codes "b")))
-    ∷ []))
+    ∷ [])
     ∷ []
 
 -- node main(x : int; b : bool) returns (y : int);
@@ -104,11 +109,8 @@ label_twice =
 -- const k = 1;
 abbrev pub constant_behind : Program
 constant_behind =
-    declared_node
-    (component (word (codes "main") 1 6) false
-    (variable (word (codes "x") 1 11) Numbers None ∷ variable (word (codes "b") 1 20) Flags None ∷ [])
-    (variable (word (codes "y") 1 39) Numbers None ∷ []) [] [] None
-    (equation (word (codes "y") 2 5 ∷ []) (name (here 2 9) (codes "k")) ∷ []))
+    main_in_line 1
+    (equation (word (codes "y") 2 5 ∷ []) (name (here 2 9) (codes "k")) ∷ [])
     ∷ declared_constant (fixed (word (codes "k") 3 7) None (number (here 3 11) 1))
     ∷ []
 
@@ -121,71 +123,56 @@ too_many_arguments =
     (component (word (codes "f") 1 6) false (variable (word (codes "a") 1 8) Numbers None ∷ [])
     (variable (word (codes "o") 1 26) Numbers None ∷ []) [] [] None
     (equation (word (codes "o") 1 40 ∷ []) (name (here 1 44) (codes "a")) ∷ []))
-    ∷ declared_node
-    (component (word (codes "main") 2 6) false
-    (variable (word (codes "x") 2 11) Numbers None ∷ variable (word (codes "b") 2 20) Flags None ∷ [])
-    (variable (word (codes "y") 2 39) Numbers None ∷ []) [] [] None
+    ∷ main_in_line 2
     (equation (word (codes "y") 3 5 ∷ [])
     (call (here 3 9) 1 (word (codes "f") 3 9)
     (more (name (here 3 11) (codes "x")) (more (number (here 3 14) 1) no_more)))
-    ∷ []))
+    ∷ [])
     ∷ []
 
 -- node main(x : int; b : bool) returns (y : int);
 -- let y = x div 0; tel
 abbrev pub division_by_zero : Program
 division_by_zero =
-    declared_node
-    (component (word (codes "main") 1 6) false
-    (variable (word (codes "x") 1 11) Numbers None ∷ variable (word (codes "b") 1 20) Flags None ∷ [])
-    (variable (word (codes "y") 1 39) Numbers None ∷ []) [] [] None
+    main_in_line 1
     (equation (word (codes "y") 2 5 ∷ [])
     (binary (from 2 9 2 11) O.Div (name (here 2 9) (codes "x")) (number (here 2 15) 0))
-    ∷ []))
+    ∷ [])
     ∷ []
 
 -- node main(x : int; b : bool) returns (y : int);
 -- let y = 7 mod (1 + x); tel
 abbrev pub divisor_with_a_name : Program
 divisor_with_a_name =
-    declared_node
-    (component (word (codes "main") 1 6) false
-    (variable (word (codes "x") 1 11) Numbers None ∷ variable (word (codes "b") 1 20) Flags None ∷ [])
-    (variable (word (codes "y") 1 39) Numbers None ∷ []) [] [] None
+    main_in_line 1
     (equation (word (codes "y") 2 5 ∷ [])
     (binary (from 2 9 2 11) O.Mod (number (here 2 9) 7)
     (binary (from 2 15 2 18) O.Add (number (here 2 16) 1) (name (here 2 20) (codes "x"))))
-    ∷ []))
+    ∷ [])
     ∷ []
 
 -- node main(x : int; b : bool) returns (y : int);
 -- let y = x * 4611686018427387904 * 3; tel
 abbrev pub past_all_weights : Program
 past_all_weights =
-    declared_node
-    (component (word (codes "main") 1 6) false
-    (variable (word (codes "x") 1 11) Numbers None ∷ variable (word (codes "b") 1 20) Flags None ∷ [])
-    (variable (word (codes "y") 1 39) Numbers None ∷ []) [] [] None
+    main_in_line 1
     (equation (word (codes "y") 2 5 ∷ [])
     (binary (from 2 9 2 33) O.Mul
     (binary (from 2 9 2 11) O.Mul (name (here 2 9) (codes "x"))
     (number (here 2 13) 4611686018427387904)) (number (here 2 35) 3))
-    ∷ []))
+    ∷ [])
     ∷ []
 
 -- node main(x : int; b : bool) returns (y : int);
 -- let y = x * 4611686018427387904 * 2; tel
 abbrev pub as_heavy_as_can_be : Program
 as_heavy_as_can_be =
-    declared_node
-    (component (word (codes "main") 1 6) false
-    (variable (word (codes "x") 1 11) Numbers None ∷ variable (word (codes "b") 1 20) Flags None ∷ [])
-    (variable (word (codes "y") 1 39) Numbers None ∷ []) [] [] None
+    main_in_line 1
     (equation (word (codes "y") 2 5 ∷ [])
     (binary (from 2 9 2 33) O.Mul
     (binary (from 2 9 2 11) O.Mul (name (here 2 9) (codes "x"))
     (number (here 2 13) 4611686018427387904)) (number (here 2 35) 2))
-    ∷ []))
+    ∷ [])
     ∷ []
 
 -- node main(x : int; b : bool) returns (y : int);
@@ -193,24 +180,18 @@ as_heavy_as_can_be =
 --  y = 1; tel
 abbrev pub defined_twice : Program
 defined_twice =
-    declared_node
-    (component (word (codes "main") 1 6) false
-    (variable (word (codes "x") 1 11) Numbers None ∷ variable (word (codes "b") 1 20) Flags None ∷ [])
-    (variable (word (codes "y") 1 39) Numbers None ∷ []) [] [] None
+    main_in_line 1
     (equation (word (codes "y") 2 5 ∷ []) (name (here 2 9) (codes "x"))
     ∷ equation (word (codes "y") 3 2 ∷ []) (number (here 3 6) 1)
-    ∷ []))
+    ∷ [])
     ∷ []
 
 -- node main(x : int; b : bool) returns (y : int);
 -- let x = 1; tel
 abbrev pub defined_input : Program
 defined_input =
-    declared_node
-    (component (word (codes "main") 1 6) false
-    (variable (word (codes "x") 1 11) Numbers None ∷ variable (word (codes "b") 1 20) Flags None ∷ [])
-    (variable (word (codes "y") 1 39) Numbers None ∷ []) [] [] None
-    (equation (word (codes "x") 2 5 ∷ []) (number (here 2 9) 1) ∷ []))
+    main_in_line 1
+    (equation (word (codes "x") 2 5 ∷ []) (number (here 2 9) 1) ∷ [])
     ∷ []
 
 -- function f(x : int) returns (y : int);
