@@ -1,5 +1,5 @@
 -- Worked rows of what calls owe, of assertions in callees, and of lawful instants.
-use Rattle.std.specs.Prelude.{true, false, [], ◌∷◌, Some, None, codes}
+use Rattle.std.specs.Prelude.{ℕ, zero, suc, true, false, [], ◌∷◌, Option, Some, None, codes}
 use Rattle.lus_tree.specs.declared.expression.Operator.TheVariants.{Less, Differs, More}
 use Rattle.lus_tree.specs.Tree.{Component, assertion, assume, guarantee, declared_node, declared_contract}
 use Rattle.lus_meaning.specs.Value.{absent}
@@ -159,6 +159,14 @@ lawless_frame =
 abbrev pub broken_frame : Frame
 broken_frame =
     frame (stream "a" (naturals (1 ∷ 3 ∷ 4 ∷ [])) ∷ stream "b" (naturals (1 ∷ 3 ∷ 4 ∷ [])) ∷ []) [] no_frames
+
+-- at which instant each property breaks, by its number from 0
+abbrev pub never : ℕ → Option ℕ
+never k = None
+
+abbrev pub first_at : ℕ → ℕ → Option ℕ
+first_at t zero = Some t
+first_at t (suc k) = None
 
 -- low is false at 0, and b is not a
 abbrev pub no_run_frame : Frame

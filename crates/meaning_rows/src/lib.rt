@@ -48,4 +48,4 @@ pub use sampling_rows::{clock_of_clock_row, sampling_row};
 pub use slot_rows::{layout_row, variables_row};
 pub use sort_rows::{first_sorts_row, no_call_row};
 pub use squeeze_rows::{squeezed_call_row, squeezed_row};
-pub use trace_rows::{nested_trace_row, other_frame_row};
+pub use trace_rows::{nested_trace_row, other_frame_row, way_row};

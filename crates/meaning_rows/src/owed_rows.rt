@@ -1,14 +1,14 @@
 //! Worked rows of what calls owe, of assertions and of lawful instants, with the programs of `specs/OwedRows.antt`.
 
-ghost use Rattle.std.specs.Prelude.{◌≡◌, true, false, [], ◌∷◌, None, Some};
+ghost use Rattle.std.specs.Prelude.{◌≡◌, true, false, [], ◌∷◌};
 ghost use Rattle.lus_meaning.specs.Value.{flag};
 ghost use Rattle.lus_meaning.specs.Contract.{Property, guaranteed, assumed};
 ghost use Rattle.lus_meaning.specs.Run.{IsRun};
-ghost use Rattle.lus_meaning.specs.Property.{IsLawful, properties};
+ghost use Rattle.lus_meaning.specs.Property.{IsLawful};
 ghost use Rattle.lus_meaning.specs.FirstBreak.{AreBreaks, AreLawful};
 ghost use Rattle.lus_meaning.specs.Verdict.{Breaks, Holds, throughout};
 ghost use Rattle.meaning_rows.specs.RowParts.{kinds, meetings, property_at, truths};
-ghost use Rattle.meaning_rows.specs.OwedRows.{two_calls, two_calls_frame, owing, deep_assertion, deep_assertion_frame, bounded, lawless_frame, broken_frame, no_run_frame, ending, ending_frame, impossible, impossible_frame};
+ghost use Rattle.meaning_rows.specs.OwedRows.{two_calls, two_calls_frame, owing, deep_assertion, deep_assertion_frame, bounded, lawless_frame, broken_frame, never, first_at, no_run_frame, ending, ending_frame, impossible, impossible_frame};
 
 /// Each of two plain calls owes the callee's assumption, which looks back along the instants of its own frame. Each
 /// call's assertions say which instants are lawful.
@@ -62,10 +62,10 @@ pub fn first_break_row()
 
 /// The break of each property and the number of lawful instants, of these two frames.
 pub fn breaks_row()
-    ensures none { AreBreaks bounded lawless_frame 3 (properties bounded) (None ∷ []) }
-    ensures one { AreBreaks bounded broken_frame 3 (properties bounded) (Some 1 ∷ []) }
-    ensures not_none { AreBreaks bounded broken_frame 3 (properties bounded) (None ∷ []) → ⊥ }
-    ensures not_later { AreBreaks bounded broken_frame 3 (properties bounded) (Some 2 ∷ []) → ⊥ }
+    ensures none { AreBreaks bounded lawless_frame 3 never }
+    ensures one { AreBreaks bounded broken_frame 3 (first_at 1) }
+    ensures not_none { AreBreaks bounded broken_frame 3 never → ⊥ }
+    ensures not_later { AreBreaks bounded broken_frame 3 (first_at 2) → ⊥ }
     ensures first { AreLawful bounded lawless_frame 3 1 }
     ensures all { AreLawful bounded broken_frame 3 3 }
     ensures not_fewer { AreLawful bounded broken_frame 3 2 → ⊥ }

@@ -1,9 +1,13 @@
 //! Worked rows of the frame of a trace, with the program of `specs/TraceRows.antt`.
 
-ghost use Rattle.std.specs.Prelude.{[], ◌∷◌};
+ghost use Rattle.std.specs.Prelude.{◌≡◌, [], ◌∷◌, codes};
+ghost use Rattle.lus_meaning.specs.Value.{absent};
+ghost use Rattle.lus_meaning.specs.Frame.{entry};
+ghost use Rattle.lus_meaning.specs.Recompute.{sample};
+ghost use Rattle.lus_meaning.specs.Replay.{frame_on};
 ghost use Rattle.lus_meaning.specs.Trace.{IsFrameOf};
 ghost use Rattle.meaning_rows.specs.Written.{naturals};
-ghost use Rattle.meaning_rows.specs.TraceRows.{listing, listing_lines, lines_with, lines_of_no_matter, listed_frame, IsOtherRun, other_output, other_first_in_import, other_local, other_first, other_default, other_first_default, other_held_local};
+ghost use Rattle.meaning_rows.specs.TraceRows.{g_values, f_values, k_values, h_values, listing, listing_lines, lines_with, lines_of_no_matter, listed_frame, IsOtherRun, other_output, other_first_in_import, other_local, other_first, other_default, other_first_default, other_held_local};
 
 /// The lines of a trace give the free names and the first values of the frames of calls, by the calls on the way. What
 /// they list of an import's output or of an argument is no matter.
@@ -22,4 +26,15 @@ pub fn other_frame_row()
     ensures other_default { IsOtherRun other_default }
     ensures other_held_local { IsOtherRun other_held_local }
     ensures other_first_default { IsOtherRun other_first_default }
+{}
+
+/// The frame on a way of calls, which are counted from 1; where there is no such call it has no values.
+pub fn way_row()
+    ensures top { sample 3 (entry (frame_on listed_frame []) (codes "u")) ≡ naturals (9 ∷ 0 ∷ 2 ∷ []) }
+    ensures one { sample 3 (entry (frame_on listed_frame (1 ∷ [])) (codes "g")) ≡ g_values }
+    ensures two { sample 3 (entry (frame_on listed_frame (1 ∷ 2 ∷ [])) (codes "f")) ≡ f_values }
+    ensures second { sample 3 (entry (frame_on listed_frame (2 ∷ [])) (codes "f")) ≡ k_values }
+    ensures third { sample 3 (entry (frame_on listed_frame (3 ∷ [])) (codes "f")) ≡ h_values }
+    ensures zero { entry (frame_on listed_frame (0 ∷ [])) (codes "f") 1 ≡ absent }
+    ensures none { entry (frame_on listed_frame (1 ∷ 3 ∷ [])) (codes "f") 1 ≡ absent }
 {}
