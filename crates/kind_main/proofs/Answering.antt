@@ -1,20 +1,30 @@
 -- How a replay ends, put together from what each step knows.
-use Rattle.std.proofs.Common.{◌≡◌, ℕ, ◌≤◌, List, length, subst}
+use Rattle.std.proofs.Common.{◌≡◌, ◌≢◌, ◌⊎◌, inl, inr, ℕ, ◌≤◌, List, length, refl, sym, ap, ◌∙◌, subst, Result, Ok, Err, IsErrAnd}
+use Rattle.std.proofs.lemmas.Result.{err_from_is_err_and}
 use Rattle.kind_io.specs.Told.{Told, MayHold, MayExceed}
 use Rattle.lus_tree.specs.Tree.{Program}
 use Rattle.lus_meaning.specs.TraceView.{Listing}
 use Rattle.lus_meaning.specs.Fits.{FitsProgram}
-use Rattle.trace_replay.specs.Traces.{IsTraceText}
-use Rattle.kind_main.specs.Lines.{Line}
+use Rattle.lus_tree.specs.Reason.{Refused as Reasoned, memory, not_built}
+use Rattle.lus_meaning.specs.BooleanRules.{BreaksNoBooleanRule}
+use Rattle.lus_grammar.specs.Source.{IsSource, IsRefused as IsMisread}
+use Rattle.lus_checked.specs.Refusals.{IsRefusal}
+use Rattle.trace_replay.specs.declared.fault.TraceFault.{TraceFault}
+use Rattle.trace_replay.specs.declared.fault.TraceFault.TheVariants as M
+use Rattle.trace_replay.specs.declared.fault.TraceFault.TheVariants.{Form}
+use Rattle.trace_replay.specs.Refused.{IsMisfit}
+use Rattle.trace_replay.specs.Traces.{IsTraceText, Refuses}
+use Rattle.kind_main.specs.Lines.{Line, refused_line, not_built_line}
 use Rattle.kind_main.specs.Report.{IsReplay}
+use Rattle.kind_main.specs.declared.ending.Report.{Report}
 use Rattle.kind_main.specs.declared.ending.Stopped.{Stopped}
 use Rattle.kind_main.specs.declared.ending.Stopped.TheVariants.{Usage, Unread, Refused, Memory}
-use Rattle.kind_main.specs.Ending.{Ending, usage, unread, refused, done, IfStopped}
+use Rattle.kind_main.specs.Ending.{Ending, usage, unread, refused, done, IfStopped, IfEnded}
 use Rattle.kind_main.specs.Fetched.{Tells, limit, IsUnfetched}
 use Rattle.kind_main.specs.Source as S
 use Rattle.kind_main.specs.Source.{EndsAtSource, HoldsSource}
 use Rattle.kind_main.specs.Traced as R
-use Rattle.kind_main.specs.Traced.{EndsAtTrace, IsReplayed, EndsReplay}
+use Rattle.kind_main.specs.Traced.{EndsAt, EndsAtTrace, IsReplayed, EndsReplay}
 use Rattle.kind_main.proofs.Printing.{rose-later}
 
 -- a stop keeps what follows of its ending
@@ -24,34 +34,68 @@ stop_as P Q f (Unread name) h = f _ h
 stop_as P Q f (Refused line) h = f _ h
 stop_as P Q f Memory h = h
 
+pub ended_as : (P Q : Ending → Type 0) → ((e : Ending) → P e → Q e) → (r : Result Report Stopped) → IfEnded P r → IfEnded Q r
+ended_as P Q f (Ok r) h = f _ h
+ended_as P Q f (Err s) h = stop_as P Q f s h
+
+-- what is read is refused at the reader's place
+pub misread_ends : (bytes : List ℕ) (r : Reasoned) → (r.reason ≡ memory) ⊎ IsMisread bytes r → (e : Ending) → (e ≡ refused (refused_line r)) × (r.reason ≢ memory) → EndsAtSource bytes e
+misread_ends bytes r (inl m) e h = absurd (h.1 m)
+misread_ends bytes r (inr m) e h = subst (EndsAtSource bytes) (sym h.0) (S.misread r m refl)
+
+-- what follows no rule is not built
+pub unbuilt_ends : (bytes : List ℕ) (p : Program) (r : Reasoned) → IsSource bytes p → IsRefusal p r → (e : Ending) → (e ≡ refused (refused_line r)) × (r.reason ≢ memory) → EndsAtSource bytes e
+unbuilt_ends bytes p r s (inl m) e h = absurd (h.1 m)
+unbuilt_ends bytes p r s (inr m) e h =
+    subst (EndsAtSource bytes) (sym h.0) (S.unbuilt record { tree = p; source = s; because = m.1 } (ap refused_line m.0))
+
+-- a trace is refused for its fault
+pub formless_ends : (bytes : List ℕ) (p : Program) (f : TraceFault) → Refuses bytes f → (e : Ending) → EndsAt f e → EndsAtTrace bytes p e
+formless_ends bytes p (Form at) h e d = subst (EndsAtTrace bytes p) (sym d) (at, R.formless h, refl)
+formless_ends bytes p M.Memory h e d = absurd d
+
+pub misfit_ends : (bytes : List ℕ) (p : Program) (t : Listing) (f : TraceFault) → IsTraceText bytes t → IsMisfit p t f → (e : Ending) → EndsAt f e → EndsAtTrace bytes p e
+misfit_ends bytes p t (Form at) text h e d = subst (EndsAtTrace bytes p) (sym d) (at, R.unfit t text h, refl)
+misfit_ends bytes p t M.Memory text h e d = absurd d
+
+-- a stop that is handed on
+pub handed_on : (P : Ending → Type 0) (r : Result Report Stopped) (s : Stopped) → IsErrAnd r (λ e. e ≡ s) → IfStopped P s → IfEnded P r
+handed_on P r s h p =
+    let (y, u, w) = err_from_is_err_and r h in
+    subst (IfEnded P) (sym (u ∙ ap Err w)) p
+
+-- a source that is read and follows the rules
+pub held_source : (told : Told) (p : Program) (bytes : List ℕ) → MayHold told bytes → length bytes ≤ limit → IsSource bytes p → BreaksNoBooleanRule p → HoldsSource told p
+held_source told p bytes m le s f = record { bytes = bytes; held = m; short = le; source = s; follows = f }
+
 module _ (told : Tells) (before now : ℕ) (file trace : List ℕ) where
   -- the source gives no bytes
   pub no_source : (e : Ending) → IsUnfetched (told file) before now file e → EndsReplay told before now file trace e
   no_source usage h = absurd h
-  no_source (unread name) h = (h.0, R.source h.1)
-  no_source (refused line) h = R.source (S.too_long h.0 h.1)
+  no_source (unread name) h = (h.0, R.unread_source h.1)
+  no_source (refused line) h = R.refused_source (S.too_long h.0 h.1)
   no_source (done lines code) h = absurd h
 
   -- its bytes are refused
   pub bad_source : (bytes : List ℕ) → MayHold (told file) bytes → length bytes ≤ limit → (e : Ending) → EndsAtSource bytes e → EndsReplay told before now file trace e
   bad_source bytes m le usage h = absurd h
   bad_source bytes m le (unread name) h = absurd h
-  bad_source bytes m le (refused line) h = R.source (S.refused_bytes bytes m le h)
+  bad_source bytes m le (refused line) h = R.refused_source (S.refused_bytes bytes m le h)
   bad_source bytes m le (done lines code) h = absurd h
 
   module _ (p : Program) (source : HoldsSource (told file) p) where
     -- the trace gives no bytes
     pub no_trace : (mid : ℕ) → before ≤ mid → (tells : Told) → tells ≡ told trace → (e : Ending) → IsUnfetched tells mid now trace e → EndsReplay told before now file trace e
     no_trace mid le tells same usage h = absurd h
-    no_trace mid le tells same (unread name) h = (rose-later before mid now le h.0, R.trace p source h.1)
-    no_trace mid le tells same (refused line) h = R.trace p source (R.too_long (subst (λ w. MayExceed w limit) same h.0) h.1)
+    no_trace mid le tells same (unread name) h = (rose-later before mid now le h.0, R.unread_trace p source h.1)
+    no_trace mid le tells same (refused line) h = R.refused_trace p source (R.too_long (subst (λ w. MayExceed w limit) same h.0) h.1)
     no_trace mid le tells same (done lines code) h = absurd h
 
     -- its bytes are refused
     pub bad_trace : (tells : Told) → tells ≡ told trace → (bytes : List ℕ) → MayHold tells bytes → length bytes ≤ limit → (e : Ending) → EndsAtTrace bytes p e → EndsReplay told before now file trace e
     bad_trace tells same bytes m le usage h = absurd h
     bad_trace tells same bytes m le (unread name) h = absurd h
-    bad_trace tells same bytes m le (refused line) h = R.trace p source (R.misfit_at bytes h.0 (subst (λ w. MayHold w bytes) same m) le h.1 h.2)
+    bad_trace tells same bytes m le (refused line) h = R.refused_trace p source (R.misfit_at bytes h.0 (subst (λ w. MayHold w bytes) same m) le h.1 h.2)
     bad_trace tells same bytes m le (done lines code) h = absurd h
 
     -- the trace is replayed

@@ -46,7 +46,7 @@ pub record Reporting (all : List Statement) (hits : ℕ → Option ℕ) (lines :
   pub few : count + length (labelled_in left) ≤ 500
 
 pub report-start : (all : List Statement) (hits : ℕ → Option ℕ) → length (labelled_in all) ≤ 500 → Reporting all hits [] 0 all
-report-start all hits le = record { go = refl; few = le }
+report-start all hits le = record { go = refl; few = omega (arith, le) }
 
 next_item : (items : List Item) (i : ℕ) (x : Item) → i < length items → x ≡ get_or items i x → map item_view (drop i items) ≡ item_view x ∷ map item_view (drop (i + 1) items)
 next_item items i x lt is =
@@ -56,7 +56,7 @@ next_item items i x lt is =
 goes_on : (all : List Statement) (hits : ℕ → Option ℕ) (lines grown : List Line) (count after : ℕ) (s : Statement) (ss : List Statement)
     → GoesOn s hits count after lines grown → Reporting all hits lines count (s ∷ ss) → Reporting all hits grown after ss
 goes_on all hits lines grown count after (property l) ss g r =
-    let e : after ≡ suc count = g.0 ∙ add-one in
+    let e : after ≡ suc count = let f = g.0 in omega (arith, f) in
     record {
       go = rw (e, g.1) (append_assoc lines (property_line l (hits count)) (body_report (suc count) (labelled_in ss) hits) ∙ r.go);
       few = let f = r.few in rw e (omega (arith, f));
@@ -75,7 +75,7 @@ report-few all hits lines count left r = let f = r.few in omega (arith, f)
 
 pub report-end : (all : List Statement) (hits : ℕ → Option ℕ) (lines : List Line) (count : ℕ) (items : List Item) (i : ℕ) → length items ≤ i → Reporting all hits lines count (map item_view (drop i items)) → lines ≡ body_report 0 (labelled_in all) hits
 report-end all hits lines count items i le r =
-    let none : drop i items ≡ [] = drop_all items i le in
+    let none : drop i items ≡ [] = drop_all i items le in
     let done : Reporting all hits lines count [] = subst (λ (l : List Item). Reporting all hits lines count (map item_view l)) none r in
     sym (append-nil lines) ∙ done.go
 

@@ -63,8 +63,9 @@ rule_more _ = []
 abbrev pub refused_line : Refused → Line
 refused_line r = codes "refused " ++ (decimal r.at.line ++ (codes ":" ++ (decimal r.at.column ++ (codes " " ++ (rule_name r.reason ++ (rule_more r.reason ++ codes "\n"))))))
 
+-- what is read and not built is refused at the start
 abbrev pub not_built_line : Line
-not_built_line = codes "refused 1:1 NotBuilt\n"
+not_built_line = refused_line (record { at = record { line = 1; column = 1 }; reason = not_built })
 
 -- `refused trace L:C Form`
 abbrev pub formless_line : Pos → Line

@@ -55,13 +55,13 @@ pub record IsReplayed (told : Tells) (file trace : List ℕ) (lines : List Line)
 
 -- A file could not be read: the source or, where that is held, the trace.
 pub data IsUnreadOf (told : Tells) (file trace name : List ℕ) : Type 0 where
-  source : name ≡ file → IsUnreadOf told file trace name
-  trace : (p : Program) → HoldsSource (told file) p → name ≡ trace → IsUnreadOf told file trace name
+  unread_source : name ≡ file → IsUnreadOf told file trace name
+  unread_trace : (p : Program) → HoldsSource (told file) p → name ≡ trace → IsUnreadOf told file trace name
 
 -- A file is refused: the source or, where that is held, the trace.
 pub data IsRefusedOf (told : Tells) (file trace : List ℕ) (line : Line) : Type 0 where
-  source : IsRefusedFile (told file) line → IsRefusedOf told file trace line
-  trace : (p : Program) → HoldsSource (told file) p → IsRefusedTrace (told trace) p line → IsRefusedOf told file trace line
+  refused_source : IsRefusedFile (told file) line → IsRefusedOf told file trace line
+  refused_trace : (p : Program) → HoldsSource (told file) p → IsRefusedTrace (told trace) p line → IsRefusedOf told file trace line
 
 -- How the replay of a trace on a source ends. The counts are the shelf's faults before the call and now.
 abbrev pub EndsReplay : Tells → ℕ → ℕ → List ℕ → List ℕ → Ending → Type 0
