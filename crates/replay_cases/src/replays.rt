@@ -1,0 +1,105 @@
+//! What a replay shows.
+
+ghost use Rattle.std.specs.Prelude.{◌≤◌, length};
+
+use crate::texts::fault;
+use lus_checked::Checked;
+use lus_meaning::Value;
+use lus_tree::Param;
+use std::alloc::{AllocError, Global};
+use trace_replay::{Replay, TraceFault, read_trace, replay};
+
+fn replayed(alloc: Global, checked: &Checked, bytes: &[u8]) -> Result<(Replay, u32), TraceFault>
+    requires { length bytes.now ≤ 1048576 }
+{
+    let trace = read_trace(alloc, bytes)?;
+    let replay = replay(alloc, checked, &trace)?;
+    Ok((replay, trace.length))
+}
+
+/// Whether the trace fits the program, or where it doesn't.
+pub fn fits(alloc: Global, checked: &Checked, bytes: &[u8]) -> Result<String, AllocError>
+    requires { length bytes.now ≤ 1048576 }
+{
+    match replayed(alloc, checked, bytes) {
+        Ok(_) => String::from_str(alloc, "fits"),
+        Err(e) => fault(alloc, e),
+    }
+}
+
+fn letter(value: Option<Value>) -> &'static str {
+    match value {
+        Some(Value::Truth(true)) => "T",
+        Some(Value::Truth(false)) => "F",
+        Some(Value::Whole(_)) => "?",
+        None => "-",
+    }
+}
+
+/// A name and its values, with one more instant than there are.
+fn show_name(
+    out: &mut String,
+    replay: &Replay,
+    name: &str,
+    instants: u32,
+) -> Result<(), AllocError> {
+    write!(out, "{name} ")?;
+    for t in 0..=instants {
+        out.push_str(letter(replay.value(&[], name, t)))?;
+    }
+    out.push_str("; ")
+}
+
+fn show_names(
+    out: &mut String,
+    replay: &Replay,
+    params: &[Param],
+    instants: u32,
+) -> Result<(), AllocError> {
+    for param in params {
+        show_name(out, replay, &param.name.text, instants)?;
+    }
+    Ok(())
+}
+
+/// The breaks of four properties, whether there are so many or not.
+fn show_breaks(out: &mut String, replay: &Replay) -> Result<(), AllocError> {
+    out.push_str("breaks")?;
+    for property in 0..4 {
+        match replay.breaks(property) {
+            Some(instant) => write!(out, " {instant}")?,
+            None => out.push_str(" -")?,
+        }
+    }
+    Ok(())
+}
+
+fn show(
+    alloc: Global,
+    checked: &Checked,
+    replay: &Replay,
+    instants: u32,
+) -> Result<String, AllocError> {
+    let mut out = String::new(alloc);
+    let node = checked.node();
+    show_names(&mut out, replay, &node.inputs, instants)?;
+    show_names(&mut out, replay, &node.outputs, instants)?;
+    show_names(&mut out, replay, &node.locals, instants)?;
+    let (unknown, called) = (replay.value(&[], "no", 0), replay.value(&[1], "x", 0));
+    write!(out, "others {}{}; ", letter(unknown), letter(called))?;
+    show_breaks(&mut out, replay)?;
+    let lawful = replay.lawful();
+    write!(out, "; lawful {lawful}")?;
+    Ok(out)
+}
+
+/// The values of each name, the breaks of the properties, and how many instants are lawful, or
+/// where the trace doesn't fit.
+pub fn shown(alloc: Global, checked: &Checked, bytes: &[u8]) -> Result<String, AllocError>
+    requires { length bytes.now ≤ 1048576 }
+{
+    match replayed(alloc, checked, bytes) {
+        Ok((replay, instants)) => show(alloc, checked, &replay, instants),
+        Err(e) => fault(alloc, e),
+    }
+}
