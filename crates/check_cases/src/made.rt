@@ -13,7 +13,8 @@ struct Counts {
 
 /// The next number of a case, or 0.
 fn number(word: Option<&str>) -> usize {
-    word.and_then(|text| text.parse::<usize>().ok()).unwrap_or(0)
+    word.and_then(|text| text.parse::<usize>().ok())
+        .unwrap_or(0)
 }
 
 fn counts_of(case: &str) -> Counts {
