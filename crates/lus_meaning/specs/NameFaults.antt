@@ -191,7 +191,8 @@ reached (suc k) g xs = reached k g (xs ++ new_among xs (next_in g xs))
 -- a callee from which the declaration itself is reached
 abbrev pub recursion_faults : Program → Component → List Refused
 recursion_faults p n =
-    map (λ f. fault node_recursion f.at) (filter (λ f. named_in n.name.text (reached (length p) (graph_of p p) (f.text ∷ []))) (callees p n))
+    map (λ f. fault node_recursion f.at)
+    (filter (λ f. named_in n.name.text (reached (length p) (graph_of p p) (f.text ∷ []))) (callees p n))
 
 -- ---- what an assumption reads
 
@@ -227,7 +228,8 @@ restricted _ = []
 abbrev pub assumption_faults : Scope → List Refused
 assumption_faults s =
     let xs : List Name = given_now (length (clauses s.owner)) s in
-    flat_map (λ w. if_so (named_in w.text xs) assume_reads_output w.at) (flat_map (names_now s.owner) (flat_map restricted (clauses s.owner)))
+    flat_map (λ w. if_so (named_in w.text xs) assume_reads_output w.at)
+    (flat_map (names_now s.owner) (flat_map restricted (clauses s.owner)))
 
 -- ---- declarations
 

@@ -54,7 +54,8 @@ abbrev mutual
       ++ occurrences n (moved (sampled_by false x.text) s) b
   occurrences n s (call p k f as_) = occurs s (call p k f as_) ∷ occurrences_among n (within s) as_
   occurrences n s (condact p k a f as_ ds) =
-      occurs s (condact p k a f as_ ds) ∷ occurrences n (within s) a ++ (occurrences_among n (within s) as_ ++ occurrences_among n (within s) ds)
+      occurs s (condact p k a f as_ ds)
+      ∷ occurrences n (within s) a ++ (occurrences_among n (within s) as_ ++ occurrences_among n (within s) ds)
   occurrences n s (mode_name p d m) = occurs s (mode_name p d m) ∷ []
 
   pub occurrences_among : Component → Standing → Expressions → List Occurrence
@@ -97,28 +98,28 @@ all_occurrences n = flat_map (λ x. occurrences n x.0 x.1) (texts n)
 
 -- ---- a place of the tree
 
-abbrev pub place_of : Expression → Place
-place_of (truth p b) = p
-place_of (number p n) = p
-place_of (name p x) = p
-place_of (negation p a) = p
-place_of (minus p a) = p
-place_of (pre p k a) = p
-place_of (arrow p k a b) = p
-place_of (binary p o a b) = p
-place_of (choice p a b c) = p
-place_of (sampled p a b x) = p
-place_of (merged p x a b) = p
-place_of (call p k f as_) = p
-place_of (condact p k a f as_ ds) = p
-place_of (mode_name p d m) = p
+abbrev pub stands_at : Expression → Place
+stands_at (truth p b) = p
+stands_at (number p n) = p
+stands_at (name p x) = p
+stands_at (negation p a) = p
+stands_at (minus p a) = p
+stands_at (pre p k a) = p
+stands_at (arrow p k a b) = p
+stands_at (binary p o a b) = p
+stands_at (choice p a b c) = p
+stands_at (sampled p a b x) = p
+stands_at (merged p x a b) = p
+stands_at (call p k f as_) = p
+stands_at (condact p k a f as_ ds) = p
+stands_at (mode_name p d m) = p
 
 -- where an expression begins, and its own token
 abbrev pub begin : Expression → Pos
-begin e = (place_of e).from
+begin e = (stands_at e).from
 
 abbrev pub own : Expression → Pos
-own e = (place_of e).at
+own e = (stands_at e).at
 
 -- ---- the numbered ones
 

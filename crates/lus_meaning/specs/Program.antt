@@ -16,7 +16,8 @@ listed no_more = []
 listed (more a as_) = a ∷ listed as_
 
 abbrev pub site_in : Standing → Expression → List Site
-site_in s (call p k f as_) = record { number = k; callee = f.text; clock = s.clock; arguments = listed as_; defaults = []; manner = plain } ∷ []
+site_in s (call p k f as_) =
+    record { number = k; callee = f.text; clock = s.clock; arguments = listed as_; defaults = []; manner = plain } ∷ []
 site_in s (condact p k a f as_ ds) =
     record { number = k; callee = f.text; clock = s.clock; arguments = listed as_; defaults = listed ds; manner = while_true a } ∷ []
 site_in s _ = []
@@ -55,7 +56,8 @@ component_named (d ∷ ds) x = first_of_two (is_component x d) (component_named 
 
 -- the value of a constant expression, where these constants have these values
 abbrev pub constant_value : List (Name × Value) → Expression → Value
-constant_value cs e = value record { place = instance no_component cs no_instances; frame = empty_frame; beat = λ t. true; modes = [] } base e 0
+constant_value cs e =
+    value record { place = instance no_component cs no_instances; frame = empty_frame; beat = λ t. true; modes = [] } base e 0
 
 -- the values of constants in text order, each by those before it
 abbrev pub constant_values : List (Name × Value) → List Constant → List (Name × Value)
@@ -84,7 +86,9 @@ instances_with f (s ∷ ss) = with_instance s (f s.callee) (instances_with f ss)
 -- the instance of a declaration, with calls nested no deeper than the number
 abbrev pub instance_within : ℕ → Program → Component → Instance
 instance_within zero p n = instance n (constants_in p n) no_instances
-instance_within (suc d) p n = instance n (constants_in p n) (instances_with (λ x. instance_within d p (unwrap_or (component_named p x) no_component)) (all_sites n))
+instance_within (suc d) p n =
+    instance n (constants_in p n)
+    (instances_with (λ x. instance_within d p (unwrap_or (component_named p x) no_component)) (all_sites n))
 
 -- no call chain of a program without recursion is longer than the program
 abbrev pub instance_of : Program → Component → Instance

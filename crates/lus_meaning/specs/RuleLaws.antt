@@ -20,7 +20,8 @@ OneRefusal =
 
 -- a program that is refused breaks a rule or passes a limit
 abbrev pub NotBoth : Type 0
-NotBoth = (p : Program) (main : Option Name) (r : Refused) → IsRefusedFor p main r → FollowsRules p → IsWithinLimits p main → ⊥
+NotBoth =
+    (p : Program) (main : Option Name) (r : Refused) → IsRefusedFor p main r → FollowsRules p → IsWithinLimits p main → ⊥
 
 -- ---- checked programs
 

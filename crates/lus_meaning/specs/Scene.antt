@@ -48,7 +48,16 @@ outputs_of i = map (λ x. x.name.text) (component_of i).outputs
 
 -- what stands for a declaration that is not there: it has no names
 abbrev pub no_component : Component
-no_component = record { name = record { text = []; at = record { line = 0; column = 0 } }; function = false; inputs = []; outputs = []; locals = []; constants = []; contract = None; body = [] }
+no_component = record {
+  name = record { text = []; at = record { line = 0; column = 0 } };
+  function = false;
+  inputs = [];
+  outputs = [];
+  locals = [];
+  constants = [];
+  contract = None;
+  body = [];
+}
 
 abbrev pub no_instance : Instance
 no_instance = instance no_component [] no_instances

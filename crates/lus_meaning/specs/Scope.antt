@@ -63,7 +63,7 @@ abbrev pub is_ghost_role : Role → Bool
 is_ghost_role a_ghost = true
 is_ghost_role _ = false
 
--- where an expression stands: in which declaration of which program, what names mean there, and the modes and the imports before it
+-- where an expression stands: the program, the declaration, what names mean there, and the modes and imports before it
 pub record Scope : Type 0 where
   pub program : Program
   pub owner : Component
@@ -251,7 +251,8 @@ local_names n = interleaved (map a_fixed n.constants) (map (a_stream a_local) n.
 
 abbrev pub declared_in : Component → List Declared
 declared_in n =
-    map (a_stream an_input) n.inputs ++ (map (a_stream an_output) n.outputs ++ (flat_map clause_names (clauses n) ++ local_names n))
+    map (a_stream an_input) n.inputs
+    ++ (map (a_stream an_output) n.outputs ++ (flat_map clause_names (clauses n) ++ local_names n))
 
 -- ---- what they mean
 
@@ -266,7 +267,14 @@ abbrev pub entry_for : Scope → Declared → Entry
 entry_for s (a_stream r v) =
     record { word = v.name; role = r; sort = Some v.sort; clock = clock_from v.clock; value = absent; known = true }
 entry_for s (a_fixed c) =
-    record { word = c.name; role = a_constant; sort = given_or_found c.sort (type_of s c.value); clock = base; value = constant_of s c.value; known = true }
+    record {
+      word = c.name;
+      role = a_constant;
+      sort = given_or_found c.sort (type_of s c.value);
+      clock = base;
+      value = constant_of s c.value;
+      known = true;
+    }
 
 -- each by those before it, and by the outer ones
 abbrev pub entries_from : Program → List Entry → List Entry → List Declared → List Entry

@@ -1,4 +1,4 @@
--- How many levels and parts the terms of a node's system have: each by the form of what it translates, the term itself aside.
+-- How many levels and parts the terms of a node's system have: each by the form of what it translates.
 use Rattle.std.specs.Prelude.{ℕ, zero, suc, pred, max, ◌+◌, Bool, true, false, cond, ◌&&◌, not, List, [], ◌∷◌, ◌++◌, map, flat_map, length, slice_index_or, unwrap_or, option_map, option_to_list, Option, Some, None}
 use Rattle.std.specs.Map.{lookup}
 use Rattle.std.specs.List.{fold}
@@ -7,7 +7,7 @@ use Rattle.lus_tree.specs.declared.expression.Operator.TheVariants.{Implies, Or,
 use Rattle.lus_tree.specs.Tree.{Name, text_of, Expression, truth, number, name, negation, minus, arrow, binary, choice, sampled, merged, condact, mode_name, Labelled, Statement, assertion, property, Clause, assume, guarantee, ghost_variable, constant, mode, «import», Component}
 use Rattle.lus_meaning.specs.Scene.{Clock, base, sampled_by, clock_from, clock_of, clauses, variables, Manner, plain, while_true, as_import, Site, Instance, Instances, instance, no_instances, with_instance, component_of, clock_of_names}
 use Rattle.lus_meaning.specs.Meaning.{mode_key}
-use Rattle.lus_meaning.specs.Depends.{named_in, left_names, outputs_given}
+use Rattle.lus_meaning.specs.Depends.{named_in, left_names, from_caller}
 use Rattle.lus_meaning.specs.Run.{Equation, equations}
 use Rattle.lus_meaning.specs.Occurrences.{Memory, Start, memories, starts}
 
@@ -132,7 +132,11 @@ sizes_after n sub r (mode m rs es ∷ cs) =
           ++ (([], m.text), asked) ∷ [];
     }) cs
 sizes_after n sub r («import» k c as_ xs ∷ cs) =
-    sizes_after n sub (record { assumes = r.assumes ++ (sub k).assumes; promises = r.promises ++ (sub k).promises; modes = r.modes ++ map (imported_size c.text) (sub k).modes }) cs
+    sizes_after n sub (record {
+      assumes = r.assumes ++ (sub k).assumes;
+      promises = r.promises ++ (sub k).promises;
+      modes = r.modes ++ map (imported_size c.text) (sub k).modes;
+    }) cs
 sizes_after n sub r (ghost_variable v e ∷ cs) = sizes_after n sub r cs
 sizes_after n sub r (constant c ∷ cs) = sizes_after n sub r cs
 
@@ -175,7 +179,9 @@ equation_sizes n ms =
 -- the streams that neither an equation nor the caller gives
 abbrev pub free_sizes : List Name → Component → List Size
 free_sizes given n =
-    flat_map (λ v. cond (named_in v.name.text (given ++ left_names n)) [] (free_size (presence n (clock_from v.clock)) ∷ [])) (variables n)
+    flat_map
+    (λ v. cond (named_in v.name.text (given ++ left_names n)) [] (free_size (presence n (clock_from v.clock)) ∷ []))
+    (variables n)
 
 abbrev pub memory_size : Component → ModeSizes → Memory → Size
 memory_size n ms m = two leaf (three (presence n m.clock) (size_in n ms m.operand) leaf)
@@ -225,7 +231,7 @@ abbrev mutual
   call_sizes n ms no_instances = []
   call_sizes n ms (with_instance c k is) =
       site_sizes n ms c (component_of k) c.manner
-      ++ (frame_sizes (map (λ v. v.name.text) (component_of k).inputs ++ outputs_given c.manner (map (λ v. v.name.text) (component_of k).outputs)) k
+      ++ (frame_sizes (from_caller c k) k
       ++ call_sizes n ms is)
 
 -- ---- the analysed node
