@@ -17,7 +17,8 @@ pub enum End {
 
 /// Copies a name's bytes to another name.
 pub fn copy<H: Shelf>(alloc: Global, shelf: &mut H, from: &str, to: &str) -> End
-    ensures copied { (bytes : List ℕ) (had : List ℕ) → H.told shelf.old from.now ≡ Some (Some bytes) → H.told shelf.old to.now ≡ Some (Some had)
+    ensures copied { (bytes : List ℕ) (had : List ℕ) → H.told shelf.old from.now ≡ Some (Some bytes)
+        → H.told shelf.old to.now ≡ Some (Some had)
         → result ≡ End.Copied → H.told shelf.new to.now ≡ Some (Some bytes) }
     ensures missing { H.told shelf.old from.now ≡ Some None → result ≢ End.Copied }
     ensures unread { result ≡ End.Unread → Rose (H.faults shelf.old) (H.faults shelf.new) }
@@ -39,7 +40,8 @@ pub fn copy<H: Shelf>(alloc: Global, shelf: &mut H, from: &str, to: &str) -> End
 
 /// Puts two pieces.
 pub fn put_both<K: Sink>(out: &mut K, first: &[u8], second: &[u8]) -> Result<(), PutFault>
-    ensures all { (had : List ℕ) → K.written out.old ≡ Some had → OnOk result (K.written out.new ≡ Some (had ++ first.now ++ second.now)) }
+    ensures all { (had : List ℕ) → K.written out.old ≡ Some had
+        → OnOk result (K.written out.new ≡ Some (had ++ first.now ++ second.now)) }
     ensures later { K.faults out.old ≤ K.faults out.new }
     ensures cause { IsErrOf result PutFault.Failed → Rose (K.faults out.old) (K.faults out.new) }
 {

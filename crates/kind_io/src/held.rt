@@ -40,7 +40,8 @@ pub fn store(
     bytes: &[u8],
 ) -> Result<(), AllocError>
     ensures kept { OnOk result (held_of files.new.items name.now ≡ Some bytes.now) }
-    ensures others { (other : List ℕ) → other ≢ name.now → held_of files.new.items other ≡ held_of files.old.items other }
+    ensures others { (other : List ℕ) → other ≢ name.now
+        → held_of files.new.items other ≡ held_of files.old.items other }
     ensures err { OnErr result (files.new.items ≡ files.old.items) }
 {
     let copy = bytes.to_vec(alloc)?;

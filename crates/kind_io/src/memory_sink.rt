@@ -62,7 +62,8 @@ impl Sink for MemorySink {
 
     fn put(&mut self, bytes: &[u8]) -> Result<(), PutFault>
         ensures all { OnOk result (Appends (Some (bytes_of self.old)) (Some (bytes_of self.new)) bytes.now) }
-        ensures front { IsErrOf result PutFault.Failed → AppendsFront (Some (bytes_of self.old)) (Some (bytes_of self.new)) bytes.now }
+        ensures front { IsErrOf result PutFault.Failed
+            → AppendsFront (Some (bytes_of self.old)) (Some (bytes_of self.new)) bytes.now }
         ensures memory { IsErrOf result PutFault.Memory → Some (bytes_of self.new) ≡ Some (bytes_of self.old) }
         ensures later { faults_of self.old ≤ faults_of self.new }
         ensures cause { IsErrOf result PutFault.Failed → Rose (faults_of self.old) (faults_of self.new) }

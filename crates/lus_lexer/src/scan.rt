@@ -73,7 +73,8 @@ pub fn digits_end(bytes: &[u8], from: usize) -> usize
 /// Where the text ends whose first quote stands at `from`.
 pub fn text_end(bytes: &[u8], from: usize) -> Option<usize>
     requires { byte bytes.now from ≡ 34 }
-    ensures found { MatchOption result ((j : ℕ) → IsText (byte bytes.now) from j → Prim.⊥) (λ j. IsText (byte bytes.now) from j) }
+    ensures found { MatchOption result ((j : ℕ) → IsText (byte bytes.now) from j → Prim.⊥)
+        (λ j. IsText (byte bytes.now) from j) }
     ensures within { IfSome result (λ j. (from < j) × (j ≤ length bytes.now)) }
 {
     let _quote = peek(bytes, from);

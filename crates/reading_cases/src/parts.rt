@@ -9,7 +9,8 @@ use crate::program::{show_definition, show_items};
 use crate::words::{show_params, show_refusal, show_words};
 use lus_lexer::{Token, tokens};
 use lus_reader::{
-    Counts, constant, groups, label, left, local_group, names, parameters, read_body, read_expr,
+    Counts, groups, label, local_group, names, parameters, read_body, read_constant, read_expr,
+    read_left,
 };
 use lus_tree::{Param, Refusal, Word};
 use std::alloc::{AllocError, Global};
@@ -38,7 +39,7 @@ fn part(alloc: Global, ask: Ask, tokens: &[Token], bytes: &[u8]) -> Result<Strin
     match ask {
         Ask::Expression(places) => expression(alloc, tokens, bytes, places),
         Ask::Names => show_names(alloc, names(alloc, tokens, bytes, 0)),
-        Ask::Left => show_names(alloc, left(alloc, tokens, bytes, 0)),
+        Ask::Left => show_names(alloc, read_left(alloc, tokens, bytes, 0)),
         Ask::Parameters => show_streams(alloc, parameters(alloc, tokens, bytes, 0)),
         Ask::Groups => show_streams(alloc, groups(alloc, tokens, bytes, 0)),
         Ask::LocalGroup => show_streams(alloc, local_group(alloc, tokens, bytes, 0)),
@@ -193,7 +194,7 @@ fn constant_of(alloc: Global, tokens: &[Token], bytes: &[u8]) -> Result<String, 
 {
     let mut counts = NONE;
     let mut out = String::new(alloc);
-    match constant(alloc, tokens, bytes, 0, &mut counts) {
+    match read_constant(alloc, tokens, bytes, 0, &mut counts) {
         Ok((definition, next)) => {
             show_definition(&mut out, &definition, true)?;
             write!(out, " | {next}")?;
