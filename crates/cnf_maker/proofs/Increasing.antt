@@ -1,15 +1,14 @@
 -- The terms of linear sums stay in increasing order.
-use Rattle.std.specs.Prelude.{ℕ, ◌≡◌, ◌==◌, ◌<◌, Bool, true, false, cond, ◌&&◌, List, [], ◌∷◌, Result, Ok, Err, nat_lt, refl}
-use Rattle.std.proofs.Common.{ap, sym, ◌∙◌, subst, arith}
+use Rattle.std.specs.Prelude.{ℕ, ◌≡◌, ◌==◌, Bool, true, false, cond, ◌&&◌, List, [], ◌∷◌, Ok, nat_lt, refl}
+use Rattle.std.proofs.Common.{sym, subst, arith}
 use Rattle.std.proofs.lemmas.Bool.Decides.{nat_tests}
 use lib.IntN.{ℤ, pos}
 use Rattle.kind_num.specs.declared.Op.{Op}
-use Rattle.kind_num.specs.declared.Op.TheVariants.{Sub, Mul}
-use Rattle.proof_steps.specs.View.{Inequality}
+use Rattle.kind_num.specs.declared.Op.TheVariants.{Mul}
 use Rattle.sys_terms.specs.Fits.{is_zero}
 use Rattle.sys_terms.specs.Evaluated.{and_then, exact}
 use Rattle.sys_terms.proofs.Placed.{both_true}
-use Rattle.cnf_maker.specs.Linear.{Linear, put, with_term, with_terms, combined, scaled_terms, scaled, inequality_of, all_above, is_increasing}
+use Rattle.cnf_maker.specs.Linear.{put, with_term, with_terms, scaled_terms, all_above, is_increasing}
 use Rattle.cnf_maker.proofs.Values.{through}
 
 and_true : (a b : Bool) → a ≡ true → b ≡ true → (a && b) ≡ true

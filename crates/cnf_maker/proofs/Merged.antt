@@ -1,6 +1,6 @@
 -- Two sums joined from their fronts: what is made, and what is left of both, come to what the
 -- definition gives, which takes one term of the second after the other.
-use Rattle.std.specs.Prelude.{ℕ, zero, suc, ◌≡◌, ◌==◌, ◌<◌, ◌≤◌, ◌+◌, length, slice_index_or, Bool, true, false, cond, ◌&&◌, List, [], ◌∷◌, ◌++◌, drop, Result, Ok, Err, nat_lt, refl}
+use Rattle.std.specs.Prelude.{ℕ, suc, ◌≡◌, ◌==◌, ◌<◌, ◌≤◌, ◌+◌, length, slice_index_or, Bool, true, false, cond, List, [], ◌∷◌, ◌++◌, drop, Result, Ok, Err, nat_lt, refl}
 use Rattle.std.proofs.Common.{ap, sym, ◌∙◌, subst, arith, append_assoc, drop-cons}
 use Rattle.std.proofs.lemmas.List.{drop_all}
 use Rattle.std.proofs.lemmas.Bool.Decides.{nat_tests}

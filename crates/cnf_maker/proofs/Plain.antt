@@ -1,15 +1,14 @@
 -- The atoms of a query whose conditions fit are over numbers of the form, in order, none times 0.
-use Rattle.std.specs.Prelude.{ℕ, zero, suc, ◌≡◌, ◌≢◌, ◌==◌, ◌<◌, ◌+◌, Bool, true, false, cond, not, ◌&&◌, unsigned_abs, List, [], ◌∷◌, ◌++◌, map, length, All, Option, Some, None, slice_get, slice_index, nat_lt, Result, Ok, Err, refl}
+use Rattle.std.specs.Prelude.{ℕ, zero, suc, ◌≡◌, ◌≢◌, ◌==◌, ◌<◌, ◌+◌, Bool, true, false, cond, not, unsigned_abs, List, [], ◌∷◌, ◌++◌, map, length, Some, slice_get, slice_index, nat_lt, Result, Ok, Err, refl}
 use Rattle.std.specs.List.{AllByRecursion}
 use Rattle.std.proofs.lemmas.List.Elements.{All-from_recursion}
-use Rattle.std.specs.List.Sorted.{IsStrictlyIncreasing}
-use Rattle.std.proofs.Common.{ap, sym, ◌∙◌, subst, arith}
+use Rattle.std.proofs.Common.{sym, subst, arith}
 use Rattle.std.proofs.lemmas.Bool.Decides.{nat_tests}
 use lib.IntN.{ℤ, pos, negsuc, ◌-ℤ◌}
 use Rattle.kind_num.specs.declared.Shape.{Shape}
 use Rattle.kind_num.specs.declared.Shape.TheVariants as k
 use Rattle.kind_num.specs.declared.Op.{Op}
-use Rattle.kind_num.specs.declared.Op.TheVariants.{Add, Sub, Mul}
+use Rattle.kind_num.specs.declared.Op.TheVariants.{Sub, Mul}
 use Rattle.kind_num.specs.declared.Past.{Past}
 use Rattle.proof_steps.specs.View.{Inequality}
 use Rattle.proof_steps.specs.Rows.{Form}
@@ -17,7 +16,7 @@ use Rattle.proof_steps.specs.Meaning.{opposite}
 use Rattle.sys_terms.specs.Fits.{is_zero}
 use Rattle.sys_terms.specs.Evaluated.{and_then, exact}
 use Rattle.sys_terms.proofs.Placed.{both_true}
-use Rattle.cnf_maker.specs.Linear.{Linear, of_constant, of_variable, put, with_term, with_terms, combined, scaled_terms, scaled, inequality_of, all_above, is_increasing}
+use Rattle.cnf_maker.specs.Linear.{Linear, of_constant, of_variable, put, with_term, with_terms, combined, scaled_terms, scaled, inequality_of, is_increasing}
 use Rattle.proof_steps.specs.declared.Literal.{Literal}
 use Rattle.cnf_maker.specs.ClauseForm.{equal_atoms, with_atom, with_shapes, literal_of_terms, with_at_most, with_bound, with_chosen, of_division, with_division}
 use Rattle.cnf_maker.specs.Plain.{IsTermOf, IsPlainAtom}

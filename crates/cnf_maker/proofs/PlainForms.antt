@@ -1,9 +1,8 @@
 -- The walk over conditions that fit makes plain atoms alone.
-use Rattle.std.specs.Prelude.{ℕ, suc, ◌≡◌, Bool, true, false, ◌&&◌, not, List, [], ◌∷◌, ◌++◌, length, Option, Some, None, slice_get, Result, Ok, Err, refl}
+use Rattle.std.specs.Prelude.{ℕ, suc, ◌≡◌, true, List, [], ◌∷◌, ◌++◌, length, Option, Some, None, slice_get, Result, Ok, Err, refl}
 use Rattle.std.specs.List.{AllByRecursion}
-use Rattle.std.proofs.Common.{ap, sym, ◌∙◌, subst}
+use Rattle.std.proofs.Common.{subst}
 use Rattle.std.proofs.lemmas.List.Elements.{All-from_recursion}
-use lib.IntN.{ℤ, pos}
 use Rattle.kind_num.specs.declared.Shape.{Shape}
 use Rattle.kind_num.specs.declared.Shape.TheVariants as k
 use Rattle.kind_num.specs.declared.Op.TheVariants.{Add, Sub}
@@ -12,11 +11,10 @@ use Rattle.proof_steps.specs.declared.Literal.{Literal}
 use Rattle.proof_steps.specs.View.{Inequality}
 use Rattle.proof_steps.specs.Rows.{Form}
 use Rattle.sys_terms.specs.View.{Formula, truth, flag, negation, both, same, choice, at_most, equal, Amount, constant, number, plus, minus, multiple, chosen, quotient, remainder, Question}
-use Rattle.sys_terms.specs.Fits.{is_number, fits, amount_fits, fits_one, all_fit_one}
-use Rattle.sys_terms.specs.Evaluated.{and_then}
+use Rattle.sys_terms.specs.Fits.{is_number, fits, amount_fits, all_fit_one}
 use Rattle.sys_terms.proofs.Placed.{both_true}
-use Rattle.cnf_maker.specs.Linear.{Linear, of_variable, combined, scaled}
-use Rattle.cnf_maker.specs.ClauseForm.{with_at_most, with_chosen, with_division, literal_of, linear_of, with_condition, with_conditions, truth_form, clause_form}
+use Rattle.cnf_maker.specs.Linear.{Linear, combined, scaled}
+use Rattle.cnf_maker.specs.ClauseForm.{with_at_most, with_chosen, with_division, literal_of, linear_of, with_condition, with_conditions, truth_form}
 use Rattle.cnf_maker.specs.Plain.{IsPlainAtom, AtomsArePlain}
 use Rattle.cnf_maker.proofs.Plain.{PlainSum, Gets, gets-then, Over, over-more, Plain, PlainAtom, plain-atom, Step, step-trans, step-shapes, sum-over, step-at_most, combined-plain, multiple-plain, variable-plain, step-chosen, Divided, step-division}
 

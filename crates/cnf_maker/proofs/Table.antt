@@ -18,7 +18,6 @@ use Rattle.cnf_maker.proofs.Kept.{atoms_are}
 use Rattle.kind_num.specs.declared.Shape.{Shape}
 use Rattle.proof_steps.specs.declared.Literal.{Literal}
 use Rattle.proof_steps.specs.declared.Literal.TheVariants as l
-use Rattle.proof_steps.specs.Rows.{Form}
 use lib.Pointwise.{pointwise_decides}
 
 abbrev pub AtomKey : Type 0

@@ -1,4 +1,4 @@
-use Rattle.std.proofs.Common.{rules, ◌≡◌, ◌++◌, [], ◌∷◌, drop, slice_index_or, Ok, refl}
+use Rattle.std.proofs.Common.{rules, ◌≡◌, ◌++◌, [], drop, slice_index_or, Ok, refl}
 use lib.IntN.{pos}
 use Rattle.sys_terms.specs.Evaluated.{exact}
 use Rattle.cnf_maker.specs.Linear.{put}
