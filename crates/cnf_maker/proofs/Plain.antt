@@ -32,13 +32,15 @@ zero_not (negsuc n) h e = absurd cc
 abbrev pub Terms : List Shape → List (ℕ × ℤ) → Type 0
 Terms shapes ts = AllByRecursion (IsTermOf shapes) ts
 
-put_terms : (shapes : List Shape) (x : ℕ) (z : ℤ) (ts : List (ℕ × ℤ)) (b : Bool) → is_zero z ≡ b → slice_get shapes x ≡ Some k.Number
+put_terms : (shapes : List Shape) (x : ℕ) (z : ℤ) (ts : List (ℕ × ℤ)) (b : Bool) → is_zero z ≡ b
+    → slice_get shapes x ≡ Some k.Number
     → Terms shapes ts → Terms shapes (cond b ts ((x, z) ∷ ts))
 put_terms shapes x z ts true e n h = h
 put_terms shapes x z ts false e n h = (record { number = n; not_zero = zero_not z e }, h)
 
 module _ (op : Op) (shapes : List Shape) where
-  term-terms : (ts : List (ℕ × ℤ)) (x : ℕ) (b : ℤ) (us : List (ℕ × ℤ)) → slice_get shapes x ≡ Some k.Number → Terms shapes ts
+  term-terms : (ts : List (ℕ × ℤ)) (x : ℕ) (b : ℤ) (us : List (ℕ × ℤ)) → slice_get shapes x ≡ Some k.Number
+      → Terms shapes ts
       → with_term op ts x b ≡ Ok us → Terms shapes us
   term-terms [] x b us n h e =
       let t = through (exact op (pos 0) b) (λ z. Ok (put x z [])) us e in
@@ -63,19 +65,23 @@ module _ (op : Op) (shapes : List Shape) where
         let r : (y, a) ∷ t.first ≡ us = let g = t.then in cc in
         subst (Terms shapes) r (h.0, ih t.first t.is_first)
 
-  terms-terms : (ts more us : List (ℕ × ℤ)) → Terms shapes ts → Terms shapes more → with_terms op ts more ≡ Ok us → Terms shapes us
+  terms-terms : (ts more us : List (ℕ × ℤ)) → Terms shapes ts → Terms shapes more → with_terms op ts more ≡ Ok us
+      → Terms shapes us
   terms-terms ts [] us h g e = let q : ts ≡ us = cc in subst (Terms shapes) q h
   terms-terms ts ((x, b) ∷ more) us h g e =
       let t = through (with_term op ts x b) (λ rs. with_terms op rs more) us e in
       terms-terms t.first more us (term-terms ts x b t.first (g.0).number h t.is_first) g.1 t.then
 
-scaled-terms : (shapes : List Shape) (n : ℤ) (ts us : List (ℕ × ℤ)) → Terms shapes ts → scaled_terms n ts ≡ Ok us → Terms shapes us
+scaled-terms : (shapes : List Shape) (n : ℤ) (ts us : List (ℕ × ℤ)) → Terms shapes ts → scaled_terms n ts ≡ Ok us
+    → Terms shapes us
 scaled-terms shapes n [] us h e = let q : [] ≡ us = cc in subst (Terms shapes) q tt
 scaled-terms shapes n ((x, a) ∷ ts) us h e =
     let t = through (exact Mul n a) (λ z. and_then (scaled_terms n ts) (λ us. Ok (put x z us))) us e in
     let s = through (scaled_terms n ts) (λ us. Ok (put x t.first us)) us t.then in
     let r : put x t.first s.first ≡ us = let g = s.then in cc in
-    subst (Terms shapes) r (put_terms shapes x t.first s.first (is_zero t.first) refl (h.0).number (scaled-terms shapes n ts s.first h.1 s.is_first))
+    subst (Terms shapes) r
+    (put_terms shapes x t.first s.first (is_zero t.first) refl (h.0).number
+    (scaled-terms shapes n ts s.first h.1 s.is_first))
 
 -- a sum of numbers in order
 abbrev pub PlainSum : List Shape → List (ℕ × ℤ) → Type 0
@@ -95,13 +101,17 @@ pub gets-all : {X : Type 0} (P : X → Type 0) (r : Result X Past) → ((x : X) 
 gets-all P (Ok x) h = h x refl
 gets-all P (Err p) h = tt
 
-pub joined-plain : (op : Op) (shapes : List Shape) (ts us : List (ℕ × ℤ)) → PlainSum shapes ts → PlainSum shapes us → Gets (PlainSum shapes) (with_terms op ts us)
+pub joined-plain : (op : Op) (shapes : List Shape) (ts us : List (ℕ × ℤ)) → PlainSum shapes ts → PlainSum shapes us
+    → Gets (PlainSum shapes) (with_terms op ts us)
 joined-plain op shapes ts us h g =
-    gets-all (PlainSum shapes) (with_terms op ts us) (λ vs e. (terms-terms op shapes ts us vs h.0 g.0 e, terms-increasing op ts us vs h.1 e))
+    gets-all (PlainSum shapes) (with_terms op ts us)
+    (λ vs e. (terms-terms op shapes ts us vs h.0 g.0 e, terms-increasing op ts us vs h.1 e))
 
-pub scaled-plain : (shapes : List Shape) (n : ℤ) (ts : List (ℕ × ℤ)) → PlainSum shapes ts → Gets (PlainSum shapes) (scaled_terms n ts)
+pub scaled-plain : (shapes : List Shape) (n : ℤ) (ts : List (ℕ × ℤ)) → PlainSum shapes ts
+    → Gets (PlainSum shapes) (scaled_terms n ts)
 scaled-plain shapes n ts h =
-    gets-all (PlainSum shapes) (scaled_terms n ts) (λ vs e. (scaled-terms shapes n ts vs h.0 e, scaled-increasing n ts vs h.1 e))
+    gets-all (PlainSum shapes) (scaled_terms n ts)
+    (λ vs e. (scaled-terms shapes n ts vs h.0 e, scaled-increasing n ts vs h.1 e))
 
 -- in the words of the law
 abbrev variables_of : List (ℕ × ℤ) → List ℕ
@@ -153,7 +163,8 @@ next-shape (o ∷ old) more r s = next-shape old more r s
 
 terms-over : (old new : List Shape) (ts : List (ℕ × ℤ)) → Over old new → Terms old ts → Terms new ts
 terms-over old new [] o h = tt
-terms-over old new (t ∷ ts) o h = (record { number = o t.0 k.Number (h.0).number; not_zero = (h.0).not_zero }, terms-over old new ts o h.1)
+terms-over old new (t ∷ ts) o h =
+    (record { number = o t.0 k.Number (h.0).number; not_zero = (h.0).not_zero }, terms-over old new ts o h.1)
 
 pub sum-over : (old new : List Shape) (ts : List (ℕ × ℤ)) → Over old new → PlainSum old ts → PlainSum new ts
 sum-over old new ts o h = (terms-over old new ts o h.0, h.1)
@@ -161,12 +172,14 @@ sum-over old new ts o h = (terms-over old new ts o h.0, h.1)
 abbrev pub PlainAtoms : List Shape → List Inequality → Type 0
 PlainAtoms shapes atoms = AllByRecursion (PlainAtom shapes) atoms
 
-pub atoms-over : (old new : List Shape) (atoms : List Inequality) → Over old new → PlainAtoms old atoms → PlainAtoms new atoms
+pub atoms-over : (old new : List Shape) (atoms : List Inequality) → Over old new → PlainAtoms old atoms
+    → PlainAtoms new atoms
 atoms-over old new [] o h = tt
 atoms-over old new (i ∷ atoms) o h =
     (record { sum = sum-over old new i.terms o (h.0).sum; some_term = (h.0).some_term }, atoms-over old new atoms o h.1)
 
-pub one-more : (P : Inequality → Type 0) (atoms : List Inequality) (i : Inequality) → P i → AllByRecursion P atoms → AllByRecursion P (with_atom atoms i)
+pub one-more : (P : Inequality → Type 0) (atoms : List Inequality) (i : Inequality) → P i → AllByRecursion P atoms
+    → AllByRecursion P (with_atom atoms i)
 one-more P [] i p h = (p, tt)
 one-more P (a ∷ atoms) i p h = go (equal_atoms a i) (one-more P atoms i p h.1) where
   go : (b : Bool) → AllByRecursion P (with_atom atoms i) → AllByRecursion P (cond b (a ∷ atoms) (a ∷ with_atom atoms i))
@@ -185,13 +198,21 @@ pub step-trans : (f g h : Form) → Step f g → Step g h → Step f h
 step-trans f g h a b = (λ x s e. b.0 x s (a.0 x s e), b.1)
 
 pub step-shapes : (f : Form) (more : List Shape) → Plain f → Step f (with_shapes f more)
-step-shapes f more n = (over-more f.shapes more, atoms-over f.shapes (f.shapes ++ more) f.atoms (over-more f.shapes more) n)
+step-shapes f more n =
+    (over-more f.shapes more, atoms-over f.shapes (f.shapes ++ more) f.atoms (over-more f.shapes more) n)
 
 -- the literal of an inequality of plain sums
-step-literal : (t : ℕ) (f : Form) (ts : List (ℕ × ℤ)) (b : ℤ) → Plain f → PlainSum f.shapes ts → Step f (literal_of_terms t f ts b).0
+step-literal : (t : ℕ) (f : Form) (ts : List (ℕ × ℤ)) (b : ℤ) → Plain f → PlainSum f.shapes ts
+    → Step f (literal_of_terms t f ts b).0
 step-literal t f [] b n h = (λ x s e. e, n)
-step-literal t f (u ∷ us) b n h =
-    (λ x s e. e, one-more (PlainAtom f.shapes) f.atoms record { terms = u ∷ us; bound = b } record { sum = h; some_term = λ e. absurd cc } n)
+step-literal t f (u ∷ us) b n h = (
+  λ x s e. e,
+  one-more (PlainAtom f.shapes) f.atoms record { terms = u ∷ us; bound = b } record {
+    sum =
+        h;
+    some_term = λ e. absurd cc;
+  } n,
+)
 
 abbrev pub Any : {X : Type 0} → X → Type 0
 Any x = Unit
@@ -205,12 +226,15 @@ pub step-at_most : (t : ℕ) (f : Form) (a b : Linear) → Plain f → PlainSum 
 step-at_most t f a b n h m =
     gets-then (λ (i : Inequality). PlainSum f.shapes i.terms) _ (inequality_of a b) _
     (gets-then (PlainSum f.shapes) _ (with_terms Sub a.terms b.terms) _ (joined-plain Sub f.shapes a.terms b.terms h m)
-    (λ ts p. gets-then Any _ (exact Sub b.constant a.constant) _ (gets-any (exact Sub b.constant a.constant)) (λ z u. p)))
+    (λ ts p. gets-then Any _ (exact Sub b.constant a.constant) _ (gets-any (exact Sub b.constant a.constant))
+    (λ z u. p)))
     (λ i p. step-literal t f i.terms i.bound n p)
 
-pub step-bound : (t : ℕ) (guard : List Literal) (f : Form) (a b : Linear) → Plain f → PlainSum f.shapes a.terms → PlainSum f.shapes b.terms
+pub step-bound : (t : ℕ) (guard : List Literal) (f : Form) (a b : Linear) → Plain f → PlainSum f.shapes a.terms
+    → PlainSum f.shapes b.terms
     → Gets (Step f) (with_bound t guard f a b)
-step-bound t guard f a b n h m = gets-then (λ (p : Form × Literal). Step f p.0) _ (with_at_most t f a b) _ (step-at_most t f a b n h m) (λ p s. s)
+step-bound t guard f a b n h m = gets-then (λ (p : Form × Literal). Step f p.0) _ (with_at_most t f a b) _
+    (step-at_most t f a b n h m) (λ p s. s)
 
 pub combined-plain : (op : Op) (shapes : List Shape) (a b : Linear) → PlainSum shapes a.terms → PlainSum shapes b.terms
     → Gets (λ (c : Linear). PlainSum shapes c.terms) (combined op a b)
@@ -218,19 +242,22 @@ combined-plain op shapes a b h m =
     gets-then (PlainSum shapes) _ (with_terms op a.terms b.terms) _ (joined-plain op shapes a.terms b.terms h m)
     (λ ts p. gets-then Any _ (exact op a.constant b.constant) _ (gets-any (exact op a.constant b.constant)) (λ z u. p))
 
-pub multiple-plain : (shapes : List Shape) (n : ℤ) (a : Linear) → PlainSum shapes a.terms → Gets (λ (c : Linear). PlainSum shapes c.terms) (scaled n a)
+pub multiple-plain : (shapes : List Shape) (n : ℤ) (a : Linear) → PlainSum shapes a.terms
+    → Gets (λ (c : Linear). PlainSum shapes c.terms) (scaled n a)
 multiple-plain shapes n a h =
     gets-then (PlainSum shapes) _ (scaled_terms n a.terms) _ (scaled-plain shapes n a.terms h)
     (λ ts p. gets-then Any _ (exact Mul n a.constant) _ (gets-any (exact Mul n a.constant)) (λ z u. p))
 
-pub variable-plain : (shapes : List Shape) (x : ℕ) → slice_get shapes x ≡ Some k.Number → PlainSum shapes (of_variable x).terms
+pub variable-plain : (shapes : List Shape) (x : ℕ) → slice_get shapes x ≡ Some k.Number
+    → PlainSum shapes (of_variable x).terms
 variable-plain shapes x h = ((record { number = h; not_zero = λ e. absurd cc }, tt), refl)
 
 -- a sum of f, and so of each form after it
 later : (f g : Form) (a : Linear) → Step f g → PlainSum f.shapes a.terms → PlainSum g.shapes a.terms
 later f g a s h = sum-over f.shapes g.shapes a.terms s.0 h
 
-pub step-chosen : (t : ℕ) (f : Form) (c : Literal) (a b : Linear) → Plain f → PlainSum f.shapes a.terms → PlainSum f.shapes b.terms
+pub step-chosen : (t : ℕ) (f : Form) (c : Literal) (a b : Linear) → Plain f → PlainSum f.shapes a.terms
+    → PlainSum f.shapes b.terms
     → Gets (λ (p : Form × Linear). Step f p.0 × PlainSum p.0.shapes p.1.terms) (with_chosen t f c a b)
 step-chosen t f c a b n h m =
     let z = of_variable (length f.shapes) in
@@ -240,11 +267,14 @@ step-chosen t f c a b n h m =
     let a0 = later f f0 a s0 h in
     let b0 = later f f0 b s0 m in
     gets-then (Step f0) _ (with_bound t (opposite c ∷ []) f0 z a) _ (step-bound t (opposite c ∷ []) f0 z a s0.1 y a0)
-    (λ g s1. gets-then (Step g) _ (with_bound t (opposite c ∷ []) g a z) _ (step-bound t (opposite c ∷ []) g a z s1.1 (later f0 g a s1 a0) (later f0 g z s1 y))
+    (λ g s1. gets-then (Step g) _ (with_bound t (opposite c ∷ []) g a z) _
+    (step-bound t (opposite c ∷ []) g a z s1.1 (later f0 g a s1 a0) (later f0 g z s1 y))
     (λ h s2. let s12 = step-trans f0 g h s1 s2 in
-    gets-then (Step h) _ (with_bound t (c ∷ []) h z b) _ (step-bound t (c ∷ []) h z b s2.1 (later f0 h z s12 y) (later f0 h b s12 b0))
+    gets-then (Step h) _ (with_bound t (c ∷ []) h z b) _
+    (step-bound t (c ∷ []) h z b s2.1 (later f0 h z s12 y) (later f0 h b s12 b0))
     (λ i s3. let s13 = step-trans f0 h i s12 s3 in
-    gets-then (Step i) _ (with_bound t (c ∷ []) i b z) _ (step-bound t (c ∷ []) i b z s3.1 (later f0 i b s13 b0) (later f0 i z s13 y))
+    gets-then (Step i) _ (with_bound t (c ∷ []) i b z) _
+    (step-bound t (c ∷ []) i b z s3.1 (later f0 i b s13 b0) (later f0 i z s13 y))
     (λ j s4. let s14 = step-trans f0 i j s13 s4 in (step-trans f f0 j s0 s14, later f0 j z s14 y)))))
 
 size_not : (d : ℤ) → not (is_zero d) ≡ true → d ≢ pos 0
@@ -255,7 +285,8 @@ size_not (negsuc n) h e = absurd cc
 next_above : (q : ℕ) → nat_lt q (suc q) ≡ true
 next_above q = grind (arith, nat_tests)
 
-division-plain : (shapes : List Shape) (q : ℕ) (d : ℤ) → not (is_zero d) ≡ true → slice_get shapes q ≡ Some k.Number → slice_get shapes (suc q) ≡ Some k.Number
+division-plain : (shapes : List Shape) (q : ℕ) (d : ℤ) → not (is_zero d) ≡ true → slice_get shapes q ≡ Some k.Number
+    → slice_get shapes (suc q) ≡ Some k.Number
     → PlainSum shapes (of_division q d).terms
 division-plain shapes q d z h m = (
   (record { number = h; not_zero = size_not d z }, (record { number = m; not_zero = λ e. absurd cc }, tt)),
@@ -268,7 +299,8 @@ pub record Divided (f g : Form) : Type 0 where
   pub quotient : slice_get g.shapes (length f.shapes) ≡ Some k.Number
   pub remainder : slice_get g.shapes (suc (length f.shapes)) ≡ Some k.Number
 
-pub step-division : (t : ℕ) (f : Form) (n : Linear) (d : ℤ) → Plain f → PlainSum f.shapes n.terms → not (is_zero d) ≡ true
+pub step-division : (t : ℕ) (f : Form) (n : Linear) (d : ℤ) → Plain f → PlainSum f.shapes n.terms
+    → not (is_zero d) ≡ true
     → Gets (Divided f) (with_division t f n d)
 step-division t f n d p h z =
     let q = length f.shapes in
@@ -284,13 +316,21 @@ step-division t f n d p h z =
     let yr = variable-plain f0.shapes (suc q) hr in
     let n0 = later f f0 n s0 h in
     gets-then (Step f0) _ (with_bound t [] f0 w n) _ (step-bound t [] f0 w n s0.1 yw n0)
-    (λ g s1. gets-then (Step g) _ (with_bound t [] g n w) _ (step-bound t [] g n w s1.1 (later f0 g n s1 n0) (later f0 g w s1 yw))
+    (λ g s1. gets-then (Step g) _ (with_bound t [] g n w) _
+    (step-bound t [] g n w s1.1 (later f0 g n s1 n0) (later f0 g w s1 yw))
     (λ h s2. let s12 = step-trans f0 g h s1 s2 in
-    gets-then (Step h) _ (with_bound t [] h zero_sum r) _ (step-bound t [] h zero_sum r s2.1 (tt, refl) (later f0 h r s12 yr))
+    gets-then (Step h) _ (with_bound t [] h zero_sum r) _
+    (step-bound t [] h zero_sum r s2.1 (tt, refl) (later f0 h r s12 yr))
     (λ i s3. let s13 = step-trans f0 h i s12 s3 in
     gets-all (Divided f) (with_bound t [] i r most) (λ j e.
-    let s4 = got (Step i) (with_bound t [] i r most) j e (step-bound t [] i r most s3.1 (later f0 i r s13 yr) (tt, refl)) in
+    let s4 = got (Step i) (with_bound t [] i r most) j e
+    (step-bound t [] i r most s3.1 (later f0 i r s13 yr) (tt, refl)) in
     let s14 = step-trans f0 i j s13 s4 in
-    record { step = step-trans f f0 j s0 s14; quotient = s14.0 q k.Number hq; remainder = s14.0 (suc q) k.Number hr })))) where
+    record {
+      step = step-trans f f0 j s0 s14;
+      quotient = s14.0 q k.Number hq;
+      remainder =
+          s14.0 (suc q) k.Number hr;
+    })))) where
       got : {X : Type 0} (P : X → Type 0) (r : Result X Past) (x : X) → r ≡ Ok x → Gets P r → P x
       got P r x e g = subst (Gets P) e g

@@ -50,5 +50,6 @@ pub record IsMadeSmall (q : Question) : Type 0 where
 -- each query of a mild system and light terms has such a form
 abbrev pub QueriesAreSmall : Machine → Task → List Formula → Type 0
 QueriesAreSmall m task cites =
-    IsMild m → is_asked m task ≡ true → is_light_task task ≡ true → all_fit_one m.shapes cites ≡ true → all_light cites ≡ true
+    IsMild m → is_asked m task ≡ true → is_light_task task ≡ true → all_fit_one m.shapes cites ≡ true
+    → all_light cites ≡ true
     → IsMadeSmall (query_of m task cites)
