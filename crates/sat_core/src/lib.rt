@@ -9,6 +9,7 @@ mod assignment;
 mod derived;
 mod found;
 pub mod laws;
+mod order;
 mod propagation;
 mod search;
 mod set;

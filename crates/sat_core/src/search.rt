@@ -11,6 +11,7 @@ use crate::assigned::Assigned;
 use crate::assignment::Assignment;
 use crate::derived::{append, refuted};
 use crate::found::{Found, SearchFault};
+use crate::order::Order;
 use crate::propagation::run;
 use crate::set::LiteralSet;
 use crate::variables::{add_atoms, admit, admit_all, flags_of};
@@ -32,6 +33,7 @@ pub struct Search {
     assignment: Assignment,
     watches: Watches,
     head: usize,
+    order: Order,
     marked: LiteralSet,
     in_conflict: bool,
     conflict: u32,
@@ -58,17 +60,32 @@ impl Model for Search {
 }
 
 /// Leaves the first entries alone, and lets the lists be gone through again from the last decision on.
-fn cut_back(assignment: &mut Assignment, head: &mut usize, length: usize)
+fn cut_back(assignment: &mut Assignment, head: &mut usize, order: &mut Order, length: usize)
     ensures cut { assignment.new ≡ take length assignment.old }
     ensures head { IsHead assignment.new head.new }
     ensures watched { (known : List (List SignedLiteral)) (w : Watching) → IsWatched known assignment.old w head.old
         → IsWatched known assignment.new w head.new }
 {
+    order.undo_from(assignment.entries(), length);
     assignment.cut(length);
-    *head = match last_decision(assignment.entries()) {
+    let entries = assignment.entries();
+    *head = match last_decision(entries) {
         Some(place) => place,
         None => 0,
     };
+}
+
+/// How much stays after a conflict: where the search begins anew, what comes before the first
+/// decision.
+fn back_or_anew(trail: &[Assigned], back: usize, anew: bool) -> usize
+    requires { back ≤ length trail.now }
+    ensures { result ≤ back }
+{
+    if anew {
+        next_decision(trail, 0, back)
+    } else {
+        back
+    }
 }
 
 impl Search {
@@ -86,6 +103,7 @@ impl Search {
         admit_all(alloc, &mut clauses, &mut watches, &mut variables, &cnf.clauses)?;
         let assignment = Assignment::new(alloc);
         let marked = LiteralSet::new(alloc);
+        let order = Order::new(alloc);
         Ok(Search {
             clauses,
             log: Vec::new(alloc),
@@ -93,6 +111,7 @@ impl Search {
             assignment,
             watches,
             head: 0,
+            order,
             marked,
             in_conflict: false,
             conflict: 0,
@@ -136,7 +155,7 @@ impl Search {
         admit(alloc, &mut self.clauses, &mut self.watches, &mut self.variables, clause)?;
         let entries = self.assignment.entries();
         let first = next_decision(entries, 0, entries.len());
-        cut_back(&mut self.assignment, &mut self.head, first);
+        cut_back(&mut self.assignment, &mut self.head, &mut self.order, first);
         self.in_conflict = false;
         Ok(())
     }
@@ -150,6 +169,7 @@ impl Search {
         if self.clauses.len() >= MOST {
             return Err(SearchFault::Memory(AllocError));
         }
+        let entries = self.assignment.entries();
         let Analysis {
             clause,
             hints,
@@ -158,7 +178,7 @@ impl Search {
         } = analysed(
             alloc,
             &self.clauses,
-            self.assignment.entries(),
+            entries,
             &mut self.marked,
             self.conflict,
         )?;
@@ -171,7 +191,9 @@ impl Search {
             hints,
             watched,
         )?;
-        cut_back(&mut self.assignment, &mut self.head, back);
+        let back = back_or_anew(entries, back, self.order.restarts());
+        self.order.bump_all(self.marked.as_slice());
+        cut_back(&mut self.assignment, &mut self.head, &mut self.order, back);
         self.in_conflict = false;
         Ok(())
     }
@@ -189,9 +211,10 @@ impl Search {
             &mut self.watches,
             &mut self.assignment,
             &mut self.head,
+            &mut self.order,
         ) {
             Err(fault) => {
-                cut_back(&mut self.assignment, &mut self.head, before);
+                cut_back(&mut self.assignment, &mut self.head, &mut self.order, before);
                 Err(SearchFault::Memory(fault))
             }
             Ok(None) => {
@@ -210,7 +233,7 @@ impl Search {
                         return Ok(Found::Empty);
                     }
                     if self.clauses.len() >= MOST {
-                        cut_back(&mut self.assignment, &mut self.head, before);
+                        cut_back(&mut self.assignment, &mut self.head, &mut self.order, before);
                         return Err(SearchFault::Memory(AllocError));
                     }
                     match refuted(
@@ -227,7 +250,7 @@ impl Search {
                             Ok(Found::Empty)
                         }
                         Err(fault) => {
-                            cut_back(&mut self.assignment, &mut self.head, before);
+                            cut_back(&mut self.assignment, &mut self.head, &mut self.order, before);
                             Err(SearchFault::Memory(fault))
                         }
                     }

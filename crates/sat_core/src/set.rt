@@ -109,6 +109,13 @@ impl LiteralSet {
         }
     }
 
+    /// The literals in order.
+    pub fn as_slice(&self) -> &[Literal]
+        ensures { result.now ≡ self.now }
+    {
+        &self.literals
+    }
+
     /// Whether the literal is in the set.
     pub fn has(&self, literal: Literal) -> bool
         ensures { result ≡ has self.now literal }

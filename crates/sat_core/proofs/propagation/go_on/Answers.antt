@@ -43,5 +43,5 @@ loop-number-preserved c = let k = map clause_view c.args.clauses.now in (
 pub loop-number-smaller : goal.loop-number-smaller
 loop-number-smaller c =
     let g : length c.loop-number.assignment ≤ length c.propagate.new.assignment = grown _ _ c.propagate.ensures.advance.grows in
-    let l : length c.decide.new.assignment ≡ length c.propagate.new.assignment + 1 = c.in_ok-decide-in-Some-unassigned.ensures.longer in
+    let l : length c.decide.new.assignment ≡ length c.propagate.new.assignment + 1 = c.in_ok-decide-in-Some-next_open.ensures.longer in
     falls c.args.variables.now c.loop-number.assignment c.decide.new.assignment (omega arith) c.decide.ensures.is_trail.apart c.decide.ensures.within
