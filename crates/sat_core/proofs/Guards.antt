@@ -1,5 +1,5 @@
 -- Where the clauses that watch a literal have a true one.
-use Rattle.std.specs.Prelude.{ℕ, zero, suc, ◌≡◌, ◌≢◌, ◌⊎◌, ◌+◌, ◌<◌, ◌≤◌, true, false, List, [], ◌∷◌, ◌++◌, length, Option, Some, None, All, Contains, drop, take, get_or, slice_get, refl}
+use Rattle.std.specs.Prelude.{ℕ, suc, ◌≡◌, ◌≢◌, ◌⊎◌, ◌+◌, ◌<◌, ◌≤◌, List, [], ◌∷◌, ◌++◌, length, Option, Some, None, All, Contains, drop, take, get_or, slice_get, refl}
 use Rattle.std.proofs.Common.{sym, ◌∙◌, ap, subst, arith, inl, inr}
 use Rattle.std.proofs.lemmas.List.{length-append}
 use Rattle.std.proofs.lemmas.Bool.{cases_lt}
@@ -7,12 +7,10 @@ use Rattle.std.proofs.lemmas.List.Elements.{All-contains, Contains-push, Contain
 use Rattle.proof_steps.specs.declared.Literal.{Literal}
 use Rattle.proof_steps.specs.Meaning.{at, opposite}
 use Rattle.proof_checker.specs.Derived.{has}
-use Rattle.proof_checker.specs.Rules.{IsOnlyOutside}
 use Rattle.sat_core.specs.declared.assigned.Assigned.{Assigned}
 use Rattle.sat_core.specs.declared.watcher.Watcher.{Watcher}
-use Rattle.sat_core.specs.Set.{place_of}
-use Rattle.sat_core.specs.Trail.{trues, falses, IsApart, IsFalse, IsSettled}
-use Rattle.sat_core.specs.Watching.{Watching, list_at, IsListed, IsWatch, IsOther, IsShort, IsPair, IsWatching, IsGuard, IsGuarded, IsWatched, IsVisiting, IsUnmoved, IsDropped, IsMoved, HasTrue}
+use Rattle.sat_core.specs.Trail.{trues, falses, IsApart, IsSettled}
+use Rattle.sat_core.specs.Watching.{Watching, list_at, IsListed, IsWatch, IsOther, IsShort, IsPair, IsWatching, IsGuard, IsGuarded, IsWatched, IsVisiting, IsDropped, IsMoved, HasTrue}
 use Rattle.sat_core.specs.Watching.{CanWatch, IsEntered, IsHead}
 use Rattle.sat_core.specs.Analysis.{IsOneOf, IsLast, IsNext, IsUnseen}
 use Rattle.sat_core.proofs.Places.{some_is, within, get-contains, contains-get, get-push, get-append, get-take, take-within, read, from_map, to_map}
@@ -20,7 +18,7 @@ use Rattle.sat_core.proofs.Sets.{either, one-or-other, has-contains, has-not}
 use Rattle.sat_core.proofs.Consistent.{consistent, entry_once, opposite-opposite}
 use Rattle.sat_core.proofs.Fresh.{all_from}
 use Rattle.sat_core.proofs.Rows.{eq_or}
-use Rattle.sat_core.proofs.Watched.{drop-get, get-drop, none-listed, watch-of, watching_same, at-push-cases, at-within, entered, old_or_new}
+use Rattle.sat_core.proofs.Watched.{drop-get, get-drop, none-listed, watch-of, at-push-cases, at-within, entered, old_or_new}
 
 -- one entry more on the trail
 module _ (trail : List Assigned) (a : Assigned) where
@@ -65,9 +63,9 @@ module _ (trail : List Assigned) (a : Assigned) where
       is_next = (v.is_next.0, get-append trail (a ∷ []) head v.is_next.0 v.is_next.1, v.is_next.2);
       visited = λ n c e x. elim (v.visited n c e x)
           as (λ _. IsGuarded (trail ++ a ∷ []) c f (suc head) ⊎ IsListed (drop j (list_at w f)) n) [
-        | inl g ↦ inl (guarded_push c f (suc head) (let h = within trail head v.is_next.0 v.is_next.1 in omega arith) g)
-        | inr m ↦ inr m
-      ];
+            | inl g ↦ inl (guarded_push c f (suc head) (let h = within trail head v.is_next.0 v.is_next.1 in omega arith) g)
+            | inr m ↦ inr m
+          ];
     }
 
 module _ (known : List (List Literal)) (trail : List Assigned) (w : Watching) (head : ℕ) (f : Literal) where
@@ -102,7 +100,7 @@ module _ (known : List (List Literal)) (trail : List Assigned) (w : Watching) (h
     guard_at : (clause : List Literal) → IsGuard trail clause head → IsGuarded trail clause f (suc head)
     guard_at clause g = λ i a l s o.
         let r : a.literal ≡ v.is_next.0.literal = sym (opposite-opposite a.literal) ∙ ap opposite (o ∙ sym v.is_next.2)
-            ∙ opposite-opposite v.is_next.0.literal in
+        ∙ opposite-opposite v.is_next.0.literal in
         let q : i ≡ head = entry_once trail apart i head a v.is_next.0 s v.is_next.1 r in
         subst (IsGuard trail clause) (sym q) g
 
@@ -133,14 +131,14 @@ module _ (known : List (List Literal)) (trail : List Assigned) (w : Watching) (h
         is_next = v.is_next;
         visited = λ n c d x. elim (v.visited n c d x)
             as (λ _. IsGuarded trail c f (suc head) ⊎ IsListed (drop (j + 1) (list_at w f)) n) [
-          | inl y ↦ inl y
-          | inr m ↦ elim (eq_or n e.clause) as (λ _. IsGuarded trail c f (suc head) ⊎ IsListed (drop (j + 1) (list_at w f)) n) [
-            | inl q ↦ inl (subst (λ z. IsGuarded trail z f (suc head))
-                (some_is clause c (sym h ∙ ap (at known) (sym q) ∙ d)) (guard_at clause g))
-            | inr ne ↦ inr (let r = still n ne m in
-                (r.1, get-drop (list_at w f) (j + 1) r.0 r.1 (let a = r.2 in let b = r.3 in omega arith) r.4, r.5))
-          ]
-        ];
+              | inl y ↦ inl y
+              | inr m ↦ elim (eq_or n e.clause) as (λ _. IsGuarded trail c f (suc head) ⊎ IsListed (drop (j + 1) (list_at w f)) n) [
+                | inl q ↦ inl (subst (λ z. IsGuarded trail z f (suc head))
+                    (some_is clause c (sym h ∙ ap (at known) (sym q) ∙ d)) (guard_at clause g))
+                | inr ne ↦ inr (let r = still n ne m in
+                    (r.1, get-drop (list_at w f) (j + 1) r.0 r.1 (let a = r.2 in let b = r.3 in omega arith) r.4, r.5))
+              ]
+            ];
       }
 
       module _ (w' : Watching) (m : IsDropped w w' f j) (out : IsWatch w e.clause f → ⊥) where
@@ -150,12 +148,12 @@ module _ (known : List (List Literal)) (trail : List Assigned) (w : Watching) (h
         listed-still : (n : ℕ) (l : Literal) → IsWatch w n l → IsListed (list_at w l) n → IsListed (list_at w' l) n
         listed-still n l x y = one-or-other l f
             (λ q. let s = still-all n (λ z. out (subst (λ k. IsWatch w k f) z (subst (IsWatch w n) q x))) (subst (λ z. IsListed (list_at w z) n) q y) in
-                subst (λ z. IsListed (list_at w' z) n) (sym q) s)
+            subst (λ z. IsListed (list_at w' z) n) (sym q) s)
             (λ ne. subst (λ z. IsListed z n) (sym (m.others l ne)) y) where
-          still-all : (n : ℕ) → n ≢ e.clause → IsListed (list_at w f) n → IsListed (list_at w' f) n
-          still-all n ne (x, c, q) = let r = contains-get (list_at w f) x c in
-              let z : r.0 ≢ j = λ z. ne (sym q ∙ ap (λ (y : Watcher). y.clause) (some_is x e (sym r.1 ∙ ap (slice_get (list_at w f)) z ∙ here))) in
-              let t = m.from.kept r.0 x z r.1 in (x, get-contains (list_at w' f) t.0 x t.2, q)
+              still-all : (n : ℕ) → n ≢ e.clause → IsListed (list_at w f) n → IsListed (list_at w' f) n
+              still-all n ne (x, c, q) = let r = contains-get (list_at w f) x c in
+                  let z : r.0 ≢ j = λ z. ne (sym q ∙ ap (λ (y : Watcher). y.clause) (some_is x e (sym r.1 ∙ ap (slice_get (list_at w f)) z ∙ here))) in
+                  let t = m.from.kept r.0 x z r.1 in (x, get-contains (list_at w' f) t.0 x t.2, q)
 
         pub visit_dropped : IsVisiting known trail w' head f j
         visit_dropped = record {
@@ -178,11 +176,11 @@ module _ (known : List (List Literal)) (trail : List Assigned) (w : Watching) (h
           is_next = v.is_next;
           visited = λ n c d x. elim (v.visited n c d (watch-back n f x))
               as (λ _. IsGuarded trail c f (suc head) ⊎ IsListed (drop j (list_at w' f)) n) [
-            | inl y ↦ inl y
-            | inr y ↦ inr (let r = still n (λ z. out (subst (λ k. IsWatch w k f) z (watch-back n f x))) y in
-                let t = m.from.kept r.0 r.1 r.3 r.4 in
-                (r.1, get-drop (list_at w' f) j t.0 r.1 (t.1 r.2) t.2, r.5))
-          ];
+                | inl y ↦ inl y
+                | inr y ↦ inr (let r = still n (λ z. out (subst (λ k. IsWatch w k f) z (watch-back n f x))) y in
+                    let t = m.from.kept r.0 r.1 r.3 r.4 in
+                    (r.1, get-drop (list_at w' f) j t.0 r.1 (t.1 r.2) t.2, r.5))
+              ];
         }
 
       module _ (w' : Watching) (number : ℕ) (other found : Literal) (m : IsMoved w w' f j number other found)
@@ -215,23 +213,26 @@ module _ (known : List (List Literal)) (trail : List Assigned) (w : Watching) (h
         grows : (l : Literal) (x : Watcher) → l ≢ f → Contains (list_at w l) x → Contains (list_at w' l) x
         grows l x ne h = one-or-other l found
             (λ q. subst (λ z. Contains (list_at w' z) x) (sym q) (subst (λ z. Contains z x) (sym m.to)
-                (Contains-append_left (list_at w found) (record { clause = number; blocker = other } ∷ []) x
-                (subst (λ z. Contains (list_at w z) x) q h))))
+            (Contains-append_left (list_at w found) (record { clause = number; blocker = other } ∷ []) x
+            (subst (λ z. Contains (list_at w z) x) q h))))
             (λ nd. subst (λ z. Contains z x) (sym (m.others l ne nd)) h)
 
         kept-listed : (n : ℕ) (l : Literal) → n ≢ number → IsListed (list_at w l) n → IsListed (list_at w' l) n
         kept-listed n l ne (x, c, q) = one-or-other l f
             (λ y. let r = contains-get (list_at w f) x (subst (λ z. Contains (list_at w z) x) y c) in
-                let z : r.0 ≢ j = λ z. ne (sym q ∙ ap (λ (y : Watcher). y.clause)
-                    (some_is x e (sym r.1 ∙ ap (slice_get (list_at w f)) z ∙ here)) ∙ is) in
-                let t = m.from.kept r.0 x z r.1 in
-                subst (λ z. IsListed (list_at w' z) n) (sym y) (x, get-contains (list_at w' f) t.0 x t.2, q))
+            let z : r.0 ≢ j = λ z. ne (sym q ∙ ap (λ (y : Watcher). y.clause)
+            (some_is x e (sym r.1 ∙ ap (slice_get (list_at w f)) z ∙ here)) ∙ is) in
+            let t = m.from.kept r.0 x z r.1 in
+            subst (λ z. IsListed (list_at w' z) n) (sym y) (x, get-contains (list_at w' f) t.0 x t.2, q))
             (λ nf. (x, grows l x nf c, q))
 
         found-listed : IsListed (list_at w' found) number
-        found-listed = (record { clause = number; blocker = other },
-            subst (λ z. Contains z record { clause = number; blocker = other }) (sym m.to)
-                (Contains-push (list_at w found) record { clause = number; blocker = other }), refl)
+        found-listed = (
+          record { clause = number; blocker = other },
+          subst (λ z. Contains z record { clause = number; blocker = other }) (sym m.to)
+              (Contains-push (list_at w found) record { clause = number; blocker = other }),
+          refl,
+        )
 
         other-listed : IsListed (list_at w' other) number
         other-listed = let r = v.watched.watching.listed number other other-watched in (r.0, grows other r.0 other-not r.1, r.2)
@@ -263,9 +264,9 @@ module _ (known : List (List Literal)) (trail : List Assigned) (w : Watching) (h
               (λ q. v.watched.watching.blockers f x (m.from.only x (subst (λ z. Contains (list_at w' z) x) q h)))
               (λ nf. one-or-other l found
               (λ q. elim (Contains-push_cases (list_at w found) record { clause = number; blocker = other } x
-                  (subst (λ z. Contains z x) m.to (subst (λ z. Contains (list_at w' z) x) q h)))
-                  as (λ _. (c : List Literal) × (at known x.clause ≡ Some c) × Contains c x.blocker)
-                  [ inl y ↦ v.watched.watching.blockers found x y | inr y ↦ blocker-in x y ])
+              (subst (λ z. Contains z x) m.to (subst (λ z. Contains (list_at w' z) x) q h)))
+              as (λ _. (c : List Literal) × (at known x.clause ≡ Some c) × Contains c x.blocker)
+              [ inl y ↦ v.watched.watching.blockers found x y | inr y ↦ blocker-in x y ])
               (λ nd. v.watched.watching.blockers l x (subst (λ z. Contains z x) (m.others l nf nd) h)));
         } where
           none-is : {X : Type 0} (x : X) → None ≡ Some x → ⊥
@@ -336,7 +337,7 @@ module _ (known : List (List Literal)) (trail : List Assigned) (w : Watching) (h
     (k : IsWatched known trail w head) (less : head' ≤ head) (fits : head' ≤ length (take n trail))
     (late : (i : ℕ) (a : Assigned) → head' < i → i < n → slice_get trail i ≡ Some a → a.reason ≢ 0)
     (edge : (i j : ℕ) (b : Assigned) → i < head' → n ≤ j → slice_get trail j ≡ Some b
-        → (d : ℕ) × (x : Assigned) × (i < d) × (d ≤ j) × (slice_get trail d ≡ Some x) × (x.reason ≡ 0)) where
+    → (d : ℕ) × (x : Assigned) × (i < d) × (d ≤ j) × (slice_get trail d ≡ Some x) × (x.reason ≡ 0)) where
   pub watched_cut : IsWatched known (take n trail) w head'
   watched_cut = record {
     watching = k.watching;
@@ -346,12 +347,12 @@ module _ (known : List (List Literal)) (trail : List Assigned) (w : Watching) (h
         let g = k.guarded m c l e x i a (omega arith) r.1 o in
         elim (cases_lt g.place n) as (λ _. IsGuard (take n trail) c i) [
           | inl y ↦ record {
-              place = g.place;
-              entry = g.entry;
-              is_there = get-take trail n g.place y ∙ g.is_there;
-              in_clause = g.in_clause;
-              undecided = λ q b u z t. let p = take-within trail n q b t in g.undecided q b u z p.1;
-            }
+            place = g.place;
+            entry = g.entry;
+            is_there = get-take trail n g.place y ∙ g.is_there;
+            in_clause = g.in_clause;
+            undecided = λ q b u z t. let p = take-within trail n q b t in g.undecided q b u z p.1;
+          }
           | inr y ↦ absurd (let d = edge i g.place g.entry h y g.is_there in g.undecided d.0 d.1 d.2 d.3 d.4 d.5)
         ];
   }
@@ -384,17 +385,17 @@ module _ (known : List (List Literal)) (trail trail' entries : List Assigned) (w
   watched_from d l = subst (λ x. IsWatched known x w d) (sym e)
       (let q = cut-last d l in let p = take-within trail n d q.0 q.1 in
       watched_cut known trail w head n d k
-          (elim (cases_lt head d) as (λ _. d ≤ head) [ inl x ↦ absurd (k.late d q.0 x p.1 q.2) | inr x ↦ x ])
-          (let z = within (take n trail) d q.0 q.1 in omega arith)
-          (λ i a h b s. q.3 i a h (get-take trail n i b ∙ s))
-          (λ i j b h m s. (d, q.0, h, (let z = p.0 in omega arith), p.1, q.2)))
+      (elim (cases_lt head d) as (λ _. d ≤ head) [ inl x ↦ absurd (k.late d q.0 x p.1 q.2) | inr x ↦ x ])
+      (let z = within (take n trail) d q.0 q.1 in omega arith)
+      (λ i a h b s. q.3 i a h (get-take trail n i b ∙ s))
+      (λ i j b h m s. (d, q.0, h, (let z = p.0 in omega arith), p.1, q.2)))
 
   pub watched_anew : IsLast entries None → IsWatched known trail' w 0
   watched_anew l = subst (λ x. IsWatched known x w 0) (sym e)
       (let q = subst (λ x. IsLast x None) (f ∙ e) l in
       watched_cut known trail w head n 0 k (omega arith) (omega arith)
-          (λ i a h b s. q i a (get-take trail n i b ∙ s))
-          (λ i j b h m s. absurd (omega arith)))
+      (λ i a h b s. q i a (get-take trail n i b ∙ s))
+      (λ i j b h m s. absurd (omega arith)))
 
 pub head_last : (trail' entries : List Assigned) (d : ℕ) → entries ≡ trail' → IsLast entries (Some d) → IsHead trail' d
 head_last trail' entries d f l = let q = subst (λ x. IsLast x (Some d)) f l in inr (q.0, q.1, q.2)

@@ -1,11 +1,10 @@
 -- The marks stand for the list: what a write keeps.
-use Rattle.std.specs.Prelude.{ℕ, zero, suc, ◌≡◌, ◌≢◌, ◌<◌, ◌≤◌, ◌+◌, ◌*◌, Bool, true, false, cond, List, [], ◌∷◌, ◌++◌, length, get_or, drop, replicate, slice_set, refl}
+use Rattle.std.specs.Prelude.{ℕ, zero, suc, ◌≡◌, ◌<◌, ◌+◌, Bool, true, false, cond, List, [], ◌∷◌, ◌++◌, length, get_or, drop, replicate, slice_set, refl}
 use Rattle.std.proofs.Common.{sym, ◌∙◌, ap, subst, arith}
-use Rattle.std.proofs.lemmas.List.{drop_more, length-replicate, get_or-replicate, get_or-set_same, get_or-set_other, append-nil, append_assoc}
-use Rattle.std.proofs.lemmas.Bool.Decides.{nat_tests}
+use Rattle.std.proofs.lemmas.List.{drop_more, get_or-set_same, get_or-set_other, append-nil, append_assoc}
 use Rattle.proof_steps.specs.declared.Literal.{Literal}
 use Rattle.proof_steps.specs.declared.Literal.TheVariants.{Flag, Atom}
-use Rattle.proof_checker.specs.Derived.{same, same_sign, has}
+use Rattle.proof_checker.specs.Derived.{same, has}
 use Rattle.sat_core.proofs.Sets.{same-is, same-refl, either}
 use Rattle.sat_core.specs.Set.{place_of, IsTied, IsCovered, IsWidened}
 
@@ -36,12 +35,12 @@ pub mark-set : (marks : List Bool) (l m : Literal) (to : Bool) → place_of l < 
     → get_or (slice_set marks (place_of l) to) (place_of m) false ≡ cond (same l m) to (get_or marks (place_of m) false)
 mark-set marks l m to h = either (same l m)
     (λ y. let e : m ≡ l = sym (same-is l m y) in
-        subst (λ x. get_or (slice_set marks (place_of l) to) (place_of x) false ≡ cond (same l x) to (get_or marks (place_of x) false)) (sym e)
-        (get_or-set_same marks (place_of l) to false h
-        ∙ ap (λ b. cond b to (get_or marks (place_of l) false)) (sym (same-refl l))))
+    subst (λ x. get_or (slice_set marks (place_of l) to) (place_of x) false ≡ cond (same l x) to (get_or marks (place_of x) false)) (sym e)
+    (get_or-set_same marks (place_of l) to false h
+    ∙ ap (λ b. cond b to (get_or marks (place_of l) false)) (sym (same-refl l))))
     (λ n. get_or-set_other marks (place_of l) (place_of m) to false
-            (λ e. let y : same l m ≡ true = subst (λ x. same l x ≡ true) (same-number l m (sym e)) (same-refl l) in absurd cc)
-        ∙ ap (λ b. cond b to (get_or marks (place_of m) false)) (sym n))
+    (λ e. let y : same l m ≡ true = subst (λ x. same l x ≡ true) (same-number l m (sym e)) (same-refl l) in absurd cc)
+    ∙ ap (λ b. cond b to (get_or marks (place_of m) false)) (sym n))
 
 unset-same : (marks : List Bool) (p : ℕ) → get_or (slice_set marks p false) p false ≡ false
 unset-same [] p = refl
@@ -53,11 +52,11 @@ pub unmark-set : (marks : List Bool) (l m : Literal)
     → get_or (slice_set marks (place_of l) false) (place_of m) false ≡ cond (same l m) false (get_or marks (place_of m) false)
 unmark-set marks l m = either (same l m)
     (λ y. let e : m ≡ l = sym (same-is l m y) in
-        subst (λ x. get_or (slice_set marks (place_of l) false) (place_of x) false ≡ cond (same l x) false (get_or marks (place_of x) false)) (sym e)
-        (unset-same marks (place_of l) ∙ ap (λ b. cond b false (get_or marks (place_of l) false)) (sym (same-refl l))))
+    subst (λ x. get_or (slice_set marks (place_of l) false) (place_of x) false ≡ cond (same l x) false (get_or marks (place_of x) false)) (sym e)
+    (unset-same marks (place_of l) ∙ ap (λ b. cond b false (get_or marks (place_of l) false)) (sym (same-refl l))))
     (λ n. get_or-set_other marks (place_of l) (place_of m) false false
-            (λ e. let y : same l m ≡ true = subst (λ x. same l x ≡ true) (same-number l m (sym e)) (same-refl l) in absurd cc)
-        ∙ ap (λ b. cond b false (get_or marks (place_of m) false)) (sym n))
+    (λ e. let y : same l m ≡ true = subst (λ x. same l x ≡ true) (same-number l m (sym e)) (same-refl l) in absurd cc)
+    ∙ ap (λ b. cond b false (get_or marks (place_of m) false)) (sym n))
 
 none-marked : (n p : ℕ) → get_or (replicate n false) p false ≡ false
 none-marked zero p = refl
@@ -76,8 +75,11 @@ pub widened-none : (marks : List Bool) → IsWidened marks marks
 widened-none marks = (0, sym (append-nil marks))
 
 pub widened-more : (old now new : List Bool) → IsWidened old now → new ≡ now ++ false ∷ [] → IsWidened old new
-widened-more old now new (n, e) f = (suc n, f ∙ ap (λ x. x ++ false ∷ []) e ∙ append_assoc old (replicate n false) (false ∷ [])
-    ∙ ap (λ x. old ++ x) (replicate-push n))  where
+widened-more old now new (n, e) f = (
+  suc n,
+  f ∙ ap (λ x. x ++ false ∷ []) e ∙ append_assoc old (replicate n false) (false ∷ [])
+      ∙ ap (λ x. old ++ x) (replicate-push n),
+) where
   replicate-push : (n : ℕ) → replicate n false ++ false ∷ [] ≡ replicate (suc n) false
   replicate-push zero = refl
   replicate-push (suc n) = ap (λ x. false ∷ x) (replicate-push n)
@@ -134,4 +136,4 @@ pub tied_less : (marks marks' : List Bool) (literals : List Literal) (l : Litera
 tied_less marks marks' literals l t once e = λ m.
     ap (λ x. get_or x (place_of m) false) e ∙ unmark-set marks l m
     ∙ less-bool (same l m) (get_or marks (place_of m) false) (has literals m)
-      (λ y. subst (λ x. has literals x ≡ false) (same-is l m y) once) (t m ∙ has-snoc literals l m)
+    (λ y. subst (λ x. has literals x ≡ false) (same-is l m y) once) (t m ∙ has-snoc literals l m)

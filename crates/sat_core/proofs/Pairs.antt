@@ -7,7 +7,7 @@ use Rattle.proof_checker.specs.Derived.{same}
 use Rattle.std.proofs.lemmas.List.{length-set}
 use Rattle.sat_core.specs.declared.watcher.Watcher.{Watcher}
 use Rattle.sat_core.specs.Set.{place_of}
-use Rattle.sat_core.specs.Watching.{Watching, IsWatch, IsOther, IsSameBut, IsWithout, IsMoved, row}
+use Rattle.sat_core.specs.Watching.{Watching, IsOther, IsSameBut, IsWithout, IsMoved, row}
 use Rattle.sat_core.proofs.Marking.{same-number}
 use Rattle.sat_core.proofs.Places.{some_is}
 use Rattle.sat_core.proofs.Sets.{same-is, same-refl}
@@ -60,7 +60,7 @@ module _ (rows rows' rows'' : List (List Watcher)) (f found other : Literal) (j 
       → IsWithout (row rows' p) (row rows'' p) j → ((r : ℕ) → r ≢ p → row rows'' r ≡ row rows' r)
       → found ≢ f → 0 < number → number ≤ length pairs
       → IsMoved record { lists = rows; pairs = pairs; shorts = shorts }
-          record { lists = rows''; pairs = slice_set pairs (number - 1) (Some (found, other)); shorts = shorts } f j number other found
+      record { lists = rows''; pairs = slice_set pairs (number - 1) (Some (found, other)); shorts = shorts } f j number other found
   moved b wo o ne pos h = record {
     from = subst (λ z. IsWithout (row rows z) (row rows'' z) j) pf
         (subst (λ z. IsWithout z (row rows'' p) j) (b.others p (λ e. ne (same-number found f (sym qf ∙ sym e ∙ pf)))) wo);

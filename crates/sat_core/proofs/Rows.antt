@@ -67,7 +67,7 @@ pub entry-at : (rows : List (Vec Watcher Global)) (p q j : ℕ) (v : Vec Watcher
 entry-at rows p q j v e pq h f g =
     let w : p < length rows = subst (λ x. x < length rows) (sym pq) (row-within rows q j h) in
     let r : row (lists_of rows) q ≡ v.items =
-        ap (row (lists_of rows)) (sym pq) ∙ row-of rows p v w ∙ ap (λ (x : Vec Watcher Global). x.items) (sym f) in
+    ap (row (lists_of rows)) (sym pq) ∙ row-of rows p v w ∙ ap (λ (x : Vec Watcher Global). x.items) (sym f) in
     let k : j < length v.items = subst (λ x. j < length x) r h in
     ap (λ x. slice_get x j) r ∙ read v.items j e k ∙ ap (λ x. Some x) (sym g)
 
@@ -83,14 +83,20 @@ without old new j x h f moved stays = record {
 } where
   kept : (k : ℕ) (e : Watcher) → k ≢ j → slice_get old k ≡ Some e → (k + 1 < length old) ⊎ (length old ≤ k + 1)
       → (i : ℕ) × (j ≤ k → j ≤ i) × (slice_get new i ≡ Some e)
-  kept k e ne g (inl l) = (k, (λ q. q),
-      read new k e (omega arith) ∙ ap (λ y. Some y) (stays k e ne l ∙ get_or_from_slice_get old k e e g))
+  kept k e ne g (inl l) = (
+    k,
+    (λ q. q),
+    read new k e (omega arith) ∙ ap (λ y. Some y) (stays k e ne l ∙ get_or_from_slice_get old k e e g),
+  )
   kept k e ne g (inr l) = let w : k < length old = within old k e g in
       let last : k ≡ length old - 1 = omega arith in
-      let m : j + 1 < length old = omega arith in
-      (j, (λ q. omega arith),
-      read new j e (omega arith) ∙ ap (λ y. Some y) (moved e m ∙ ap (λ n. get_or old n e) (sym last)
-          ∙ get_or_from_slice_get old k e e g))
+      let m : j + 1 < length old = omega arith in (
+        j,
+        (λ q. omega arith),
+        read new j e (omega arith) ∙ ap (λ y. Some y) (moved e m ∙ ap (λ n. get_or old n e) (sym last)
+            ∙ get_or_from_slice_get old k e e g),
+      )
+
   only : (e : Watcher) (i : ℕ) → slice_get new i ≡ Some e → (i ≡ j) ⊎ (i ≢ j) → Contains old e
   only e i g (inl q) = let w : i < length new = within new i e g in let m : j + 1 < length old = omega arith in
       get-contains old (length old - 1) e (read old (length old - 1) e (omega arith)
@@ -111,8 +117,8 @@ removed rows p j v v' e n h f q l moved stays =
     subst (λ x. IsWithout x (row (lists_of (slice_set rows p v')) p) j) (sym r)
     (subst (λ x. IsWithout v.items x j) (sym (row-set rows p v' w))
     (without v.items v'.items j e (subst (λ x. j < length x) r h) l
-        (subst (λ m. (d : Watcher) → j + 1 < m → slice_index_or v'.items j d ≡ slice_index_or v.items (m - 1) d) q moved)
-        (subst (λ m. (k : ℕ) (d : Watcher) → k ≢ j → k + 1 < m → slice_index_or v'.items k d ≡ slice_index_or v.items k d) q stays)))
+    (subst (λ m. (d : Watcher) → j + 1 < m → slice_index_or v'.items j d ≡ slice_index_or v.items (m - 1) d) q moved)
+    (subst (λ m. (k : ℕ) (d : Watcher) → k ≢ j → k + 1 < m → slice_index_or v'.items k d ≡ slice_index_or v.items k d) q stays)))
 
 pub not-within : (rows : List (Vec Watcher Global)) (p j : ℕ) → j < length (row (lists_of rows) p) → length rows ≤ p → ⊥
 not-within rows p j h k = let w = row-within rows p j h in omega arith
@@ -136,7 +142,7 @@ unpushed first rows p v v' s h f g q = elim (eq_or q p) as (λ _. row (lists_of 
 pub popped : (rows : List (Vec Watcher Global)) (p : ℕ) (u v v' : Vec Watcher Global) (n k : ℕ) → p < length rows
     → u ≡ get_or rows p u → v ≡ get_or rows p v → n ≡ u.len → u.len ≡ length u.items → k ≡ n - 1 → v'.items ≡ take k v.items
     → IsSameBut (lists_of rows) (lists_of (slice_set rows p v')) p
-      (take (length (row (lists_of rows) p) - 1) (row (lists_of rows) p))
+    (take (length (row (lists_of rows) p) - 1) (row (lists_of rows) p))
 popped rows p u v v' n k h f g a b c e =
     let x : row (lists_of rows) p ≡ u.items = row-of rows p u h ∙ ap (λ (y : Vec Watcher Global). y.items) (sym f) in
     let y : row (lists_of rows) p ≡ v.items = row-of rows p v h ∙ ap (λ (y : Vec Watcher Global). y.items) (sym g) in

@@ -1,12 +1,10 @@
 -- Clauses that watch nothing.
-use Rattle.std.specs.Prelude.{ℕ, ◌≡◌, ◌≢◌, ◌+◌, ◌<◌, true, List, [], ◌∷◌, ◌++◌, Some, None, length, All, Contains, take, get_or, slice_get, refl}
-use Rattle.std.proofs.Common.{sym, ◌∙◌, ap, subst, arith, inl, inr}
+use Rattle.std.specs.Prelude.{ℕ, ◌≡◌, ◌≢◌, ◌+◌, ◌<◌, true, List, [], ◌∷◌, ◌++◌, Some, length, All, Contains, take, get_or, refl}
+use Rattle.std.proofs.Common.{sym, ◌∙◌, ap, subst, arith, inl}
 use Rattle.std.proofs.lemmas.List.{map-append, take_more, append_assoc}
 use Rattle.std.proofs.lemmas.List.Elements.{All-nil, All-contains, All-push, Contains-push, Contains-append_left}
 use Rattle.proof_steps.specs.declared.Literal.{Literal}
-use Rattle.proof_steps.specs.Meaning.{at, opposite}
-use Rattle.proof_checker.specs.Derived.{has}
-use Rattle.proof_checker.specs.Rules.{IsOnlyOutside}
+use Rattle.proof_steps.specs.Meaning.{at}
 use Rattle.sat_core.specs.declared.assigned.Assigned.{Assigned}
 use Rattle.sat_core.specs.declared.propagation.Standing.TheVariants.{Unit}
 use Rattle.sat_core.specs.Trail.{trues, falses, IsSettled, IsTrail}
@@ -14,10 +12,10 @@ use Rattle.sat_core.specs.Shown.{plain, Grows}
 use Rattle.sat_core.specs.Held.{Covers}
 use Rattle.sat_core.specs.Analysis.{IsLast}
 use Rattle.sat_core.specs.Propagation.{Stands}
-use Rattle.sat_core.specs.Watching.{Watching, IsShort, IsWatching, IsWatched, HasTrue}
+use Rattle.sat_core.specs.Watching.{Watching, IsShort, IsWatched, HasTrue}
 use Rattle.sat_core.specs.Visiting.{IsAdvance, IsShortAt, IsImpliedShort, HoldShorts}
 use Rattle.sat_core.proofs.Places.{some_is, at-contains, get-contains, read, from_map, to_map, take-within}
-use Rattle.sat_core.proofs.Sets.{either, has-contains, has-not}
+use Rattle.sat_core.proofs.Sets.{has-not}
 use Rattle.sat_core.proofs.Fresh.{all_from}
 use Rattle.sat_core.proofs.Growth.{grow}
 use Rattle.sat_core.proofs.Watched.{at-within}
@@ -29,12 +27,16 @@ settled_short trail [] s k = absurd (k.not_false (All-nil (Contains (falses trai
 settled_short trail (l ∷ ls) s k =
     let here : Contains (l ∷ ls) l = (0, omega arith, refl) in
     let out : ¬ Contains (falses trail) l = (λ f. k.not_false (all_from (Contains (falses trail)) (l ∷ ls)
-        (λ m c. subst (Contains (falses trail)) (s l m here c) f))) in
+    (λ m c. subst (Contains (falses trail)) (s l m here c) f))) in
     (l, here, k.not_unit l record { in_clause = here; outside = out; others = λ m c n. s m l c here })
 
 pub true_more : (trail more : List Assigned) (clause : List Literal) → HasTrue trail clause → HasTrue (trail ++ more) clause
-true_more trail more clause (l, c, t) = (l, c, subst (λ x. Contains x l) (sym (map-append (λ (a : Assigned). a.literal) trail more))
-    (Contains-append_left (trues trail) (trues more) l t))
+true_more trail more clause (l, c, t) = (
+  l,
+  c,
+  subst (λ x. Contains x l) (sym (map-append (λ (a : Assigned). a.literal) trail more))
+      (Contains-append_left (trues trail) (trues more) l t),
+)
 
 pub holds_more : (known : List (List Literal)) (old new : List Assigned) (n : ℕ) → Grows old new → IsImpliedShort known old n true
     → IsImpliedShort known new n true
@@ -56,9 +58,9 @@ pub decided_shorts : (known : List (List Literal)) (trail trail' : List Assigned
 decided_shorts known trail trail' w head d t e l k =
     let q : IsLast trail (Some d) = subst (λ x. IsLast x (Some d)) e l in
     all_from (λ n. IsImpliedShort known trail n true) w.shorts (λ n c. λ cl a. let r = k.watching.known_shorts n c in
-        let s : IsShort cl = subst IsShort (some_is r.0 cl (sym r.1 ∙ a)) r.2 in
-        taken-true trail d cl (settled_short (take d trail) cl s
-        (All-contains (IsSettled (take d trail)) known cl (t.settled d q.0 q.1 q.2) (at-contains known n cl a))))
+    let s : IsShort cl = subst IsShort (some_is r.0 cl (sym r.1 ∙ a)) r.2 in
+    taken-true trail d cl (settled_short (take d trail) cl s
+    (All-contains (IsSettled (take d trail)) known cl (t.settled d q.0 q.1 q.2) (at-contains known n cl a))))
 
 module _ (known : List (List Literal)) (trail : List Assigned) (w : Watching) (head : ℕ) (t : IsTrail known trail)
     (k : IsWatched known trail w head) (number : ℕ) (clause : List Literal) (here : at known number ≡ Some clause) where
@@ -76,7 +78,7 @@ module _ (known : List (List Literal)) (trail : List Assigned) (w : Watching) (h
           (λ ne. record { clause = clause; is_reason = here; unit = s.0 }) (λ e. absurd (not-zero e));
       within = λ variables c x. All-push (λ (a : Assigned). Contains variables (plain a.literal)) trail record { literal = l; reason = number } x
           (All-contains (λ y. Contains variables (plain y)) clause l
-              (All-contains (Covers variables) known clause c (at-contains known number clause here)) s.0.in_clause);
+          (All-contains (Covers variables) known clause c (at-contains known number clause here)) s.0.in_clause);
       grows = (record { literal = l; reason = number } ∷ [], refl);
     }
 
@@ -84,9 +86,12 @@ module _ (known : List (List Literal)) (trail : List Assigned) (w : Watching) (h
     unit_watched = watched_push trail record { literal = l; reason = number } known w head (inl not-zero) k
 
     pub unit_holds : IsImpliedShort known (trail ++ record { literal = l; reason = number } ∷ []) number true
-    unit_holds = λ c a. subst (HasTrue (trail ++ record { literal = l; reason = number } ∷ [])) (some_is clause c (sym here ∙ a))
-        (l, s.0.in_clause, subst (λ x. Contains x l) (sym (map-append (λ (y : Assigned). y.literal) trail (record { literal = l; reason = number } ∷ [])))
-            (Contains-push (trues trail) l))
+    unit_holds = λ c a. subst (HasTrue (trail ++ record { literal = l; reason = number } ∷ [])) (some_is clause c (sym here ∙ a)) (
+      l,
+      s.0.in_clause,
+      subst (λ x. Contains x l) (sym (map-append (λ (y : Assigned). y.literal) trail (record { literal = l; reason = number } ∷ [])))
+          (Contains-push (trues trail) l),
+    )
 
 -- short after short
 pub next_holds : (known : List (List Literal)) (old new : List Assigned) (shorts : List ℕ) (i d : ℕ) → i < length shorts
@@ -108,4 +113,4 @@ pub all_done : (known : List (List Literal)) (old new : List Assigned) (w w' : W
     → IsWatched known new w' head → w'.shorts ≡ w.shorts → HoldShorts known old w → All (IsSettled new) known
 all_done known old new w w' head a e k s h = all_settled known new w' a.is_trail.apart (subst (IsWatched known new w') e k)
     (λ n c m q. All-contains (λ m. IsImpliedShort known new m true) w'.shorts n
-        (subst (All (λ m. IsImpliedShort known new m true)) (sym s) (hold_more known old new w.shorts a.grows h)) m c q)
+    (subst (All (λ m. IsImpliedShort known new m true)) (sym s) (hold_more known old new w.shorts a.grows h)) m c q)

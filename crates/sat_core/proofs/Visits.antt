@@ -1,23 +1,22 @@
 -- What a visit keeps.
-use Rattle.std.specs.Prelude.{ℕ, suc, ◌≡◌, ◌≢◌, ◌⊎◌, ◌+◌, ◌-◌, ◌<◌, ◌≤◌, Bool, true, false, List, [], ◌∷◌, ◌++◌, length, Option, Some, None, All, Contains, take, get_or, slice_get, refl}
+use Rattle.std.specs.Prelude.{ℕ, ◌≡◌, ◌≢◌, ◌+◌, ◌<◌, ◌≤◌, true, false, List, [], ◌∷◌, ◌++◌, length, Some, None, Contains, slice_get, refl}
 use Rattle.std.proofs.Common.{sym, ◌∙◌, ap, subst, arith, inl, inr}
-use Rattle.std.proofs.lemmas.List.{append-nil, append_assoc, length-append}
+use Rattle.std.proofs.lemmas.List.{append-nil, append_assoc}
 use Rattle.std.proofs.lemmas.List.Elements.{All-contains, All-push, Contains-push}
 use Rattle.std.proofs.lemmas.List.{map-append}
 use Rattle.proof_steps.specs.declared.Literal.{Literal}
 use Rattle.proof_steps.specs.Meaning.{at, opposite}
-use Rattle.proof_checker.specs.Derived.{has, same}
+use Rattle.proof_checker.specs.Derived.{has}
 use Rattle.sat_core.specs.declared.assigned.Assigned.{Assigned}
 use Rattle.sat_core.specs.declared.watcher.Watcher.{Watcher}
 use Rattle.sat_core.specs.declared.visiting.Visit.TheVariants.{Next, Failed}
-use Rattle.sat_core.specs.Trail.{trues, falses, IsApart, IsFalse, IsTrail}
-use Rattle.sat_core.specs.Shown.{plain, Grows}
+use Rattle.sat_core.specs.Trail.{trues, falses, IsTrail}
+use Rattle.sat_core.specs.Shown.{plain}
 use Rattle.sat_core.specs.Held.{Covers}
-use Rattle.sat_core.specs.Propagation.{IsFalseAt}
-use Rattle.sat_core.specs.Watching.{Watching, list_at, IsWatch, IsOther, IsPair, IsWatching, IsWatched, IsVisiting, IsUnmoved, IsDropped, IsMoved}
+use Rattle.sat_core.specs.Watching.{Watching, list_at, IsOther, IsWatched, IsVisiting, IsUnmoved, IsDropped, IsMoved}
 use Rattle.sat_core.specs.Visiting.{CanStand, IsReplacement, IsAdvance, IsVisit}
-use Rattle.sat_core.proofs.Places.{some_is, within, get-contains, at-contains, to_map}
-use Rattle.sat_core.proofs.Sets.{either, one-or-other, has-contains, has-not, same-is, same-refl}
+use Rattle.sat_core.proofs.Places.{within, get-contains, at-contains, to_map}
+use Rattle.sat_core.proofs.Sets.{one-or-other, has-contains, has-not}
 use Rattle.sat_core.proofs.Growth.{grow}
 use Rattle.sat_core.proofs.Fresh.{all_from}
 use Rattle.sat_core.proofs.Watched.{watch-of, watching_same, at-within}
@@ -55,8 +54,11 @@ module _ (known : List (List Literal)) (trail : List Assigned) (t : IsTrail know
 
   implied : IsTrail known (trail ++ record { literal = l; reason = number } ∷ [])
   implied = grow known trail t record { literal = l; reason = number } (has-not (trues trail) l nt) (has-not (falses trail) l nf)
-      (λ ne. record { clause = clause; is_reason = here;
-          unit = record { in_clause = in_clause; outside = has-not (falses trail) l nf; others = others-false } })
+      (λ ne. record {
+        clause = clause;
+        is_reason = here;
+        unit = record { in_clause = in_clause; outside = has-not (falses trail) l nf; others = others-false };
+      })
       (λ e. absurd (let p = (at-within known number clause here).0 in let z : number ≡ 0 = e in omega arith))
 
   pub advance_push : IsAdvance known trail (trail ++ record { literal = l; reason = number } ∷ [])
@@ -64,7 +66,7 @@ module _ (known : List (List Literal)) (trail : List Assigned) (t : IsTrail know
     is_trail = implied;
     within = λ variables c w. All-push (λ (a : Assigned). Contains variables (plain a.literal)) trail record { literal = l; reason = number } w
         (All-contains (λ x. Contains variables (plain x)) clause l
-            (All-contains (Covers variables) known clause c (at-contains known number clause here)) in_clause);
+        (All-contains (Covers variables) known clause c (at-contains known number clause here)) in_clause);
     grows = (record { literal = l; reason = number } ∷ [], refl);
   }
 
@@ -78,15 +80,19 @@ module _ (known : List (List Literal)) (trail : List Assigned) (t : IsTrail know
 
   kept : (c : List Literal) (l : Literal) → at known e.clause ≡ Some c → Contains c l → Contains (trues trail) l
       → IsVisit known trail w w head f j (Next (j + 1))
-  kept c l k i h = (visit_kept known trail w head f t.apart j v e here c k (guard_true known trail w head f t.apart j v c l i h),
-      (let q = within (list_at w f) j e here in omega arith))
+  kept c l k i h = (
+    visit_kept known trail w head f t.apart j v e here c k (guard_true known trail w head f t.apart j v c l i h),
+    (let q = within (list_at w f) j e here in omega arith),
+  )
 
   pub blocked : has (trues trail) e.blocker ≡ true → IsVisit known trail w w head f j (Next (j + 1))
   blocked h = kept entry-clause.0 e.blocker entry-clause.1 entry-clause.2 (has-contains (trues trail) e.blocker h)
 
   pub forgotten : (w' : Watching) → IsDropped w w' f j → IsOther w e.clause f None → IsVisit known trail w w' head f j (Next j)
-  forgotten w' m out = (visit_dropped known trail w head f t.apart j v e here w' m out,
-      (let q = within (list_at w f) j e here in let z = m.from.fewer in omega arith))
+  forgotten w' m out = (
+    visit_dropped known trail w head f t.apart j v e here w' m out,
+    (let q = within (list_at w f) j e here in let z = m.from.fewer in omega arith),
+  )
 
   module _ (other : Literal) (o : IsOther w e.clause f (Some other)) where
     pair-in : (c : List Literal) → at known e.clause ≡ Some c → Contains c other
@@ -112,9 +118,16 @@ module _ (known : List (List Literal)) (trail : List Assigned) (t : IsTrail know
 
     pub failed : (c : List Literal) → at known e.clause ≡ Some c → IsReplacement trail c other None → has (falses trail) other ≡ true
         → IsVisit known trail w w head f j (Failed e.clause)
-    failed c k r h = ((c, k, all_from (Contains (falses trail)) c (λ m i. one-or-other m other
-        (λ q. subst (Contains (falses trail)) (sym q) (has-contains (falses trail) other h))
-        (λ ne. has-contains (falses trail) m (All-contains (λ x. CanStand trail x other false) c m r i ne)))), v.watched)
+    failed c k r h = (
+      (
+        c,
+        k,
+        all_from (Contains (falses trail)) c (λ m i. one-or-other m other
+            (λ q. subst (Contains (falses trail)) (sym q) (has-contains (falses trail) other h))
+            (λ ne. has-contains (falses trail) m (All-contains (λ x. CanStand trail x other false) c m r i ne))),
+      ),
+      v.watched,
+    )
 
     module _ (c : List Literal) (k : at known e.clause ≡ Some c) (r : IsReplacement trail c other None)
         (nt : has (trues trail) other ≡ false) (nf : has (falses trail) other ≡ false) where
@@ -125,10 +138,11 @@ module _ (known : List (List Literal)) (trail : List Assigned) (t : IsTrail know
       pushed =
           let more = trail ++ record { literal = other; reason = e.clause } ∷ [] in
           let v' = visiting_push trail record { literal = other; reason = e.clause } known w head f j
-              (λ z. let p = entry_number.0 in let y : e.clause ≡ 0 = z in omega arith) v in
-          let apart = pushed_advance.is_trail.apart in
-          (visit_kept known (trail ++ record { literal = other; reason = e.clause } ∷ []) w head f apart j v' e here c k
-              (guard_true known (trail ++ record { literal = other; reason = e.clause } ∷ []) w head f apart j v' c other (pair-in c k)
-              (subst (λ x. Contains x other) (sym (map-append (λ (x : Assigned). x.literal) trail (record { literal = other; reason = e.clause } ∷ [])))
-                  (Contains-push (trues trail) other))),
-          (let q = within (list_at w f) j e here in omega arith))
+          (λ z. let p = entry_number.0 in let y : e.clause ≡ 0 = z in omega arith) v in
+          let apart = pushed_advance.is_trail.apart in (
+            visit_kept known (trail ++ record { literal = other; reason = e.clause } ∷ []) w head f apart j v' e here c k
+                (guard_true known (trail ++ record { literal = other; reason = e.clause } ∷ []) w head f apart j v' c other (pair-in c k)
+                (subst (λ x. Contains x other) (sym (map-append (λ (x : Assigned). x.literal) trail (record { literal = other; reason = e.clause } ∷ [])))
+                (Contains-push (trues trail) other))),
+            (let q = within (list_at w f) j e here in omega arith),
+          )

@@ -1,19 +1,16 @@
 -- What the lists of the clauses that watch a literal keep.
-use Rattle.std.specs.Prelude.{ℕ, zero, suc, ◌≡◌, ◌≢◌, ◌⊎◌, ◌+◌, ◌<◌, ◌≤◌, List, [], ◌∷◌, ◌++◌, length, Option, Some, None, Contains, drop, take, slice_get, refl}
+use Rattle.std.specs.Prelude.{ℕ, zero, suc, ◌≡◌, ◌⊎◌, ◌+◌, ◌<◌, ◌≤◌, List, [], ◌∷◌, ◌++◌, length, Option, Some, None, Contains, drop, slice_get}
 use Rattle.std.proofs.Common.{sym, ◌∙◌, ap, subst, arith, inl, inr}
 use Rattle.std.proofs.lemmas.List.{length-append}
-use Rattle.std.proofs.lemmas.Bool.{cases_lt}
 use Rattle.std.proofs.lemmas.List.Elements.{Contains-push, Contains-push_cases, Contains-append_left}
 use Rattle.proof_steps.specs.declared.Literal.{Literal}
-use Rattle.proof_steps.specs.Meaning.{at, opposite}
-use Rattle.sat_core.specs.declared.assigned.Assigned.{Assigned}
+use Rattle.proof_steps.specs.Meaning.{at}
 use Rattle.sat_core.specs.declared.watcher.Watcher.{Watcher}
 use Rattle.sat_core.specs.Set.{place_of}
-use Rattle.sat_core.specs.Watching.{Watching, row, list_at, IsListed, IsWatch, IsOther, IsShort, IsPair, IsWatching, IsUnmoved, IsDropped, IsMoved, IsWithout, IsShortened, IsPaired, IsEntered, CanWatch}
+use Rattle.sat_core.specs.Watching.{Watching, row, list_at, IsListed, IsWatch, IsShort, IsPair, IsWatching, IsUnmoved, IsShortened, IsPaired, IsEntered, CanWatch}
 use Rattle.sat_core.specs.Analysis.{IsOneOf}
 use Rattle.sat_core.proofs.Places.{some_is, within, get-contains, contains-get, get-push, at-append, at-push}
 use Rattle.sat_core.proofs.Sets.{one-or-other}
-use Rattle.sat_core.proofs.Rows.{eq_or}
 
 -- what is left from a place on, by places
 pub drop-get : {X : Type 0} (xs : List X) (j : ℕ) (x : X) → Contains (drop j xs) x → (k : ℕ) × (j ≤ k) × (slice_get xs k ≡ Some x)
@@ -47,15 +44,15 @@ at-both : {X Y : Type 0} (xs : List X) (ys : List Y) (x a : X) (y b : Y) (n : �
     → ((at xs n ≡ Some a) × (at ys n ≡ Some b)) ⊎ ((n ≡ length xs + 1) × (x ≡ a) × (y ≡ b))
 at-both xs ys x a y b n l e f = elim (at-push-cases xs x a n e) as
     (λ _. ((at xs n ≡ Some a) × (at ys n ≡ Some b)) ⊎ ((n ≡ length xs + 1) × (x ≡ a) × (y ≡ b))) [
-  | inl p ↦ elim (at-push-cases ys y b n f) as (λ _. ((at xs n ≡ Some a) × (at ys n ≡ Some b)) ⊎ ((n ≡ length xs + 1) × (x ≡ a) × (y ≡ b))) [
-    | inl q ↦ inl (p, q)
-    | inr q ↦ absurd (let w = (at-within xs n a p).1 in let z = q.0 in omega arith)
-  ]
-  | inr p ↦ elim (at-push-cases ys y b n f) as (λ _. ((at xs n ≡ Some a) × (at ys n ≡ Some b)) ⊎ ((n ≡ length xs + 1) × (x ≡ a) × (y ≡ b))) [
-    | inl q ↦ absurd (let w = (at-within ys n b q).1 in let z = p.0 in omega arith)
-    | inr q ↦ inr (p.0, p.1, q.1)
-  ]
-]
+      | inl p ↦ elim (at-push-cases ys y b n f) as (λ _. ((at xs n ≡ Some a) × (at ys n ≡ Some b)) ⊎ ((n ≡ length xs + 1) × (x ≡ a) × (y ≡ b))) [
+        | inl q ↦ inl (p, q)
+        | inr q ↦ absurd (let w = (at-within xs n a p).1 in let z = q.0 in omega arith)
+      ]
+      | inr p ↦ elim (at-push-cases ys y b n f) as (λ _. ((at xs n ≡ Some a) × (at ys n ≡ Some b)) ⊎ ((n ≡ length xs + 1) × (x ≡ a) × (y ≡ b))) [
+        | inl q ↦ absurd (let w = (at-within ys n b q).1 in let z = p.0 in omega arith)
+        | inr q ↦ inr (p.0, p.1, q.1)
+      ]
+    ]
 
 pub watch-of : (w w' : Watching) (n : ℕ) (l : Literal) → at w'.pairs n ≡ at w.pairs n → IsWatch w' n l → IsWatch w n l
 watch-of w w' n l e (p, q, r) = (p, sym e ∙ q, r)
@@ -85,23 +82,27 @@ module _ (known : List (List Literal)) (w w' : Watching) (clause : List Literal)
     shorts = λ n c e q. elim (both n c None e q) as (λ _. Contains w'.shorts n × IsShort c) [
       | inl x ↦ (let r = k.shorts n c x.0 x.1 in
           (subst (λ z. Contains z n) (sym s.shorts) (Contains-append_left w.shorts ((length w.pairs + 1) ∷ []) n r.0), r.1))
-      | inr x ↦ (subst (λ z. Contains z n) (sym s.shorts)
-              (subst (Contains (w.shorts ++ (length w.pairs + 1) ∷ [])) (number n x.0) (Contains-push w.shorts (length w.pairs + 1))),
-          subst IsShort x.1 sh)
+      | inr x ↦ (
+        subst (λ z. Contains z n) (sym s.shorts)
+            (subst (Contains (w.shorts ++ (length w.pairs + 1) ∷ [])) (number n x.0) (Contains-push w.shorts (length w.pairs + 1))),
+        subst IsShort x.1 sh,
+      )
     ];
     known_shorts = λ n h. elim (Contains-push_cases w.shorts (length w.pairs + 1) n (subst (λ z. Contains z n) s.shorts h))
         as (λ _. (c : List Literal) × (at (known ++ clause ∷ []) n ≡ Some c) × IsShort c) [
-      | inl x ↦ (let r = k.known_shorts n x in (r.0, at-append known (clause ∷ []) n r.0 r.1, r.2))
-      | inr x ↦ (clause, at-push known clause n (let q = k.count in let y = x in omega arith), sh)
-    ];
+          | inl x ↦ (let r = k.known_shorts n x in (r.0, at-append known (clause ∷ []) n r.0 r.1, r.2))
+          | inr x ↦ (clause, at-push known clause n (let q = k.count in let y = x in omega arith), sh)
+        ];
     blockers = λ l e h. let r = k.blockers l e (subst (λ x. Contains (row x (place_of l)) e) s.lists h) in
         (r.0, at-append known (clause ∷ []) e.clause r.0 r.1, r.2);
   } where
     both : (n : ℕ) (c : List Literal) (o : Option (Literal × Literal)) → at (known ++ clause ∷ []) n ≡ Some c → at w'.pairs n ≡ Some o
         → ((at known n ≡ Some c) × (at w.pairs n ≡ Some o)) ⊎ ((n ≡ length known + 1) × (clause ≡ c) × (None ≡ o))
     both n c o e q = at-both known w.pairs clause c None o n (sym k.count) e (subst (λ x. at x n ≡ Some o) s.pairs q)
+
     number : (n : ℕ) → n ≡ length known + 1 → length w.pairs + 1 ≡ n
     number n e = let q = k.count in omega arith
+
     old : (n : ℕ) (l : Literal) → IsWatch w' n l → IsWatch w n l
     old n l (p, q, r) = elim (at-push-cases w.pairs None (Some p) n (subst (λ x. at x n ≡ Some (Some p)) s.pairs q)) as (λ _. IsWatch w n l)
         [ inl x ↦ (p, x, r) | inr x ↦ absurd (none-some p x.1) ]
@@ -110,12 +111,12 @@ module _ (known : List (List Literal)) (w w' : Watching) (clause : List Literal)
     bigger : (l : Literal) (e : Watcher) → Contains (list_at w l) e → Contains (list_at w' l) e
     bigger l e h = one-or-other l p.0
         (λ q. subst (λ x. Contains (list_at w' x) e) (sym q) (subst (λ x. Contains x e) (sym s.first)
-            (Contains-append_left (list_at w p.0) (record { clause = length w.pairs + 1; blocker = p.1 } ∷ []) e
-            (subst (λ x. Contains (list_at w x) e) q h))))
+        (Contains-append_left (list_at w p.0) (record { clause = length w.pairs + 1; blocker = p.1 } ∷ []) e
+        (subst (λ x. Contains (list_at w x) e) q h))))
         (λ na. one-or-other l p.1
         (λ q. subst (λ x. Contains (list_at w' x) e) (sym q) (subst (λ x. Contains x e) (sym s.second)
-            (Contains-append_left (list_at w p.1) (record { clause = length w.pairs + 1; blocker = p.0 } ∷ []) e
-            (subst (λ x. Contains (list_at w x) e) q h))))
+        (Contains-append_left (list_at w p.1) (record { clause = length w.pairs + 1; blocker = p.0 } ∷ []) e
+        (subst (λ x. Contains (list_at w x) e) q h))))
         (λ nb. subst (λ x. Contains x e) (sym (s.others l na nb)) h))
 
     -- the new entries are of the new clause, with one of its literals
@@ -126,14 +127,16 @@ module _ (known : List (List Literal)) (w w' : Watching) (clause : List Literal)
     unfolding IsNew
     added l e h = one-or-other l p.0
         (λ q. elim (Contains-push_cases (list_at w p.0) record { clause = length w.pairs + 1; blocker = p.1 } e
-              (subst (λ x. Contains x e) s.first (subst (λ x. Contains (list_at w' x) e) q h))) as (λ _. Contains (list_at w l) e ⊎ IsNew e)
-          [ inl x ↦ inl (subst (λ z. Contains (list_at w z) e) (sym q) x)
-          | inr x ↦ inr (sym (ap (λ (y : Watcher). y.clause) x), subst (Contains clause) (ap (λ (y : Watcher). y.blocker) x) ip.second) ])
+        (subst (λ x. Contains x e) s.first (subst (λ x. Contains (list_at w' x) e) q h))) as (λ _. Contains (list_at w l) e ⊎ IsNew e) [
+          | inl x ↦ inl (subst (λ z. Contains (list_at w z) e) (sym q) x)
+          | inr x ↦ inr (sym (ap (λ (y : Watcher). y.clause) x), subst (Contains clause) (ap (λ (y : Watcher). y.blocker) x) ip.second)
+        ])
         (λ na. one-or-other l p.1
         (λ q. elim (Contains-push_cases (list_at w p.1) record { clause = length w.pairs + 1; blocker = p.0 } e
-              (subst (λ x. Contains x e) s.second (subst (λ x. Contains (list_at w' x) e) q h))) as (λ _. Contains (list_at w l) e ⊎ IsNew e)
-          [ inl x ↦ inl (subst (λ z. Contains (list_at w z) e) (sym q) x)
-          | inr x ↦ inr (sym (ap (λ (y : Watcher). y.clause) x), subst (Contains clause) (ap (λ (y : Watcher). y.blocker) x) ip.first) ])
+        (subst (λ x. Contains x e) s.second (subst (λ x. Contains (list_at w' x) e) q h))) as (λ _. Contains (list_at w l) e ⊎ IsNew e) [
+          | inl x ↦ inl (subst (λ z. Contains (list_at w z) e) (sym q) x)
+          | inr x ↦ inr (sym (ap (λ (y : Watcher). y.clause) x), subst (Contains clause) (ap (λ (y : Watcher). y.blocker) x) ip.first)
+        ])
         (λ nb. inl (subst (λ x. Contains x e) (s.others l na nb) h)))
 
     number : (n : ℕ) → n ≡ length known + 1 → length w.pairs + 1 ≡ n
@@ -144,14 +147,18 @@ module _ (known : List (List Literal)) (w w' : Watching) (clause : List Literal)
     both n c o e q = at-both known w.pairs clause c (Some p) o n (sym k.count) e (subst (λ x. at x n ≡ Some o) s.pairs q)
 
     new-listed : (n : ℕ) (l : Literal) → length w.pairs + 1 ≡ n → (p.0 ≡ l) ⊎ (p.1 ≡ l) → IsListed (list_at w' l) n
-    new-listed n l e (inl q) = subst (λ x. IsListed (list_at w' x) n) q
-        (record { clause = length w.pairs + 1; blocker = p.1 },
-        subst (λ x. Contains x record { clause = length w.pairs + 1; blocker = p.1 }) (sym s.first)
-            (Contains-push (list_at w p.0) record { clause = length w.pairs + 1; blocker = p.1 }), e)
-    new-listed n l e (inr q) = subst (λ x. IsListed (list_at w' x) n) q
-        (record { clause = length w.pairs + 1; blocker = p.0 },
-        subst (λ x. Contains x record { clause = length w.pairs + 1; blocker = p.0 }) (sym s.second)
-            (Contains-push (list_at w p.1) record { clause = length w.pairs + 1; blocker = p.0 }), e)
+    new-listed n l e (inl q) = subst (λ x. IsListed (list_at w' x) n) q (
+      record { clause = length w.pairs + 1; blocker = p.1 },
+      subst (λ x. Contains x record { clause = length w.pairs + 1; blocker = p.1 }) (sym s.first)
+          (Contains-push (list_at w p.0) record { clause = length w.pairs + 1; blocker = p.1 }),
+      e,
+    )
+    new-listed n l e (inr q) = subst (λ x. IsListed (list_at w' x) n) q (
+      record { clause = length w.pairs + 1; blocker = p.0 },
+      subst (λ x. Contains x record { clause = length w.pairs + 1; blocker = p.0 }) (sym s.second)
+          (Contains-push (list_at w p.1) record { clause = length w.pairs + 1; blocker = p.0 }),
+      e,
+    )
 
     entered_pair : IsWatching (known ++ clause ∷ []) w'
     unfolding IsNew
@@ -163,9 +170,9 @@ module _ (known : List (List Literal)) (w w' : Watching) (clause : List Literal)
       ];
       listed = λ n l (r, q, o). elim (at-push-cases w.pairs (Some p) (Some r) n (subst (λ x. at x n ≡ Some (Some r)) s.pairs q))
           as (λ _. IsListed (list_at w' l) n) [
-        | inl x ↦ (let m = k.listed n l (r, x, o) in (m.0, bigger l m.0 m.1, m.2))
-        | inr x ↦ new-listed n l (sym x.0) (subst (λ (z : Literal × Literal). (z.0 ≡ l) ⊎ (z.1 ≡ l)) (sym (some_is p r x.1)) o)
-      ];
+            | inl x ↦ (let m = k.listed n l (r, x, o) in (m.0, bigger l m.0 m.1, m.2))
+            | inr x ↦ new-listed n l (sym x.0) (subst (λ (z : Literal × Literal). (z.0 ≡ l) ⊎ (z.1 ≡ l)) (sym (some_is p r x.1)) o)
+          ];
       shorts = λ n c e q. elim (both n c None e q) as (λ _. Contains w'.shorts n × IsShort c) [
         | inl x ↦ (let r = k.shorts n c x.0 x.1 in (subst (λ z. Contains z n) (sym s.shorts) r.0, r.1))
         | inr x ↦ absurd (none-some p (sym x.2))
@@ -181,9 +188,9 @@ module _ (known : List (List Literal)) (w w' : Watching) (clause : List Literal)
     old-pair : (n : ℕ) (l : Literal) → IsWatch w' n l → IsWatch w n l ⊎ ((n ≡ length w.pairs + 1) × ((p.0 ≡ l) ⊎ (p.1 ≡ l)))
     old-pair n l (r, q, o) = elim (at-push-cases w.pairs (Some p) (Some r) n (subst (λ x. at x n ≡ Some (Some r)) s.pairs q))
         as (λ _. IsWatch w n l ⊎ ((n ≡ length w.pairs + 1) × ((p.0 ≡ l) ⊎ (p.1 ≡ l)))) [
-      | inl x ↦ inl (r, x, o)
-      | inr x ↦ inr (x.0, subst (λ (z : Literal × Literal). (z.0 ≡ l) ⊎ (z.1 ≡ l)) (sym (some_is p r x.1)) o)
-    ]
+          | inl x ↦ inl (r, x, o)
+          | inr x ↦ inr (x.0, subst (λ (z : Literal × Literal). (z.0 ≡ l) ⊎ (z.1 ≡ l)) (sym (some_is p r x.1)) o)
+        ]
 
   pub entered : (watched : Option (Literal × Literal)) → CanWatch clause watched → IsEntered w w' watched → IsWatching (known ++ clause ∷ []) w'
   entered None c s = entered_short c s

@@ -1,5 +1,5 @@
 -- What the visits of clauses find.
-use Rattle.std.specs.Prelude.{ℕ, suc, ◌≡◌, ◌≢◌, ◌+◌, ◌-◌, ◌<◌, Bool, true, false, List, length, Option, Some, None, All, Contains}
+use Rattle.std.specs.Prelude.{ℕ, suc, ◌≡◌, ◌≢◌, ◌-◌, ◌<◌, Bool, true, false, List, length, Option, Some, None, All, Contains}
 use Rattle.proof_steps.specs.declared.Literal.{Literal}
 use Rattle.proof_steps.specs.Meaning.{at}
 use Rattle.proof_checker.specs.Derived.{has}

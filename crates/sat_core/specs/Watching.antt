@@ -1,5 +1,5 @@
 -- Clauses that watch two of their literals, after Moskewicz and others, "Chaff", 2001.
-use Rattle.std.specs.Prelude.{ℕ, suc, ◌≡◌, ◌≢◌, ◌⊎◌, ◌+◌, ◌<◌, ◌≤◌, ◌++◌, ◌∷◌, List, [], length, map, Option, Some, None, Contains, drop, get_or, slice_get, slice_set}
+use Rattle.std.specs.Prelude.{ℕ, suc, ◌≡◌, ◌≢◌, ◌⊎◌, ◌+◌, ◌<◌, ◌≤◌, ◌++◌, ◌∷◌, List, [], length, map, Option, Some, None, Contains, drop, get_or, slice_get}
 use Rattle.std.specs.declared.vec.Vec.{Vec}
 use Rattle.std.specs.declared.alloc.Global.{Global}
 use Rattle.proof_steps.specs.declared.Literal.{Literal}

@@ -76,7 +76,7 @@ impl Order {
     }
 
     /// The variable's place in the list, if it is known here.
-    fn slot(&self, literal: Literal) -> Option<usize> {
+    pub fn slot(&self, literal: Literal) -> Option<usize> {
         match number_at(&self.slots, place(literal) / 2) {
             0 => None,
             more => Some(more - 1),

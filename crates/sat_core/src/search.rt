@@ -50,12 +50,16 @@ impl Model for Search {
     ghost Value = { Shown };
 
     ghost view = { λ s. record {
-        known = map clause_view s.clauses.items; log = map step_view s.log.items;
-        variables = s.variables.items; trail = s.assignment; in_conflict = s.in_conflict } };
+      known = map clause_view s.clauses.items;
+      log = map step_view s.log.items;
+      variables = s.variables.items;
+      trail = s.assignment;
+      in_conflict = s.in_conflict;
+    } };
 
     ghost invariant = { λ s.
         IsHeld (map clause_view s.clauses.items) (map step_view s.log.items) s.variables.items s.assignment
-            s.in_conflict s.conflict s.ended
+        s.in_conflict s.conflict s.ended
         × IsWatched (map clause_view s.clauses.items) s.assignment s.watches s.head };
 }
 
@@ -98,12 +102,20 @@ impl Search {
     {
         let mut variables = flags_of(alloc, &cnf.shapes)?;
         add_atoms(&mut variables, &cnf.atoms)?;
+        let mut order = Order::new(alloc);
+        order.grow(&variables)?;
         let mut clauses = Vec::new(alloc);
         let mut watches = Watches::new(alloc);
-        admit_all(alloc, &mut clauses, &mut watches, &mut variables, &cnf.clauses)?;
+        admit_all(
+            alloc,
+            &mut clauses,
+            &mut watches,
+            &mut variables,
+            &order,
+            &cnf.clauses,
+        )?;
         let assignment = Assignment::new(alloc);
         let marked = LiteralSet::new(alloc);
-        let order = Order::new(alloc);
         Ok(Search {
             clauses,
             log: Vec::new(alloc),
@@ -152,7 +164,14 @@ impl Search {
         if self.clauses.len() >= MOST {
             return Err(SearchFault::Memory(AllocError));
         }
-        admit(alloc, &mut self.clauses, &mut self.watches, &mut self.variables, clause)?;
+        admit(
+            alloc,
+            &mut self.clauses,
+            &mut self.watches,
+            &mut self.variables,
+            &self.order,
+            clause,
+        )?;
         let entries = self.assignment.entries();
         let first = next_decision(entries, 0, entries.len());
         cut_back(&mut self.assignment, &mut self.head, &mut self.order, first);
@@ -214,7 +233,12 @@ impl Search {
             &mut self.order,
         ) {
             Err(fault) => {
-                cut_back(&mut self.assignment, &mut self.head, &mut self.order, before);
+                cut_back(
+                    &mut self.assignment,
+                    &mut self.head,
+                    &mut self.order,
+                    before,
+                );
                 Err(SearchFault::Memory(fault))
             }
             Ok(None) => {
@@ -233,7 +257,12 @@ impl Search {
                         return Ok(Found::Empty);
                     }
                     if self.clauses.len() >= MOST {
-                        cut_back(&mut self.assignment, &mut self.head, &mut self.order, before);
+                        cut_back(
+                            &mut self.assignment,
+                            &mut self.head,
+                            &mut self.order,
+                            before,
+                        );
                         return Err(SearchFault::Memory(AllocError));
                     }
                     match refuted(
@@ -250,7 +279,12 @@ impl Search {
                             Ok(Found::Empty)
                         }
                         Err(fault) => {
-                            cut_back(&mut self.assignment, &mut self.head, &mut self.order, before);
+                            cut_back(
+                                &mut self.assignment,
+                                &mut self.head,
+                                &mut self.order,
+                                before,
+                            );
                             Err(SearchFault::Memory(fault))
                         }
                     }

@@ -1,4 +1,4 @@
-ghost use Rattle.std.specs.Prelude.{◌≡◌, ◌++◌, ◌∷◌, ◌+◌, ◌<◌, ◌^◌, [], OnOk, OnErr, IfOk, map, length, List};
+ghost use Rattle.std.specs.Prelude.{◌≡◌, ◌++◌, ◌∷◌, ◌+◌, ◌<◌, ◌^◌, [], OnOk, OnErr, IfOk, IsTrue, true, map, length, List};
 ghost use Rattle.proof_steps.specs.View.{clause_view, atom_view};
 ghost use Rattle.proof_steps.specs.declared.Literal.{Literal as SignedLiteral};
 ghost use Rattle.sat_core.specs.Shown.{plain as plain_of, with_literal, with_clause, with_clauses, flags_from, atoms_from};
@@ -6,6 +6,7 @@ ghost use Rattle.sat_core.specs.Variables.{Extends};
 ghost use Rattle.sat_core.specs.Watching.{CanWatch, IsWatching, IsEnteredFor, IsUnmoved};
 ghost use Rattle.proof_checker.specs.Derived.{has};
 
+use crate::order::Order;
 use crate::set::same;
 use crate::watches::Watches;
 use kind_num::Shape;
@@ -33,11 +34,38 @@ fn listed(literals: &[Literal], literal: Literal) -> bool
     false
 }
 
-fn extend_by(variables: &mut Vec<Literal>, literal: Literal) -> Result<(), AllocError>
+/// Whether the literal stands at the place.
+fn is_at(variables: &[Literal], at: usize, literal: Literal) -> bool
+    ensures { IsTrue result → has variables.now literal ≡ true }
+{
+    if at < variables.len() {
+        same(variables[at], literal)
+    } else {
+        false
+    }
+}
+
+/// Whether the list has the literal; where its place is known, no other is asked.
+fn is_known(variables: &[Literal], order: &Order, literal: Literal) -> bool
+    ensures { result ≡ has variables.now literal }
+{
+    if let Some(at) = order.slot(literal) {
+        if is_at(variables, at, literal) {
+            return true;
+        }
+    }
+    listed(variables, literal)
+}
+
+fn extend_by(
+    variables: &mut Vec<Literal>,
+    order: &Order,
+    literal: Literal,
+) -> Result<(), AllocError>
     ensures ok { OnOk result (variables.new.items ≡ with_literal variables.old.items literal) }
     ensures extends { Extends variables.old.items variables.new.items }
 {
-    if listed(variables, plain(literal)) {
+    if is_known(variables, order, plain(literal)) {
         return Ok(());
     }
     variables.push(plain(literal))?;
@@ -45,12 +73,12 @@ fn extend_by(variables: &mut Vec<Literal>, literal: Literal) -> Result<(), Alloc
 }
 
 /// Takes in the variables of a clause; on an error it has done so in part.
-fn extend(variables: &mut Vec<Literal>, clause: &[Literal]) -> Result<(), AllocError>
+fn extend(variables: &mut Vec<Literal>, order: &Order, clause: &[Literal]) -> Result<(), AllocError>
     ensures ok { OnOk result (variables.new.items ≡ with_clause variables.old.items clause.now) }
     ensures extends { Extends variables.old.items variables.new.items }
 {
     for literal in clause {
-        extend_by(variables, *literal)?;
+        extend_by(variables, order, *literal)?;
     }
     Ok(())
 }
@@ -79,6 +107,7 @@ pub fn admit(
     clauses: &mut Vec<Clause>,
     watches: &mut Watches,
     variables: &mut Vec<Literal>,
+    order: &Order,
     clause: &Clause,
 ) -> Result<(), AllocError>
     requires watching { IsWatching (map clause_view clauses.old.items) watches.old }
@@ -94,7 +123,7 @@ pub fn admit(
     let copy = clause.copied(alloc)?;
     clauses.reserve(1)?;
     let before = variables.len();
-    match extend(variables, clause.literals.as_slice()) {
+    match extend(variables, order, clause.literals.as_slice()) {
         Ok(()) => match watches.enter(alloc, two_of(clause.literals.as_slice())) {
             Ok(()) => {
                 clauses.push_reserved(copy);
@@ -118,6 +147,7 @@ pub fn admit_all(
     clauses: &mut Vec<Clause>,
     watches: &mut Watches,
     variables: &mut Vec<Literal>,
+    order: &Order,
     more: &[Clause],
 ) -> Result<(), AllocError>
     requires watching { IsWatching (map clause_view clauses.old.items) watches.old }
@@ -129,7 +159,7 @@ pub fn admit_all(
     ensures watching { OnOk result (IsWatching (map clause_view clauses.new.items) watches.new) }
 {
     for clause in more {
-        admit(alloc, clauses, watches, variables, clause)?;
+        admit(alloc, clauses, watches, variables, order, clause)?;
     }
     Ok(())
 }

@@ -142,7 +142,16 @@ fn visit_all(
 {
     let mut at = 0;
     while at < watches.count(literal) {
-        match visit_entry(alloc, clauses, watches, assignment, head, literal, at, at + 1)? {
+        match visit_entry(
+            alloc,
+            clauses,
+            watches,
+            assignment,
+            head,
+            literal,
+            at,
+            at + 1,
+        )? {
             Visit::Next(next) => at = next,
             Visit::Failed(number) => return Ok(Some(number)),
         }

@@ -9,7 +9,9 @@ use std::alloc::Global;
 
 /// The next number of a linear congruence, after Knuth.
 fn next(state: &mut u64) -> u32 {
-    *state = state.wrapping_mul(6_364_136_223_846_793_005).wrapping_add(1_442_695_040_888_963_407);
+    *state = state
+        .wrapping_mul(6_364_136_223_846_793_005)
+        .wrapping_add(1_442_695_040_888_963_407);
     (*state >> 33) as u32
 }
 

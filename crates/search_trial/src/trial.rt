@@ -109,7 +109,11 @@ fn solves(search: &Search, form: &Cnf) -> bool {
 /// What the log, or the assignment, shows.
 fn shown(alloc: Global, search: &Search, form: &Cnf, found: Found) -> Result<&'static str> {
     if found == Found::Full {
-        return Ok(if solves(search, form) { "solved" } else { "NOT SOLVED" });
+        return Ok(if solves(search, form) {
+            "solved"
+        } else {
+            "NOT SOLVED"
+        });
     }
     if !is_new(search.log()) {
         return Ok("NOT NEW");
@@ -123,7 +127,10 @@ fn shown(alloc: Global, search: &Search, form: &Cnf, found: Found) -> Result<&'s
 
 /// Searches through a form of few enough clauses.
 pub fn tried(alloc: Global, form: &Cnf) -> Result<Report> {
-    if form.clauses.len() > 1_000_000 || form.atoms.len() > 1_000_000 || form.shapes.len() > 1_000_000 {
+    if form.clauses.len() > 1_000_000
+        || form.atoms.len() > 1_000_000
+        || form.shapes.len() > 1_000_000
+    {
         bail!("too many clauses");
     }
     let mut search = Search::new(alloc, form)?;

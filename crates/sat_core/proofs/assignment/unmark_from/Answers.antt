@@ -6,8 +6,11 @@ use Rattle.sat_core.proofs.assignment.unmark_from.Goals as goal
 pub loop-entries-preserved-in-Some : goal.loop-entries-preserved-in-Some
 loop-entries-preserved-in-Some c =
     let k = fewer _ _ c.loop-entries.entries.items c.pop.new.self.items c.in-Some.entry c.in-Some.ensures.items c.loop-entries.invariant.0
-        c.loop-entries.invariant.1
+    c.loop-entries.invariant.1
     c.mark.ensures in
-    let h : c.args.length < length c.loop-entries.entries.items = omega arith in
-    (k.0, k.1, fewer_taken c.args.length c.args.entries.now.items c.loop-entries.entries.items c.pop.new.self.items c.in-Some.entry
-        c.in-Some.ensures.items h c.loop-entries.invariant.2)
+    let h : c.args.length < length c.loop-entries.entries.items = omega arith in (
+      k.0,
+      k.1,
+      fewer_taken c.args.length c.args.entries.now.items c.loop-entries.entries.items c.pop.new.self.items c.in-Some.entry
+          c.in-Some.ensures.items h c.loop-entries.invariant.2,
+    )

@@ -1,9 +1,7 @@
-use Rattle.std.specs.Prelude.{◌≡◌, ◌≤◌, ◌+◌, All, None, length, map, true}
+use Rattle.std.specs.Prelude.{◌≡◌, ◌≤◌, ◌+◌, All, length, map, true}
 use Rattle.std.proofs.Common.{sym, subst, arith}
 use Rattle.proof_steps.specs.View.{clause_view}
-use Rattle.sat_core.specs.Trail.{IsSettled}
-use Rattle.sat_core.specs.Watching.{IsWatched}
-use Rattle.sat_core.specs.Visiting.{IsGoneThrough, HoldShorts, IsImpliedShort}
+use Rattle.sat_core.specs.Visiting.{IsGoneThrough, IsImpliedShort}
 use Rattle.sat_core.proofs.Bounded.{falls, grown}
 use Rattle.sat_core.proofs.Shorts.{hold_more, all_done, grows_more}
 use Rattle.sat_core.proofs.propagation.go_on.Goals as goal
@@ -13,18 +11,18 @@ returns-in-None-clause-still c = (
   all_done (map clause_view c.args.clauses.now) c.loop-number.assignment c.propagate.new.assignment c.loop-number.watches c.propagate.new.watches
       c.propagate.new.head
       c.propagate.ensures.advance (subst (IsGoneThrough (map clause_view c.args.clauses.now) c.propagate.new.assignment c.propagate.new.head) c.in_default.is
-          c.in_ok-number.ensures.gone)
+      c.in_ok-number.ensures.gone)
       c.propagate.ensures.watched c.propagate.ensures.shorts c.loop-number.invariant.4,
   c.in-None.ensures,
 )
 
 pub decide-requires-clause-settled : goal.decide-requires-clause-settled
 decide-requires-clause-settled c =
-  all_done (map clause_view c.args.clauses.now) c.loop-number.assignment c.propagate.new.assignment c.loop-number.watches c.propagate.new.watches
-      c.propagate.new.head
-      c.propagate.ensures.advance (subst (IsGoneThrough (map clause_view c.args.clauses.now) c.propagate.new.assignment c.propagate.new.head) c.in_default.is
-          c.in_ok-number.ensures.gone)
-      c.propagate.ensures.watched c.propagate.ensures.shorts c.loop-number.invariant.4
+    all_done (map clause_view c.args.clauses.now) c.loop-number.assignment c.propagate.new.assignment c.loop-number.watches c.propagate.new.watches
+    c.propagate.new.head
+    c.propagate.ensures.advance (subst (IsGoneThrough (map clause_view c.args.clauses.now) c.propagate.new.assignment c.propagate.new.head) c.in_default.is
+    c.in_ok-number.ensures.gone)
+    c.propagate.ensures.watched c.propagate.ensures.shorts c.loop-number.invariant.4
 
 pub loop-number-preserved : goal.loop-number-preserved
 loop-number-preserved c = let k = map clause_view c.args.clauses.now in (

@@ -5,14 +5,17 @@ use Rattle.sat_core.specs.Trail.{IsFalse, IsSettled}
 use Rattle.sat_core.specs.declared.propagation.Standing.TheVariants.{Unit}
 use Rattle.sat_core.specs.Propagation.{Stands}
 use Rattle.sat_core.specs.Watching.{IsWatched}
-use Rattle.sat_core.specs.Visiting.{IsAdvance, IsImpliedShort}
+use Rattle.sat_core.specs.Visiting.{IsImpliedShort}
 use Rattle.sat_core.proofs.Visits.{advance_none, advance_as}
 use Rattle.sat_core.proofs.Shorts.{settled_holds, unit_advance, unit_watched, unit_holds}
 use Rattle.sat_core.proofs.propagation.imply_short.Goals as goal
 
 pub returns-in-False-clause-holds : goal.returns-in-False-clause-holds
-returns-in-False-clause-holds c = (clause_view c.clause_at-clause.result.now, c.clause_at-clause.ensures,
-    subst (IsFalse c.args.assignment.now) c.as_slice.ensures c.in-False.ensures)
+returns-in-False-clause-holds c = (
+  clause_view c.clause_at-clause.result.now,
+  c.clause_at-clause.ensures,
+  subst (IsFalse c.args.assignment.now) c.as_slice.ensures c.in-False.ensures,
+)
 
 pub returns-in-Settled-clause-holds : goal.returns-in-Settled-clause-holds
 returns-in-Settled-clause-holds c = settled_holds (map clause_view c.args.clauses.now) c.args.assignment.now c.args.watches.now c.args.head

@@ -1,5 +1,5 @@
-use Rattle.std.specs.Prelude.{All, get_or, map, take, true}
-use Rattle.std.proofs.Common.{subst, arith, ap}
+use Rattle.std.specs.Prelude.{All, get_or, map, true}
+use Rattle.std.proofs.Common.{subst, arith}
 use Rattle.proof_steps.specs.View.{clause_view}
 use Rattle.sat_core.specs.Visiting.{IsImpliedShort}
 use Rattle.sat_core.proofs.Standings.{all_taken}
@@ -14,7 +14,7 @@ loop-number-preserved c = let k = map clause_view c.args.clauses.now in (
   next_holds k c.loop-number.assignment c.imply_short.new.assignment c.shorts-shorts.result.now c.loop-number.number-index 0
       c.loop-number-test.true c.imply_short.ensures.advance.grows c.loop-number.invariant.2
       (subst (IsImpliedShort k c.imply_short.new.assignment (get_or c.shorts-shorts.result.now c.loop-number.number-index 0)) c.if-not-branch.false
-          c.in_ok-imply_short.ensures.holds),
+      c.in_ok-imply_short.ensures.holds),
 )
 
 pub returns-clause-hold : goal.returns-clause-hold

@@ -1,5 +1,5 @@
 use Rattle.std.specs.Prelude.{◌+◌, ◌-◌, length}
-use Rattle.sat_core.specs.Set.{IsWidened, place_of}
+use Rattle.sat_core.specs.Set.{IsWidened}
 use Rattle.sat_core.proofs.set.widen.Given as goal
 
 abbrev pub invariant-loop-marks : goal.invariant-loop-marks

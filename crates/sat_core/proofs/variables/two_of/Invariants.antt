@@ -1,4 +1,4 @@
-use Rattle.std.specs.Prelude.{ℕ, ◌≡◌, ◌≤◌, ◌<◌, Some, length, slice_get}
+use Rattle.std.specs.Prelude.{ℕ, ◌≡◌, ◌≤◌, Some, length, slice_get}
 use Rattle.proof_steps.specs.declared.Literal.{Literal}
 use Rattle.sat_core.proofs.variables.two_of.Given as goal
 

@@ -1,4 +1,4 @@
-use Rattle.std.specs.Prelude.{◌≡◌, ◌+◌, ◌<◌, ◌≤◌, None, length, map, suc}
+use Rattle.std.specs.Prelude.{◌≡◌, ◌+◌, length, map, suc}
 use Rattle.std.proofs.Common.{ap, subst, arith, ◌∙◌}
 use Rattle.proof_steps.specs.View.{clause_view}
 use Rattle.sat_core.specs.Watching.{IsWatched}
@@ -13,7 +13,7 @@ loop-head-smaller c =
     let t = c.loop-head-test.true in
     let l : length c.entries.result.now ≡ length c.loop-head.assignment = ap length c.entries.ensures.entries in
     let b = bounded c.args.variables.now c.loop-head.assignment a.is_trail.apart
-        (a.within c.args.variables.now c.requires.covers c.requires.within) in omega arith
+    (a.within c.args.variables.now c.requires.covers c.requires.within) in omega arith
 
 pub loop-head-preserved : goal.loop-head-preserved
 loop-head-preserved c =

@@ -11,19 +11,20 @@ use Rattle.sat_core.proofs.search.Search.new.Goals as goal
 pub invariant_of-result : goal.invariant_of-result
 invariant_of-result c =
     let m = length-map c.args.cnf.now.clauses.items clause_view in
-    let few : length (map clause_view c.args.cnf.now.clauses.items) < 2 ^ 32 = omega arith in
-    (held_first (form_view c.args.cnf.now) _ _ _ _ 0
-    (c.in_ok-admit_all.ensures.clauses
-    ∙ ap (λ xs. map clause_view xs ++ map clause_view c.deref-3.result.now) c.new-clauses.ensures.items
-    ∙ ap (map clause_view) c.deref-3.ensures.value)
-    (ap (map step_view) c.new.ensures.items)
-    (c.in_ok-admit_all.ensures.variables
-    ∙ ap (λ x. with_clauses c.add_atoms.new.variables.items (map clause_view x)) c.deref-3.ensures.value
-    ∙ ap (λ x. with_clauses x (map clause_view c.args.cnf.now.clauses.items))
-    (c.in_ok-add_atoms.ensures
-    ∙ ap (λ x. c.in_ok-variables.variables.items ++ atoms_from 1 (map atom_view x)) c.deref-2.ensures.value
-    ∙ ap (λ x. x ++ atoms_from 1 (map atom_view c.args.cnf.now.atoms.items)) (c.in_ok-variables.ensures ∙ ap (flags_from 0) c.deref.ensures.value)))
-    c.new-assignment.ensures
-    few,
-    watched_new (map clause_view c.admit_all.new.clauses.items) c.new-assignment.result c.admit_all.new.watches c.new-assignment.ensures
-        c.in_ok-admit_all.ensures.watching)
+    let few : length (map clause_view c.args.cnf.now.clauses.items) < 2 ^ 32 = omega arith in (
+      held_first (form_view c.args.cnf.now) _ _ _ _ 0
+          (c.in_ok-admit_all.ensures.clauses
+          ∙ ap (λ xs. map clause_view xs ++ map clause_view c.deref-4.result.now) c.new-clauses.ensures.items
+          ∙ ap (map clause_view) c.deref-4.ensures.value)
+          (ap (map step_view) c.new.ensures.items)
+          (c.in_ok-admit_all.ensures.variables
+          ∙ ap (λ x. with_clauses c.add_atoms.new.variables.items (map clause_view x)) c.deref-4.ensures.value
+          ∙ ap (λ x. with_clauses x (map clause_view c.args.cnf.now.clauses.items))
+          (c.in_ok-add_atoms.ensures
+          ∙ ap (λ x. c.in_ok-variables.variables.items ++ atoms_from 1 (map atom_view x)) c.deref-2.ensures.value
+          ∙ ap (λ x. x ++ atoms_from 1 (map atom_view c.args.cnf.now.atoms.items)) (c.in_ok-variables.ensures ∙ ap (flags_from 0) c.deref.ensures.value)))
+          c.new-assignment.ensures
+          few,
+      watched_new (map clause_view c.admit_all.new.clauses.items) c.new-assignment.result c.admit_all.new.watches c.new-assignment.ensures
+          c.in_ok-admit_all.ensures.watching,
+    )

@@ -13,7 +13,7 @@ returns-clause-ok c =
     } in
     subst (λ w. IsMoved w new c.args.literal c.args.at c.args.number c.args.other c.args.found) c.self.view_is
     (moved (lists_of c.self.inside.lists.items) (lists_of c.push_at.new.lists.items) (lists_of c.remove_at.new.lists.items)
-        c.args.literal c.args.found c.args.other c.args.at c.args.number c.self.inside.pairs.items c.self.inside.shorts.items
-        c.place-2.result c.place.result c.place-2.ensures c.place.ensures
-        c.in_ok-push_at.ensures.ok c.remove_at.ensures.from c.remove_at.ensures.others c.requires.apart c.requires.positive
-        (subst (λ (w : Watching). c.args.number ≤ length w.pairs) (sym c.self.view_is) c.requires.within))
+    c.args.literal c.args.found c.args.other c.args.at c.args.number c.self.inside.pairs.items c.self.inside.shorts.items
+    c.place-2.result c.place.result c.place-2.ensures c.place.ensures
+    c.in_ok-push_at.ensures.ok c.remove_at.ensures.from c.remove_at.ensures.others c.requires.apart c.requires.positive
+    (subst (λ (w : Watching). c.args.number ≤ length w.pairs) (sym c.self.view_is) c.requires.within))

@@ -1,0 +1,88 @@
+#!/bin/sh
+# What the search costs, beside minisat on the same files where it is there: conflicts, seconds and
+# instructions, for pigeon holes, random clauses of three literals near the threshold of 4.26 clauses
+# a variable, ten seeds each, and a chain of 10,000 implications. Instructions need valgrind, and are
+# those of the search less those of reading the file alone. The word `quick` takes three seeds.
+set -eu
+cd "$(dirname "$0")/../crates/search_bench"
+rt run -- data/four.cnf search >/dev/null 2>&1
+program=$PWD/out/search_bench
+work=$(mktemp -d)
+trap 'rm -rf "$work"' EXIT
+seeds="1 2 3 4 5 6 7 8 9 10"
+[ "${1-}" = quick ] && seeds="1 2 3"
+
+pigeons() {
+    awk -v n="$1" 'BEGIN {
+        m = n - 1
+        print "p cnf " n * m " " n + m * n * (n - 1) / 2
+        for (p = 0; p < n; p++) { for (h = 1; h <= m; h++) printf "%d ", p * m + h; print "0" }
+        for (h = 1; h <= m; h++) for (p = 0; p < n; p++) for (q = 0; q < p; q++)
+            print "-" p * m + h " -" q * m + h " 0"
+    }'
+}
+
+random() {
+    awk -v n="$1" -v seed="$2" 'BEGIN {
+        srand(seed)
+        m = int(n * 4.26)
+        print "p cnf " n " " m
+        for (i = 0; i < m; i++) {
+            a = int(rand() * n) + 1
+            do b = int(rand() * n) + 1; while (b == a)
+            do c = int(rand() * n) + 1; while (c == a || c == b)
+            print (rand() < 0.5 ? a : -a) " " (rand() < 0.5 ? b : -b) " " (rand() < 0.5 ? c : -c) " 0"
+        }
+    }'
+}
+
+chain() {
+    awk -v n="$1" 'BEGIN {
+        print "p cnf " n " " n
+        for (i = n - 1; i > 0; i--) print "-" i " " i + 1 " 0"
+        print "1 0"
+    }'
+}
+
+instructions() {
+    valgrind --tool=callgrind --callgrind-out-file=/dev/null "$@" 2>&1 | sed -n 's/.*Collected : //p'
+}
+
+seconds() {
+    start=$(date +%s.%N)
+    "$@" >"$work/out" 2>&1 || true
+    end=$(date +%s.%N)
+    echo "$start $end" | awk '{ printf "%.3f", $2 - $1 }'
+}
+
+theirs() {
+    command -v minisat >/dev/null || { echo "- - - -"; return; }
+    time=$(seconds minisat "$1")
+    conflicts=$(sed -n 's/^conflicts *: *\([0-9]*\).*/\1/p' "$work/out")
+    propagations=$(sed -n 's/^propagations *: *\([0-9]*\).*/\1/p' "$work/out")
+    echo "$conflicts $time $(instructions minisat "$1") $propagations"
+}
+
+row() {
+    time=$(seconds "$program" "$2" search)
+    set -- "$1" "$2" "$time" $(cat "$work/out")
+    spent=$(($(instructions "$program" "$2" search) - $(instructions "$program" "$2" read)))
+    echo "$1 $4 $5 $3 $spent $(theirs "$2")" | awk '{
+        printf "%-14s %-13s %8s %8s %14s %10.0f | %8s %8s %14s %10s\n",
+            $1, $2, $3, $4, $5, $3 > 0 ? $5 / $3 : 0, $6, $7, $8, $9
+    }'
+}
+
+echo "file           answer        conflicts seconds   instructions  each conflict | minisat: conflicts seconds instructions propagations"
+for n in 6 7 8; do
+    pigeons $n >"$work/pigeons$n"
+    row "pigeons$n" "$work/pigeons$n"
+done
+for n in 100 150; do
+    for seed in $seeds; do
+        random $n "$seed" >"$work/random"
+        row "random$n.$seed" "$work/random"
+    done
+done
+chain 10000 >"$work/chain"
+row chain "$work/chain"
