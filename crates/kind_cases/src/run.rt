@@ -30,7 +30,10 @@ pub fn run(alloc: Global, case: Case) -> Result<String, AllocError> {
     let mut out = MemorySink::new(alloc, case.puts);
     let status = kind_top(alloc, &case.words, &mut shelf, &mut out);
     let mut text = String::new(alloc);
-    for line in std::str::from_utf8(out.bytes()).unwrap_or("no text\n").lines() {
+    for line in std::str::from_utf8(out.bytes())
+        .unwrap_or("no text\n")
+        .lines()
+    {
         text.push_str("    ")?;
         text.push_str(line)?;
         text.push('\n')?;

@@ -100,10 +100,5 @@ pub fn replay_files<H: Shelf>(
     let checked = read_source(alloc, &bytes)?;
     let bytes = fetch(alloc, trace, shelf)?;
     let replayed = read_replay(alloc, &checked, &bytes)?;
-    Ok(replay_report(
-        alloc,
-        &checked,
-        &replayed.trace,
-        &replayed.replay,
-    )?)
+    Ok(replay_report(alloc, &checked, &replayed.trace, &replayed.replay)?)
 }
