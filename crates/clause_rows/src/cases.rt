@@ -32,7 +32,11 @@ fn flags(alloc: Global, lines: &mut Vec<String>) -> Result<(), AllocError> {
 fn choices(alloc: Global, lines: &mut Vec<String>) -> Result<(), AllocError> {
     let second = Box::new(alloc, flag(1))?;
     let third = Box::new(alloc, flag(2))?;
-    lines.push(line(alloc, "if", Term::Choose(Box::new(alloc, flag(0))?, second, third))?)?;
+    lines.push(line(
+        alloc,
+        "if",
+        Term::Choose(Box::new(alloc, flag(0))?, second, third),
+    )?)?;
     let chosen = choose(alloc, flag(0), value(3), Num::Constant(1))?;
     lines.push(line(alloc, "number if", at_most(alloc, chosen, value(4))?)?)?;
     Ok(())
@@ -80,10 +84,18 @@ fn divisions(alloc: Global, lines: &mut Vec<String>) -> Result<(), AllocError> {
 fn past_coefficients(alloc: Global, lines: &mut Vec<String>) -> Result<(), AllocError> {
     let twice = times(alloc, 2, value(3))?;
     let past = times(alloc, MOST, twice)?;
-    lines.push(line(alloc, "past product", at_most(alloc, past, Num::Constant(0))?)?)?;
+    lines.push(line(
+        alloc,
+        "past product",
+        at_most(alloc, past, Num::Constant(0))?,
+    )?)?;
     let sum = plus(alloc, times(alloc, MOST, value(3))?, value(3))?;
     let fits = minus(alloc, sum, value(3))?;
-    lines.push(line(alloc, "past on the way", at_most(alloc, fits, Num::Constant(0))?)?)?;
+    lines.push(line(
+        alloc,
+        "past on the way",
+        at_most(alloc, fits, Num::Constant(0))?,
+    )?)?;
     Ok(())
 }
 
