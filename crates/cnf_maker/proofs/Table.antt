@@ -18,7 +18,6 @@ use Rattle.cnf_maker.proofs.Kept.{atoms_are}
 use Rattle.kind_num.specs.declared.Shape.{Shape}
 use Rattle.proof_steps.specs.declared.Literal.{Literal}
 use Rattle.proof_steps.specs.declared.Literal.TheVariants as l
-use Rattle.proof_steps.specs.Rows.{Form}
 use lib.Pointwise.{pointwise_decides}
 
 abbrev pub AtomKey : Type 0
@@ -38,7 +37,8 @@ module _ {K : Type 0} (eq : K → K → Bool) (view : K → Inequality) (tells :
     without : list_any (eq k) xs ≡ false → map view (insert_key eq xs k) ≡ map view (xs ++ k ∷ [])
     without f = ap (λ b. map view (if b then xs else (xs ++ k ∷ []))) f
 
-    go : (b c : Bool) → b ≡ equal_atoms (view x) (view k) → list_any (eq k) xs ≡ c → map view (insert_key eq xs k) ≡ with_atom (map view xs) (view k)
+    go : (b c : Bool) → b ≡ equal_atoms (view x) (view k) → list_any (eq k) xs ≡ c
+        → map view (insert_key eq xs k) ≡ with_atom (map view xs) (view k)
         → map view (if (b || c) then (x ∷ xs) else ((x ∷ xs) ++ k ∷ []))
         ≡ cond (equal_atoms (view x) (view k)) (view x ∷ map view xs) (view x ∷ with_atom (map view xs) (view k))
     go true c e f ih = rw (sym e) refl
@@ -48,14 +48,17 @@ module _ {K : Type 0} (eq : K → K → Bool) (view : K → Inequality) (tells :
   pub table-number : (ks : List K) (k : K) → suc (position_or_len (eq k) ks) ≡ atom_number (map view ks) (view k)
   table-number [] k = refl
   table-number (x ∷ xs) k = go (eq k x) (tells k x) (table-number xs k) where
-    go : (b : Bool) → b ≡ equal_atoms (view x) (view k) → suc (position_or_len (eq k) xs) ≡ atom_number (map view xs) (view k)
-        → suc (cond (not b) (1 + position_or_len (eq k) xs) 0) ≡ cond (equal_atoms (view x) (view k)) 1 (suc (atom_number (map view xs) (view k)))
+    go : (b : Bool) → b ≡ equal_atoms (view x) (view k)
+        → suc (position_or_len (eq k) xs) ≡ atom_number (map view xs) (view k)
+        → suc (cond (not b) (1 + position_or_len (eq k) xs) 0) ≡ cond (equal_atoms (view x) (view k)) 1
+        (suc (atom_number (map view xs) (view k)))
     go true e ih = rw (sym e) refl
     go false e ih = let p = one_more (position_or_len (eq k) xs) in rw (sym e) (ap suc (p ∙ ih)) where
       one_more : (n : ℕ) → 1 + n ≡ suc n
       one_more n = omega arith
 
-  pub table : (keys new : List K) (key : K) (place : ℕ) → new ≡ insert_key eq keys key → place ≡ position_or_len (eq key) keys
+  pub table : (keys new : List K) (key : K) (place : ℕ) → new ≡ insert_key eq keys key
+      → place ≡ position_or_len (eq key) keys
       → (map view new ≡ with_atom (map view keys) (view key)) × (place + 1 ≡ atom_number (map view keys) (view key))
   table keys new key place e p = (
     ap (map view) e ∙ table-atoms keys key,
@@ -86,7 +89,9 @@ pair_decides : (p q : ℕ × ℤ) → (same_pair p q ≡ true → p ≡ q) × (p
 pair_decides p q = (
   λ h. let k = both_so (nat_eq p.0 q.0) (int_eq p.1 q.1) h in
       ap (λ x. (x, p.1)) (same_nat p.0 q.0 k.0) ∙ ap (λ a. (q.0, a)) ((signed_Decides p.1 q.1).0 k.1),
-  λ e. subst (λ r. same_pair p r ≡ true) e (and_so (nat_eq p.0 p.0) (int_eq p.1 p.1) (own_nat p.0) ((signed_Decides p.1 p.1).1 refl)),
+  λ e. subst
+      (λ r. same_pair p r ≡ true) e
+      (and_so (nat_eq p.0 p.0) (int_eq p.1 p.1) (own_nat p.0) ((signed_Decides p.1 p.1).1 refl)),
 )
 
 key_is : (x y : AtomKey) → same_key x y ≡ true → key_view x ≡ key_view y
@@ -105,10 +110,12 @@ own_number a = grind (arith, ints)
 
 own_terms : (ts : List (ℕ × ℤ)) → equal_terms ts ts ≡ true
 own_terms [] = refl
-own_terms ((x, a) ∷ ts) = and_so (x == x) _ (own_nat x) (and_so (equal_numbers a a) (equal_terms ts ts) (own_number a) (own_terms ts))
+own_terms ((x, a) ∷ ts) =
+    and_so (x == x) _ (own_nat x) (and_so (equal_numbers a a) (equal_terms ts ts) (own_number a) (own_terms ts))
 
 own_atom : (i : Inequality) → equal_atoms i i ≡ true
-own_atom i = and_so (equal_terms i.terms i.terms) (equal_numbers i.bound i.bound) (own_terms i.terms) (own_number i.bound)
+own_atom i = and_so (equal_terms i.terms i.terms) (equal_numbers i.bound i.bound) (own_terms i.terms)
+    (own_number i.bound)
 
 both_ways : (a b : Bool) → (a ≡ true → b ≡ true) → (b ≡ true → a ≡ true) → a ≡ b
 both_ways true true f g = refl
@@ -122,9 +129,15 @@ keys-tell k x = both_ways (same_key k x) (equal_atoms (key_view x) (key_view k))
     (λ h. key_says k x (sym (atoms_are (key_view x) (key_view k) h)))
 
 -- the literal of the atom at its place
-pub at-place : (shapes : List Shape) (clauses : List (List Literal)) (old new : List Inequality) (i : Inequality) (n : ℕ)
+pub at-place : (shapes : List Shape) (clauses : List (List Literal)) (old new : List Inequality) (i : Inequality)
+    (n : ℕ)
     → new ≡ with_atom old i → n ≡ atom_number old i
-    → (record { shapes = shapes; atoms = new; clauses = clauses }, l.Atom n true) ≡ literal_of_atom record { shapes = shapes; atoms = old; clauses = clauses } i
+    → (record { shapes = shapes; atoms = new; clauses = clauses }, l.Atom n true) ≡ literal_of_atom record {
+      shapes =
+          shapes;
+      atoms = old;
+      clauses = clauses;
+    } i
 at-place shapes clauses old new i n e f =
     ap (λ z. (record { shapes = shapes; atoms = z; clauses = clauses }, l.Atom n true)) e
     ∙ ap (λ z. (record { shapes = shapes; atoms = with_atom old i; clauses = clauses }, l.Atom z true)) f

@@ -7,9 +7,7 @@ ghost use Rattle.cnf_maker.specs.View.{Leaves, Reaches, itself, linear_view, mad
 
 use crate::clause::opposite;
 use crate::fault::CnfFault;
-use crate::linear::{
-    Linear, inequality_of, of_constant, of_division, of_variable, size_less_one,
-};
+use crate::linear::{Linear, inequality_of, of_constant, of_division, of_variable, size_less_one};
 use crate::maker::Maker;
 use proof_steps::Literal;
 use std::alloc::Global;
@@ -24,7 +22,8 @@ impl Maker {
         right: &Linear,
     ) -> Result<Literal, CnfFault>
         requires { is_increasing (linear_view right.now).terms ≡ true }
-        ensures { Leaves itself (with_at_most truth (made self.old) (linear_view left.now) (linear_view right.now)) result (made self.new) }
+        ensures { Leaves itself (with_at_most truth (made self.old) (linear_view left.now) (linear_view right.now))
+            result (made self.new) }
     {
         let key = inequality_of(alloc, left, right)?;
         Ok(self.literal_of(truth, key)?)
@@ -40,7 +39,8 @@ impl Maker {
     ) -> Result<Literal, CnfFault>
         requires left { is_increasing (linear_view left.now).terms ≡ true }
         requires right { is_increasing (linear_view right.now).terms ≡ true }
-        ensures { Leaves itself (with_equal truth (made self.old) (linear_view left.now) (linear_view right.now)) result (made self.new) }
+        ensures { Leaves itself (with_equal truth (made self.old) (linear_view left.now) (linear_view right.now))
+            result (made self.new) }
     {
         let below = self.at_most(alloc, truth, left, right)?;
         let above = self.at_most(alloc, truth, right, left)?;
@@ -56,7 +56,8 @@ impl Maker {
         right: &Linear,
     ) -> Result<(), CnfFault>
         requires { is_increasing (linear_view right.now).terms ≡ true }
-        ensures { Reaches (with_bound truth [] (made self.old) (linear_view left.now) (linear_view right.now)) result (made self.new) }
+        ensures { Reaches (with_bound truth [] (made self.old) (linear_view left.now) (linear_view right.now))
+            result (made self.new) }
     {
         let literal = self.at_most(alloc, truth, left, right)?;
         self.push(alloc, &[literal])?;
@@ -73,7 +74,8 @@ impl Maker {
         right: &Linear,
     ) -> Result<(), CnfFault>
         requires { is_increasing (linear_view right.now).terms ≡ true }
-        ensures { Reaches (with_bound truth (guard ∷ []) (made self.old) (linear_view left.now) (linear_view right.now)) result (made self.new) }
+        ensures { Reaches (with_bound truth (guard ∷ []) (made self.old) (linear_view left.now) (linear_view right.now))
+            result (made self.new) }
     {
         let literal = self.at_most(alloc, truth, left, right)?;
         self.push(alloc, &[guard, literal])?;
@@ -91,7 +93,9 @@ impl Maker {
     ) -> Result<Linear, CnfFault>
         requires first { is_increasing (linear_view first.now).terms ≡ true }
         requires second { is_increasing (linear_view second.now).terms ≡ true }
-        ensures exact { Leaves linear_view (with_chosen truth (made self.old) condition (linear_view first.now) (linear_view second.now)) result (made self.new) }
+        ensures exact { Leaves linear_view
+            (with_chosen truth (made self.old) condition (linear_view first.now) (linear_view second.now))
+            result (made self.new) }
         ensures increasing { IfOk result (λ l. is_increasing (linear_view l).terms ≡ true) }
     {
         let number = self.number()?;
@@ -122,7 +126,12 @@ impl Maker {
         self.bound(alloc, truth, &whole, sum)?;
         self.bound(alloc, truth, sum, &whole)?;
         self.bound(alloc, truth, &of_constant(alloc, 0), &remainder)?;
-        self.bound(alloc, truth, &remainder, &of_constant(alloc, size_less_one(d)))?;
+        self.bound(
+            alloc,
+            truth,
+            &remainder,
+            &of_constant(alloc, size_less_one(d)),
+        )?;
         Ok((q, r))
     }
 }

@@ -57,12 +57,7 @@ impl Maker {
         Ok(())
     }
 
-    fn conditions(
-        &mut self,
-        alloc: Global,
-        truth: u32,
-        conditions: &[Term],
-    ) -> Result<(), CnfFault>
+    fn conditions(&mut self, alloc: Global, truth: u32, conditions: &[Term]) -> Result<(), CnfFault>
         ensures { Reaches (with_conditions truth (made self.old) (terms_view conditions.now)) result (made self.new) }
     {
         for condition in conditions {

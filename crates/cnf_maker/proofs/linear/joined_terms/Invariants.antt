@@ -9,7 +9,8 @@ invariant-loop-j l = record {
   left_within : l.i ≤ length l.left;
   right_within : l.j ≤ length l.right;
   increasing : is_increasing (drop l.j l.right) ≡ true;
-  same : pending (op_of l.sign) l.sum.items (drop l.i l.left) (drop l.j l.right) ≡ with_terms (op_of l.fn.sign) l.fn.left l.fn.right;
+  same : pending (op_of l.sign) l.sum.items (drop l.i l.left) (drop l.j l.right) ≡ with_terms
+      (op_of l.fn.sign) l.fn.left l.fn.right;
 }
 
 abbrev pub decreases-loop-j : goal.decreases-loop-j

@@ -13,5 +13,6 @@ loop-x-preserved c =
     let z = c.in_ok-product.field-0 in
     let e : exact Mul c.args.n t.1 ≡ Ok z = search rules in
     let n : c.put.new.sum.items ≡ c.loop-x.products.items ++ put t.0 z [] = search rules in
-    scaled-next c.args.n (to_z w128 (of_z w128 c.args.n)) c.args.terms.now c.loop-x.x-index z c.loop-x.products.items c.put.new.sum.items (search rules) c.loop-x-test.true e n
+    scaled-next c.args.n (to_z w128 (of_z w128 c.args.n)) c.args.terms.now c.loop-x.x-index z c.loop-x.products.items
+    c.put.new.sum.items (search rules) c.loop-x-test.true e n
     ∙ c.loop-x.invariant

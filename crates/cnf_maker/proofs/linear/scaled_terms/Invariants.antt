@@ -5,4 +5,5 @@ use Rattle.cnf_maker.proofs.linear.scaled_terms.Given as goal
 
 abbrev pub invariant-loop-x : goal.invariant-loop-x
 invariant-loop-x l =
-    and_then (scaled_terms l.fn.n (drop l.x-index l.terms)) (λ us. Ok (l.products.items ++ us)) ≡ scaled_terms l.fn.n l.fn.terms
+    and_then (scaled_terms l.fn.n (drop l.x-index l.terms))
+    (λ us. Ok (l.products.items ++ us)) ≡ scaled_terms l.fn.n l.fn.terms

@@ -6,4 +6,5 @@ use Rattle.cnf_maker.proofs.maker.Maker.conditions.Given as goal
 
 abbrev pub invariant-loop-condition : goal.invariant-loop-condition
 invariant-loop-condition l =
-    with_conditions l.truth (made l.self) (terms_view (drop l.condition-index l.conditions)) ≡ with_conditions l.fn.truth (made l.fn.self) (terms_view l.fn.conditions)
+    with_conditions l.truth (made l.self) (terms_view (drop l.condition-index l.conditions)) ≡ with_conditions
+    l.fn.truth (made l.fn.self) (terms_view l.fn.conditions)
