@@ -123,6 +123,7 @@ fn cites_of(alloc: Global, cites: Cites) -> Result<Vec<Cited>, AllocError> {
     Ok(vec![in alloc; Cited { place: 4, term }]?)
 }
 
+/// The proofs of the sketches, in order.
 pub fn proofs_of(alloc: Global, sketches: &[Sketch]) -> Result<Vec<Proof>, AllocError> {
     let mut proofs = Vec::new(alloc);
     for sketch in sketches {
@@ -151,6 +152,7 @@ fn line(alloc: Global, system: &System, row: Row) -> Result<String, RuleFault>
     Ok(text)
 }
 
+/// What comes of each row.
 pub fn lines(alloc: Global, system: &System) -> Result<Vec<String>, RuleFault>
     requires mild { IsMild (system_view system.now) }
     requires few { length (system_view system.now).shapes < 2 ^ 32 }

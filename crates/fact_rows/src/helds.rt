@@ -59,6 +59,7 @@ fn implied(
     Ok(format!(in alloc; "x at least 3 implies {property}: {text}")?)
 }
 
+/// What comes of each row.
 pub fn lines(alloc: Global, system: &System) -> Result<Vec<String>, RuleFault>
     requires mild { IsMild (system_view system.now) }
     requires few { length (system_view system.now).shapes < 2 ^ 32 }

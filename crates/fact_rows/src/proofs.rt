@@ -30,6 +30,7 @@ fn theory(alloc: Global, sketch: Sketch) -> Result<Step, AllocError> {
 }
 
 impl Sketch {
+    /// The refutation.
     pub fn proof(&self, alloc: Global) -> Result<Proof, AllocError> {
         let mut steps = Vec::new(alloc);
         if !self.atoms.is_empty() {

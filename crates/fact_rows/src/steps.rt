@@ -68,6 +68,7 @@ fn line(alloc: Global, system: &System, row: Row) -> Result<String, RuleFault>
     Ok(text)
 }
 
+/// What comes of each row.
 pub fn lines(alloc: Global, system: &System) -> Result<Vec<String>, RuleFault>
     requires mild { IsMild (system_view system.now) }
     requires few { length (system_view system.now).shapes < 2 ^ 32 }
