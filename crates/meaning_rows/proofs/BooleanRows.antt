@@ -51,7 +51,8 @@ lefts_once : AreDistinct (left_names against_node)
 lefts_once = (refl, (refl, tt))
 
 pub against_order : IsLeastEquationOrder against (equations against_node) (1 ∷ 0 ∷ [])
-against_order = least_needed against_node against_shape lefts_once (1 ∷ 0 ∷ []) (whole_order 2 (needs_equation (equations against_node)) (1 ∷ 0 ∷ []) against_next refl)
+against_order = least_needed against_node against_shape lefts_once (1 ∷ 0 ∷ [])
+    (whole_order 2 (needs_equation (equations against_node)) (1 ∷ 0 ∷ []) against_next refl)
 
 pub against_within : IsWithinCounts (declared_node against_node ∷ []) against_node
 against_within = record { names = omega arith; properties = omega arith; variables = omega arith }

@@ -1,11 +1,10 @@
 -- Worked rows of what is read off the tree: first tokens, numbers of occurrences, and the inputs that an output reads now.
 use Rattle.std.specs.Prelude.{ℕ, true, List, [], ◌∷◌, Some, None, codes}
-use Rattle.lus_tree.specs.declared.place.Pos.{Pos}
 use Rattle.lus_tree.specs.declared.expression.Operator.TheVariants.{Add, Equal}
-use Rattle.lus_tree.specs.Tree.{Place, Expression, truth, number, name, negation, minus, pre, arrow, binary, choice, sampled, merged, call, condact, mode_name, no_more, property, Component, guarantee}
-use Rattle.meaning_rows.specs.RowParts.{declares, spelled, unlabelled}
-use Rattle.meaning_rows.specs.PlacedParts.{at, from}
-use Rattle.meaning_rows.specs.Written.{the, truth_of, literal, previous, followed, combined, calling, calling_while, flag_named, number_named, defined, with_constants, sets, saying, importing}
+use Rattle.lus_tree.specs.Tree.{Place, Expression, truth, number, name, negation, minus, pre, arrow, binary, choice, sampled, merged, call, condact, mode_name, no_more, Component, guarantee}
+use Rattle.meaning_rows.specs.RowParts.{declares, spelled}
+use Rattle.meaning_rows.specs.PlacedParts.{from}
+use Rattle.meaning_rows.specs.Written.{the, literal, previous, followed, combined, calling_while, flag_named, number_named, defined, with_constants, sets, saying, importing}
 
 -- ---- one expression of each form, which begins in line 2, column 3 and has its own token in line 5, column 7
 

@@ -43,7 +43,8 @@ pub fn inner_condact_row()
 pub fn calls_everywhere_row()
     ensures run { IsRun calls_everywhere 2 throughout calls_everywhere_frame }
     ensures kinds { kinds calls_everywhere
-        ≡ (body, []) ∷ (guaranteed, []) ∷ (guaranteed, 6 ∷ []) ∷ (ensured (codes "m"), []) ∷ (one_mode_active, []) ∷ [] }
+        ≡ (body, []) ∷ (guaranteed, []) ∷ (guaranteed, 6 ∷ []) ∷ (ensured (codes "m"), [])
+        ∷ (one_mode_active, []) ∷ [] }
     ensures properties { truths calls_everywhere 2 calls_everywhere_frame
         ≡ (flag false ∷ flag true ∷ [])
         ∷ (flag true ∷ flag true ∷ [])

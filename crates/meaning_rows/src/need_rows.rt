@@ -1,4 +1,5 @@
-//! Worked rows of what a name needs at its own instant, with the programs of `specs/NeedRows.antt` and `specs/Loops.antt`.
+//! Worked rows of what a name needs at its own instant, with the programs of `specs/NeedRows.antt` and of
+//! `specs/Loops.antt`.
 
 ghost use Rattle.std.specs.Prelude.{[], ◌∷◌, codes};
 ghost use Rattle.lus_meaning.specs.Run.{equations};

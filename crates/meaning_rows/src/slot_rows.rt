@@ -1,4 +1,4 @@
-//! Worked rows of the layout: what the variables of programs of the other rows stand for, as `specs/SlotRows.antt` says.
+//! Worked rows of the layout: what the variables of programs of the other rows stand for, with `specs/SlotRows.antt`.
 
 ghost use Rattle.std.specs.Prelude.{◌≡◌, [], ◌∷◌, map};
 ghost use Rattle.lus_tree.specs.declared.place.Sort.TheVariants.{Bool as Flags, Int as Numbers};

@@ -16,7 +16,8 @@ pub returns-clause-condition : goal.returns-clause-condition
 returns-clause-condition c h = h (codes "y") (3, at_name (codes "y")) [] (refl, tt) refl
 
 pub returns-clause-argument : goal.returns-clause-argument
-returns-clause-argument c h = h (codes "y") (5, (0 ∷ [], Some (codes "o"))) ((2, (0 ∷ [], Some (codes "b"))) ∷ (3, at_name (codes "y")) ∷ []) (refl, (refl, (refl, tt))) refl
+returns-clause-argument c h = h (codes "y") (5, (0 ∷ [], Some (codes "o")))
+    ((2, (0 ∷ [], Some (codes "b"))) ∷ (3, at_name (codes "y")) ∷ []) (refl, (refl, (refl, tt))) refl
 
 pub returns-clause-merge : goal.returns-clause-merge
 returns-clause-merge c h = h (codes "y") (2, at_name (codes "y")) [] (refl, tt) refl

@@ -7,13 +7,15 @@ pub returns-clause-minus : goal.returns-clause-minus
 returns-clause-minus c = by_way needing (codes "a") (codes "r") refl refl (3, at_name (codes "r")) [] (refl, tt) refl
 
 pub returns-clause-plain_call : goal.returns-clause-plain_call
-returns-clause-plain_call c = by_way needing (codes "p") (codes "r") refl refl (2, (0 ∷ [], Some (codes "o"))) ((3, (0 ∷ [], Some (codes "a"))) ∷ (1, at_name (codes "r")) ∷ []) (refl, (refl, (refl, tt))) refl
+returns-clause-plain_call c = by_way needing (codes "p") (codes "r") refl refl (2, (0 ∷ [], Some (codes "o")))
+    ((3, (0 ∷ [], Some (codes "a"))) ∷ (1, at_name (codes "r")) ∷ []) (refl, (refl, (refl, tt))) refl
 
 pub returns-clause-condition : goal.returns-clause-condition
 returns-clause-condition c = by_way needing (codes "g") (codes "k") refl refl (3, at_name (codes "k")) [] (refl, tt) refl
 
 pub returns-clause-condact : goal.returns-clause-condact
-returns-clause-condact c = by_way needing (codes "h") (codes "r") refl refl (5, (2 ∷ [], Some (codes "o"))) ((3, (2 ∷ [], Some (codes "a"))) ∷ (3, at_name (codes "r")) ∷ []) (refl, (refl, (refl, tt))) refl
+returns-clause-condact c = by_way needing (codes "h") (codes "r") refl refl (5, (2 ∷ [], Some (codes "o")))
+    ((3, (2 ∷ [], Some (codes "a"))) ∷ (3, at_name (codes "r")) ∷ []) (refl, (refl, (refl, tt))) refl
 
 pub returns-clause-sampled : goal.returns-clause-sampled
 returns-clause-sampled c = by_way needing (codes "b") (codes "r") refl refl (3, at_name (codes "r")) [] (refl, tt) refl

@@ -14,13 +14,15 @@ use Rattle.lus_meaning.proofs.NoCircle.{follows_row, limit_row}
 use Rattle.meaning_rows.proofs.refusal_rows.limit_rows.Goals as goal
 
 pub returns-clause-main : goal.returns-clause-main
-returns-clause-main c = limit_row counting_up (Some (codes "nobody")) (fault main_unknown (at 1 1)) (follows_row counting_up 9 refl refl refl refl) refl refl refl
+returns-clause-main c = limit_row counting_up (Some (codes "nobody")) (fault main_unknown (at 1 1))
+    (follows_row counting_up 9 refl refl refl refl) refl refl refl
 
 pub returns-clause-within : goal.returns-clause-within
 returns-clause-within c = (follows_row counting_up 9 refl refl refl refl, none_of (size_faults counting_up (Some (codes "main"))) refl)
 
 pub returns-clause-properties : goal.returns-clause-properties
-returns-clause-properties c = limit_row five_hundred_and_one None (fault (too_many 500) (at 1 6)) (follows_row five_hundred_and_one 9 refl refl refl refl) refl refl refl
+returns-clause-properties c = limit_row five_hundred_and_one None (fault (too_many 500) (at 1 6))
+    (follows_row five_hundred_and_one 9 refl refl refl refl) refl refl refl
 
 abbrev late_part : Component
 late_part = get_or (components late_argument) 0 no_component
@@ -39,10 +41,12 @@ main_counted an_arrow = refl
 main_counted a_call = refl
 
 part_is_plain : IsGrammaticalComponent late_part
-part_is_plain = record { name = refl; names = refl; modes = refl; clocks = refl; forms = refl; lefts = refl; labels = refl; numbered = record { each = part_counted } }
+part_is_plain = record
+    { name = refl; names = refl; modes = refl; clocks = refl; forms = refl; lefts = refl; labels = refl; numbered = record { each = part_counted } }
 
 main_is_plain : IsGrammaticalComponent late_main
-main_is_plain = record { name = refl; names = refl; modes = refl; clocks = refl; forms = refl; lefts = refl; labels = refl; numbered = record { each = main_counted } }
+main_is_plain = record
+    { name = refl; names = refl; modes = refl; clocks = refl; forms = refl; lefts = refl; labels = refl; numbered = record { each = main_counted } }
 
 pub returns-clause-grammatical : goal.returns-clause-grammatical
 returns-clause-grammatical c = (part_is_plain, (main_is_plain, tt))
