@@ -46,7 +46,9 @@ is_left x ss = list_any (λ e. named_in x e.names) (body_equations ss)
 
 -- how many values a line has, and whether it has to be there
 abbrev pub name_need : Component → ℕ → Name → Option (ℕ × Bool)
-name_need d n x = cond (named_in x (names_of d.inputs)) (Some (n, true)) (cond ((named_in x (names_of d.outputs) || named_in x (names_of d.locals)) && not (is_left x d.body)) (Some (n, false)) None)
+name_need d n x =
+    cond (named_in x (names_of d.inputs)) (Some (n, true))
+    (cond ((named_in x (names_of d.outputs) || named_in x (names_of d.locals)) && not (is_left x d.body)) (Some (n, false)) None)
 
 abbrev pub first_need : ℕ → ℕ → Option (ℕ × Bool)
 first_need last k = cond (nat_le 1 k && nat_le k last) (Some (1, false)) None

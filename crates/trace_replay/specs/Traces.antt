@@ -109,7 +109,9 @@ MisfitBehind (r ∷ rs) p = MisfitIn [] r.words r.end p
 -- the first misfit in the lines, where the text ends at e
 abbrev pub MisfitBelow : List TextLine → Pos → Pos → Type 0
 MisfitBelow [] e p = p ≡ e
-MisfitBelow (r ∷ rs) e p = (IsClosing r × MisfitBehind rs p) ⊎ ((IsClosing r → ⊥) × (MisfitIn (line_wanted r.words) r.words r.end p ⊎ (AreFit (line_wanted r.words) r.words × MisfitBelow rs e p)))
+MisfitBelow (r ∷ rs) e p =
+    (IsClosing r × MisfitBehind rs p)
+    ⊎ ((IsClosing r → ⊥) × (MisfitIn (line_wanted r.words) r.words r.end p ⊎ (AreFit (line_wanted r.words) r.words × MisfitBelow rs e p)))
 
 abbrev pub MisfitAt : List TextLine → Pos → Pos → Type 0
 MisfitAt [] e p = p ≡ e

@@ -1,12 +1,13 @@
 //! The lines of a trace, by what they list.
 
-ghost use Rattle.std.specs.Prelude.{◌≡◌, List, ℕ, Some, None, cond, false, nat_eq, map, option_map, IfOk, OnOk};
+ghost use Rattle.std.specs.Prelude.{◌≡◌, ℕ, Some, None, cond, false, nat_eq, map, option_map, IfOk, OnOk};
 ghost use Rattle.std.specs.Option.{option_or, option_map_or};
 ghost use Rattle.std.specs.Str.{bytes_eq};
 ghost use Rattle.indexmap.specs.IndexMap.{get, get_by};
 ghost use Rattle.lus_meaning.specs.Trace.{of_name, of_first};
 ghost use Rattle.lus_meaning.specs.TraceView.{bare_view, values_view};
-ghost use Rattle.trace_replay.specs.Found.{lists, found_values};
+ghost use Rattle.lus_tree.specs.Tree.{Name};
+ghost use Rattle.trace_replay.specs.Found.{lists, found_values, values_named, values_numbered, or_listed};
 
 use indexmap::IndexMap;
 use lus_meaning::{PlacedValue, Spot, TraceLine};
@@ -19,8 +20,8 @@ pub(crate) struct LineTable<'a> {
     pub(crate) lines: &'a [TraceLine],
     names: IndexMap<&'a str, &'a [PlacedValue]>,
     firsts: IndexMap<u32, &'a [PlacedValue]>,
-    ghost by_name: { (x : List ℕ) → option_map (λ v. values_view v.now) (get_by (λ k. bytes_eq x k.now) names) ≡ found_values (map bare_view lines.now) (of_name x) },
-    ghost by_first: { (k : ℕ) → option_map (λ v. values_view v.now) (get nat_eq firsts k) ≡ found_values (map bare_view lines.now) (of_first k) },
+    ghost by_name: { (x : Name) → values_named names x ≡ found_values (map bare_view lines.now) (of_name x) },
+    ghost by_first: { (k : ℕ) → values_numbered firsts k ≡ found_values (map bare_view lines.now) (of_first k) },
 }
 
 impl<'a> LineTable<'a> {
@@ -54,7 +55,7 @@ impl<'a> LineTable<'a> {
 
 /// The name of the node itself that a line lists.
 fn name_of(line: &TraceLine) -> Option<&str>
-    ensures { (x : List ℕ) → lists (of_name x) (bare_view line.now) ≡ option_map_or (λ y. bytes_eq x y.now) result false }
+    ensures { (x : Name) → lists (of_name x) (bare_view line.now) ≡ option_map_or (λ y. bytes_eq x y.now) result false }
 {
     match (line.path.as_slice(), &line.what) {
         ([], Spot::Name(x)) => Some(x.as_str()),
@@ -78,7 +79,8 @@ fn note_name<'a>(
     name: &'a str,
     values: &'a [PlacedValue],
 ) -> Result<(), AllocError>
-    ensures { OnOk result ((x : List ℕ) → get_by (λ k. bytes_eq x k.now) names.new ≡ option_or (get_by (λ k. bytes_eq x k.now) names.old) (cond (bytes_eq x name.now) (Some values.entry) None)) }
+    ensures { OnOk result ((x : Name) → get_by (λ k. bytes_eq x k.now) names.new
+        ≡ option_or (get_by (λ k. bytes_eq x k.now) names.old) (cond (bytes_eq x name.now) (Some values.entry) None)) }
 {
     if !names.contains_key(name) {
         names.insert(name, values)?;
@@ -92,7 +94,8 @@ fn note_first<'a>(
     number: u32,
     values: &'a [PlacedValue],
 ) -> Result<(), AllocError>
-    ensures { OnOk result ((k : ℕ) → get nat_eq firsts.new k ≡ option_or (get nat_eq firsts.old k) (cond (nat_eq k number) (Some values.entry) None)) }
+    ensures { OnOk result ((k : ℕ) → get nat_eq firsts.new k
+        ≡ option_or (get nat_eq firsts.old k) (cond (nat_eq k number) (Some values.entry) None)) }
 {
     if !firsts.contains_key(&number) {
         firsts.insert(number, values)?;
@@ -105,8 +108,7 @@ fn add_name<'a>(
     names: &mut IndexMap<&'a str, &'a [PlacedValue]>,
     line: &'a TraceLine,
 ) -> Result<(), AllocError>
-    ensures { OnOk result ((x : List ℕ) → option_map (λ v. values_view v.now) (get_by (λ k. bytes_eq x k.now) names.new)
-        ≡ option_or (option_map (λ v. values_view v.now) (get_by (λ k. bytes_eq x k.now) names.old)) (cond (lists (of_name x) (bare_view line.now)) (Some (bare_view line.now).values) None)) }
+    ensures { OnOk result ((x : Name) → values_named names.new x ≡ or_listed (values_named names.old x) (of_name x) (bare_view line.now)) }
 {
     match name_of(line) {
         Some(name) => note_name(names, name, &line.values),
@@ -119,8 +121,7 @@ fn add_first<'a>(
     firsts: &mut IndexMap<u32, &'a [PlacedValue]>,
     line: &'a TraceLine,
 ) -> Result<(), AllocError>
-    ensures { OnOk result ((k : ℕ) → option_map (λ v. values_view v.now) (get nat_eq firsts.new k)
-        ≡ option_or (option_map (λ v. values_view v.now) (get nat_eq firsts.old k)) (cond (lists (of_first k) (bare_view line.now)) (Some (bare_view line.now).values) None)) }
+    ensures { OnOk result ((k : ℕ) → values_numbered firsts.new k ≡ or_listed (values_numbered firsts.old k) (of_first k) (bare_view line.now)) }
 {
     match first_of(line) {
         Some(number) => note_first(firsts, number, &line.values),
@@ -133,7 +134,7 @@ fn by_names(
     alloc: Global,
     lines: &[TraceLine],
 ) -> Result<IndexMap<&str, &[PlacedValue]>, AllocError>
-    ensures { IfOk result (λ m. (x : List ℕ) → option_map (λ v. values_view v.now) (get_by (λ k. bytes_eq x k.now) m) ≡ found_values (map bare_view lines.now) (of_name x)) }
+    ensures { IfOk result (λ m. (x : Name) → values_named m x ≡ found_values (map bare_view lines.now) (of_name x)) }
 {
     let mut names = IndexMap::new(alloc);
     for line in lines {
@@ -147,7 +148,7 @@ fn by_firsts(
     alloc: Global,
     lines: &[TraceLine],
 ) -> Result<IndexMap<u32, &[PlacedValue]>, AllocError>
-    ensures { IfOk result (λ m. (k : ℕ) → option_map (λ v. values_view v.now) (get nat_eq m k) ≡ found_values (map bare_view lines.now) (of_first k)) }
+    ensures { IfOk result (λ m. (k : ℕ) → values_numbered m k ≡ found_values (map bare_view lines.now) (of_first k)) }
 {
     let mut firsts = IndexMap::new(alloc);
     for line in lines {

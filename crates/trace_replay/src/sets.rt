@@ -39,7 +39,7 @@ pub fn add_streams<'a>(names: &mut IndexSet<&'a str>, params: &'a [Param]) -> Re
 }
 
 /// Adds these words.
-fn add_words<'a>(names: &mut IndexSet<&'a str>, words: &'a [Word]) -> Result<(), AllocError>
+pub fn add_words<'a>(names: &mut IndexSet<&'a str>, words: &'a [Word]) -> Result<(), AllocError>
     ensures { OnOk result (AddsNames names.old names.new (map text_of (map word_view words.now))) }
 {
     for word in words {
