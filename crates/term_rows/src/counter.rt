@@ -14,6 +14,7 @@ pub struct Counted {
 }
 
 impl Counted {
+    /// The state, at the first instant or a later one.
     pub fn state(&self, alloc: Global, first: bool) -> Result<State, AllocError> {
         let values = vec![in alloc;
             Entry::Flag(true),
@@ -49,6 +50,7 @@ fn first_next(alloc: Global) -> Result<Term, AllocError> {
     same(alloc, Term::Flag(next(3)), still)
 }
 
+/// The counter as a system.
 pub fn counter(alloc: Global) -> Result<System, AllocError> {
     let (flag, number) = (Shape::Flag, Shape::Number);
     let at_least_0 = at_most(alloc, Num::Constant(0), Num::Value(now(1)))?;

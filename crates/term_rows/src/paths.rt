@@ -79,6 +79,7 @@ fn line(alloc: Global, system: &System, row: Row) -> Result<String, AllocError> 
     }
 }
 
+/// What comes of each row.
 pub fn lines(alloc: Global) -> Result<Vec<String>, AllocError> {
     let system = counter(alloc)?.copied(alloc)?;
     let mut lines = Vec::new(alloc);

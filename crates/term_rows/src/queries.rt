@@ -78,6 +78,7 @@ fn line(alloc: Global, system: &System, what: &Obligation) -> Result<String, All
     }
 }
 
+/// What comes of each row.
 pub fn lines(alloc: Global) -> Result<Vec<String>, AllocError> {
     let system = small(alloc)?;
     let mut lines = Vec::new(alloc);

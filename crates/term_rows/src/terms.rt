@@ -88,6 +88,7 @@ fn sample_line(alloc: Global, term: &Term) -> Result<String, AllocError> {
     )
 }
 
+/// What comes of each row.
 pub fn lines(alloc: Global) -> Result<Vec<String>, AllocError> {
     let mut lines = Vec::new(alloc);
     for division in DIVISIONS {

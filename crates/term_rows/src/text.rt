@@ -8,6 +8,7 @@ fn var_text(alloc: Global, var: Var) -> Result<String, AllocError> {
     format!(in alloc; "v{}{}", var.number, mark)
 }
 
+/// The term as text.
 #[cycle(text)]
 pub fn term_text(alloc: Global, term: &Term) -> Result<String, AllocError> {
     match term {
