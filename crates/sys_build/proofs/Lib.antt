@@ -27,3 +27,4 @@ pub mod Given
 pub mod Kept
 pub mod Runs
 pub mod PathRun
+pub mod Reading
