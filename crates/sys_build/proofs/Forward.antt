@@ -132,7 +132,7 @@ module _ (Modes : Instance → Key → Type 0) where
 
 -- ---- one call
 
-both_true : (a b : Bool) → a ≡ true → b ≡ true → (a && b) ≡ true
+pub both_true : (a b : Bool) → a ≡ true → b ≡ true → (a && b) ≡ true
 both_true true true e d = refl
 both_true true false e d = absurd (false≢true d)
 both_true false b e d = absurd (false≢true e)

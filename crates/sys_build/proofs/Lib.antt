@@ -28,3 +28,6 @@ pub mod Kept
 pub mod Runs
 pub mod PathRun
 pub mod Reading
+pub mod Lawful
+pub mod PathStates
+pub mod OneRun

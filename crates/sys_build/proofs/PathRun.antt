@@ -22,7 +22,7 @@ use Rattle.sys_build.specs.Slot.{beat, own}
 use Rattle.sys_build.specs.Path.{Course, course_of, frame_of_path}
 use Rattle.sys_build.specs.Translate.{present}
 use Rattle.sys_build.specs.System.{stage, equation_sources, number_of, system_of, clock_of_variable}
-use Rattle.sys_build.specs.Law.{TreeDistinct, PathsToRuns}
+use Rattle.sys_build.specs.Law.{TreeDistinct}
 use Rattle.sys_build.specs.WellTyped.{IsNameOn, clock_here, StreamFits, WellTyped}
 use Rattle.sys_build.proofs.Pools.{true_all}
 use Rattle.sys_build.proofs.Offs.{names_off, present_same}
@@ -31,7 +31,7 @@ use Rattle.sys_build.proofs.Backward.{TreeMeets, tree_meets, own_meets}
 use Rattle.sys_build.proofs.Runs.{Offs, run_by}
 use Rattle.sys_build.proofs.Whole.{no_modes}
 
-from_places : {A : Type 0} (P : A → Type 0) (xs : List A) → All P xs → AllByRecursion P xs
+pub from_places : {A : Type 0} (P : A → Type 0) (xs : List A) → All P xs → AllByRecursion P xs
 from_places P [] a = tt
 from_places P (x ∷ xs) a = (a 0 x (omega arith), from_places P xs (λ k d h. a (suc k) d (omega arith)))
 
@@ -79,10 +79,10 @@ module _ (i : Instance) (w : WellTyped no_modes i) (states : List (List Entry)) 
   pub path_meets : TreeMeets c n plain i (number_of i) start []
   path_meets = tree_meets c n plain i (number_of i) start [] here_all next_all first_all
 
-  begins : (t : ℕ) → t < n → (c t).flag_at (number_of i (own beat)) ≡ true
+  pub begins : (t : ℕ) → t < n → (c t).flag_at (number_of i (own beat)) ≡ true
   begins t h = ((own_meets c n plain i (number_of i) start [] path_meets).runs t h).0
 
-  path_offs : Offs i (number_of i) c n
+  pub path_offs : Offs i (number_of i) c n
   path_offs t h x d e o =
       names_off (scene i throughout empty_frame) (no_modes i) (number_of i) (stage i (number_of i)).modes (c t)
       (c t) [] tt (own_fits no_modes i w.tree) ((own_meets c n plain i
@@ -102,7 +102,3 @@ module _ (i : Instance) (w : WellTyped no_modes i) (states : List (List Entry)) 
   pub path_is_run : TreeDistinct i (number_of i) [] → IsRun i n throughout (frame_of_path i states)
   path_is_run distinct =
       run_by i (number_of i) c n throughout plain start [] w.tree path_meets distinct begins path_offs
-
--- the second direction so far: the frame of a path is a run
-pub paths_to_runs : PathsToRuns
-paths_to_runs i w distinct states path = path_is_run i w states path distinct

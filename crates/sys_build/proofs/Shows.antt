@@ -93,7 +93,7 @@ entry_value Numbers absent rest h = refl
 entry_value Numbers (whole n) rest h = refl
 entry_value Numbers (flag b) rest h = absurd (false≢true h)
 
-later_value : (z : Sort) (n : ℕ) (e : Entry) (rest : List Entry) →
+pub later_value : (z : Sort) (n : ℕ) (e : Entry) (rest : List Entry) →
     value_in (values_of (e ∷ rest)) z (suc n) ≡ value_in (values_of rest) z n
 later_value Flags n e rest = refl
 later_value Numbers n e rest = refl

@@ -106,8 +106,16 @@ abbrev mutual
   CallsDistinct (with_instance a k is) g = TreeDistinct k (below_call a.number g.number) (from_call g a k)
       × CallsDistinct is g
 
--- the frame of a path is a run of as many instants, for a declaration without contracts
+-- the frame of a path is a run of as many instants, lawful at the last, and its states are the path; no other run is;
+-- for a declaration without contracts
 abbrev pub PathsToRuns : Type 0
 PathsToRuns = (i : Instance) → WellTyped (λ j key. ⊥) i → TreeDistinct i (number_of i) [] →
     (states : List (List Entry)) → IsPath (system_of i) states →
-    IsRun i (length states) throughout (frame_of_path i states)
+    IsRunOf i states (frame_of_path i states)
+    × ((g : Frame) → IsRunOf i states g → g ≡ frame_of_path i states)
+
+-- ---- together
+
+-- runs are paths, and each path is that of one run, for a declaration without contracts
+abbrev pub RunsArePathsLaw : Type 0
+RunsArePathsLaw = (i : Instance) → WellTyped (λ j key. ⊥) i → TreeDistinct i (number_of i) [] → RunsArePaths i

@@ -16,9 +16,10 @@ use Rattle.lus_meaning.specs.Occurrences.{Memory, memories, Start, starts}
 use Rattle.lus_meaning.specs.Property.{assertions}
 use Rattle.lus_meaning.specs.Run.{Equation, equations, inputs_of, first_sorts, output_sort, sort_of, sort_of_name}
 use Rattle.lus_meaning.specs.Depends.{named_in}
+use Rattle.lus_meaning.specs.WellMade.{AreDistinct}
 use Rattle.sys_build.specs.Defaults.{is_constant, site_of, default_of}
 use Rattle.lus_meaning.specs.Slots.{Slot, slots}
-use Rattle.sys_build.specs.Slot.{Spot, beat, named, memory, starting, so_far, held, Place, spot_of, place_of, same_place, memory_of, start_of}
+use Rattle.sys_build.specs.Slot.{Spot, beat, named, memory, starting, so_far, held, Place, spot_of, place_of, same_place, number_in, memory_of, start_of}
 use Rattle.sys_build.specs.Items.{Key}
 
 -- the type that an operator takes
@@ -192,10 +193,14 @@ module _ (i : Instance) (ModeAt : Key → Type 0) where
     pub clock : ClockFits a.clock
 
   pub record OwnFits : Type 0 where
+    -- each name is declared once
+    pub once : AreDistinct (map (λ v. v.name.text) (variables (component_of i)))
     -- for now without a contract
     pub contract : (component_of i).contract ≡ None
     pub streams : AllByRecursion StreamFits (variables (component_of i))
     pub equations : AllByRecursion EquationFits (equations (component_of i))
+    -- each first value is that of a memory
+    pub firsts : (j : ℕ) → j < length (first_sorts i) → (c : Clock) × (a : Expression) × IsMemory (suc j) c a
     pub memories : AllByRecursion MemoryFits (memories (component_of i))
     pub starts : AllByRecursion StartFits (starts (component_of i))
     pub asserts : AllByRecursion (λ e. Stands base e × (sort_of i e ≡ Flags)) (assertions (component_of i).body)
@@ -262,5 +267,7 @@ module _ (Modes : Instance → Key → Type 0) where
   pub record WellTyped (i : Instance) : Type 0 where
     pub tree : TreeFits i
     pub places : (ks : List ℕ) (p : Spot) (z : Sort) → HasPlace ks i p z → slot_sort (slots i) (ks, p) ≡ Some z
+    -- each slot is the first of its place
+    pub numbered : (k : ℕ) (q : Slot) → slice_get (slots i) k ≡ Some q → number_in (slots i) (place_of q) ≡ k
     pub slots : AllByRecursion (λ q. HasPlace q.path i (spot_of q.cell) q.sort) (slots i)
     pub main_inputs : AllByRecursion (IsNameOn i (Modes i) base) (inputs_of i)
