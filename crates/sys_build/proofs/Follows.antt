@@ -55,7 +55,7 @@ flag_inside a b e = ap inside e
     inside (flag c) = c
     inside (whole n) = false
 
-some_same : {A : Type 0} (x y : A) → Some x ≡ Some y → x ≡ y
+pub some_same : {A : Type 0} (x y : A) → Some x ≡ Some y → x ≡ y
 some_same {A} x y e = ap inside e
   where
     inside : Option A → A

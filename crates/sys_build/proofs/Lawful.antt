@@ -20,12 +20,12 @@ use Rattle.sys_build.specs.Items.{Key}
 use Rattle.sys_build.specs.Path.{Course}
 use Rattle.sys_build.specs.Translate.{flag_at, formula}
 use Rattle.sys_build.specs.System.{below_call, stage, asserts_of, asserts_in, calls_asserts}
-use Rattle.sys_build.specs.WellTyped.{Stands, CallFits, TreeFits, CallsFit}
+use Rattle.sys_build.specs.WellTyped.{Stands, TreeFits, CallsFit}
 use Rattle.sys_build.proofs.Rows.{OwnShown}
 use Rattle.sys_build.proofs.Main.{formula_value}
 use Rattle.sys_build.proofs.Pools.{true_all}
 use Rattle.sys_build.proofs.Shows.{Reads}
-use Rattle.sys_build.proofs.Forward.{both_true, drop_calls, drop_frames, later_calls, later_frames, calls_later, frames_later, modes_of, Contracts, call_at_reads, own_fits, shown_here, agreed_here}
+use Rattle.sys_build.proofs.Forward.{both_true, drop_calls, drop_frames, later_calls, later_frames, calls_later, frames_later, modes_of, Contracts, call_at_reads, shown_here, agreed_here}
 
 abbrev asserting : Bool → Bool → Bool
 asserting o q = not (o && not q)

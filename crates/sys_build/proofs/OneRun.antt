@@ -21,14 +21,14 @@ use Rattle.lus_meaning.proofs.Stable.{sample_at}
 use Rattle.sys_terms.specs.declared.term.Entry.{Entry}
 use Rattle.sys_terms.specs.Meaning.{values_of, truth_of}
 use Rattle.sys_terms.specs.Paths.{IsPath}
-use Rattle.sys_build.specs.Slot.{Place, own, named, memory}
+use Rattle.sys_build.specs.Slot.{Place, own, named}
 use Rattle.sys_build.specs.Items.{Key}
-use Rattle.sys_build.specs.State.{state_of, states_from, states_of}
+use Rattle.sys_build.specs.State.{state_of, states_from}
 use Rattle.sys_build.specs.Part.{value_in}
 use Rattle.sys_build.specs.Path.{Course, bare_stage, name_by, firsts_by, frame_by, frames_by, course_of, frame_of_path}
 use Rattle.sys_build.specs.Translate.{present}
 use Rattle.sys_build.specs.System.{below_call, stage, number_of, system_of}
-use Rattle.sys_build.specs.Law.{TreeDistinct, IsRunOf, PathsToRuns, RunsArePathsLaw}
+use Rattle.sys_build.specs.Law.{IsRunOf, PathsToRuns, RunsArePathsLaw}
 use Rattle.sys_build.specs.WellTyped.{MemoryFits, StreamFits, TreeFits, CallsFit, WellTyped}
 use Rattle.sys_build.proofs.Present.{present_on}
 use Rattle.sys_build.proofs.Rows.{OwnShown, as_it_is}

@@ -15,8 +15,8 @@ use Rattle.lus_meaning.specs.Verdict.{throughout}
 use Rattle.lus_meaning.proofs.Unique.{same_bytes}
 use Rattle.sys_terms.specs.declared.term.Entry.{Entry}
 use Rattle.sys_terms.specs.View.{Formula}
-use Rattle.sys_terms.specs.Meaning.{Values, values_of, truth_of}
-use Rattle.sys_terms.specs.Paths.{AreTrueOver, AreJoined, IsState, IsPath, BeginsWith}
+use Rattle.sys_terms.specs.Meaning.{values_of, truth_of}
+use Rattle.sys_terms.specs.Paths.{AreTrueOver, AreJoined, IsPath, BeginsWith}
 use Rattle.sys_terms.specs.View as terms
 use Rattle.sys_build.specs.Slot.{beat, own}
 use Rattle.sys_build.specs.Path.{Course, course_of, frame_of_path}

@@ -1,10 +1,10 @@
 -- For declarations without contracts: the states of a path's frame are the path, and it is lawful.
-use Rattle.std.proofs.Common.{◌≡◌, ℕ, zero, suc, pred, ◌<◌, ◌≤◌, ◌+◌, Bool, true, false, ◌&&◌, List, [], ◌∷◌, map, length, refl, ap, ◌∙◌, sym, arith, Option, Some, None, is_some, slice_get, get_or}
+use Rattle.std.proofs.Common.{◌≡◌, ℕ, zero, suc, pred, ◌<◌, ◌+◌, true, List, [], ◌∷◌, map, length, refl, ap, ◌∙◌, sym, arith, Some, is_some, slice_get, get_or}
 use Rattle.std.specs.List.{AllByRecursion}
 use Rattle.std.proofs.lemmas.Bool.{false≢true}
 use Rattle.lus_tree.specs.declared.place.Sort.{Sort}
 use Rattle.lus_tree.specs.declared.place.Sort.TheVariants.{Bool as Flags, Int as Numbers}
-use Rattle.lus_meaning.specs.Value.{Value, flag, whole}
+use Rattle.lus_meaning.specs.Value.{Value}
 use Rattle.lus_meaning.specs.Frame.{Frame}
 use Rattle.lus_meaning.specs.Scene.{plain, Instance}
 use Rattle.lus_meaning.specs.Slots.{Slot, slots}
@@ -15,7 +15,7 @@ use Rattle.lus_meaning.specs.Verdict.{throughout}
 use Rattle.lus_meaning.proofs.Now.{right_part}
 use Rattle.sys_terms.specs.declared.term.Entry.{Entry}
 use Rattle.sys_terms.specs.declared.term.Entry.TheVariants as entries
-use Rattle.sys_terms.specs.Meaning.{Values, values_of, truth_of}
+use Rattle.sys_terms.specs.Meaning.{values_of, truth_of}
 use Rattle.sys_terms.specs.Fits.{entry_fits, state_fits}
 use Rattle.sys_terms.specs.Paths.{IsPath}
 use Rattle.sys_build.specs.Slot.{place_of, spot_of}
@@ -25,8 +25,8 @@ use Rattle.sys_build.specs.Path.{Course, course_of, frame_of_path}
 use Rattle.sys_build.specs.System.{number_of, assumed, asserts_in, shape_of, system_of}
 use Rattle.sys_build.specs.Law.{TreeDistinct, IsRunOf}
 use Rattle.sys_build.specs.WellTyped.{HasPlace, WellTyped}
-use Rattle.sys_build.proofs.Pools.{true_all}
 use Rattle.sys_build.proofs.Shows.{Reads, same_both, later_value}
+use Rattle.sys_build.proofs.Follows.{some_same}
 use Rattle.sys_build.proofs.Forward.{both_true, own_fits}
 use Rattle.sys_build.proofs.Lawful.{all_asserted, assumes_nothing}
 use Rattle.sys_build.proofs.PathRun.{from_places, start, path_meets, begins, path_offs, path_is_run}
@@ -64,13 +64,6 @@ states_same i f (x ∷ xs) t e =
     let rest : states_from i f (suc t) (length xs) ≡ xs = states_same i f xs (suc t)
     (λ u l. let there : suc t + u ≡ t + suc u = omega arith in ap (state_of i f) there ∙ e (suc u) (omega arith)) in
     rw (one, rest) refl
-
-some_same : {A : Type 0} (x y : A) → Some x ≡ Some y → x ≡ y
-some_same {A} x y e = ap inside e
-  where
-    inside : Option A → A
-    inside None = x
-    inside (Some z) = z
 
 pub at_index : {A : Type 0} (P : A → Type 0) (xs : List A) → AllByRecursion P xs → (k : ℕ) (x : A) →
     slice_get xs k ≡ Some x → P x
@@ -128,4 +121,3 @@ module _ (i : Instance) (w : WellTyped no_modes i) (states : List (List Entry))
 
     pub path_is_run_of : IsRunOf i states f
     path_is_run_of = record { run = run; lawful = path_lawful; goes = path_goes }
-

@@ -1,12 +1,11 @@
 -- What the states of a path are, at each place of the path's frame.
-use Rattle.std.proofs.Common.{◌≡◌, ℕ, ◌<◌, ◌+◌, pred, true, false, List, [], ◌∷◌, length, refl, ap, ◌∙◌, sym, subst, is_some}
-use Rattle.std.specs.List.{AllByRecursion}
+use Rattle.std.proofs.Common.{◌≡◌, ℕ, ◌<◌, ◌+◌, pred, true, List, [], ◌∷◌, length, ap, ◌∙◌, sym, subst, is_some}
 use Rattle.std.proofs.lemmas.Bool.{false≢true}
 use Rattle.lus_tree.specs.declared.place.Sort.{Sort}
 use Rattle.lus_tree.specs.declared.place.Sort.TheVariants.{Bool as Flags}
 use Rattle.lus_tree.specs.Tree.{Name, Variable, Component}
 use Rattle.lus_meaning.specs.Value.{Value, flag, Instants, has_sort}
-use Rattle.lus_meaning.specs.Frame.{Frame, call_frame}
+use Rattle.lus_meaning.specs.Frame.{Frame}
 use Rattle.lus_meaning.specs.Scene.{Manner, Site, Scene, Instance, Instances, instance, component_of, call_instance, variables}
 use Rattle.lus_meaning.specs.Contract.{scene}
 use Rattle.lus_meaning.specs.Run.{active, sort_of, sort_of_name}
@@ -14,7 +13,7 @@ use Rattle.lus_meaning.specs.Trace.{or_default}
 use Rattle.sys_terms.specs.View.{Formula, same}
 use Rattle.sys_terms.specs.Meaning.{Values}
 use Rattle.sys_build.specs.Slot.{Spot, Place, beat, named, memory, starting, so_far, held, own, in_call}
-use Rattle.sys_build.specs.Items.{Key, Known}
+use Rattle.sys_build.specs.Items.{Known}
 use Rattle.sys_build.specs.Defaults.{site_of}
 use Rattle.sys_build.specs.State.{own_reading, reading, reading_on, remembered, still_starting, held_before}
 use Rattle.sys_build.specs.Part.{value_in}

@@ -12,14 +12,11 @@ use Rattle.lus_meaning.specs.Run.{IsRun}
 use Rattle.lus_meaning.specs.Property.{IsLawful, meets_all, all_assert, meets_assumptions}
 use Rattle.lus_meaning.specs.Trace.{or_default}
 use Rattle.lus_meaning.specs.Verdict.{throughout}
-use Rattle.kind_num.specs.declared.Shape.{Shape}
-use Rattle.kind_num.specs.declared.Shape.TheVariants as shapes
 use Rattle.sys_terms.specs.declared.term.Entry.{Entry}
-use Rattle.sys_terms.specs.declared.term.Entry.TheVariants as entries
 use Rattle.sys_terms.specs.View.{Formula, Machine}
-use Rattle.sys_terms.specs.Meaning.{Values, values_of, truth_of}
+use Rattle.sys_terms.specs.Meaning.{values_of, truth_of}
 use Rattle.sys_terms.specs.Fits.{entry_fits, state_fits}
-use Rattle.sys_terms.specs.Paths.{AreTrue, AreTrueOver, IsState, AreJoined, BeginsWith, IsLoosePath, IsPath}
+use Rattle.sys_terms.specs.Paths.{IsState, AreJoined, IsPath}
 use Rattle.sys_terms.specs.View as terms
 use Rattle.sys_build.proofs.Conditions.{flags_same}
 use Rattle.sys_build.specs.Slot.{beat, own, place_of}

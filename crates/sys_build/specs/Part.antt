@@ -5,7 +5,6 @@ use Rattle.lus_tree.specs.declared.expression.Operator.TheVariants.{Implies, Or,
 use Rattle.lus_tree.specs.declared.place.Sort.{Sort}
 use Rattle.lus_tree.specs.declared.place.Sort.TheVariants.{Bool as Flags, Int as Numbers}
 use Rattle.lus_meaning.specs.Value.{Value, absent, flag, whole}
-use Rattle.sys_terms.specs.declared.term.Var.{Var}
 use Rattle.sys_terms.specs.View.{Formula, truth, negation, both, same, choice, at_most, equal, Amount, constant, number, plus, minus, multiple, chosen, quotient, remainder}
 use Rattle.sys_terms.specs.Meaning.{Values, truth_of, value_of}
 use Rattle.sys_terms.specs.View as t
