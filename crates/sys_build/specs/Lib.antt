@@ -1,0 +1,11 @@
+pub mod Defaults
+pub mod Slot
+pub mod State
+pub mod Items
+pub mod Part
+pub mod Translate
+pub mod System
+pub mod Seen
+pub mod WellTyped
+pub mod Law
+pub mod Path

@@ -1,0 +1,17 @@
+//! What the laws of the translation ask, of a program of the other rows.
+
+ghost use Rattle.std.specs.Prelude.{[]};
+ghost use Rattle.meaning_rows.specs.BodyRows.{asserting};
+ghost use Rattle.sys_build.specs.Law.{TreeDistinct};
+ghost use Rattle.sys_build.specs.System.{number_of};
+ghost use Rattle.sys_build.specs.WellTyped.{WellTyped};
+
+/// A node with an equation, an assertion and a property has its types, clocks and places.
+pub fn asserting_typed_row()
+    ensures { WellTyped (λ j key. ⊥) asserting }
+{}
+
+/// The sources of its names have different names.
+pub fn asserting_distinct_row()
+    ensures { TreeDistinct asserting (number_of asserting) [] }
+{}
