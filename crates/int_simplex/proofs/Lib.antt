@@ -17,6 +17,12 @@ pub mod Content
 pub mod Floors
 pub mod Rests
 pub mod Starts
+pub mod Tables
+pub mod Certificates
+pub mod Stops
+pub mod Turns
+pub mod Walks
+pub mod Moves
 pub mod Choices
 pub mod Valuing
 pub mod Lowest

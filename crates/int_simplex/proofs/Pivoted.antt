@@ -22,7 +22,7 @@ pub cases-by : (b : Bool) → (b ≡ true) ⊎ (b ≡ false)
 cases-by true = inl refl
 cases-by false = inr refl
 
-exchanged-cases : (x c b : ℕ) → (exchanged x c b ≡ c) ⊎ ((exchanged x c b ≡ b) × (b ≢ x))
+pub exchanged-cases : (x c b : ℕ) → (exchanged x c b ≡ c) ⊎ ((exchanged x c b ≡ b) × (b ≢ x))
 exchanged-cases x c b = elim (cases-by (b == x)) [
   | inl t ↦ inl (ap (λ w. cond w c b) t)
   | inr f ↦ inr (ap (λ w. cond w c b) f, λ e. absurd (grind (arith, nat_tests)))

@@ -45,7 +45,7 @@ zero_fraction = record { positive = omega (arith, ints); lowest = λ d a b. eq-o
 abbrev pub term_in : ℕ → (ℕ → ℤ) → ℕ × ℤ → ℤ → ℤ
 term_in x f t sum = cond (t.0 == x) sum (t.1 *ℤ f t.0 +ℤ sum)
 
-rest-last : (x : ℕ) (f : ℕ → ℤ) (row : List (ℕ × ℤ)) (t : ℕ × ℤ) → rest_in x f (row ++ t ∷ []) ≡ term_in x f t (rest_in x f row)
+pub rest-last : (x : ℕ) (f : ℕ → ℤ) (row : List (ℕ × ℤ)) (t : ℕ × ℤ) → rest_in x f (row ++ t ∷ []) ≡ term_in x f t (rest_in x f row)
 rest-last x f [] t = refl
 rest-last x f (u ∷ row) t =
     ap (λ z. cond (u.0 == x) z (u.1 *ℤ f u.0 +ℤ z)) (rest-last x f row t)

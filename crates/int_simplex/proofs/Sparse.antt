@@ -6,7 +6,7 @@ use Rattle.std.proofs.lemmas.Bool.Decides.{nat_tests}
 use Rattle.std.proofs.lemmas.List.{length-map, get_or-map}
 use lib.IntN.{ℤ, pos, negsuc, ◌+ℤ◌}
 use Rattle.proof_steps.specs.Rows.{entry, AllDiffer}
-use Rattle.int_simplex.specs.Given.{column_of, IsInOrder, IsWithin}
+use Rattle.int_simplex.specs.Given.{column_of, IsInOrder, IsWithin, HasNoZero}
 use Rattle.int_simplex.specs.Sparse.{IsFrom, IsSparse, head_at, rest_at, first_column}
 use Rattle.int_simplex.proofs.Places.{same_some, at_listed}
 
@@ -161,6 +161,11 @@ sparse_in_order l n (t ∷ u ∷ row) s (suc k) h =
     let P : ℕ → Type 0 = λ m. get_or (map column_of (u ∷ row)) k 0 < get_or (map column_of (u ∷ row)) m 0 in
     let Q : ℕ → Type 0 = λ m. get_or (map column_of (t ∷ u ∷ row)) (suc k) 0 < get_or (map column_of (t ∷ u ∷ row)) m 0 in
     subst Q (sym f) (subst P e b)
+
+pub sparse_no_zero : (l n : ℕ) (row : List (ℕ × ℤ)) → IsFrom l n row → HasNoZero row
+sparse_no_zero l n [] s k d h = absurd (omega arith)
+sparse_no_zero l n (t ∷ row) s zero d h = s.2
+sparse_no_zero l n (t ∷ row) s (suc k) d h = sparse_no_zero (suc t.0) n row s.3 k d (omega arith)
 
 -- one more column behind
 pub sparse_more : (l m n : ℕ) (row : List (ℕ × ℤ)) (c : ℕ) (z : ℤ) → IsFrom l m row → m ≤ c → l ≤ c → c < n → z ≢ pos 0

@@ -1,5 +1,5 @@
 -- Where a check begins.
-use Rattle.std.specs.Prelude.{ℕ, zero, suc, ◌≡◌, ◌≢◌, ◌⊎◌, ◌<◌, ◌≤◌, ◌+◌, ◌==◌, Bool, true, false, cond, List, [], ◌∷◌, ◌++◌, drop, length, Contains, MatchOption, Option, Some, None, slice_get}
+use Rattle.std.specs.Prelude.{ℕ, zero, suc, ◌≡◌, ◌≢◌, ◌⊎◌, ◌<◌, ◌≤◌, ◌+◌, ◌==◌, ◌||◌, Bool, true, false, cond, List, [], ◌∷◌, ◌++◌, drop, length, Contains, MatchOption, Option, Some, None, slice_get}
 use Rattle.std.specs.List.{list_any}
 use Rattle.std.proofs.Common.{sym, ◌∙◌, ap, subst, arith, refl, inl, inr, get_or, append_assoc}
 use Rattle.std.proofs.lemmas.List.{drop_more, drop_all}
@@ -16,23 +16,23 @@ use Rattle.int_simplex.proofs.Sparse.{by_test, same_if, other_if, is_other, is_s
 -- whether a column is in the basis
 pub is_in_yes : (basis : List ℕ) (c : ℕ) → Contains basis c → is_in basis c ≡ true
 is_in_yes [] c (k, h, e) = absurd (omega arith)
-is_in_yes (b ∷ basis) c (zero, h, e) = let q : b ≡ c = e in ap (λ w. cond w true (is_in basis c)) (ap (λ z. z == c) q ∙ is_same c)
+is_in_yes (b ∷ basis) c (zero, h, e) = let q : b ≡ c = e in ap (λ w. w || is_in basis c) (ap (λ z. z == c) q ∙ is_same c)
 is_in_yes (b ∷ basis) c (suc k, h, e) = elim (by_test (b == c)) [
-  | inl t ↦ ap (λ w. cond w true (is_in basis c)) t
-  | inr t ↦ ap (λ w. cond w true (is_in basis c)) t ∙ is_in_yes basis c (k, omega arith, e)
+  | inl t ↦ ap (λ w. w || is_in basis c) t
+  | inr t ↦ ap (λ w. w || is_in basis c) t ∙ is_in_yes basis c (k, omega arith, e)
 ]
 
 pub is_in_no : (basis : List ℕ) (c : ℕ) → (Contains basis c → ⊥) → is_in basis c ≡ false
 is_in_no [] c n = refl
 is_in_no (b ∷ basis) c n =
     let m : b ≢ c = λ e. n (0, omega arith, e) in
-    ap (λ w. cond w true (is_in basis c)) (is_other b c m) ∙ is_in_no basis c (λ i. n (suc i.0, (let h = i.1 in omega arith), i.2))
+    ap (λ w. w || is_in basis c) (is_other b c m) ∙ is_in_no basis c (λ i. n (suc i.0, (let h = i.1 in omega arith), i.2))
 
 pub in_yes : (basis : List ℕ) (c : ℕ) → is_in basis c ≡ true → Contains basis c
 in_yes [] c e = absurd cc
 in_yes (b ∷ basis) c e = elim (by_test (b == c)) [
   | inl t ↦ (0, omega arith, same_if b c t)
-  | inr t ↦ let i = in_yes basis c (sym (ap (λ w. cond w true (is_in basis c)) t) ∙ e) in (suc i.0, (let h = i.1 in omega arith), i.2)
+  | inr t ↦ let i = in_yes basis c (sym (ap (λ w. w || is_in basis c) t) ∙ e) in (suc i.0, (let h = i.1 in omega arith), i.2)
 ]
 
 pub in_no : (basis : List ℕ) (c : ℕ) → is_in basis c ≡ false → Contains basis c → ⊥

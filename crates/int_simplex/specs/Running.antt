@@ -45,6 +45,7 @@ at basis places = record { basis = basis; places = place_at places }
 -- a leaving column and an entering one, with the entry that they cross in
 pub record IsCrossing (basis : List ℕ) (rows : List (List (ℕ × ℤ))) (columns : ℕ) (l : Exit) (c : ℕ) : Type 0 where
   pub stands : slice_get basis l.at ≡ Some l.column
+  pub differ : c ≢ l.column
   pub in_range : c < columns
   pub crosses : (r : List (ℕ × ℤ)) → slice_get rows l.at ≡ Some r → entry r c ≢ pos 0
 

@@ -1,4 +1,4 @@
-ghost use Rattle.std.specs.Prelude.{List, ◌≡◌, ◌≤◌, IfOk, IfErr, length, map, All, Option};
+ghost use Rattle.std.specs.Prelude.{List, ◌≡◌, Contains, IfOk, IfErr, length, map, All, Option};
 ghost use lib.IntN.{ℤ};
 ghost use Rattle.proof_steps.specs.View.{row_view};
 ghost use Rattle.int_simplex.specs.State.{Standing};
@@ -57,6 +57,7 @@ pub(crate) fn next_move(
 // The leaving column goes to its limit, and the other one enters the basis.
 pub(crate) fn turn(
     alloc: Global,
+    columns: u32,
     given: &[Vec<(u32, i128)>],
     basis: &mut Vec<u32>,
     rows: &mut Vec<Vec<(u32, i128)>>,
@@ -67,13 +68,12 @@ pub(crate) fn turn(
 ) -> Result<(), Stopped>
     requires ready { IsReady (map row_view given.now) (length places.old.items) basis.old.items (map row_view rows.old.items) }
     requires turn { IsCrossing basis.old.items (map row_view rows.old.items) (length places.old.items) out column }
-    requires few { length places.old.items ≤ 4294967295 }
+    requires columns { columns ≡ length places.old.items }
     ensures kept { IfOk result (λ _. IsKept (map row_view given.now) (length places.old.items) basis.new.items (map row_view rows.new.items) places.new.items values.new.items) }
     ensures basis { IfOk result (λ _. basis.new.items ≡ map (exchanged out.column column) basis.old.items) }
     ensures places { IfOk result (λ _. places.new.items ≡ slice_set places.old.items out.column out.limit) }
-    ensures past { IfErr result (λ e. (numbers : List ℤ) → ArePlacesOf numbers places.old.items → numbers out.limit → IsStopped (map row_view given.now) (length places.old.items) numbers e) }
+    ensures past { IfErr result (λ e. (numbers : List ℤ) → ArePlacesOf numbers places.old.items → Contains numbers out.limit → IsStopped (map row_view given.now) (length places.old.items) numbers e) }
 {
-    let columns = places.len() as u32;
     turn_rows(alloc, columns, rows, out.at, column)?;
     basis[out.at] = column;
     places[out.column as usize] = out.limit;

@@ -3,7 +3,7 @@ ghost use lib.IntN.{pos};
 ghost use Rattle.proof_steps.specs.View.{row_view};
 ghost use Rattle.int_simplex.specs.Sparse.{IsSparse};
 ghost use Rattle.int_simplex.specs.Valued.{IsOpposedPast};
-ghost use Rattle.int_simplex.specs.Choosing.{limit_at, on_side};
+ghost use Rattle.int_simplex.specs.Choosing.{on_side, differs};
 ghost use Rattle.int_simplex.specs.Refuting.{literal_in, part_of, IsSizePast};
 
 use crate::answers::Farkas;
@@ -21,6 +21,22 @@ pub(crate) fn literal_of(limit: Option<(i128, u32)>) -> u32
         None => 0,
         Some((_, literal)) => literal,
     }
+}
+
+fn differ(left: bool, right: bool) -> bool
+    ensures { result ≡ differs left right }
+{
+    left != right
+}
+
+fn chosen(
+    upper: bool,
+    low: Option<(i128, u32)>,
+    high: Option<(i128, u32)>,
+) -> Option<(i128, u32)>
+    ensures { result ≡ on_side upper low high }
+{
+    if upper { high } else { low }
 }
 
 fn size(z: i128) -> Result<i128, Past>
@@ -55,8 +71,7 @@ pub(crate) fn farkas_of(
             Ok(multiplier) => multiplier,
             Err(past) => return Err(past_over(alloc, row, &given[0], past)),
         };
-        let grows = (e > 0) != falls;
-        let limit = if grows != side { uppers[c] } else { lowers[c] };
+        let limit = chosen(differ(differ(e > 0, falls), side), lowers[c], uppers[c]);
         parts.push((multiplier, literal_of(limit)))?;
     }
     Ok(Farkas { parts })

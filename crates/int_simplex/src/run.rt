@@ -116,6 +116,7 @@ pub(crate) fn first_places(
 // is spent.
 pub(crate) fn walk(
     alloc: Global,
+    columns: u32,
     given: &[Vec<(u32, i128)>],
     lowers: &[Option<(i128, u32)>],
     uppers: &[Option<(i128, u32)>],
@@ -128,7 +129,7 @@ pub(crate) fn walk(
     requires ready { IsReady (map row_view given.now) (length lowers.now) basis.old.items (map row_view rows.old.items) }
     requires places { length places.old.items ≡ length lowers.now }
     requires uppers { length uppers.now ≡ length lowers.now }
-    requires few { length lowers.now ≤ 4294967295 }
+    requires columns { columns ≡ length lowers.now }
     ensures found { IfOk result (λ w. (bounds : List Standing) → AreTables (length lowers.now) bounds lowers.now uppers.now → IsWalked (map row_view given.now) (length lowers.now) bounds pivots (at_place basis.old.items places.old.items) basis.new.items places.new.items w) }
     ensures kept { IfOk result (λ w. IsAnswer w → IsKept (map row_view given.now) (length lowers.now) basis.new.items (map row_view rows.new.items) places.new.items values.new.items) }
     ensures past { IfErr result (λ e. (numbers : List ℤ) → ArePlacesOf numbers places.old.items → AreLimitsOf numbers lowers.now uppers.now → IsStopped (map row_view given.now) (length lowers.now) numbers e) }
@@ -144,7 +145,9 @@ pub(crate) fn walk(
                     return Ok(Walked::Long);
                 }
                 left -= 1;
-                turn(alloc, given, basis, rows, values, places, out, column)?;
+                turn(
+                    alloc, columns, given, basis, rows, values, places, out, column,
+                )?;
             }
         }
     }

@@ -206,6 +206,7 @@ impl Tableau {
         )?;
         let walked = walk(
             alloc,
+            self.columns,
             &self.given,
             &self.lowers,
             &self.uppers,
