@@ -22,6 +22,9 @@ pub mod Certificates
 pub mod Stops
 pub mod Turns
 pub mod Walks
+pub mod Asserts
+pub mod Begun
+pub mod Settled
 pub mod Moves
 pub mod Choices
 pub mod Valuing

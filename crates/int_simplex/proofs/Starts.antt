@@ -1,5 +1,5 @@
 -- Where a check begins.
-use Rattle.std.specs.Prelude.{ℕ, zero, suc, ◌≡◌, ◌≢◌, ◌⊎◌, ◌<◌, ◌≤◌, ◌+◌, ◌==◌, ◌||◌, Bool, true, false, cond, List, [], ◌∷◌, ◌++◌, drop, length, Contains, MatchOption, Option, Some, None, slice_get}
+use Rattle.std.specs.Prelude.{ℕ, zero, suc, ◌≡◌, ◌≢◌, ◌⊎◌, ◌<◌, ◌≤◌, ◌+◌, ◌==◌, ◌||◌, Bool, true, false, cond, List, [], ◌∷◌, ◌++◌, drop, length, Contains, MatchOption, is_none, Option, Some, None, slice_get}
 use Rattle.std.specs.List.{list_any}
 use Rattle.std.proofs.Common.{sym, ◌∙◌, ap, subst, arith, refl, inl, inr, get_or, append_assoc}
 use Rattle.std.proofs.lemmas.List.{drop_more, drop_all}
@@ -110,3 +110,16 @@ start_out basis values i v h n =
 
 pub start_in : (basis : List ℕ) (values : List (ℤ × ℤ)) (i : ℕ) → Contains basis i → pos 0 ≡ start_place basis values i
 start_in basis values i n = ap (λ b. cond b (pos 0) (top_of (slice_get values i))) (sym (is_in_yes basis i n))
+
+-- a place that was looked for
+pub found_in : (basis : List ℕ) (c : ℕ) (o : Option ℕ) → MatchOption o (Contains basis c → ⊥) (λ k. slice_get basis k ≡ Some c) → is_none o ≡ false → Contains basis c
+found_in basis c None h e = absurd (no e) where
+  no : true ≡ false → ⊥
+  no e = absurd cc
+found_in basis c (Some k) h e = listed_at basis k c h
+
+pub found_out : (basis : List ℕ) (c : ℕ) (o : Option ℕ) → MatchOption o (Contains basis c → ⊥) (λ k. slice_get basis k ≡ Some c) → is_none o ≡ true → Contains basis c → ⊥
+found_out basis c None h e = h
+found_out basis c (Some k) h e = absurd (no e) where
+  no : false ≡ true → ⊥
+  no e = absurd cc

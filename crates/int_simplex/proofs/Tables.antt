@@ -65,7 +65,7 @@ same-both : (t : Bool) (o : Option ℤ) → o ≡ cond t o o
 same-both true o = refl
 same-both false o = refl
 
-front : (side u : Bool) (c x : ℕ) (z : ℤ) (rest : List (ℕ × Bool × ℤ)) → bound_on side ((x, u, z) ∷ rest) c ≡ taken side (x == c) u z (bound_on side rest c)
+pub front : (side u : Bool) (c x : ℕ) (z : ℤ) (rest : List (ℕ × Bool × ℤ)) → bound_on side ((x, u, z) ∷ rest) c ≡ taken side (x == c) u z (bound_on side rest c)
 front true true c x z rest = ap (λ o. cond (x == c) o (upper rest c)) (upper-on z (upper rest c))
 front true false c x z rest = same-both (x == c) (upper rest c)
 front false true c x z rest = same-both (x == c) (lower rest c)

@@ -1,6 +1,6 @@
 -- Runs of Bland's rule, pivot after pivot.
 use Prim.Native.Nat.{◌∣◌}
-use Rattle.std.specs.Prelude.{ℕ, zero, suc, ◌≡◌, ◌≢◌, ◌⊎◌, ◌<◌, ◌≤◌, ◌+◌, Bool, true, false, List, [], ◌∷◌, map, All, Contains, Some, unsigned_abs}
+use Rattle.std.specs.Prelude.{ℕ, zero, suc, ◌≡◌, ◌≢◌, ◌⊎◌, ◌==◌, ◌<◌, ◌≤◌, ◌+◌, ◌-◌, Bool, true, false, cond, List, [], ◌∷◌, length, map, All, Contains, Option, Some, Result, Ok, Err, IfErr, IsErrAnd, slice_set, unsigned_abs}
 use Rattle.std.proofs.lemmas.List.Elements.{All-cons}
 use Rattle.std.proofs.lemmas.Int.{ints}
 use Rattle.std.proofs.Common.{sym, ◌∙◌, ap, subst, arith, refl, inl, inr}
@@ -12,7 +12,14 @@ use Rattle.int_simplex.specs.State.{Standing, plain}
 use Rattle.int_simplex.specs.Given.{last_column}
 use Rattle.int_simplex.specs.Inner.{IsCombination, IsRowAt, IsFree, read_off}
 use Rattle.int_simplex.specs.Leads.{LeadsTo}
-use Rattle.int_simplex.specs.Running.{at}
+use Rattle.int_simplex.specs.Running.{at, IsMove, ArePlacesOf, AreLimitsOf, IsStopped}
+use Rattle.int_simplex.specs.Valued.{place_at}
+use Rattle.int_simplex.specs.declared.choosing.Exit.{Exit}
+use Rattle.int_simplex.specs.declared.moving.Move.{Move}
+use Rattle.int_simplex.specs.declared.moving.Move.TheVariants as m
+use Rattle.int_simplex.specs.declared.trouble.Stopped.{Stopped}
+use Rattle.int_simplex.proofs.Sparse.{is_same, is_other}
+use Rattle.int_simplex.proofs.Turns.{set_place_same, set_place_other}
 use Rattle.int_simplex.proofs.Apart.{AreApart, made_combination, read_off_is}
 use Rattle.int_simplex.proofs.Free.{free_after}
 use Rattle.int_simplex.proofs.Once.{once}
@@ -77,3 +84,44 @@ module _ (given : List (List (ℕ × ℤ))) (columns : ℕ) (bounds : List (ℕ 
   shorter zero n s h c = tt
   shorter (suc m) zero s h c = absurd (omega arith)
   shorter (suc m) (suc n) s h (t, p, r) = (t, p, shorter m n t (omega arith) r)
+
+-- a move by its parts
+pub move_at : (given : List (List (ℕ × ℤ))) (n : ℕ) (bounds : List Standing) (b b1 : List ℕ) (ps ps1 : List ℤ) (v : Move) → b ≡ b1 → ps ≡ ps1
+    → IsMove given n bounds (at b ps) v → IsMove given n bounds (at b1 ps1) v
+move_at given n bounds b b1 ps ps1 v e f h =
+    let P : List ℕ → Type 0 = λ x. IsMove given n bounds (at x ps) v in
+    let Q : List ℤ → Type 0 = λ x. IsMove given n bounds (at b1 x) v in
+    subst Q f (subst P e h)
+
+pub long_at : (given : List (List (ℕ × ℤ))) (n : ℕ) (bounds : List Standing) (budget left : ℕ) (start s : Position) (l : Exit) (c : ℕ) → left ≡ 0
+    → IsOnWay given n bounds budget left start s → IsMove given n bounds s (m.Pivot l c) → CanPivot given n (map plain bounds) (suc budget) start
+long_at given n bounds budget left start s l c z w h =
+    let t : Position = record { basis = map (exchanged l.column c) s.basis; places = λ k. cond (k == l.column) l.limit (s.places k) } in
+    let p = h t refl (ap (λ b. cond b l.limit (s.places l.column)) (is_same l.column)) (λ k d. ap (λ b. cond b l.limit (s.places k)) (is_other k l.column d)) in
+    let q = w.sum in
+    let P : ℕ → Type 0 = λ k. CanPivot given n (map plain bounds) (suc k) start in
+    subst P (let e : w.made ≡ budget = omega arith in e) (then_pivot given n (map plain bounds) w.made start s t w.leads p)
+
+pub step_at : (given : List (List (ℕ × ℤ))) (n : ℕ) (bounds : List Standing) (budget left : ℕ) (start : Position) (b b1 : List ℕ) (ps ps1 : List ℤ) (l : Exit) (c : ℕ) → (left ≡ 0 → ⊥)
+    → b1 ≡ map (exchanged l.column c) b → ps1 ≡ slice_set ps l.column l.limit → l.column < length ps
+    → IsOnWay given n bounds budget left start (at b ps) → IsMove given n bounds (at b ps) (m.Pivot l c) → IsOnWay given n bounds budget (left - 1) start (at b1 ps1)
+step_at given n bounds budget left start b b1 ps ps1 l c z eb ep h w v =
+    let p = v (at b1 ps1) eb (ap (λ (x : List ℤ). place_at x l.column) ep ∙ set_place_same ps l.column l.limit h)
+    (λ k d. ap (λ (x : List ℤ). place_at x k) ep ∙ set_place_other ps l.column k l.limit d) in
+    let q = w.sum in
+    let y : 0 < left = positive left z in
+    record {
+      made = suc w.made;
+      sum = omega arith;
+      leads = one_more given n (map plain bounds) w.made start (at b ps) (at b1 ps1) w.leads p;
+    } where
+      positive : (k : ℕ) → (k ≡ 0 → ⊥) → 0 < k
+      positive zero f = absurd (f refl)
+      positive (suc k) f = omega arith
+
+-- what stops a run
+pub free_error : (given : List (List (ℕ × ℤ))) (n : ℕ) (places : List ℤ) (lowers uppers : List (Option (ℤ × ℕ))) (e : Stopped) {R : Type 0} (o : Result R Stopped)
+    → ((numbers : List ℤ) → ArePlacesOf numbers places → AreLimitsOf numbers lowers uppers → IsStopped given n numbers e) → IsErrAnd o (λ z. z ≡ e)
+    → IfErr o (λ z. (numbers : List ℤ) → ArePlacesOf numbers places → AreLimitsOf numbers lowers uppers → IsStopped given n numbers z)
+free_error given n places lowers uppers e (Ok v) f q = tt
+free_error given n places lowers uppers e (Err z) f q = λ numbers a l. subst (λ (w : Stopped). IsStopped given n numbers w) (sym q) (f numbers a l)

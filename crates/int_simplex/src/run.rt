@@ -46,8 +46,9 @@ fn outside_places(
 {
     let mut places = Vec::new(alloc);
     for c in 0..values.len() {
-        if place_in(basis, c as u32).is_none() {
-            places.push((c as u32, values[c].0))?;
+        match place_in(basis, c as u32) {
+            None => places.push((c as u32, values[c].0))?,
+            Some(_) => {}
         }
     }
     Ok(places)

@@ -8,7 +8,7 @@ ghost use Rattle.int_simplex.specs.Answers.{IsNew, IsAsserted, IsCheckup, IsAnsw
 
 use crate::answers::{BoundFault, Checkup, Farkas, TableauFault};
 use crate::bounds::{is_across, place_in, tighter, undo};
-use crate::making::{first_basis, row_copies, sorted_rows};
+use crate::making::{first_basis, open_limits, row_copies, sorted_rows};
 use crate::refuting::literal_of;
 use crate::run::{Walked, first_places, start_of, walk};
 use crate::trouble::Stopped;
@@ -65,8 +65,8 @@ impl Tableau {
         let basis = first_basis(alloc, rows)?;
         let rows = sorted_rows(alloc, rows, columns)?;
         let values = vec![in alloc; (0, 1); columns as usize]?;
-        let lowers = vec![in alloc; None; columns as usize]?;
-        let uppers = vec![in alloc; None; columns as usize]?;
+        let lowers = open_limits(alloc, columns)?;
+        let uppers = open_limits(alloc, columns)?;
         Ok(Tableau {
             given,
             columns,
