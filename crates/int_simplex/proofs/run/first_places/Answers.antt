@@ -25,7 +25,7 @@ loop-c-preserved c =
     subst (λ (xs : List ℤ). AreFirstTo c.args.basis.now c.args.values.now c.args.lowers.now c.args.uppers.now xs (c.loop-c.c + 1)) (sym p)
     (first_more c.args.basis.now c.args.values.now c.args.lowers.now c.args.uppers.now c.loop-c.places.items c.loop-c.c (to_z w128 c.match-place_in.z-bits) c.clamped.result _ _ z
     (limit-is c.args.lowers.now c.loop-c.c None (omega (arith, c.loop-c-test.true, l))) (limit-is c.args.uppers.now c.loop-c.c None (omega (arith, c.loop-c-test.true, u)))
-    (simp to_z-of_z at c.clamped.ensures) c.loop-c.invariant)
+    c.clamped.ensures c.loop-c.invariant)
 
 pub returns : goal.returns
 returns c = first_all c.args.basis.now c.args.values.now c.args.lowers.now c.args.uppers.now c.loop-c.places.items c.loop-c.c

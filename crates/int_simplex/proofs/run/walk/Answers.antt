@@ -54,7 +54,7 @@ returns-then-left-eq0-clause-found c = λ bounds a.
 pub loop-farkas-preserved : goal.loop-farkas-preserved
 loop-farkas-preserved c =
     let k = c.loop-farkas.invariant.kept in
-    let t = subst (λ (b : List ℕ). IsTurnOf b (map row_view c.deref-in-loop-farkas-2.result.now) c.args.lowers.now c.args.uppers.now (length c.args.lowers.now) _) c.deref-in-loop-farkas.ensures.value
+    let t = subst (λ (b : List ℕ). IsTurnOf b (map row_view c.deref-in-loop-farkas-2.result.now) c.args.lowers.now c.args.uppers.now (length c.args.lowers.now) (m.Pivot c.in-Pivot.out c.in-Pivot.column)) c.deref-in-loop-farkas.ensures.value
     (rw c.in-Pivot.is at c.in_ok-next_move.ensures.turn) in
     let h = in-list (length c.args.lowers.now) c.loop-farkas.basis.items c.in-Pivot.out.at c.in-Pivot.out.column k.ready.in_range t.crossing.stands in
     let g = k.width in
@@ -76,7 +76,7 @@ loop-farkas-preserved c =
 pub returns-in_err-turn-in-Pivot-clause-past : goal.returns-in_err-turn-in-Pivot-clause-past
 returns-in_err-turn-in-Pivot-clause-past c =
     let k = c.loop-farkas.invariant.kept in
-    let t = subst (λ (b : List ℕ). IsTurnOf b (map row_view c.deref-in-loop-farkas-2.result.now) c.args.lowers.now c.args.uppers.now (length c.args.lowers.now) _) c.deref-in-loop-farkas.ensures.value
+    let t = subst (λ (b : List ℕ). IsTurnOf b (map row_view c.deref-in-loop-farkas-2.result.now) c.args.lowers.now c.args.uppers.now (length c.args.lowers.now) (m.Pivot c.in-Pivot.out c.in-Pivot.column)) c.deref-in-loop-farkas.ensures.value
     (rw c.in-Pivot.is at c.in_ok-next_move.ensures.turn) in
     free_error (map row_view c.args.given.now) (length c.args.lowers.now) c.args.places.now.items c.args.lowers.now c.args.uppers.now c.in_err-turn-in-Pivot.field-0.0 c.from_residual-in_err-turn-in-Pivot.result
     (λ numbers a l. subst (λ (n : ℕ). IsStopped (map row_view c.args.given.now) n numbers c.in_err-turn-in-Pivot.field-0.0) k.width
