@@ -10,7 +10,6 @@ pub mod Once
 pub mod First
 pub mod NoPoint
 pub mod Opposites
-pub mod Sums
 pub mod Limits
 pub mod Undoing
 pub mod Content
@@ -26,6 +25,7 @@ pub mod Asserts
 pub mod Begun
 pub mod Settled
 pub mod Moves
+pub mod Checks
 pub mod Choices
 pub mod Valuing
 pub mod Lowest

@@ -1,0 +1,73 @@
+use Rattle.std.specs.Prelude.{ℕ, ◌≡◌, List, length, map, true}
+use Rattle.std.proofs.Common.{sym, ◌∙◌, ap, subst, refl}
+use Rattle.std.specs.declared.vec.Vec.{Vec}
+use Rattle.std.specs.declared.alloc.Global.{Global}
+use lib.IntN.{ℤ}
+use Rattle.proof_steps.specs.View.{row_view}
+use Rattle.int_simplex.specs.Inner.{standing, state_of}
+use Rattle.int_simplex.specs.State.{State}
+use Rattle.int_simplex.specs.Sound.{IsUncrossed}
+use Rattle.int_simplex.specs.Running.{IsReady, IsKept}
+use Rattle.int_simplex.proofs.Checks.{ready_of, tables_of, sound_kept}
+use Rattle.int_simplex.proofs.table.Tableau.check.Goals as goal
+
+pub walk-walked-requires-clause-ready : goal.walk-walked-requires-clause-ready
+walk-walked-requires-clause-ready c =
+    let u = c.requires in
+    let v = c.self.view_is in
+    let r = ready_of c.self.inside (ap (λ s. s.usable) v ∙ u) c.self.invariant in
+    let n : c.self.inside.columns ≡ length c.deref-9.result.now = sym c.self.invariant.lowers.count ∙ ap length (sym c.deref-9.ensures.value) in
+    subst (λ (k : ℕ). IsReady (map row_view c.deref-8.result.now) k c.self.inside.basis.items (map row_view c.self.inside.rows.items)) n
+    (subst (λ (g : List (Vec (ℕ × ℤ) Global)). IsReady (map row_view g) c.self.inside.columns c.self.inside.basis.items (map row_view c.self.inside.rows.items)) (sym c.deref-8.ensures.value) r)
+
+pub invariant_of-self : goal.invariant_of-self
+invariant_of-self c =
+    let i = c.self.invariant in
+    let v = c.self.view_is in
+    let t = tables_of c.self.inside (ap (λ s. s.usable) v ∙ c.requires) i in
+    let n : length c.deref-9.result.now ≡ c.self.inside.columns = ap length c.deref-9.ensures.value ∙ i.lowers.count in
+    let k = subst (λ (k : ℕ). IsKept (map row_view c.deref-8.result.now) k c.walk-walked.new.basis.items (map row_view c.walk-walked.new.rows.items) c.walk-walked.new.places.items c.walk-walked.new.values.items) n
+    (let z = rw c.in-Ok-Fits.is at c.walk-walked.ensures.kept in let y = rw c.in-Ok-Fits.field-0-is at z in y tt) in
+    let q = subst (λ (g : List (Vec (ℕ × ℤ) Global)). IsKept (map row_view g) c.self.inside.columns c.walk-walked.new.basis.items (map row_view c.walk-walked.new.rows.items) c.walk-walked.new.places.items c.walk-walked.new.values.items) c.deref-8.ensures.value k in
+    record {
+      sound = λ u. sound_kept (map row_view c.self.inside.given.items) c.self.inside.columns c.walk-walked.new.basis.items (map row_view c.walk-walked.new.rows.items) c.walk-walked.new.places.items c.walk-walked.new.values.items q
+          (map standing c.self.inside.trail.items) c.self.inside.usable t.of_columns t.uncrossed;
+      rows = λ u. q.ready.are_rows;
+      free = λ u. q.ready.free;
+      lowers = i.lowers;
+      uppers = i.uppers;
+      before = i.before;
+      columns = i.columns;
+    }
+
+pub invariant_of-self-in-Ok-Refuted : goal.invariant_of-self-in-Ok-Refuted
+invariant_of-self-in-Ok-Refuted c =
+    let i = c.self.invariant in
+    let v = c.self.view_is in
+    let t = tables_of c.self.inside (ap (λ s. s.usable) v ∙ c.requires) i in
+    let n : length c.deref-9.result.now ≡ c.self.inside.columns = ap length c.deref-9.ensures.value ∙ i.lowers.count in
+    let k = subst (λ (k : ℕ). IsKept (map row_view c.deref-8.result.now) k c.walk-walked.new.basis.items (map row_view c.walk-walked.new.rows.items) c.walk-walked.new.places.items c.walk-walked.new.values.items) n
+    (let z = rw c.in-Ok-Refuted.is at c.walk-walked.ensures.kept in let y = rw c.in-Ok-Refuted.field-0-is at z in y tt) in
+    let q = subst (λ (g : List (Vec (ℕ × ℤ) Global)). IsKept (map row_view g) c.self.inside.columns c.walk-walked.new.basis.items (map row_view c.walk-walked.new.rows.items) c.walk-walked.new.places.items c.walk-walked.new.values.items) c.deref-8.ensures.value k in
+    record {
+      sound = λ u. sound_kept (map row_view c.self.inside.given.items) c.self.inside.columns c.walk-walked.new.basis.items (map row_view c.walk-walked.new.rows.items) c.walk-walked.new.places.items c.walk-walked.new.values.items q
+          (map standing c.self.inside.trail.items) c.self.inside.usable t.of_columns t.uncrossed;
+      rows = λ u. q.ready.are_rows;
+      free = λ u. q.ready.free;
+      lowers = i.lowers;
+      uppers = i.uppers;
+      before = i.before;
+      columns = i.columns;
+    }
+
+pub returns-in-Ok-Long-clause-answer : goal.returns-in-Ok-Long-clause-answer
+returns-in-Ok-Long-clause-answer c =
+    let i = c.self.invariant in
+    let v = c.self.view_is in
+    let u = ap (λ s. s.usable) v ∙ c.requires in
+    let t = tables_of c.self.inside u i in
+    let z = rw c.in-Ok-Long.is at c.walk-walked.ensures.found in
+    let y = rw c.in-Ok-Long.field-0-is at z in
+    let a = y (map standing c.self.inside.trail.items) in
+    let b : Unit = a in
+    (c.in_ok-start.ensures, subst (λ (s : State). IsUncrossed s.bounds) v t.uncrossed, b)
