@@ -7,15 +7,18 @@ use Rattle.std.proofs.Math.Path.{fun_ext}
 use lib.IntN.{ℤ, pos, ◌+ℤ◌, ◌*ℤ◌, zero-*ℤ}
 use Rattle.proof_steps.specs.View.{row_view}
 use Rattle.proof_steps.specs.Rows.{rest_below, entry}
-use Rattle.proof_steps.specs.Pivots.{Position, first_position, raised, lowered, bound_on}
+use Rattle.proof_steps.specs.Pivots.{Position, CanPivot, first_position, raised, lowered, bound_on}
 use Rattle.proof_steps.specs.Pivots.{place_of as place_in}
-use Rattle.int_simplex.specs.State.{Standing, State, plain, is_in, outside_from, places_of, top_of}
+use Rattle.int_simplex.specs.State.{Standing, State, beginning, plain, is_in, outside_from, places_of, top_of}
 use Rattle.int_simplex.specs.Inner.{IsInner, standing, state_of}
 use Rattle.int_simplex.specs.Sound.{IsSound, IsValueOf, IsUncrossed}
 use Rattle.int_simplex.specs.Given.{AreGiven}
 use Rattle.int_simplex.specs.Valued.{place_at, place_of}
 use Rattle.int_simplex.specs.Running.{IsReady, IsKept, AreTables, AreFirst, at, start_place}
 use Rattle.int_simplex.specs.Choosing.{bare, limit_at}
+use Rattle.proof_steps.specs.StopView.{Beginning}
+use Rattle.int_simplex.specs.Answers.{IsLong}
+use Rattle.int_simplex.specs.declared.table.Asserted.{Asserted}
 use Rattle.int_simplex.specs.declared.table.Tableau.TheInside.{Inside}
 use Rattle.int_simplex.proofs.Sparse.{by_test, other_if, is_other, is_same}
 use Rattle.int_simplex.proofs.Tables.{table_bound, bound_stands}
@@ -208,3 +211,39 @@ first_is columns basis values bounds lowers uppers places budget a n f =
       ∙ ap (λ (o : Option (ℤ × ℤ)). cond (is_in basis c) (pos 0) (top_of o)) (past-end values c (omega arith))
       ∙ sym (same-none (is_in basis c))
       ∙ sym (ap place_of (past-end places c (omega arith)))
+
+pub tables_at : (columns : ℕ) (bounds : List Standing) (lowers lowers1 uppers uppers1 : List (Option (ℤ × ℕ))) → lowers ≡ lowers1 → uppers ≡ uppers1
+    → AreTables columns bounds lowers uppers → AreTables (length lowers1) bounds lowers1 uppers1
+tables_at columns bounds lowers lowers1 uppers uppers1 e f a =
+    let P : List (Option (ℤ × ℕ)) → Type 0 = λ x. AreTables columns bounds x uppers in
+    let Q : List (Option (ℤ × ℕ)) → Type 0 = λ x. AreTables columns bounds lowers1 x in
+    let R : ℕ → Type 0 = λ n. AreTables n bounds lowers1 uppers1 in
+    let b = subst Q f (subst P e a) in subst R (sym b.lows.count) b
+
+pub first_at : (basis basis1 : List ℕ) (values values1 : List (ℤ × ℤ)) (lowers lowers1 uppers uppers1 : List (Option (ℤ × ℕ))) (places : List ℤ)
+    → basis1 ≡ basis → values1 ≡ values → lowers1 ≡ lowers → uppers1 ≡ uppers
+    → AreFirst basis1 values1 lowers1 uppers1 places → AreFirst basis values lowers uppers places
+first_at basis basis1 values values1 lowers lowers1 uppers uppers1 places a b c d h =
+    let A : List ℕ → Type 0 = λ x. AreFirst x values1 lowers1 uppers1 places in
+    let B : List (ℤ × ℤ) → Type 0 = λ x. AreFirst basis x lowers1 uppers1 places in
+    let C : List (Option (ℤ × ℕ)) → Type 0 = λ x. AreFirst basis values x uppers1 places in
+    let D : List (Option (ℤ × ℕ)) → Type 0 = λ x. AreFirst basis values lowers x places in
+    subst D d (subst C c (subst B b (subst A a h)))
+
+pub started : (basis basis1 : List ℕ) (trail trail1 : List Asserted) (values values1 : List (ℤ × ℤ)) (budget : ℕ) → basis1 ≡ basis → trail1 ≡ trail → values1 ≡ values
+    → (let b : Beginning = record { basis = basis1; bounds = map plain (map standing trail1); places = outside_from 0 values1 basis1; pivots = budget } in b)
+    ≡ record { basis = basis; bounds = map plain (map standing trail); places = outside_from 0 values basis; pivots = budget }
+started basis basis1 trail trail1 values values1 budget a b c =
+    ap (λ x. let y : Beginning = record { basis = x; bounds = map plain (map standing trail1); places = outside_from 0 values1 x; pivots = budget } in y) a
+    ∙ ap (λ x. let y : Beginning = record { basis = basis; bounds = map plain (map standing x); places = outside_from 0 values1 basis; pivots = budget } in y) b
+    ∙ ap (λ x. let y : Beginning = record { basis = basis; bounds = map plain (map standing trail); places = outside_from 0 x basis; pivots = budget } in y) c
+
+-- a run from the first places is one from where the check begins
+pub long_from : (s : State) (given : List (List (ℕ × ℤ))) (columns : ℕ) (places : List ℤ) (budget : ℕ) → given ≡ s.given → columns ≡ s.columns
+    → first_position (beginning s budget) ≡ at s.basis places
+    → CanPivot given columns (map plain s.bounds) (suc budget) (at s.basis places) → IsLong s budget
+long_from s given columns places budget a b e h =
+    let A : List (List (ℕ × ℤ)) → Type 0 = λ x. CanPivot x columns (map plain s.bounds) (suc budget) (at s.basis places) in
+    let B : ℕ → Type 0 = λ x. CanPivot s.given x (map plain s.bounds) (suc budget) (at s.basis places) in
+    let C : Position → Type 0 = λ x. CanPivot s.given s.columns (map plain s.bounds) (suc budget) x in
+    subst C (sym e) (subst B b (subst A a h))

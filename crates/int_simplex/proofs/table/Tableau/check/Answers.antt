@@ -5,10 +5,11 @@ use Rattle.std.specs.declared.alloc.Global.{Global}
 use lib.IntN.{ℤ}
 use Rattle.proof_steps.specs.View.{row_view}
 use Rattle.int_simplex.specs.Inner.{standing, state_of}
-use Rattle.int_simplex.specs.State.{State}
+use Rattle.int_simplex.specs.State.{State, beginning}
+use Rattle.int_simplex.specs.Answers.{IsLong}
 use Rattle.int_simplex.specs.Sound.{IsUncrossed}
 use Rattle.int_simplex.specs.Running.{IsReady, IsKept}
-use Rattle.int_simplex.proofs.Checks.{ready_of, tables_of, sound_kept}
+use Rattle.int_simplex.proofs.Checks.{ready_of, tables_of, sound_kept, first_is, first_at, tables_at, long_from, started}
 use Rattle.int_simplex.proofs.table.Tableau.check.Goals as goal
 
 pub walk-walked-requires-clause-ready : goal.walk-walked-requires-clause-ready
@@ -68,6 +69,13 @@ returns-in-Ok-Long-clause-answer c =
     let t = tables_of c.self.inside u i in
     let z = rw c.in-Ok-Long.is at c.walk-walked.ensures.found in
     let y = rw c.in-Ok-Long.field-0-is at z in
-    let a = y (map standing c.self.inside.trail.items) in
-    let b : Unit = a in
-    (c.in_ok-start.ensures, subst (λ (s : State). IsUncrossed s.bounds) v t.uncrossed, b)
+    let a = y (map standing c.self.inside.trail.items) (tables_at c.self.inside.columns (map standing c.self.inside.trail.items) c.self.inside.lowers.items c.deref-9.result.now c.self.inside.uppers.items c.deref-10.result.now
+    (sym c.deref-9.ensures.value) (sym c.deref-10.ensures.value) t) in
+    let f = first_at c.self.inside.basis.items c.deref-4.result.now c.self.inside.values.items c.deref-5.result.now c.self.inside.lowers.items c.deref-6.result.now c.self.inside.uppers.items c.deref-7.result.now c.in_ok-places.places.items
+    c.deref-4.ensures.value c.deref-5.ensures.value c.deref-6.ensures.value c.deref-7.ensures.value c.in_ok-places.ensures in
+    let e = first_is c.self.inside.columns c.self.inside.basis.items c.self.inside.values.items (map standing c.self.inside.trail.items) c.self.inside.lowers.items c.self.inside.uppers.items c.in_ok-places.places.items c.args.pivots
+    t (i.sound u).count f in
+    let b = long_from (state_of c.self.inside) (map row_view c.deref-8.result.now) (length c.deref-9.result.now) c.in_ok-places.places.items c.args.pivots (ap (map row_view) c.deref-8.ensures.value) (ap length c.deref-9.ensures.value ∙ i.lowers.count) e a in
+    let g = started c.self.inside.basis.items c.deref.result.now c.self.inside.trail.items c.deref-2.result.now c.self.inside.values.items c.deref-3.result.now c.args.pivots
+    c.deref.ensures.value c.deref-2.ensures.value c.deref-3.ensures.value in
+    (c.in_ok-start.ensures ∙ g ∙ ap (λ (s : State). beginning s c.args.pivots) v, subst (λ (s : State). IsUncrossed s.bounds) v t.uncrossed, subst (λ (s : State). IsLong s c.args.pivots) v b)
