@@ -21,6 +21,7 @@ pub mod Certificates
 pub mod Stops
 pub mod Turns
 pub mod Walks
+pub mod Ends
 pub mod Asserts
 pub mod Begun
 pub mod Settled
