@@ -25,7 +25,6 @@ use Rattle.int_simplex.proofs.Tables.{table_bound, bound_stands}
 use Rattle.int_simplex.proofs.Starts.{in_yes, in_no}
 use Rattle.int_simplex.proofs.Turned.{there}
 use Rattle.int_simplex.proofs.Places.{listed_at, at_listed, same_some}
-use Rattle.int_simplex.proofs.Ends.{run_bounds}
 use Rattle.int_simplex.proofs.Kept.{values_fractions}
 use Rattle.int_simplex.proofs.Moves.{giving}
 use Rattle.int_simplex.proofs.Pasts.{basis_of}

@@ -27,6 +27,7 @@ pub mod Begun
 pub mod Settled
 pub mod Moves
 pub mod Checks
+pub mod Checked
 pub mod Choices
 pub mod Valuing
 pub mod Lowest

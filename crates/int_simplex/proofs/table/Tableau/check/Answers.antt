@@ -9,6 +9,7 @@ use Rattle.int_simplex.specs.State.{State, beginning}
 use Rattle.int_simplex.specs.Answers.{IsLong}
 use Rattle.int_simplex.specs.Sound.{IsUncrossed}
 use Rattle.int_simplex.specs.Running.{IsReady, IsKept}
+use Rattle.int_simplex.proofs.Checked.{checked}
 use Rattle.int_simplex.proofs.Checks.{ready_of, tables_of, sound_kept, first_is, first_at, tables_at, long_from, started}
 use Rattle.int_simplex.proofs.table.Tableau.check.Goals as goal
 
