@@ -11,8 +11,11 @@ use Rattle.int_simplex.specs.Points.{IsFraction}
 use Rattle.int_simplex.specs.Valued.{place_at}
 use Rattle.int_simplex.specs.Leads.{LeadsTo}
 use Rattle.int_simplex.specs.Answers.{IsChecked, IsLong, StaysOrIsBound}
-use Rattle.int_simplex.specs.Running.{IsKept, AreTables, IsReached, at, start_place}
-use Rattle.int_simplex.proofs.Apart.{AreApart}
+use Rattle.int_simplex.specs.Running.{IsKept, AreTables, IsReached, IsWalked, at, start_place}
+use Rattle.int_simplex.specs.Farkas.{IsRefuted, farkas_view}
+use Rattle.int_simplex.specs.declared.answers.Farkas.{Farkas}
+use Rattle.int_simplex.specs.declared.run.Walked.TheVariants as w
+use Rattle.int_simplex.proofs.Apart.{AreApart, apart}
 use Rattle.int_simplex.proofs.Starts.{is_in_no}
 use Rattle.int_simplex.proofs.Places.{same_some}
 use Rattle.int_simplex.proofs.Tables.{bounds_order}
@@ -80,3 +83,17 @@ module _ (s : State) (basis : List ℕ) (rows : List (List (ℕ × ℤ))) (value
     short = no-longer;
     outside = λ c h n. stays-or c h n;
   }
+
+pub refuted_from : (s : State) (given : List (List (ℕ × ℤ))) (columns : ℕ) (basis : List ℕ) (rows : List (List (ℕ × ℤ))) (values : List (ℤ × ℤ)) (first places : List ℤ)
+    (lowers uppers : List (Option (ℤ × ℕ))) (budget : ℕ) → IsSound s → IsFree s.given s.basis → AreTables s.columns s.bounds lowers uppers
+    → first_position (beginning s budget) ≡ at s.basis first → given ≡ s.given → columns ≡ s.columns
+    → IsKept given columns basis rows places values → (f : Farkas) → IsWalked given columns s.bounds budget (at s.basis first) basis places (w.Refuted f)
+    → IsChecked s (record s { basis = basis; values = values }) budget × IsRefuted s.given s.columns s.bounds (farkas_view f)
+refuted_from s given columns basis rows values first places lowers uppers budget sound free tables begins eg ec kept f h =
+    let A : List (List (ℕ × ℤ)) → Type 0 = λ x. IsKept x columns basis rows places values in
+    let B : ℕ → Type 0 = λ x. IsKept s.given x basis rows places values in
+    let C : List (List (ℕ × ℤ)) → Type 0 = λ x. IsWalked x columns s.bounds budget (at s.basis first) basis places (w.Refuted f) in
+    let D : ℕ → Type 0 = λ x. IsWalked s.given x s.bounds budget (at s.basis first) basis places (w.Refuted f) in
+    let k = subst B ec (subst A eg kept) in
+    let g = subst D ec (subst C eg h) in
+    (checked s basis rows values first places lowers uppers budget sound free tables begins k (apart s.given s.columns sound.given) g.0 g.1.1, g.1.0)
