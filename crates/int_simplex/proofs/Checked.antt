@@ -24,8 +24,8 @@ use Rattle.int_simplex.proofs.Walks.{run_ends, shorter}
 use Rattle.int_simplex.proofs.Ends.{StandsBy, AreAtBounds, first_bounds, run_bounds}
 use Rattle.int_simplex.proofs.Checks.{stands_at, value_kept, listed_place}
 
-pair-with : (v : ℤ × ℤ) (z : ℤ) → v.0 ≡ z → v.1 ≡ pos 1 → v ≡ (z, pos 1)
-pair-with (a, b) z e f = ap (λ (x : ℤ). (x, b)) e ∙ ap (λ (x : ℤ). (z, x)) f
+pub pair_with : (v : ℤ × ℤ) (z : ℤ) → v.0 ≡ z → v.1 ≡ pos 1 → v ≡ (z, pos 1)
+pair_with (a, b) z e f = ap (λ (x : ℤ). (x, b)) e ∙ ap (λ (x : ℤ). (z, x)) f
 
 module _ (s : State) (basis : List ℕ) (rows : List (List (ℕ × ℤ))) (values : List (ℤ × ℤ)) (first places : List ℤ) (lowers uppers : List (Option (ℤ × ℕ))) (budget : ℕ)
     (sound : IsSound s) (free : IsFree s.given s.basis) (tables : AreTables s.columns s.bounds lowers uppers) (begins : first_position (beginning s budget) ≡ at s.basis first)
@@ -56,7 +56,7 @@ module _ (s : State) (basis : List ℕ) (rows : List (List (ℕ × ℤ))) (value
       let o = sound.outside c (get_or s.values c (pos 0, pos 1)) n g in
       let p : start_place s.basis s.values c ≡ (get_or s.values c (pos 0, pos 1)).0 =
       ap (λ b. cond b (pos 0) (top_of (slice_get s.values c))) (is_in_no s.basis c n) ∙ ap top_of g in
-      g ∙ ap Some (pair-with (get_or s.values c (pos 0, pos 1)) (start_place s.basis s.values c) (sym p) o)
+      g ∙ ap Some (pair_with (get_or s.values c (pos 0, pos 1)) (start_place s.basis s.values c) (sym p) o)
 
   stays-or : (c : ℕ) → c < s.columns → (Contains basis c → ⊥) → StaysOrIsBound s (record s { basis = basis; values = values }) c
   stays-or c h n =

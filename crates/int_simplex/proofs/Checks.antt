@@ -183,10 +183,10 @@ unbounded columns bounds lowers uppers a side c n = by (bound_on side (map plain
       let Q : ℕ → Type 0 = λ x. x < columns in
       absurd (n (subst Q s.column (subst P k.2 d)))
 
-past-end : {X : Type 0} (xs : List X) (c : ℕ) → length xs ≤ c → slice_get xs c ≡ None
-past-end [] c h = refl
-past-end (x ∷ xs) zero h = absurd (omega arith)
-past-end (x ∷ xs) (suc c) h = past-end xs c (omega arith)
+pub past_end : {X : Type 0} (xs : List X) (c : ℕ) → length xs ≤ c → slice_get xs c ≡ None
+past_end [] c h = refl
+past_end (x ∷ xs) zero h = absurd (omega arith)
+past_end (x ∷ xs) (suc c) h = past_end xs c (omega arith)
 
 -- the first places are those of the first position
 pub first_is : (columns : ℕ) (basis : List ℕ) (values : List (ℤ × ℤ)) (bounds : List Standing) (lowers uppers : List (Option (ℤ × ℕ))) (places : List ℤ) (budget : ℕ)
@@ -208,9 +208,9 @@ first_is columns basis values bounds lowers uppers places budget a n f =
       ap (λ z. lowered (bound_on true (map plain bounds) c) (raised (bound_on false (map plain bounds) c) z)) (listed_place values basis c)
       ∙ ap (λ o. lowered o (raised (bound_on false (map plain bounds) c) (start_place basis values c))) (unbounded columns bounds lowers uppers a true c (λ l. omega arith))
       ∙ ap (λ o. raised o (start_place basis values c)) (unbounded columns bounds lowers uppers a false c (λ l. omega arith))
-      ∙ ap (λ (o : Option (ℤ × ℤ)). cond (is_in basis c) (pos 0) (top_of o)) (past-end values c (omega arith))
+      ∙ ap (λ (o : Option (ℤ × ℤ)). cond (is_in basis c) (pos 0) (top_of o)) (past_end values c (omega arith))
       ∙ sym (same-none (is_in basis c))
-      ∙ sym (ap place_of (past-end places c (omega arith)))
+      ∙ sym (ap place_of (past_end places c (omega arith)))
 
 pub tables_at : (columns : ℕ) (bounds : List Standing) (lowers lowers1 uppers uppers1 : List (Option (ℤ × ℕ))) → lowers ≡ lowers1 → uppers ≡ uppers1
     → AreTables columns bounds lowers uppers → AreTables (length lowers1) bounds lowers1 uppers1

@@ -27,15 +27,15 @@ still-in l e c (b ∷ basis) n (zero, h, q) =
 still-in l e c (b ∷ basis) n (suc k, h, q) =
     let i = still-in l e c basis n (k, omega arith, q) in (suc i.0, (let w = i.1 in omega arith), i.2)
 
-raised-cases : (o : Option ℤ) (z : ℤ) → (raised o z ≡ z) ⊎ (o ≡ Some (raised o z))
-raised-cases None z = inl refl
-raised-cases (Some l) z = elim (cases l z) [ inl e ↦ inl e | inr e ↦ inr (ap Some (sym e)) ] where
+pub raised_cases : (o : Option ℤ) (z : ℤ) → (raised o z ≡ z) ⊎ (o ≡ Some (raised o z))
+raised_cases None z = inl refl
+raised_cases (Some l) z = elim (cases l z) [ inl e ↦ inl e | inr e ↦ inr (ap Some (sym e)) ] where
   cases : (l z : ℤ) → (int_max l z ≡ z) ⊎ (int_max l z ≡ l)
   cases l z = grind (arith, ints)
 
-lowered-cases : (o : Option ℤ) (z : ℤ) → (lowered o z ≡ z) ⊎ (o ≡ Some (lowered o z))
-lowered-cases None z = inl refl
-lowered-cases (Some l) z = elim (cases l z) [ inl e ↦ inl e | inr e ↦ inr (ap Some (sym e)) ] where
+pub lowered_cases : (o : Option ℤ) (z : ℤ) → (lowered o z ≡ z) ⊎ (o ≡ Some (lowered o z))
+lowered_cases None z = inl refl
+lowered_cases (Some l) z = elim (cases l z) [ inl e ↦ inl e | inr e ↦ inr (ap Some (sym e)) ] where
   cases : (l z : ℤ) → (int_min l z ≡ z) ⊎ (int_min l z ≡ l)
   cases l z = grind (arith, ints)
 
@@ -52,10 +52,10 @@ module _ (given : List (List (ℕ × ℤ))) (columns : ℕ) (bounds : List Stand
       → ((c : ℕ) → s.places c ≡ lowered (bound_on true (map plain bounds) c) (raised (bound_on false (map plain bounds) c) (places c)))
       → AreAtBounds bounds old places s
   first_bounds s eb ep = λ c n. moved c (s.places c) (lowered (bound_on true (map plain bounds) c) (raised (bound_on false (map plain bounds) c) (places c))) (ep c)
-      (elim (lowered-cases (bound_on true (map plain bounds) c) (raised (bound_on false (map plain bounds) c) (places c))) [
+      (elim (lowered_cases (bound_on true (map plain bounds) c) (raised (bound_on false (map plain bounds) c) (places c))) [
         | inr e ↦ at-bound true c (lowered (bound_on true (map plain bounds) c) (raised (bound_on false (map plain bounds) c) (places c))) e
         | inl e ↦ moved c (lowered (bound_on true (map plain bounds) c) (raised (bound_on false (map plain bounds) c) (places c))) (raised (bound_on false (map plain bounds) c) (places c)) e
-            (elim (raised-cases (bound_on false (map plain bounds) c) (places c)) [
+            (elim (raised_cases (bound_on false (map plain bounds) c) (places c)) [
               | inr f ↦ at-bound false c (raised (bound_on false (map plain bounds) c) (places c)) f
               | inl f ↦ inl ((let P : List ℕ → Type 0 = λ b. Contains b c → ⊥ in subst P eb n), f)
             ])

@@ -6,10 +6,13 @@ use lib.IntN.{ℤ}
 use Rattle.proof_steps.specs.View.{row_view}
 use Rattle.int_simplex.specs.Inner.{standing, state_of}
 use Rattle.int_simplex.specs.State.{State, beginning}
-use Rattle.int_simplex.specs.Answers.{IsLong, IsChecked}
+use Rattle.proof_steps.specs.Stopped.{IsPastStep}
+use Rattle.proof_steps.specs.StopView.{past_view}
+use Rattle.int_simplex.specs.Answers.{IsLong, IsChecked, IsNumberOf}
 use Rattle.int_simplex.specs.Sound.{IsUncrossed}
 use Rattle.int_simplex.specs.Running.{IsReady, IsKept}
 use Rattle.int_simplex.proofs.Checked.{refuted_from}
+use Rattle.int_simplex.proofs.Passed.{past_from}
 use Rattle.int_simplex.proofs.Checks.{ready_of, tables_of, sound_kept, first_is, first_at, tables_at, long_from, started}
 use Rattle.int_simplex.proofs.table.Tableau.check.Goals as goal
 
@@ -100,3 +103,17 @@ returns-in-Ok-Refuted-clause-answer c =
     c.in_ok-places.places.items c.walk-walked.new.places.items c.self.inside.lowers.items c.self.inside.uppers.items c.args.pivots (i.sound u) (i.free u) t e (ap (map row_view) c.deref-8.ensures.value) (ap length c.deref-9.ensures.value ∙ i.lowers.count)
     (ky tt) c.in-Ok-Refuted.farkas a in
     (subst (λ (s : State). IsChecked s (record (state_of c.self.inside) { basis = c.walk-walked.new.basis.items; values = c.walk-walked.new.values.items }) c.args.pivots) v r.0, r.1)
+
+pub returns-in-Err-Past-clause-answer : goal.returns-in-Err-Past-clause-answer
+returns-in-Err-Past-clause-answer c =
+    let i = c.self.invariant in
+    let v = c.self.view_is in
+    let u = ap (λ s. s.usable) v ∙ c.requires in
+    let t = tables_of c.self.inside u i in
+    let z = rw c.in-Err-Past.is at c.walk-walked.ensures.past in
+    let y = rw c.in-Err-Past.field-0-is at z in
+    let f = first_at c.self.inside.basis.items c.deref-4.result.now c.self.inside.values.items c.deref-5.result.now c.self.inside.lowers.items c.deref-6.result.now c.self.inside.uppers.items c.deref-7.result.now c.in_ok-places.places.items
+    c.deref-4.ensures.value c.deref-5.ensures.value c.deref-6.ensures.value c.deref-7.ensures.value c.in_ok-places.ensures in
+    let r = past_from (state_of c.self.inside) (map row_view c.deref-8.result.now) (length c.deref-9.result.now) c.in_ok-places.places.items c.self.inside.lowers.items c.deref-9.result.now c.self.inside.uppers.items c.deref-10.result.now
+    (i.sound u) t f (ap (map row_view) c.deref-8.ensures.value) (ap length c.deref-9.ensures.value ∙ i.lowers.count) c.deref-9.ensures.value c.deref-10.ensures.value c.in-Err-Past.step y in
+    subst (λ (s : State). IsPastStep s.given s.columns (IsNumberOf s) (past_view c.in-Err-Past.step)) v r
