@@ -4,10 +4,11 @@ use Rattle.std.proofs.Common.{sym, ◌∙◌, ap, subst, arith, refl, inl, inr, 
 use Rattle.std.proofs.lemmas.Option.{slice_get-get_or, slice_get_within, get_or_from_slice_get}
 use lib.IntN.{ℤ, pos}
 use Rattle.proof_steps.specs.Pivots.{Position, Pivots, CanPivot, first_position, raised, lowered, bound_on}
-use Rattle.int_simplex.specs.State.{Standing, State, beginning, plain, is_in, places_of, top_of}
+use Rattle.proof_steps.specs.Pivots.{place_of as place_in}
+use Rattle.int_simplex.specs.State.{Standing, State, beginning, plain, is_in, outside_from, places_of, top_of}
 use Rattle.int_simplex.specs.Inner.{IsFree}
 use Rattle.int_simplex.specs.Sound.{IsSound}
-use Rattle.int_simplex.specs.Points.{IsFraction}
+use Rattle.int_simplex.specs.Points.{IsFraction, Fit}
 use Rattle.int_simplex.specs.Valued.{place_at}
 use Rattle.int_simplex.specs.Leads.{LeadsTo}
 use Rattle.int_simplex.specs.Answers.{IsChecked, IsLong, StaysOrIsBound}
@@ -22,6 +23,7 @@ use Rattle.int_simplex.proofs.Tables.{bounds_order}
 use Rattle.int_simplex.proofs.Kept.{values_fractions}
 use Rattle.int_simplex.proofs.Walks.{run_ends, shorter}
 use Rattle.int_simplex.proofs.Ends.{StandsBy, AreAtBounds, first_bounds, run_bounds}
+use Rattle.int_simplex.proofs.Fitting.{fit_after}
 use Rattle.int_simplex.proofs.Checks.{stands_at, value_kept, listed_place}
 
 pub pair_with : (v : ℤ × ℤ) (z : ℤ) → v.0 ≡ z → v.1 ≡ pos 1 → v ≡ (z, pos 1)
@@ -97,3 +99,23 @@ refuted_from s given columns basis rows values first places lowers uppers budget
     let k = subst B ec (subst A eg kept) in
     let g = subst D ec (subst C eg h) in
     (checked s basis rows values first places lowers uppers budget sound free tables begins k (apart s.given s.columns sound.given) g.0 g.1.1, g.1.0)
+
+pub fits_from : (s : State) (given : List (List (ℕ × ℤ))) (columns : ℕ) (basis : List ℕ) (rows : List (List (ℕ × ℤ))) (values : List (ℤ × ℤ)) (first places : List ℤ)
+    (lowers uppers : List (Option (ℤ × ℕ))) (budget : ℕ) → IsSound s → IsFree s.given s.basis → AreTables s.columns s.bounds lowers uppers
+    → first_position (beginning s budget) ≡ at s.basis first → given ≡ s.given → columns ≡ s.columns
+    → IsKept given columns basis rows places values → IsWalked given columns s.bounds budget (at s.basis first) basis places w.Fits
+    → IsChecked s (record s { basis = basis; values = values }) budget × Fit s.given s.bounds values
+fits_from s given columns basis rows values first places lowers uppers budget sound free tables begins eg ec kept h =
+    let A : List (List (ℕ × ℤ)) → Type 0 = λ x. IsKept x columns basis rows places values in
+    let B : ℕ → Type 0 = λ x. IsKept s.given x basis rows places values in
+    let C : List (List (ℕ × ℤ)) → Type 0 = λ x. IsWalked x columns s.bounds budget (at s.basis first) basis places w.Fits in
+    let D : ℕ → Type 0 = λ x. IsWalked s.given x s.bounds budget (at s.basis first) basis places w.Fits in
+    let E : Position → Type 0 = λ u. LeadsTo s.given s.columns (map plain s.bounds) (subst D ec (subst C eg h)).0.made u (at basis places) in
+    let k = subst B ec (subst A eg kept) in
+    let g = subst D ec (subst C eg h) in
+    (
+      checked s basis rows values first places lowers uppers budget sound free tables begins k (apart s.given s.columns sound.given) g.0
+          (λ t p. g.1 p.leaving p.side p.limit p.multipliers p.misses),
+      fit_after s.given s.columns s.bounds lowers uppers tables basis rows places values k g.0.made (first_position (beginning s budget)) (place_in (outside_from 0 s.values s.basis))
+          (λ c. refl) (subst E (sym begins) g.0.leads) g.1,
+    )

@@ -19,13 +19,13 @@ StandsBy bounds old places c z = ((Contains old c → ⊥) × (z ≡ places c)) 
 abbrev pub AreAtBounds : List Standing → List ℕ → (ℕ → ℤ) → Position → Type 0
 AreAtBounds bounds old places t = (c : ℕ) → (Contains t.basis c → ⊥) → StandsBy bounds old places c (t.places c)
 
-still-in : (l e c : ℕ) (basis : List ℕ) → c ≢ l → Contains basis c → Contains (map (exchanged l e) basis) c
-still-in l e c [] n (k, h, q) = absurd (omega arith)
-still-in l e c (b ∷ basis) n (zero, h, q) =
+pub still_in : (l e c : ℕ) (basis : List ℕ) → c ≢ l → Contains basis c → Contains (map (exchanged l e) basis) c
+still_in l e c [] n (k, h, q) = absurd (omega arith)
+still_in l e c (b ∷ basis) n (zero, h, q) =
     let s : b ≡ c = q in let d : b ≢ l = λ w. n (sym s ∙ w) in
     (0, omega arith, stays l e b d ∙ s)
-still-in l e c (b ∷ basis) n (suc k, h, q) =
-    let i = still-in l e c basis n (k, omega arith, q) in (suc i.0, (let w = i.1 in omega arith), i.2)
+still_in l e c (b ∷ basis) n (suc k, h, q) =
+    let i = still_in l e c basis n (k, omega arith, q) in (suc i.0, (let w = i.1 in omega arith), i.2)
 
 pub raised_cases : (o : Option ℤ) (z : ℤ) → (raised o z ≡ z) ⊎ (o ≡ Some (raised o z))
 raised_cases None z = inl refl
@@ -72,7 +72,7 @@ module _ (given : List (List (ℕ × ℤ))) (columns : ℕ) (bounds : List Stand
         let d : c ≢ p.leaving = other_if c p.leaving e in
         let P : List ℕ → Type 0 = λ b. Contains b c in
         moved c (t.places c) (s.places c) (p.others c d)
-        (h c (λ i. n (subst P (sym p.basis) (still-in p.leaving p.entering c s.basis d i))))
+        (h c (λ i. n (subst P (sym p.basis) (still_in p.leaving p.entering c s.basis d i))))
   ]
 
   -- and so does a run

@@ -28,6 +28,7 @@ pub mod Settled
 pub mod Moves
 pub mod Checks
 pub mod Checked
+pub mod Fitting
 pub mod Passed
 pub mod Choices
 pub mod Valuing

@@ -11,7 +11,7 @@ use Rattle.proof_steps.specs.StopView.{past_view}
 use Rattle.int_simplex.specs.Answers.{IsLong, IsChecked, IsNumberOf}
 use Rattle.int_simplex.specs.Sound.{IsUncrossed}
 use Rattle.int_simplex.specs.Running.{IsReady, IsKept}
-use Rattle.int_simplex.proofs.Checked.{refuted_from}
+use Rattle.int_simplex.proofs.Checked.{refuted_from, fits_from}
 use Rattle.int_simplex.proofs.Passed.{past_from}
 use Rattle.int_simplex.proofs.Checks.{ready_of, tables_of, sound_kept, first_is, first_at, tables_at, long_from, started}
 use Rattle.int_simplex.proofs.table.Tableau.check.Goals as goal
@@ -117,3 +117,23 @@ returns-in-Err-Past-clause-answer c =
     let r = past_from (state_of c.self.inside) (map row_view c.deref-8.result.now) (length c.deref-9.result.now) c.in_ok-places.places.items c.self.inside.lowers.items c.deref-9.result.now c.self.inside.uppers.items c.deref-10.result.now
     (i.sound u) t f (ap (map row_view) c.deref-8.ensures.value) (ap length c.deref-9.ensures.value ∙ i.lowers.count) c.deref-9.ensures.value c.deref-10.ensures.value c.in-Err-Past.step y in
     subst (λ (s : State). IsPastStep s.given s.columns (IsNumberOf s) (past_view c.in-Err-Past.step)) v r
+
+pub returns-in-Ok-Fits-clause-answer : goal.returns-in-Ok-Fits-clause-answer
+returns-in-Ok-Fits-clause-answer c =
+    let i = c.self.invariant in
+    let v = c.self.view_is in
+    let u = ap (λ s. s.usable) v ∙ c.requires in
+    let t = tables_of c.self.inside u i in
+    let z = rw c.in-Ok-Fits.is at c.walk-walked.ensures.found in
+    let y = rw c.in-Ok-Fits.field-0-is at z in
+    let a = y (map standing c.self.inside.trail.items) (tables_at c.self.inside.columns (map standing c.self.inside.trail.items) c.self.inside.lowers.items c.deref-9.result.now c.self.inside.uppers.items c.deref-10.result.now
+    (sym c.deref-9.ensures.value) (sym c.deref-10.ensures.value) t) in
+    let f = first_at c.self.inside.basis.items c.deref-4.result.now c.self.inside.values.items c.deref-5.result.now c.self.inside.lowers.items c.deref-6.result.now c.self.inside.uppers.items c.deref-7.result.now c.in_ok-places.places.items
+    c.deref-4.ensures.value c.deref-5.ensures.value c.deref-6.ensures.value c.deref-7.ensures.value c.in_ok-places.ensures in
+    let e = first_is c.self.inside.columns c.self.inside.basis.items c.self.inside.values.items (map standing c.self.inside.trail.items) c.self.inside.lowers.items c.self.inside.uppers.items c.in_ok-places.places.items c.args.pivots
+    t (i.sound u).count f in
+    let kz = rw c.in-Ok-Fits.is at c.walk-walked.ensures.kept in let ky = rw c.in-Ok-Fits.field-0-is at kz in
+    let r = fits_from (state_of c.self.inside) (map row_view c.deref-8.result.now) (length c.deref-9.result.now) c.walk-walked.new.basis.items (map row_view c.walk-walked.new.rows.items) c.walk-walked.new.values.items
+    c.in_ok-places.places.items c.walk-walked.new.places.items c.self.inside.lowers.items c.self.inside.uppers.items c.args.pivots (i.sound u) (i.free u) t e (ap (map row_view) c.deref-8.ensures.value) (ap length c.deref-9.ensures.value ∙ i.lowers.count)
+    (ky tt) a in
+    (subst (λ (s : State). IsChecked s (record (state_of c.self.inside) { basis = c.walk-walked.new.basis.items; values = c.walk-walked.new.values.items }) c.args.pivots) v r.0, r.1)
