@@ -1,23 +1,21 @@
 -- A bound that comes, and bounds that are taken back.
-use Rattle.std.specs.Prelude.{ℕ, zero, suc, ◌≡◌, ◌≢◌, ◌⊎◌, ◌==◌, ◌<◌, ◌≤◌, Bool, true, false, cond, List, [], ◌∷◌, ◌++◌, length, map, take, All, Contains, Option, Some, None, slice_get, slice_set}
-use Rattle.std.proofs.Common.{sym, ◌∙◌, ap, subst, arith, refl, inl, inr, get_or}
-use Rattle.std.proofs.lemmas.List.{map-append}
+use Rattle.std.specs.Prelude.{ℕ, zero, suc, ◌≡◌, ◌⊎◌, ◌==◌, Bool, true, false, cond, List, [], ◌∷◌, ◌++◌, map, take, All, Contains, Option, Some, None}
+use Rattle.std.proofs.Common.{sym, ◌∙◌, ap, subst, arith, refl, inl, inr}
 use Rattle.std.proofs.lemmas.List.Elements.{All-nil, All-cons}
 use Rattle.std.proofs.lemmas.Int.{ints}
 use lib.IntN.{ℤ, pos, ◌+ℤ◌, ◌*ℤ◌, neg_ℤ}
-use lib.Signed.{◌≤ℤ◌, ◌<ℤ◌, lt_z}
+use lib.Signed.{◌≤ℤ◌, ◌<ℤ◌}
 use Rattle.proof_steps.specs.Meaning.{as_said}
-use Rattle.proof_steps.specs.Rows.{combined}
-use Rattle.proof_steps.specs.Pivots.{bound_on, lower, upper, greatest, least}
+use Rattle.proof_steps.specs.Pivots.{bound_on}
 use Rattle.int_simplex.specs.State.{Standing, plain}
 use Rattle.int_simplex.specs.Bounds.{tightest, crosses, is_across}
-use Rattle.int_simplex.specs.Farkas.{Refutes, turned, weight, limits}
+use Rattle.int_simplex.specs.Farkas.{Refutes, turned, weight}
 use Rattle.int_simplex.specs.Sound.{IsUncrossed}
 use Rattle.int_simplex.specs.Refuting.{literal_in}
 use Rattle.int_simplex.specs.Choosing.{bare}
 use Rattle.int_simplex.proofs.Places.{same_some}
 use Rattle.int_simplex.proofs.Sparse.{is_same}
-use Rattle.int_simplex.proofs.Tables.{IsStanding, tightest_stands, tightest_bare, taken, front}
+use Rattle.int_simplex.proofs.Tables.{tightest_stands, tightest_bare, taken, front}
 use Rattle.int_simplex.proofs.Floors.{is_below, not_below}
 
 in-front : (xs ys : List Standing) (x : Standing) → Contains xs x → Contains (xs ++ ys) x
@@ -99,11 +97,11 @@ tightest_all (b ∷ bounds) d (zero, h, e) =
     let w = first-taken d.upper d.limit (bound_on d.upper (map plain bounds) d.column) in
     (w.0, ap (λ (x : Standing). bound_on d.upper (plain x ∷ map plain bounds) d.column) q ∙ g ∙ w.1, w.2)
   where
-  first-taken : (u : Bool) (z : ℤ) (o : Option ℤ) → (w : ℤ) × (taken u true u z o ≡ Some w) × (turned u w ≤ℤ turned u z)
-  first-taken true z None = (z, refl, omega (arith, ints))
-  first-taken true z (Some y) = (Rattle.std.specs.Int.int_min z y, refl, grind (arith, ints))
-  first-taken false z None = (z, refl, omega (arith, ints))
-  first-taken false z (Some y) = (Rattle.std.specs.Int.int_max z y, refl, grind (arith, ints))
+    first-taken : (u : Bool) (z : ℤ) (o : Option ℤ) → (w : ℤ) × (taken u true u z o ≡ Some w) × (turned u w ≤ℤ turned u z)
+    first-taken true z None = (z, refl, omega (arith, ints))
+    first-taken true z (Some y) = (Rattle.std.specs.Int.int_min z y, refl, grind (arith, ints))
+    first-taken false z None = (z, refl, omega (arith, ints))
+    first-taken false z (Some y) = (Rattle.std.specs.Int.int_max z y, refl, grind (arith, ints))
 tightest_all (b ∷ bounds) d (suc k, h, e) =
     let r = tightest_all bounds d (k, (let l = h in omega arith), e) in
     let f = front d.upper b.upper d.column b.column b.limit (map plain bounds) in
@@ -111,13 +109,13 @@ tightest_all (b ∷ bounds) d (suc k, h, e) =
     let o = r.2 in let p = w.2 in
     (w.0, f ∙ ap (λ x. taken d.upper (b.column == d.column) b.upper b.limit x) r.1 ∙ w.1, omega (arith, ints))
   where
-  later-taken : (u t v : Bool) (z y : ℤ) → (w : ℤ) × (taken u t v z (Some y) ≡ Some w) × (turned u w ≤ℤ turned u y)
-  later-taken true true true z y = (Rattle.std.specs.Int.int_min z y, refl, grind (arith, ints))
-  later-taken false true false z y = (Rattle.std.specs.Int.int_max z y, refl, grind (arith, ints))
-  later-taken true true false z y = (y, refl, omega (arith, ints))
-  later-taken false true true z y = (y, refl, omega (arith, ints))
-  later-taken true false v z y = (y, refl, omega (arith, ints))
-  later-taken false false v z y = (y, refl, omega (arith, ints))
+    later-taken : (u t v : Bool) (z y : ℤ) → (w : ℤ) × (taken u t v z (Some y) ≡ Some w) × (turned u w ≤ℤ turned u y)
+    later-taken true true true z y = (Rattle.std.specs.Int.int_min z y, refl, grind (arith, ints))
+    later-taken false true false z y = (Rattle.std.specs.Int.int_max z y, refl, grind (arith, ints))
+    later-taken true true false z y = (y, refl, omega (arith, ints))
+    later-taken false true true z y = (y, refl, omega (arith, ints))
+    later-taken true false v z y = (y, refl, omega (arith, ints))
+    later-taken false false v z y = (y, refl, omega (arith, ints))
 
 -- a bound that does not cross the other one crosses none
 other-side : (bounds : List Standing) (b d : Standing) → crosses bounds b ≡ false → Contains bounds d → d.column ≡ b.column → d.upper ≡ as_said b.upper false

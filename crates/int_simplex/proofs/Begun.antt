@@ -1,24 +1,23 @@
 -- A new tableau.
-use Rattle.std.specs.Prelude.{ℕ, zero, suc, ◌≡◌, ◌≢◌, ◌⊎◌, ◌==◌, ◌<◌, ◌≤◌, Bool, true, false, cond, List, [], ◌∷◌, ◌++◌, ◌+◌, length, map, All, Contains, Option, Some, None, slice_get, replicate}
-use Rattle.std.proofs.Common.{sym, ◌∙◌, ap, subst, arith, refl, inl, inr, get_or}
+use Rattle.std.specs.Prelude.{ℕ, zero, suc, ◌≡◌, ◌==◌, ◌<◌, Bool, true, false, cond, List, [], ◌∷◌, ◌++◌, ◌+◌, length, All, Contains, Some, None, slice_get, replicate}
+use Rattle.std.proofs.Common.{sym, ◌∙◌, ap, subst, arith, refl}
 use Rattle.std.proofs.lemmas.List.{length-map}
 use Rattle.std.proofs.lemmas.List.Elements.{All-nil}
-use Rattle.std.proofs.lemmas.Option.{slice_get-get_or, slice_get_within}
 use Rattle.std.proofs.lemmas.Int.{ints}
 use Rattle.std.proofs.Math.Nat.{eq-one_of_dvd-one}
 use Rattle.std.proofs.Math.Path.{fun_ext}
-use lib.IntN.{ℤ, pos, negsuc, ◌+ℤ◌, ◌*ℤ◌, neg_ℤ, *ℤ-zero, zero-*ℤ}
+use lib.IntN.{ℤ, pos, negsuc, ◌+ℤ◌, ◌*ℤ◌, *ℤ-zero}
 use Rattle.proof_steps.specs.Rows.{entry, combined, rest_below}
-use Rattle.int_simplex.specs.State.{Standing, State, places_of, top_of}
+use Rattle.int_simplex.specs.State.{Standing, State, places_of}
 use Rattle.int_simplex.specs.Given.{AreGiven, last_column, last_columns}
 use Rattle.int_simplex.specs.Points.{IsFraction}
 use Rattle.int_simplex.specs.Sound.{IsSound, IsValueOf}
-use Rattle.int_simplex.specs.Inner.{IsRowAt, AreRows, IsFree, AreLimits, AreBefore, IsWithinColumns, read_off}
+use Rattle.int_simplex.specs.Inner.{IsRowAt, AreRows, AreLimits, AreBefore, IsWithinColumns, read_off}
 use Rattle.int_simplex.specs.declared.table.Asserted.{Asserted}
 use Rattle.int_simplex.specs.Making.{AreSorted}
-use Rattle.int_simplex.proofs.Places.{same_some, listed_at, at_listed, mapped_at}
+use Rattle.int_simplex.proofs.Places.{at_listed}
 use Rattle.int_simplex.proofs.Combos.{row_at_is}
-use Rattle.int_simplex.proofs.First.{row_first, place-of, free_first}
+use Rattle.int_simplex.proofs.First.{row_first, place-of}
 use Rattle.int_simplex.proofs.Apart.{end-at}
 use Rattle.int_simplex.proofs.Opposites.{first_basis}
 use Rattle.int_simplex.proofs.Turned.{there}

@@ -1,9 +1,7 @@
 -- The bounds that keep a column from its own refute it.
-use Rattle.std.specs.Prelude.{ℕ, zero, suc, ◌≡◌, ◌≢◌, ◌⊎◌, ◌==◌, ◌<◌, ◌≤◌, Bool, true, false, cond, List, [], ◌∷◌, length, map, All, Contains, Option, Some, None, slice_get, unsigned_abs}
-use Rattle.std.proofs.Common.{sym, ◌∙◌, ap, subst, arith, refl, inl, inr}
-use Rattle.std.proofs.lemmas.Int.{ints, by_lt_z}
-use lib.IntN.{ℤ, pos, negsuc, ◌+ℤ◌, ◌-ℤ◌, ◌*ℤ◌, neg_ℤ}
-use lib.Signed.{◌≤ℤ◌, ◌<ℤ◌, lt_z}
+use Rattle.std.specs.Prelude.{ℕ, ◌≡◌, List, [], ◌∷◌, Some, slice_get}
+use Rattle.std.proofs.Common.{◌∙◌, ap}
+use lib.IntN.{ℤ}
 use Rattle.kind_num.specs.declared.Past.{Past}
 use Rattle.int_simplex.specs.Valued.{IsOpposedPast}
 use Rattle.int_simplex.specs.Stopping.{IsOver}

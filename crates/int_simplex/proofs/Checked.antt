@@ -1,15 +1,14 @@
 -- What a check that ends says of its run.
-use Rattle.std.specs.Prelude.{ℕ, zero, suc, ◌≡◌, ◌≢◌, ◌⊎◌, ◌<◌, ◌≤◌, Bool, true, false, cond, List, [], length, map, All, Contains, Option, Some, None, slice_get}
+use Rattle.std.specs.Prelude.{ℕ, suc, ◌≡◌, ◌<◌, true, false, cond, List, map, Contains, Option, Some, slice_get}
 use Rattle.std.proofs.Common.{sym, ◌∙◌, ap, subst, arith, refl, inl, inr, get_or}
 use Rattle.std.proofs.lemmas.Option.{slice_get-get_or, slice_get_within, get_or_from_slice_get}
 use lib.IntN.{ℤ, pos}
-use Rattle.proof_steps.specs.Pivots.{Position, Pivots, CanPivot, first_position, raised, lowered, bound_on}
+use Rattle.proof_steps.specs.Pivots.{Position, Pivots, first_position, raised, lowered, bound_on}
 use Rattle.proof_steps.specs.Pivots.{place_of as place_in}
-use Rattle.int_simplex.specs.State.{Standing, State, beginning, plain, is_in, outside_from, places_of, top_of}
+use Rattle.int_simplex.specs.State.{State, beginning, plain, outside_from, top_of}
 use Rattle.int_simplex.specs.Inner.{IsFree}
 use Rattle.int_simplex.specs.Sound.{IsSound}
 use Rattle.int_simplex.specs.Points.{IsFraction, Fit}
-use Rattle.int_simplex.specs.Valued.{place_at}
 use Rattle.int_simplex.specs.Leads.{LeadsTo}
 use Rattle.int_simplex.specs.Answers.{IsChecked, IsLong, StaysOrIsBound}
 use Rattle.int_simplex.specs.Running.{IsKept, AreTables, IsReached, IsWalked, at, start_place}
@@ -18,11 +17,10 @@ use Rattle.int_simplex.specs.declared.answers.Farkas.{Farkas}
 use Rattle.int_simplex.specs.declared.run.Walked.TheVariants as w
 use Rattle.int_simplex.proofs.Apart.{AreApart, apart}
 use Rattle.int_simplex.proofs.Starts.{is_in_no}
-use Rattle.int_simplex.proofs.Places.{same_some}
 use Rattle.int_simplex.proofs.Tables.{bounds_order}
 use Rattle.int_simplex.proofs.Kept.{values_fractions}
 use Rattle.int_simplex.proofs.Walks.{run_ends, shorter}
-use Rattle.int_simplex.proofs.Ends.{StandsBy, AreAtBounds, first_bounds, run_bounds}
+use Rattle.int_simplex.proofs.Ends.{AreAtBounds, first_bounds, run_bounds}
 use Rattle.int_simplex.proofs.Fitting.{fit_after}
 use Rattle.int_simplex.proofs.Checks.{stands_at, value_kept, listed_place}
 
@@ -34,7 +32,6 @@ module _ (s : State) (basis : List ℕ) (rows : List (List (ℕ × ℤ))) (value
     (kept : IsKept s.given s.columns basis rows places values) (apart : AreApart s.given)
     (reached : IsReached s.given s.columns s.bounds budget (at s.basis first) basis places)
     (ends : (t : Position) → Pivots s.given s.columns (map plain s.bounds) (at basis places) t → ⊥) where
-
   begun : LeadsTo s.given s.columns (map plain s.bounds) reached.made (first_position (beginning s budget)) (at basis places)
   begun = let P : Position → Type 0 = λ u. LeadsTo s.given s.columns (map plain s.bounds) reached.made u (at basis places) in subst P (sym begins) reached.leads
 
@@ -78,9 +75,10 @@ module _ (s : State) (basis : List ℕ) (rows : List (List (ℕ × ℤ))) (value
       leads = begun;
       basis = refl;
       outside = λ c h n. stands_at s.given s.columns basis rows places values kept c h n;
-      inside = λ x v i e.
-          (subst IsFraction (get_or_from_slice_get values x v v e) (values_fractions s.given s.columns basis rows places values kept x v (slice_get_within values x v e)),
-          value_kept s.given s.columns basis rows places values kept s.bounds s.usable x v i e);
+      inside = λ x v i e. (
+        subst IsFraction (get_or_from_slice_get values x v v e) (values_fractions s.given s.columns basis rows places values kept x v (slice_get_within values x v e)),
+        value_kept s.given s.columns basis rows places values kept s.bounds s.usable x v i e,
+      );
     };
     short = no-longer;
     outside = λ c h n. stays-or c h n;
@@ -112,8 +110,7 @@ fits_from s given columns basis rows values first places lowers uppers budget so
     let D : ℕ → Type 0 = λ x. IsWalked s.given x s.bounds budget (at s.basis first) basis places w.Fits in
     let E : Position → Type 0 = λ u. LeadsTo s.given s.columns (map plain s.bounds) (subst D ec (subst C eg h)).0.made u (at basis places) in
     let k = subst B ec (subst A eg kept) in
-    let g = subst D ec (subst C eg h) in
-    (
+    let g = subst D ec (subst C eg h) in (
       checked s basis rows values first places lowers uppers budget sound free tables begins k (apart s.given s.columns sound.given) g.0
           (λ t p. g.1 p.leaving p.side p.limit p.multipliers p.misses),
       fit_after s.given s.columns s.bounds lowers uppers tables basis rows places values k g.0.made (first_position (beginning s budget)) (place_in (outside_from 0 s.values s.basis))

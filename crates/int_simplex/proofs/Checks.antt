@@ -1,7 +1,6 @@
 -- What a check begins with and leaves.
 use Rattle.std.specs.Prelude.{ℕ, zero, suc, ◌≡◌, ◌≢◌, ◌⊎◌, ◌==◌, ◌<◌, ◌≤◌, ◌+◌, Bool, true, false, cond, List, [], ◌∷◌, length, map, All, Contains, Option, Some, None, slice_get}
 use Rattle.std.proofs.Common.{sym, ◌∙◌, ap, subst, arith, refl, inl, inr, get_or}
-use Rattle.std.proofs.lemmas.Int.{ints}
 use Rattle.std.proofs.lemmas.Option.{slice_get-get_or, slice_get_within}
 use Rattle.std.proofs.Math.Path.{fun_ext}
 use lib.IntN.{ℤ, pos, ◌+ℤ◌, ◌*ℤ◌, zero-*ℤ}
@@ -10,9 +9,8 @@ use Rattle.proof_steps.specs.Rows.{rest_below, entry}
 use Rattle.proof_steps.specs.Pivots.{Position, CanPivot, first_position, raised, lowered, bound_on}
 use Rattle.proof_steps.specs.Pivots.{place_of as place_in}
 use Rattle.int_simplex.specs.State.{Standing, State, beginning, plain, is_in, outside_from, places_of, top_of}
-use Rattle.int_simplex.specs.Inner.{IsInner, standing, state_of}
+use Rattle.int_simplex.specs.Inner.{IsInner, standing}
 use Rattle.int_simplex.specs.Sound.{IsSound, IsValueOf, IsUncrossed}
-use Rattle.int_simplex.specs.Given.{AreGiven}
 use Rattle.int_simplex.specs.Valued.{place_at, place_of}
 use Rattle.int_simplex.specs.Running.{IsReady, IsKept, AreTables, AreFirst, at, start_place}
 use Rattle.int_simplex.specs.Choosing.{bare, limit_at}
@@ -24,7 +22,7 @@ use Rattle.int_simplex.proofs.Sparse.{by_test, other_if, is_other, is_same}
 use Rattle.int_simplex.proofs.Tables.{table_bound, bound_stands}
 use Rattle.int_simplex.proofs.Starts.{in_yes, in_no}
 use Rattle.int_simplex.proofs.Turned.{there}
-use Rattle.int_simplex.proofs.Places.{listed_at, at_listed, same_some}
+use Rattle.int_simplex.proofs.Places.{at_listed, same_some}
 use Rattle.int_simplex.proofs.Kept.{values_fractions}
 use Rattle.int_simplex.proofs.Moves.{giving}
 use Rattle.int_simplex.proofs.Pasts.{basis_of}
@@ -194,23 +192,24 @@ pub first_is : (columns : ℕ) (basis : List ℕ) (values : List (ℤ × ℤ)) (
     → first_position record { basis = basis; bounds = map plain bounds; places = outside_from 0 values basis; pivots = budget } ≡ at basis places
 first_is columns basis values bounds lowers uppers places budget a n f =
     ap (λ (p : ℕ → ℤ). let s : Position = record { basis = basis; places = p } in s) (fun_ext (λ c. by c (less c columns))) where
-  less : (c n : ℕ) → (c < n) ⊎ (n ≤ c)
-  less c n = grind arith
-  by : (c : ℕ) → (c < columns) ⊎ (columns ≤ c)
-      → lowered (bound_on true (map plain bounds) c) (raised (bound_on false (map plain bounds) c) (place_in (outside_from 0 values basis) c)) ≡ place_at places c
-  by c (inl h) =
-      ap (λ z. lowered (bound_on true (map plain bounds) c) (raised (bound_on false (map plain bounds) c) z)) (listed_place values basis c)
-      ∙ ap (λ o. lowered o (raised (bound_on false (map plain bounds) c) (start_place basis values c))) (sym (table_bound columns bounds lowers uppers a true c h))
-      ∙ ap (λ o. lowered (bare (limit_at uppers c)) (raised o (start_place basis values c))) (sym (table_bound columns bounds lowers uppers a false c h))
-      ∙ sym (f.each c (omega arith))
-  by c (inr h) =
-      let m = f.count in
-      ap (λ z. lowered (bound_on true (map plain bounds) c) (raised (bound_on false (map plain bounds) c) z)) (listed_place values basis c)
-      ∙ ap (λ o. lowered o (raised (bound_on false (map plain bounds) c) (start_place basis values c))) (unbounded columns bounds lowers uppers a true c (λ l. omega arith))
-      ∙ ap (λ o. raised o (start_place basis values c)) (unbounded columns bounds lowers uppers a false c (λ l. omega arith))
-      ∙ ap (λ (o : Option (ℤ × ℤ)). cond (is_in basis c) (pos 0) (top_of o)) (past_end values c (omega arith))
-      ∙ sym (same-none (is_in basis c))
-      ∙ sym (ap place_of (past_end places c (omega arith)))
+      less : (c n : ℕ) → (c < n) ⊎ (n ≤ c)
+      less c n = grind arith
+
+      by : (c : ℕ) → (c < columns) ⊎ (columns ≤ c)
+          → lowered (bound_on true (map plain bounds) c) (raised (bound_on false (map plain bounds) c) (place_in (outside_from 0 values basis) c)) ≡ place_at places c
+      by c (inl h) =
+          ap (λ z. lowered (bound_on true (map plain bounds) c) (raised (bound_on false (map plain bounds) c) z)) (listed_place values basis c)
+          ∙ ap (λ o. lowered o (raised (bound_on false (map plain bounds) c) (start_place basis values c))) (sym (table_bound columns bounds lowers uppers a true c h))
+          ∙ ap (λ o. lowered (bare (limit_at uppers c)) (raised o (start_place basis values c))) (sym (table_bound columns bounds lowers uppers a false c h))
+          ∙ sym (f.each c (omega arith))
+      by c (inr h) =
+          let m = f.count in
+          ap (λ z. lowered (bound_on true (map plain bounds) c) (raised (bound_on false (map plain bounds) c) z)) (listed_place values basis c)
+          ∙ ap (λ o. lowered o (raised (bound_on false (map plain bounds) c) (start_place basis values c))) (unbounded columns bounds lowers uppers a true c (λ l. omega arith))
+          ∙ ap (λ o. raised o (start_place basis values c)) (unbounded columns bounds lowers uppers a false c (λ l. omega arith))
+          ∙ ap (λ (o : Option (ℤ × ℤ)). cond (is_in basis c) (pos 0) (top_of o)) (past_end values c (omega arith))
+          ∙ sym (same-none (is_in basis c))
+          ∙ sym (ap place_of (past_end places c (omega arith)))
 
 pub tables_at : (columns : ℕ) (bounds : List Standing) (lowers lowers1 uppers uppers1 : List (Option (ℤ × ℕ))) → lowers ≡ lowers1 → uppers ≡ uppers1
     → AreTables columns bounds lowers uppers → AreTables (length lowers1) bounds lowers1 uppers1

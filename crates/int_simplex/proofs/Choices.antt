@@ -1,12 +1,12 @@
 -- The least column that leaves, and the least that enters.
-use Rattle.std.specs.Prelude.{ℕ, zero, suc, ◌≡◌, ◌≢◌, ◌⊎◌, ◌<◌, ◌≤◌, ◌+◌, Bool, true, false, List, [], ◌∷◌, length, Option, Some, None, slice_get}
+use Rattle.std.specs.Prelude.{ℕ, zero, suc, ◌≡◌, ◌⊎◌, ◌<◌, ◌≤◌, ◌+◌, Bool, List, [], ◌∷◌, length, Option, Some, None, slice_get}
 use Rattle.std.proofs.Common.{sym, ◌∙◌, ap, subst, arith, refl, inl, inr, get_or}
 use Rattle.std.proofs.lemmas.Option.{slice_get-get_or, slice_get_within}
 use lib.IntN.{ℤ, pos}
 use lib.Signed.{lt_z}
 use Rattle.proof_steps.specs.Rows.{entry}
 use Rattle.int_simplex.specs.Sparse.{IsFrom, IsSparse}
-use Rattle.int_simplex.specs.Choosing.{limit_at, limit_in, bare, IsMissedAt, IsMissed, IsSooner, IsLeavingOf, CanHelp, differs, Enters, IsEntering, CanMove, is_same_side, grows}
+use Rattle.int_simplex.specs.Choosing.{limit_at, limit_in, bare, IsMissedAt, IsMissed, IsSooner, IsLeavingOf, CanHelp, differs, Enters, CanMove, is_same_side, grows}
 use Rattle.int_simplex.specs.Valued.{place_at}
 use Rattle.int_simplex.specs.declared.choosing.Exit.{Exit}
 use Rattle.int_simplex.proofs.Places.{same_some}
@@ -28,37 +28,51 @@ leaving_kept basis values lowers uppers i x None ex n f = λ k y side limit h ey
       let s : x ≡ y = same_some x y (sym ex ∙ ap (slice_get basis) (sym q) ∙ ey) in
       let P : ℕ → Type 0 = λ z. IsMissedAt values lowers uppers z side limit in n side limit (subst P (sym s) m)
 ]
-leaving_kept basis values lowers uppers i x (Some l) ex n f = (f.0, f.1, λ k y side limit h ey b m. elim (split k i h) [
-  | inl c ↦ f.2 k y side limit c ey b m
-  | inr q ↦
-      let s : x ≡ y = same_some x y (sym ex ∙ ap (slice_get basis) (sym q) ∙ ey) in
-      let P : ℕ → Type 0 = λ z. IsMissedAt values lowers uppers z side limit in n side limit (subst P (sym s) m)
-])
+leaving_kept basis values lowers uppers i x (Some l) ex n f = (
+  f.0,
+  f.1,
+  λ k y side limit h ey b m. elim (split k i h) [
+    | inl c ↦ f.2 k y side limit c ey b m
+    | inr q ↦
+        let s : x ≡ y = same_some x y (sym ex ∙ ap (slice_get basis) (sym q) ∙ ey) in
+        let P : ℕ → Type 0 = λ z. IsMissedAt values lowers uppers z side limit in n side limit (subst P (sym s) m)
+  ],
+)
 
 -- the next column is not below the best one
 pub leaving_passed : (basis : List ℕ) (values : List (ℤ × ℤ)) (lowers uppers : List (Option (ℤ × ℕ))) (i x : ℕ) (l : Exit) → slice_get basis i ≡ Some x
     → l.column ≤ x → IsLeavingOf basis values lowers uppers i (Some l) → IsLeavingOf basis values lowers uppers (i + 1) (Some l)
-leaving_passed basis values lowers uppers i x l ex n f = (f.0, f.1, λ k y side limit h ey b m. elim (split k i h) [
-  | inl c ↦ f.2 k y side limit c ey b m
-  | inr q ↦ let s : x ≡ y = same_some x y (sym ex ∙ ap (slice_get basis) (sym q) ∙ ey) in absurd (omega arith)
-])
+leaving_passed basis values lowers uppers i x l ex n f = (
+  f.0,
+  f.1,
+  λ k y side limit h ey b m. elim (split k i h) [
+    | inl c ↦ f.2 k y side limit c ey b m
+    | inr q ↦ let s : x ≡ y = same_some x y (sym ex ∙ ap (slice_get basis) (sym q) ∙ ey) in absurd (omega arith)
+  ],
+)
 
 pub leaving_found : (basis : List ℕ) (values : List (ℤ × ℤ)) (lowers uppers : List (Option (ℤ × ℕ))) (i : ℕ) (best : Option Exit) (l : Exit)
     → slice_get basis i ≡ Some l.column → l.at ≡ i → IsMissedAt values lowers uppers l.column l.side l.limit
     → ((b : Exit) → best ≡ Some b → l.column < b.column)
     → IsLeavingOf basis values lowers uppers i best → IsLeavingOf basis values lowers uppers (i + 1) (Some l)
-leaving_found basis values lowers uppers i None l ex e m n f =
-    (ap (slice_get basis) e ∙ ex, m, λ k y side limit h ey b w. elim (split k i h) [
-      | inl c ↦ f k y side limit c ey w
-      | inr q ↦ let s : l.column ≡ y = same_some l.column y (sym ex ∙ ap (slice_get basis) (sym q) ∙ ey) in absurd (omega arith)
-    ])
-leaving_found basis values lowers uppers i (Some d) l ex e m n f =
-    (ap (slice_get basis) e ∙ ex, m, λ k y side limit h ey b w.
+leaving_found basis values lowers uppers i None l ex e m n f = (
+  ap (slice_get basis) e ∙ ex,
+  m,
+  λ k y side limit h ey b w. elim (split k i h) [
+    | inl c ↦ f k y side limit c ey w
+    | inr q ↦ let s : l.column ≡ y = same_some l.column y (sym ex ∙ ap (slice_get basis) (sym q) ∙ ey) in absurd (omega arith)
+  ],
+)
+leaving_found basis values lowers uppers i (Some d) l ex e m n f = (
+  ap (slice_get basis) e ∙ ex,
+  m,
+  λ k y side limit h ey b w.
       let t : l.column < d.column = n d refl in
       elim (split k i h) [
         | inl c ↦ f.2 k y side limit c ey (omega arith) w
         | inr q ↦ let s : l.column ≡ y = same_some l.column y (sym ex ∙ ap (slice_get basis) (sym q) ∙ ey) in absurd (omega arith)
-      ])
+      ],
+)
 
 -- the terms of a row up to the place i do not enter
 abbrev pub NoneEnter : List (ℕ × ℤ) → ℕ → Bool → List ℤ → List (Option (ℤ × ℕ)) → List (Option (ℤ × ℕ)) → ℕ → Type 0
@@ -140,7 +154,7 @@ enters_if n i row x side falls places lowers uppers z place low high s h ef ep e
           let C : ℤ → Type 0 = λ p. CanMove (is_same_side side (grows row x (entry row (get_or row i z).0))) (bare low) (bare high) p in
           let D : Option (ℤ × ℕ) → Type 0 = λ o. CanMove (is_same_side side (grows row x (entry row (get_or row i z).0))) (bare o) (bare high) (place_at places (get_or row i z).0) in
           let E : Option (ℤ × ℕ) → Type 0 = λ o. CanMove (is_same_side side (grows row x (entry row (get_or row i z).0))) (bare (limit_at lowers (get_or row i z).0)) (bare o)
-              (place_at places (get_or row i z).0) in
+          (place_at places (get_or row i z).0) in
           subst E eh (subst D el (subst C ep (subst B (sym w.0) (subst A ef c.1))));
     }
 
@@ -156,6 +170,6 @@ enters_only n i row x side falls places lowers uppers z place low high s h ef ep
           let C : ℤ → Type 0 = λ p. CanMove (is_same_side side (grows row x (entry row (get_or row i z).0))) (bare low) (bare high) p in
           let D : Option (ℤ × ℕ) → Type 0 = λ o. CanMove (is_same_side side (grows row x (entry row (get_or row i z).0))) (bare o) (bare high) (place_at places (get_or row i z).0) in
           let E : Option (ℤ × ℕ) → Type 0 = λ o. CanMove (is_same_side side (grows row x (entry row (get_or row i z).0))) (bare (limit_at lowers (get_or row i z).0)) (bare o)
-              (place_at places (get_or row i z).0) in
+          (place_at places (get_or row i z).0) in
           subst A (sym ef) (subst B w.0 (subst C (sym ep) (subst D (sym el) (subst E (sym eh) e.can))))),
     )

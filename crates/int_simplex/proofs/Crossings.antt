@@ -1,25 +1,22 @@
 -- Loops over two rows, and what crossed rows are.
 use Prim.Native.Nat.{◌∣◌}
-use Rattle.std.specs.Prelude.{ℕ, zero, suc, min, ◌≡◌, ◌≢◌, ◌⊎◌, ◌<◌, ◌≤◌, ◌+◌, ◌==◌, Bool, true, false, cond, List, [], ◌∷◌, ◌++◌, length, map, drop, Some, Result, Ok, Err, slice_get, unsigned_abs, IfErr, IsErrAnd}
+use Rattle.std.specs.Prelude.{ℕ, suc, min, ◌≡◌, ◌≢◌, ◌⊎◌, ◌<◌, ◌≤◌, ◌+◌, ◌==◌, Bool, true, false, cond, List, [], ◌∷◌, ◌++◌, length, map, drop, Result, Ok, Err, unsigned_abs, IfErr, IsErrAnd}
 use Rattle.std.proofs.Common.{sym, ◌∙◌, ap, subst, arith, refl, get_or, inl, inr}
-use Rattle.std.proofs.lemmas.Int.{ints}
 use Rattle.std.proofs.lemmas.List.{drop_more}
 use Rattle.std.specs.declared.vec.Vec.{Vec}
 use Rattle.std.specs.declared.alloc.Global.{Global}
-use Rattle.std.proofs.lemmas.Option.{slice_get-get_or}
 use Rattle.int_simplex.specs.declared.trouble.Trouble.{Trouble}
 use Rattle.int_simplex.specs.declared.trouble.Trouble.TheVariants as t
-use lib.IntN.{ℤ, pos, negsuc, ◌+ℤ◌, ◌-ℤ◌, ◌*ℤ◌, neg_ℤ, *ℤ-zero}
+use lib.IntN.{ℤ, pos, ◌+ℤ◌, ◌-ℤ◌, ◌*ℤ◌, *ℤ-zero}
 use Rattle.kind_num.specs.Exact.{IsExact, within}
 use Rattle.kind_num.specs.declared.Past.{Past}
-use Rattle.kind_num.specs.declared.Op.TheVariants.{Mul, Sub}
+use Rattle.kind_num.specs.declared.Op.TheVariants.{Sub}
 use Rattle.kind_num.proofs.Ring.{sum_times}
 use Rattle.proof_steps.specs.Rows.{entry}
-use Rattle.int_simplex.specs.Given.{column_of}
-use Rattle.int_simplex.specs.Crossing.{IsCross, IsCrossPast, IsRowPast, IsReduced, IsPivoted, IsCrossed, HasEntry, HasEntries, crossed, scaled}
+use Rattle.int_simplex.specs.Crossing.{IsCross, IsCrossPast, IsRowPast, IsReduced, IsPivoted, HasEntry, HasEntries, crossed, scaled}
 use Rattle.int_simplex.specs.Sparse.{IsFrom, IsSparse, head_at, rest_at, first_column}
 use Rattle.int_simplex.specs.Making.{IsMadeTo}
-use Rattle.int_simplex.proofs.Sparse.{same_if, other_if, entry_below, entry_past, head_is, rest_from, rest_same, first_from, from_end, listed_entry, entry_listed, entry_at, sparse_more, sparse_wider, lower_start, entry_more, entry_last}
+use Rattle.int_simplex.proofs.Sparse.{same_if, other_if, entry_below, entry_past, head_is, rest_from, rest_same, first_from, listed_entry, sparse_more, sparse_wider, lower_start, entry_more, entry_last}
 use Rattle.int_simplex.proofs.Algebra.{difference_zero}
 
 pub cross_sub : (p q a b l r : ℤ) (o : Result ℤ Past) → IsExact Sub l r (l -ℤ r) o → l ≡ p *ℤ a → r ≡ q *ℤ b → IsCross p q a b o
@@ -35,7 +32,6 @@ pub scaled_more : (g : ℕ) (row out : List (ℕ × ℤ)) (i : ℕ) (z w : ℕ �
     → map (scaled g) (out ++ w ∷ []) ++ drop (i + 1) row ≡ map (scaled g) out ++ drop i row
 scaled_more g row [] i z w h e = ap (λ x. x ∷ drop (i + 1) row) e ∙ sym (drop_more row i z h)
 scaled_more g row (x ∷ out) i z w h e = ap (λ y. scaled g x ∷ y) (scaled_more g row out i z w h e)
-
 
 -- what is made below n, and a next column
 pub made_none : (f : ℕ → ℤ) → IsMadeTo 0 f []
@@ -192,6 +188,7 @@ crossing_end columns next c p q row other left right out x a h =
     made_all next columns (crossed p q row other) out x.made x.within (λ k i. by k i) where
       split : (k c : ℕ) → (k < c) ⊎ (c ≤ k)
       split k c = grind arith
+
       by : (k : ℕ) → next ≤ k → crossed p q row other k ≡ pos 0
       by k i = elim (split k c) [
         | inl b ↦ a.zero k i b

@@ -1,16 +1,16 @@
 -- Where the columns outside the basis stand after a check.
-use Rattle.std.specs.Prelude.{ℕ, zero, suc, ◌≡◌, ◌≢◌, ◌⊎◌, ◌==◌, ◌<◌, ◌+◌, Bool, true, false, cond, List, [], ◌∷◌, length, map, Contains, Option, Some, None, slice_get}
+use Rattle.std.specs.Prelude.{ℕ, zero, suc, ◌≡◌, ◌≢◌, ◌⊎◌, ◌==◌, Bool, true, false, List, [], ◌∷◌, map, Contains, Option, Some, None}
 use Rattle.std.specs.Int.{int_max, int_min}
 use Rattle.std.proofs.Common.{sym, ◌∙◌, ap, subst, arith, refl, inl, inr}
 use Rattle.std.proofs.lemmas.Int.{ints}
-use lib.IntN.{ℤ, pos}
+use lib.IntN.{ℤ}
 use Rattle.proof_steps.specs.Pivots.{Position, Pivots, raised, lowered, bound_on, exchanged}
 use Rattle.int_simplex.specs.State.{Standing, plain}
 use Rattle.int_simplex.specs.Leads.{LeadsTo}
 use Rattle.int_simplex.specs.Running.{AreTables}
 use Rattle.int_simplex.proofs.Sparse.{by_test, same_if, other_if}
 use Rattle.int_simplex.proofs.Tables.{bound_stands}
-use Rattle.int_simplex.proofs.Turned.{stays, goes}
+use Rattle.int_simplex.proofs.Turned.{stays}
 
 -- a column stands where it stood, or at one of its bounds that stand
 abbrev pub StandsBy : List Standing → List ℕ → (ℕ → ℤ) → ℕ → ℤ → Type 0

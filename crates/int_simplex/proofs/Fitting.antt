@@ -13,7 +13,7 @@ use Rattle.proof_steps.specs.Pivots.{Position, Pivots, IsPast, raised, lowered, 
 use Rattle.int_simplex.specs.State.{Standing, plain, is_in}
 use Rattle.int_simplex.specs.Given.{IsWithin}
 use Rattle.int_simplex.specs.Inner.{IsCombination, IsRowAt}
-use Rattle.int_simplex.specs.Points.{IsFraction, Point, HasValues, IsInside, Meets, Fit}
+use Rattle.int_simplex.specs.Points.{IsFraction, Point, IsInside, Fit}
 use Rattle.int_simplex.specs.Farkas.{turned}
 use Rattle.int_simplex.specs.Valued.{place_at}
 use Rattle.int_simplex.specs.Leads.{LeadsTo}
@@ -131,6 +131,7 @@ further : (k j : ℕ) → k ≤ j → j ≢ k → suc k ≤ j
 further k j h n = by (test k j) where
   test : (k j : ℕ) → (k < j) ⊎ (j ≤ k)
   test k j = grind arith
+
   by : (k < j) ⊎ (j ≤ k) → suc k ≤ j
   by (inl l) = omega arith
   by (inr l) = absurd (n (omega arith))
@@ -332,11 +333,15 @@ module _ (given : List (List (ℕ × ℤ))) (columns : ℕ) (bounds : List Stand
       (inside (get_or bounds k d).upper (get_or bounds k d).column w.0 (a.of_columns k d h) w.1)
 
   fit : Fit given bounds values
-  fit = (record { tops = tops values; bottom = whole values }, record { positive = above-none; same = same-value values }, record {
-    positive = above-none;
-    on_rows = given-sum given columns basis rows places values kept;
-    in_bounds = in-bound;
-  })
+  fit = (
+    record { tops = tops values; bottom = whole values },
+    record { positive = above-none; same = same-value values },
+    record {
+      positive = above-none;
+      on_rows = given-sum given columns basis rows places values kept;
+      in_bounds = in-bound;
+    },
+  )
 
 -- where no column of the basis misses a bound after a run, the values fit
 pub fit_after : (given : List (List (ℕ × ℤ))) (columns : ℕ) (bounds : List Standing) (lowers uppers : List (Option (ℤ × ℕ))) → AreTables columns bounds lowers uppers

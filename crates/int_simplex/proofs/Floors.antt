@@ -1,7 +1,7 @@
 -- A fraction compared with a limit by its floor.
 use Prim.Native.Nat.{◌∣◌}
-use Rattle.std.specs.Prelude.{ℕ, zero, suc, ◌≡◌, ◌≢◌, ◌⊎◌, ◌↔◌, Bool, true, false, unsigned_abs, ◌*◌}
-use Rattle.std.proofs.Common.{sym, ◌∙◌, ap, subst, arith, refl, inl, inr}
+use Rattle.std.specs.Prelude.{ℕ, ◌≡◌, ◌≢◌, ◌↔◌, Bool, true, false, unsigned_abs}
+use Rattle.std.proofs.Common.{sym, ◌∙◌, ap, subst, arith, refl}
 use Rattle.std.proofs.lemmas.Int.{ints, by_lt_z, unsigned_abs-mul}
 use Rattle.std.proofs.Math.Nat.{dvd-mul_right}
 use Rattle.std.proofs.lemmas.Nat.Gcd.{dvd_refl}
@@ -9,7 +9,6 @@ use lib.IntN.{ℤ, pos, negsuc, ◌+ℤ◌, ◌*ℤ◌, *ℤ_comm}
 use lib.Signed.{◌≤ℤ◌, ◌<ℤ◌, lt_z}
 use Rattle.kind_num.specs.Division.{IsFloor}
 use Rattle.kind_num.proofs.Ring.{sum_times}
-use Rattle.proof_steps.specs.Pivots.{IsPast}
 use Rattle.int_simplex.specs.Points.{IsFraction}
 use Rattle.int_simplex.proofs.Once.{times_lt}
 

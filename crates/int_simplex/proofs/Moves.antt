@@ -1,34 +1,33 @@
 -- What the choice of columns says of Bland's rule.
 use Prim.Native.Nat.{◌∣◌}
-use Rattle.std.specs.Prelude.{ℕ, zero, suc, ◌≡◌, ◌≢◌, ◌⊎◌, ◌==◌, ◌<◌, ◌≤◌, Bool, true, false, cond, List, [], ◌∷◌, length, map, All, Contains, Option, Some, None, slice_get, unsigned_abs}
+use Rattle.std.specs.Prelude.{ℕ, zero, suc, ◌≡◌, ◌≢◌, ◌==◌, ◌<◌, Bool, true, false, cond, List, [], ◌∷◌, length, map, All, Contains, Option, Some, None, slice_get, unsigned_abs}
 use Rattle.std.proofs.Common.{sym, ◌∙◌, ap, subst, arith, refl, inl, inr, get_or}
 use Rattle.std.proofs.lemmas.Int.{ints, by_lt_z}
 use Rattle.std.proofs.lemmas.Option.{slice_get_within, slice_get-get_or}
 use lib.IntN.{ℤ, pos, negsuc, ◌+ℤ◌, ◌-ℤ◌, ◌*ℤ◌, neg_ℤ, *ℤ_comm, *ℤ-zero, zero-*ℤ}
 use lib.Signed.{◌≤ℤ◌, ◌<ℤ◌, lt_z}
-use Rattle.kind_num.proofs.Ring.{times_times, times_neg, neg_times, sum_times, times_sum, times_le}
-use Rattle.proof_steps.specs.Rows.{HasValue, IsRow, AllDiffer, combined, entry, rest_below}
-use Rattle.proof_steps.specs.Pivots.{Position, Misses, CanEnter, HasRoom, Pivots, IsPast, CanRise, CanFall, bound_on, lower, upper, exchanged}
+use Rattle.kind_num.proofs.Ring.{times_times, times_neg, neg_times, times_sum, times_le}
+use Rattle.proof_steps.specs.Rows.{HasValue, AllDiffer, combined, entry, rest_below}
+use Rattle.proof_steps.specs.Pivots.{Position, Misses, CanEnter, HasRoom, Pivots, IsPast, CanRise, CanFall, lower, upper}
 use Rattle.proof_steps.specs.Stopped.{signed}
 use Rattle.proof_steps.specs.Meaning.{sum_of}
 use Rattle.std.proofs.lemmas.List.Elements.{All-cons}
 use Rattle.int_simplex.specs.Given.{column_of}
-use Rattle.int_simplex.specs.Farkas.{turned, weight, limits, Refutes, IsOfOneRow, IsRefuted}
+use Rattle.int_simplex.specs.Farkas.{turned, weight, limits, IsRefuted}
 use Rattle.int_simplex.specs.Refuting.{stop_side, stop_limit, part_of, literal_in}
 use Rattle.int_simplex.specs.State.{Standing, plain}
-use Rattle.int_simplex.specs.Inner.{IsCombination, IsRowAt, AreRows, IsFree, read_off}
+use Rattle.int_simplex.specs.Inner.{IsRowAt, read_off}
 use Rattle.int_simplex.specs.Sparse.{IsSparse}
-use Rattle.int_simplex.specs.Valued.{place_at, rest_in, AreValues, IsRowValue}
-use Rattle.int_simplex.specs.Choosing.{IsMissedAt, IsMissed, IsLeavingOf, IsEntering, Enters, CanMove, is_same_side, differs, grows, bare, limit_at, on_side}
-use Rattle.int_simplex.specs.Running.{IsReady, IsKept, AreTables, IsTurn, IsCrossing, IsMove, at}
+use Rattle.int_simplex.specs.Valued.{place_at, rest_in, IsRowValue}
+use Rattle.int_simplex.specs.Choosing.{IsMissedAt, IsLeavingOf, IsEntering, Enters, CanMove, is_same_side, differs, grows, bare, limit_at, on_side}
+use Rattle.int_simplex.specs.Running.{IsKept, AreTables, IsTurn, IsMove, at}
 use Rattle.int_simplex.specs.declared.choosing.Exit.{Exit}
 use Rattle.int_simplex.specs.declared.moving.Move.TheVariants as m
 use Rattle.int_simplex.proofs.Apart.{AreApart, apart}
 use Rattle.int_simplex.proofs.Combos.{crossed-combination, row_at_is}
-use Rattle.int_simplex.proofs.Free.{rows_in_proportion}
-use Rattle.int_simplex.proofs.Once.{times_lt, once, one_side, same_entering, tops}
+use Rattle.int_simplex.proofs.Once.{times_lt, one_side, same_entering, tops}
 use Rattle.int_simplex.proofs.Places.{same_some, listed_at, at_listed}
-use Rattle.int_simplex.proofs.Sparse.{by_test, same_if, other_if, is_same, is_other, sparse_differ, entry_listed, listed_entry, entry_past}
+use Rattle.int_simplex.proofs.Sparse.{by_test, same_if, other_if, is_same, is_other, sparse_differ, entry_listed, listed_entry}
 use Rattle.int_simplex.proofs.Turned.{there}
 use Rattle.int_simplex.proofs.Tables.{table_bound, table_is, tightest_stands, bare-some, bounds_order}
 use Rattle.int_simplex.proofs.Rests.{rest_is}
@@ -84,6 +83,7 @@ own-below z n = elim (by_test (lt_z (pos 0) z)) [
 ] where
   opposed : (z : ℤ) → pos 0 <ℤ z → neg_ℤ z <ℤ pos 0
   opposed z h = omega (arith, ints)
+
   strict : (z : ℤ) → z ≢ pos 0 → z ≤ℤ pos 0 → z <ℤ pos 0
   strict z n l = by_lt_z z (pos 0) (λ q. q) (λ q. absurd (n (omega (arith, ints))))
 
@@ -130,6 +130,7 @@ giving given columns basis places x e v i r q =
     } where
       above : (z : ℤ) → z <ℤ pos 0 → pos 0 <ℤ neg_ℤ z
       above z h = omega (arith, ints)
+
       twice : (z : ℤ) → z ≡ neg_ℤ (neg_ℤ z)
       twice z = omega (arith, ints)
 
@@ -165,6 +166,7 @@ grows-is true z n = elim (by_test (lt_z (pos 0) z)) [
 ] where
   down : (z : ℤ) → pos 0 <ℤ z → lt_z (pos 0) (neg_ℤ z) ≡ false
   down z h = grind (arith, ints)
+
   up : (z : ℤ) → z ≢ pos 0 → z ≤ℤ pos 0 → lt_z (pos 0) (neg_ℤ z) ≡ true
   up z n h = grind (arith, ints)
 
@@ -259,12 +261,16 @@ module _ (given : List (List (ℕ × ℤ))) (columns : ℕ) (bounds : List Stand
   missed_if x side limit ms h =
       let i = h.value.row.in_basis in let p = placed x i in let g = p.gives in
       let t : g.bottom *ℤ h.top ≡ h.bottom *ℤ g.top = tops given columns asserted here ap-rows kept.ready.free (bounds_order columns bounds lowers uppers tables)
-      x ms g.multipliers h.top h.bottom g.top g.bottom h.value g.value in
-      (p.number, p.value_stands, (
-      table_bound columns bounds lowers uppers tables side x (in-columns x i) ∙ h.bounded,
-      past_same side limit g.top g.bottom p.number.0 p.number.1 g.value.positive p.value.fraction.positive
-      (*ℤ_comm p.number.1 g.top ∙ g.same ∙ *ℤ_comm p.number.0 g.bottom)
-      (past_same side limit h.top h.bottom g.top g.bottom h.value.positive g.value.positive t h.past)))
+      x ms g.multipliers h.top h.bottom g.top g.bottom h.value g.value in (
+        p.number,
+        p.value_stands,
+        (
+          table_bound columns bounds lowers uppers tables side x (in-columns x i) ∙ h.bounded,
+          past_same side limit g.top g.bottom p.number.0 p.number.1 g.value.positive p.value.fraction.positive
+              (*ℤ_comm p.number.1 g.top ∙ g.same ∙ *ℤ_comm p.number.0 g.bottom)
+              (past_same side limit h.top h.bottom g.top g.bottom h.value.positive g.value.positive t h.past),
+        ),
+      )
 
   misses : (x : ℕ) (side : Bool) (limit : ℤ) (p : IsPlaced x) → IsMissedAt values lowers uppers x side limit
       → Misses given columns asserted here x side limit p.gives.multipliers
@@ -428,15 +434,18 @@ turned-size side f e n = elim (by_test (lt_z (pos 0) e)) [
   size-up : (e : ℤ) → pos 0 <ℤ e → pos (unsigned_abs e) ≡ e
   size-up (pos n) h = refl
   size-up (negsuc n) h = absurd (omega (arith, ints))
+
   size-down : (e : ℤ) → e ≤ℤ pos 0 → pos (unsigned_abs e) ≡ neg_ℤ e
   size-down (pos zero) h = refl
   size-down (pos (suc n)) h = absurd (omega (arith, ints))
   size-down (negsuc n) h = refl
+
   up : (side f : Bool) (e : ℤ) → turned (differs (differs true f) side) e ≡ signed side (signed f e)
   up true true e = omega (arith, ints)
   up true false e = refl
   up false true e = refl
   up false false e = refl
+
   down : (side f : Bool) (e : ℤ) → turned (differs (differs false f) side) (neg_ℤ e) ≡ signed side (signed f e)
   down true true e = omega (arith, ints)
   down true false e = refl
@@ -653,11 +662,13 @@ module _ (given : List (List (ℕ × ℤ))) (columns : ℕ) (bounds : List Stand
 
   stops : (k : ℕ) (t : ℕ × ℤ) → slice_get r k ≡ Some t → (t.1 ≢ pos 0) × StopOf bounds r l.column l.side l.limit (place_at places) lowers uppers t
   stops k t et =
-      let w = listed_entry 0 columns r k t the-row et in
-      (w.1, elim (by_test (t.0 == l.column)) [
-        | inl q ↦ own-stop t (same_if t.0 l.column q) w.0
-        | inr q ↦ other-stop t (other_if t.0 l.column q) w.0 w.1 w.2
-      ])
+      let w = listed_entry 0 columns r k t the-row et in (
+        w.1,
+        elim (by_test (t.0 == l.column)) [
+          | inl q ↦ own-stop t (same_if t.0 l.column q) w.0
+          | inr q ↦ other-stop t (other_if t.0 l.column q) w.0 w.1 w.2
+        ],
+      )
 
   -- with its limit in place of its value the row's sum is past 0
   sum-past : (v : ℤ × ℤ) (g : IsGiving given columns basis (place_at places) l.column (entry r) v) → IsPast l.side l.limit g.top g.bottom
@@ -718,6 +729,7 @@ module _ (given : List (List (ℕ × ℤ))) (columns : ℕ) (bounds : List Stand
       } where
         le-lt : (a b : ℤ) → a ≤ℤ b → b <ℤ pos 0 → a <ℤ pos 0
         le-lt a b h i = omega (arith, ints)
+
         sizes-positive : (xs : List (ℕ × ℤ)) → All (λ (p : ℤ × ℕ). pos 0 ≤ℤ p.0) (map (part_of r l.column l.side lowers uppers) xs)
         sizes-positive [] = λ k d h. absurd (omega arith)
         sizes-positive (t ∷ xs) = All-cons (λ (p : ℤ × ℕ). pos 0 ≤ℤ p.0) (part_of r l.column l.side lowers uppers t) (map (part_of r l.column l.side lowers uppers) xs)

@@ -1,19 +1,18 @@
 -- The opposite of a number of a row that is outside 128 bits is a true stop: the number 1 by which it is
 -- multiplied is the multiplier of a given row.
-use Rattle.std.specs.Prelude.{ℕ, zero, suc, ◌≡◌, ◌≢◌, ◌<◌, ◌+◌, false, List, [], ◌∷◌, ◌++◌, length, map, max, All, Contains, Some, slice_get}
-use Rattle.std.proofs.Common.{sym, ◌∙◌, ap, subst, arith, inl, inr, refl, get_or}
+use Rattle.std.specs.Prelude.{ℕ, suc, ◌≡◌, ◌<◌, false, List, [], ◌∷◌, ◌++◌, length, map, All, Contains, Some, slice_get}
+use Rattle.std.proofs.Common.{sym, ◌∙◌, ap, subst, arith, inl, refl, get_or}
 use Rattle.std.proofs.lemmas.List.{length-map, get_or-map}
 use Rattle.std.proofs.lemmas.List.Elements.{All-nil, All-cons}
 use Rattle.std.proofs.lemmas.Option.{slice_get_within, get_or_from_slice_get}
-use Rattle.std.proofs.lemmas.Int.{ints}
-use lib.IntN.{ℤ, pos, negsuc, ◌+ℤ◌, ◌-ℤ◌, ◌*ℤ◌, neg_ℤ, +ℤ_idr}
+use lib.IntN.{ℤ, pos, negsuc, ◌-ℤ◌, ◌*ℤ◌, neg_ℤ, +ℤ_idr}
 use Rattle.kind_num.specs.Exact.{within}
 use Rattle.kind_num.specs.declared.Op.TheVariants.{Sub}
 use Rattle.proof_steps.specs.Rows.{IsBasis, IsRow, AllDiffer, entry}
 use Rattle.proof_steps.specs.Stopped.{Row, IsRowOf, IsPastStep, Product, IsProduct, IsOfOther, numbers}
 use Rattle.int_simplex.specs.Given.{AreGiven, column_of, IsWithin, last_column, last_columns}
 use Rattle.int_simplex.specs.Inner.{IsRowAt, read_off}
-use Rattle.int_simplex.proofs.Places.{mapped_at, get-append, get-last, listed_at, at_listed}
+use Rattle.int_simplex.proofs.Places.{mapped_at, get-append, listed_at, at_listed}
 use Rattle.int_simplex.proofs.Combos.{row_at_is}
 use Rattle.int_simplex.proofs.Apart.{apart, end-at}
 use Rattle.int_simplex.proofs.First.{row_first, first_differ, place-of, times-one}

@@ -1,5 +1,5 @@
 -- By what the rows of a check are multiplied: limits, and where columns stand as it begins.
-use Rattle.std.specs.Prelude.{ℕ, zero, suc, ◌≡◌, ◌≢◌, ◌⊎◌, ◌<◌, ◌≤◌, ◌+◌, Bool, true, false, cond, List, [], ◌∷◌, length, Contains, Option, Some, None, slice_get}
+use Rattle.std.specs.Prelude.{ℕ, zero, suc, ◌≡◌, ◌≢◌, ◌⊎◌, ◌<◌, ◌≤◌, ◌+◌, Bool, true, false, cond, List, [], ◌∷◌, Contains, Option, Some, None, slice_get}
 use Rattle.std.proofs.Common.{sym, ◌∙◌, ap, subst, arith, refl, inl, inr, get_or}
 use Rattle.std.proofs.lemmas.Option.{slice_get-get_or}
 use lib.IntN.{ℤ, pos, negsuc}
@@ -152,13 +152,13 @@ top-of n (u ∷ values) basis z h = either (is_in basis n) (top-of (suc n) value
   either false r t h = elim (number-or u.0 (tops-from (suc n) values basis) z h) [
     | inr w ↦ top-later n u values basis z (r w)
     | inl (e, d) ↦ record {
-        place = 0;
-        value = u;
-        stands = refl;
-        outside = let m : n + 0 ≡ n = omega arith in ap (is_in basis) m ∙ t;
-        top = e;
-        not_zero = d;
-      }
+      place = 0;
+      value = u;
+      stands = refl;
+      outside = let m : n + 0 ≡ n = omega arith in ap (is_in basis) m ∙ t;
+      top = e;
+      not_zero = d;
+    }
   ]
 
 limit-listed : (bounds : List Standing) (rest : List ℤ) (b : Standing) → Contains bounds b → Contains (limits-then bounds rest) b.limit

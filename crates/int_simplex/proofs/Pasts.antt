@@ -1,16 +1,15 @@
 -- An operation over two rows of a basis that is outside 128 bits is a true stop.
-use Rattle.std.specs.Prelude.{ℕ, zero, suc, ◌≡◌, ◌≢◌, ◌⊎◌, ◌<◌, Bool, true, false, List, [], ◌∷◌, ◌++◌, length, map, All, Contains, Some, slice_get}
-use Rattle.std.proofs.Common.{sym, ◌∙◌, ap, subst, arith, inl, inr, refl, get_or}
+use Rattle.std.specs.Prelude.{ℕ, zero, suc, ◌≡◌, ◌≢◌, ◌⊎◌, ◌<◌, false, List, [], ◌∷◌, length, map, All, Contains, Some, slice_get}
+use Rattle.std.proofs.Common.{sym, ◌∙◌, ap, subst, arith, inl, inr, refl}
 use Rattle.std.proofs.lemmas.List.{length-map}
 use Rattle.std.proofs.lemmas.List.Elements.{All-nil, All-cons}
-use Rattle.std.proofs.lemmas.Option.{slice_get_within, slice_get-get_or}
+use Rattle.std.proofs.lemmas.Option.{slice_get_within}
 use Rattle.std.proofs.lemmas.Int.{ints}
-use lib.IntN.{ℤ, pos, negsuc, ◌+ℤ◌, ◌-ℤ◌, ◌*ℤ◌, *ℤ_comm, +ℤ_idr, *ℤ-zero, zero-*ℤ}
+use lib.IntN.{ℤ, pos, negsuc, ◌-ℤ◌, ◌*ℤ◌, *ℤ_comm, +ℤ_idr, *ℤ-zero, zero-*ℤ}
 use Rattle.kind_num.specs.Exact.{within}
 use Rattle.kind_num.specs.declared.Past.{Past}
-use Rattle.kind_num.specs.declared.Op.TheVariants.{Mul, Sub}
-use Rattle.proof_steps.specs.StopView.{Operation}
-use Rattle.proof_steps.specs.Rows.{IsBasis, IsRow, AllDiffer, entry, combined}
+use Rattle.kind_num.specs.declared.Op.TheVariants.{Sub}
+use Rattle.proof_steps.specs.Rows.{IsBasis, AllDiffer, entry}
 use Rattle.proof_steps.specs.Stopped.{Row, IsRowOf, IsPastStep, Product, IsProduct, AreOperands, IsOfOther, numbers, total, signed}
 use Rattle.int_simplex.specs.Inner.{IsRowAt, AreRows, read_off}
 use Rattle.int_simplex.specs.Sparse.{IsSparse}

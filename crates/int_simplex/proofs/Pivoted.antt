@@ -1,15 +1,14 @@
 -- A pivot keeps the rows those of a basis.
-use Prim.Native.Nat.{◌∣◌}
-use Rattle.std.specs.Prelude.{ℕ, suc, ◌≡◌, ◌≢◌, ◌⊎◌, ◌<◌, ◌==◌, Bool, true, false, cond, List, map, length, Contains, Option, Some, None, slice_get, unsigned_abs}
+use Rattle.std.specs.Prelude.{ℕ, ◌≡◌, ◌≢◌, ◌⊎◌, ◌<◌, ◌==◌, Bool, true, false, cond, List, map, length, Contains, Option, Some, None, slice_get}
 use Rattle.std.specs.Option.{option_map}
 use Rattle.std.proofs.lemmas.Option.{slice_get-map}
-use Rattle.std.proofs.Common.{sym, ◌∙◌, ap, subst, arith, inl, inr, get_or, refl}
+use Rattle.std.proofs.Common.{sym, ◌∙◌, ap, arith, inl, inr, get_or, refl}
 use Rattle.std.proofs.lemmas.List.{length-map, get_or-map}
 use Rattle.std.proofs.lemmas.Int.{ints}
 use Rattle.std.proofs.lemmas.Bool.Decides.{nat_tests}
-use lib.IntN.{ℤ, pos, ◌+ℤ◌, ◌-ℤ◌, ◌*ℤ◌, neg_ℤ, *ℤ-zero}
+use lib.IntN.{ℤ, pos, ◌-ℤ◌, ◌*ℤ◌, *ℤ-zero}
 use Rattle.proof_steps.specs.Pivots.{exchanged}
-use Rattle.int_simplex.specs.Inner.{IsCombination, IsRowAt}
+use Rattle.int_simplex.specs.Inner.{IsRowAt}
 use Rattle.int_simplex.specs.Crossing.{IsCrossed}
 use Rattle.int_simplex.proofs.Algebra.{product_zero, difference_swapped, difference_zero}
 use Rattle.int_simplex.proofs.Combos.{crossed-combination, part-combination}

@@ -1,5 +1,5 @@
 -- Sums of a row's columns at their places.
-use Rattle.std.specs.Prelude.{ℕ, zero, suc, ◌≡◌, ◌≢◌, ◌⊎◌, ◌<◌, ◌≤◌, ◌+◌, ◌==◌, Bool, true, false, cond, List, [], ◌∷◌, ◌++◌, take, length, Some, Result, Ok, Err, IfErr, IsErrAnd, slice_get}
+use Rattle.std.specs.Prelude.{ℕ, zero, suc, ◌≡◌, ◌≢◌, ◌⊎◌, ◌<◌, ◌≤◌, ◌+◌, ◌==◌, Bool, true, false, cond, List, [], ◌∷◌, ◌++◌, take, length, Result, Ok, Err, IfErr, IsErrAnd}
 use Rattle.std.proofs.Common.{sym, ◌∙◌, ap, subst, arith, refl, inl, inr, get_or}
 use Rattle.std.proofs.lemmas.Option.{slice_get-get_or}
 use Rattle.std.proofs.lemmas.Int.{ints}
@@ -139,6 +139,7 @@ below-one c x (suc n) a e f h = elim (by_test (c == n)) [
   here : (b : Bool) (a d v s : ℤ) → cond b s ((a +ℤ d) *ℤ v +ℤ s) ≡ cond b (cond b s (d *ℤ v +ℤ s)) (a *ℤ v +ℤ cond b s (d *ℤ v +ℤ s))
   here true a d v s = refl
   here false a d v s = let e : (a +ℤ d) *ℤ v ≡ a *ℤ v +ℤ d *ℤ v = times_sum a d v in omega (arith, ints)
+
   there : (b d : Bool) (p q s : ℤ) → cond b (cond d s (p +ℤ s)) (q +ℤ cond d s (p +ℤ s)) ≡ cond d (cond b s (q +ℤ s)) (p +ℤ cond b s (q +ℤ s))
   there true true p q s = refl
   there true false p q s = refl

@@ -1,14 +1,14 @@
 -- The fields of a tableau after its bounds changed.
-use Rattle.std.specs.Prelude.{ℕ, zero, suc, ◌≡◌, ◌≢◌, ◌⊎◌, ◌==◌, ◌<◌, ◌≤◌, ◌+◌, Bool, true, false, List, [], ◌∷◌, ◌++◌, length, map, take, All, Contains, Option, Some, None, slice_get, slice_set}
+use Rattle.std.specs.Prelude.{ℕ, zero, suc, ◌≡◌, ◌⊎◌, ◌<◌, ◌≤◌, ◌+◌, Bool, true, false, List, [], ◌∷◌, ◌++◌, length, map, take, All, Option, slice_set}
 use Rattle.std.proofs.Common.{sym, ◌∙◌, ap, subst, arith, refl, inl, inr, get_or}
 use Rattle.std.proofs.lemmas.List.{map-append}
 use Rattle.std.proofs.lemmas.List.Elements.{All-nil, All-cons}
 use Rattle.std.proofs.lemmas.Option.{slice_get_within, slice_get-get_or}
-use lib.IntN.{ℤ, pos}
+use lib.IntN.{ℤ}
 use Rattle.proof_steps.specs.Meaning.{as_said}
 use Rattle.int_simplex.specs.State.{Standing, State}
 use Rattle.int_simplex.specs.Bounds.{tightest, tighter}
-use Rattle.int_simplex.specs.Sound.{IsSound, IsUncrossed, IsValueOf}
+use Rattle.int_simplex.specs.Sound.{IsSound, IsUncrossed}
 use Rattle.int_simplex.specs.Inner.{standing, AreLimits, AreBefore, IsWithinColumns}
 use Rattle.int_simplex.specs.declared.table.Asserted.{Asserted}
 use Rattle.int_simplex.proofs.Places.{same_some, get-append, get-last}

@@ -1,14 +1,13 @@
 -- Sparse rows.
-use Rattle.std.specs.Prelude.{ℕ, zero, suc, ◌≡◌, ◌≢◌, ◌⊎◌, ◌==◌, ◌<◌, ◌≤◌, ◌+◌, Bool, true, false, cond, List, [], ◌∷◌, ◌++◌, length, map, All, Contains, Some, None, slice_get}
+use Rattle.std.specs.Prelude.{ℕ, zero, suc, ◌≡◌, ◌≢◌, ◌⊎◌, ◌==◌, ◌<◌, ◌≤◌, ◌+◌, Bool, true, false, cond, List, [], ◌∷◌, ◌++◌, map, Contains, Some, slice_get}
 use Rattle.std.proofs.Common.{sym, ◌∙◌, ap, subst, arith, refl, inl, inr, get_or}
 use Rattle.std.proofs.lemmas.Int.{ints}
 use Rattle.std.proofs.lemmas.Bool.Decides.{nat_tests}
-use Rattle.std.proofs.lemmas.List.{length-map, get_or-map}
-use lib.IntN.{ℤ, pos, negsuc, ◌+ℤ◌}
+use lib.IntN.{ℤ, pos, ◌+ℤ◌}
 use Rattle.proof_steps.specs.Rows.{entry, AllDiffer}
 use Rattle.int_simplex.specs.Given.{column_of, IsInOrder, IsWithin, HasNoZero}
 use Rattle.int_simplex.specs.Sparse.{IsFrom, IsSparse, head_at, rest_at, first_column}
-use Rattle.int_simplex.proofs.Places.{same_some, at_listed}
+use Rattle.int_simplex.proofs.Places.{same_some}
 
 pub by_test : (b : Bool) → (b ≡ true) ⊎ (b ≡ false)
 by_test true = inl refl
@@ -187,9 +186,11 @@ pub entry_last : (row : List (ℕ × ℤ)) (c : ℕ) (z : ℤ) → entry row c �
 entry_last row c z e = added row c z ∙ swap (entry row c) z e where
   swap : (s z : ℤ) → s ≡ pos 0 → s +ℤ z ≡ z
   swap s z e = omega (arith, ints)
+
   step : (b : Bool) (a s z w : ℤ) → w ≡ s +ℤ z → cond b (a +ℤ w) w ≡ cond b (a +ℤ s) s +ℤ z
   step true a s z w e = omega (arith, ints)
   step false a s z w e = e
+
   added : (row : List (ℕ × ℤ)) (c : ℕ) (z : ℤ) → entry (row ++ (c, z) ∷ []) c ≡ entry row c +ℤ z
   added [] c z = entry_takes (c, z) [] c refl ∙ nothing z where
     nothing : (z : ℤ) → z +ℤ pos 0 ≡ pos 0 +ℤ z

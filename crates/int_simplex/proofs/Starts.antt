@@ -1,17 +1,16 @@
 -- Where a check begins.
 use Rattle.std.specs.Prelude.{ℕ, zero, suc, ◌≡◌, ◌≢◌, ◌⊎◌, ◌<◌, ◌≤◌, ◌+◌, ◌==◌, ◌||◌, Bool, true, false, cond, List, [], ◌∷◌, ◌++◌, drop, length, Contains, MatchOption, is_none, Option, Some, None, slice_get}
-use Rattle.std.specs.List.{list_any}
-use Rattle.std.proofs.Common.{sym, ◌∙◌, ap, subst, arith, refl, inl, inr, get_or, append_assoc}
+use Rattle.std.proofs.Common.{sym, ◌∙◌, ap, arith, refl, inl, inr, get_or, append_assoc}
 use Rattle.std.proofs.lemmas.List.{drop_more, drop_all}
-use Rattle.std.proofs.lemmas.Option.{slice_get-get_or, slice_get_within}
+use Rattle.std.proofs.lemmas.Option.{slice_get-get_or}
 use lib.IntN.{ℤ, pos}
 use Rattle.proof_steps.specs.Pivots.{raised, lowered}
 use Rattle.int_simplex.specs.State.{is_in, outside_from, top_of}
 use Rattle.int_simplex.specs.Choosing.{bare, limit_at}
 use Rattle.int_simplex.specs.Valued.{place_at, place_of}
 use Rattle.int_simplex.specs.Running.{start_place, AreFirst}
-use Rattle.int_simplex.proofs.Places.{listed_at, at_listed, get-append, get-last, same_some}
-use Rattle.int_simplex.proofs.Sparse.{by_test, same_if, other_if, is_other, is_same}
+use Rattle.int_simplex.proofs.Places.{listed_at, get-append, get-last}
+use Rattle.int_simplex.proofs.Sparse.{by_test, same_if, is_other, is_same}
 
 -- whether a column is in the basis
 pub is_in_yes : (basis : List ℕ) (c : ℕ) → Contains basis c → is_in basis c ≡ true

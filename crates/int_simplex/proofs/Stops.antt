@@ -1,28 +1,27 @@
 -- What stops a run is a true stop.
-use Rattle.std.specs.Prelude.{ℕ, zero, suc, ◌≡◌, ◌≢◌, ◌⊎◌, ◌==◌, ◌<◌, ◌≤◌, ◌+◌, Bool, true, false, cond, List, [], ◌∷◌, ◌++◌, take, length, map, All, Contains, Option, Some, None, Result, Ok, Err, IfErr, IsErrAnd, slice_get}
+use Rattle.std.specs.Prelude.{ℕ, zero, suc, ◌≡◌, ◌≢◌, ◌⊎◌, ◌==◌, ◌<◌, ◌≤◌, ◌+◌, false, cond, List, [], ◌∷◌, ◌++◌, take, length, map, All, Contains, Some, Result, Ok, Err, IfErr, IsErrAnd, slice_get}
 use Rattle.std.proofs.Common.{sym, ◌∙◌, ap, subst, arith, refl, inl, inr, get_or}
 use Rattle.std.proofs.lemmas.List.Elements.{All-nil, All-cons}
 use Rattle.std.proofs.lemmas.Option.{slice_get_within, slice_get-get_or}
 use Rattle.std.proofs.lemmas.List.{length-map}
 use Rattle.std.proofs.lemmas.Int.{ints}
-use Rattle.std.proofs.lemmas.Bool.Decides.{nat_tests}
-use lib.IntN.{ℤ, pos, negsuc, ◌+ℤ◌, ◌-ℤ◌, ◌*ℤ◌, neg_ℤ, *ℤ-zero, +ℤ_idr}
+use lib.IntN.{ℤ, pos, negsuc, ◌+ℤ◌, ◌*ℤ◌, *ℤ-zero, +ℤ_idr}
 use Rattle.kind_num.specs.Exact.{within}
 use Rattle.kind_num.specs.declared.Past.{Past}
-use Rattle.kind_num.specs.declared.Op.TheVariants.{Add, Sub, Mul}
+use Rattle.kind_num.specs.declared.Op.TheVariants.{Add, Mul}
 use Rattle.proof_steps.specs.StopView.{past_view}
 use Rattle.proof_steps.specs.Rows.{IsBasis, AllDiffer, entry}
-use Rattle.proof_steps.specs.Stopped.{Row, IsRowOf, IsPastStep, Product, IsProduct, AreOperands, IsOfOther, numbers, total, result_of}
-use Rattle.int_simplex.specs.Given.{AreGiven, column_of, last_column, last_columns}
-use Rattle.int_simplex.specs.Inner.{IsRowAt, read_off, AreRows}
+use Rattle.proof_steps.specs.Stopped.{Row, IsRowOf, IsPastStep, Product, IsProduct, AreOperands, numbers, total, result_of}
+use Rattle.int_simplex.specs.Given.{last_column, last_columns}
+use Rattle.int_simplex.specs.Inner.{IsRowAt, read_off}
 use Rattle.int_simplex.specs.Sparse.{IsSparse}
-use Rattle.int_simplex.specs.Valued.{rest_in, IsTermPast, IsRestPast, IsOpposedPast, IsValuePast, IsValuesPast, place_at}
+use Rattle.int_simplex.specs.Valued.{rest_in, IsRestPast, IsOpposedPast, IsValuePast, IsValuesPast, place_at}
 use Rattle.int_simplex.specs.Refuting.{IsSizePast}
-use Rattle.int_simplex.specs.Pivoting.{IsTurnPast, IsNextPast}
-use Rattle.int_simplex.specs.Running.{IsReady, IsStopped, IsCrossing, ArePlacesOf}
+use Rattle.int_simplex.specs.Pivoting.{IsTurnPast}
+use Rattle.int_simplex.specs.Running.{IsReady, IsStopped, ArePlacesOf}
 use Rattle.int_simplex.specs.declared.trouble.Stopped.{Stopped}
 use Rattle.int_simplex.specs.declared.trouble.Stopped.TheVariants as s
-use Rattle.int_simplex.proofs.Places.{listed_at, at_listed, get-append, mapped_at, same_some}
+use Rattle.int_simplex.proofs.Places.{listed_at, get-append, mapped_at, same_some}
 use Rattle.int_simplex.proofs.Combos.{row_at_is}
 use Rattle.int_simplex.proofs.First.{row_first}
 use Rattle.int_simplex.proofs.Opposites.{opposite_past, given_differ, first_basis}
@@ -178,10 +177,13 @@ module _ (given : List (List (ℕ × ℤ))) (columns : ℕ) (others : ℤ → Ty
       rest-stop past (j, t, et, h) = by h.operands where
         p : Product
         p = record { place = j; number = t.1; factor = f t.0; negative = false }
+
         ip : IsProduct others both 0 first (record { place = j; number = t.1; factor = f t.0; negative = false })
         ip = is-product j t et h.placed
+
         m : Sum (take j row) j
         m = sum-to j (let b : j < length row = slice_get_within row j t et in omega arith)
+
         by : (((past ≡ record { op = Mul; left = t.1; right = f t.0 }) × (within (t.1 *ℤ f t.0) ≡ false))
             ⊎ ((past ≡ record { op = Add; left = t.1 *ℤ f t.0; right = rest_in x f (take j row) }) × (within (t.1 *ℤ f t.0 +ℤ rest_in x f (take j row)) ≡ false)))
             → IsPastStep given columns others (Step row g past)

@@ -1,16 +1,15 @@
 -- The tables of limits say what the bounds of a column are.
-use Rattle.std.specs.Prelude.{ℕ, zero, suc, ◌≡◌, ◌≢◌, ◌⊎◌, ◌==◌, ◌<◌, Bool, true, false, cond, List, [], ◌∷◌, ◌++◌, length, map, All, Contains, Option, Some, None, slice_get}
+use Rattle.std.specs.Prelude.{ℕ, suc, ◌≡◌, ◌⊎◌, ◌==◌, ◌<◌, Bool, true, false, cond, List, [], ◌∷◌, map, Contains, Option, Some, None}
 use Rattle.std.specs.List.{fold}
 use Rattle.std.specs.Int.{int_max, int_min}
 use Rattle.std.proofs.Common.{sym, ◌∙◌, ap, subst, arith, refl, inl, inr}
 use Rattle.std.proofs.lemmas.Int.{ints}
-use lib.IntN.{ℤ, pos}
-use lib.Signed.{◌≤ℤ◌, ◌<ℤ◌, lt_z}
+use lib.IntN.{ℤ}
+use lib.Signed.{◌≤ℤ◌, lt_z}
 use Rattle.proof_steps.specs.Meaning.{as_said}
 use Rattle.proof_steps.specs.Pivots.{bound_on, lower, upper, greatest, least}
 use Rattle.int_simplex.specs.State.{Standing, plain}
 use Rattle.int_simplex.specs.Bounds.{tightest, with_bound, tighter, is_tighter}
-use Rattle.int_simplex.specs.Inner.{AreLimits}
 use Rattle.int_simplex.specs.Choosing.{bare, limit_at, limit_in, on_side}
 use Rattle.int_simplex.specs.Running.{AreTables}
 use Rattle.int_simplex.proofs.Sparse.{by_test, same_if}
@@ -131,9 +130,9 @@ from-one c side acc b p e = elim (by_test (b.column == c)) [
     | inl u ↦ elim (from-tighter side acc (b.limit, b.literal) p
         (sym (ap (λ w. cond w (cond (as_said side b.upper) (tighter side acc (b.limit, b.literal)) acc) acc) t
         ∙ ap (λ w. cond w (tighter side acc (b.limit, b.literal)) acc) u) ∙ e)) [
-      | inl q ↦ inl q
-      | inr q ↦ inr (same_if b.column c t, said side b.upper u, ap (λ (w : ℤ × ℕ). w.0) q, ap (λ (w : ℤ × ℕ). w.1) q)
-    ]
+          | inl q ↦ inl q
+          | inr q ↦ inr (same_if b.column c t, said side b.upper u, ap (λ (w : ℤ × ℕ). w.0) q, ap (λ (w : ℤ × ℕ). w.1) q)
+        ]
     | inr u ↦ inl (sym (ap (λ w. cond w (cond (as_said side b.upper) (tighter side acc (b.limit, b.literal)) acc) acc) t
         ∙ ap (λ w. cond w (tighter side acc (b.limit, b.literal)) acc) u) ∙ e)
   ]

@@ -1,5 +1,5 @@
 -- The rows of a tableau after a pivot.
-use Rattle.std.specs.Prelude.{ℕ, zero, suc, ◌≡◌, ◌≢◌, ◌⊎◌, ◌<◌, ◌==◌, Bool, true, false, cond, List, [], ◌∷◌, length, map, Contains, Option, Some, None, slice_get}
+use Rattle.std.specs.Prelude.{ℕ, zero, suc, ◌≡◌, ◌≢◌, ◌<◌, ◌==◌, true, false, cond, List, [], ◌∷◌, length, Contains, Some, slice_get}
 use Rattle.std.proofs.Common.{sym, ◌∙◌, ap, subst, arith, inl, inr, refl, get_or}
 use Rattle.std.proofs.lemmas.List.{length-map}
 use Rattle.std.proofs.lemmas.Option.{slice_get_within, slice_get-get_or}
@@ -10,7 +10,6 @@ use Rattle.proof_steps.specs.Rows.{entry, AllDiffer}
 use Rattle.proof_steps.specs.Pivots.{exchanged}
 use Rattle.int_simplex.specs.Inner.{AreRows, IsRowAt}
 use Rattle.int_simplex.specs.Sparse.{IsSparse}
-use Rattle.int_simplex.specs.Crossing.{IsPivoted, IsCrossed}
 use Rattle.int_simplex.specs.Pivoting.{IsNext, AreNext}
 use Rattle.int_simplex.proofs.Algebra.{product_zero}
 use Rattle.int_simplex.proofs.Places.{same_some, listed_at}

@@ -1,22 +1,20 @@
 -- Fields after a pivot.
-use Rattle.std.specs.Prelude.{ℕ, zero, suc, ◌≡◌, ◌≢◌, ◌⊎◌, ◌==◌, ◌<◌, ◌≤◌, ◌+◌, Bool, true, false, cond, List, [], ◌∷◌, length, map, All, Contains, Option, Some, None, Result, Ok, Err, IfErr, IsErrAnd, slice_get, slice_set}
+use Rattle.std.specs.Prelude.{ℕ, zero, suc, ◌≡◌, ◌≢◌, ◌==◌, ◌<◌, List, [], ◌∷◌, length, map, All, Contains, Some, Result, Ok, Err, IfErr, IsErrAnd, slice_get, slice_set}
 use Rattle.std.proofs.Common.{sym, ◌∙◌, ap, subst, arith, refl, inl, inr, get_or}
-use Rattle.std.proofs.lemmas.List.{length-map, get_or-map, length-set}
+use Rattle.std.proofs.lemmas.List.{length-map}
 use Rattle.std.proofs.lemmas.Option.{slice_get_within, slice_get-get_or, get_or_from_slice_get}
-use Rattle.std.proofs.lemmas.Bool.Decides.{nat_tests}
 use lib.IntN.{ℤ, pos}
 use Rattle.proof_steps.specs.Rows.{entry, AllDiffer}
-use Rattle.proof_steps.specs.Pivots.{Position, exchanged}
-use Rattle.int_simplex.specs.Inner.{AreRows, IsFree}
+use Rattle.proof_steps.specs.Pivots.{exchanged}
 use Rattle.int_simplex.specs.Pivoting.{AreNext}
-use Rattle.int_simplex.specs.Valued.{place_at, place_of, AreValues}
-use Rattle.int_simplex.specs.Running.{IsReady, IsKept, IsCrossing, ArePlacesOf, IsStopped}
+use Rattle.int_simplex.specs.Valued.{place_at, place_of}
+use Rattle.int_simplex.specs.Running.{IsReady, IsCrossing, ArePlacesOf, IsStopped}
 use Rattle.int_simplex.specs.declared.choosing.Exit.{Exit}
 use Rattle.int_simplex.specs.declared.trouble.Stopped.{Stopped}
 use Rattle.int_simplex.proofs.Places.{same_some, listed_at, at_listed}
-use Rattle.int_simplex.proofs.Pivoted.{after, after_at, exchanged-cases}
+use Rattle.int_simplex.proofs.Pivoted.{after_at, exchanged-cases}
 use Rattle.int_simplex.proofs.Free.{free_after}
-use Rattle.int_simplex.proofs.Turned.{place_once, stays, goes, rows_after, there}
+use Rattle.int_simplex.proofs.Turned.{place_once, stays, goes, rows_after}
 use Rattle.int_simplex.proofs.Nexts.{set_same, set_other}
 use Rattle.int_simplex.proofs.Stops.{turn_result, values_result}
 use Rattle.int_simplex.specs.Pivoting.{IsTurnPast}

@@ -1,11 +1,9 @@
 -- The values of all columns, one row of the basis after the other.
-use Rattle.std.specs.Prelude.{ℕ, zero, suc, ◌≡◌, ◌≢◌, ◌⊎◌, ◌<◌, ◌≤◌, ◌+◌, List, [], ◌∷◌, length, map, Contains, All, Some, Result, Ok, Err, IfErr, IsErrAnd, slice_get, slice_set}
+use Rattle.std.specs.Prelude.{ℕ, ◌≡◌, ◌⊎◌, ◌<◌, ◌≤◌, ◌+◌, List, [], ◌∷◌, length, map, Contains, Some, slice_get, slice_set}
 use Rattle.std.specs.Option.{option_map}
-use Rattle.std.proofs.Common.{sym, ◌∙◌, ap, subst, arith, refl, inl, inr, get_or}
+use Rattle.std.proofs.Common.{sym, ◌∙◌, ap, subst, arith, inl, inr}
 use Rattle.std.proofs.lemmas.List.{length-set, length-map}
-use Rattle.std.proofs.lemmas.Option.{slice_get-get_or, slice_get_within, slice_get-map}
-use Rattle.std.specs.declared.vec.Vec.{Vec}
-use Rattle.std.specs.declared.alloc.Global.{Global}
+use Rattle.std.proofs.lemmas.Option.{slice_get_within, slice_get-map}
 use lib.IntN.{ℤ, pos}
 use Rattle.kind_num.specs.declared.Past.{Past}
 use Rattle.proof_steps.specs.Rows.{AllDiffer}
@@ -71,7 +69,14 @@ pub values_past : (given : List (List (ℕ × ℤ))) (basis : List ℕ) (rows : 
     → IsOver r1 g1 past e → IsValuePast x f row past → IsValuesPast given basis rows f e
 values_past given basis rows f k x row g r1 g1 past (s.Memory m) ex er eg a b o v = tt
 values_past given basis rows f k x row g r1 g1 past (s.Past step) ex er eg a b o v = (
-  k, x, row, g, past, ex, er, eg,
+  k,
+  x,
+  row,
+  g,
+  past,
+  ex,
+  er,
+  eg,
   o ∙ ap (λ (z : List (ℕ × ℤ)). record { rows = z ∷ g1 ∷ []; past = past }) a ∙ ap (λ (z : List (ℕ × ℤ)). record { rows = row ∷ z ∷ []; past = past }) b,
   v,
 )

@@ -1,16 +1,16 @@
 -- Runs of Bland's rule, pivot after pivot.
 use Prim.Native.Nat.{◌∣◌}
-use Rattle.std.specs.Prelude.{ℕ, zero, suc, ◌≡◌, ◌≢◌, ◌⊎◌, ◌==◌, ◌<◌, ◌≤◌, ◌+◌, ◌-◌, Bool, true, false, cond, List, [], ◌∷◌, length, map, All, Contains, Option, Some, Result, Ok, Err, IfErr, IsErrAnd, slice_set, unsigned_abs}
+use Rattle.std.specs.Prelude.{ℕ, zero, suc, ◌≡◌, ◌≢◌, ◌==◌, ◌<◌, ◌≤◌, ◌+◌, ◌-◌, Bool, true, false, cond, List, [], ◌∷◌, length, map, All, Option, Some, Result, Ok, Err, IfErr, IsErrAnd, slice_set, unsigned_abs}
 use Rattle.std.proofs.lemmas.List.Elements.{All-cons}
 use Rattle.std.proofs.lemmas.Int.{ints}
 use Rattle.std.proofs.Common.{sym, ◌∙◌, ap, subst, arith, refl, inl, inr}
 use lib.IntN.{ℤ, pos, negsuc, neg_ℤ}
-use lib.Signed.{◌≤ℤ◌, ◌<ℤ◌}
-use Rattle.proof_steps.specs.Rows.{IsRow, combined}
+use lib.Signed.{◌≤ℤ◌}
+use Rattle.proof_steps.specs.Rows.{combined}
 use Rattle.proof_steps.specs.Pivots.{Position, Pivots, CanPivot, HasRoom, lower, upper, exchanged}
 use Rattle.int_simplex.specs.State.{Standing, plain}
 use Rattle.int_simplex.specs.Given.{last_column}
-use Rattle.int_simplex.specs.Inner.{IsCombination, IsRowAt, IsFree, read_off}
+use Rattle.int_simplex.specs.Inner.{IsFree, read_off}
 use Rattle.int_simplex.specs.Leads.{LeadsTo}
 use Rattle.int_simplex.specs.Running.{at, IsMove, ArePlacesOf, AreLimitsOf, IsStopped}
 use Rattle.int_simplex.specs.Valued.{place_at}

@@ -1,6 +1,6 @@
 -- What the calls of a tableau answer.
-use Rattle.std.specs.Prelude.{ℕ, suc, ◌≡◌, ◌≢◌, ◌⊎◌, ◌<◌, ◌≤◌, Bool, true, false, List, [], ◌∷◌, ◌++◌, map, length, All, Contains, Some, Result, Ok, Err, slice_get, replicate}
-use lib.IntN.{ℤ, pos, negsuc}
+use Rattle.std.specs.Prelude.{ℕ, suc, ◌≡◌, ◌≢◌, ◌⊎◌, ◌<◌, ◌≤◌, Bool, true, false, List, [], ◌∷◌, ◌++◌, map, Contains, Some, Result, Ok, Err, slice_get, replicate}
+use lib.IntN.{ℤ, pos}
 use Rattle.proof_steps.specs.StopView.{start_view, past_view}
 use Rattle.proof_steps.specs.Pivots.{Position, CanPivot, first_position}
 use Rattle.proof_steps.specs.Stopped.{IsPastStep}

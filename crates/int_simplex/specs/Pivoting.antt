@@ -1,5 +1,5 @@
 -- Rows after a pivot.
-use Rattle.std.specs.Prelude.{ℕ, ◌≡◌, ◌≢◌, ◌⊎◌, List, [], ◌∷◌, length, Option, None, Some, slice_get, slice_set}
+use Rattle.std.specs.Prelude.{ℕ, ◌≡◌, ◌≢◌, ◌⊎◌, List, [], ◌∷◌, length, Some, slice_get, slice_set}
 use Rattle.kind_num.specs.declared.Past.{Past}
 use Rattle.proof_steps.specs.StopView.{past_view}
 use Rattle.proof_steps.specs.Rows.{entry}

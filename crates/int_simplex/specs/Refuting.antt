@@ -1,5 +1,5 @@
 -- The bounds that keep a column of the basis from its own.
-use Rattle.std.specs.Prelude.{ℕ, ◌≡◌, Bool, List, [], ◌∷◌, map, Option, Some, None, slice_get, unsigned_abs}
+use Rattle.std.specs.Prelude.{ℕ, ◌≡◌, Bool, List, [], ◌∷◌, Option, Some, None, slice_get, unsigned_abs}
 use lib.IntN.{ℤ, pos}
 use Rattle.kind_num.specs.declared.Past.{Past}
 use Rattle.proof_steps.specs.StopView.{past_view}

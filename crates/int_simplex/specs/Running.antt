@@ -1,7 +1,6 @@
 -- A run of pivots, by the fields that it changes.
-use Rattle.std.specs.Prelude.{ℕ, zero, suc, ◌≡◌, ◌≢◌, ◌⊎◌, ◌<◌, ◌≤◌, Bool, true, false, cond, List, length, map, All, Contains, Option, Some, None, slice_get, slice_set}
+use Rattle.std.specs.Prelude.{ℕ, suc, ◌≡◌, ◌≢◌, ◌<◌, ◌≤◌, Bool, true, false, cond, List, length, map, All, Contains, Option, Some, slice_get}
 use lib.IntN.{ℤ, pos}
-use lib.Signed.{◌≤ℤ◌}
 use Rattle.proof_steps.specs.Rows.{AllDiffer, entry}
 use Rattle.proof_steps.specs.StopView.{past_view}
 use Rattle.proof_steps.specs.Pivots.{Position, Misses, Pivots, CanPivot, exchanged, raised, lowered}
@@ -14,7 +13,6 @@ use Rattle.int_simplex.specs.Farkas.{IsRefuted}
 use Rattle.int_simplex.specs.Valued.{place_at, AreValues}
 use Rattle.int_simplex.specs.Choosing.{bare, limit_at, on_side}
 use Rattle.int_simplex.specs.Leads.{LeadsTo}
-use Rattle.int_simplex.specs.declared.answers.Farkas.{Farkas}
 use Rattle.int_simplex.specs.declared.choosing.Exit.{Exit}
 use Rattle.int_simplex.specs.declared.moving.Move.{Move}
 use Rattle.int_simplex.specs.declared.moving.Move.TheVariants as m

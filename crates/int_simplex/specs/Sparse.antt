@@ -1,5 +1,5 @@
 -- Rows that list the columns with an entry, in order.
-use Rattle.std.specs.Prelude.{ℕ, suc, ◌≡◌, ◌≢◌, ◌==◌, ◌<◌, ◌≤◌, cond, List, [], ◌∷◌}
+use Rattle.std.specs.Prelude.{ℕ, suc, ◌≢◌, ◌==◌, ◌<◌, ◌≤◌, cond, List, [], ◌∷◌}
 use lib.IntN.{ℤ, pos}
 
 -- columns in order, from low on and below n, each with a number other than 0

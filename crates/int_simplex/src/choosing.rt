@@ -107,12 +107,7 @@ pub(crate) fn leaving(
 }
 
 // Whether a column at its place can move, down or up.
-fn can_move(
-    down: bool,
-    place: i128,
-    low: Option<(i128, u32)>,
-    high: Option<(i128, u32)>,
-) -> bool
+fn can_move(down: bool, place: i128, low: Option<(i128, u32)>, high: Option<(i128, u32)>) -> bool
     ensures { (result ≡ true) ↔ CanMove down (bare low) (bare high) place }
 {
     let limit = if down { low } else { high };

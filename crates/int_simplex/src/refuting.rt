@@ -29,11 +29,7 @@ fn differ(left: bool, right: bool) -> bool
     left != right
 }
 
-fn chosen(
-    upper: bool,
-    low: Option<(i128, u32)>,
-    high: Option<(i128, u32)>,
-) -> Option<(i128, u32)>
+fn chosen(upper: bool, low: Option<(i128, u32)>, high: Option<(i128, u32)>) -> Option<(i128, u32)>
     ensures { result ≡ on_side upper low high }
 {
     if upper { high } else { low }

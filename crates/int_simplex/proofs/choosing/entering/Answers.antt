@@ -1,8 +1,8 @@
 use Rattle.std.specs.Int.{w128}
-use Rattle.std.specs.Prelude.{◌≡◌, ◌<◌, ℕ, length, None}
-use Rattle.std.proofs.Common.{rules, ap, ◌∙◌, sym, refl, get_or, arith}
+use Rattle.std.specs.Prelude.{length, None}
+use Rattle.std.proofs.Common.{rules, ap, get_or, arith}
 use mir.Val.{SFits}
-use lib.IntN.{ℤ, pos}
+use lib.IntN.{pos}
 use lib.Signed.{lt_z}
 use Rattle.std.proofs.lemmas.Int.{to_z-of_z}
 use Rattle.int_simplex.proofs.Sparse.{sparse_differ, sparse_within}
@@ -33,13 +33,14 @@ returns-then-can_enter c =
     let fz : SFits w128 (get_or c.args.places.now (get_or c.args.row.now c.loop-t.t-index (0, pos 0)).0 (pos 0)) = search rules in
     let l = c.requires.lowers in let u = c.requires.uppers in
     let fe : SFits w128 c.entry_in-falls.result = search rules in
-    let fa : SFits w128 (get_or c.args.row.now c.loop-t.t-index (0, pos 0)).1 = search rules in
-    (enters_if (length c.args.places.now) c.loop-t.t-index c.args.row.now c.args.x c.args.side _ c.args.places.now c.args.lowers.now c.args.uppers.now (0, pos 0) _ _ _ c.requires.sparse
-    c.loop-t-test.true (ap (lt_z (pos 0)) c.entry_in-falls.ensures) (place-is c.args.places.now (get_or c.args.row.now c.loop-t.t-index (0, pos 0)).0 (pos 0) b)
-    (limit-is c.args.lowers.now (get_or c.args.row.now c.loop-t.t-index (0, pos 0)).0 None (omega arith)) (limit-is c.args.uppers.now (get_or c.args.row.now c.loop-t.t-index (0, pos 0)).0 None (omega arith))
-    (simp to_z-of_z at (c.can_enter.ensures.0 c.if-can_enter.true)),
-    enters_first (length c.args.places.now) c.loop-t.t-index c.args.row.now c.args.x c.args.side c.args.places.now c.args.lowers.now c.args.uppers.now (0, pos 0) c.requires.sparse
-    c.loop-t-test.true c.loop-t.invariant)
+    let fa : SFits w128 (get_or c.args.row.now c.loop-t.t-index (0, pos 0)).1 = search rules in (
+      enters_if (length c.args.places.now) c.loop-t.t-index c.args.row.now c.args.x c.args.side _ c.args.places.now c.args.lowers.now c.args.uppers.now (0, pos 0) _ _ _ c.requires.sparse
+          c.loop-t-test.true (ap (lt_z (pos 0)) c.entry_in-falls.ensures) (place-is c.args.places.now (get_or c.args.row.now c.loop-t.t-index (0, pos 0)).0 (pos 0) b)
+          (limit-is c.args.lowers.now (get_or c.args.row.now c.loop-t.t-index (0, pos 0)).0 None (omega arith)) (limit-is c.args.uppers.now (get_or c.args.row.now c.loop-t.t-index (0, pos 0)).0 None (omega arith))
+          (simp to_z-of_z at (c.can_enter.ensures.0 c.if-can_enter.true)),
+      enters_first (length c.args.places.now) c.loop-t.t-index c.args.row.now c.args.x c.args.side c.args.places.now c.args.lowers.now c.args.uppers.now (0, pos 0) c.requires.sparse
+          c.loop-t-test.true c.loop-t.invariant,
+    )
 
 pub loop-t-preserved : goal.loop-t-preserved
 loop-t-preserved c =

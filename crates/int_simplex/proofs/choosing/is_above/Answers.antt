@@ -1,8 +1,8 @@
 use Rattle.std.specs.Int.{w128}
-use Rattle.std.specs.Prelude.{◌≡◌, ◌≢◌, Bool, true, false, not, ◌==◌, ℕ}
-use Rattle.std.proofs.Common.{rules, arith, ap, sym, ◌∙◌, refl}
+use Rattle.std.specs.Prelude.{◌≡◌, ◌≢◌, Bool, true, false, not, ◌==◌}
+use Rattle.std.proofs.Common.{rules, arith, ap, refl}
 use mir.Val.{SFits, to_z, of_z}
-use lib.IntN.{ℤ, pos}
+use lib.IntN.{ℤ}
 use lib.Signed.{lt_z, ◌<ℤ◌, ◌≤ℤ◌}
 use Rattle.std.proofs.lemmas.Int.{to_z-of_z, ints, by_lt_z}
 use Rattle.kind_num.specs.Division.{IsFloor}
@@ -57,5 +57,5 @@ returns-else-limit-floor-2 c =
     (λ e. absurd (c.if-limit-floor-2.false (same_if (of_z w128 c.args.limit) (of_z w128 c.div_floor-floor.result) e)))
     (λ e. not_above_high c.args.v.0 c.args.v.1 c.div_floor-floor.result c.args.limit c.requires w (strict c.div_floor-floor.result c.args.limit l n))
   where
-  strict : (a b : ℤ) → a ≤ℤ b → (b ≡ a → ⊥) → a <ℤ b
-  strict a b l n = by_lt_z a b (λ m. m) (λ m. absurd (n (omega (arith, ints))))
+    strict : (a b : ℤ) → a ≤ℤ b → (b ≡ a → ⊥) → a <ℤ b
+    strict a b l n = by_lt_z a b (λ m. m) (λ m. absurd (n (omega (arith, ints))))

@@ -1,8 +1,6 @@
 use Rattle.std.specs.Int.{w128}
-use Rattle.std.specs.Prelude.{◌≡◌}
 use Rattle.std.proofs.Common.{rules}
 use mir.Val.{SFits}
-use lib.IntN.{ℤ}
 use lib.Signed.{lt_z}
 use Rattle.std.proofs.lemmas.Int.{to_z-of_z}
 use Rattle.kind_num.specs.Division.{IsFloor}

@@ -1,10 +1,7 @@
-use Rattle.std.specs.Int.{w128}
-use Rattle.std.specs.Prelude.{◌≡◌, ◌<◌, ◌≤◌, ◌+◌, ℕ, length, Option, None}
-use Rattle.std.proofs.Common.{rules, ap, ◌∙◌, sym, subst, get_or, arith}
+use Rattle.std.specs.Prelude.{◌≡◌, ℕ, length, None}
+use Rattle.std.proofs.Common.{subst, get_or, arith}
 use Rattle.std.proofs.lemmas.Option.{slice_get-get_or}
-use mir.Val.{SFits}
-use lib.IntN.{ℤ, pos}
-use Rattle.std.proofs.lemmas.Int.{to_z-of_z}
+use lib.IntN.{pos}
 use Rattle.int_simplex.specs.Choosing.{IsLeavingOf}
 use Rattle.int_simplex.proofs.Choices.{sooner_more, limit-is}
 use Rattle.int_simplex.proofs.choosing.leaving.Goals as goal

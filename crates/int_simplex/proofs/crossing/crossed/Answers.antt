@@ -1,14 +1,14 @@
 use Rattle.std.specs.Int.{w128}
-use Rattle.std.specs.Prelude.{◌≡◌, ◌≢◌, ◌<◌, ◌≤◌, ◌+◌, ◌∷◌, ◌++◌, [], ℕ, List, suc, drop, min, length}
+use Rattle.std.specs.Prelude.{◌≡◌, ◌+◌, ℕ, List, suc, drop, min}
 use Rattle.std.proofs.Common.{rules, arith, subst, sym, ap, ◌∙◌}
 use Rattle.std.proofs.lemmas.Int.{to_z-of_z}
-use mir.Val.{SFits, of_z, to_z}
+use mir.Val.{SFits, to_z}
 use lib.IntN.{ℤ, pos}
-use Rattle.int_simplex.specs.Sparse.{head_at, first_column}
+use Rattle.int_simplex.specs.Sparse.{first_column}
 use Rattle.int_simplex.specs.Crossing.{crossed}
 use Rattle.int_simplex.specs.Making.{IsMadeTo}
 use Rattle.int_simplex.proofs.Content.{not_zero}
-use Rattle.int_simplex.proofs.Crossings.{IsCrossingTo, IsCrossingAt, crossing_at, crossing_end, crossing_done, crossing_step, crossing_number, row_past, made_more, made_skip, made_none, left_all}
+use Rattle.int_simplex.proofs.Crossings.{IsCrossingTo, crossing_at, crossing_end, crossing_done, crossing_step, crossing_number, row_past, made_more, made_skip, made_none, left_all}
 use Rattle.int_simplex.proofs.crossing.crossed.Goals as goal
 use Rattle.int_simplex.proofs.crossing.crossed.Goals.{then-z-ne0+in_ok-push, else-z-ne0}
 

@@ -1,10 +1,10 @@
 use Rattle.std.specs.Int.{w128}
-use Rattle.std.specs.Prelude.{◌≡◌, ◌≢◌, ℕ, List, []}
-use Rattle.std.proofs.Common.{rules, subst, sym, ◌∙◌}
+use Rattle.std.specs.Prelude.{ℕ, List}
+use Rattle.std.proofs.Common.{rules, subst, sym}
 use mir.Val.{SFits}
 use lib.IntN.{ℤ}
 use Rattle.std.proofs.lemmas.Int.{to_z-of_z}
-use Rattle.int_simplex.specs.Crossing.{IsReduced, HasEntry, HasEntries, crossed}
+use Rattle.int_simplex.specs.Crossing.{IsReduced, HasEntry}
 use Rattle.int_simplex.proofs.Sparse.{sparse_differ}
 use Rattle.int_simplex.proofs.Crossings.{reduced_pivoted, empty_pivoted, made_has, past_of, made_of, empty_list, full_list}
 use Rattle.int_simplex.proofs.crossing.pivoted.Goals as goal

@@ -1,10 +1,9 @@
-use Rattle.std.specs.Prelude.{◌≡◌, ◌<◌, ℕ, List, length, map, Some, None, slice_get}
-use Rattle.std.proofs.Common.{ap, ◌∙◌, sym, subst, arith, get_or}
+use Rattle.std.specs.Prelude.{◌≡◌, ℕ, List, length, map, Some, None}
+use Rattle.std.proofs.Common.{ap, ◌∙◌, sym, subst, arith}
 use Rattle.std.proofs.lemmas.Option.{slice_get_within}
 use Rattle.std.proofs.lemmas.List.{length-map}
-use lib.IntN.{ℤ, pos}
+use lib.IntN.{ℤ}
 use Rattle.proof_steps.specs.View.{row_view}
-use Rattle.int_simplex.specs.Sparse.{IsSparse}
 use Rattle.int_simplex.specs.Choosing.{IsEntering}
 use Rattle.int_simplex.specs.Farkas.{IsRefuted}
 use Rattle.int_simplex.specs.Refuting.{part_of, IsSizePast}
@@ -54,12 +53,13 @@ returns-in_ok-farkas-in-None-clause-found c = λ bounds a.
     let er = row_there c.args.rows.now c.in-Some.out.at c.index-rows-out.result (omega arith) c.index-rows-out.is in
     let e = subst (λ (r : List (ℕ × ℤ)). IsEntering r c.in-Some.out.column c.in-Some.out.side c.args.places.now c.args.lowers.now c.args.uppers.now None) c.deref.ensures.value c.in-None.ensures in
     let p = c.in_ok-farkas-in-None.ensures.parts
-    ∙ ap (λ (r : List (ℕ × ℤ)). map (part_of r c.in-Some.out.column c.in-Some.out.side c.args.lowers.now c.args.uppers.now) r) c.deref-in-None.ensures.value in
-    (subst (λ (ps : List (ℤ × ℕ)). IsRefuted (map row_view c.args.given.now) (length c.args.lowers.now) bounds ps) (sym p)
-    (refuted (map row_view c.args.given.now) (length c.args.lowers.now) bounds c.args.lowers.now c.args.uppers.now c.args.basis.now (map row_view c.args.rows.now) c.args.places.now c.args.values.now
-    k a c.in-Some.out c.index-rows-out.result.items c.in-Some.ensures er e),
-    stuck (map row_view c.args.given.now) (length c.args.lowers.now) bounds c.args.lowers.now c.args.uppers.now c.args.basis.now (map row_view c.args.rows.now) c.args.places.now c.args.values.now
-    k a c.in-Some.out c.index-rows-out.result.items c.in-Some.ensures er e)
+    ∙ ap (λ (r : List (ℕ × ℤ)). map (part_of r c.in-Some.out.column c.in-Some.out.side c.args.lowers.now c.args.uppers.now) r) c.deref-in-None.ensures.value in (
+      subst (λ (ps : List (ℤ × ℕ)). IsRefuted (map row_view c.args.given.now) (length c.args.lowers.now) bounds ps) (sym p)
+          (refuted (map row_view c.args.given.now) (length c.args.lowers.now) bounds c.args.lowers.now c.args.uppers.now c.args.basis.now (map row_view c.args.rows.now) c.args.places.now c.args.values.now
+          k a c.in-Some.out c.index-rows-out.result.items c.in-Some.ensures er e),
+      stuck (map row_view c.args.given.now) (length c.args.lowers.now) bounds c.args.lowers.now c.args.uppers.now c.args.basis.now (map row_view c.args.rows.now) c.args.places.now c.args.values.now
+          k a c.in-Some.out c.index-rows-out.result.items c.in-Some.ensures er e,
+    )
 
 pub returns-in_err-farkas-in-None-clause-past : goal.returns-in_err-farkas-in-None-clause-past
 returns-in_err-farkas-in-None-clause-past c =

@@ -1,11 +1,11 @@
 use Rattle.std.specs.Int.{w128}
-use Rattle.std.specs.Prelude.{ℕ, ◌≡◌, ◌<◌, List, [], length, map, Some, Contains, slice_get, slice_set}
-use Rattle.std.proofs.Common.{rules, ap, ◌∙◌, sym, subst, arith, refl}
+use Rattle.std.specs.Prelude.{ℕ, ◌≡◌, List, [], length, map, Some, slice_get, slice_set}
+use Rattle.std.proofs.Common.{rules, ap, ◌∙◌, sym, subst, arith}
 use Rattle.std.proofs.lemmas.Option.{slice_get_within}
 use Rattle.std.proofs.lemmas.List.{length-map, length-set}
 use Rattle.std.proofs.lemmas.Int.{to_z-of_z}
 use mir.Val.{SFits}
-use lib.IntN.{ℤ, pos}
+use lib.IntN.{ℤ}
 use Rattle.proof_steps.specs.View.{row_view}
 use Rattle.proof_steps.specs.Rows.{AllDiffer}
 use Rattle.proof_steps.specs.Pivots.{exchanged}
@@ -14,9 +14,9 @@ use Rattle.std.specs.declared.alloc.Global.{Global}
 use Rattle.int_simplex.specs.Pivoting.{AreNext}
 use Rattle.int_simplex.specs.Sparse.{IsSparse}
 use Rattle.int_simplex.specs.Valued.{place_at, AreValues, IsValuesPast}
-use Rattle.int_simplex.specs.Running.{IsReady, IsKept}
+use Rattle.int_simplex.specs.Running.{IsReady}
 use Rattle.int_simplex.proofs.Turned.{there}
-use Rattle.int_simplex.proofs.Turns.{ready_after, set_exchanged, places_after, in-list, turn_stopped, values_stopped}
+use Rattle.int_simplex.proofs.Turns.{ready_after, set_exchanged, in-list, turn_stopped, values_stopped}
 use Rattle.int_simplex.proofs.moving.turn.Goals as goal
 
 pub returns-in_err-turn_rows-clause-past : goal.returns-in_err-turn_rows-clause-past

@@ -1,5 +1,5 @@
-use Rattle.std.specs.Prelude.{ℕ, ◌≡◌, ◌<◌, ◌⊎◌, List, length, map, Some, slice_get, slice_set}
-use Rattle.std.proofs.Common.{ap, ◌∙◌, sym, subst, arith, inl, inr, refl}
+use Rattle.std.specs.Prelude.{ℕ, ◌≡◌, List, map}
+use Rattle.std.proofs.Common.{◌∙◌, sym, subst, inl, inr, refl}
 use lib.IntN.{ℤ, pos}
 use Rattle.proof_steps.specs.View.{row_view}
 use Rattle.proof_steps.specs.Rows.{entry}
@@ -29,9 +29,14 @@ returns-in_err-new-clause-past c =
 pub returns-in-Some-clause-made : goal.returns-in-Some-clause-made
 returns-in-Some-clause-made c =
     let e = row_there c.args.rows.now.items c.args.k c.index.result.now c.requires.in_range c.index.ensures in
-    inr (c.index.result.now.items, c.in-Some.new.items, e, c.if-k-at.false,
-    (subst (λ (r : List (ℕ × ℤ)). IsPivoted c.args.columns c.args.entering r c.args.other.now c.in-Some.new.items) c.deref.ensures.value (rw c.in-Some.is at c.in_ok-new.ensures.made)),
-    set_mapped row_view c.args.rows.now.items c.args.k c.in-Some.new)
+    inr (
+      c.index.result.now.items,
+      c.in-Some.new.items,
+      e,
+      c.if-k-at.false,
+      (subst (λ (r : List (ℕ × ℤ)). IsPivoted c.args.columns c.args.entering r c.args.other.now c.in-Some.new.items) c.deref.ensures.value (rw c.in-Some.is at c.in_ok-new.ensures.made)),
+      set_mapped row_view c.args.rows.now.items c.args.k c.in-Some.new,
+    )
 
 pub returns-in-None-clause-made : goal.returns-in-None-clause-made
 returns-in-None-clause-made c =

@@ -1,16 +1,14 @@
-use Rattle.std.specs.Prelude.{ℕ, ◌≡◌, ◌<◌, ◌≤◌, ◌+◌, List, length, map, Some, slice_get, slice_set}
-use Rattle.std.proofs.Common.{ap, ◌∙◌, sym, subst, arith, inl, inr}
+use Rattle.std.specs.Prelude.{ℕ, ◌≡◌, ◌≤◌, List, length, map, Some}
+use Rattle.std.proofs.Common.{ap, ◌∙◌, sym, subst, arith}
 use Rattle.std.specs.declared.vec.Vec.{Vec}
 use Rattle.std.specs.declared.alloc.Global.{Global}
-use lib.IntN.{ℤ, pos}
+use lib.IntN.{ℤ}
 use Rattle.proof_steps.specs.View.{row_view}
-use Rattle.proof_steps.specs.Rows.{entry}
 use Rattle.std.proofs.lemmas.List.{length-map}
 use Rattle.int_simplex.specs.Sparse.{IsSparse}
-use Rattle.int_simplex.specs.Crossing.{IsPivoted}
 use Rattle.int_simplex.specs.Pivoting.{AreNext, IsTurned, IsTurnedPast}
 use Rattle.int_simplex.proofs.Places.{same_some}
-use Rattle.int_simplex.proofs.Nexts.{AreNextTo, next_none, next_all, turned_more, row_there, in_news, memory_alone, turn_past}
+use Rattle.int_simplex.proofs.Nexts.{next_none, next_all, turned_more, row_there, in_news, memory_alone, turn_past}
 use Rattle.int_simplex.proofs.pivoting.turn_rows.Goals as goal
 
 pub returns-in_err-other-clause-past : goal.returns-in_err-other-clause-past

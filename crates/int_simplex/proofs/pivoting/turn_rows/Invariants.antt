@@ -1,5 +1,4 @@
-use Rattle.std.specs.Prelude.{ℕ, ◌≡◌, List, map, Some, slice_get}
-use lib.IntN.{ℤ}
+use Rattle.std.specs.Prelude.{map}
 use Rattle.proof_steps.specs.View.{row_view}
 use Rattle.int_simplex.proofs.Nexts.{AreNextTo}
 use Rattle.int_simplex.proofs.pivoting.turn_rows.Given as goal

@@ -1,14 +1,14 @@
 use Rattle.std.specs.Int.{w128}
-use Rattle.std.specs.Prelude.{◌≡◌, ◌<◌, ◌+◌, ◌∷◌, ◌++◌, [], ℕ, List, length, map, take, None, unsigned_abs}
-use Rattle.std.proofs.Common.{rules, ap, ◌∙◌, sym, refl, get_or, arith, subst}
+use Rattle.std.specs.Prelude.{◌≡◌, ◌∷◌, ◌++◌, [], ℕ, length, map, take, None, unsigned_abs}
+use Rattle.std.proofs.Common.{rules, ap, ◌∙◌, sym, get_or, arith}
 use Rattle.std.proofs.lemmas.Option.{slice_get-get_or}
 use Rattle.std.proofs.lemmas.List.{map-append, take_more}
-use mir.Val.{SFits, to_z, of_z}
+use mir.Val.{SFits}
 use lib.IntN.{ℤ, pos}
 use lib.Signed.{lt_z}
 use Rattle.std.proofs.lemmas.Int.{to_z-of_z}
 use Rattle.proof_steps.specs.View.{row_view}
-use Rattle.int_simplex.specs.Choosing.{limit_at, on_side, differs, grows}
+use Rattle.int_simplex.specs.Choosing.{limit_at, on_side, differs}
 use Rattle.int_simplex.specs.Refuting.{part_of, literal_in, stop_side}
 use Rattle.int_simplex.proofs.Sparse.{sparse_differ, sparse_within}
 use Rattle.int_simplex.proofs.Choices.{limit-is}

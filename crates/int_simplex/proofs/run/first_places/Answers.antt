@@ -1,6 +1,6 @@
 use Rattle.std.specs.Int.{w128}
-use Rattle.std.specs.Prelude.{ℕ, ◌≡◌, ◌<◌, ◌≤◌, ◌+◌, ◌++◌, ◌∷◌, [], List, length, Contains, Option, None, Some}
-use Rattle.std.proofs.Common.{rules, ap, ◌∙◌, sym, subst, get_or, arith}
+use Rattle.std.specs.Prelude.{◌≡◌, ◌+◌, List, None}
+use Rattle.std.proofs.Common.{rules, ◌∙◌, sym, subst, get_or, arith}
 use Rattle.std.proofs.lemmas.Int.{to_z-of_z}
 use mir.Val.{SFits, to_z}
 use lib.IntN.{ℤ, pos}

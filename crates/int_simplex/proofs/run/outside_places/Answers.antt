@@ -1,9 +1,9 @@
 use Rattle.std.specs.Int.{w128}
-use Rattle.std.specs.Prelude.{ℕ, ◌≡◌, ◌<◌, ◌+◌, ◌++◌, List, length, drop, Contains}
-use Rattle.std.proofs.Common.{rules, ap, ◌∙◌, sym, get_or, refl}
+use Rattle.std.specs.Prelude.{◌+◌, ◌++◌, drop}
+use Rattle.std.proofs.Common.{rules, ap, ◌∙◌, get_or, refl}
 use Rattle.std.proofs.lemmas.Int.{to_z-of_z}
 use mir.Val.{SFits}
-use lib.IntN.{ℤ, pos}
+use lib.IntN.{pos}
 use Rattle.int_simplex.specs.State.{outside_from}
 use Rattle.int_simplex.proofs.Places.{listed_at}
 use Rattle.int_simplex.proofs.Starts.{outside_in, outside_out}

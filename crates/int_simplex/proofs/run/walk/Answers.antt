@@ -1,18 +1,15 @@
-use Rattle.std.specs.Int.{w128}
-use Rattle.std.specs.Prelude.{ℕ, ◌≡◌, ◌<◌, ◌+◌, ◌-◌, List, length, map, Contains, Some}
-use Rattle.std.proofs.Common.{rules, ap, ◌∙◌, sym, subst, arith, refl}
-use Rattle.std.proofs.lemmas.Int.{to_z-of_z}
+use Rattle.std.specs.Prelude.{ℕ, List, length, map}
+use Rattle.std.proofs.Common.{sym, subst, arith}
 use Rattle.std.specs.declared.vec.Vec.{Vec}
 use Rattle.std.specs.declared.alloc.Global.{Global}
-use mir.Val.{SFits}
-use lib.IntN.{ℤ, pos}
+use lib.IntN.{ℤ}
 use Rattle.proof_steps.specs.View.{row_view}
 use Rattle.int_simplex.specs.Valued.{place_at, IsValuesPast}
 use Rattle.int_simplex.specs.Running.{IsKept, IsTurnOf, IsStopped, IsMove}
 use Rattle.int_simplex.specs.declared.moving.Move.TheVariants as m
 use Rattle.int_simplex.proofs.Stops.{values_result}
 use Rattle.int_simplex.proofs.Turns.{in-list, places_after}
-use Rattle.int_simplex.proofs.Walks.{IsOnWay, move_at, long_at, step_at, free_error}
+use Rattle.int_simplex.proofs.Walks.{move_at, long_at, step_at, free_error}
 use Rattle.int_simplex.proofs.run.walk.Goals as goal
 
 pub returns-in_err-values-clause-past : goal.returns-in_err-values-clause-past
@@ -32,17 +29,19 @@ returns-in_err-next_move-clause-past c =
 
 pub returns-in-Fits-clause-found : goal.returns-in-Fits-clause-found
 returns-in-Fits-clause-found c = λ bounds a.
-    let w = c.loop-farkas.invariant.way bounds a in let q = w.sum in
-    (record { made = w.made; within = omega arith; leads = w.leads },
-    move_at (map row_view c.args.given.now) (length c.args.lowers.now) bounds c.deref-in-loop-farkas.result.now c.loop-farkas.basis.items c.deref-in-loop-farkas-4.result.now c.loop-farkas.places.items m.Fits
-    c.deref-in-loop-farkas.ensures.value c.deref-in-loop-farkas-4.ensures.value (rw c.in-Fits.is at (c.in_ok-next_move.ensures.found bounds a)))
+    let w = c.loop-farkas.invariant.way bounds a in let q = w.sum in (
+      record { made = w.made; within = omega arith; leads = w.leads },
+      move_at (map row_view c.args.given.now) (length c.args.lowers.now) bounds c.deref-in-loop-farkas.result.now c.loop-farkas.basis.items c.deref-in-loop-farkas-4.result.now c.loop-farkas.places.items m.Fits
+          c.deref-in-loop-farkas.ensures.value c.deref-in-loop-farkas-4.ensures.value (rw c.in-Fits.is at (c.in_ok-next_move.ensures.found bounds a)),
+    )
 
 pub returns-in-Refuted-clause-found : goal.returns-in-Refuted-clause-found
 returns-in-Refuted-clause-found c = λ bounds a.
-    let w = c.loop-farkas.invariant.way bounds a in let q = w.sum in
-    (record { made = w.made; within = omega arith; leads = w.leads },
-    move_at (map row_view c.args.given.now) (length c.args.lowers.now) bounds c.deref-in-loop-farkas.result.now c.loop-farkas.basis.items c.deref-in-loop-farkas-4.result.now c.loop-farkas.places.items (m.Refuted c.in-Refuted.farkas)
-    c.deref-in-loop-farkas.ensures.value c.deref-in-loop-farkas-4.ensures.value (rw c.in-Refuted.is at (c.in_ok-next_move.ensures.found bounds a)))
+    let w = c.loop-farkas.invariant.way bounds a in let q = w.sum in (
+      record { made = w.made; within = omega arith; leads = w.leads },
+      move_at (map row_view c.args.given.now) (length c.args.lowers.now) bounds c.deref-in-loop-farkas.result.now c.loop-farkas.basis.items c.deref-in-loop-farkas-4.result.now c.loop-farkas.places.items (m.Refuted c.in-Refuted.farkas)
+          c.deref-in-loop-farkas.ensures.value c.deref-in-loop-farkas-4.ensures.value (rw c.in-Refuted.is at (c.in_ok-next_move.ensures.found bounds a)),
+    )
 
 pub returns-then-left-eq0-clause-found : goal.returns-then-left-eq0-clause-found
 returns-then-left-eq0-clause-found c = λ bounds a.

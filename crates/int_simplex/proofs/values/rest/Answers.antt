@@ -1,8 +1,8 @@
 use Rattle.std.specs.Int.{w128}
-use Rattle.std.specs.Prelude.{◌≡◌, ◌<◌, ℕ, length, Result, Ok, Err}
-use Rattle.std.proofs.Common.{rules, ap, ◌∙◌, sym, refl, get_or, arith}
+use Rattle.std.specs.Prelude.{length}
+use Rattle.std.proofs.Common.{rules, get_or}
 use mir.Val.{SFits, to_z}
-use lib.IntN.{ℤ, pos}
+use lib.IntN.{pos}
 use Rattle.std.proofs.lemmas.Int.{to_z-of_z}
 use Rattle.int_simplex.specs.Valued.{place_at}
 use Rattle.int_simplex.proofs.Sparse.{sparse_within}

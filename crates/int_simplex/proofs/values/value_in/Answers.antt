@@ -1,9 +1,9 @@
 use Rattle.std.specs.Int.{w128}
-use Rattle.std.specs.Prelude.{◌≡◌, ◌<◌, ℕ, length}
-use Rattle.std.proofs.Common.{rules, ap, ◌∙◌, sym, refl, get_or, arith, inl, inr}
+use Rattle.std.specs.Prelude.{length}
+use Rattle.std.proofs.Common.{rules, ap, ◌∙◌, sym}
 use Rattle.std.proofs.lemmas.Int.{to_z-of_z}
 use mir.Val.{SFits}
-use lib.IntN.{ℤ, pos, neg_ℤ, ◌*ℤ◌}
+use lib.IntN.{◌*ℤ◌}
 use Rattle.int_simplex.specs.Valued.{place_at}
 use Rattle.int_simplex.proofs.Sparse.{sparse_differ}
 use Rattle.int_simplex.proofs.Rests.{quotient_down, quotient_up, no_sign, zero_fraction, rest_is}

@@ -1,9 +1,7 @@
 use Rattle.std.specs.Int.{w128}
-use Rattle.std.specs.Prelude.{ℕ, ◌≡◌, ◌<◌, ◌≤◌, ◌+◌, List, length, map, take, Some, slice_get, slice_set, All}
-use Rattle.std.proofs.Common.{rules, ap, ◌∙◌, sym, subst, arith, refl, get_or}
+use Rattle.std.specs.Prelude.{ℕ, List, length, map}
+use Rattle.std.proofs.Common.{rules, ap, ◌∙◌, sym, subst, arith, get_or}
 use Rattle.std.proofs.lemmas.Option.{slice_get-get_or}
-use Rattle.std.proofs.lemmas.Int.{to_z-of_z}
-use Rattle.std.proofs.lemmas.List.{length-map}
 use mir.Val.{SFits}
 use lib.IntN.{ℤ, pos}
 use Rattle.proof_steps.specs.View.{row_view}

@@ -1,4 +1,4 @@
-use Rattle.std.specs.Prelude.{ℕ, ◌≡◌, List, map, take}
+use Rattle.std.specs.Prelude.{◌≡◌, map, take}
 use lib.IntN.{ℤ, pos}
 use Rattle.proof_steps.specs.View.{row_view}
 use Rattle.int_simplex.proofs.Valuing.{AreValuesTo}

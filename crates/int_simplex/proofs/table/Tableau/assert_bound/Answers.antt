@@ -1,6 +1,6 @@
 use Rattle.std.specs.Int.{w128}
-use Rattle.std.specs.Prelude.{ℕ, ◌≡◌, ◌<◌, ◌≤◌, ◌++◌, ◌∷◌, [], Bool, List, Option, All, length, map, take, true, false, slice_get, slice_set}
-use Rattle.std.proofs.Common.{rules, ap, ◌∙◌, sym, subst, arith, refl, get_or}
+use Rattle.std.specs.Prelude.{ℕ, ◌≡◌, ◌<◌, ◌++◌, ◌∷◌, [], Bool, List, All, map, true, false, slice_set}
+use Rattle.std.proofs.Common.{ap, ◌∙◌, sym, subst, arith, refl}
 use Rattle.std.proofs.lemmas.Int.{to_z-of_z}
 use Rattle.std.proofs.lemmas.List.{map-append}
 use mir.Val.{SFits}
@@ -10,12 +10,10 @@ use Rattle.int_simplex.specs.declared.table.Asserted.{Asserted}
 use Rattle.int_simplex.specs.State.{Standing, State}
 use Rattle.int_simplex.specs.Answers.{a_bound}
 use Rattle.int_simplex.specs.Bounds.{tightest, crosses, is_across}
-use Rattle.int_simplex.specs.Choosing.{limit_in}
 use Rattle.int_simplex.specs.Refuting.{literal_in}
 use Rattle.int_simplex.specs.Farkas.{Refutes}
 use Rattle.int_simplex.specs.Sound.{IsUncrossed}
 use Rattle.int_simplex.specs.Inner.{standing, state_of}
-use Rattle.int_simplex.proofs.Choices.{limit-is}
 use Rattle.int_simplex.proofs.Asserts.{crossing_refutes, uncrossed_more, all_more}
 use Rattle.int_simplex.proofs.Settled.{sound_bounds, assert_upper, assert_lower, read_limit, IsAssertedTo}
 use Rattle.int_simplex.proofs.table.Tableau.assert_bound.Goals as goal
@@ -43,11 +41,12 @@ returns-then-is_across c =
     ap (is_across c.args.upper c.args.bound) (sym other) ∙ sym x ∙ c.if-is_across.true in
     let f : c.literal_of-first.result ≡ literal_in (tightest (map standing c.self.inside.trail.items) c.args.column (as_said c.args.upper false)) =
     c.literal_of-first.ensures ∙ ap literal_in other in
-    let z = crossing_refutes (state_of c.self.inside).given (map standing c.self.inside.trail.items) (a_bound c.args.column c.args.upper c.args.bound c.args.literal) c.literal_of-first.result y f in
-    (ap (λ (s : State). crosses s.bounds (a_bound c.args.column c.args.upper c.args.bound c.args.literal)) (sym v) ∙ y,
-    subst (λ (ps : List (ℤ × ℕ)). Refutes c.args.self.now.given (c.args.self.now.bounds ++ a_bound c.args.column c.args.upper c.args.bound c.args.literal ∷ []) ps) (sym c.in_ok-parts.ensures.items)
-    (subst (λ (s : State). Refutes s.given (s.bounds ++ a_bound c.args.column c.args.upper c.args.bound c.args.literal ∷ []) ((pos 1, c.literal_of-first.result) ∷ (pos 1, c.args.literal) ∷ [])) v z),
-    refl)
+    let z = crossing_refutes (state_of c.self.inside).given (map standing c.self.inside.trail.items) (a_bound c.args.column c.args.upper c.args.bound c.args.literal) c.literal_of-first.result y f in (
+      ap (λ (s : State). crosses s.bounds (a_bound c.args.column c.args.upper c.args.bound c.args.literal)) (sym v) ∙ y,
+      subst (λ (ps : List (ℤ × ℕ)). Refutes c.args.self.now.given (c.args.self.now.bounds ++ a_bound c.args.column c.args.upper c.args.bound c.args.literal ∷ []) ps) (sym c.in_ok-parts.ensures.items)
+          (subst (λ (s : State). Refutes s.given (s.bounds ++ a_bound c.args.column c.args.upper c.args.bound c.args.literal ∷ []) ((pos 1, c.literal_of-first.result) ∷ (pos 1, c.args.literal) ∷ [])) v z),
+      refl,
+    )
 
 pub invariant_of-self-then-upper-2 : goal.invariant_of-self-then-upper-2
 invariant_of-self-then-upper-2 c =
@@ -171,12 +170,25 @@ returns c =
     = simp to_z-of_z at c.in_ok-push.ensures.items in
     let e : map standing c.push.new.self.items ≡ map standing c.self.inside.trail.items ++ a_bound c.args.column c.args.upper c.args.bound c.args.literal ∷ [] =
     ap (map standing) p ∙ map-append standing c.self.inside.trail.items (record { column = c.args.column; upper = c.args.upper; limit = c.args.bound; literal = c.args.literal; before = c.if-upper.same.0 } ∷ []) in
-    let z = (ap (λ (bs : List Standing). let s : State = record { given = (state_of c.self.inside).given; columns = c.self.inside.columns; basis = c.self.inside.basis.items;
-    values = c.self.inside.values.items; bounds = bs; usable = c.self.inside.usable } in s) e
-    ∙ ap (λ (s : State). let t : State = record { given = s.given; columns = s.columns; basis = s.basis; values = s.values;
-    bounds = s.bounds ++ a_bound c.args.column c.args.upper c.args.bound c.args.literal ∷ []; usable = s.usable } in t) v) in
-    (ap (λ (s : State). crosses s.bounds (a_bound c.args.column c.args.upper c.args.bound c.args.literal)) (sym v) ∙ y,
-    elim c.if-upper-2.branch [
-      | then-upper-2 w ↦ w.self-is ∙ z
-      | else-upper-2 w ↦ w.self-is ∙ z
-    ])
+    let z = (ap (λ (bs : List Standing). let s : State = record {
+      given = (state_of c.self.inside).given;
+      columns = c.self.inside.columns;
+      basis = c.self.inside.basis.items;
+      values = c.self.inside.values.items;
+      bounds = bs;
+      usable = c.self.inside.usable;
+    } in s) e
+    ∙ ap (λ (s : State). let t : State = record {
+      given = s.given;
+      columns = s.columns;
+      basis = s.basis;
+      values = s.values;
+      bounds = s.bounds ++ a_bound c.args.column c.args.upper c.args.bound c.args.literal ∷ [];
+      usable = s.usable;
+    } in t) v) in (
+      ap (λ (s : State). crosses s.bounds (a_bound c.args.column c.args.upper c.args.bound c.args.literal)) (sym v) ∙ y,
+      elim c.if-upper-2.branch [
+        | then-upper-2 w ↦ w.self-is ∙ z
+        | else-upper-2 w ↦ w.self-is ∙ z
+      ],
+    )

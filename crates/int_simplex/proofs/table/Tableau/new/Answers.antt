@@ -1,8 +1,8 @@
-use Rattle.std.specs.Prelude.{ℕ, ◌≡◌, ◌<◌, Bool, List, [], Option, None, All, true, false, map, replicate, length, slice_get}
-use Rattle.std.proofs.Common.{ap, ◌∙◌, sym, subst, arith, refl}
+use Rattle.std.specs.Prelude.{ℕ, ◌≡◌, List, [], Option, true, false, map, replicate}
+use Rattle.std.proofs.Common.{ap, sym, subst}
 use lib.IntN.{ℤ, pos}
 use Rattle.proof_steps.specs.View.{row_view}
-use Rattle.int_simplex.specs.State.{State, Standing}
+use Rattle.int_simplex.specs.State.{Standing}
 use Rattle.int_simplex.specs.Given.{last_columns}
 use Rattle.int_simplex.specs.Inner.{AreRows, IsFree, AreLimits, AreBefore, IsWithinColumns, standing}
 use Rattle.int_simplex.specs.declared.table.Asserted.{Asserted}

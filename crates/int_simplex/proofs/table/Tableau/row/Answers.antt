@@ -1,5 +1,5 @@
 use Rattle.std.specs.Prelude.{◌≡◌, ◌<◌, true, length, ℕ, map, Some, slice_get, List}
-use Rattle.std.proofs.Common.{rules, ap, ◌∙◌, sym, subst, arith, refl}
+use Rattle.std.proofs.Common.{ap, ◌∙◌, sym, subst, arith, refl}
 use Rattle.std.proofs.lemmas.List.{length-map}
 use Rattle.std.proofs.lemmas.Option.{slice_get_read, slice_get_within}
 use lib.IntN.{ℤ}
@@ -64,4 +64,3 @@ returns-in-Some-clause-entries c =
     let h : c.in-Some.k < length c.self.inside.basis.items = slice_get_within c.self.inside.basis.items c.in-Some.k c.args.column p in
     let f = a.sparse c.in-Some.k (row_view c.index.result.now) (row_there c.self.inside.rows.items c.in-Some.k c.index.result.now (omega arith) c.index.ensures) in
     subst HasNoZero (sym c.deref-in-Some.ensures.value) (sparse_no_zero 0 c.self.inside.columns (row_view c.index.result.now) f)
-

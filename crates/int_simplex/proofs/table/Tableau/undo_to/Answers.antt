@@ -1,6 +1,5 @@
-use Rattle.std.specs.Prelude.{ℕ, ◌≡◌, ◌<◌, ◌≤◌, Bool, List, Option, All, length, map, take, true, false, slice_get}
-use Rattle.std.proofs.Common.{rules, ap, ◌∙◌, sym, subst, arith, refl}
-use lib.IntN.{ℤ}
+use Rattle.std.specs.Prelude.{ℕ, ◌≡◌, ◌<◌, List, All, length, map, take, true, false}
+use Rattle.std.proofs.Common.{ap, ◌∙◌, sym, subst}
 use Rattle.int_simplex.specs.State.{Standing, State}
 use Rattle.int_simplex.specs.Sound.{IsUncrossed}
 use Rattle.int_simplex.specs.Inner.{standing, state_of, AreLimits, IsWithinColumns}
@@ -34,6 +33,12 @@ returns c =
     let a = c.undo.ensures in
     let e : map standing c.undo.new.trail.items ≡ take c.args.mark (map standing c.self.inside.trail.items) =
     ap (map standing) a.trail ∙ map_take standing c.args.mark c.self.inside.trail.items in
-    ap (λ (bs : List Standing). let s : State = record { given = (state_of c.self.inside).given; columns = c.self.inside.columns; basis = c.self.inside.basis.items;
-    values = c.self.inside.values.items; bounds = bs; usable = c.self.inside.usable } in s) e
+    ap (λ (bs : List Standing). let s : State = record {
+      given = (state_of c.self.inside).given;
+      columns = c.self.inside.columns;
+      basis = c.self.inside.basis.items;
+      values = c.self.inside.values.items;
+      bounds = bs;
+      usable = c.self.inside.usable;
+    } in s) e
     ∙ ap (λ (s : State). let t : State = record { given = s.given; columns = s.columns; basis = s.basis; values = s.values; bounds = take c.args.mark s.bounds; usable = s.usable } in t) c.self.view_is
