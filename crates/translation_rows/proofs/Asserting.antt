@@ -9,11 +9,11 @@ use Rattle.lus_meaning.specs.Scene.{Instance}
 use Rattle.lus_meaning.specs.Run.{sort_of_name}
 use Rattle.lus_meaning.specs.Slots.{Slot, slots}
 use Rattle.meaning_rows.specs.BodyRows.{asserting}
-use Rattle.sys_build.specs.Slot.{Spot, beat, named, memory, starting, so_far, held, place_of, number_in}
-use Rattle.sys_build.specs.Items.{Key}
-use Rattle.sys_build.specs.System.{number_of}
-use Rattle.sys_build.specs.Law.{TreeDistinct}
-use Rattle.sys_build.specs.WellTyped.{TreeFits, WellTyped, HasPlace, slot_sort}
+use Rattle.sys_meaning.specs.Slot.{Spot, beat, named, memory, starting, so_far, held, place_of, number_in}
+use Rattle.sys_meaning.specs.Items.{Key}
+use Rattle.sys_meaning.specs.System.{number_of}
+use Rattle.sys_meaning.specs.Law.{TreeDistinct}
+use Rattle.sys_meaning.specs.WellTyped.{TreeFits, WellTyped, HasPlace, slot_sort}
 
 abbrev pub no_modes : Instance → Key → Type 0
 no_modes j key = ⊥

@@ -59,12 +59,12 @@ use Rattle.kind_num.specs.declared.Shape.TheVariants.{Flag, Number}
 use Rattle.sys_terms.specs.declared.term.Entry.TheVariants as entries
 use Rattle.sys_terms.specs.View as t
 use Rattle.sys_terms.specs.View.{Formula}
-use Rattle.sys_build.specs.System.{system_of}
+use Rattle.sys_meaning.specs.System.{system_of}
 use Rattle.lus_meaning.specs.Value.{Value, absent, whole}
 use Rattle.lus_meaning.specs.Value as v
 use Rattle.lus_meaning.specs.Frame.{Frame, frame, no_frames, with_frame}
-use Rattle.sys_build.specs.State.{states_of}
-use Rattle.sys_build.specs.Path.{frame_of_path}
+use Rattle.sys_meaning.specs.State.{states_of}
+use Rattle.sys_meaning.specs.Path.{frame_of_path}
 
 abbrev pub accumulator : Component
 accumulator = record {

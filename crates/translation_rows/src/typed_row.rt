@@ -2,9 +2,9 @@
 
 ghost use Rattle.std.specs.Prelude.{[]};
 ghost use Rattle.meaning_rows.specs.BodyRows.{asserting};
-ghost use Rattle.sys_build.specs.Law.{TreeDistinct};
-ghost use Rattle.sys_build.specs.System.{number_of};
-ghost use Rattle.sys_build.specs.WellTyped.{WellTyped};
+ghost use Rattle.sys_meaning.specs.Law.{TreeDistinct};
+ghost use Rattle.sys_meaning.specs.System.{number_of};
+ghost use Rattle.sys_meaning.specs.WellTyped.{WellTyped};
 
 /// A node with an equation, an assertion and a property has its types, clocks and places.
 pub fn asserting_typed_row()

@@ -1,5 +1,0 @@
-use Rattle.sys_build.proofs.OneRun.{runs_are_paths}
-use Rattle.sys_build.proofs.laws.runs_are_paths.Goals as goal
-
-pub returns : goal.returns
-returns c = runs_are_paths

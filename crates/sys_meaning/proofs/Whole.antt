@@ -1,0 +1,144 @@
+-- For declarations without contracts: the states of a run are a path.
+use Rattle.std.proofs.Common.{◌≡◌, ℕ, zero, suc, pred, ◌<◌, true, List, [], ◌∷◌, refl, ap, ◌∙◌, sym, subst, arith, None}
+use Rattle.std.specs.List.{AllByRecursion}
+use Rattle.lus_tree.specs.declared.place.Sort.{Sort}
+use Rattle.lus_tree.specs.declared.place.Sort.TheVariants.{Bool as Flags}
+use Rattle.lus_tree.specs.Tree.{Variable}
+use Rattle.lus_meaning.specs.Value.{Instants, has_sort}
+use Rattle.lus_meaning.specs.Frame.{Frame, call_frame, calls_in}
+use Rattle.lus_meaning.specs.Scene.{Manner, plain, while_true, as_import, Instance, Instances, instance, no_instances, with_instance, instance_at, component_of, calls_of, call_instance}
+use Rattle.lus_meaning.specs.Contract.{scene}
+use Rattle.lus_meaning.specs.Slots.{Slot, slots}
+use Rattle.lus_meaning.specs.Run.{IsRun, active, sort_of, sort_of_name}
+use Rattle.lus_meaning.specs.Trace.{or_default}
+use Rattle.lus_meaning.specs.Verdict.{throughout}
+use Rattle.sys_terms.specs.Meaning.{Values, values_of}
+use Rattle.sys_meaning.specs.Slot.{Spot, Place, beat, named, memory, starting, so_far, held, place_of, spot_of}
+use Rattle.sys_meaning.specs.Items.{Key}
+use Rattle.sys_meaning.specs.Defaults.{site_of}
+use Rattle.sys_meaning.specs.State.{reading, remembered, still_starting, held_before, state_of}
+use Rattle.sys_meaning.specs.Path.{Course}
+use Rattle.sys_meaning.specs.Part.{value_in}
+use Rattle.sys_meaning.specs.System.{below_call, number_of, assumed, stage, so_far_next, so_far_first}
+use Rattle.sys_meaning.specs.Law.{RunsToPaths}
+use Rattle.sys_meaning.specs.WellTyped.{HasSpot, HasPlace, OutputFits, TreeFits, CallsFit, count_of}
+use Rattle.sys_meaning.proofs.Shown.{value_has}
+use Rattle.sys_meaning.proofs.Rows.{OwnShown}
+use Rattle.sys_meaning.proofs.Pools.{true_all}
+use Rattle.sys_meaning.proofs.Balanced.{Picked, pick, join_all}
+use Rattle.sys_meaning.proofs.Shows.{Reads, state_reads, call_reads}
+use Rattle.sys_meaning.proofs.Owned.{run_called, stream_typed, sorted_default, typed_default}
+use Rattle.sys_meaning.proofs.Forward.{Contracts, modes_of, calls_of_run, own_fits, calls_fit, shown_here}
+use Rattle.sys_meaning.proofs.Onward.{SoFar}
+use Rattle.sys_meaning.proofs.RunPath.{run_is_path}
+
+pub fits_at : (Modes : Instance → Key → Type 0) (i : Instance) (is : Instances) (p j : ℕ) →
+    CallsFit Modes i is p → j < count_of is → TreeFits Modes (instance_at is j)
+fits_at Modes i no_instances p j w h = absurd (omega arith)
+fits_at Modes i (with_instance c k is) p zero w h = w.1
+fits_at Modes i (with_instance c k is) p (suc j) w h = fits_at Modes i is (suc p) j w.2 (omega arith)
+
+pub fits_called : (Modes : Instance → Key → Type 0) (i : Instance) (k : ℕ) → 0 < k →
+    pred k < count_of (calls_of i) → CallsFit Modes i (calls_of i) 0 → TreeFits Modes (call_instance i k)
+fits_called Modes i zero c h w = absurd (omega arith)
+fits_called Modes i (suc p) c h w = fits_at Modes i (calls_of i) 0 p w h
+
+module _ (Modes : Instance → Key → Type 0) (contracts : Contracts Modes) (c : Course) (n : ℕ) where
+  own_sorted : (i : Instance) (at : Place → ℕ) (b : Instants) (f : Frame) (run : IsRun i n b f)
+      (fits : TreeFits Modes i) (reads : (t : ℕ) → t < n → Reads Modes i at b f t (c t)) (t : ℕ) → t < n →
+      (p : Spot) (z : Sort) → HasSpot i (Modes i) p z → has_sort z (or_default z (reading i b f ([], p) t)) ≡ true
+  own_sorted i at b f run fits reads t h beat z w = rw w refl
+  own_sorted i at b f run fits reads t h (named x) z w =
+      rw (sym w.2) (typed_default (sort_of_name i x) _ _ (stream_typed Modes i at c n b f (modes_of Modes i at) run
+      (calls_of_run i n b f run) reads (own_fits Modes i fits) t h x w.1 w.0))
+  own_sorted i at b f run fits reads t h (memory k) z w =
+      let sh : OwnShown (scene i b f) (Modes i) at (c t) (c t) t (modes_of Modes i at) =
+      shown_here Modes contracts c n i at b f run fits reads t h (c t) in
+      rw (sym w.3) (ap (λ o. has_sort (sort_of i w.1) (or_default (sort_of i w.1) (remembered
+      (scene i b f) k o t))) w.2 ∙ sorted_default (sort_of i w.1) _ (rw (sym (sh.memories k w.0 w.1 w.2))
+      (value_has (c t) (sort_of i w.1) (at ([], memory k)))))
+  own_sorted i at b f run fits reads t h (starting k) z w =
+      rw w.2 (ap (λ o. has_sort Flags (or_default Flags (still_starting (scene i b f) o t))) w.1)
+  own_sorted i at b f run fits reads t h so_far z w = rw w.0 refl
+  own_sorted i at b f run fits reads t h (held k x) z w =
+      rw (sym w.5) (by (pick x Good (component_of (call_instance i k)).outputs (join_all (OutputFits i (Modes i) k)
+      (λ v. value_in (c t) v.sort (at ([], held k v.name.text)) ≡ held_before (scene i b f) k v.name.text t)
+      (component_of (call_instance i k)).outputs w.3.call.named (sh.held k w.0 w.1 w.2 w.3)) w.4))
+    where
+      Good : Variable → Type 0
+      Good v = OutputFits i (Modes i) k v
+          × (value_in (c t) v.sort (at ([], held k v.name.text)) ≡ held_before (scene i b f) k v.name.text t)
+
+      sh : OwnShown (scene i b f) (Modes i) at (c t) (c t) t (modes_of Modes i at)
+      sh = shown_here Modes contracts c n i at b f run fits reads t h (c t)
+
+      by : Picked x Good →
+          has_sort (sort_of_name (call_instance i k) x) (or_default (sort_of_name (call_instance i k) x)
+          (held_before (scene i b f) k x t)) ≡ true
+      by r = subst (λ y. has_sort (sort_of_name (call_instance i k) y) (or_default (sort_of_name
+          (call_instance i k) y) (held_before (scene i b f) k y t)) ≡ true) r.same
+          (rw (r.holds.0.1) (sorted_default r.variable.sort (held_before (scene i b f) k r.variable.name.text t)
+          (rw (sym r.holds.1) (value_has (c t) r.variable.sort (at ([], held k r.variable.name.text))))))
+
+  -- what a place reads has its type, or is absent
+  pub place_sorted : (ks : List ℕ) (i : Instance) (at : Place → ℕ) (b : Instants) (f : Frame) (run : IsRun i n b f)
+      (fits : TreeFits Modes i) (reads : (t : ℕ) → t < n → Reads Modes i at b f t (c t)) (t : ℕ) → t < n →
+      (p : Spot) (z : Sort) → HasPlace Modes ks i p z → has_sort z (or_default z (reading i b f (ks, p) t)) ≡ true
+  place_sorted [] i at b f run fits reads t h p z w = own_sorted i at b f run fits reads t h p z w
+  place_sorted (k ∷ ks) i at b f run fits reads t h p z w =
+      place_sorted ks (call_instance i k) (below_call k at) (active (scene i b f) (site_of i k)) (call_frame f k)
+      (run_called i n (scene i b f) (calls_in f) k w.0.counted w.0.listed (calls_of_run i n b f run))
+      (fits_called Modes i k w.0.counted w.0.listed (calls_fit Modes i fits))
+      (λ t h. call_reads Modes i at b f t (c t) (reads t h) k w.0) t h p z w.1
+
+-- ---- without contracts
+
+abbrev pub no_modes : Instance → Key → Type 0
+no_modes j key = ⊥
+
+pub no_contracts : Contracts no_modes
+no_contracts i at c n b f run reads fits t h nx sh d m e o = absurd e
+
+no_so_far : (c : Course) (n : ℕ) → SoFar no_modes c n
+no_so_far c n =
+    record {
+      next = λ m i at b f fits run reads t h. next m i at (c t) (c
+          (suc t)) fits.contract;
+      first = λ m i at b f fits run reads h. first m i at (c 0) (c 0) fits.contract;
+    }
+  where
+    next : (m : Manner) (i : Instance) (at : Place → ℕ) (now then : Values) → (component_of i).contract ≡ None →
+        true_all now then (so_far_next (stage i at) m)
+    next (as_import xs) i at now then e = tt
+    next plain i at now then e = rw e tt
+    next (while_true a) i at now then e = rw e tt
+
+    first : (m : Manner) (i : Instance) (at : Place → ℕ) (now then : Values) → (component_of i).contract ≡ None →
+        true_all now then (so_far_first (stage i at) m)
+    first (as_import xs) i at now then e = tt
+    first plain i at now then e = rw e tt
+    first (while_true a) i at now then e = rw e tt
+
+nothing_assumed : (i : Instance) (at : Place → ℕ) (now : Values) → (component_of i).contract ≡ None →
+    true_all now now (assumed i at)
+nothing_assumed (instance d cs is) at now e = rw e tt
+
+-- the first direction, for declarations without contracts
+pub runs_to_paths : RunsToPaths
+runs_to_paths i w n f t run h l = run_is_path no_modes no_contracts i w n f run
+    (λ t h. each t h (slots i) w.slots)
+    (no_so_far c n) (λ t h a. nothing_assumed i (number_of i) (values_of (state_of i f t))
+    (own_fits no_modes i w.tree).contract) t h l
+  where
+    c : Course
+    c t = values_of (state_of i f t)
+
+    each : (t : ℕ) → t < n → (qs : List Slot) →
+        AllByRecursion (λ q. HasPlace no_modes q.path i (spot_of q.cell) q.sort) qs →
+        AllByRecursion (λ q. has_sort q.sort (or_default q.sort (reading i throughout f (place_of q) t)) ≡ true) qs
+    each t h [] a = tt
+    each t h (q ∷ qs) a = (
+      place_sorted no_modes no_contracts c n q.path i (number_of i) throughout f run w.tree
+          (λ t h. state_reads no_modes i w f t) t h (spot_of q.cell) q.sort a.0,
+      each t h qs a.1,
+    )
