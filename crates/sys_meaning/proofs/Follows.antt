@@ -62,7 +62,7 @@ some_same {A} x y e = ap inside e
     inside None = x
     inside (Some z) = z
 
-none_some : {A : Type 0} (x : A) → None ≡ Some x → ⊥
+pub none_some : {A : Type 0} (x : A) → None ≡ Some x → ⊥
 none_some x e = false≢true (ap is_some e)
 
 -- a property and its formula at one place

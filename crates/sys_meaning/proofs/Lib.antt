@@ -31,3 +31,8 @@ pub mod Reading
 pub mod Lawful
 pub mod PathStates
 pub mod OneRun
+pub mod Found
+pub mod Cells
+pub mod BooleanText
+pub mod CheckedFits
+pub mod CheckedRuns

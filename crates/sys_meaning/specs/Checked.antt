@@ -1,0 +1,74 @@
+-- What the translation says of a checked program of the Boolean language.
+use Rattle.std.specs.Prelude.{◌≡◌, ℕ, pred, ◌≤◌, List, [], Some, length, slice_get}
+use Rattle.lus_tree.specs.Tree.{Component, Program}
+use Rattle.lus_meaning.specs.Frame.{Frame}
+use Rattle.lus_meaning.specs.Scene.{Instance}
+use Rattle.lus_meaning.specs.Program.{instance_of}
+use Rattle.lus_meaning.specs.Contract.{Property}
+use Rattle.lus_meaning.specs.Property.{properties}
+use Rattle.lus_meaning.specs.Verdict.{Breaks}
+use Rattle.lus_meaning.specs.Trace.{IsFrameOf}
+use Rattle.lus_meaning.specs.TraceView.{Listing, lines_of}
+use Rattle.lus_meaning.specs.Fits.{FitsInstance, FitsProgram}
+use Rattle.lus_meaning.specs.Replay.{Shown, ReplaysTrace}
+use Rattle.lus_meaning.specs.BooleanRules.{IsBooleanChecked}
+use Rattle.sys_terms.specs.declared.term.Entry.{Entry}
+use Rattle.sys_terms.specs.Paths.{IsPath}
+use Rattle.sys_terms.specs.Paths as paths
+use Rattle.sys_meaning.specs.System.{number_of, system_of}
+use Rattle.sys_meaning.specs.Path.{frame_of_path, trace_of, TraceOfPath}
+use Rattle.sys_meaning.specs.WellTyped.{WellTyped}
+use Rattle.sys_meaning.specs.Law.{TreeDistinct, RunsArePaths, LemmaLaw, PropertyLaw}
+
+-- what is so of the instance of a checked program
+abbrev pub OfChecked : (Instance → Type 0) → Type 0
+OfChecked P = (p : Program) (d : Component) → IsBooleanChecked p d → P (instance_of p d)
+
+-- its text has its types, clocks and places, and the sources of its names have different names
+abbrev pub CheckedIsWellTyped : Type 0
+CheckedIsWellTyped = OfChecked (λ i. WellTyped (λ j key. ⊥) i × TreeDistinct i (number_of i) [])
+
+-- its runs are paths, and each path is that of one run
+abbrev pub CheckedRunsArePaths : Type 0
+CheckedRunsArePaths = OfChecked RunsArePaths
+
+-- what follows for lemmas and for properties
+abbrev pub CheckedLemmas : Type 0
+CheckedLemmas = OfChecked LemmaLaw
+
+abbrev pub CheckedProperties : Type 0
+CheckedProperties = OfChecked PropertyLaw
+
+-- ---- the trace of a path
+
+-- it fits, the path's frame is its frame, and it has no other
+pub record HasTrace (i : Instance) (states : List (List Entry)) : Type 0 where
+  pub fits : FitsInstance i (length states) (trace_of i states)
+  pub frame : IsFrameOf (trace_of i states) i (length states) (frame_of_path i states)
+  pub only : (g : Frame) → IsFrameOf (trace_of i states) i (length states) g → g ≡ frame_of_path i states
+
+abbrev pub CheckedTraces : Type 0
+CheckedTraces = OfChecked (λ i. (states : List (List Entry)) → IsPath (system_of i) states → HasTrace i states)
+
+-- a path that breaks the property of this number breaks it by its frame, at the last instant
+abbrev pub BreaksAtLast : Instance → Type 0
+BreaksAtLast i = (k : ℕ) (states : List (List Entry)) → paths.Breaks (system_of i) k states →
+    (q : Property) × (slice_get (properties i) k ≡ Some q) × Breaks i q (frame_of_path i states) (pred (length states))
+
+abbrev pub CheckedBreaks : Type 0
+CheckedBreaks = OfChecked BreaksAtLast
+
+-- a trace of this node that lists what the trace of the path does
+pub record IsTraceOf (p : Program) (d : Component) (states : List (List Entry)) (t : Listing) : Type 0 where
+  pub node : t.node ≡ d.name.text
+  pub length : t.length ≡ length states
+  pub lines : lines_of t ≡ trace_of (instance_of p d) states
+
+-- The trace of a path of at most 1,001 states that breaks a property fits the program, and each replay of it shows that the
+-- property breaks at the last instant.
+abbrev pub CheckedReplays : Type 0
+CheckedReplays =
+    (p : Program) (d : Component) → IsBooleanChecked p d → (k : ℕ) (states : List (List Entry)) →
+    paths.Breaks (system_of (instance_of p d)) k states → length states ≤ 1001 → (t : Listing) →
+    IsTraceOf p d states t →
+    FitsProgram p t × ((s : Shown) → ReplaysTrace p t s → s.breaks k ≡ Some (pred (length states)))

@@ -1,0 +1,22 @@
+//! The laws of the translation for checked programs of the Boolean language.
+
+ghost use Rattle.sys_meaning.specs.Checked.{CheckedBreaks, CheckedIsWellTyped, CheckedLemmas, CheckedProperties, CheckedRunsArePaths};
+
+/// The text of a checked program has its types, clocks and places, and the sources of its names have different names.
+pub fn checked_is_well_typed()
+    ensures { CheckedIsWellTyped }
+{}
+
+/// The runs of a checked program are paths, and each path is that of one run. A formula is true in all reachable states
+/// exactly where it is true in each state of a run at a lawful instant, and a property holds exactly where no path ends
+/// with its formula false.
+pub fn checked_runs_are_paths()
+    ensures runs { CheckedRunsArePaths }
+    ensures lemmas { CheckedLemmas }
+    ensures properties { CheckedProperties }
+{}
+
+/// A path of a checked program that breaks a property breaks it by its frame, at the last instant.
+pub fn checked_breaks()
+    ensures { CheckedBreaks }
+{}
