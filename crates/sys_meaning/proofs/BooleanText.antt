@@ -1,6 +1,6 @@
 -- The texts of a node of the Boolean language that follows the rules stand on the base clock, and its names, memories and
 -- flags are those that it declares and numbers.
-use Rattle.std.proofs.Common.{◌≡◌, ℕ, suc, pred, ◌<◌, ◌≤◌, ◌+◌, List, [], ◌∷◌, ◌++◌, map, flat_map, length, refl, ap, ◌∙◌, sym, subst, true, false, Some, None}
+use Rattle.std.proofs.Common.{◌≡◌, List, [], ◌∷◌, ◌++◌, map, flat_map, refl, ◌∙◌, sym, subst, true}
 use Rattle.std.specs.List.{AllByRecursion}
 use Rattle.std.proofs.lemmas.Grind.{flat_map-append}
 use Rattle.lus_tree.specs.declared.expression.Operator.{Operator}
@@ -8,22 +8,22 @@ use Rattle.lus_tree.specs.declared.expression.Operator.TheVariants.{Implies, Or,
 use Rattle.lus_tree.specs.declared.place.Sort.{Sort}
 use Rattle.lus_tree.specs.declared.place.Sort.TheVariants.{Bool as Flags}
 use Rattle.lus_tree.specs.Tree.{Name, Expression, truth, name, negation, pre, arrow, binary, choice, Statement, Component}
-use Rattle.lus_tree.specs.Numbers.{a_pre, an_arrow, body_expressions, pre_number, arrow_number, all_numbers, are_counted, IsNumbered}
+use Rattle.lus_tree.specs.Numbers.{a_pre, an_arrow, body_expressions, are_counted, IsNumbered}
 use Rattle.lus_meaning.specs.Scene.{base, Instance, instance, no_instances, clock_of}
 use Rattle.lus_meaning.specs.Occurrences.{Standing, within, before, on_clock, as_side, occurs, Occurrence, occurrences, Text, statement_texts, memory_in, start_in, Memory, memories, Start, starts}
 use Rattle.lus_meaning.specs.Property.{assertions}
-use Rattle.lus_meaning.specs.Run.{Equation, equations, body_equations, sort_of}
-use Rattle.lus_meaning.specs.Depends.{named_in, left_names}
+use Rattle.lus_meaning.specs.Run.{equations, body_equations, sort_of}
+use Rattle.lus_meaning.specs.Depends.{named_in}
 use Rattle.lus_meaning.specs.Rules.{declared_names, lefts}
 use Rattle.lus_meaning.specs.BooleanRules.{IsOfFlags, IsBooleanExpression, IsBooleanItem, IsBooleanNode, used_names, HasBooleanNames}
-use Rattle.lus_meaning.proofs.Lists.{all_from, both_parts}
+use Rattle.lus_meaning.proofs.Lists.{both_parts}
 use Rattle.lus_meaning.proofs.Now.{left_part, right_part}
 use Rattle.lus_meaning.proofs.Numbering.{memory_numbers, start_numbers}
 use Rattle.lus_meaning.proofs.BooleanNode.{read_in, read_texts, read_first, of_boolean_item, boolean_texts, boolean_equations, boolean_on_base}
 use Rattle.lus_meaning.proofs.BooleanFirsts.{boolean_is_flag, boolean_name_is_flag, boolean_counted}
 use Rattle.sys_meaning.specs.Items.{Key}
 use Rattle.sys_meaning.specs.WellTyped.{Takes, checked, IsNameOn, IsMemory, IsStart, HasConstant, Stands, ClockFits, right_sorts, EquationFits}
-use Rattle.sys_meaning.proofs.Found.{found, all_found}
+use Rattle.sys_meaning.proofs.Found.{all_found}
 
 -- ---- operators
 

@@ -1,41 +1,40 @@
 -- A node of the Boolean language that follows the rules is well typed.
-use Rattle.std.proofs.Common.{◌≡◌, ℕ, zero, suc, pred, ◌<◌, ◌≤◌, ◌+◌, true, false, List, [], ◌∷◌, ◌++◌, map, flat_map, length, refl, ap, ◌∙◌, sym, subst, arith, Option, Some, None, is_some, option_map, slice_get}
+use Rattle.std.proofs.Common.{◌≡◌, ℕ, zero, suc, pred, ◌<◌, ◌≤◌, ◌+◌, true, false, List, [], ◌∷◌, ◌++◌, map, flat_map, length, refl, ap, ◌∙◌, sym, subst, arith, Some, is_some, option_map, slice_get}
 use Rattle.std.specs.Prelude.{◌==◌}
 use Rattle.std.specs.List.{AllByRecursion}
 use Rattle.std.specs.Str.{bytes_eq}
 use Rattle.std.proofs.lemmas.Bool.{false≢true}
 use Rattle.lus_tree.specs.declared.place.Sort.{Sort}
 use Rattle.lus_tree.specs.declared.place.Sort.TheVariants.{Bool as Flags}
-use Rattle.lus_tree.specs.Tree.{Name, Expression, Variable, Component, Program, declared_node}
+use Rattle.lus_tree.specs.Tree.{Name, Expression, Variable, Component}
 use Rattle.lus_tree.specs.Numbers.{times, body_pres, IsNumbered}
 use Rattle.lus_meaning.specs.Scene.{Clock, base, plain, Instance, instance, no_instances, clock_from, variables}
 use Rattle.lus_meaning.specs.Occurrences.{Memory, memories, Start, starts}
-use Rattle.lus_meaning.specs.Program.{in_order, instance_of}
-use Rattle.lus_meaning.specs.Run.{Equation, equations, first_sorts, inputs_of, sort_of, sort_of_name}
-use Rattle.lus_meaning.specs.Depends.{named_in, left_names}
+use Rattle.lus_meaning.specs.Program.{in_order}
+use Rattle.lus_meaning.specs.Run.{Equation, equations, first_sorts, inputs_of, sort_of}
+use Rattle.lus_meaning.specs.Depends.{named_in}
 use Rattle.lus_meaning.specs.WellMade.{AreDistinct}
 use Rattle.lus_meaning.specs.Slots.{Cell, beat_cell, name_cell, memory_cell, start_cell, own_cells, contract_cells, cell_sort, Slot, slot, slots}
-use Rattle.lus_meaning.specs.Rules.{IsFlag, declared_names}
-use Rattle.lus_meaning.specs.BooleanRules.{IsBooleanNode, HasBooleanNames, IsBooleanChecked}
+use Rattle.lus_meaning.specs.Rules.{IsFlag}
+use Rattle.lus_meaning.specs.BooleanRules.{IsBooleanNode, HasBooleanNames}
 use Rattle.lus_meaning.proofs.Lists.{all_from, all_from_both, all_from_three, both_parts, mapped_all, append_none, map_append, or_true}
-use Rattle.lus_meaning.proofs.Now.{left_part, right_part}
+use Rattle.lus_meaning.proofs.Now.{left_part}
 use Rattle.lus_meaning.proofs.Exists.{self_bytes, length_mapped}
 use Rattle.lus_meaning.proofs.InOrder.{counted_within, in_order_all}
 use Rattle.lus_meaning.proofs.BooleanNode.{boolean_flags, boolean_variables, boolean_on_base, boolean_checked_instance}
 use Rattle.lus_meaning.proofs.BooleanFirsts.{boolean_firsts, boolean_name_is_flag, boolean_numbers}
-use Rattle.sys_meaning.specs.Slot.{Spot, beat, named, memory, starting, so_far, held, Place, spot_of, place_of, same_spot, number_in}
-use Rattle.sys_meaning.specs.Items.{Key}
+use Rattle.sys_meaning.specs.Slot.{Spot, beat, named, memory, starting, so_far, held, spot_of, place_of, same_spot, number_in}
 use Rattle.sys_meaning.specs.System.{Sources, paired, equation_sources, stage, number_of}
 use Rattle.sys_meaning.specs.Translate.{Stage, right_terms}
 use Rattle.sys_meaning.specs.Part.{Part}
 use Rattle.sys_meaning.specs.System as system
 use Rattle.sys_meaning.specs.Law.{TreeDistinct}
 use Rattle.sys_meaning.specs.Checked.{CheckedIsWellTyped}
-use Rattle.sys_meaning.specs.WellTyped.{IsNameOn, IsMemory, IsStart, MemoryFits, StartFits, StreamFits, OwnFits, HasSpot, HasPlace, TreeFits, WellTyped, slot_sort}
+use Rattle.sys_meaning.specs.WellTyped.{IsNameOn, IsMemory, MemoryFits, StartFits, StreamFits, OwnFits, HasSpot, HasPlace, WellTyped, slot_sort}
 use Rattle.sys_meaning.proofs.Whole.{no_modes}
 use Rattle.sys_meaning.proofs.Owned.{found_one}
-use Rattle.sys_meaning.proofs.Found.{found, found_number, some_found, once, found_in_order, in_order_differ}
-use Rattle.sys_meaning.proofs.Cells.{CellsApart, apart_both, all_mapped, everywhere, names_apart, memories_apart, starts_apart, Apart, own_number, sort_at, slots_sort, slots_apart, sort_skips, sort_first, sort_of_named, sort_of_memory, sort_of_start}
+use Rattle.sys_meaning.proofs.Found.{found_number, some_found, once, found_in_order, in_order_differ}
+use Rattle.sys_meaning.proofs.Cells.{CellsApart, apart_both, all_mapped, everywhere, names_apart, memories_apart, starts_apart, own_number, sort_at, slots_sort, slots_apart, sort_skips, sort_first, sort_of_named, sort_of_memory, sort_of_start}
 use Rattle.sys_meaning.proofs.BooleanText.{no_key, IsDeclared, MemoryFound, StartFound, MemoryStands, IsOnBase, name_on, memories_counted, starts_counted, all_memories_found, all_starts_found, all_memories_stand, all_starts_stand, all_equations_fit, all_checks_stand, none_asserted}
 
 -- each of a list is listed

@@ -1,6 +1,5 @@
 -- The runs of a checked program are paths, and a path that breaks a property breaks it by its frame.
-use Rattle.std.proofs.Common.{◌≡◌, ℕ, zero, suc, pred, ◌<◌, ◌+◌, true, false, List, [], ◌∷◌, length, refl, ap, ◌∙◌, sym, arith, Option, Some, None, slice_get, get_or}
-use Rattle.lus_tree.specs.Tree.{Component, Program}
+use Rattle.std.proofs.Common.{◌≡◌, ℕ, zero, suc, pred, ◌<◌, ◌+◌, List, [], ◌∷◌, length, refl, ap, ◌∙◌, sym, arith, Option, Some, None, slice_get, get_or}
 use Rattle.lus_meaning.specs.Value.{flag}
 use Rattle.lus_meaning.specs.Frame.{Frame}
 use Rattle.lus_meaning.specs.Scene.{Instance}
@@ -10,7 +9,6 @@ use Rattle.lus_meaning.specs.Verdict.{throughout, Breaks}
 use Rattle.sys_terms.specs.declared.term.Entry.{Entry}
 use Rattle.sys_terms.specs.View.{Formula}
 use Rattle.sys_terms.specs.Paths.{IsTrueAt, IsFalseAt, IsFalseAtLastAlone, OfSome}
-use Rattle.sys_terms.specs.Paths as paths
 use Rattle.sys_meaning.specs.State.{state_of}
 use Rattle.sys_meaning.specs.Path.{frame_of_path}
 use Rattle.sys_meaning.specs.System.{number_of, system_of}

@@ -47,7 +47,7 @@ is_true : (b : Bool) → (b ≡ false → ⊥) → b ≡ true
 is_true true h = refl
 is_true false h = absurd (h refl)
 
-flag_inside : (a b : Bool) → flag a ≡ flag b → a ≡ b
+pub flag_inside : (a b : Bool) → flag a ≡ flag b → a ≡ b
 flag_inside a b e = ap inside e
   where
     inside : Value → Bool

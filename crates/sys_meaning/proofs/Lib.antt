@@ -36,3 +36,6 @@ pub mod Cells
 pub mod BooleanText
 pub mod CheckedFits
 pub mod CheckedRuns
+pub mod Tracing
+pub mod CheckedTrace
+pub mod CheckedReplay

@@ -16,7 +16,7 @@ use Rattle.sys_terms.specs.declared.term.Entry.{Entry}
 use Rattle.sys_terms.specs.Paths.{IsPath}
 use Rattle.sys_terms.specs.Paths as paths
 use Rattle.sys_meaning.specs.System.{number_of, system_of}
-use Rattle.sys_meaning.specs.Path.{frame_of_path, trace_of, TraceOfPath}
+use Rattle.sys_meaning.specs.Path.{frame_of_path, trace_of}
 use Rattle.sys_meaning.specs.WellTyped.{WellTyped}
 use Rattle.sys_meaning.specs.Law.{TreeDistinct, RunsArePaths, LemmaLaw, PropertyLaw}
 

@@ -15,7 +15,7 @@ use Rattle.sys_meaning.specs.State.{state_of, states_of}
 use Rattle.lus_meaning.specs.WellMade.{AreDistinct}
 use Rattle.sys_meaning.specs.Slot.{Place}
 use Rattle.sys_meaning.specs.Translate.{Stage}
-use Rattle.sys_meaning.specs.Path.{frame_of_path}
+use Rattle.sys_meaning.specs.Path.{TraceOfPath, frame_of_path}
 use Rattle.sys_meaning.specs.System.{Sources, stage, equation_sources, below_call, from_call, number_of, system_of}
 use Rattle.sys_meaning.specs.WellTyped.{WellTyped}
 
@@ -119,3 +119,7 @@ PathsToRuns = (i : Instance) → WellTyped (λ j key. ⊥) i → TreeDistinct i 
 -- runs are paths, and each path is that of one run, for a declaration without contracts
 abbrev pub RunsArePathsLaw : Type 0
 RunsArePathsLaw = (i : Instance) → WellTyped (λ j key. ⊥) i → TreeDistinct i (number_of i) [] → RunsArePaths i
+
+-- and the trace of a path has the path's frame
+abbrev pub TracesOfPaths : Type 0
+TracesOfPaths = (i : Instance) → WellTyped (λ j key. ⊥) i → TreeDistinct i (number_of i) [] → TraceOfPath i

@@ -1,6 +1,6 @@
 //! The laws of the translation for checked programs of the Boolean language.
 
-ghost use Rattle.sys_meaning.specs.Checked.{CheckedBreaks, CheckedIsWellTyped, CheckedLemmas, CheckedProperties, CheckedRunsArePaths};
+ghost use Rattle.sys_meaning.specs.Checked.{CheckedBreaks, CheckedIsWellTyped, CheckedLemmas, CheckedProperties, CheckedReplays, CheckedRunsArePaths, CheckedTraces};
 
 /// The text of a checked program has its types, clocks and places, and the sources of its names have different names.
 pub fn checked_is_well_typed()
@@ -16,7 +16,18 @@ pub fn checked_runs_are_paths()
     ensures properties { CheckedProperties }
 {}
 
+/// The trace of a path of a checked program fits it, and its one frame is the path's frame.
+pub fn checked_traces()
+    ensures { CheckedTraces }
+{}
+
 /// A path of a checked program that breaks a property breaks it by its frame, at the last instant.
 pub fn checked_breaks()
     ensures { CheckedBreaks }
+{}
+
+/// The trace of a path that breaks a property fits the program, and each replay of it shows that the property breaks at
+/// the last instant.
+pub fn checked_replays()
+    ensures { CheckedReplays }
 {}

@@ -1,6 +1,6 @@
 //! The laws of the translation.
 
-ghost use Rattle.sys_meaning.specs.Law.{PathsToRuns, RunsArePathsLaw, RunsToPaths, TruthsInRuns, WhatFollows};
+ghost use Rattle.sys_meaning.specs.Law.{PathsToRuns, RunsArePathsLaw, RunsToPaths, TracesOfPaths, TruthsInRuns, WhatFollows};
 
 /// The states of a run up to a lawful instant are a path of its declaration's system. The declaration and those that
 /// it reaches have no contract.
@@ -30,4 +30,9 @@ pub fn runs_are_paths()
 /// formula false.
 pub fn what_follows()
     ensures { WhatFollows }
+{}
+
+/// The trace of a path has the path's frame. The declaration and those that it reaches have no contract.
+pub fn traces_of_paths()
+    ensures { TracesOfPaths }
 {}
