@@ -43,7 +43,7 @@ last_end (x ∷ b) s d = last_end b s x
 pub same_end : (b c : States) (s t : List Entry) → b ++ s ∷ [] ≡ c ++ t ∷ [] → s ≡ t
 same_end b c s t e = sym (last_end b s []) ∙ ap (λ q. last_of q []) e ∙ last_end c t []
 
-is_true : (b : Bool) → (b ≡ false → ⊥) → b ≡ true
+pub is_true : (b : Bool) → (b ≡ false → ⊥) → b ≡ true
 is_true true h = refl
 is_true false h = absurd (h refl)
 

@@ -39,3 +39,4 @@ pub mod CheckedRuns
 pub mod Tracing
 pub mod CheckedTrace
 pub mod CheckedReplay
+pub mod CheckedVerdicts

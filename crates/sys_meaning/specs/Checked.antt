@@ -1,12 +1,14 @@
 -- What the translation says of a checked program of the Boolean language.
-use Rattle.std.specs.Prelude.{◌≡◌, ℕ, pred, ◌≤◌, List, [], Some, length, slice_get}
+use Rattle.std.specs.Prelude.{◌≡◌, ℕ, suc, pred, ◌≤◌, ◌<◌, true, List, [], Some, length, slice_get}
 use Rattle.lus_tree.specs.Tree.{Component, Program}
+use Rattle.lus_meaning.specs.Value.{flag}
 use Rattle.lus_meaning.specs.Frame.{Frame}
 use Rattle.lus_meaning.specs.Scene.{Instance}
 use Rattle.lus_meaning.specs.Program.{instance_of}
 use Rattle.lus_meaning.specs.Contract.{Property}
-use Rattle.lus_meaning.specs.Property.{properties}
-use Rattle.lus_meaning.specs.Verdict.{Breaks}
+use Rattle.lus_meaning.specs.Run.{IsRun}
+use Rattle.lus_meaning.specs.Property.{IsLawful, properties}
+use Rattle.lus_meaning.specs.Verdict.{throughout, Holds, Breaks}
 use Rattle.lus_meaning.specs.Trace.{IsFrameOf}
 use Rattle.lus_meaning.specs.TraceView.{Listing, lines_of}
 use Rattle.lus_meaning.specs.Fits.{FitsInstance, FitsProgram}
@@ -15,10 +17,11 @@ use Rattle.lus_meaning.specs.BooleanRules.{IsBooleanChecked}
 use Rattle.sys_terms.specs.declared.term.Entry.{Entry}
 use Rattle.sys_terms.specs.Paths.{IsPath}
 use Rattle.sys_terms.specs.Paths as paths
+use Rattle.sys_terms.specs.Queries.{property_term}
 use Rattle.sys_meaning.specs.System.{number_of, system_of}
 use Rattle.sys_meaning.specs.Path.{frame_of_path, trace_of}
 use Rattle.sys_meaning.specs.WellTyped.{WellTyped}
-use Rattle.sys_meaning.specs.Law.{TreeDistinct, RunsArePaths, LemmaLaw, PropertyLaw}
+use Rattle.sys_meaning.specs.Law.{TreeDistinct, RunsArePaths, TrueReachable, LemmaLaw, PropertyLaw}
 
 -- what is so of the instance of a checked program
 abbrev pub OfChecked : (Instance → Type 0) → Type 0
@@ -38,6 +41,37 @@ CheckedLemmas = OfChecked LemmaLaw
 
 abbrev pub CheckedProperties : Type 0
 CheckedProperties = OfChecked PropertyLaw
+
+-- ---- verdicts
+
+-- as many formulas as properties
+abbrev pub HasFormulas : Instance → Type 0
+HasFormulas i = length (system_of i).properties ≡ length (properties i)
+
+-- a property holds whose formula is true in all reachable states
+abbrev pub HoldsWhereReachable : Instance → Type 0
+HoldsWhereReachable i = (k : ℕ) (q : Property) → slice_get (properties i) k ≡ Some q →
+    TrueReachable (system_of i) (property_term (system_of i) k) → Holds i q
+
+-- it is true at each lawful instant up to d of each run
+abbrev pub HoldsUpTo : Instance → Property → ℕ → Type 0
+HoldsUpTo i q d = (n : ℕ) (f : Frame) (t : ℕ) → IsRun i n throughout f → t < n → t ≤ d → IsLawful i throughout f t →
+    q.test throughout f t ≡ flag true
+
+-- a property with whose formula false no path of at most d + 1 states ends
+abbrev pub HoldsWhereBounded : Instance → Type 0
+HoldsWhereBounded i = (k d : ℕ) (q : Property) → slice_get (properties i) k ≡ Some q →
+    ((states : List (List Entry)) → IsPath (system_of i) states → length states ≤ suc d →
+    paths.IsFalseAtLast (property_term (system_of i) k) states → ⊥) → HoldsUpTo i q d
+
+abbrev pub CheckedFormulas : Type 0
+CheckedFormulas = OfChecked HasFormulas
+
+abbrev pub CheckedHolds : Type 0
+CheckedHolds = OfChecked HoldsWhereReachable
+
+abbrev pub CheckedBounds : Type 0
+CheckedBounds = OfChecked HoldsWhereBounded
 
 -- ---- the trace of a path
 

@@ -1,6 +1,6 @@
 //! The laws of the translation for checked programs of the Boolean language.
 
-ghost use Rattle.sys_meaning.specs.Checked.{CheckedBreaks, CheckedIsWellTyped, CheckedLemmas, CheckedProperties, CheckedReplays, CheckedRunsArePaths, CheckedTraces};
+ghost use Rattle.sys_meaning.specs.Checked.{CheckedBounds, CheckedBreaks, CheckedFormulas, CheckedHolds, CheckedIsWellTyped, CheckedLemmas, CheckedProperties, CheckedReplays, CheckedRunsArePaths, CheckedTraces};
 
 /// The text of a checked program has its types, clocks and places, and the sources of its names have different names.
 pub fn checked_is_well_typed()
@@ -14,6 +14,14 @@ pub fn checked_runs_are_paths()
     ensures runs { CheckedRunsArePaths }
     ensures lemmas { CheckedLemmas }
     ensures properties { CheckedProperties }
+{}
+
+/// A checked program has as many formulas as properties. A property holds whose formula is true in all reachable states,
+/// and where no path of at most d + 1 states ends with its formula false it is true at each lawful instant up to d.
+pub fn checked_verdicts()
+    ensures formulas { CheckedFormulas }
+    ensures valid { CheckedHolds }
+    ensures bounded { CheckedBounds }
 {}
 
 /// The trace of a path of a checked program fits it, and its one frame is the path's frame.
