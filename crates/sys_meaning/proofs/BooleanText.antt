@@ -1,5 +1,5 @@
--- The texts of a node of the Boolean language that follows the rules stand on the base clock, and its names, memories and
--- flags are those that it declares and numbers.
+-- The texts of a node of the Boolean language that follows the rules stand on the base clock, and its names, its `pre`
+-- and its `->` are those that it declares and numbers.
 use Rattle.std.proofs.Common.{◌≡◌, List, [], ◌∷◌, ◌++◌, map, flat_map, refl, ◌∙◌, sym, subst, true}
 use Rattle.std.specs.List.{AllByRecursion}
 use Rattle.std.proofs.lemmas.Grind.{flat_map-append}
@@ -311,7 +311,8 @@ module _ (d : Component) (node : IsBooleanNode d) where
   one_fits : (x : Name) (e : Expression) → IsDeclared x → Known (as_side (clock_of d x)) e →
       EquationFits i no_key record { names = x ∷ []; right = e }
   one_fits x e h k = record {
-    right = subst (λ c. Stands i no_key c e) (sym (boolean_on_base d node x)) (text_stands (as_side (clock_of d x)) e k);
+    right = subst (λ c. Stands i no_key c e) (sym (boolean_on_base d node x))
+        (text_stands (as_side (clock_of d x)) e k);
     names = (record { stream = refl; declared = h; clock = refl }, tt);
     sorts = rw (boolean_name_is_flag d node x, one_sort e k.boolean, boolean_is_flag d node e k.boolean) refl;
     clock = subst (ClockFits i no_key) (sym (boolean_on_base d node x)) tt;

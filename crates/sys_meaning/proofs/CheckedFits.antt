@@ -195,7 +195,8 @@ module _ (d : Component) (node : IsBooleanNode d) (names : HasBooleanNames d) (n
   slots_are : slots i ≡ map (slot i []) cells
   slots_are =
       append_none (map (slot i []) (own_cells plain d))
-      ∙ ap (λ c. map (slot i []) (beat_cell ∷ (name_cells ++ (memory_cells ++ (start_cells ++ contract_cells plain c)))))
+      ∙ ap (λ c. map (slot i [])
+      (beat_cell ∷ (name_cells ++ (memory_cells ++ (start_cells ++ contract_cells plain c)))))
       node.contract
       ∙ ap (λ cs. map (slot i []) (beat_cell ∷ (name_cells ++ (memory_cells ++ cs)))) (append_none start_cells)
 

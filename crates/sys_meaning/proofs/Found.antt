@@ -24,7 +24,8 @@ turned k j = go (cases_Bool (eqb j k))
 
 listed_so : (f : ℕ → Bool) (m n : ℕ) → list_all f (counting m n) ≡ true → (k : ℕ) → m ≤ k → k < m + n → f k ≡ true
 listed_so f m zero e k a b = absurd (omega arith)
-listed_so f m (suc n) e k a b = go (f m) refl e (cases_Bool (eqb m k)) (λ e l. listed_so f (suc m) n e k l (omega arith))
+listed_so f m (suc n) e k a b =
+    go (f m) refl e (cases_Bool (eqb m k)) (λ e l. listed_so f (suc m) n e k l (omega arith))
   where
     go : (c : Bool) → f m ≡ c → (c && list_all f (counting (suc m) n)) ≡ true → (eqb m k ≡ true) ⊎ (eqb m k ≡ false) →
         (list_all f (counting (suc m) n) ≡ true → suc m ≤ k → f k ≡ true) → f k ≡ true
@@ -65,7 +66,8 @@ module _ {A : Type 0} (at : A → ℕ) where
   later : (x z : A) (xs : List A) → times (at z) (at x ∷ map at xs) ≡ 1 → 1 ≤ times (at z) (map at xs) → Later x z xs
   later x z xs e l = go (eqb (at z) (at x)) refl e
     where
-      go : (c : Bool) → eqb (at z) (at x) ≡ c → cond c (suc (times (at z) (map at xs))) (times (at z) (map at xs)) ≡ 1 → Later x z xs
+      go : (c : Bool) → eqb (at z) (at x) ≡ c →
+          cond c (suc (times (at z) (map at xs))) (times (at z) (map at xs)) ≡ 1 → Later x z xs
       go true q h = absurd (omega (arith, h, l))
       go false q h = record { other = q; one = h }
 

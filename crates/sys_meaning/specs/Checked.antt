@@ -98,8 +98,8 @@ pub record IsTraceOf (p : Program) (d : Component) (states : List (List Entry)) 
   pub length : t.length ≡ length states
   pub lines : lines_of t ≡ trace_of (instance_of p d) states
 
--- The trace of a path of at most 1,001 states that breaks a property fits the program, and each replay of it shows that the
--- property breaks at the last instant.
+-- The trace of a path of at most 1,001 states that breaks a property fits the program, and each replay of it shows that
+-- the property breaks at the last instant.
 abbrev pub CheckedReplays : Type 0
 CheckedReplays =
     (p : Program) (d : Component) → IsBooleanChecked p d → (k : ℕ) (states : List (List Entry)) →

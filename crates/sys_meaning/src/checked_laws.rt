@@ -16,8 +16,9 @@ pub fn checked_runs_are_paths()
     ensures properties { CheckedProperties }
 {}
 
-/// A checked program has as many formulas as properties. A property holds whose formula is true in all reachable states,
-/// and where no path of at most d + 1 states ends with its formula false it is true at each lawful instant up to d.
+/// A checked program has as many formulas as properties. A property holds whose formula is true in all reachable
+/// states, and where no path of at most d + 1 states ends with its formula false it is true at each lawful instant up
+/// to d.
 pub fn checked_verdicts()
     ensures formulas { CheckedFormulas }
     ensures valid { CheckedHolds }

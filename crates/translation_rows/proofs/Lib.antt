@@ -1,1 +1,2 @@
 pub mod Asserting
+pub mod Against

@@ -1,1 +1,2 @@
 pub mod RichRow
+pub mod AgainstRow
