@@ -75,7 +75,7 @@ PropertyLaw i = (k : ℕ) (p : Property) (q : Formula) → slice_get (properties
 
 -- ---- for the first direction
 
--- the states of a run up to a lawful instant are a path, for a declaration without contracts
+-- the states of a run up to a lawful instant are a path, for a declaration without modes and imports
 abbrev pub RunsToPaths : Type 0
 RunsToPaths = (i : Instance) → WellTyped (λ j key. ⊥) i → (n : ℕ) (f : Frame) (t : ℕ) → IsRun i n throughout f →
     t < n → IsLawful i throughout f t → IsPath (system_of i) (states_of i f (suc t))
@@ -107,7 +107,7 @@ abbrev mutual
       × CallsDistinct is g
 
 -- the frame of a path is a run of as many instants, lawful at the last, and its states are the path; no other run is;
--- for a declaration without contracts
+-- for a declaration without modes and imports
 abbrev pub PathsToRuns : Type 0
 PathsToRuns = (i : Instance) → WellTyped (λ j key. ⊥) i → TreeDistinct i (number_of i) [] →
     (states : List (List Entry)) → IsPath (system_of i) states →
@@ -116,7 +116,7 @@ PathsToRuns = (i : Instance) → WellTyped (λ j key. ⊥) i → TreeDistinct i 
 
 -- ---- together
 
--- runs are paths, and each path is that of one run, for a declaration without contracts
+-- runs are paths, and each path is that of one run, for a declaration without modes and imports
 abbrev pub RunsArePathsLaw : Type 0
 RunsArePathsLaw = (i : Instance) → WellTyped (λ j key. ⊥) i → TreeDistinct i (number_of i) [] → RunsArePaths i
 
