@@ -1,2 +1,3 @@
 pub mod Asserting
 pub mod Against
+pub mod Assuming
