@@ -118,7 +118,7 @@ module _ (n : ℕ) where
   sampled P (suc m) xs h =
       (h 0 (omega arith), sampled P m (λ t. xs (suc t)) (λ t l. h (suc t) (omega arith)))
 
-  abbrev HasFlags : Frame → Variable → Type 0
+  abbrev pub HasFlags : Frame → Variable → Type 0
   HasFlags f v = (t : ℕ) → t < n → has_sort Flags (entry f v.name.text t) ≡ true
 
   names_flags : (f : Frame) (vs : List Variable) → AllByRecursion (HasFlags f) vs →
@@ -216,7 +216,7 @@ distinct_parts (x ∷ xs) ys a =
     unnamed_parts x xs ys e =
         neither (named_in x xs) (named_in x ys) (sym (named_append x xs ys) ∙ e)
 
-abbrev free_of : Component → List Variable → List Variable
+abbrev pub free_of : Component → List Variable → List Variable
 free_of d vs = flat_map (λ v. cond (is_defined d v.name.text) [] (v ∷ [])) vs
 
 free_unnamed : (d : Component) (x : Name) (vs : List Variable) → named_in x (map (λ v. v.name.text) vs) ≡ false →
@@ -242,7 +242,7 @@ free_distinct d (v ∷ vs) a = go (is_defined d v.name.text) (free_distinct d vs
     go true r = r
     go false r = (free_unnamed d v.name.text vs a.0, r)
 
-free_part : (P : Variable → Type 0) (d : Component) (vs : List Variable) → AllByRecursion P vs →
+pub free_part : (P : Variable → Type 0) (d : Component) (vs : List Variable) → AllByRecursion P vs →
     AllByRecursion P (free_of d vs)
 free_part P d [] a = tt
 free_part P d (v ∷ vs) a = go (is_defined d v.name.text) (free_part P d vs a.1)
@@ -264,7 +264,7 @@ input_given n f (v ∷ vs) = (
 -- ---- the node
 
 module _ (d : Component) (node : IsBooleanNode d) (names : HasBooleanNames d) (numbered : IsNumbered d) where
-  abbrev i : Instance
+  abbrev pub i : Instance
   i = instance d [] no_instances
 
   module _ (n : ℕ) (f : Frame) (run : IsRun i n throughout f) where
@@ -283,15 +283,15 @@ module _ (d : Component) (node : IsBooleanNode d) (names : HasBooleanNames d) (n
             (on_has v.sort (is_on (scene i throughout f) (clock_from v.clock) t) (entry f v.name.text t) (h t l)
             (rw k.clock refl))
 
-    input_flags : AllByRecursion (HasFlags n f) d.inputs
+    pub input_flags : AllByRecursion (HasFlags n f) d.inputs
     input_flags = left_part (HasFlags n f) d.inputs (d.outputs ++ d.locals) all_flags
 
-    free_flags : AllByRecursion (HasFlags n f) (free_names d)
+    pub free_flags : AllByRecursion (HasFlags n f) (free_names d)
     free_flags =
         free_part (HasFlags n f) d (d.outputs ++ d.locals)
         (right_part (HasFlags n f) d.inputs (d.outputs ++ d.locals) all_flags)
 
-    flag_sorts : AllByRecursion (λ s. s ≡ Flags) (first_sorts i)
+    pub flag_sorts : AllByRecursion (λ s. s ≡ Flags) (first_sorts i)
     flag_sorts =
         subst (AllByRecursion (λ s. s ≡ Flags)) (sym (boolean_firsts d node numbered))
         (all_mapped (λ s. s ≡ Flags) (λ _. Flags) (body_pres d.body) (everywhere (λ _. Flags ≡ Flags)

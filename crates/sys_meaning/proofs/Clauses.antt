@@ -10,13 +10,13 @@ use Rattle.lus_meaning.specs.Scene.{base, Instance, instance, component_of, clau
 use Rattle.lus_meaning.specs.Meaning.{value}
 use Rattle.lus_meaning.specs.Contract.{Property, Terms, no_terms, scene_with, terms_after, terms, terms_each, scene}
 use Rattle.lus_meaning.specs.Run.{sort_of}
-use Rattle.sys_terms.specs.View.{Formula, both}
+use Rattle.sys_terms.specs.View.{Formula, negation, both}
 use Rattle.sys_terms.specs.Meaning.{Values, truth_of}
-use Rattle.sys_meaning.specs.Slot.{Place}
+use Rattle.sys_meaning.specs.Slot.{Place, own, beat, so_far}
 use Rattle.sys_meaning.specs.Items.{Key, known, Items, no_items, items_after, items_each}
 use Rattle.sys_meaning.specs.Part.{all_after, all_of}
-use Rattle.sys_meaning.specs.Translate.{formula}
-use Rattle.sys_meaning.specs.System.{Written, at_numbers, written, contract_of, assumed}
+use Rattle.sys_meaning.specs.Translate.{flag_at, formula}
+use Rattle.sys_meaning.specs.System.{Written, at_numbers, written, contract_of, assumed, stage}
 use Rattle.sys_meaning.specs.WellTyped.{Stands, ClauseFits, OwnFits}
 use Rattle.sys_meaning.proofs.Rows.{OwnShown}
 use Rattle.sys_meaning.proofs.Main.{formula_value}
@@ -189,6 +189,10 @@ module _ (at : Place → ℕ) (now next : Values) (b : Instants) (f : Frame) (t 
       same_all at now next b f t (terms i).assumes (contract_of i).assumes (assumes_same i fits sh) o
 
 -- what the flag of the assumptions becomes
+abbrev pub so_far_then : Instance → (Place → ℕ) → Formula
+so_far_then i at = both (flag_at (stage i at) (own so_far)) (negation (both (flag_at (stage i at) (own beat))
+    (negation (all_of (assumed i at)))))
+
 pub kept_on : (k o z l : Bool) → (o ≡ true → z ≡ l) → (k && not (o && not z)) ≡ (k && (not o || l))
 kept_on k true true l h = rw (sym (h refl)) refl
 kept_on k true false l h = rw (sym (h refl)) refl

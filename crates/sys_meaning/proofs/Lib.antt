@@ -41,3 +41,4 @@ pub mod Tracing
 pub mod CheckedTrace
 pub mod CheckedReplay
 pub mod CheckedVerdicts
+pub mod CheckedLines

@@ -10,7 +10,7 @@ use Rattle.lus_meaning.specs.Scene.{Manner, plain, while_true, as_import, Site, 
 use Rattle.lus_meaning.specs.Contract.{terms, scene}
 use Rattle.lus_meaning.specs.Run.{active, sort_of, sort_of_name}
 use Rattle.lus_meaning.specs.Trace.{or_default}
-use Rattle.sys_terms.specs.View.{Formula, negation, both, same}
+use Rattle.sys_terms.specs.View.{Formula, same}
 use Rattle.sys_terms.specs.Meaning.{Values, truth_of}
 use Rattle.sys_meaning.specs.Slot.{Spot, Place, beat, named, memory, starting, so_far, held, own, in_call}
 use Rattle.sys_meaning.specs.Items.{Known}
@@ -24,7 +24,7 @@ use Rattle.sys_meaning.specs.WellTyped.{clock_here, OutputFits, IsCall, CallFits
 use Rattle.sys_meaning.proofs.Shown.{value_has}
 use Rattle.sys_meaning.proofs.Conditions.{flags_same, becomes_gives}
 use Rattle.sys_meaning.proofs.Pools.{true_all}
-use Rattle.sys_meaning.proofs.Clauses.{all_of_true, assumed_all, kept_on}
+use Rattle.sys_meaning.proofs.Clauses.{all_of_true, assumed_all, so_far_then, kept_on}
 use Rattle.sys_meaning.proofs.Rows.{OwnShown, as_it_is}
 use Rattle.sys_meaning.proofs.Balanced.{Picked, pick, join_all}
 use Rattle.sys_meaning.proofs.Forward.{modes_of}
@@ -33,18 +33,14 @@ use Rattle.sys_meaning.proofs.Backward.{TreeMeets, own_meets, tree_own, call_off
 use Rattle.sys_meaning.proofs.Runs.{Offs, any_shown, beat_of}
 use Rattle.sys_meaning.proofs.Whole.{no_modes}
 
--- what the flag of the assumptions becomes
-abbrev so_far_then : Instance → (Place → ℕ) → Formula
-so_far_then i at = both (flag_at (stage i at) (own so_far)) (negation (both (flag_at (stage i at) (own beat))
-    (negation (all_of (assumed i at)))))
-
 as_shown : (z : Sort) (v u : Value) → has_sort z v ≡ true → v ≡ u → v ≡ or_default z u
 as_shown z v u h e = e ∙ sym (as_it_is z u (rw (sym e) h))
 
 -- a variable of the frame's own
 pub own_reads : (i : Instance) (at : Place → ℕ) (now next : Values) (b : Instants) (f : Frame) (t : ℕ)
     (modes : Known Formula) → OwnShown (scene i b f) (no_modes i) at now next t modes →
-    (is_some (component_of i).contract ≡ true → now.flag_at (at (own so_far)) ≡ kept_so_far i b f t) → (p : Spot) (z : Sort) → HasSpot i (no_modes i) p z →
+    (is_some (component_of i).contract ≡ true → now.flag_at (at (own so_far)) ≡ kept_so_far i b f t) →
+    (p : Spot) (z : Sort) → HasSpot i (no_modes i) p z →
     value_in now z (at ([], p)) ≡ or_default z (own_reading i b f p t)
 own_reads i at now next b f t modes sh kept beat z w = rw w (ap flag sh.beats)
 own_reads i at now next b f t modes sh kept (named x) z w = rw (sym w.2) (sh.names x w.1 w.0)

@@ -13,7 +13,6 @@ use Rattle.lus_meaning.specs.Slots.{Slot, slots}
 use Rattle.lus_meaning.specs.Run.{IsRun, active, sort_of, sort_of_name}
 use Rattle.lus_meaning.specs.Trace.{or_default}
 use Rattle.lus_meaning.specs.Verdict.{throughout}
-use Rattle.sys_terms.specs.View.{negation, both}
 use Rattle.sys_terms.specs.Meaning.{values_of, truth_of}
 use Rattle.sys_meaning.specs.Slot.{Spot, Place, beat, named, memory, starting, so_far, held, own, place_of, spot_of}
 use Rattle.sys_meaning.specs.Items.{Key}
@@ -35,7 +34,7 @@ use Rattle.sys_meaning.proofs.Forward.{Contracts, modes_of, calls_of_run, own_fi
 use Rattle.sys_meaning.proofs.Onward.{SoFar}
 use Rattle.sys_meaning.proofs.RunPath.{run_is_path}
 use Rattle.sys_meaning.proofs.Conditions.{flags_same, becomes_made}
-use Rattle.sys_meaning.proofs.Clauses.{IsShownBy, assumed_all, all_of_true, listed_true, kept_on}
+use Rattle.sys_meaning.proofs.Clauses.{IsShownBy, assumed_all, all_of_true, listed_true, so_far_then, kept_on}
 
 pub fits_at : (Modes : Instance → Key → Type 0) (i : Instance) (is : Instances) (p j : ℕ) →
     CallsFit Modes i is p → j < count_of is → TreeFits Modes (instance_at is j)
@@ -111,7 +110,8 @@ has_contract (while_true a) d e = e
 has_contract (as_import xs) d e = absurd (false≢true e)
 
 module _ (c : Course) (n : ℕ) (m : Manner) (i : Instance) (at : Place → ℕ) (b : Instants) (f : Frame)
-    (fits : OwnFits i (no_modes i)) (run : IsRun i n b f) (reads : (t : ℕ) → t < n → Reads no_modes i at b f t (c t)) where
+    (fits : OwnFits i (no_modes i)) (run : IsRun i n b f)
+    (reads : (t : ℕ) → t < n → Reads no_modes i at b f t (c t)) where
   flag_is : is_some (component_of i).contract ≡ true → (t : ℕ) → t < n →
       (c t).flag_at (at (own so_far)) ≡ kept_so_far i b f t
   flag_is e t h =
@@ -128,14 +128,12 @@ module _ (c : Course) (n : ℕ) (m : Manner) (i : Instance) (at : Place → ℕ)
           (λ t h nx sh d m e o. absurd e) t now (c (suc t))
 
       go : (o : Bool) → has_so_far m (component_of i) ≡ o →
-          true_all (c t) (c (suc t)) (cond o (becomes (stage i at) Flags so_far (a_flag (both (flag_at (stage i at)
-          (own so_far)) (negation (both (flag_at (stage i at) (own beat)) (negation (all_of (assumed i at)))))))
+          true_all (c t) (c (suc t)) (cond o (becomes (stage i at) Flags so_far (a_flag (so_far_then i at))
           ∷ []) [])
       go false e = tt
       go true e =
           let some : is_some (component_of i).contract ≡ true = has_contract m (component_of i) e in (
-            becomes_made (c t) (c (suc t)) (stage i at) Flags so_far (a_flag (both (flag_at (stage i at)
-                (own so_far)) (negation (both (flag_at (stage i at) (own beat)) (negation (all_of (assumed i at))))))) refl
+            becomes_made (c t) (c (suc t)) (stage i at) Flags so_far (a_flag (so_far_then i at)) refl
                 (ap flag (flag_is some (suc t) h
                 ∙ sym (kept_on (kept_so_far i b f t) (b t) (truth_of (c t) (c (suc t)) (all_of (assumed i at)))
                 (list_all (λ p. equals true (p.test b f t)) (terms i).assumes)

@@ -1,23 +1,26 @@
 -- What the translation says of a checked program of the Boolean language.
-use Rattle.std.specs.Prelude.{◌≡◌, ℕ, suc, pred, ◌≤◌, ◌<◌, true, List, [], Some, length, slice_get}
-use Rattle.lus_tree.specs.Tree.{Component, Program}
-use Rattle.lus_meaning.specs.Value.{flag}
+use Rattle.std.specs.Prelude.{◌≡◌, ℕ, suc, pred, ◌≤◌, ◌<◌, true, List, [], ◌∷◌, ◌++◌, map, Some, length, slice_get, get_or}
+use Rattle.lus_tree.specs.Tree.{Variable, Component, Program}
+use Rattle.lus_tree.specs.Numbers.{counting}
+use Rattle.lus_meaning.specs.Value.{Value, flag}
 use Rattle.lus_meaning.specs.Frame.{Frame}
-use Rattle.lus_meaning.specs.Scene.{Instance}
+use Rattle.lus_meaning.specs.Scene.{Instance, component_of}
 use Rattle.lus_meaning.specs.Program.{instance_of}
 use Rattle.lus_meaning.specs.Contract.{Property}
-use Rattle.lus_meaning.specs.Run.{IsRun}
+use Rattle.lus_meaning.specs.Run.{IsRun, first_sorts}
 use Rattle.lus_meaning.specs.Property.{IsLawful, properties}
 use Rattle.lus_meaning.specs.Verdict.{throughout, Holds, Breaks}
-use Rattle.lus_meaning.specs.Trace.{IsFrameOf}
+use Rattle.lus_meaning.specs.Trace.{Line, of_name, of_first, free_names, IsFrameOf}
 use Rattle.lus_meaning.specs.TraceView.{Listing, lines_of}
 use Rattle.lus_meaning.specs.Fits.{FitsInstance, FitsProgram}
 use Rattle.lus_meaning.specs.Replay.{Shown, ReplaysTrace}
 use Rattle.lus_meaning.specs.BooleanRules.{IsBooleanChecked}
 use Rattle.sys_terms.specs.declared.term.Entry.{Entry}
+use Rattle.sys_terms.specs.Meaning.{values_of}
 use Rattle.sys_terms.specs.Paths.{IsPath}
 use Rattle.sys_terms.specs.Paths as paths
 use Rattle.sys_terms.specs.Queries.{property_term}
+use Rattle.sys_meaning.specs.Slot.{Spot, named, memory, own}
 use Rattle.sys_meaning.specs.System.{number_of, system_of}
 use Rattle.sys_meaning.specs.Path.{frame_of_path, trace_of}
 use Rattle.sys_meaning.specs.WellTyped.{WellTyped}
@@ -83,6 +86,28 @@ pub record HasTrace (i : Instance) (states : List (List Entry)) : Type 0 where
 
 abbrev pub CheckedTraces : Type 0
 CheckedTraces = OfChecked (λ i. (states : List (List Entry)) → IsPath (system_of i) states → HasTrace i states)
+
+-- what a variable of the node is in a state
+abbrev pub flag_in : Instance → Spot → List Entry → Value
+flag_in i p s = flag ((values_of s).flag_at (number_of i (own p)))
+
+-- a name at each state, and a first value, which is the memory of its `pre` in the first state
+abbrev pub name_line : Instance → List (List Entry) → Variable → Line
+name_line i states v =
+    record { path = []; subject = of_name v.name.text; values = map (flag_in i (named v.name.text)) states }
+
+abbrev pub first_line : Instance → List (List Entry) → ℕ → Line
+first_line i states k =
+    record { path = []; subject = of_first k; values = flag_in i (memory k) (get_or states 0 []) ∷ [] }
+
+-- the lines of a path's trace by its states: those of inputs, of free names, and of first values by number
+abbrev pub HasLines : Instance → Type 0
+HasLines i = (states : List (List Entry)) → IsPath (system_of i) states →
+    trace_of i states ≡ map (name_line i states) ((component_of i).inputs ++ free_names (component_of i))
+    ++ map (first_line i states) (counting 1 (length (first_sorts i)))
+
+abbrev pub CheckedLines : Type 0
+CheckedLines = OfChecked HasLines
 
 -- a path that breaks the property of this number breaks it by its frame, at the last instant
 abbrev pub BreaksAtLast : Instance → Type 0

@@ -1,6 +1,6 @@
 //! The laws of the translation for checked programs of the Boolean language.
 
-ghost use Rattle.sys_meaning.specs.Checked.{CheckedBounds, CheckedBreaks, CheckedFormulas, CheckedHolds, CheckedIsWellTyped, CheckedLemmas, CheckedProperties, CheckedReplays, CheckedRunsArePaths, CheckedTraces};
+ghost use Rattle.sys_meaning.specs.Checked.{CheckedBounds, CheckedBreaks, CheckedFormulas, CheckedHolds, CheckedIsWellTyped, CheckedLemmas, CheckedLines, CheckedProperties, CheckedReplays, CheckedRunsArePaths, CheckedTraces};
 
 /// The text of a checked program has its types, clocks and places, and the sources of its names have different names.
 pub fn checked_is_well_typed()
@@ -25,9 +25,11 @@ pub fn checked_verdicts()
     ensures bounded { CheckedBounds }
 {}
 
-/// The trace of a path of a checked program fits it, and its one frame is the path's frame.
+/// The trace of a path of a checked program fits it, and its one frame is the path's frame. It lists inputs and names
+/// without an equation as they are in the states, and first values as the memories of the first state.
 pub fn checked_traces()
-    ensures { CheckedTraces }
+    ensures frame { CheckedTraces }
+    ensures lines { CheckedLines }
 {}
 
 /// A path of a checked program that breaks a property breaks it by its frame, at the last instant.
