@@ -1,0 +1,5 @@
+pub mod Occurring
+pub mod Numbering
+pub mod Flags
+pub mod Conditions
+pub mod Tables
