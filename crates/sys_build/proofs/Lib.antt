@@ -1,6 +1,7 @@
 pub mod Counted
 mod Behind
-mod Machines
 mod Places
 mod Occurrences
 mod Terms
+mod Within
+mod Translated

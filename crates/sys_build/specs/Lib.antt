@@ -3,3 +3,4 @@ pub mod Numbering
 pub mod Flags
 pub mod Conditions
 pub mod Tables
+pub mod Laws
