@@ -4,4 +4,6 @@ mod Places
 mod Occurrences
 mod Terms
 mod Within
+mod Conditioned
 mod Translated
+mod Few
