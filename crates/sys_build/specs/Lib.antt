@@ -1,0 +1,6 @@
+pub mod Occurring
+pub mod Numbering
+pub mod Flags
+pub mod Conditions
+pub mod Tables
+pub mod Laws
