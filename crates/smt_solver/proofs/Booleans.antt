@@ -59,7 +59,8 @@ placed-same n j (equal a b) = refl
 
 all-append : (xs ys : List Formula) → all_boolean xs ≡ true → all_boolean ys ≡ true → all_boolean (xs ++ ys) ≡ true
 all-append [] ys h g = g
-all-append (x ∷ xs) ys h g = let k = both_true _ _ h in rw (k.0, all-append xs ys k.1 g) refl
+all-append (x ∷ xs) ys h g = let k = both_true (is_boolean x) (all_boolean xs) h in
+    ap (λ b. b && all_boolean (xs ++ ys)) k.0 ∙ all-append xs ys k.1 g
 
 all-placed : (n j : ℕ) (fs : List Formula) → all_boolean fs ≡ true → all_boolean (map (placed n j) fs) ≡ true
 all-placed n j [] h = refl
@@ -78,20 +79,33 @@ named (f ∷ fs) zero h = (both_true _ _ h).0
 named (f ∷ fs) (suc p) h = named fs p (both_true _ _ h).1
 
 module _ (m : Machine) (cites : List Formula) (h : is_boolean_machine m ≡ true) (c : all_boolean cites ≡ true) where
+  after_first : (all_boolean m.here && (all_boolean m.next && (all_boolean m.legal && all_boolean m.properties))) ≡ true
+  after_first = (both_true (all_boolean m.first)
+      (all_boolean m.here && (all_boolean m.next && (all_boolean m.legal && all_boolean m.properties))) h).1
+
+  after_here : (all_boolean m.next && (all_boolean m.legal && all_boolean m.properties)) ≡ true
+  after_here = (both_true (all_boolean m.here)
+      (all_boolean m.next && (all_boolean m.legal && all_boolean m.properties)) after_first).1
+
+  after_next : (all_boolean m.legal && all_boolean m.properties) ≡ true
+  after_next = (both_true (all_boolean m.next) (all_boolean m.legal && all_boolean m.properties) after_here).1
+
   first : all_boolean m.first ≡ true
-  first = (both_true _ _ h).0
+  first = (both_true (all_boolean m.first)
+      (all_boolean m.here && (all_boolean m.next && (all_boolean m.legal && all_boolean m.properties))) h).0
 
   here : all_boolean m.here ≡ true
-  here = (both_true _ _ (both_true _ _ h).1).0
+  here = (both_true (all_boolean m.here)
+      (all_boolean m.next && (all_boolean m.legal && all_boolean m.properties)) after_first).0
 
   next : all_boolean m.next ≡ true
-  next = (both_true _ _ (both_true _ _ (both_true _ _ h).1).1).0
+  next = (both_true (all_boolean m.next) (all_boolean m.legal && all_boolean m.properties) after_here).0
 
   legal : all_boolean m.legal ≡ true
-  legal = (both_true _ _ (both_true _ _ (both_true _ _ (both_true _ _ h).1).1).1).0
+  legal = (both_true (all_boolean m.legal) (all_boolean m.properties) after_next).0
 
   properties : all_boolean m.properties ≡ true
-  properties = (both_true _ _ (both_true _ _ (both_true _ _ (both_true _ _ h).1).1).1).1
+  properties = (both_true (all_boolean m.legal) (all_boolean m.properties) after_next).1
 
   property : (p : ℕ) → is_boolean (property_term m p) ≡ true
   property p = named m.properties p properties

@@ -1,5 +1,5 @@
 -- The literals of a query's clauses are flags and atoms of its form.
-use Rattle.std.specs.Prelude.{ℕ, zero, suc, ◌≡◌, ◌<◌, ◌≤◌, Bool, true, false, cond, List, [], ◌∷◌, ◌++◌, length, Option, Some, None, slice_get, Result, Ok, Err, All, refl}
+use Rattle.std.specs.Prelude.{ℕ, zero, suc, ◌≡◌, ◌<◌, ◌≤◌, Bool, true, false, cond, List, [], ◌∷◌, ◌++◌, length, Option, Some, None, slice_get, Result, Ok, Err, All, unsigned_abs, refl}
 use Rattle.std.specs.List.{AllByRecursion}
 use Rattle.std.proofs.Common.{subst, ap, ◌∙◌, sym, arith}
 use Rattle.std.proofs.lemmas.Bool.Decides.{nat_tests}
@@ -21,8 +21,8 @@ use Rattle.sys_terms.specs.Fits.{is_flag, fits, amount_fits, all_fit_one}
 use Rattle.sys_terms.specs.Evaluated.{and_then}
 use Rattle.sys_terms.proofs.Placed.{both_true}
 use Rattle.cnf_maker.specs.Linear.{Linear, of_constant, of_variable, combined, scaled, inequality_of}
-use Rattle.cnf_maker.specs.ClauseForm.{has_literal, kept_once, with_clause, with_shapes, with_atoms, equal_atoms, atom_number, with_atom, literal_of_terms, literal_of_inequality, with_at_most, with_bound, with_flag, with_both, with_same, with_choice_of, of_division, with_chosen, with_division, literal_of, linear_of, with_condition, with_conditions, truth_form}
-use Rattle.cnf_maker.proofs.Plain.{Gets, gets-then, Over, over-more, new-shape, Any, gets-any}
+use Rattle.cnf_maker.specs.ClauseForm.{has_literal, kept_once, with_clause, with_shapes, with_atoms, equal_atoms, atom_number, with_atom, literal_of_terms, literal_of_inequality, with_at_most, with_bound, with_flag, new_flag, with_both, with_same, with_choice_of, of_division, with_chosen, with_division, literal_of, linear_of, with_condition, with_conditions, truth_form}
+use Rattle.cnf_maker.proofs.Plain.{Gets, gets-then, Over, over-more, new-shape}
 use Rattle.smt_solver.specs.Run.{AreFit, ClausesFit}
 
 -- a flag or an atom of the form
@@ -103,6 +103,13 @@ step-shapes f more h =
     let a : Grows f (with_shapes f more) = record { over = over-more f.shapes more; atoms = omega arith } in
     record { grows = a; clauses = are_of-grows f (with_shapes f more) f.clauses a h }
 
+abbrev Any : {X : Type 0} → X → Type 0
+Any x = Unit
+
+gets-any : {X : Type 0} (r : Result X Past) → Gets Any r
+gets-any (Ok x) = tt
+gets-any (Err p) = tt
+
 -- the form grows, and the literal is one of its own
 abbrev Lit : Form → Form × Literal → Type 0
 Lit f p = Step f p.0 × IsOf p.0 p.1
@@ -144,7 +151,8 @@ module _ (f : Form) (h : AreOf f f.clauses) where
   both-of : (a b : Literal) → IsOf f a → IsOf f b → Lit f (with_both f a b)
   both-of a b p q = (
     step-then f (with_flag f) (with_both f a b).0 fresh
-        (three (with_flag f) fresh.clauses _ _ _ (new false, (on a p, tt)) (new false, (on b q, tt))
+        (three (with_flag f) fresh.clauses (new_flag f false ∷ a ∷ []) (new_flag f false ∷ b ∷ [])
+        (new_flag f true ∷ opposite a ∷ opposite b ∷ []) (new false, (on a p, tt)) (new false, (on b q, tt))
         (new true, (against a p, (against b q, tt)))),
     new true,
   )
@@ -152,18 +160,22 @@ module _ (f : Form) (h : AreOf f f.clauses) where
   same-of : (a b : Literal) → IsOf f a → IsOf f b → Lit f (with_same f a b)
   same-of a b p q = (
     step-then f (with_flag f) (with_same f a b).0 fresh
-        (four (with_flag f) fresh.clauses _ _ _ _ (new false, (against a p, (on b q, tt)))
-        (new false, (on a p, (against b q, tt))) (new true, (on a p, (on b q, tt)))
-        (new true, (against a p, (against b q, tt)))),
+        (four (with_flag f) fresh.clauses (new_flag f false ∷ opposite a ∷ b ∷ [])
+        (new_flag f false ∷ a ∷ opposite b ∷ []) (new_flag f true ∷ a ∷ b ∷ [])
+        (new_flag f true ∷ opposite a ∷ opposite b ∷ [])
+        (new false, (against a p, (on b q, tt))) (new false, (on a p, (against b q, tt)))
+        (new true, (on a p, (on b q, tt))) (new true, (against a p, (against b q, tt)))),
     new true,
   )
 
   choice-of : (c a b : Literal) → IsOf f c → IsOf f a → IsOf f b → Lit f (with_choice_of f c a b)
   choice-of c a b r p q = (
     step-then f (with_flag f) (with_choice_of f c a b).0 fresh
-        (four (with_flag f) fresh.clauses _ _ _ _ (against c r, (against a p, (new true, tt)))
-        (against c r, (on a p, (new false, tt))) (on c r, (against b q, (new true, tt)))
-        (on c r, (on b q, (new false, tt)))),
+        (four (with_flag f) fresh.clauses (opposite c ∷ opposite a ∷ new_flag f true ∷ [])
+        (opposite c ∷ a ∷ new_flag f false ∷ []) (c ∷ opposite b ∷ new_flag f true ∷ [])
+        (c ∷ b ∷ new_flag f false ∷ [])
+        (against c r, (against a p, (new true, tt))) (against c r, (on a p, (new false, tt)))
+        (on c r, (against b q, (new true, tt))) (on c r, (on b q, (new false, tt)))),
     new true,
   )
 
@@ -248,7 +260,8 @@ module _ (t : ℕ) where
       gets-then (Step h) _ (with_bound t [] h (of_constant (pos 0)) (of_variable (suc q))) _
       (bound-of [] h (of_constant (pos 0)) (of_variable (suc q)) r2 tt)
       (λ i s3. let r3 = sound-on h i r2 s3 in
-      onward f f0 g h i _ s0 s1 s2 s3 (bound-of [] i (of_variable (suc q)) _ r3 tt)))) where
+      onward f f0 g h i _ s0 s1 s2 s3
+      (bound-of [] i (of_variable (suc q)) (of_constant (pos (unsigned_abs d) -ℤ pos 1)) r3 tt)))) where
         onward : (f f0 g h i : Form) (r : Result Form Past) → Step f f0 → Step f0 g → Step g h → Step h i
             → Gets (Step i) r → Gets (Step f) r
         onward f f0 g h i (Ok j) s0 s1 s2 s3 s4 =
@@ -317,9 +330,11 @@ module _ (t : ℕ) where
           gets-then (Lit u.0) _ (with_at_most t u.0 p.1 u.1) _ (at_most-of u.0 p.1 u.1 ru)
           (λ w x. gets-then (Lit w.0) _ (with_at_most t w.0 u.1 p.1) _
           (at_most-of w.0 u.1 p.1 (sound-on u.0 w.0 ru x.0))
-          (λ y z. let m = both-of y.0 (z.0).clauses w.1 y.1 (of-grows w.0 y.0 w.1 (z.0).grows x.1) z.1 in
-          (step-then f y.0 (with_both y.0 w.1 y.1).0
-          (step-then f w.0 y.0 (step-then f u.0 w.0 (step-then f p.0 u.0 s v) x.0) z.0) m.0, m.1)))))
+          (λ y z. let m = both-of y.0 (z.0).clauses w.1 y.1 (of-grows w.0 y.0 w.1 (z.0).grows x.1) z.1 in (
+            step-then f y.0 (with_both y.0 w.1 y.1).0
+                (step-then f w.0 y.0 (step-then f u.0 w.0 (step-then f p.0 u.0 s v) x.0) z.0) m.0,
+            m.1,
+          )))))
 
       of-linear : (f : Form) (a : Amount) → Over base f.shapes → IsSound f → amount_fits base a ≡ true
           → Gets (Lin f) (linear_of t f a)

@@ -55,7 +55,7 @@ module _ (shapes : List Shape) (atoms : List Inequality) (clauses : List (List L
       → move_fault shapes atoms (clauses ++ map added moves) m ≡ None
       → AreRight shapes atoms clauses (moves ++ m ∷ [])
   right-more moves m h g n x e = elim (get-last moves m x n e) [
-    inl p ↦ let l = p.0 in
+    | inl p ↦ let l = p.0 in
         subst (λ ms. move_fault shapes atoms (clauses ++ map added ms) x ≡ None)
         (sym (take-append-le n moves (m ∷ []) (omega arith))) (h n x p.1)
     | inr p ↦
@@ -150,9 +150,11 @@ all-over f (x ∷ xs) h =
 learnt-more : (f : Form) (known cs : List (List Literal)) (c : List Literal) → AreLearnt f [] known cs
     → IsLearnt f [] (known ++ cs) c → AreLearnt f [] known (cs ++ c ∷ [])
 learnt-more f known [] c h g = (subst (λ ds. IsLearnt f [] ds c) (append-nil known) g, tt)
-learnt-more f known (d ∷ ds) c h g =
-    (h.0, learnt-more f (known ++ d ∷ []) ds c h.1
-    (subst (λ es. IsLearnt f [] es c) (sym (append_assoc known (d ∷ []) ds)) g))
+learnt-more f known (d ∷ ds) c h g = (
+  h.0,
+  learnt-more f (known ++ d ∷ []) ds c h.1
+      (subst (λ es. IsLearnt f [] es c) (sym (append_assoc known (d ∷ []) ds)) g),
+)
 
 concludes-more : (ms : List Move) (c : List Literal) (hints : List ℕ) → c ≢ [] → concludes ms ≡ false
     → concludes (ms ++ derived c hints ∷ []) ≡ false
@@ -175,7 +177,7 @@ module _ (t : Standing) (new : Shown) (h : IsRun t) (e : Learns t.search new) wh
 
   there : (c : List Literal) → Contains (t.form.clauses ++ t.listed) c → Contains t.search.known c
   there c i = elim (Contains-append_cases t.form.clauses t.listed c i) [
-    inl j ↦ subst (λ known. Contains known c) (sym h.known)
+    | inl j ↦ subst (λ known. Contains known c) (sym h.known)
         (Contains-append_left t.form.clauses (map added t.moves) c j)
     | inr j ↦ All-contains (Contains t.search.known) t.listed c h.among j
   ]
@@ -214,7 +216,7 @@ module _ (t : Standing) (new : Shown) (h : IsRun t) (e : Learns t.search new) wh
     learnt = learnt-more t.form t.form.clauses t.listed e.clause h.learnt new-one;
     among = all-of (Contains new.known) (t.listed ++ e.clause ∷ []) (λ c i.
         elim (Contains-append_cases t.listed (e.clause ∷ []) c i) [
-          inl j ↦ more-known c (All-contains (Contains t.search.known) t.listed c h.among j)
+          | inl j ↦ more-known c (All-contains (Contains t.search.known) t.listed c h.among j)
           | inr j ↦ subst (λ known. Contains known c) (sym e.known)
               (Contains-append_right t.search.known (e.clause ∷ []) c j)
         ]);

@@ -85,7 +85,7 @@ order zero zero = inr (inr refl)
 order zero (suc j) = inl (omega arith)
 order (suc i) zero = inr (inl (omega arith))
 order (suc i) (suc j) = elim (order i j) [
-  inl p ↦ inl (omega arith)
+  | inl p ↦ inl (omega arith)
   | inr p ↦ elim p [ inl q ↦ inr (inl (omega arith)) | inr q ↦ inr (inr (ap suc q)) ]
 ]
 
@@ -96,9 +96,9 @@ one-way trail n h p q =
     let a = stands trail (l.Flag n true) p in
     let b = stands trail (l.Flag n false) q in
     elim (order a.0 b.0) [
-      inl u ↦ (h a.0 b.0 a.1 b.1 u a.2 b.2).not_opposite (a.3 ∙ sym (ap opposite b.3))
+      | inl u ↦ (h a.0 b.0 a.1 b.1 u a.2 b.2).not_opposite (a.3 ∙ sym (ap opposite b.3))
       | inr r ↦ elim r [
-        inl u ↦ (h b.0 a.0 b.1 a.1 u b.2 a.2).not_opposite (b.3 ∙ sym (ap opposite a.3))
+        | inl u ↦ (h b.0 a.0 b.1 a.1 u b.2 a.2).not_opposite (b.3 ∙ sym (ap opposite a.3))
         | inr u ↦ let e : Some a.1 ≡ Some b.1 = sym a.2 ∙ ap (slice_get trail) u ∙ b.2 in
             let f : a.1 ≡ b.1 = cc in
             let g : l.Flag n true ≡ l.Flag n false = sym a.3 ∙ ap (λ (x : Assigned). x.literal) f ∙ b.3 in

@@ -108,5 +108,11 @@ pub fn solve(
     ensures stops { IfOk result (λ a. StopsByConflicts (answer_view a)) }
 {
     let query = obligation(alloc, system, what, cites)?;
-    answered(alloc, &query, system.shapes.len(), state_count(what), budgets)
+    answered(
+        alloc,
+        &query,
+        system.shapes.len(),
+        state_count(what),
+        budgets,
+    )
 }
