@@ -23,17 +23,18 @@ use Rattle.proof_checker.specs.Rules.{AreMet, AreRight, IsRight, known_at}
 use Rattle.proof_checker.proofs.Sets.{are_met_meets}
 use Rattle.proof_checker.proofs.Sound.{derived-sound}
 use Rattle.proof_checker.proofs.Firsts.{right_refuted}
+use Rattle.sat_core.specs.declared.found.Found.{Found}
 use Rattle.sat_core.specs.declared.found.Found.TheVariants.{Full, Conflict, Empty}
-use Rattle.sat_core.specs.Shown.{Shown, Begins, Keeps, Ends, EndsOnce, Learns, Occurs, Finds}
+use Rattle.sat_core.specs.Shown.{Shown, Begins, Keeps, Ends, EndsOnce, Learns, Occurs, Logs, Finds}
 use Rattle.sat_core.specs.Trail.{trues}
-use Rattle.sat_core.proofs.Accepting.{accepted}
+use Rattle.sat_core.specs.Accepted.{MetStepsBreakNoRule}
 use Rattle.smt_solver.specs.Run.{Standing, AreFit, IsRun, IsFull}
 
 each : {X : Type 0} (P : X → Type 0) (xs : List X) → ((x : X) → Contains xs x → P x) → AllByRecursion P xs
 each P [] g = tt
 each P (x ∷ xs) g = (g x (0, omega arith, refl), each P xs (λ y c. g y (suc c.0, (let l = c.1 in omega arith), c.2)))
 
-all-of : {X : Type 0} (P : X → Type 0) (xs : List X) → ((x : X) → Contains xs x → P x) → All P xs
+pub all-of : {X : Type 0} (P : X → Type 0) (xs : List X) → ((x : X) → Contains xs x → P x) → All P xs
 all-of P xs g = All-from_recursion P xs (each P xs g)
 
 one : {X : Type 0} (P : X → Type 0) (x : X) → P x → All P (x ∷ [])
@@ -65,13 +66,13 @@ module _ (shapes : List Shape) (atoms : List Inequality) (clauses : List (List L
   ]
 
 -- a derived step is accepted by the checker
-step-right : (f : Form) (known : List (List Literal)) (clause : List Literal) (hints : List ℕ) → AreFit f known
+step-right : MetStepsBreakNoRule → (f : Form) (known : List (List Literal)) (clause : List Literal) (hints : List ℕ) → AreFit f known
     → All (Occurs known) clause → AreMet known clause hints
     → derived_fault f.shapes (length (f.atoms ++ [])) known clause hints ≡ None
-step-right f known clause hints h o m =
+step-right law f known clause hints h o m =
     subst (λ (atoms : List Inequality). derived_fault f.shapes (length atoms) known clause hints ≡ None)
     (sym (append-nil f.atoms))
-    (accepted f.shapes (length f.atoms) known clause hints h o m (are_met_meets known clause hints m))
+    (law f.shapes (length f.atoms) known clause hints h o m)
 
 known-more : (clauses : List (List Literal)) (moves : List Move) (m : Move)
     → (clauses ++ map added moves) ++ added m ∷ [] ≡ clauses ++ map added (moves ++ m ∷ [])
@@ -79,14 +80,14 @@ known-more clauses moves m =
     append_assoc clauses (map added moves) (added m ∷ [])
     ∙ ap (λ ms. clauses ++ ms) (sym (map-append added moves (m ∷ [])))
 
-is-right : (s : Standing) (clause : List Literal) (hints : List ℕ) → IsRun s → All (Occurs s.search.known) clause
+is-right : MetStepsBreakNoRule → (s : Standing) (clause : List Literal) (hints : List ℕ) → IsRun s → All (Occurs s.search.known) clause
     → AreMet s.search.known clause hints
     → IsRight s.form.shapes s.form.atoms s.form.clauses [] (s.moves ++ derived clause hints ∷ [])
-is-right s clause hints h o m = record {
+is-right law s clause hints h o m = record {
   fit = h.right.fit;
   right = right-more s.form.shapes (s.form.atoms ++ []) s.form.clauses s.moves (derived clause hints) h.right.right
       (subst (λ known. move_fault s.form.shapes (s.form.atoms ++ []) known (derived clause hints) ≡ None) h.known
-      (step-right s.form s.search.known clause hints h.fit o m));
+      (step-right law s.form s.search.known clause hints h.fit o m));
 }
 
 -- a new search over a form
@@ -160,20 +161,20 @@ concludes-more : (ms : List Move) (c : List Literal) (hints : List ℕ) → c �
     → concludes (ms ++ derived c hints ∷ []) ≡ false
 concludes-more [] [] hints n h = absurd (n refl)
 concludes-more [] (x ∷ xs) hints n h = refl
-concludes-more (m ∷ ms) c hints n h = go (is_empty (added m)) h where
-  go : (b : Bool) → cond b true (concludes ms) ≡ false → cond b true (concludes (ms ++ derived c hints ∷ [])) ≡ false
-  go true q = absurd cc
-  go false q = concludes-more ms c hints n q
+concludes-more (m ∷ ms) c hints n h = go (is_empty (added m)) (concludes-more ms c hints n) h where
+  go : (b : Bool) → (concludes ms ≡ false → concludes (ms ++ derived c hints ∷ []) ≡ false)
+      → cond b true (concludes ms) ≡ false → cond b true (concludes (ms ++ derived c hints ∷ [])) ≡ false
+  go true i q = absurd cc
+  go false i q = i q
 
-module _ (t : Standing) (new : Shown) (h : IsRun t) (e : Learns t.search new) where
+module _ (law : MetStepsBreakNoRule) (t : Standing) (new : Shown) (h : IsRun t) (e : Learns t.search new) where
   sound : (v : Values) → Solves t.form.atoms v t.form.clauses → clause_true t.form.atoms v e.clause ≡ true
   sound v y = derived-sound t.form.atoms v t.search.known e.clause e.hints (h.follows v y)
       (are_met_meets t.search.known e.clause e.hints e.learnt.derives)
 
   fits : literals_fit t.form.shapes (length t.form.atoms) e.clause ≡ true
   fits = fit-of t.form t.search.known e.clause e.hints
-      (accepted t.form.shapes (length t.form.atoms) t.search.known e.clause e.hints h.fit e.learnt.over e.learnt.derives
-      (are_met_meets t.search.known e.clause e.hints e.learnt.derives))
+      (law t.form.shapes (length t.form.atoms) t.search.known e.clause e.hints h.fit e.learnt.over e.learnt.derives)
 
   there : (c : List Literal) → Contains (t.form.clauses ++ t.listed) c → Contains t.search.known c
   there c i = elim (Contains-append_cases t.form.clauses t.listed c i) [
@@ -208,7 +209,7 @@ module _ (t : Standing) (new : Shown) (h : IsRun t) (e : Learns t.search new) wh
     fit = subst (AreFit t.form) (sym e.known)
         (All-append (λ c. literals_fit t.form.shapes (length t.form.atoms) c ≡ true) t.search.known (e.clause ∷ []) h.fit
         (one (λ c. literals_fit t.form.shapes (length t.form.atoms) c ≡ true) e.clause fits));
-    right = is-right t e.clause e.hints h e.learnt.over e.learnt.derives;
+    right = is-right law t e.clause e.hints h e.learnt.over e.learnt.derives;
     follows = λ v y. subst (Solves t.form.atoms v) (sym e.known)
         (All-append (λ c. clause_true t.form.atoms v c ≡ true) t.search.known (e.clause ∷ []) (h.follows v y)
         (one (λ c. clause_true t.form.atoms v c ≡ true) e.clause (sound v y)));
@@ -227,15 +228,15 @@ once : (b : Bool) (old new : Shown) → b ≡ false → EndsOnce b old new → E
 once true old new e h = absurd cc
 once false old new e h = h
 
-pub ended : (t : Standing) (new : Shown) (m : Move) → IsRun t → EndsOnce (concludes t.search.log) t.search new
+ended : MetStepsBreakNoRule → (t : Standing) (new : Shown) (m : Move) → IsRun t → EndsOnce (concludes t.search.log) t.search new
     → ((before : List Move) (x : Move) → new.log ≡ before ++ x ∷ [] → m ≡ x)
     → verdict t.form.shapes t.form.atoms t.form.clauses [] (t.moves ++ m ∷ []) ≡ refuted
-ended t new m h e g =
+ended law t new m h e g =
     let n = once (concludes t.search.log) t.search new h.goes_on e in
     subst (λ x. verdict t.form.shapes t.form.atoms t.form.clauses [] (t.moves ++ x ∷ []) ≡ refuted)
     (sym (g t.search.log (derived [] n.hints) n.log))
     (right_refuted t.form.shapes t.form.atoms t.form.clauses [] (t.moves ++ derived [] n.hints ∷ []) (
-      is-right t [] n.hints h (All-nil (Occurs t.search.known)) n.derives,
+      is-right law t [] n.hints h (All-nil (Occurs t.search.known)) n.derives,
       subst (λ cs. Contains cs []) (sym (map-append added t.moves (derived [] n.hints ∷ [])))
           (Contains-push (map added t.moves) []),
     ))
@@ -249,3 +250,37 @@ full t new h e = record {
       (subst (λ known. Contains known c) (sym h.known)
       (Contains-append_left t.form.clauses (map added t.moves) c i)));
 }
+
+-- the same in the words of the code: the step is the log's last, and its clause is listed
+pub learnt-as : MetStepsBreakNoRule → (t : Standing) (new : Shown) → IsRun t → Learns t.search new
+    → (moves : List Move) (listed : List (List Literal)) (m : Move) (c : List Literal) → moves ≡ t.moves ++ m ∷ []
+    → listed ≡ t.listed ++ c ∷ [] → c ≡ added m
+    → ((before : List Move) (x : Move) → new.log ≡ before ++ x ∷ [] → m ≡ x)
+    → IsRun record { form = t.form; search = new; moves = moves; listed = listed }
+learnt-as law t new h e moves listed m c p q r g =
+    let d : m ≡ derived e.clause e.hints = g t.search.log (derived e.clause e.hints) e.log in
+    let ms : t.moves ++ derived e.clause e.hints ∷ [] ≡ moves = ap (λ x. t.moves ++ x ∷ []) (sym d) ∙ sym p in
+    let cs : t.listed ++ e.clause ∷ [] ≡ listed = ap (λ x. t.listed ++ x ∷ []) (sym (r ∙ ap added d)) ∙ sym q in
+    subst (λ ys. IsRun record { form = t.form; search = new; moves = moves; listed = ys }) cs
+    (subst (λ xs. IsRun record { form = t.form; search = new; moves = xs; listed = t.listed ++ e.clause ∷ [] }) ms
+    (learnt-run law t new h e))
+
+keeps : (old new : Shown) (found : Found) → Finds old new found → found ≡ Conflict → Keeps old new
+keeps old new found e q = subst (λ x. Logs x old new) q e.logs
+
+pub conflict-run : (t : Standing) (new : Shown) (found : Found) → IsRun t → Finds t.search new found → found ≡ Conflict
+    → IsRun record { form = t.form; search = new; moves = t.moves; listed = t.listed }
+conflict-run t new found h e q = kept-run t new h (keeps t.search new found e q)
+
+pub full-end : (t : Standing) (new : Shown) (found : Found) → IsRun t → Finds t.search new found → found ≡ Full
+    → IsFull t.form new.trail
+full-end t new found h e q = full t new h (subst (λ x. Finds t.search new x) q e)
+
+pub empty-end : MetStepsBreakNoRule → (t : Standing) (new : Shown) (found : Found) → IsRun t → Finds t.search new found
+    → found ≡ Empty
+    → (moves : List Move) (m : Move) → moves ≡ t.moves ++ m ∷ []
+    → ((before : List Move) (x : Move) → new.log ≡ before ++ x ∷ [] → m ≡ x)
+    → verdict t.form.shapes t.form.atoms t.form.clauses [] moves ≡ refuted
+empty-end law t new found h e q moves m p g =
+    subst (λ xs. verdict t.form.shapes t.form.atoms t.form.clauses [] xs ≡ refuted) (sym p)
+    (ended law t new m h (subst (λ x. Logs x t.search new) q e.logs) g)

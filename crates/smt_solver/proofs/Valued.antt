@@ -1,7 +1,8 @@
 -- The values of a search that satisfies each clause meet the query's conditions.
-use Rattle.std.specs.Prelude.{ℕ, zero, suc, ◌≡◌, ◌⊎◌, ◌+◌, ◌*◌, ◌<◌, ◌≤◌, Bool, true, false, cond, List, [], ◌∷◌, ◌++◌, length, map, take, drop, slice_get, Option, Some, None, Ok, Err, ◌≢◌, All, Contains, refl}
+use Rattle.std.specs.Prelude.{ℕ, zero, suc, ◌≡◌, ◌⊎◌, ◌+◌, ◌*◌, ◌<◌, ◌≤◌, Bool, true, false, cond, List, [], ◌∷◌, ◌++◌, length, map, take, drop, slice_get, nat_lt, Option, Some, None, Result, Ok, Err, IfOk, ◌≢◌, All, Contains, refl}
 use Rattle.std.proofs.Common.{sym, ◌∙◌, ap, subst, inl, inr, arith}
-use Rattle.std.proofs.lemmas.List.Elements.{All-contains, All-from_recursion}
+use Rattle.std.proofs.lemmas.Bool.Decides.{nat_tests}
+use Rattle.std.proofs.lemmas.List.Elements.{All-contains}
 use lib.IntN.{ℤ, pos}
 use Rattle.kind_num.specs.declared.Shape.{Shape}
 use Rattle.kind_num.specs.declared.Shape.TheVariants as k
@@ -53,6 +54,12 @@ entry-at trail n (suc x) (r ∷ shapes) s h =
     entry-at trail (suc n) x shapes s h ∙ ap (λ i. Some (entry_of trail i s)) (next n x) where
       next : (n x : ℕ) → suc n + x ≡ n + suc x
       next n x = omega arith
+
+entry-first : (trail : List Assigned) (x : ℕ) (shapes : List Shape) (s : Shape) → slice_get shapes x ≡ Some s
+    → slice_get (entries_from trail 0 shapes) x ≡ Some (entry_of trail x s)
+entry-first trail x shapes s h = entry-at trail 0 x shapes s h ∙ ap (λ i. Some (entry_of trail i s)) (same x) where
+  same : (x : ℕ) → 0 + x ≡ x
+  same x = omega arith
 
 entries-fit : (trail : List Assigned) (n : ℕ) (shapes : List Shape) → state_fits shapes (entries_from trail n shapes) ≡ true
 entries-fit trail n [] = refl
@@ -131,7 +138,9 @@ clause-of atoms w (y ∷ ys) x (suc i, m, q) h =
 
 none-counted : (n count : ℕ) → count ≡ 0 → counted count n ≡ true → ⊥
 none-counted zero count e h = absurd cc
-none-counted (suc n) count e h = let g : counted 0 (suc n) ≡ true = subst (λ c. counted c (suc n) ≡ true) e h in absurd cc
+none-counted (suc n) count e h =
+    let g : nat_lt n 0 ≡ true = subst (λ c. counted c (suc n) ≡ true) e h in
+    let q : nat_lt n 0 ≡ false = grind (arith, nat_tests) in absurd cc
 
 module _ (f : Form) (trail : List Assigned) where
   -- the flags of the form as they are assigned, and all numbers 0
@@ -182,9 +191,9 @@ module _ (f : Form) (trail : List Assigned) where
       → Extends (length shapes) (values_of (entries_from trail 0 shapes)) chosen
   extends shapes o = record {
     flags = λ x h. let s = some-shape shapes x h in
-        chosen-flag x s.0 (o x s.0 s.1) ∙ flag-as x s.0 ∙ sym (ap as_flag (entry-at trail 0 x shapes s.0 s.1));
+        chosen-flag x s.0 (o x s.0 s.1) ∙ flag-as x s.0 ∙ sym (ap as_flag (entry-first trail x shapes s.0 s.1));
     numbers = λ x h. let s = some-shape shapes x h in
-        chosen-number x ∙ number-as x s.0 ∙ sym (ap as_number (entry-at trail 0 x shapes s.0 s.1));
+        chosen-number x ∙ number-as x s.0 ∙ sym (ap as_number (entry-first trail x shapes s.0 s.1));
   }
 
 pub valued : (q : Question) (n count : ℕ) (f : Form) (trail : List Assigned) → all_fit_one q.shapes q.conditions ≡ true
@@ -229,3 +238,29 @@ module _ (m : Machine) (task : Task) (cites : List Formula) (mild : IsMild m) (a
 
   pub room : suc (last_of task) * variables m ≤ length (query_of m task cites).shapes
   room = let s = shapes_length m.shapes (suc (last_of task)) in omega arith
+
+  pub answered-as : (q : Question) (n count : ℕ) → q ≡ query_of m task cites → n ≡ variables m
+      → count ≡ suc (last_of task)
+      → (budgets : Budgets) (found : Found) → IsTrueOver q n count budgets found → IsAnswered m task cites budgets found
+  answered-as q n count e f g budgets found h =
+      answered budgets found
+      (subst (λ c. IsTrueOver (query_of m task cites) (variables m) c budgets found) g
+      (subst (λ k. IsTrueOver (query_of m task cites) k count budgets found) f
+      (subst (λ p. IsTrueOver p n count budgets found) e h)))
+
+  pub room-as : (q : Question) (n count : ℕ) → q ≡ query_of m task cites → n ≡ variables m → count ≡ suc (last_of task)
+      → count * n ≤ length q.shapes
+  room-as q n count e f g =
+      subst (λ (p : Question). count * n ≤ length p.shapes) (sym e)
+      (subst (λ c. c * n ≤ length (query_of m task cites).shapes) (sym g)
+      (subst (λ k. suc (last_of task) * k ≤ length (query_of m task cites).shapes) (sym f) room))
+
+-- whatever a result is
+pub if-ok : {X E : Type 0} (P Q : X → Type 0) (r : Result X E) → ((x : X) → P x → Q x) → IfOk r P → IfOk r Q
+if-ok P Q (Ok x) f h = f x h
+if-ok P Q (Err e) f h = h
+
+pub entries-length : (trail : List Assigned) (n : ℕ) (shapes : List Shape)
+    → length (entries_from trail n shapes) ≡ length shapes
+entries-length trail n [] = refl
+entries-length trail n (s ∷ shapes) = ap suc (entries-length trail (suc n) shapes)

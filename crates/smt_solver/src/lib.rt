@@ -10,11 +10,11 @@ mod boolean;
 mod fault;
 pub mod laws;
 mod run;
-mod solve;
+mod solving;
 mod states;
 mod work;
 
 pub use answer::Answer;
 pub use boolean::{is_boolean_obligation, is_boolean_system, is_boolean_term};
 pub use fault::SolveFault;
-pub use solve::solve;
+pub use solving::solve;

@@ -6,6 +6,7 @@ ghost use Rattle.smt_solver.specs.Run.{IsRun, IsEnd, Turns, work_view};
 use crate::fault::SolveFault;
 use crate::work::{Work, last_step, learn};
 use sat_core::Found;
+use sat_core::laws::learnt_steps_are_accepted;
 use std::alloc::Global;
 
 /// How a run ends.
@@ -25,6 +26,7 @@ fn turn(alloc: Global, work: &mut Work, budget: u64) -> Result<Option<End>, Solv
     requires within { length (work_view work.old).listed ≤ budget }
     ensures { IfOk result (λ end. Turns budget (work_view work.old) (work_view work.new) end) }
 {
+    learnt_steps_are_accepted();
     match work.search.decide_or_conflict(alloc)? {
         Found::Full => Ok(Some(End::Full)),
         Found::Empty => {

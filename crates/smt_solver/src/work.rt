@@ -9,6 +9,7 @@ use crate::fault::SolveFault;
 use cnf_maker::Cnf;
 use proof_steps::{Clause, Step};
 use sat_core::Search;
+use sat_core::laws::learnt_steps_are_accepted;
 use std::alloc::{AllocError, Global};
 
 /// A form, the search over it, the steps of its proof so far, and the clauses that count as
@@ -65,6 +66,7 @@ pub fn learn(alloc: Global, work: &mut Work) -> Result<(), SolveFault>
     ensures run { OnOk result (IsRun (work_view work.new)) }
     ensures more { OnOk result (length (work_view work.new).listed ≡ suc (length (work_view work.old).listed)) }
 {
+    learnt_steps_are_accepted();
     work.search.learn(alloc)?;
     let step = last_step(alloc, work.search.log())?;
     let clause = added_clause(&step).copied(alloc)?;

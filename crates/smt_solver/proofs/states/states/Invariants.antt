@@ -3,7 +3,7 @@ use Rattle.sys_terms.specs.View.{states_view}
 use Rattle.sys_terms.specs.Answers.{states_in}
 use Rattle.smt_solver.proofs.states.states.Given as goal
 
-abbrev pub invariant-loop-_ : goal.invariant-loop-_
-invariant-loop-_ l =
-    (states_view l.states.items ++ states_in l.size (l.count - l.i) l.rest ≡ states_in l.size l.count l.values)
-    × ((l.count - l.i) * l.size ≤ length l.rest)
+abbrev pub invariant-loop-i : goal.invariant-loop-i
+invariant-loop-i l =
+    (states_view l.states.items ++ states_in l.size (l.count - l._i) l.rest ≡ states_in l.size l.count l.values)
+    × ((l.count - l._i) * l.size ≤ length l.rest)
