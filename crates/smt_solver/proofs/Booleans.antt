@@ -1,6 +1,6 @@
 -- Where no term compares numbers, the query has no atom.
-use Rattle.std.specs.Prelude.{ℕ, zero, suc, ◌≡◌, Bool, true, false, ◌&&◌, List, [], ◌∷◌, ◌++◌, map, Option, Some, None, slice_get, Result, Ok, Err, length, refl}
-use Rattle.std.proofs.Common.{subst, ap, ◌∙◌, sym}
+use Rattle.std.specs.Prelude.{ℕ, zero, suc, ◌≡◌, Bool, true, false, ◌&&◌, List, [], ◌∷◌, ◌++◌, map, slice_get, Result, Ok, Err, refl}
+use Rattle.std.proofs.Common.{subst, ap, ◌∙◌}
 use Rattle.kind_num.specs.declared.Past.{Past}
 use Rattle.proof_steps.specs.declared.Literal.{Literal}
 use Rattle.proof_steps.specs.Rows.{Form}

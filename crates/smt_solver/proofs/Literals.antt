@@ -1,7 +1,7 @@
 -- The literals of a query's clauses are flags and atoms of its form.
-use Rattle.std.specs.Prelude.{ℕ, zero, suc, ◌≡◌, ◌<◌, ◌≤◌, Bool, true, false, cond, List, [], ◌∷◌, ◌++◌, length, Option, Some, None, slice_get, Result, Ok, Err, All, unsigned_abs, refl}
+use Rattle.std.specs.Prelude.{ℕ, zero, suc, ◌≡◌, ◌<◌, ◌≤◌, Bool, true, false, cond, List, [], ◌∷◌, ◌++◌, length, Option, Some, None, slice_get, Result, Ok, Err, unsigned_abs, refl}
 use Rattle.std.specs.List.{AllByRecursion}
-use Rattle.std.proofs.Common.{subst, ap, ◌∙◌, sym, arith}
+use Rattle.std.proofs.Common.{subst, ap, ◌∙◌, arith}
 use Rattle.std.proofs.lemmas.Bool.Decides.{nat_tests}
 use Rattle.std.proofs.lemmas.List.Elements.{All-from_recursion}
 use lib.IntN.{ℤ, pos, ◌-ℤ◌}
@@ -18,12 +18,11 @@ use Rattle.proof_checker.specs.Check.{literal_fits, literals_fit, counted}
 use Rattle.proof_checker.specs.Check as c
 use Rattle.sys_terms.specs.View.{Formula, truth, flag, negation, both, same, choice, at_most, equal, Amount, constant, number, plus, minus, multiple, chosen, quotient, remainder, Question}
 use Rattle.sys_terms.specs.Fits.{is_flag, fits, amount_fits, all_fit_one}
-use Rattle.sys_terms.specs.Evaluated.{and_then}
 use Rattle.sys_terms.proofs.Placed.{both_true}
 use Rattle.cnf_maker.specs.Linear.{Linear, of_constant, of_variable, combined, scaled, inequality_of}
-use Rattle.cnf_maker.specs.ClauseForm.{has_literal, kept_once, with_clause, with_shapes, with_atoms, equal_atoms, atom_number, with_atom, literal_of_terms, literal_of_inequality, with_at_most, with_bound, with_flag, new_flag, with_both, with_same, with_choice_of, of_division, with_chosen, with_division, literal_of, linear_of, with_condition, with_conditions, truth_form}
+use Rattle.cnf_maker.specs.ClauseForm.{has_literal, kept_once, with_clause, with_shapes, with_atoms, equal_atoms, atom_number, with_atom, literal_of_terms, with_at_most, with_bound, with_flag, new_flag, with_both, with_same, with_choice_of, of_division, with_chosen, with_division, literal_of, linear_of, with_condition, with_conditions, truth_form}
 use Rattle.cnf_maker.proofs.Plain.{Gets, gets-then, Over, over-more, new-shape}
-use Rattle.smt_solver.specs.Run.{AreFit, ClausesFit}
+use Rattle.smt_solver.specs.Run.{ClausesFit}
 
 -- a flag or an atom of the form
 abbrev pub IsOf : Form → Literal → Type 0

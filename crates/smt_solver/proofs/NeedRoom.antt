@@ -1,6 +1,6 @@
 -- Without atoms there is no split, no row, and so no pivot and no operation; and conflicts are few.
 use Rattle.std.specs.Prelude.{ℕ, zero, suc, ◌≡◌, ◌≢◌, ◌+◌, ◌<◌, ◌≤◌, ◌^◌, List, [], ◌∷◌, length, Contains, Some, slice_get, refl}
-use Rattle.std.proofs.Common.{sym, ◌∙◌, ap, subst, arith}
+use Rattle.std.proofs.Common.{sym, ◌∙◌, ap, arith}
 use Rattle.std.proofs.lemmas.List.Elements.{All-contains}
 use lib.IntN.{ℤ}
 use Rattle.kind_num.specs.declared.Shape.{Shape}
@@ -12,10 +12,10 @@ use Rattle.proof_steps.specs.StopView.{conflicts, splits, pivots, past, Beginnin
 use Rattle.proof_steps.specs.Rows.{Form, IsBasis, IsRow, rows_of, columns_of, defining_rows}
 use Rattle.proof_steps.specs.Bounds.{atoms_with}
 use Rattle.proof_steps.specs.Splits.{AreSplits}
-use Rattle.proof_steps.specs.Stopped.{AreLearnt, IsTrueOf, IsRowOf, Row}
+use Rattle.proof_steps.specs.Stopped.{IsTrueOf, IsRowOf, Row}
 use Rattle.sat_core.specs.Shown.{flags_from}
 use Rattle.sat_core.specs.Few.{variable_count, NewOnesAreFew}
-use Rattle.smt_solver.specs.NeedRoom.{AtomsAreNeeded, FlagsBoundConflicts}
+use Rattle.smt_solver.specs.NeedRoom.{AtomsAreNeeded}
 
 flags-within : (n : ℕ) (shapes : List Shape) → length (flags_from n shapes) ≤ length shapes
 flags-within n [] = omega arith

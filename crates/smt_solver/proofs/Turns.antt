@@ -1,5 +1,5 @@
 -- What each turn of a solver leaves.
-use Rattle.std.specs.Prelude.{ℕ, zero, suc, ◌≡◌, ◌≢◌, ◌⊎◌, ◌<◌, ◌≤◌, Bool, true, false, cond, List, [], ◌∷◌, ◌++◌, length, map, take, slice_get, Option, Some, None, All, Contains, refl}
+use Rattle.std.specs.Prelude.{ℕ, zero, suc, ◌≡◌, ◌≢◌, ◌⊎◌, ◌<◌, Bool, true, false, cond, List, [], ◌∷◌, ◌++◌, length, map, take, slice_get, Option, Some, None, All, Contains, refl}
 use Rattle.std.specs.List.{AllByRecursion}
 use Rattle.std.proofs.Common.{sym, ◌∙◌, ap, subst, inl, inr, arith}
 use Rattle.std.proofs.lemmas.List.{append_assoc, append-nil, map-append, take-append-le}
@@ -10,16 +10,14 @@ use Rattle.kind_num.specs.declared.Shape.{Shape}
 use Rattle.kind_num.specs.declared.Shape.TheVariants as k
 use Rattle.proof_steps.specs.declared.Literal.{Literal}
 use Rattle.proof_steps.specs.declared.Literal.TheVariants as l
-use Rattle.proof_steps.specs.View.{Inequality, Move, derived, theory, added}
+use Rattle.proof_steps.specs.View.{Inequality, Move, derived, added}
 use Rattle.proof_steps.specs.Meaning.{Values, Solves, clause_true}
 use Rattle.proof_steps.specs.Rows.{Form}
-use Rattle.proof_steps.specs.Bounds.{atoms_with}
 use Rattle.proof_steps.specs.Stopped.{IsOver, IsLearnt, AreLearnt, Includes}
-use Rattle.proof_checker.specs.declared.rule.Rule.{Rule}
 use Rattle.proof_checker.specs.declared.rule.Rule.TheVariants as r
-use Rattle.proof_checker.specs.Check.{literals_fit, literal_fits, is_flag, counted, hints_fit, is_empty, derived_fault, move_fault, concludes, verdict, refuted}
+use Rattle.proof_checker.specs.Check.{literals_fit, literal_fits, is_flag, hints_fit, is_empty, derived_fault, move_fault, concludes, verdict, refuted}
 use Rattle.proof_checker.specs.Derived.{meets}
-use Rattle.proof_checker.specs.Rules.{AreMet, AreRight, IsRight, known_at}
+use Rattle.proof_checker.specs.Rules.{AreMet, AreRight, IsRight}
 use Rattle.proof_checker.proofs.Sets.{are_met_meets}
 use Rattle.proof_checker.proofs.Sound.{derived-sound}
 use Rattle.proof_checker.proofs.Firsts.{right_refuted}

@@ -1,9 +1,9 @@
 -- The values of a search that satisfies each clause meet the query's conditions.
-use Rattle.std.specs.Prelude.{ℕ, zero, suc, ◌≡◌, ◌⊎◌, ◌+◌, ◌*◌, ◌<◌, ◌≤◌, Bool, true, false, cond, List, [], ◌∷◌, ◌++◌, length, map, take, drop, slice_get, nat_lt, Option, Some, None, Result, Ok, Err, IfOk, ◌≢◌, All, Contains, refl}
+use Rattle.std.specs.Prelude.{ℕ, zero, suc, ◌≡◌, ◌⊎◌, ◌+◌, ◌*◌, ◌<◌, ◌≤◌, Bool, true, false, cond, List, [], ◌∷◌, length, slice_get, nat_lt, Some, None, Result, Ok, Err, IfOk, ◌≢◌, Contains, refl}
 use Rattle.std.proofs.Common.{sym, ◌∙◌, ap, subst, inl, inr, arith}
 use Rattle.std.proofs.lemmas.Bool.Decides.{nat_tests}
 use Rattle.std.proofs.lemmas.List.Elements.{All-contains}
-use lib.IntN.{ℤ, pos}
+use lib.IntN.{pos}
 use Rattle.kind_num.specs.declared.Shape.{Shape}
 use Rattle.kind_num.specs.declared.Shape.TheVariants as k
 use Rattle.kind_num.specs.declared.Past.{Past}
@@ -17,11 +17,10 @@ use Rattle.proof_checker.specs.Check.{literals_fit, literal_fits, is_flag, count
 use Rattle.proof_checker.specs.Derived.{has}
 use Rattle.proof_checker.proofs.Sets.{contains-has, not-has}
 use Rattle.sys_terms.specs.declared.term.Entry.{Entry}
-use Rattle.sys_terms.specs.declared.term.Entry.TheVariants as e
 use Rattle.sys_terms.specs.View.{Formula, Machine, Task, Question}
 use Rattle.sys_terms.specs.Meaning.{values_of, as_flag, as_number}
 use Rattle.sys_terms.specs.Fits.{IsMild, is_asked, is_light_task, all_fit_one, all_light, state_fits}
-use Rattle.sys_terms.specs.Queries.{Meets, query_of, conditions_of, variables, shapes_of, last_of}
+use Rattle.sys_terms.specs.Queries.{query_of, variables, last_of}
 use Rattle.sys_terms.specs.Answers.{IsAnswer, states_in}
 use Rattle.sys_terms.proofs.Answered.{meets-answers}
 use Rattle.sys_terms.proofs.Counting.{shapes_length}
@@ -31,7 +30,7 @@ use Rattle.cnf_maker.proofs.Plain.{Over}
 use Rattle.cnf_maker.proofs.Light.{queries-are-small}
 use Rattle.cnf_maker.proofs.Together.{meet-together}
 use Rattle.sat_core.specs.declared.assigned.Assigned.{Assigned}
-use Rattle.sat_core.specs.Trail.{trues, falses, value_of, IsApart, AreApart}
+use Rattle.sat_core.specs.Trail.{trues, falses, value_of, IsApart}
 use Rattle.smt_solver.specs.Run.{AreFit, IsFull}
 use Rattle.smt_solver.specs.States.{is_set, entry_of, entries_from}
 use Rattle.smt_solver.specs.Answered.{AreOf, IsTrueFor, IsTrueOver, IsTrue, IsAnswered}

@@ -1,5 +1,5 @@
 -- What a true stop needs. The laws are over definitions alone: they say nothing of how a solver works.
-use Rattle.std.specs.Prelude.{ℕ, ◌≡◌, ◌≢◌, ◌<◌, ◌≤◌, ◌^◌, List, [], length}
+use Rattle.std.specs.Prelude.{ℕ, ◌≡◌, ◌≢◌, ◌<◌, ◌^◌, List, [], length}
 use lib.IntN.{ℤ}
 use Rattle.proof_steps.specs.declared.Literal.{Literal}
 use Rattle.proof_steps.specs.declared.stops.Budgets.{Budgets}

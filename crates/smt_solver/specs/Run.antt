@@ -1,6 +1,5 @@
 -- A solver at work on a form, and what a turn of it changes.
-use Rattle.std.specs.Prelude.{ℕ, suc, ◌≡◌, ◌≤◌, false, true, List, [], ◌∷◌, ◌++◌, length, map, All, Contains, Option, Some, None, Ok}
-use Rattle.kind_num.specs.declared.Shape.{Shape}
+use Rattle.std.specs.Prelude.{ℕ, suc, ◌≡◌, ◌≤◌, false, true, List, [], ◌++◌, length, map, All, Contains, Option, Some, None, Ok}
 use Rattle.proof_steps.specs.declared.Literal.{Literal}
 use Rattle.proof_steps.specs.View.{Move, added, clause_view, step_view}
 use Rattle.proof_steps.specs.Meaning.{Values, Solves}

@@ -1,4 +1,4 @@
-use Rattle.std.specs.Prelude.{◌≡◌, ◌*◌, ◌≤◌, length}
+use Rattle.std.specs.Prelude.{length}
 use Rattle.std.proofs.Common.{ap, ◌∙◌, subst, arith}
 use Rattle.proof_steps.specs.Rows.{Form}
 use Rattle.sys_terms.specs.View.{query_view}
