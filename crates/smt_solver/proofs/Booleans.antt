@@ -166,5 +166,7 @@ module _ (m : Machine) (cites : List Formula) (h : is_boolean_machine m ≡ true
   conditions task b = all-append (path_of m cites task) (asked_of m task) (paths task) (asked task b)
 
 pub no-atoms : (m : Machine) (task : Task) (cites : List Formula) → BooleanQueriesHaveNoAtoms m task cites
-no-atoms m task cites h b c f e = subst (Gets (λ (g : Form). g.atoms ≡ [])) e
-    (conditions-stay _ (truth_form _) (conditions_of m task cites) (conditions m cites h c task b))
+no-atoms m task cites h b c = record {
+  none = λ f e. subst (Gets (λ (g : Form). g.atoms ≡ [])) e
+      (conditions-stay _ (truth_form _) (conditions_of m task cites) (conditions m cites h c task b));
+}

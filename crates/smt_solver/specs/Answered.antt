@@ -45,9 +45,9 @@ pub record IsAnswered (m : Machine) (task : Task) (cites : List Formula) (budget
   pub is_form : clause_form (query_of m task cites) ≡ Ok form
   pub is_true : IsTrue m task cites form budgets found
 
--- numbers are compared in no clause
-abbrev pub HasNoAtoms : Question → Type 0
-HasNoAtoms q = (f : Form) → clause_form q ≡ Ok f → f.atoms ≡ []
+-- the clause form compares no numbers
+pub record HasNoAtoms (q : Question) : Type 0 where
+  pub none : (f : Form) → clause_form q ≡ Ok f → f.atoms ≡ []
 
 -- a stop for as many conflicts, without splits
 abbrev pub IsConflicts : Halt → Type 0

@@ -33,7 +33,7 @@ returns-in_ok-states-in-Full-clause-answer c =
       form = f;
       is_form = c.in_ok-cnf.ensures.exact;
       is_true = valued (query_view c.args.query.now) c.args.size c.args.count f trail c.requires.fit
-          c.in_ok-cnf.ensures.exact (c.requires.without_atoms f c.in_ok-cnf.ensures.exact) full _
+          c.in_ok-cnf.ensures.exact (c.requires.without_atoms.none f c.in_ok-cnf.ensures.exact) full _
           (c.in_ok-states-in-Full.ensures
           ∙ ap (states_in c.args.size c.args.count)
           (c.deref-in-Full.ensures.value ∙ c.in_ok-values-in-Full.ensures
