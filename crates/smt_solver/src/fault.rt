@@ -1,0 +1,49 @@
+//! Why an obligation was not answered.
+
+ghost use Rattle.std.specs.Prelude.{◌≡◌, alloc_error};
+ghost use Rattle.smt_solver.specs.declared.fault.SolveFault.TheVariants.{Memory};
+
+use sat_core::SearchFault;
+use std::alloc::{AllocError, AllocFailed};
+use sys_terms::QueryFault;
+use thiserror::Error;
+
+/// Why an obligation was not answered.
+#[derive(Clone, Copy, Debug, PartialEq, Eq, Error)]
+pub enum SolveFault {
+    /// Memory ran out, or there are more variables, conditions or clauses than 32 bits number.
+    #[error("out of memory")]
+    Memory(AllocError),
+}
+
+impl From<AllocError> for SolveFault {
+    ghost from_gives = { λ x e. e ≡ Memory x };
+
+    fn from(error: AllocError) -> SolveFault {
+        SolveFault::Memory(error)
+    }
+}
+
+impl<T: Drop> From<AllocFailed<T>> for SolveFault {
+    ghost from_gives = { λ _ e. e ≡ Memory alloc_error };
+
+    fn from(_error: AllocFailed<T>) -> SolveFault {
+        SolveFault::Memory(AllocError)
+    }
+}
+
+impl From<QueryFault> for SolveFault {
+    fn from(fault: QueryFault) -> SolveFault {
+        match fault {
+            QueryFault::Memory(error) => SolveFault::Memory(error),
+        }
+    }
+}
+
+impl From<SearchFault> for SolveFault {
+    fn from(fault: SearchFault) -> SolveFault {
+        match fault {
+            SearchFault::Memory(error) => SolveFault::Memory(error),
+        }
+    }
+}

@@ -1,0 +1,20 @@
+//! Answers to obligations: a proof that no states answer one with no, states that do, or why the
+//! solver stopped.
+//!
+//! Numbers are not searched yet, so the query must have no atom.
+
+#![tactic(auto)]
+
+mod answer;
+mod boolean;
+mod fault;
+pub mod laws;
+mod run;
+mod solving;
+mod states;
+mod work;
+
+pub use answer::Answer;
+pub use boolean::{is_boolean_obligation, is_boolean_system, is_boolean_term};
+pub use fault::SolveFault;
+pub use solving::solve;

@@ -1,0 +1,118 @@
+//! Answers to obligations.
+
+ghost use Rattle.std.specs.Prelude.{◌≡◌, ◌≢◌, ◌<◌, ◌≤◌, ◌*◌, ◌^◌, Ok, Err, [], suc, true, length, IfOk};
+ghost use Rattle.kind_num.specs.declared.Past.{Past as Operands};
+ghost use Rattle.sys_terms.specs.View.{terms_view, system_view, obligation_view, query_view};
+ghost use Rattle.sys_terms.specs.Fits.{IsMild, is_asked, is_light_task, has_states, all_fit_one, all_light};
+ghost use Rattle.sys_terms.specs.Queries.{query_of, last_of};
+ghost use Rattle.cnf_maker.specs.ClauseForm.{clause_form};
+ghost use Rattle.cnf_maker.specs.View.{AreFew, form_view};
+ghost use Rattle.smt_solver.specs.View.{answer_view};
+ghost use Rattle.smt_solver.specs.Answered.{IsAnswered, IsTrueOver, HasNoAtoms, StopsByConflicts};
+
+use crate::answer::Answer;
+use crate::fault::SolveFault;
+use crate::run::{End, run};
+use crate::states::{entries, states};
+use crate::work::begun;
+use cnf_maker::{Cnf, CnfFault, clauses};
+use proof_steps::{Budgets, Proof, Stop};
+use std::alloc::Global;
+use sys_terms::{Obligation, Query, System, Term, obligation};
+
+/// How many states the obligation speaks of.
+fn state_count(what: &Obligation) -> u64
+    requires { has_states (obligation_view what.now) ≡ true }
+    ensures { result ≡ suc (last_of (obligation_view what.now)) }
+{
+    match what {
+        Obligation::Base { instant, .. } => *instant as u64 + 1,
+        Obligation::Step { k, .. } => *k as u64 + 1,
+        Obligation::LemmaFirst(_) | Obligation::Implied { .. } => 1,
+        Obligation::LemmaNext(_) => 2,
+        Obligation::Open { states, .. } => *states as u64,
+    }
+}
+
+/// The clause form of a query whose numbers stay within 128 bits.
+fn made(alloc: Global, query: &Query) -> Result<Cnf, SolveFault>
+    requires { (past : Operands) → clause_form (query_view query.now) ≢ Err past }
+    ensures exact { IfOk result (λ c. clause_form (query_view query.now) ≡ Ok (form_view c)) }
+    ensures few { IfOk result (λ c. AreFew (form_view c)) }
+{
+    match clauses(alloc, query) {
+        Ok(cnf) => Ok(cnf),
+        Err(CnfFault::Memory(error)) => Err(SolveFault::Memory(error)),
+        Err(CnfFault::Past(_)) => unreachable!(),
+    }
+}
+
+/// Answers a query without atoms, over `count` states of `size` variables each.
+fn answered(
+    alloc: Global,
+    query: &Query,
+    size: usize,
+    count: u64,
+    budgets: Budgets,
+) -> Result<Answer, SolveFault>
+    requires few { length (query_view query.now).shapes < 2 ^ 32 }
+    requires room { count * size ≤ length (query_view query.now).shapes }
+    requires fit { all_fit_one (query_view query.now).shapes (query_view query.now).conditions ≡ true }
+    requires within { (past : Operands) → clause_form (query_view query.now) ≢ Err past }
+    requires without_atoms { HasNoAtoms (query_view query.now) }
+    ensures answer { IfOk result (λ a. IsTrueOver (query_view query.now) size count budgets (answer_view a)) }
+    ensures stops { IfOk result (λ a. StopsByConflicts (answer_view a)) }
+{
+    let cnf = made(alloc, query)?;
+    let mut work = begun(alloc, cnf)?;
+    match run(alloc, &mut work, budgets.conflicts)? {
+        End::Full => {
+            let values = entries(alloc, &work.search, &query.shapes)?;
+            Ok(Answer::Sat(states(alloc, &values, size, count)?))
+        }
+        End::Empty => Ok(Answer::Unsat(Proof {
+            atoms: Vec::new(alloc),
+            steps: work.steps,
+        })),
+        End::Budget => Ok(Answer::Stop(Stop::Conflicts(work.listed, Vec::new(alloc)))),
+    }
+}
+
+/// Answers the obligation with the cited lemmas.
+///
+/// `Unsat` has a proof that the checker accepts for the clause form of exactly this query; `Sat` has
+/// states that answer the obligation with no, each of which meets the cited lemmas; `Stop` is true of
+/// the query with these budgets. Where no number is compared it is `Stop::Conflicts`, with as many
+/// learnt clauses as the budget says. The answer is a fault where memory runs out, or where
+/// variables, conditions or clauses can't be numbered by 32 bits.
+///
+/// The system is mild, the terms of the obligation and of the lemmas fit it and have no weight above
+/// 2^63, and the query has no atom: `laws::boolean_queries_have_no_atoms` says where.
+pub fn solve(
+    alloc: Global,
+    system: &System,
+    what: &Obligation,
+    cites: &[Term],
+    budgets: Budgets,
+) -> Result<Answer, SolveFault>
+    requires mild { IsMild (system_view system.now) }
+    requires few { length (system_view system.now).shapes < 2 ^ 32 }
+    requires asked { is_asked (system_view system.now) (obligation_view what.now) ≡ true }
+    requires cited { all_fit_one (system_view system.now).shapes (terms_view cites.now) ≡ true }
+    requires light_task { is_light_task (obligation_view what.now) ≡ true }
+    requires light_cites { all_light (terms_view cites.now) ≡ true }
+    requires without_atoms { HasNoAtoms
+        (query_of (system_view system.now) (obligation_view what.now) (terms_view cites.now)) }
+    ensures answer { IfOk result (λ a. IsAnswered (system_view system.now) (obligation_view what.now)
+        (terms_view cites.now) budgets (answer_view a)) }
+    ensures stops { IfOk result (λ a. StopsByConflicts (answer_view a)) }
+{
+    let query = obligation(alloc, system, what, cites)?;
+    answered(
+        alloc,
+        &query,
+        system.shapes.len(),
+        state_count(what),
+        budgets,
+    )
+}
