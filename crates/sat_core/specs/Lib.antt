@@ -9,5 +9,6 @@ pub mod Refuted
 pub mod Appended
 pub mod Propagation
 pub mod Analysis
+pub mod Reduction
 pub mod Watching
 pub mod Visiting

@@ -11,6 +11,7 @@ mod found;
 pub mod laws;
 mod order;
 mod propagation;
+mod reduction;
 mod search;
 mod set;
 mod variables;
