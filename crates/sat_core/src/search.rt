@@ -1,10 +1,11 @@
-ghost use Rattle.std.specs.Prelude.{◌≡◌, ◌++◌, ◌∷◌, ◌<◌, ◌≤◌, ◌^◌, [], OnOk, OnErr, IfOk, IsTrue, true, map, length, take, List, ℕ};
+ghost use Rattle.std.specs.Prelude.{◌≡◌, ◌⊎◌, ◌++◌, ◌∷◌, ◌<◌, ◌≤◌, ◌^◌, [], OnOk, OnErr, IfOk, IsTrue, true, map, length, take, List, ℕ};
 ghost use Rattle.proof_steps.specs.View.{clause_view, step_view};
 ghost use Rattle.sat_core.specs.Shown.{Begins, IsAsBefore, Adds, Learns, Finds, learnt_count};
 ghost use Rattle.sat_core.specs.Trail.{value_of};
 ghost use Rattle.cnf_maker.specs.View.{form_view};
 ghost use Rattle.proof_steps.specs.declared.Literal.{Literal as SignedLiteral};
 ghost use Rattle.sat_core.specs.Watching.{Watching, IsWatched, IsHead};
+ghost use Rattle.sat_core.specs.Analysis.{IsDecisionAt, IsStart};
 
 use crate::analysis::{Analysis, analysed, last_decision, next_decision};
 use crate::assigned::Assigned;
@@ -79,11 +80,34 @@ fn cut_back(assignment: &mut Assignment, head: &mut usize, order: &mut Order, le
     };
 }
 
+/// Where the lists are gone through again: just before a place, or where the trail ends now.
+fn start(low: usize, back: usize) -> usize
+    ensures { IsStart low back result }
+{
+    if low == 0 || back < low {
+        back
+    } else {
+        low - 1
+    }
+}
+
+/// Leaves the entries before a decision alone, and lets the lists be gone through again from the
+/// one just before a place on.
+fn cut_to(assignment: &mut Assignment, head: &mut usize, order: &mut Order, back: usize, low: usize)
+    ensures cut { assignment.new ≡ take back assignment.old }
+    ensures start { IsStart low back head.new }
+{
+    order.undo_from(assignment.entries(), back);
+    assignment.cut(back);
+    *head = start(low, back);
+}
+
 /// How much stays after a conflict: where the search begins anew, what comes before the first
 /// decision.
 fn back_or_anew(trail: &[Assigned], back: usize, anew: bool) -> usize
     requires { back ≤ length trail.now }
-    ensures { result ≤ back }
+    ensures less { result ≤ back }
+    ensures decided { (result ≡ back) ⊎ IsDecisionAt trail.now result }
 {
     if anew {
         next_decision(trail, 0, back)
@@ -193,6 +217,7 @@ impl Search {
             clause,
             hints,
             back,
+            low,
             watched,
         } = analysed(
             alloc,
@@ -212,7 +237,13 @@ impl Search {
         )?;
         let back = back_or_anew(entries, back, self.order.restarts());
         self.order.bump_all(self.marked.as_slice());
-        cut_back(&mut self.assignment, &mut self.head, &mut self.order, back);
+        cut_to(
+            &mut self.assignment,
+            &mut self.head,
+            &mut self.order,
+            back,
+            low,
+        );
         self.in_conflict = false;
         Ok(())
     }
