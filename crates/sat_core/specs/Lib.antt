@@ -10,5 +10,6 @@ pub mod Appended
 pub mod Propagation
 pub mod Analysis
 pub mod Reduction
+pub mod Placing
 pub mod Watching
 pub mod Visiting

@@ -164,11 +164,6 @@ abbrev pub CanWatch : List Literal → Option (Literal × Literal) → Type 0
 CanWatch clause None = IsShort clause
 CanWatch clause (Some p) = IsPair clause p
 
--- a clause more that watches two of its literals, or is short
-abbrev pub IsEnteredFor : List Literal → Watching → Watching → Type 0
-IsEnteredFor clause old new =
-    (watched : Option (Literal × Literal)) × CanWatch clause watched × IsEntered old new watched
-
 -- the lists are gone through from the last decision on, or from the first entry
 abbrev pub IsHead : List Assigned → ℕ → Type 0
 IsHead trail head = (head ≡ 0) ⊎ ((a : Assigned) × (slice_get trail head ≡ Some a) × (a.reason ≡ 0))

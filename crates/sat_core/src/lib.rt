@@ -10,6 +10,7 @@ mod derived;
 mod found;
 pub mod laws;
 mod order;
+mod placing;
 mod propagation;
 mod reduction;
 mod search;

@@ -5,7 +5,7 @@ ghost use Rattle.sat_core.specs.Trail.{value_of};
 ghost use Rattle.cnf_maker.specs.View.{form_view};
 ghost use Rattle.proof_steps.specs.declared.Literal.{Literal as SignedLiteral};
 ghost use Rattle.sat_core.specs.Watching.{Watching, IsWatched, IsHead};
-ghost use Rattle.sat_core.specs.Analysis.{IsDecisionAt, IsStart};
+ghost use Rattle.sat_core.specs.Analysis.{IsDecisionAt, IsStart, IsResumed};
 
 use crate::analysis::{Analysis, analysed, last_decision, next_decision};
 use crate::assigned::Assigned;
@@ -13,6 +13,7 @@ use crate::assignment::Assignment;
 use crate::derived::{append, refuted};
 use crate::found::{Found, SearchFault};
 use crate::order::Order;
+use crate::placing::{Placing, placed};
 use crate::propagation::run;
 use crate::set::LiteralSet;
 use crate::variables::{add_atoms, admit, admit_all, flags_of};
@@ -95,11 +96,14 @@ fn start(low: usize, back: usize) -> usize
 /// one just before a place on.
 fn cut_to(assignment: &mut Assignment, head: &mut usize, order: &mut Order, back: usize, low: usize)
     ensures cut { assignment.new ≡ take back assignment.old }
-    ensures start { IsStart low back head.new }
+    ensures resumed { IsResumed low back head.old head.new }
 {
     order.undo_from(assignment.entries(), back);
     assignment.cut(back);
-    *head = start(low, back);
+    let start = start(low, back);
+    if start < *head {
+        *head = start;
+    }
 }
 
 /// How much stays after a conflict: where the search begins anew, what comes before the first
@@ -180,7 +184,7 @@ impl Search {
         self.assignment.value(literal)
     }
 
-    /// Adds a clause, which is then no longer false or unit before a decision.
+    /// Adds a clause; the trail is cut at the first decision before which it would be false or unit.
     pub fn add(&mut self, alloc: Global, clause: &Clause) -> Result<(), SearchFault>
         ensures ok { OnOk result (Adds self.old self.new (clause_view clause.now)) }
         ensures err { OnErr result (IsAsBefore self.old self.new) }
@@ -188,6 +192,8 @@ impl Search {
         if self.clauses.len() >= MOST {
             return Err(SearchFault::Memory(AllocError));
         }
+        let literals = clause.literals.as_slice();
+        let Placing { watched, low } = placed(&self.assignment, literals, &mut self.marked)?;
         admit(
             alloc,
             &mut self.clauses,
@@ -195,10 +201,17 @@ impl Search {
             &mut self.variables,
             &self.order,
             clause,
+            watched,
         )?;
         let entries = self.assignment.entries();
-        let first = next_decision(entries, 0, entries.len());
-        cut_back(&mut self.assignment, &mut self.head, &mut self.order, first);
+        let back = next_decision(entries, low, entries.len());
+        cut_to(
+            &mut self.assignment,
+            &mut self.head,
+            &mut self.order,
+            back,
+            low,
+        );
         self.in_conflict = false;
         Ok(())
     }

@@ -30,7 +30,7 @@ fn can_stand(assignment: &Assignment, literal: Literal, other: Literal) -> bool
 }
 
 /// A literal of the clause that is not false, beside another one.
-fn replacement(assignment: &Assignment, clause: &[Literal], other: Literal) -> Option<Literal>
+pub fn replacement(assignment: &Assignment, clause: &[Literal], other: Literal) -> Option<Literal>
     ensures { IsReplacement assignment.now clause.now other result }
 {
     for literal in clause {
