@@ -13,3 +13,4 @@ pub mod Reduction
 pub mod Placing
 pub mod Watching
 pub mod Visiting
+pub mod Answer

@@ -4,6 +4,7 @@
 #![tactic(auto)]
 
 mod analysis;
+mod answer;
 mod assigned;
 mod assignment;
 mod derived;

@@ -8,13 +8,13 @@ ghost use Rattle.sat_core.specs.Watching.{Watching, IsWatched, IsHead};
 ghost use Rattle.sat_core.specs.Analysis.{IsDecisionAt, IsStart, IsResumed};
 
 use crate::analysis::{Analysis, analysed, last_decision, next_decision};
+use crate::answer::{Answer, MOST, answered};
 use crate::assigned::Assigned;
 use crate::assignment::Assignment;
-use crate::derived::{append, refuted};
+use crate::derived::append;
 use crate::found::{Found, SearchFault};
 use crate::order::Order;
 use crate::placing::{Placing, placed};
-use crate::propagation::run;
 use crate::set::LiteralSet;
 use crate::variables::{add_atoms, admit, admit_all, flags_of};
 use crate::watches::Watches;
@@ -22,9 +22,6 @@ use cnf_maker::Cnf;
 use proof_steps::{Clause, Literal, Step};
 use std::alloc::{AllocError, Global};
 use std::marker::Model;
-
-/// As many clauses as numbers can name.
-const MOST: usize = 4294967295;
 
 /// A search over the clauses of a query and those that are added and learnt.
 #[derive(Drop)]
@@ -267,14 +264,16 @@ impl Search {
         ensures err { OnErr result (IsAsBefore self.old self.new) }
     {
         let before = self.assignment.entries().len();
-        match run(
+        match answered(
             alloc,
-            &self.clauses,
+            &mut self.clauses,
             &self.variables,
             &mut self.watches,
+            &mut self.log,
             &mut self.assignment,
             &mut self.head,
             &mut self.order,
+            self.ended,
         ) {
             Err(fault) => {
                 cut_back(
@@ -285,55 +284,20 @@ impl Search {
                 );
                 Err(SearchFault::Memory(fault))
             }
-            Ok(None) => {
+            Ok(Answer::Full) => {
                 self.in_conflict = false;
                 Ok(Found::Full)
             }
-            Ok(Some(number)) => match last_decision(self.assignment.entries()) {
-                Some(_) => {
-                    self.conflict = number;
-                    self.in_conflict = true;
-                    Ok(Found::Conflict)
-                }
-                None => {
-                    if self.ended {
-                        self.in_conflict = false;
-                        return Ok(Found::Empty);
-                    }
-                    if self.clauses.len() >= MOST {
-                        cut_back(
-                            &mut self.assignment,
-                            &mut self.head,
-                            &mut self.order,
-                            before,
-                        );
-                        return Err(SearchFault::Memory(AllocError));
-                    }
-                    match refuted(
-                        alloc,
-                        &mut self.clauses,
-                        &mut self.watches,
-                        &mut self.log,
-                        self.assignment.entries(),
-                        number,
-                    ) {
-                        Ok(()) => {
-                            self.ended = true;
-                            self.in_conflict = false;
-                            Ok(Found::Empty)
-                        }
-                        Err(fault) => {
-                            cut_back(
-                                &mut self.assignment,
-                                &mut self.head,
-                                &mut self.order,
-                                before,
-                            );
-                            Err(SearchFault::Memory(fault))
-                        }
-                    }
-                }
-            },
+            Ok(Answer::Conflict(number)) => {
+                self.conflict = number;
+                self.in_conflict = true;
+                Ok(Found::Conflict)
+            }
+            Ok(Answer::Empty) => {
+                self.ended = true;
+                self.in_conflict = false;
+                Ok(Found::Empty)
+            }
         }
     }
 }

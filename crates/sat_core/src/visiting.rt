@@ -26,7 +26,7 @@ pub enum Visit {
 fn can_stand(assignment: &Assignment, literal: Literal, other: Literal) -> bool
     ensures { CanStand assignment.now literal other result }
 {
-    !same(literal, other) && !assignment.is_false(literal)
+    !assignment.is_false(literal) && !same(literal, other)
 }
 
 /// A literal of the clause that is not false, beside another one.
