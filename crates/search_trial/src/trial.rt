@@ -3,6 +3,7 @@ use cnf_maker::Cnf;
 use proof_checker::check;
 use proof_steps::{Clause, Literal, Proof, Step};
 use sat_core::{Found, Search};
+use smallvec::SmallVec;
 use std::alloc::Global;
 
 /// What a search over a form came to: its first answer, its last, and what the assignment or the
@@ -125,15 +126,43 @@ fn shown(alloc: Global, search: &Search, form: &Cnf, found: Found) -> Result<&'s
     }
 }
 
-/// Searches through a form of few enough clauses.
-pub fn tried(alloc: Global, form: &Cnf) -> Result<Report> {
+/// The search over a form of few enough clauses.
+fn search_of(alloc: Global, form: &Cnf) -> Result<Search> {
     if form.clauses.len() > 1_000_000
         || form.atoms.len() > 1_000_000
         || form.shapes.len() > 1_000_000
     {
         bail!("too many clauses");
     }
-    let mut search = Search::new(alloc, form)?;
+    Ok(Search::new(alloc, form)?)
+}
+
+/// The clause that excludes the values which the flags have.
+fn excluded(alloc: Global, search: &Search, flags: u32) -> Result<Clause> {
+    let mut literals = SmallVec::new(alloc);
+    for number in 0..flags {
+        let is_true = search.value(Literal::Flag(number, true)) == Some(true);
+        literals.push(Literal::Flag(number, !is_true))?;
+    }
+    Ok(Clause { literals })
+}
+
+/// How many solutions are found where each one is then excluded by a clause more.
+pub fn counted(alloc: Global, form: &Cnf, flags: u32) -> Result<u32> {
+    let mut search = search_of(alloc, form)?;
+    for count in 0..1_000u32 {
+        if searched(alloc, &mut search)? == Found::Empty {
+            return Ok(count);
+        }
+        let clause = excluded(alloc, &search, flags)?;
+        search.add(alloc, &clause)?;
+    }
+    bail!("a thousand solutions");
+}
+
+/// Searches through a form of few enough clauses.
+pub fn tried(alloc: Global, form: &Cnf) -> Result<Report> {
+    let mut search = search_of(alloc, form)?;
     let first = search.decide_or_conflict(alloc)?;
     if first == Found::Conflict {
         search.learn(alloc)?;
