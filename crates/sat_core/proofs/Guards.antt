@@ -12,7 +12,7 @@ use Rattle.sat_core.specs.declared.watcher.Watcher.{Watcher}
 use Rattle.sat_core.specs.Trail.{trues, falses, IsApart, IsSettled}
 use Rattle.sat_core.specs.Watching.{Watching, list_at, IsListed, IsWatch, IsOther, IsShort, IsPair, IsWatching, IsGuard, IsGuarded, IsWatched, IsVisiting, IsDropped, IsMoved, HasTrue}
 use Rattle.sat_core.specs.Watching.{CanWatch, IsEntered, IsHead}
-use Rattle.sat_core.specs.Analysis.{IsOneOf, IsLast, IsNext, IsUnseen, IsDecisionAt, IsResumed, NoneDecided}
+use Rattle.sat_core.specs.Analysis.{IsOneOf, IsLast, IsUnseen, IsDecisionAt, IsResumed, NoneDecided}
 use Rattle.sat_core.proofs.Places.{some_is, within, get-contains, contains-get, get-push, get-append, get-take, take-within, read, from_map, to_map}
 use Rattle.sat_core.proofs.Sets.{either, one-or-other, has-contains, has-not}
 use Rattle.sat_core.proofs.Consistent.{consistent, entry_once, opposite-opposite}

@@ -1,5 +1,5 @@
 -- Up to where an added clause has two open literals.
-use Rattle.std.specs.Prelude.{ℕ, ◌≡◌, ◌≢◌, ◌⊎◌, ◌+◌, ◌-◌, ◌<◌, ◌≤◌, true, false, List, [], Option, Some, None, All, Contains, length, take, slice_get, refl}
+use Rattle.std.specs.Prelude.{ℕ, ◌≡◌, ◌⊎◌, ◌+◌, ◌-◌, ◌<◌, ◌≤◌, true, false, List, [], Option, Some, None, All, Contains, length, take, slice_get}
 use Rattle.std.proofs.Common.{sym, ◌∙◌, ap, subst, arith, inl, inr}
 use Rattle.std.proofs.lemmas.Bool.{cases_lt}
 use Rattle.std.proofs.lemmas.List.{take_all}
@@ -8,7 +8,7 @@ use Rattle.proof_steps.specs.declared.Literal.{Literal}
 use Rattle.proof_steps.specs.Meaning.{opposite}
 use Rattle.proof_checker.specs.Derived.{has}
 use Rattle.sat_core.specs.declared.assigned.Assigned.{Assigned}
-use Rattle.sat_core.specs.Trail.{falses, IsApart, IsSettled}
+use Rattle.sat_core.specs.Trail.{falses, IsApart}
 use Rattle.sat_core.specs.Visiting.{CanStand}
 use Rattle.sat_core.specs.Analysis.{SomeMarked, NoneMarked, IsLow, IsBelow, IsChosen, IsNext, IsDecisionAt, paired}
 use Rattle.sat_core.specs.Placing.{IsPlaced}

@@ -1,15 +1,15 @@
 -- What may be left out of a clause that is learnt.
-use Rattle.std.specs.Prelude.{ℕ, ◌≡◌, ◌≢◌, ◌⊎◌, ◌+◌, ◌<◌, ◌≤◌, true, false, List, [], ◌∷◌, ◌++◌, zero, suc, length, Some, All, Contains, take, slice_get, refl}
+use Rattle.std.specs.Prelude.{ℕ, ◌≡◌, ◌≢◌, ◌⊎◌, ◌+◌, ◌<◌, ◌≤◌, true, false, List, [], ◌∷◌, ◌++◌, zero, suc, length, Some, Contains, take, slice_get, refl}
 use Rattle.std.proofs.Common.{sym, ◌∙◌, ap, subst, arith, inl, inr}
 use Rattle.std.proofs.lemmas.List.Elements.{All-contains, Contains-push, Contains-push_cases, Contains-append_left}
 use Rattle.proof_steps.specs.declared.Literal.{Literal}
 use Rattle.proof_steps.specs.Meaning.{at, opposite}
 use Rattle.proof_checker.specs.Derived.{has}
 use Rattle.sat_core.specs.declared.assigned.Assigned.{Assigned}
-use Rattle.sat_core.specs.Trail.{falses, IsApart, IsTrail}
-use Rattle.sat_core.specs.Analysis.{IsTraced, IsLow, NoneMarked, IsChosen}
+use Rattle.sat_core.specs.Trail.{falses, IsTrail}
+use Rattle.sat_core.specs.Analysis.{IsTraced, IsChosen}
 use Rattle.sat_core.specs.Reduction.{AreMarkedBut, IsSpareAt, IsReduced}
-use Rattle.sat_core.proofs.Places.{some_is, to_map_take, from_map_take}
+use Rattle.sat_core.proofs.Places.{some_is, to_map_take}
 use Rattle.sat_core.proofs.Sets.{either, has-contains, contains-has, has-not}
 use Rattle.sat_core.proofs.Consistent.{entry_once, opposite-opposite}
 use Rattle.sat_core.proofs.Watched.{at-within}

@@ -1,5 +1,5 @@
 -- What propagation came to.
-use Rattle.std.specs.Prelude.{ℕ, ◌≡◌, ◌<◌, Bool, true, false, List, None, Some, length}
+use Rattle.std.specs.Prelude.{ℕ, ◌≡◌, ◌<◌, Bool, true, false, List, None, length}
 use Rattle.proof_steps.specs.declared.Literal.{Literal}
 use Rattle.proof_steps.specs.View.{Move}
 use Rattle.sat_core.specs.declared.assigned.Assigned.{Assigned}

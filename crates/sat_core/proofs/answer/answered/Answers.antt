@@ -3,7 +3,7 @@ use Rattle.std.proofs.Common.{sym, ap, subst}
 use Rattle.proof_steps.specs.View.{clause_view}
 use Rattle.sat_core.specs.Held.{Covers}
 use Rattle.sat_core.specs.Propagation.{IsFalseAt}
-use Rattle.sat_core.proofs.Deciding.{has_decision, none_decided, still_none, still_some}
+use Rattle.sat_core.proofs.Deciding.{has_decision, still_none, still_some}
 use Rattle.sat_core.proofs.answer.answered.Goals as goal
 
 pub run-requires-clause-covers : goal.run-requires-clause-covers

@@ -1,5 +1,5 @@
 use Rattle.std.specs.Prelude.{◌≡◌, true}
-use Rattle.std.proofs.Common.{sym, ◌∙◌, arith}
+use Rattle.std.proofs.Common.{sym, arith}
 use Rattle.proof_checker.specs.Derived.{has}
 use Rattle.sat_core.specs.Trail.{falses}
 use Rattle.sat_core.proofs.Standings.{all_taken, all_next}

@@ -1,4 +1,3 @@
-use Rattle.std.specs.Prelude.{length}
 use Rattle.std.proofs.Common.{arith}
 use Rattle.sat_core.proofs.Placed.{none_placed, latest_placed}
 use Rattle.sat_core.proofs.placing.latest_two.Goals as goal

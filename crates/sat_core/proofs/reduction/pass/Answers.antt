@@ -1,5 +1,5 @@
-use Rattle.std.specs.Prelude.{◌≡◌, ◌<◌, ◌+◌, ◌++◌, ◌∷◌, [], map, reverse, false}
-use Rattle.std.proofs.Common.{refl, sym, ◌∙◌, ap, subst, arith}
+use Rattle.std.specs.Prelude.{◌+◌, ◌++◌, ◌∷◌, [], map, reverse, false}
+use Rattle.std.proofs.Common.{refl, sym, ◌∙◌, ap, subst}
 use Rattle.proof_steps.specs.View.{clause_view}
 use Rattle.proof_steps.specs.declared.Literal.TheVariants.{Flag}
 use Rattle.sat_core.specs.declared.assigned.Assigned.{Assigned}
