@@ -40,6 +40,11 @@ IsOther w n l (Some m) =
     (p : Literal × Literal) × (at w.pairs n ≡ Some (Some p))
     × (((p.0 ≡ l) × (p.1 ≡ m)) ⊎ ((p.1 ≡ l) × (p.0 ≡ m)))
 
+-- the two that the numbered clause watches, if there is one and it watches any
+abbrev pub IsPairAt : Watching → ℕ → Option (Literal × Literal) → Type 0
+IsPairAt w n (Some p) = at w.pairs n ≡ Some (Some p)
+IsPairAt w n None = (p : Literal × Literal) → at w.pairs n ≡ Some (Some p) → ⊥
+
 -- the clause has no two different literals
 abbrev pub IsShort : List Literal → Type 0
 IsShort clause = (l m : Literal) → Contains clause l → Contains clause m → l ≡ m

@@ -1,6 +1,6 @@
 ghost use Rattle.std.specs.Prelude.{◌≡◌, ◌⊎◌, ◌++◌, ◌∷◌, ◌<◌, ◌≤◌, ◌^◌, [], OnOk, OnErr, IfOk, IsTrue, true, map, length, take, List, ℕ};
 ghost use Rattle.proof_steps.specs.View.{clause_view, step_view};
-ghost use Rattle.sat_core.specs.Shown.{Begins, IsAsBefore, Adds, Learns, Finds, learnt_count};
+ghost use Rattle.sat_core.specs.Shown.{Begins, IsAsBefore, Adds, Learns, Finds, IsWatchedPair, learnt_count};
 ghost use Rattle.sat_core.specs.Trail.{value_of};
 ghost use Rattle.cnf_maker.specs.View.{form_view};
 ghost use Rattle.proof_steps.specs.declared.Literal.{Literal as SignedLiteral};
@@ -179,6 +179,14 @@ impl Search {
         ensures { result ≡ value_of self.now.trail literal }
     {
         self.assignment.value(literal)
+    }
+
+    /// Two different literals of a clause that it watches; none exactly where no clause has the number,
+    /// or where it has no two different literals.
+    pub fn watches(&self, clause: u32) -> Option<(Literal, Literal)>
+        ensures { IsWatchedPair self.now.known clause result }
+    {
+        self.watches.pair(clause)
     }
 
     /// Adds a clause; the trail is cut at the first decision before which it would be false or unit.
