@@ -107,10 +107,44 @@ fn solves(search: &Search, form: &Cnf) -> bool {
     true
 }
 
+/// Whether all literals of the clause are one.
+fn is_short(clause: &Clause) -> bool {
+    let mut first = None;
+    for literal in clause.literals.as_slice() {
+        if first == None {
+            first = Some(*literal);
+        }
+        if first != Some(*literal) {
+            return false;
+        }
+    }
+    true
+}
+
+/// Whether these are two different literals of the clause, or none where it has no such.
+fn are_watched(clause: &Clause, watched: Option<(Literal, Literal)>) -> bool {
+    match watched {
+        Some((first, second)) => first != second && has(clause, first) && has(clause, second),
+        None => is_short(clause),
+    }
+}
+
+/// Whether each clause of the form watches two different literals, where it has two.
+fn watches_all(search: &Search, form: &Cnf) -> bool {
+    let mut number = 0u32;
+    for clause in &form.clauses {
+        number = number.saturating_add(1);
+        if !are_watched(clause, search.watches(number)) {
+            return false;
+        }
+    }
+    search.watches(0) == None
+}
+
 /// What the log, or the assignment, shows.
 fn shown(alloc: Global, search: &Search, form: &Cnf, found: Found) -> Result<&'static str> {
     if found == Found::Full {
-        return Ok(if solves(search, form) {
+        return Ok(if solves(search, form) && watches_all(search, form) {
             "solved"
         } else {
             "NOT SOLVED"
