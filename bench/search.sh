@@ -1,6 +1,6 @@
 #!/bin/sh
 # What the search costs, beside minisat on the same files where it is there: conflicts, seconds and
-# instructions, for pigeon holes, random clauses of three literals near the threshold of 4.26 clauses
+# instructions by propagation, for pigeon holes, random clauses of three literals near the threshold of 4.26 clauses
 # a variable, ten seeds each, and a chain of 10,000 implications. Instructions need valgrind, and are
 # those of the search less those of reading the file alone. The word `quick` takes three seeds.
 set -eu
@@ -44,8 +44,17 @@ chain() {
     }'
 }
 
-instructions() {
-    valgrind --tool=callgrind --callgrind-out-file=/dev/null "$@" 2>&1 | sed -n 's/.*Collected : //p'
+# The instructions of a run, and the calls of the function that puts a literal on the trail.
+counted() {
+    valgrind --tool=callgrind --callgrind-out-file="$work/calls" "$@" 2>&1 | sed -n 's/.*Collected : //p'
+    awk '/^c?fn=/ {
+            id = $0; sub(/^c?fn=/, "", id); name = id
+            sub(/\).*/, ")", id); sub(/^\([0-9]*\) ?/, "", name)
+            if (name != "") names[id] = name
+            if (/^cfn/) called = id
+        }
+        /^calls=/ { split($1, part, "="); if (names[called] ~ /Assignment::push/) count += part[2] }
+        END { print count + 0 }' "$work/calls"
 }
 
 seconds() {
@@ -56,24 +65,40 @@ seconds() {
 }
 
 theirs() {
-    command -v minisat >/dev/null || { echo "- - - -"; return; }
+    command -v minisat >/dev/null || { echo "- - - 0"; return; }
     time=$(seconds minisat "$1")
     conflicts=$(sed -n 's/^conflicts *: *\([0-9]*\).*/\1/p' "$work/out")
     propagations=$(sed -n 's/^propagations *: *\([0-9]*\).*/\1/p' "$work/out")
-    echo "$conflicts $time $(instructions minisat "$1") $propagations"
+    set -- $(counted minisat "$1")
+    echo "$conflicts $time $1 $propagations"
 }
 
 row() {
     time=$(seconds "$program" "$2" search)
-    set -- "$1" "$2" "$time" $(cat "$work/out")
-    spent=$(($(instructions "$program" "$2" search) - $(instructions "$program" "$2" read)))
-    echo "$1 $4 $5 $3 $spent $(theirs "$2")" | awk '{
-        printf "%-14s %-13s %8s %8s %14s %10.0f | %8s %8s %14s %10s\n",
-            $1, $2, $3, $4, $5, $3 > 0 ? $5 / $3 : 0, $6, $7, $8, $9
+    answer=$(cat "$work/out")
+    whole=$(counted "$program" "$2" search)
+    read=$(counted "$program" "$2" read)
+    echo "$1 $answer $time" $whole $read $(theirs "$2") | awk '{
+        spent = $5 - $7
+        each = $6 > 0 ? spent / $6 : 0
+        theirs = $12 > 0 ? $11 / $12 : 0
+        printf "%-14s %-13s %8s %8s %12.0f %8s %6.0f | %8s %8s %12s %8s %6.0f %5.2f\n",
+            $1, $2, $3, $4, spent, $6, each, $9, $10, $11, $12, theirs, (theirs > 0 ? each / theirs : 0)
+    }' | tee -a "$work/rows"
+}
+
+# The medians of the conflicts and of the ratio of instructions per propagation.
+medians() {
+    for column in 3 9 14; do
+        grep "^$1" "$work/rows" | awk -v c=$column '{ print $c }' | sort -n |
+            awk '{ x[NR] = $1 } END { m = int((NR + 1) / 2); print NR % 2 ? x[m] : (x[m] + x[m + 1]) / 2 }'
+    done | tr '\n' ' ' | awk -v name="$1" '{
+        printf "%s: median of conflicts %s, of minisat %s, of the ratio by propagation %s\n", name, $1, $2, $3
     }'
 }
 
-echo "file           answer        conflicts seconds   instructions  each conflict | minisat: conflicts seconds instructions propagations"
+echo "file, answer, conflicts, seconds, instructions, literals put on the trail, instructions for each |"
+echo "minisat: conflicts, seconds, instructions, propagations, instructions for each; ratio of these"
 for n in 6 7 8; do
     pigeons $n >"$work/pigeons$n"
     row "pigeons$n" "$work/pigeons$n"
@@ -83,6 +108,7 @@ for n in 100 150; do
         random $n "$seed" >"$work/random"
         row "random$n.$seed" "$work/random"
     done
+    medians "random$n"
 done
 chain 10000 >"$work/chain"
 row chain "$work/chain"

@@ -1,5 +1,5 @@
 -- Where the clauses that watch a literal have a true one.
-use Rattle.std.specs.Prelude.{ℕ, suc, ◌≡◌, ◌≢◌, ◌⊎◌, ◌+◌, ◌<◌, ◌≤◌, List, [], ◌∷◌, ◌++◌, length, Option, Some, None, All, Contains, drop, take, get_or, slice_get, refl}
+use Rattle.std.specs.Prelude.{ℕ, zero, suc, ◌≡◌, ◌≢◌, ◌⊎◌, ◌+◌, ◌<◌, ◌≤◌, List, [], ◌∷◌, ◌++◌, length, Option, Some, None, All, Contains, drop, take, get_or, slice_get, refl}
 use Rattle.std.proofs.Common.{sym, ◌∙◌, ap, subst, arith, inl, inr}
 use Rattle.std.proofs.lemmas.List.{length-append}
 use Rattle.std.proofs.lemmas.Bool.{cases_lt}
@@ -12,7 +12,7 @@ use Rattle.sat_core.specs.declared.watcher.Watcher.{Watcher}
 use Rattle.sat_core.specs.Trail.{trues, falses, IsApart, IsSettled}
 use Rattle.sat_core.specs.Watching.{Watching, list_at, IsListed, IsWatch, IsOther, IsShort, IsPair, IsWatching, IsGuard, IsGuarded, IsWatched, IsVisiting, IsDropped, IsMoved, HasTrue}
 use Rattle.sat_core.specs.Watching.{CanWatch, IsEntered, IsHead}
-use Rattle.sat_core.specs.Analysis.{IsOneOf, IsLast, IsNext, IsUnseen}
+use Rattle.sat_core.specs.Analysis.{IsOneOf, IsLast, IsUnseen, IsDecisionAt, IsResumed, NoneDecided}
 use Rattle.sat_core.proofs.Places.{some_is, within, get-contains, contains-get, get-push, get-append, get-take, take-within, read, from_map, to_map}
 use Rattle.sat_core.proofs.Sets.{either, one-or-other, has-contains, has-not}
 use Rattle.sat_core.proofs.Consistent.{consistent, entry_once, opposite-opposite}
@@ -408,19 +408,43 @@ watched_new known trail w e k = subst (λ t. IsWatched known t w 0) (sym e) reco
   guarded = λ n c l d x. λ i a h s o. absurd (omega arith);
 }
 
--- a head at a decision that was cut off is none
-pub head_none : (trail trail' : List Assigned) (n k head : ℕ) → trail' ≡ take k trail → IsNext trail 0 n k → IsHead trail' head → head ≡ 0
-head_none trail trail' n k head e nx (inl z) = z
-head_none trail trail' n k head e nx (inr (a, s, z)) =
-    let p = take-within trail k head a (subst (λ t. slice_get t head ≡ Some a) e s) in
-    absurd (nx.none head a (omega arith) p.0 p.1 z)
+-- a trail that is cut before a decision, or stays, and is gone through again from just before a place on
+module _ (known : List (List Literal)) (trail trail' : List Assigned) (w : Watching) (head back low head' : ℕ) (e : trail' ≡ take back trail)
+    (less : back ≤ length trail) (d : (back ≡ length trail) ⊎ IsDecisionAt trail back) (none : NoneDecided trail low back)
+    (st : IsResumed low back head head') where
+  start-within : st.0 ≤ back
+  start-within = elim st.1 as (λ _. st.0 ≤ back)
+      [ inl p ↦ (let q = p.1 in omega arith) | inr p ↦ (let q = p.0 in let r = p.1 in omega arith) ]
 
--- at a head after a cut nothing has made the watched literals false
-pub head_unseen : (trail trail' : List Assigned) (k head : ℕ) (watched : Option (Literal × Literal)) → trail' ≡ take k trail
-    → IsUnseen trail k watched → IsHead trail' head
-    → (i : ℕ) (a : Assigned) → i < head → slice_get trail' i ≡ Some a → (l : Literal) → IsOneOf watched l → opposite a.literal ≢ l
-head_unseen trail trail' k head watched e u (inl z) i a h s l o = absurd (omega arith)
-head_unseen trail trail' k head watched e u (inr (x, t, z)) i a h s l o =
-    let p = take-within trail k head x (subst (λ y. slice_get y head ≡ Some x) e t) in
-    let q = take-within trail k i a (subst (λ y. slice_get y i ≡ Some a) e s) in
-    u i head a x h p.0 p.1 z q.1 l o
+  start-late : (i : ℕ) (a : Assigned) → st.0 < i → i < back → slice_get trail i ≡ Some a → a.reason ≢ 0
+  start-late i a h b s = elim st.1 as (λ _. a.reason ≢ 0)
+      [ inl p ↦ absurd (let q = p.1 in omega arith) | inr p ↦ none i a (let r = p.1 in omega arith) b s ]
+
+  taken : (n : ℕ) (xs : List Assigned) → n ≤ length xs → length (take n xs) ≡ n
+  taken zero xs h = refl
+  taken (suc n) [] h = absurd (omega arith)
+  taken (suc n) (x ∷ xs) h = ap suc (taken n xs (omega arith))
+
+  pub watched_at : IsWatched known trail w head → IsWatched known trail' w head'
+  watched_at k =
+      let s = start-within in
+      let h1 : head' ≤ st.0 = st.2 in
+      let len : length (take back trail) ≡ back = taken back trail less in
+      subst (λ x. IsWatched known x w head') (sym e)
+      (watched_cut known trail w head back head' k st.3 (omega arith)
+      (λ i a h b g. elim st.4 as (λ _. a.reason ≢ 0)
+      [ inl q ↦ start-late i a (omega arith) b g | inr q ↦ k.late i a (omega arith) g ])
+      (λ i j b h m g. elim d as (λ _. (d : ℕ) × (x : Assigned) × (i < d) × (d ≤ j) × (slice_get trail d ≡ Some x) × (x.reason ≡ 0)) [
+        | inl z ↦ absurd (let f = within trail j b g in omega arith)
+        | inr z ↦ (back, z.0, (let y = h in omega arith), m, z.1, z.2)
+      ]))
+
+  pub unseen_at : (watched : Option (Literal × Literal)) → IsUnseen trail low watched
+      → (i : ℕ) (a : Assigned) → i < head' → slice_get trail' i ≡ Some a → (l : Literal) → IsOneOf watched l → opposite a.literal ≢ l
+  unseen_at watched u i a h s l o f =
+      let p = take-within trail back i a (subst (λ y. slice_get y i ≡ Some a) e s) in
+      let q = u i a p.1 l o f in let q0 = q.0 in let q1 = q.1 in let p0 = p.0 in let h1 : head' ≤ st.0 = st.2 in
+      elim st.1 as (λ _. ⊥) [
+        | inl x ↦ elim x.0 as (λ _. ⊥) [ inl z ↦ (omega arith) | inr z ↦ (omega arith) ]
+        | inr x ↦ (let y = x.1 in omega arith)
+      ]

@@ -1,5 +1,5 @@
 -- What the lists of the clauses that watch a literal keep.
-use Rattle.std.specs.Prelude.{ℕ, zero, suc, ◌≡◌, ◌⊎◌, ◌+◌, ◌<◌, ◌≤◌, List, [], ◌∷◌, ◌++◌, length, Option, Some, None, Contains, drop, slice_get}
+use Rattle.std.specs.Prelude.{ℕ, zero, suc, ◌≡◌, ◌⊎◌, ◌+◌, ◌<◌, ◌≤◌, List, [], ◌∷◌, ◌++◌, length, Option, Some, None, Contains, drop, get_or, slice_get}
 use Rattle.std.proofs.Common.{sym, ◌∙◌, ap, subst, arith, inl, inr}
 use Rattle.std.proofs.lemmas.List.{length-append}
 use Rattle.std.proofs.lemmas.List.Elements.{Contains-push, Contains-push_cases, Contains-append_left}
@@ -7,9 +7,10 @@ use Rattle.proof_steps.specs.declared.Literal.{Literal}
 use Rattle.proof_steps.specs.Meaning.{at}
 use Rattle.sat_core.specs.declared.watcher.Watcher.{Watcher}
 use Rattle.sat_core.specs.Set.{place_of}
-use Rattle.sat_core.specs.Watching.{Watching, row, list_at, IsListed, IsWatch, IsShort, IsPair, IsWatching, IsUnmoved, IsShortened, IsPaired, IsEntered, CanWatch}
+use Rattle.sat_core.specs.Watching.{Watching, row, list_at, IsListed, IsWatch, IsPairAt, IsShort, IsPair, IsWatching, IsUnmoved, IsShortened, IsPaired, IsEntered, CanWatch}
 use Rattle.sat_core.specs.Analysis.{IsOneOf}
-use Rattle.sat_core.proofs.Places.{some_is, within, get-contains, contains-get, get-push, at-append, at-push}
+use Rattle.sat_core.specs.Shown.{IsWatchedPair}
+use Rattle.sat_core.proofs.Places.{some_is, within, read, get-contains, contains-get, get-push, at-append, at-push}
 use Rattle.sat_core.proofs.Sets.{one-or-other}
 
 -- what is left from a place on, by places
@@ -202,3 +203,22 @@ module _ (known : List (List Literal)) (w w' : Watching) (clause : List Literal)
       as (λ _. IsWatch w n l ⊎ ((n ≡ length w.pairs + 1) × IsOneOf None l))
       [ inl x ↦ inl (p, x, r) | inr x ↦ absurd (none-some p x.1) ]
   old_or_new (Some p) c s n l x = old-pair p c s n l x
+
+none-short : (known : List (List Literal)) (w : Watching) (n : ℕ) (c : List Literal) → IsWatching known w → IsPairAt w n None → at known n ≡ Some c
+    → (o : Option (Literal × Literal)) → at w.pairs n ≡ Some o → IsShort c
+none-short known w n c k none e None q = (k.shorts n c e q).1
+none-short known w n c k none e (Some p) q = absurd (none p q)
+
+-- what a search tells of the watched literals
+pub watched_pair : (known : List (List Literal)) (w : Watching) (n : ℕ) (r : Option (Literal × Literal)) → IsWatching known w → IsPairAt w n r
+    → IsWatchedPair known n r
+watched_pair known w zero (Some p) k e = absurd cc
+watched_pair known w (suc n) (Some p) k e =
+    let b : n < length known = (let z : n < length w.pairs = within w.pairs n (Some p) e in let q = k.count in omega arith) in
+    let c = get_or known n [] in
+    let h : at known (suc n) ≡ Some c = read known n [] b in
+    let i = k.pairs (suc n) c p h e in (c, h, i.first, i.second, i.apart)
+watched_pair known w zero None k none = λ c e. absurd cc
+watched_pair known w (suc n) None k none = λ c e.
+    let b : n < length w.pairs = (let z : n < length known = within known n c e in let q = k.count in omega arith) in
+    none-short known w (suc n) c k none e (get_or w.pairs n None) (read w.pairs n None b)

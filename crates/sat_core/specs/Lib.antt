@@ -9,5 +9,8 @@ pub mod Refuted
 pub mod Appended
 pub mod Propagation
 pub mod Analysis
+pub mod Reduction
+pub mod Placing
 pub mod Watching
 pub mod Visiting
+pub mod Answer

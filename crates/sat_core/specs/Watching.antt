@@ -40,6 +40,11 @@ IsOther w n l (Some m) =
     (p : Literal × Literal) × (at w.pairs n ≡ Some (Some p))
     × (((p.0 ≡ l) × (p.1 ≡ m)) ⊎ ((p.1 ≡ l) × (p.0 ≡ m)))
 
+-- the two that the numbered clause watches, if there is one and it watches any
+abbrev pub IsPairAt : Watching → ℕ → Option (Literal × Literal) → Type 0
+IsPairAt w n (Some p) = at w.pairs n ≡ Some (Some p)
+IsPairAt w n None = (p : Literal × Literal) → at w.pairs n ≡ Some (Some p) → ⊥
+
 -- the clause has no two different literals
 abbrev pub IsShort : List Literal → Type 0
 IsShort clause = (l m : Literal) → Contains clause l → Contains clause m → l ≡ m
@@ -163,11 +168,6 @@ IsEntered old new (Some p) = IsPaired old new p.0 p.1
 abbrev pub CanWatch : List Literal → Option (Literal × Literal) → Type 0
 CanWatch clause None = IsShort clause
 CanWatch clause (Some p) = IsPair clause p
-
--- a clause more that watches two of its literals, or is short
-abbrev pub IsEnteredFor : List Literal → Watching → Watching → Type 0
-IsEnteredFor clause old new =
-    (watched : Option (Literal × Literal)) × CanWatch clause watched × IsEntered old new watched
 
 -- the lists are gone through from the last decision on, or from the first entry
 abbrev pub IsHead : List Assigned → ℕ → Type 0

@@ -4,13 +4,16 @@
 #![tactic(auto)]
 
 mod analysis;
+mod answer;
 mod assigned;
 mod assignment;
 mod derived;
 mod found;
 pub mod laws;
 mod order;
+mod placing;
 mod propagation;
+mod reduction;
 mod search;
 mod set;
 mod variables;

@@ -1,18 +1,20 @@
-ghost use Rattle.std.specs.Prelude.{◌≡◌, ◌++◌, ◌∷◌, ◌<◌, ◌≤◌, ◌^◌, [], OnOk, OnErr, IfOk, IsTrue, true, map, length, take, List, ℕ};
+ghost use Rattle.std.specs.Prelude.{◌≡◌, ◌⊎◌, ◌++◌, ◌∷◌, ◌<◌, ◌≤◌, ◌^◌, [], OnOk, OnErr, IfOk, IsTrue, true, map, length, take, List, ℕ};
 ghost use Rattle.proof_steps.specs.View.{clause_view, step_view};
-ghost use Rattle.sat_core.specs.Shown.{Begins, IsAsBefore, Adds, Learns, Finds, learnt_count};
+ghost use Rattle.sat_core.specs.Shown.{Begins, IsAsBefore, Adds, Learns, Finds, IsWatchedPair, learnt_count};
 ghost use Rattle.sat_core.specs.Trail.{value_of};
 ghost use Rattle.cnf_maker.specs.View.{form_view};
 ghost use Rattle.proof_steps.specs.declared.Literal.{Literal as SignedLiteral};
 ghost use Rattle.sat_core.specs.Watching.{Watching, IsWatched, IsHead};
+ghost use Rattle.sat_core.specs.Analysis.{IsDecisionAt, IsStart, IsResumed};
 
 use crate::analysis::{Analysis, analysed, last_decision, next_decision};
+use crate::answer::{Answer, MOST, answered};
 use crate::assigned::Assigned;
 use crate::assignment::Assignment;
-use crate::derived::{append, refuted};
+use crate::derived::append;
 use crate::found::{Found, SearchFault};
 use crate::order::Order;
-use crate::propagation::run;
+use crate::placing::{Placing, placed};
 use crate::set::LiteralSet;
 use crate::variables::{add_atoms, admit, admit_all, flags_of};
 use crate::watches::Watches;
@@ -20,9 +22,6 @@ use cnf_maker::Cnf;
 use proof_steps::{Clause, Literal, Step};
 use std::alloc::{AllocError, Global};
 use std::marker::Model;
-
-/// As many clauses as numbers can name.
-const MOST: usize = 4294967295;
 
 /// A search over the clauses of a query and those that are added and learnt.
 #[derive(Drop)]
@@ -79,11 +78,37 @@ fn cut_back(assignment: &mut Assignment, head: &mut usize, order: &mut Order, le
     };
 }
 
+/// Where the lists are gone through again: just before a place, or where the trail ends now.
+fn start(low: usize, back: usize) -> usize
+    ensures { IsStart low back result }
+{
+    if low == 0 || back < low {
+        back
+    } else {
+        low - 1
+    }
+}
+
+/// Leaves the entries before a decision alone, and lets the lists be gone through again from the
+/// one just before a place on.
+fn cut_to(assignment: &mut Assignment, head: &mut usize, order: &mut Order, back: usize, low: usize)
+    ensures cut { assignment.new ≡ take back assignment.old }
+    ensures resumed { IsResumed low back head.old head.new }
+{
+    order.undo_from(assignment.entries(), back);
+    assignment.cut(back);
+    let start = start(low, back);
+    if start < *head {
+        *head = start;
+    }
+}
+
 /// How much stays after a conflict: where the search begins anew, what comes before the first
 /// decision.
 fn back_or_anew(trail: &[Assigned], back: usize, anew: bool) -> usize
     requires { back ≤ length trail.now }
-    ensures { result ≤ back }
+    ensures less { result ≤ back }
+    ensures decided { (result ≡ back) ⊎ IsDecisionAt trail.now result }
 {
     if anew {
         next_decision(trail, 0, back)
@@ -156,7 +181,15 @@ impl Search {
         self.assignment.value(literal)
     }
 
-    /// Adds a clause, which is then no longer false or unit before a decision.
+    /// Two different literals of a clause that it watches; none exactly where no clause has the number,
+    /// or where it has no two different literals.
+    pub fn watches(&self, clause: u32) -> Option<(Literal, Literal)>
+        ensures { IsWatchedPair self.now.known clause result }
+    {
+        self.watches.pair(clause)
+    }
+
+    /// Adds a clause; the trail is cut at the first decision before which it would be false or unit.
     pub fn add(&mut self, alloc: Global, clause: &Clause) -> Result<(), SearchFault>
         ensures ok { OnOk result (Adds self.old self.new (clause_view clause.now)) }
         ensures err { OnErr result (IsAsBefore self.old self.new) }
@@ -164,6 +197,8 @@ impl Search {
         if self.clauses.len() >= MOST {
             return Err(SearchFault::Memory(AllocError));
         }
+        let literals = clause.literals.as_slice();
+        let Placing { watched, low } = placed(&self.assignment, literals, &mut self.marked)?;
         admit(
             alloc,
             &mut self.clauses,
@@ -171,10 +206,17 @@ impl Search {
             &mut self.variables,
             &self.order,
             clause,
+            watched,
         )?;
         let entries = self.assignment.entries();
-        let first = next_decision(entries, 0, entries.len());
-        cut_back(&mut self.assignment, &mut self.head, &mut self.order, first);
+        let back = next_decision(entries, low, entries.len());
+        cut_to(
+            &mut self.assignment,
+            &mut self.head,
+            &mut self.order,
+            back,
+            low,
+        );
         self.in_conflict = false;
         Ok(())
     }
@@ -193,6 +235,7 @@ impl Search {
             clause,
             hints,
             back,
+            low,
             watched,
         } = analysed(
             alloc,
@@ -212,7 +255,13 @@ impl Search {
         )?;
         let back = back_or_anew(entries, back, self.order.restarts());
         self.order.bump_all(self.marked.as_slice());
-        cut_back(&mut self.assignment, &mut self.head, &mut self.order, back);
+        cut_to(
+            &mut self.assignment,
+            &mut self.head,
+            &mut self.order,
+            back,
+            low,
+        );
         self.in_conflict = false;
         Ok(())
     }
@@ -223,14 +272,16 @@ impl Search {
         ensures err { OnErr result (IsAsBefore self.old self.new) }
     {
         let before = self.assignment.entries().len();
-        match run(
+        match answered(
             alloc,
-            &self.clauses,
+            &mut self.clauses,
             &self.variables,
             &mut self.watches,
+            &mut self.log,
             &mut self.assignment,
             &mut self.head,
             &mut self.order,
+            self.ended,
         ) {
             Err(fault) => {
                 cut_back(
@@ -241,55 +292,20 @@ impl Search {
                 );
                 Err(SearchFault::Memory(fault))
             }
-            Ok(None) => {
+            Ok(Answer::Full) => {
                 self.in_conflict = false;
                 Ok(Found::Full)
             }
-            Ok(Some(number)) => match last_decision(self.assignment.entries()) {
-                Some(_) => {
-                    self.conflict = number;
-                    self.in_conflict = true;
-                    Ok(Found::Conflict)
-                }
-                None => {
-                    if self.ended {
-                        self.in_conflict = false;
-                        return Ok(Found::Empty);
-                    }
-                    if self.clauses.len() >= MOST {
-                        cut_back(
-                            &mut self.assignment,
-                            &mut self.head,
-                            &mut self.order,
-                            before,
-                        );
-                        return Err(SearchFault::Memory(AllocError));
-                    }
-                    match refuted(
-                        alloc,
-                        &mut self.clauses,
-                        &mut self.watches,
-                        &mut self.log,
-                        self.assignment.entries(),
-                        number,
-                    ) {
-                        Ok(()) => {
-                            self.ended = true;
-                            self.in_conflict = false;
-                            Ok(Found::Empty)
-                        }
-                        Err(fault) => {
-                            cut_back(
-                                &mut self.assignment,
-                                &mut self.head,
-                                &mut self.order,
-                                before,
-                            );
-                            Err(SearchFault::Memory(fault))
-                        }
-                    }
-                }
-            },
+            Ok(Answer::Conflict(number)) => {
+                self.conflict = number;
+                self.in_conflict = true;
+                Ok(Found::Conflict)
+            }
+            Ok(Answer::Empty) => {
+                self.ended = true;
+                self.in_conflict = false;
+                Ok(Found::Empty)
+            }
         }
     }
 }

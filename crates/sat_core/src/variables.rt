@@ -3,7 +3,7 @@ ghost use Rattle.proof_steps.specs.View.{clause_view, atom_view};
 ghost use Rattle.proof_steps.specs.declared.Literal.{Literal as SignedLiteral};
 ghost use Rattle.sat_core.specs.Shown.{plain as plain_of, with_literal, with_clause, with_clauses, flags_from, atoms_from};
 ghost use Rattle.sat_core.specs.Variables.{Extends};
-ghost use Rattle.sat_core.specs.Watching.{CanWatch, IsWatching, IsEnteredFor, IsUnmoved};
+ghost use Rattle.sat_core.specs.Watching.{CanWatch, IsWatching, IsEntered, IsUnmoved};
 ghost use Rattle.proof_checker.specs.Derived.{has};
 
 use crate::order::Order;
@@ -101,7 +101,7 @@ fn two_of(clause: &[Literal]) -> Option<(Literal, Literal)>
     None
 }
 
-/// Takes in a clause with its variables, and lets it watch two of its literals.
+/// Takes in a clause with its variables, and lets it watch these of its literals.
 pub fn admit(
     alloc: Global,
     clauses: &mut Vec<Clause>,
@@ -109,13 +109,15 @@ pub fn admit(
     variables: &mut Vec<Literal>,
     order: &Order,
     clause: &Clause,
+    watched: Option<(Literal, Literal)>,
 ) -> Result<(), AllocError>
     requires watching { IsWatching (map clause_view clauses.old.items) watches.old }
     requires few { length clauses.old.items < 4294967295 }
+    requires can_watch { CanWatch (clause_view clause.now) watched }
     ensures clauses { OnOk result (map clause_view clauses.new.items
         ≡ map clause_view clauses.old.items ++ clause_view clause.now ∷ []) }
     ensures variables { OnOk result (variables.new.items ≡ with_clause variables.old.items (clause_view clause.now)) }
-    ensures watching { OnOk result (IsEnteredFor (clause_view clause.now) watches.old watches.new) }
+    ensures watching { OnOk result (IsEntered watches.old watches.new watched) }
     ensures same_clauses { OnErr result (clauses.new.items ≡ clauses.old.items) }
     ensures same_variables { OnErr result (variables.new.items ≡ variables.old.items) }
     ensures same_watches { OnErr result (IsUnmoved watches.old watches.new) }
@@ -124,7 +126,7 @@ pub fn admit(
     clauses.reserve(1)?;
     let before = variables.len();
     match extend(variables, order, clause.literals.as_slice()) {
-        Ok(()) => match watches.enter(alloc, two_of(clause.literals.as_slice())) {
+        Ok(()) => match watches.enter(alloc, watched) {
             Ok(()) => {
                 clauses.push_reserved(copy);
                 Ok(())
@@ -159,7 +161,8 @@ pub fn admit_all(
     ensures watching { OnOk result (IsWatching (map clause_view clauses.new.items) watches.new) }
 {
     for clause in more {
-        admit(alloc, clauses, watches, variables, order, clause)?;
+        let watched = two_of(clause.literals.as_slice());
+        admit(alloc, clauses, watches, variables, order, clause, watched)?;
     }
     Ok(())
 }

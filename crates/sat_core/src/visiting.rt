@@ -26,11 +26,11 @@ pub enum Visit {
 fn can_stand(assignment: &Assignment, literal: Literal, other: Literal) -> bool
     ensures { CanStand assignment.now literal other result }
 {
-    !same(literal, other) && !assignment.is_false(literal)
+    !assignment.is_false(literal) && !same(literal, other)
 }
 
 /// A literal of the clause that is not false, beside another one.
-fn replacement(assignment: &Assignment, clause: &[Literal], other: Literal) -> Option<Literal>
+pub fn replacement(assignment: &Assignment, clause: &[Literal], other: Literal) -> Option<Literal>
     ensures { IsReplacement assignment.now clause.now other result }
 {
     for literal in clause {

@@ -3,7 +3,7 @@
 ghost use Rattle.std.specs.Prelude.{◌≡◌, ◌≢◌, ◌++◌, ◌∷◌, ◌<◌, ◌≤◌, ◌-◌, ℕ, [], take, Some, OnOk, OnErr, length, slice_get};
 ghost use Rattle.sat_core.specs.declared.watcher.Watcher.{Watcher as WatcherOf};
 ghost use Rattle.sat_core.specs.Set.{place_of};
-ghost use Rattle.sat_core.specs.Watching.{Watching, lists_of, row, list_at, AreSame, IsSameBut, IsWithout, IsDropped, IsMoved, IsOther, IsUnmoved, AreBoth, IsApartPair, IsEntered};
+ghost use Rattle.sat_core.specs.Watching.{Watching, lists_of, row, list_at, AreSame, IsSameBut, IsWithout, IsDropped, IsMoved, IsOther, IsPairAt, IsUnmoved, AreBoth, IsApartPair, IsEntered};
 
 use crate::set::{place, same};
 use crate::watcher::Watcher;
@@ -162,6 +162,19 @@ impl Watches {
                     None
                 }
             }
+            None => None,
+        }
+    }
+
+    /// The two literals that a clause watches, if there is one of that number and it watches any.
+    pub fn pair(&self, number: u32) -> Option<(Literal, Literal)>
+        ensures { IsPairAt self.now number result }
+    {
+        if number == 0 {
+            return None;
+        }
+        match self.pairs.get(number as usize - 1) {
+            Some(pair) => *pair,
             None => None,
         }
     }

@@ -29,15 +29,16 @@ fn meets_all(form: &Cnf, values: u32) -> bool {
     true
 }
 
-/// Whether some assignment of so many flags gives each clause a true literal.
-pub fn has_solution(form: &Cnf, flags: u32) -> bool {
+/// How many assignments of so many flags give each clause a true literal.
+pub fn solutions(form: &Cnf, flags: u32) -> u32 {
     if flags >= 32 {
-        return true;
+        return u32::MAX;
     }
+    let mut count = 0u32;
     for values in 0..1u32 << flags {
         if meets_all(form, values) {
-            return true;
+            count = count.saturating_add(1);
         }
     }
-    false
+    count
 }

@@ -1,6 +1,6 @@
-use crate::brute::has_solution;
+use crate::brute::solutions;
 use crate::clauses::form;
-use crate::trial::{Report, tried};
+use crate::trial::{Report, counted, tried};
 use anyhow::Result;
 use cnf_maker::Cnf;
 use proof_steps::{Clause, Literal};
@@ -36,22 +36,25 @@ fn random_form(alloc: Global, state: &mut u64, flags: u32) -> Result<Cnf> {
 }
 
 /// Whether the search answers a form as the slow program does.
-fn is_right(report: Report, solvable: bool) -> bool {
-    if solvable {
+fn is_right(report: Report, solutions: u32) -> bool {
+    if solutions > 0 {
         report.answer == "full" && report.shown == "solved"
     } else {
         report.answer == "empty" && report.shown == "log accepted"
     }
 }
 
-/// How many of so many random forms are answered as all assignments answer them.
+/// How many of so many random forms are answered as all assignments answer them, also where each
+/// solution that is found is excluded by a clause more.
 pub fn random_forms(alloc: Global, count: u32) -> Result<u32> {
     let mut state = 1;
     let mut right = 0u32;
     for _ in 0..count {
         let flags = next(&mut state) % 8 + 1;
         let form = random_form(alloc, &mut state, flags)?;
-        if is_right(tried(alloc, &form)?, has_solution(&form, flags)) {
+        let solutions = solutions(&form, flags);
+        let report = tried(alloc, &form)?;
+        if is_right(report, solutions) && counted(alloc, &form, flags)? == solutions {
             right = right.saturating_add(1);
         }
     }

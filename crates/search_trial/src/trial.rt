@@ -3,6 +3,7 @@ use cnf_maker::Cnf;
 use proof_checker::check;
 use proof_steps::{Clause, Literal, Proof, Step};
 use sat_core::{Found, Search};
+use smallvec::SmallVec;
 use std::alloc::Global;
 
 /// What a search over a form came to: its first answer, its last, and what the assignment or the
@@ -106,10 +107,44 @@ fn solves(search: &Search, form: &Cnf) -> bool {
     true
 }
 
+/// Whether all literals of the clause are one.
+fn is_short(clause: &Clause) -> bool {
+    let mut first = None;
+    for literal in clause.literals.as_slice() {
+        if first == None {
+            first = Some(*literal);
+        }
+        if first != Some(*literal) {
+            return false;
+        }
+    }
+    true
+}
+
+/// Whether these are two different literals of the clause, or none where it has no such.
+fn are_watched(clause: &Clause, watched: Option<(Literal, Literal)>) -> bool {
+    match watched {
+        Some((first, second)) => first != second && has(clause, first) && has(clause, second),
+        None => is_short(clause),
+    }
+}
+
+/// Whether each clause of the form watches two different literals, where it has two.
+fn watches_all(search: &Search, form: &Cnf) -> bool {
+    let mut number = 0u32;
+    for clause in &form.clauses {
+        number = number.saturating_add(1);
+        if !are_watched(clause, search.watches(number)) {
+            return false;
+        }
+    }
+    search.watches(0) == None
+}
+
 /// What the log, or the assignment, shows.
 fn shown(alloc: Global, search: &Search, form: &Cnf, found: Found) -> Result<&'static str> {
     if found == Found::Full {
-        return Ok(if solves(search, form) {
+        return Ok(if solves(search, form) && watches_all(search, form) {
             "solved"
         } else {
             "NOT SOLVED"
@@ -125,15 +160,43 @@ fn shown(alloc: Global, search: &Search, form: &Cnf, found: Found) -> Result<&'s
     }
 }
 
-/// Searches through a form of few enough clauses.
-pub fn tried(alloc: Global, form: &Cnf) -> Result<Report> {
+/// The search over a form of few enough clauses.
+fn search_of(alloc: Global, form: &Cnf) -> Result<Search> {
     if form.clauses.len() > 1_000_000
         || form.atoms.len() > 1_000_000
         || form.shapes.len() > 1_000_000
     {
         bail!("too many clauses");
     }
-    let mut search = Search::new(alloc, form)?;
+    Ok(Search::new(alloc, form)?)
+}
+
+/// The clause that excludes the values which the flags have.
+fn excluded(alloc: Global, search: &Search, flags: u32) -> Result<Clause> {
+    let mut literals = SmallVec::new(alloc);
+    for number in 0..flags {
+        let is_true = search.value(Literal::Flag(number, true)) == Some(true);
+        literals.push(Literal::Flag(number, !is_true))?;
+    }
+    Ok(Clause { literals })
+}
+
+/// How many solutions are found where each one is then excluded by a clause more.
+pub fn counted(alloc: Global, form: &Cnf, flags: u32) -> Result<u32> {
+    let mut search = search_of(alloc, form)?;
+    for count in 0..1_000u32 {
+        if searched(alloc, &mut search)? == Found::Empty {
+            return Ok(count);
+        }
+        let clause = excluded(alloc, &search, flags)?;
+        search.add(alloc, &clause)?;
+    }
+    bail!("a thousand solutions");
+}
+
+/// Searches through a form of few enough clauses.
+pub fn tried(alloc: Global, form: &Cnf) -> Result<Report> {
+    let mut search = search_of(alloc, form)?;
     let first = search.decide_or_conflict(alloc)?;
     if first == Found::Conflict {
         search.learn(alloc)?;

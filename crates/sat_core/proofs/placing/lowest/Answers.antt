@@ -1,6 +1,6 @@
 use Rattle.std.proofs.Common.{arith}
-use Rattle.sat_core.proofs.Backjump.{low_here, low_none, low_less}
-use Rattle.sat_core.proofs.analysis.low.Goals as goal
+use Rattle.sat_core.proofs.Placed.{low_here, low_none, low_less}
+use Rattle.sat_core.proofs.placing.lowest.Goals as goal
 
 pub returns-then-any_marked : goal.returns-then-any_marked
 returns-then-any_marked c = low_here c.args.trail.now c.args.marked.now c.args.from c.loop-i.i c.loop-i.invariant.0

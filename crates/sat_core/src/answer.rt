@@ -1,0 +1,104 @@
+//! What propagation came to.
+
+ghost use Rattle.std.specs.Prelude.{◌≡◌, ◌<◌, OnErr, IfOk, OnOk, All, map, length};
+ghost use Rattle.proof_steps.specs.View.{clause_view, step_view};
+ghost use Rattle.sat_core.specs.Trail.{IsTrail};
+ghost use Rattle.sat_core.specs.Held.{Covers, IsWithin, IsPlain};
+ghost use Rattle.sat_core.specs.Shown.{Grows};
+ghost use Rattle.sat_core.specs.Analysis.{IsLast};
+ghost use Rattle.sat_core.specs.Propagation.{IsFalseAt};
+ghost use Rattle.sat_core.specs.Watching.{IsWatched};
+ghost use Rattle.sat_core.specs.Answer.{IsEnded, IsAnswered};
+
+use crate::analysis::last_decision;
+use crate::assigned::Assigned;
+use crate::assignment::Assignment;
+use crate::derived::refuted;
+use crate::order::Order;
+use crate::propagation::run;
+use crate::watches::Watches;
+use proof_steps::{Clause, Literal, Step};
+use std::alloc::{AllocError, Global};
+
+/// As many clauses as numbers can name.
+pub const MOST: usize = 4294967295;
+
+/// What propagation came to: all variables have values, or the numbered clause is false after a
+/// decision, or a clause is false with none.
+#[derive(Clone, Copy)]
+pub enum Answer {
+    Full,
+    Conflict(u32),
+    Empty,
+}
+
+/// Derives the empty clause from a false one, unless it is known.
+fn end(
+    alloc: Global,
+    clauses: &mut Vec<Clause>,
+    watches: &mut Watches,
+    log: &mut Vec<Step>,
+    trail: &[Assigned],
+    number: u32,
+    head: usize,
+    ended: bool,
+) -> Result<(), AllocError>
+    requires is_trail { IsTrail (map clause_view clauses.old.items) trail.now }
+    requires is_false { IsFalseAt (map clause_view clauses.old.items) trail.now number }
+    requires no_decision { IsLast trail.now None }
+    requires watched { IsWatched (map clause_view clauses.old.items) trail.now watches.old head }
+    ensures ok { OnOk result (IsEnded ended (map clause_view clauses.old.items) (map clause_view clauses.new.items)
+        (map step_view log.old.items) (map step_view log.new.items)) }
+    ensures clauses { OnErr result (clauses.new.items ≡ clauses.old.items) }
+    ensures log { OnErr result (log.new.items ≡ log.old.items) }
+    ensures watched { IsWatched (map clause_view clauses.new.items) trail.now watches.new head }
+{
+    if ended {
+        return Ok(());
+    }
+    if clauses.len() >= MOST {
+        return Err(AllocError);
+    }
+    refuted(alloc, clauses, watches, log, trail, number)?;
+    Ok(())
+}
+
+/// Goes on with what is assigned; where a clause is false with no decision, derives the empty clause.
+pub fn answered(
+    alloc: Global,
+    clauses: &mut Vec<Clause>,
+    variables: &[Literal],
+    watches: &mut Watches,
+    log: &mut Vec<Step>,
+    assignment: &mut Assignment,
+    head: &mut usize,
+    order: &mut Order,
+    ended: bool,
+) -> Result<Answer, AllocError>
+    requires is_trail { IsTrail (map clause_view clauses.old.items) assignment.old }
+    requires covers { All (Covers variables.now) (map clause_view clauses.old.items) }
+    requires within { IsWithin variables.now assignment.old }
+    requires plains { All IsPlain variables.now }
+    requires watched { IsWatched (map clause_view clauses.old.items) assignment.old watches.old head.old }
+    ensures answer { IfOk result (λ a. IsAnswered ended (map clause_view clauses.old.items)
+        (map clause_view clauses.new.items) (map step_view log.old.items) (map step_view log.new.items) variables.now
+        assignment.new a) }
+    ensures clauses { OnErr result (clauses.new.items ≡ clauses.old.items) }
+    ensures log { OnErr result (log.new.items ≡ log.old.items) }
+    ensures is_trail { IsTrail (map clause_view clauses.old.items) assignment.new }
+    ensures within { IsWithin variables.now assignment.new }
+    ensures grows { Grows assignment.old assignment.new }
+    ensures watched { IsWatched (map clause_view clauses.new.items) assignment.new watches.new head.new }
+{
+    let Some(number) = run(alloc, clauses, variables, watches, assignment, head, order)? else {
+        return Ok(Answer::Full);
+    };
+    let trail = assignment.entries();
+    match last_decision(trail) {
+        Some(_) => Ok(Answer::Conflict(number)),
+        None => {
+            end(alloc, clauses, watches, log, trail, number, *head, ended)?;
+            Ok(Answer::Empty)
+        }
+    }
+}
