@@ -4,3 +4,4 @@ pub mod Ordered
 pub mod Refusals
 pub mod Rows
 pub mod Tables
+pub mod Texts
