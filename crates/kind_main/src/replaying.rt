@@ -38,13 +38,17 @@ fn formless(alloc: Global, fault: TraceFault) -> Stopped
 
 /// A trace that fits a program, and its replay.
 #[derive(Drop)]
-pub struct Replayed {
+pub struct Replayed<'a> {
     pub trace: Trace,
-    pub replay: Replay,
+    pub replay: Replay<'a>,
 }
 
 /// Reads a trace and replays it on a program.
-fn read_replay(alloc: Global, checked: &Checked, bytes: &[u8]) -> Result<Replayed, Stopped>
+fn read_replay<'a>(
+    alloc: Global,
+    checked: &'a Checked,
+    bytes: &[u8],
+) -> Result<Replayed<'a>, Stopped>
     requires { length bytes.now ≤ 1048576 }
     ensures { MatchResult result
         (λ r. IsTraceText bytes.now (trace_view r.trace) × FitsProgram (program_view checked.now) (trace_view r.trace) × ReplaysTrace (program_view checked.now) (trace_view r.trace) (replay_view r.replay))
@@ -54,10 +58,11 @@ fn read_replay(alloc: Global, checked: &Checked, bytes: &[u8]) -> Result<Replaye
         Ok(trace) => trace,
         Err(fault) => return Err(formless(alloc, fault)),
     };
-    match replay(alloc, checked, &trace) {
-        Ok(replay) => Ok(Replayed { trace, replay }),
-        Err(fault) => Err(formless(alloc, fault)),
-    }
+    let replay = match replay(alloc, checked, &trace) {
+        Ok(replay) => replay,
+        Err(fault) => return Err(formless(alloc, fault)),
+    };
+    Ok(Replayed { trace, replay })
 }
 
 /// The status of a replay, by the lines of its breaks.

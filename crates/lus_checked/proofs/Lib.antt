@@ -2,5 +2,4 @@ pub mod Scanned
 pub mod Marks
 pub mod Needs
 pub mod Count
-pub mod Listed
 pub mod Node

@@ -15,9 +15,8 @@ use Rattle.lus_meaning.specs.BooleanNeeds.{needed_at, needs_equation}
 use Rattle.lus_meaning.proofs.Unique.{same_bytes}
 use Rattle.lus_meaning.proofs.BooleanNode.{IsBooleanEquation}
 use Rattle.lus_checked.specs.Rows.{numbers_of, rows_of, row_at, row_needs}
-use Rattle.lus_checked.specs.Words.{add_all, place}
-use Rattle.lus_checked.proofs.Count.{name_at_place}
-use Rattle.lus_checked.proofs.Listed.{all_have, in_list, place_of}
+use Rattle.name_table.specs.Names.{number_of}
+use Rattle.name_table.proofs.Numbers.{name_of_number, in_list, number_at}
 
 -- ---- two tests that agree below the count
 
@@ -50,24 +49,21 @@ module _ (xs : List Name) (distinct : AreDistinct xs) (j : ℕ) (below : j < len
   abbrev here : Name
   here = get_or xs j []
 
-  row_has : (zs : List Name) → is_listed (numbers_of xs zs) j ≡ named_in here zs
+  pub row_has : (zs : List Name) → is_listed (numbers_of xs zs) j ≡ named_in here zs
   row_has [] = refl
   row_has (z ∷ zs) = go (cases_Bool (named_in z xs)) (cases_Bool (bytes_eq here z)) (row_has zs)
     where
-      found : bytes_eq here z ≡ true → place xs z ≡ j
-      found t = ap (place xs) (sym (same_bytes here z t)) ∙ place_of xs distinct j below
+      found : bytes_eq here z ≡ true → number_of xs z ≡ j
+      found t = ap (number_of xs) (sym (same_bytes here z t)) ∙ number_at xs distinct j below
 
-      other : named_in z xs ≡ true → bytes_eq here z ≡ false → j ≡ place xs z → ⊥
-      other h f e = true≢false (sym ((bytes_eq-Decides here z).1 (ap (λ k. get_or xs k []) e ∙ name_at_place xs z h)) ∙ f)
+      other : named_in z xs ≡ true → bytes_eq here z ≡ false → j ≡ number_of xs z → ⊥
+      other h f e = true≢false (sym ((bytes_eq-Decides here z).1 (ap (λ k. get_or xs k []) e ∙ name_of_number xs z h)) ∙ f)
 
-      go : (named_in z xs ≡ true) ⊎ (named_in z xs ≡ false) → (bytes_eq here z ≡ true) ⊎ (bytes_eq here z ≡ false) → is_listed (numbers_of xs zs) j ≡ named_in here zs → is_listed (cond (named_in z xs) (place xs z ∷ numbers_of xs zs) (numbers_of xs zs)) j ≡ (bytes_eq here z || named_in here zs)
-      go (inl h) (inl t) r = rw (h, t, eq-eqb j (place xs z) (sym (found t))) refl
-      go (inl h) (inr f) r = rw (h, f, ne_eqb j (place xs z) (other h f)) r
+      go : (named_in z xs ≡ true) ⊎ (named_in z xs ≡ false) → (bytes_eq here z ≡ true) ⊎ (bytes_eq here z ≡ false) → is_listed (numbers_of xs zs) j ≡ named_in here zs → is_listed (cond (named_in z xs) (number_of xs z ∷ numbers_of xs zs) (numbers_of xs zs)) j ≡ (bytes_eq here z || named_in here zs)
+      go (inl h) (inl t) r = rw (h, t, eq-eqb j (number_of xs z) (sym (found t))) refl
+      go (inl h) (inr f) r = rw (h, f, ne_eqb j (number_of xs z) (other h f)) r
       go (inr n) (inl t) r = absurd (true≢false (sym (subst (λ w. named_in w xs ≡ true) (same_bytes here z t) (in_list xs j below)) ∙ n))
       go (inr n) (inr f) r = rw (n, f) r
-
-  pub row_listed : (zs : List Name) → is_listed (numbers_of xs (add_all [] zs)) j ≡ named_in here zs
-  row_listed zs = row_has (add_all [] zs) ∙ all_have zs [] here
 
 -- ---- equations with one left name each
 
@@ -107,7 +103,7 @@ one_named y (z ∷ zs) = rw (bytes_swap z y, one_named y zs) (go (bytes_eq y z))
     go true = refl
     go false = refl
 
-row_is : (xs : List Name) (es : List Equation) (k : ℕ) → k < length es → row_at (rows_of xs es) k ≡ numbers_of xs (add_all [] (needed_at es k))
+row_is : (xs : List Name) (es : List Equation) (k : ℕ) → k < length es → row_at (rows_of xs es) k ≡ numbers_of xs (needed_at es k)
 row_is xs [] k l = absurd (omega arith)
 row_is xs (e ∷ es) zero l = refl
 row_is xs (e ∷ es) (suc k) l = row_is xs es k (omega arith)
@@ -117,5 +113,5 @@ pub rows_need : (es : List Equation) → AllByRecursion IsBooleanEquation es →
 rows_need es a d k j l h =
     let n : length (lefts es) ≡ length es = lefts_length es a in
     ap (λ r. is_listed r j) (row_is (lefts es) es k l)
-    ∙ (row_listed (lefts es) d j (omega arith) (needed_at es k)
+    ∙ (row_has (lefts es) d j (omega arith) (needed_at es k)
     ∙ (sym (one_named (get_or (lefts es) j []) (needed_at es k)) ∙ ap (λ ys. list_any (λ z. named_in z ys) (needed_at es k)) (sym (left_is es a j h))))

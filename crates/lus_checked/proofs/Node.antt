@@ -18,7 +18,9 @@ use Rattle.lus_meaning.proofs.BooleanOrder.{listed_no_cycle, stuck_has_cycle}
 use Rattle.lus_meaning.proofs.BooleanNeeds.{least_needed}
 use Rattle.lus_meaning.proofs.BooleanSizes.{HasFew, few_counts, counts_few}
 use Rattle.lus_checked.specs.Followed.{HasNoCycle, HasFewParts, IsOrderOf, IsTaken, property_count}
-use Rattle.lus_checked.specs.Ordered.{AreOrdered}
+use Rattle.lus_checked.specs.Found.{IsFoundOf, AreFound}
+use Rattle.lus_checked.specs.Tables.{AreTablesOf}
+use Rattle.lus_checked.specs.declared.found.Found.{Found}
 use Rattle.lus_checked.specs.Rows.{rows_of, row_needs}
 use Rattle.lus_checked.proofs.Count.{names_fit}
 use Rattle.lus_checked.proofs.Needs.{rows_need, lefts_length, other_next, other_stuck}
@@ -102,17 +104,23 @@ module _ (p : Program) (d : Component) (checked : IsBooleanChecked p d) where
   program_order : (ks : List ℕ) → IsOrderOf d ks → IsLeastEquationOrder (instance_of p d) (equations d) ks
   program_order ks o = subst (λ i. IsLeastEquationOrder i (equations d) ks) (boolean_instance d checked.rules.shape ∙ sym (boolean_checked_instance p d checked)) o
 
-pub program_answers : (p : Program) (d : Component) → p ≡ declared_node d ∷ [] → AreNumbered p → (r : Answer) → IfOk r (λ o. MatchOption o (IsTaken d → ⊥) (λ v. IsTaken d × IsOrderOf d v.items)) → IfOk r (λ o. MatchOption o (BreaksNoBooleanRule p → ⊥) (λ v. BreaksNoBooleanRule p × AreOrdered p v.items))
+abbrev pub FoundAnswer : Type 0
+FoundAnswer = Result (Option Found) AllocError
+
+pub program_answers : (p : Program) (d : Component) → p ≡ declared_node d ∷ [] → AreNumbered p → (r : FoundAnswer) → IfOk r (λ o. MatchOption o (IsTaken d → ⊥) (λ f. IsTaken d × IsFoundOf d f)) → IfOk r (λ o. MatchOption o (BreaksNoBooleanRule p → ⊥) (λ f. BreaksNoBooleanRule p × AreFound p f))
 program_answers p d e numbered r h = go r h
   where
     same : (d' : Component) → p ≡ declared_node d' ∷ [] → d' ≡ d
     same d' q = let other : declared_node d' ∷ [] ≡ declared_node d ∷ [] = sym q ∙ e in cc
 
-    go : (r : Answer) → IfOk r (λ o. MatchOption o (IsTaken d → ⊥) (λ v. IsTaken d × IsOrderOf d v.items)) → IfOk r (λ o. MatchOption o (BreaksNoBooleanRule p → ⊥) (λ v. BreaksNoBooleanRule p × AreOrdered p v.items))
-    go (Ok (Some v)) h =
+    go : (r : FoundAnswer) → IfOk r (λ o. MatchOption o (IsTaken d → ⊥) (λ f. IsTaken d × IsFoundOf d f)) → IfOk r (λ o. MatchOption o (BreaksNoBooleanRule p → ⊥) (λ f. BreaksNoBooleanRule p × AreFound p f))
+    go (Ok (Some f)) h =
         let checked : IsBooleanChecked p d = record { one_node = e; rules = h.0.0; numbered = (subst AreNumbered e numbered).0 } in (
           record { node = d; checked = checked; limits = within_counts p d checked h.0.1 },
-          λ d' k. subst (λ c. IsLeastEquationOrder (instance_of p c) (equations c) v.items) (sym (same d' k.one_node)) (program_order p d checked v.items h.1),
+          (
+            λ d' k. subst (λ c. IsLeastEquationOrder (instance_of p c) (equations c) f.order.items) (sym (same d' k.one_node)) (program_order p d checked f.order.items h.1.0),
+            λ d' k. subst (λ c. AreTablesOf c f.tables.declared f.tables.lefts) (sym (same d' k.one_node)) h.1.1,
+          ),
         )
     go (Ok None) h = λ b. h (subst IsTaken (same b.node b.checked.one_node) (b.checked.rules, few_parts p b.node b.checked b.limits))
     go (Err x) h = tt

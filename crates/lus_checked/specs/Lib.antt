@@ -1,5 +1,7 @@
 pub mod Followed
+pub mod Found
 pub mod Ordered
 pub mod Refusals
 pub mod Rows
-pub mod Words
+pub mod Tables
+pub mod Texts

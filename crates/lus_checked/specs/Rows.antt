@@ -6,16 +6,16 @@ use Rattle.lus_meaning.specs.Run.{Equation}
 use Rattle.lus_meaning.specs.Depends.{named_in}
 use Rattle.lus_meaning.specs.Order.{is_listed}
 use Rattle.lus_meaning.specs.BooleanNeeds.{needed_names}
-use Rattle.lus_checked.specs.Words.{add_all, place}
+use Rattle.name_table.specs.Names.{number_of}
 
--- the places among the left names of those needed names that are left names
+-- the numbers among the left names of those needed names that are left names
 abbrev pub numbers_of : List Name → List Name → List ℕ
 numbers_of xs [] = []
-numbers_of xs (z ∷ zs) = cond (named_in z xs) (place xs z ∷ numbers_of xs zs) (numbers_of xs zs)
+numbers_of xs (z ∷ zs) = cond (named_in z xs) (number_of xs z ∷ numbers_of xs zs) (numbers_of xs zs)
 
 -- a row for each equation
 abbrev pub rows_of : List Name → List Equation → List (List ℕ)
-rows_of xs es = map (λ e. numbers_of xs (add_all [] (needed_names e.right))) es
+rows_of xs es = map (λ e. numbers_of xs (needed_names e.right)) es
 
 abbrev pub row_at : List (List ℕ) → ℕ → List ℕ
 row_at rows k = get_or rows k []

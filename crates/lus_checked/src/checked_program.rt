@@ -7,9 +7,14 @@ ghost use Rattle.lus_meaning.specs.Run.{equations};
 ghost use Rattle.lus_meaning.specs.Rules.{IsWithinCounts};
 ghost use Rattle.lus_meaning.specs.BooleanRules.{BreaksNoBooleanRule, IsBooleanChecked};
 ghost use Rattle.lus_meaning.specs.Order.{IsLeastEquationOrder};
+ghost use Rattle.lus_meaning.specs.Depends.{left_names};
+ghost use Rattle.lus_meaning.specs.Rules.{declared_names};
+ghost use Rattle.lus_checked.specs.Found.{AreFound};
 ghost use Rattle.lus_checked.specs.Ordered.{AreOrdered};
 
+use crate::found::Found;
 use lus_tree::{Decl, Node, Program};
+use name_table::NameTable;
 use std::marker::Model;
 
 /// The node of a program of one node.
@@ -27,7 +32,7 @@ pub(crate) fn only_node(program: &Program) -> Option<&Node>
 #[derive(Drop)]
 pub struct Checked {
     program: Program,
-    order: Vec<u32>,
+    found: Found,
 }
 
 impl Model for Checked {
@@ -36,7 +41,7 @@ impl Model for Checked {
     ghost use Rattle.std.specs.Coded.{codes};
     ghost use Rattle.lus_tree.specs.View.{program_view};
     ghost use Rattle.lus_meaning.specs.BooleanRules.{BreaksNoBooleanRule};
-    ghost use Rattle.lus_checked.specs.Ordered.{AreOrdered};
+    ghost use Rattle.lus_checked.specs.Found.{AreFound};
 
     ghost Value = { Program };
 
@@ -44,17 +49,17 @@ impl Model for Checked {
 
     ghost view = { λ c. c.program };
 
-    ghost invariant = { λ c. BreaksNoBooleanRule (program_view c.program) × AreOrdered (program_view c.program) c.order.items };
+    ghost invariant = { λ c. BreaksNoBooleanRule (program_view c.program) × AreFound (program_view c.program) c.found };
 }
 
 impl Checked {
-    /// The program, of which the caller knows that it breaks no rule, with the order of its equations.
-    pub(crate) fn of(program: Program, order: Vec<u32>) -> Self
+    /// The program, of which the caller knows that it breaks no rule, with what was found of it.
+    pub(crate) fn of(program: Program, found: Found) -> Self
         requires follows { BreaksNoBooleanRule (program_view program) }
-        requires ordered { AreOrdered (program_view program) order.items }
+        requires found { AreFound (program_view program) found }
         ensures { program_view result ≡ program_view program }
     {
-        Checked { program, order }
+        Checked { program, found }
     }
 
     /// The program.
@@ -80,6 +85,20 @@ impl Checked {
     pub fn order(&self) -> &[u32]
         ensures { AreOrdered (program_view self.now) result.now }
     {
-        &self.order
+        &self.found.order
+    }
+
+    /// The names that its node declares, numbered from 0 in the order of their declarations.
+    pub fn declared(&self) -> &NameTable
+        ensures { (d : Component) → IsBooleanChecked (program_view self.now) d → result.now ≡ declared_names d }
+    {
+        &self.found.tables.declared
+    }
+
+    /// The left names of its equations. An equation has one, and the two have the same number.
+    pub fn lefts(&self) -> &NameTable
+        ensures { (d : Component) → IsBooleanChecked (program_view self.now) d → result.now ≡ left_names d }
+    {
+        &self.found.tables.lefts
     }
 }

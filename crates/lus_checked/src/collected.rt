@@ -1,6 +1,6 @@
 //! The names that a node declares, defines and uses, and the texts of its labels, as lists.
 
-ghost use Rattle.std.specs.Prelude.{◌≡◌, IfOk, ◌++◌, ◌∷◌, [], map, flat_map};
+ghost use Rattle.std.specs.Prelude.{◌≡◌, IfOk, ◌∷◌, [], map, flat_map};
 ghost use Rattle.lus_tree.specs.View.{expr_view, item_view, node_view, param_view, word_view};
 ghost use Rattle.lus_tree.specs.Tree.{text_of};
 ghost use Rattle.lus_tree.specs.Numbers.{body_expressions};
@@ -8,13 +8,14 @@ ghost use Rattle.lus_meaning.specs.Run.{body_equations};
 ghost use Rattle.lus_meaning.specs.BooleanNeeds.{needed_names};
 ghost use Rattle.lus_meaning.specs.Rules.{declared_names, lefts, names_of};
 ghost use Rattle.lus_meaning.specs.BooleanRules.{IsBooleanNode, label_texts, used_names};
+ghost use Rattle.lus_checked.specs.Texts.{Gathers, texts};
 
 use lus_tree::{Expr, Form, Item, Node, Param, Word};
 use std::alloc::{AllocError, Global};
 
 /// The names, and behind them those of the streams.
 fn push_streams<'a>(names: &mut Vec<&'a str>, params: &'a [Param]) -> Result<(), AllocError>
-    ensures { IfOk result (λ _. map (λ x. x.now) names.new.items ≡ map (λ x. x.now) names.old.items ++ names_of (map param_view params.now)) }
+    ensures { IfOk result (λ _. Gathers names.old.items names.new.items (names_of (map param_view params.now))) }
 {
     for param in params {
         names.push(param.name.text.as_str())?;
@@ -24,7 +25,7 @@ fn push_streams<'a>(names: &mut Vec<&'a str>, params: &'a [Param]) -> Result<(),
 
 /// The names of the inputs.
 pub(crate) fn inputs_of(alloc: Global, node: &Node) -> Result<Vec<&str>, AllocError>
-    ensures { IfOk result (λ v. map (λ x. x.now) v.items ≡ names_of (node_view node.now).inputs) }
+    ensures { IfOk result (λ v. texts v.items ≡ names_of (node_view node.now).inputs) }
 {
     let mut names = Vec::new(alloc);
     push_streams(&mut names, &node.inputs)?;
@@ -34,7 +35,7 @@ pub(crate) fn inputs_of(alloc: Global, node: &Node) -> Result<Vec<&str>, AllocEr
 /// The names of all streams.
 pub(crate) fn declared_of(alloc: Global, node: &Node) -> Result<Vec<&str>, AllocError>
     requires { IsBooleanNode (node_view node.now) }
-    ensures { IfOk result (λ v. map (λ x. x.now) v.items ≡ declared_names (node_view node.now)) }
+    ensures { IfOk result (λ v. texts v.items ≡ declared_names (node_view node.now)) }
 {
     let mut names = Vec::new(alloc);
     push_streams(&mut names, &node.inputs)?;
@@ -45,7 +46,7 @@ pub(crate) fn declared_of(alloc: Global, node: &Node) -> Result<Vec<&str>, Alloc
 
 /// The names, and behind them these words.
 fn push_words<'a>(names: &mut Vec<&'a str>, words: &'a [Word]) -> Result<(), AllocError>
-    ensures { IfOk result (λ _. map (λ x. x.now) names.new.items ≡ map (λ x. x.now) names.old.items ++ map text_of (map word_view words.now)) }
+    ensures { IfOk result (λ _. Gathers names.old.items names.new.items (map text_of (map word_view words.now))) }
 {
     for word in words {
         names.push(word.text.as_str())?;
@@ -55,7 +56,7 @@ fn push_words<'a>(names: &mut Vec<&'a str>, words: &'a [Word]) -> Result<(), All
 
 /// The names, and behind them the left names of an item.
 fn push_left<'a>(names: &mut Vec<&'a str>, item: &'a Item) -> Result<(), AllocError>
-    ensures { IfOk result (λ _. map (λ x. x.now) names.new.items ≡ map (λ x. x.now) names.old.items ++ lefts (body_equations (item_view item.now ∷ []))) }
+    ensures { IfOk result (λ _. Gathers names.old.items names.new.items (lefts (body_equations (item_view item.now ∷ [])))) }
 {
     match item {
         Item::Equation(words, _) => push_words(names, words),
@@ -65,7 +66,7 @@ fn push_left<'a>(names: &mut Vec<&'a str>, item: &'a Item) -> Result<(), AllocEr
 
 /// The left names of the equations.
 pub(crate) fn lefts_of(alloc: Global, items: &[Item]) -> Result<Vec<&str>, AllocError>
-    ensures { IfOk result (λ v. map (λ x. x.now) v.items ≡ lefts (body_equations (map item_view items.now))) }
+    ensures { IfOk result (λ v. texts v.items ≡ lefts (body_equations (map item_view items.now))) }
 {
     let mut names = Vec::new(alloc);
     for item in items {
@@ -77,7 +78,7 @@ pub(crate) fn lefts_of(alloc: Global, items: &[Item]) -> Result<Vec<&str>, Alloc
 /// The names, and behind them those that an expression uses.
 #[tactic(auto, using(lus_tree::proofs::Views::form_views))]
 fn push_used<'a>(names: &mut Vec<&'a str>, e: &'a Expr) -> Result<(), AllocError>
-    ensures { IfOk result (λ _. map (λ x. x.now) names.new.items ≡ map (λ x. x.now) names.old.items ++ used_names (expr_view e.now)) }
+    ensures { IfOk result (λ _. Gathers names.old.items names.new.items (used_names (expr_view e.now))) }
 {
     match &e.form {
         Form::Name(x) => {
@@ -107,7 +108,7 @@ fn push_used<'a>(names: &mut Vec<&'a str>, e: &'a Expr) -> Result<(), AllocError
 
 /// The names, and behind them those that an item uses.
 fn push_used_of<'a>(names: &mut Vec<&'a str>, item: &'a Item) -> Result<(), AllocError>
-    ensures { IfOk result (λ _. map (λ x. x.now) names.new.items ≡ map (λ x. x.now) names.old.items ++ flat_map used_names (body_expressions (item_view item.now ∷ []))) }
+    ensures { IfOk result (λ _. Gathers names.old.items names.new.items (flat_map used_names (body_expressions (item_view item.now ∷ [])))) }
 {
     match item {
         Item::Equation(_, e) | Item::Assert(e) => push_used(names, e),
@@ -118,7 +119,7 @@ fn push_used_of<'a>(names: &mut Vec<&'a str>, item: &'a Item) -> Result<(), Allo
 
 /// The names that the items use.
 pub(crate) fn used_of(alloc: Global, items: &[Item]) -> Result<Vec<&str>, AllocError>
-    ensures { IfOk result (λ v. map (λ x. x.now) v.items ≡ flat_map used_names (body_expressions (map item_view items.now))) }
+    ensures { IfOk result (λ v. texts v.items ≡ flat_map used_names (body_expressions (map item_view items.now))) }
 {
     let mut names = Vec::new(alloc);
     for item in items {
@@ -130,7 +131,7 @@ pub(crate) fn used_of(alloc: Global, items: &[Item]) -> Result<Vec<&str>, AllocE
 /// The names, and behind them those that an expression needs at its own instant.
 #[tactic(auto, using(lus_tree::proofs::Views::form_views))]
 pub(crate) fn push_needed<'a>(names: &mut Vec<&'a str>, e: &'a Expr) -> Result<(), AllocError>
-    ensures { IfOk result (λ _. map (λ x. x.now) names.new.items ≡ map (λ x. x.now) names.old.items ++ needed_names (expr_view e.now)) }
+    ensures { IfOk result (λ _. Gathers names.old.items names.new.items (needed_names (expr_view e.now))) }
 {
     match &e.form {
         Form::Name(x) => {
@@ -161,7 +162,7 @@ pub(crate) fn push_needed<'a>(names: &mut Vec<&'a str>, e: &'a Expr) -> Result<(
 
 /// The names, and behind them the text of an item's label.
 fn push_label<'a>(names: &mut Vec<&'a str>, item: &'a Item) -> Result<(), AllocError>
-    ensures { IfOk result (λ _. map (λ x. x.now) names.new.items ≡ map (λ x. x.now) names.old.items ++ label_texts (item_view item.now ∷ [])) }
+    ensures { IfOk result (λ _. Gathers names.old.items names.new.items (label_texts (item_view item.now ∷ []))) }
 {
     if let Item::Property(property) = item {
         if let Some(text) = &property.label {
@@ -173,7 +174,7 @@ fn push_label<'a>(names: &mut Vec<&'a str>, item: &'a Item) -> Result<(), AllocE
 
 /// The texts of the labels.
 pub(crate) fn labels_of(alloc: Global, items: &[Item]) -> Result<Vec<&str>, AllocError>
-    ensures { IfOk result (λ v. map (λ x. x.now) v.items ≡ label_texts (map item_view items.now)) }
+    ensures { IfOk result (λ v. texts v.items ≡ label_texts (map item_view items.now)) }
 {
     let mut names = Vec::new(alloc);
     for item in items {

@@ -3,13 +3,13 @@
 
 mod checked_program;
 mod collected;
+mod found;
 mod limits;
 mod names;
 mod order;
 mod rows;
 mod rules;
 mod shape;
-mod words;
 
 pub use checked_program::Checked;
 pub use rules::checked;

@@ -4,20 +4,19 @@ ghost use Rattle.std.specs.Prelude.{◌≡◌, IfOk, ◌++◌, ◌∷◌, [], ma
 ghost use Rattle.lus_tree.specs.View.{item_view};
 ghost use Rattle.lus_meaning.specs.Run.{body_equations};
 ghost use Rattle.lus_checked.specs.Rows.{numbers_of, rows_of};
-ghost use Rattle.lus_checked.specs.Words.{words};
 
 use crate::collected::push_needed;
-use crate::words::Words;
 use lus_tree::Item;
+use name_table::NameTable;
 use std::alloc::{AllocError, Global};
 
 /// The numbers, from 0, of those needed names that are left names.
-fn numbers_of(alloc: Global, lefts: &Words, needed: &[&str]) -> Result<Vec<usize>, AllocError>
-    ensures { IfOk result (λ v. v.items ≡ numbers_of (words lefts.now) (map (λ x. x.now) needed.now)) }
+fn numbers_of(alloc: Global, lefts: &NameTable, needed: &[&str]) -> Result<Vec<usize>, AllocError>
+    ensures { IfOk result (λ v. v.items ≡ numbers_of lefts.now (map (λ x. x.now) needed.now)) }
 {
     let mut numbers = Vec::new(alloc);
     for name in needed {
-        if let Some(j) = lefts.place(name) {
+        if let Some(j) = lefts.number(name) {
             numbers.push(j)?;
         }
     }
@@ -28,16 +27,15 @@ fn numbers_of(alloc: Global, lefts: &Words, needed: &[&str]) -> Result<Vec<usize
 fn push_row(
     alloc: Global,
     rows: &mut Vec<Vec<usize>>,
-    lefts: &Words,
+    lefts: &NameTable,
     item: &Item,
 ) -> Result<(), AllocError>
-    ensures { IfOk result (λ _. map (λ v. v.items) rows.new.items ≡ map (λ v. v.items) rows.old.items ++ rows_of (words lefts.now) (body_equations (item_view item.now ∷ []))) }
+    ensures { IfOk result (λ _. map (λ v. v.items) rows.new.items ≡ map (λ v. v.items) rows.old.items ++ rows_of lefts.now (body_equations (item_view item.now ∷ []))) }
 {
     if let Item::Equation(_, e) = item {
         let mut needed = Vec::new(alloc);
         push_needed(&mut needed, e)?;
-        let needed = Words::of(alloc, &needed)?;
-        let row = numbers_of(alloc, lefts, needed.as_slice())?;
+        let row = numbers_of(alloc, lefts, &needed)?;
         rows.push(row)?;
     }
     Ok(())
@@ -46,10 +44,10 @@ fn push_row(
 /// A row for each equation.
 pub(crate) fn rows_of(
     alloc: Global,
-    lefts: &Words,
+    lefts: &NameTable,
     items: &[Item],
 ) -> Result<Vec<Vec<usize>>, AllocError>
-    ensures { IfOk result (λ v. map (λ r. r.items) v.items ≡ rows_of (words lefts.now) (body_equations (map item_view items.now))) }
+    ensures { IfOk result (λ v. map (λ r. r.items) v.items ≡ rows_of lefts.now (body_equations (map item_view items.now))) }
 {
     let mut rows = Vec::new(alloc);
     for item in items {

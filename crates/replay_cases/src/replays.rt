@@ -9,7 +9,11 @@ use lus_tree::Param;
 use std::alloc::{AllocError, Global};
 use trace_replay::{Replay, TraceFault, read_trace, replay};
 
-fn replayed(alloc: Global, checked: &Checked, bytes: &[u8]) -> Result<(Replay, u32), TraceFault>
+fn replayed<'a>(
+    alloc: Global,
+    checked: &'a Checked,
+    bytes: &[u8],
+) -> Result<(Replay<'a>, u32), TraceFault>
     requires { length bytes.now ≤ 1048576 }
 {
     let trace = read_trace(alloc, bytes)?;

@@ -12,6 +12,8 @@ pub mod Calm
 pub mod Tables
 pub mod Looking
 pub mod Found
+pub mod Needed
+pub mod Noted
 pub mod Views
 pub mod FilledRows
 pub mod Named

@@ -1,17 +1,19 @@
 -- The names of a table are those that its node declares.
-use Rattle.std.proofs.Common.{◌≡◌, ◌⊎◌, inl, inr, ◌<◌, ℕ, Bool, true, false, List, [], ◌∷◌, ◌++◌, flat_map, length, refl, sym, ap, ◌∙◌}
+use Rattle.std.proofs.Common.{◌≡◌, ◌⊎◌, inl, inr, ◌<◌, ℕ, Bool, true, false, ◌||◌, List, [], ◌∷◌, ◌++◌, flat_map, length, refl, sym, ap, ◌∙◌}
 use Rattle.std.proofs.lemmas.Bool.{false≢true, cases_Bool}
 use Rattle.std.proofs.lemmas.List.{map-append}
+use Rattle.std.specs.Str.{bytes_eq}
 use Rattle.lus_tree.specs.Tree.{Name, Variable, Component, Program}
+use Rattle.lus_meaning.proofs.Exists.{self_bytes}
 use Rattle.lus_meaning.specs.Run.{Equation, equations, body_equations}
 use Rattle.lus_meaning.specs.Depends.{named_in}
-use Rattle.lus_meaning.specs.Rules.{names_of, declared_names, lefts}
+use Rattle.lus_meaning.specs.Rules.{AllAmong, names_of, declared_names, lefts}
 use Rattle.lus_meaning.specs.Order.{is_listed, left_at}
 use Rattle.lus_meaning.specs.BooleanNeeds.{IsLeastDirectOrder}
 use Rattle.lus_meaning.specs.BooleanRules.{IsBooleanChecked}
 use Rattle.lus_meaning.proofs.BooleanNode.{boolean_variables, boolean_equations}
 use Rattle.lus_meaning.proofs.BooleanOrder.{named_either}
-use Rattle.trace_replay.specs.Given.{free_among, base_names, table_names}
+use Rattle.trace_replay.specs.Given.{free_among, own_names, base_names, table_names}
 use Rattle.trace_replay.proofs.Named.{in_first, in_second, each_named, free_there, in_done, from_done, left_of, left_named}
 
 -- a free name is one of the variables
@@ -31,6 +33,14 @@ both_ways : (a b : Bool) → (a ≡ true → b ≡ true) → (b ≡ true → a �
 both_ways true b f g = sym (f refl)
 both_ways false true f g = g refl
 both_ways false false f g = refl
+
+all_among : (ys xs : List Name) → ((x : Name) → named_in x xs ≡ true → named_in x ys ≡ true) → AllAmong ys xs
+all_among ys [] h = tt
+all_among ys (x ∷ xs) h = (h x (rw (self_bytes x) refl), all_among ys xs (λ z e. h z (later (bytes_eq z x) (named_in z xs) e)))
+  where
+    later : (b c : Bool) → c ≡ true → (b || c) ≡ true
+    later true c e = refl
+    later false c e = e
 
 module _ (p : Program) (d : Component) (checked : IsBooleanChecked p d) (ks : List ℕ) (least : IsLeastDirectOrder (equations d) ks) where
   abbrev es : List Equation
@@ -94,3 +104,6 @@ module _ (p : Program) (d : Component) (checked : IsBooleanChecked p d) (ks : Li
 
   pub table_declared : (fs : List Equation) → fs ≡ body_equations d.body → (x : Name) → named_in x (table_names fs d ks) ≡ named_in x (declared_names d)
   table_declared fs body x = ap (λ (l : List Equation). named_in x (table_names l d ks)) (body ∙ sym (boolean_equations d checked.rules.shape)) ∙ both_ways (named_in x (table_names es d ks)) (named_in x (declared_names d)) (listed_declared x) (declared_listed x)
+
+  pub table_among : (fs : List Equation) → fs ≡ body_equations d.body → AllAmong (own_names d) (table_names fs d ks)
+  table_among fs body = all_among (own_names d) (table_names fs d ks) (λ x e. sym (ap (named_in x) declared) ∙ sym (table_declared fs body x) ∙ e)

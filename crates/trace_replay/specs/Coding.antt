@@ -1,14 +1,19 @@
--- What contracts see of the codes of a replay, by the names of its rows and the lines of its trace.
+-- What contracts see of a node with its names, and of the codes of a replay, by the names of its rows and the lines of its trace.
 use Rattle.std.specs.Prelude.{ℕ, Bool, List, length, map}
 use Rattle.std.specs.String.{string_bytes}
-use Rattle.lus_tree.specs.Tree.{Name, Expression}
+use Rattle.lus_tree.specs.Tree.{Name, Expression, Component}
+use Rattle.lus_tree.specs.View.{node_view}
 use Rattle.lus_meaning.specs.Trace.{Line}
 use Rattle.lus_meaning.specs.TraceView.{bare_view}
+use Rattle.trace_replay.specs.declared.node_names.NodeNames.{NodeNames}
 use Rattle.trace_replay.specs.declared.row_names.RowNames.{RowNames}
 use Rattle.trace_replay.specs.declared.line_table.LineTable.{LineTable}
 use Rattle.trace_replay.specs.Code.{Coded, code_truth}
 use Rattle.trace_replay.specs.Columns.{code_of}
 use Rattle.trace_replay.specs.Given.{first_in}
+
+abbrev pub node_in : NodeNames → Component
+node_in n = node_view n.node.now
 
 abbrev pub names_in : RowNames → List Name
 names_in r = map string_bytes r.names.items

@@ -57,6 +57,10 @@ abbrev pub subject_need : Component → ℕ → ℕ → Subject → Option (ℕ 
 subject_need d last n (of_name x) = name_need d n x
 subject_need d last n (of_first k) = first_need last k
 
+-- what a line of the node itself needs
+abbrev pub need_in : Component → ℕ → Subject → Option (ℕ × Bool)
+need_in d n s = subject_need d (greatest_pre_in 0 d.body) n s
+
 abbrev pub line_need : Component → ℕ → ℕ → List ℕ → Subject → Option (ℕ × Bool)
 line_need d last n [] s = subject_need d last n s
 line_need d last n (k ∷ ks) s = None

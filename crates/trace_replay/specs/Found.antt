@@ -1,10 +1,12 @@
 -- What is looked up in a list: the first column_of of a name, and the first line of a subject.
-use Rattle.std.specs.Prelude.{ℕ, suc, Bool, cond, ◌&&◌, List, [], ◌∷◌, Option, Some, None, find, option_map, nat_eq}
+use Rattle.std.specs.Prelude.{ℕ, suc, Bool, cond, ◌&&◌, List, [], ◌∷◌, Option, Some, None, find, get_or, is_none, option_map, nat_eq, slice_set}
 use Rattle.std.specs.Borrow.{Bor}
 use Rattle.std.specs.Option.{option_or}
 use Rattle.std.specs.Str.{bytes_eq}
 use Rattle.indexmap.specs.IndexMap.{IndexMap, get, get_by}
 use Rattle.lus_tree.specs.Tree.{Name}
+use Rattle.lus_meaning.specs.Depends.{named_in}
+use Rattle.name_table.specs.Names.{number_of}
 use Rattle.lus_meaning.specs.declared.trace.PlacedValue.{PlacedValue}
 use Rattle.lus_meaning.specs.Value.{Value}
 use Rattle.lus_meaning.specs.TraceView.{values_view}
@@ -14,6 +16,18 @@ use Rattle.lus_meaning.specs.Trace.{Line, Subject, same_numbers, same_subject}
 abbrev pub found_column : List Name → Name → Option ℕ
 found_column [] x = None
 found_column (y ∷ ys) x = cond (bytes_eq x y) (Some 0) (option_map suc (found_column ys x))
+
+-- the column that a list has for the number of a name
+abbrev pub column_by : List Name → List (Option ℕ) → Name → Option ℕ
+column_by names columns x = cond (named_in x names) (get_or columns (number_of names x) None) None
+
+-- the columns, where the name with a number has this one if it had none
+abbrev pub noted_at : List (Option ℕ) → ℕ → ℕ → List (Option ℕ)
+noted_at columns k column = cond (is_none (get_or columns k None)) (slice_set columns k (Some column)) columns
+
+-- the column that a name has, or else the given one, where it is that name
+abbrev pub or_column : Option ℕ → Name → ℕ → Name → Option ℕ
+or_column o y column x = option_or o (cond (bytes_eq x y) (Some column) None)
 
 -- whether a line lists a subject of the node itself
 abbrev pub lists : Subject → Line → Bool

@@ -2,7 +2,7 @@
 use Rattle.std.specs.Prelude.{ℕ, Bool, false, cond, ◌&&◌, List, [], ◌∷◌, ◌++◌, map, flat_map, get_or, find, option_map, unwrap_or}
 use Rattle.lus_tree.specs.Tree.{Name, Expression, truth, Variable, Component}
 use Rattle.lus_meaning.specs.Value.{Value, flag}
-use Rattle.lus_meaning.specs.Run.{Equation}
+use Rattle.lus_meaning.specs.Run.{Equation, body_equations}
 use Rattle.lus_meaning.specs.Depends.{named_in}
 use Rattle.lus_meaning.specs.Trace.{Line, Subject, of_name, of_first, same_numbers, same_subject, listed_at}
 use Rattle.lus_meaning.specs.Order.{left_at}
@@ -34,6 +34,10 @@ no_right = truth record { from = record { line = 0; column = 0 }; at = record { 
 abbrev pub right_at : List Equation → ℕ → Expression
 right_at es k = get_or (rights_of es) k no_right
 
+-- the names of inputs, outputs and locals
+abbrev pub own_names : Component → List Name
+own_names d = names_of d.inputs ++ (names_of d.outputs ++ names_of d.locals)
+
 -- the names of variables that are not among these
 abbrev pub free_among : List Name → List Variable → List Name
 free_among ls [] = []
@@ -42,6 +46,10 @@ free_among ls (v ∷ vs) = cond (named_in v.name.text ls) [] (v.name.text ∷ []
 -- the names that no equation defines: inputs and free names
 abbrev pub base_names : List Equation → Component → List Name
 base_names es d = names_of d.inputs ++ (free_among (lefts es) d.outputs ++ free_among (lefts es) d.locals)
+
+-- the same, by the equations of the body
+abbrev pub node_base : Component → List Name
+node_base d = base_names (body_equations d.body) d
 
 -- and behind them the left names in the order of their equations
 abbrev pub table_names : List Equation → Component → List ℕ → List Name

@@ -6,9 +6,9 @@ use Rattle.indexmap.specs.IndexSet.{IndexSet, contains, contains_by}
 use Rattle.lus_tree.specs.declared.place.Pos.{Pos}
 use Rattle.lus_tree.specs.Tree.{Name, Component}
 use Rattle.lus_meaning.specs.Depends.{named_in}
-use Rattle.lus_meaning.specs.Trace.{Subject, of_name, of_first, Line}
+use Rattle.lus_meaning.specs.Trace.{Subject, of_name, of_first, same_subject, Line}
 use Rattle.lus_meaning.specs.TraceView.{PlacedLine}
-use Rattle.lus_meaning.specs.Fits.{is_listed}
+use Rattle.lus_meaning.specs.Fits.{is_listed, same_place}
 use Rattle.trace_replay.specs.Fitting.{greatest_pre_in, subject_need, need_misfit}
 use Rattle.trace_replay.specs.declared.listed.Listed.{Listed}
 
@@ -24,6 +24,14 @@ AddsNames old new xs = (x : Name) → has_name new x ≡ (has_name old x || name
 abbrev pub has_spot : Listed → Subject → Bool
 has_spot l (of_name x) = has_name l.names x
 has_spot l (of_first k) = contains nat_eq l.numbers k
+
+-- new has what old has, and this name or first value
+abbrev pub AddsSpot : Listed → Listed → Subject → Type 0
+AddsSpot old new s = (r : Subject) → has_spot new r ≡ (has_spot old r || same_subject s r)
+
+-- the same of what a line lists, where it is a line of the node itself
+abbrev pub AddsLine : Listed → Listed → PlacedLine → Type 0
+AddsLine old new l = (r : Subject) → has_spot new r ≡ (has_spot old r || same_place l.path l.subject [] r)
 
 -- the names and first values that these lines list, and no others, were listed
 abbrev pub Lists : Listed → List Line → Type 0

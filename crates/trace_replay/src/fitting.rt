@@ -1,22 +1,24 @@
 //! Whether a trace fits a program.
 
-ghost use Rattle.std.specs.Prelude.{◌≡◌, ◌||◌, cond, map, IfErr, IfOk, OnOk, Some, []};
+ghost use Rattle.std.specs.Prelude.{◌≡◌, map, IfErr, IfOk, OnOk, []};
 ghost use Rattle.std.specs.List.{list_all};
-ghost use Rattle.lus_tree.specs.View.{node_view, param_view, program_view};
+ghost use Rattle.lus_tree.specs.View.{param_view, program_view};
 ghost use Rattle.lus_meaning.specs.Rules.{names_of};
-ghost use Rattle.lus_meaning.specs.Fits.{same_place, FitsProgram};
-ghost use Rattle.lus_meaning.specs.Trace.{Subject, of_name, same_subject};
+ghost use Rattle.lus_meaning.specs.Fits.{FitsProgram};
+ghost use Rattle.lus_meaning.specs.Trace.{of_name};
 ghost use Rattle.lus_meaning.specs.TraceView.{entry_view, placed_view, spot_view, line_view, bare_view, trace_view};
-ghost use Rattle.trace_replay.specs.Fitting.{misfit_of, greatest_pre_in, subject_need, takes_flag, flags_misfit, need_misfit, own_misfit, body_misfit, flag_misfit};
+ghost use Rattle.trace_replay.specs.Coding.{node_in};
+ghost use Rattle.trace_replay.specs.Fitting.{misfit_of, takes_flag, flags_misfit, own_misfit, body_misfit, flag_misfit};
 ghost use Rattle.trace_replay.specs.Refused.{IsMisfit, Finds};
-ghost use Rattle.trace_replay.specs.Tables.{has_spot, line_misfit, Lists};
+ghost use Rattle.trace_replay.specs.Tables.{has_spot, spot_misfit, line_misfit, AddsSpot, AddsLine, Lists};
 
 use crate::fault::TraceFault;
 use crate::listed::Listed;
 use crate::needs::Needs;
+use crate::node_names::NodeNames;
 use lus_checked::Checked;
 use lus_meaning::{PlacedValue, Trace, TraceLine, Value};
-use lus_tree::{Node, Param, Pos};
+use lus_tree::{Param, Pos};
 use std::alloc::Global;
 
 /// Whether a line may have this value.
@@ -54,9 +56,8 @@ fn own_line_fits<'a>(
     listed: &mut Listed<'a>,
     line: &'a TraceLine,
 ) -> Result<(), TraceFault>
-    ensures misfit { Finds result (cond (has_spot listed.old (spot_view line.now.what)) (Some line.now.at)
-        (need_misfit (subject_need (node_view needs.now.node.now) (greatest_pre_in 0 (node_view needs.now.node.now).body) length (spot_view line.now.what)) (line_view line.now))) }
-    ensures adds { OnOk result ((s : Subject) → has_spot listed.new s ≡ (has_spot listed.old s || same_subject (spot_view line.now.what) s)) }
+    ensures misfit { Finds result (spot_misfit listed.old (node_in needs.now.named) length [] (line_view line.now)) }
+    ensures adds { OnOk result (AddsSpot listed.old listed.new (spot_view line.now.what)) }
 {
     if !listed.add(&line.what)? {
         return Err(TraceFault::Form(line.at));
@@ -78,8 +79,8 @@ fn line_fits<'a>(
     listed: &mut Listed<'a>,
     line: &'a TraceLine,
 ) -> Result<(), TraceFault>
-    ensures misfit { Finds result (line_misfit listed.old (node_view needs.now.node.now) length (line_view line.now)) }
-    ensures adds { OnOk result ((s : Subject) → has_spot listed.new s ≡ (has_spot listed.old s || same_place line.now.path.items (spot_view line.now.what) [] s)) }
+    ensures misfit { Finds result (line_misfit listed.old (node_in needs.now.named) length (line_view line.now)) }
+    ensures adds { OnOk result (AddsLine listed.old listed.new (line_view line.now)) }
 {
     if line.path.is_empty() {
         own_line_fits(needs, length, listed, line)
@@ -95,7 +96,7 @@ fn lines_fit<'a>(
     length: u32,
     lines: &'a [TraceLine],
 ) -> Result<Listed<'a>, TraceFault>
-    ensures misfit { Finds result (own_misfit (node_view needs.now.node.now) length [] (map line_view lines.now)) }
+    ensures misfit { Finds result (own_misfit (node_in needs.now.named) length [] (map line_view lines.now)) }
     ensures listed { IfOk result (λ l. Lists l (map bare_view lines.now)) }
 {
     let mut listed = Listed::new(alloc);
@@ -119,12 +120,11 @@ fn are_listed(params: &[Param], listed: &Listed) -> bool
 
 /// Refuses the lines of a trace at their first word that doesn't fit the node, and its end where
 /// an input is missing.
-fn body_fits(alloc: Global, node: &Node, trace: &Trace) -> Result<(), TraceFault>
-    ensures { Finds result (body_misfit (node_view node.now) (trace_view trace.now)) }
+fn body_fits(alloc: Global, needs: &Needs, trace: &Trace) -> Result<(), TraceFault>
+    ensures { Finds result (body_misfit (node_in needs.now.named) (trace_view trace.now)) }
 {
-    let needs = Needs::of(alloc, node)?;
-    let listed = lines_fit(alloc, &needs, trace.length, &trace.lines)?;
-    if are_listed(&node.inputs, &listed) {
+    let listed = lines_fit(alloc, needs, trace.length, &trace.lines)?;
+    if are_listed(&needs.named.node.inputs, &listed) {
         Ok(())
     } else {
         Err(TraceFault::Form(trace.end_at))
@@ -132,16 +132,16 @@ fn body_fits(alloc: Global, node: &Node, trace: &Trace) -> Result<(), TraceFault
 }
 
 /// Refuses a trace at its first word that doesn't fit the node.
-pub fn fits_node(alloc: Global, node: &Node, trace: &Trace) -> Result<(), TraceFault>
-    ensures { Finds result (flag_misfit (node_view node.now) (trace_view trace.now)) }
+fn fits_node(alloc: Global, needs: &Needs, trace: &Trace) -> Result<(), TraceFault>
+    ensures { Finds result (flag_misfit (node_in needs.now.named) (trace_view trace.now)) }
 {
-    if trace.node.as_str() != node.name.text.as_str() {
+    if trace.node.as_str() != needs.named.node.name.text.as_str() {
         return Err(TraceFault::Form(trace.node_at));
     }
     if trace.length < 1 || 1001 < trace.length {
         return Err(TraceFault::Form(trace.length_at));
     }
-    body_fits(alloc, node, trace)
+    body_fits(alloc, needs, trace)
 }
 
 /// Whether a trace fits a program.
@@ -156,5 +156,7 @@ pub(crate) fn fits(alloc: Global, checked: &Checked, trace: &Trace) -> Result<()
     // A place is that of the first word that doesn't.
     ensures form { IfErr result (IsMisfit (program_view checked.now) (trace_view trace.now)) }
 {
-    fits_node(alloc, checked.node(), trace)
+    let named = NodeNames::of(checked);
+    let needs = Needs::of(named);
+    fits_node(alloc, &needs, trace)
 }

@@ -1,9 +1,9 @@
 //! What the lines of a node itself have listed.
 
-ghost use Rattle.std.specs.Prelude.{◌≡◌, ◌||◌, IfOk, OnOk, false, not};
-ghost use Rattle.lus_meaning.specs.Trace.{Subject, of_name, same_subject};
+ghost use Rattle.std.specs.Prelude.{◌≡◌, IfOk, OnOk, false, not};
+ghost use Rattle.lus_meaning.specs.Trace.{Subject, of_name};
 ghost use Rattle.lus_meaning.specs.TraceView.{spot_view};
-ghost use Rattle.trace_replay.specs.Tables.{has_spot};
+ghost use Rattle.trace_replay.specs.Tables.{has_spot, AddsSpot};
 
 use crate::sets::{add_name, add_number};
 use indexmap::IndexSet;
@@ -31,7 +31,7 @@ impl<'a> Listed<'a> {
     /// Adds a name or a first value. Is it new?
     pub fn add(&mut self, what: &'a Spot) -> Result<bool, AllocError>
         ensures new { IfOk result (λ b. b ≡ not (has_spot self.old (spot_view what.now))) }
-        ensures adds { OnOk result ((s : Subject) → has_spot self.new s ≡ (has_spot self.old s || same_subject (spot_view what.now) s)) }
+        ensures adds { OnOk result (AddsSpot self.old self.new (spot_view what.now)) }
     {
         match what {
             Spot::Name(name) => add_name(&mut self.names, name.as_str()),

@@ -3,22 +3,23 @@
 ghost use Rattle.std.specs.Prelude.{◌≡◌, ◌++◌, map, flat_map, IfOk, OnOk};
 ghost use Rattle.std.specs.String.{string_bytes};
 ghost use Rattle.lus_tree.specs.Tree.{text_of};
-ghost use Rattle.lus_tree.specs.View.{node_view, param_view, word_view};
-ghost use Rattle.lus_meaning.specs.Rules.{lefts, names_of};
+ghost use Rattle.lus_tree.specs.View.{param_view, word_view};
+ghost use Rattle.lus_meaning.specs.Rules.{names_of};
 ghost use Rattle.lus_meaning.specs.Order.{left_at};
 ghost use Rattle.trace_replay.specs.Columns.{column_view};
 ghost use Rattle.trace_replay.specs.Code.{code_view};
 ghost use Rattle.trace_replay.specs.Equations.{equations_in, PushesNames};
-ghost use Rattle.trace_replay.specs.Given.{right_at, free_among, base_names, given_columns, computed_columns};
-ghost use Rattle.trace_replay.specs.Coding.{names_in, lines_in, code_in};
+ghost use Rattle.trace_replay.specs.Given.{right_at, free_among, node_base, given_columns, computed_columns};
+ghost use Rattle.trace_replay.specs.Coding.{node_in, names_in, lines_in, code_in};
 
 use crate::code::{Code, Column, coded};
-use crate::defined::Defined;
 use crate::equations::{Equation, left, right};
 use crate::given::bits_listed;
 use crate::line_table::LineTable;
+use crate::node_names::NodeNames;
 use crate::row_names::RowNames;
-use lus_tree::{Node, Param, Word};
+use lus_tree::{Param, Word};
+use name_table::NameTable;
 use std::alloc::{AllocError, Global};
 
 /// Adds the names of variables.
@@ -32,11 +33,11 @@ fn push_params(names: &mut Vec<String>, params: &[Param]) -> Result<(), AllocErr
 }
 
 /// Adds the names of variables that no equation defines.
-fn push_free(names: &mut Vec<String>, defined: &Defined, params: &[Param]) -> Result<(), AllocError>
-    ensures { OnOk result (PushesNames names.old.items names.new.items (free_among (lefts (equations_in defined.now.equations.now)) (map param_view params.now))) }
+fn push_free(names: &mut Vec<String>, lefts: &NameTable, params: &[Param]) -> Result<(), AllocError>
+    ensures { OnOk result (PushesNames names.old.items names.new.items (free_among lefts.now (map param_view params.now))) }
 {
     for param in params {
-        if !defined.has(&param.name.text) {
+        if !lefts.has(&param.name.text) {
             names.push(param.name.text.clone()?)?;
         }
     }
@@ -44,13 +45,14 @@ fn push_free(names: &mut Vec<String>, defined: &Defined, params: &[Param]) -> Re
 }
 
 /// The names of inputs and free names.
-pub(crate) fn free(alloc: Global, node: &Node, defined: &Defined) -> Result<Vec<String>, AllocError>
-    ensures { IfOk result (λ names. map string_bytes names.items ≡ base_names (equations_in defined.now.equations.now) (node_view node.now)) }
+pub(crate) fn free(alloc: Global, named: &NodeNames) -> Result<Vec<String>, AllocError>
+    ensures { IfOk result (λ names. map string_bytes names.items ≡ node_base (node_in named.now)) }
 {
+    let NodeNames { node, lefts, .. } = named;
     let mut names = Vec::new(alloc);
     push_params(&mut names, &node.inputs)?;
-    push_free(&mut names, defined, &node.outputs)?;
-    push_free(&mut names, defined, &node.locals)?;
+    push_free(&mut names, lefts, &node.outputs)?;
+    push_free(&mut names, lefts, &node.locals)?;
     Ok(names)
 }
 

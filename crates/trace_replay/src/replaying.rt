@@ -22,7 +22,11 @@ use std::alloc::Global;
 ///
 /// `Form` exactly where the trace doesn't fit the program, at the first word that doesn't: a
 /// missing input at the word `end`. `Memory` for want of memory.
-pub fn replay(alloc: Global, checked: &Checked, trace: &Trace) -> Result<Replay, TraceFault>
+pub fn replay<'a>(
+    alloc: Global,
+    checked: &'a Checked,
+    trace: &Trace,
+) -> Result<Replay<'a>, TraceFault>
     // A trace that is replayed fits.
     ensures fits { OnOk result (FitsProgram (program_view checked.now) (trace_view trace.now)) }
     // A place is that of the first word that doesn't.

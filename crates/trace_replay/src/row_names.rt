@@ -1,32 +1,43 @@
 //! The names of a row, and the column of each.
 
-ghost use Rattle.std.specs.Prelude.{◌≡◌, ◌<◌, ◌^◌, List, ℕ, Some, None, cond, length, map, IfOk, OnOk, MatchOption};
-ghost use Rattle.std.specs.Option.{option_or};
-ghost use Rattle.std.specs.Str.{bytes_eq};
+ghost use Rattle.std.specs.Prelude.{◌≡◌, ◌<◌, ◌^◌, true, length, map, IfOk, MatchOption};
 ghost use Rattle.std.specs.String.{string_bytes};
-ghost use Rattle.indexmap.specs.IndexMap.{get_by_text};
+ghost use Rattle.lus_tree.specs.Tree.{Name};
+ghost use Rattle.lus_meaning.specs.Depends.{named_in};
+ghost use Rattle.lus_meaning.specs.Rules.{AllAmong};
 ghost use Rattle.trace_replay.specs.Columns.{column_of};
-ghost use Rattle.trace_replay.specs.Found.{found_column};
+ghost use Rattle.trace_replay.specs.Found.{column_by, found_column, noted_at, or_column};
 
-use indexmap::IndexMap;
+use name_table::NameTable;
 use std::alloc::{AllocError, Global};
 
-/// The names of a row, and a table of the column in which each first stands.
+/// The names of a row, and for the number of each declared name the column in which it first
+/// stands.
 #[derive(Drop)]
-pub(crate) struct RowNames {
+pub(crate) struct RowNames<'a> {
     pub(crate) names: Vec<String>,
-    pub(crate) first: IndexMap<String, u32>,
-    ghost known: { (x : List ℕ) → get_by_text first x ≡ found_column (map string_bytes names.items) x },
+    pub(crate) declared: &'a NameTable,
+    pub(crate) columns: Vec<Option<u32>>,
+    ghost known: { (x : Name) → column_by declared.now columns.items x ≡ found_column (map string_bytes names.items) x },
 }
 
-impl RowNames {
-    /// The columns of these names.
-    pub(crate) fn of(alloc: Global, names: Vec<String>) -> Result<Self, AllocError>
-        requires { length names.items < 2 ^ 31 }
+impl<'a> RowNames<'a> {
+    /// The columns of these names, which are declared.
+    pub(crate) fn of(
+        alloc: Global,
+        declared: &'a NameTable,
+        names: Vec<String>,
+    ) -> Result<Self, AllocError>
+        requires few { length names.items < 2 ^ 31 }
+        requires declared { AllAmong declared.now (map string_bytes names.items) }
         ensures { IfOk result (λ p. p.names ≡ names) }
     {
-        let first = first_columns(alloc, &names)?;
-        Ok(RowNames { names, first })
+        let columns = columns_of(alloc, declared, &names)?;
+        Ok(RowNames {
+            names,
+            declared,
+            columns,
+        })
     }
 
     /// The column of a name.
@@ -34,30 +45,57 @@ impl RowNames {
         ensures { MatchOption result (column_of (map string_bytes self.now.names.items) name.now ≡ length self.now.names.items)
             (λ i. (column_of (map string_bytes self.now.names.items) name.now ≡ i) × (i < length self.now.names.items)) }
     {
-        self.first.get(name).copied()
+        column_in(self.declared, &self.columns, name)
     }
 }
 
-/// A table of the column in which each name first stands.
-fn first_columns(alloc: Global, names: &[String]) -> Result<IndexMap<String, u32>, AllocError>
-    requires { length names.now < 2 ^ 31 }
-    ensures { IfOk result (λ m. (x : List ℕ) → get_by_text m x ≡ found_column (map string_bytes names.now) x) }
+/// The column of a name, by its number.
+pub(crate) fn column_in(declared: &NameTable, columns: &[Option<u32>], name: &str) -> Option<u32>
+    ensures { result ≡ column_by declared.now columns.now name.now }
 {
-    let mut first = IndexMap::new(alloc);
+    match declared.number(name) {
+        Some(number) => columns.get(number).copied().unwrap_or(None),
+        None => None,
+    }
+}
+
+/// For the number of each declared name the column in which it first stands.
+fn columns_of(
+    alloc: Global,
+    declared: &NameTable,
+    names: &[String],
+) -> Result<Vec<Option<u32>>, AllocError>
+    requires few { length names.now < 2 ^ 31 }
+    requires declared { AllAmong declared.now (map string_bytes names.now) }
+    ensures { IfOk result (λ cs. (x : Name) → column_by declared.now cs.items x ≡ found_column (map string_bytes names.now) x) }
+{
+    let mut columns = vec![in alloc; None; declared.len()]?;
     let mut column = 0;
     for name in names {
-        note(&mut first, name, column)?;
+        note(declared, &mut columns, name, column);
         column += 1;
     }
-    Ok(first)
+    Ok(columns)
 }
 
-/// Notes the column of a name that has none yet.
-fn note(first: &mut IndexMap<String, u32>, name: &String, column: u32) -> Result<(), AllocError>
-    ensures { OnOk result ((x : List ℕ) → get_by_text first.new x ≡ option_or (get_by_text first.old x) (cond (bytes_eq x (string_bytes name.now)) (Some column) None)) }
+/// Notes the column of a declared name that has none yet.
+fn note(declared: &NameTable, columns: &mut Vec<Option<u32>>, name: &str, column: u32)
+    requires whole { length columns.old.items ≡ length declared.now }
+    requires declared { named_in name.now declared.now ≡ true }
+    ensures whole { length columns.new.items ≡ length declared.now }
+    ensures noted { (x : Name) → column_by declared.now columns.new.items x ≡ or_column (column_by declared.now columns.old.items x) name.now column x }
 {
-    if !first.contains_key(name.as_str()) {
-        first.insert(name.clone()?, column)?;
+    if let Some(number) = declared.number(name) {
+        note_at(columns, number, column);
     }
-    Ok(())
+}
+
+/// The same by the number of the name.
+fn note_at(columns: &mut Vec<Option<u32>>, number: usize, column: u32)
+    requires { number < length columns.old.items }
+    ensures { columns.new.items ≡ noted_at columns.old.items number column }
+{
+    if columns[number].is_none() {
+        columns[number] = Some(column);
+    }
 }

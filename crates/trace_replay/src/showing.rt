@@ -7,7 +7,7 @@ ghost use Rattle.trace_replay.specs.Answer.{replay_view};
 use crate::answers::Replay;
 use lus_meaning::Value;
 
-impl Replay {
+impl Replay<'_> {
     /// The instant at which the property with this number breaks, if it does; they count from 0 in
     /// their order.
     pub fn breaks(&self, property: u32) -> Option<u32>
