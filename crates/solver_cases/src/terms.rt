@@ -20,21 +20,25 @@ pub fn not(alloc: Global, a: Term) -> Result<Term, AllocError> {
     Ok(Term::Not(Box::new(alloc, a)?))
 }
 
+/// Both are true.
 pub fn and(alloc: Global, a: Term, b: Term) -> Result<Term, AllocError> {
     let a = Box::new(alloc, a)?;
     Ok(Term::And(a, Box::new(alloc, b)?))
 }
 
+/// One is true, or both.
 pub fn or(alloc: Global, a: Term, b: Term) -> Result<Term, AllocError> {
     let neither = and(alloc, not(alloc, a)?, not(alloc, b)?)?;
     not(alloc, neither)
 }
 
+/// The two are equal.
 pub fn same(alloc: Global, a: Term, b: Term) -> Result<Term, AllocError> {
     let a = Box::new(alloc, a)?;
     Ok(Term::Same(a, Box::new(alloc, b)?))
 }
 
+/// Exactly one is true.
 pub fn xor(alloc: Global, a: Term, b: Term) -> Result<Term, AllocError> {
     not(alloc, same(alloc, a, b)?)
 }
