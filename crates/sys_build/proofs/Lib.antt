@@ -1,5 +1,5 @@
 pub mod Counted
-mod Behind
+mod Listed
 mod Places
 mod Occurrences
 mod Terms
