@@ -92,6 +92,8 @@ module _ (c : Course) (n : ℕ) where
     pub memories : Onward (map (memory_next (stage i at)) (in_order (λ m. m.number) (memories (component_of i))))
     pub starts : Onward (map (start_next (stage i at)) (in_order (λ m. m.number) (starts (component_of i))))
     pub started : AtFirst (starts_first (stage i at))
+    pub so_far : Onward (so_far_next (stage i at) m)
+    pub so_far_begins : AtFirst (so_far_first (stage i at) m)
 
   abbrev mutual
     pub TreeMeets : Manner → Instance → (Place → ℕ) → Formula → Sources → Type 0
@@ -126,6 +128,10 @@ module _ (c : Course) (n : ℕ) where
             starts = λ t l. right_part (N t) ms ss (left_part (N t) (ms ++ ss) (so_far_next g m) (left_part (N t)
                 (ms ++ ss ++ so_far_next g m) (calls_next is g) (o t l)));
             started = λ l. left_part (T 0) (starts_first g) (so_far_first g m) (left_part (T 0)
+                (starts_first g ++ so_far_first g m) (calls_first is g) (f l));
+            so_far = λ t l. right_part (N t) (ms ++ ss) (so_far_next g m) (left_part (N t)
+                (ms ++ ss ++ so_far_next g m) (calls_next is g) (o t l));
+            so_far_begins = λ l. right_part (T 0) (starts_first g) (so_far_first g m) (left_part (T 0)
                 (starts_first g ++ so_far_first g m) (calls_first is g) (f l));
           },
           calls_meet is g (λ t l. right_part (T t) (names_here g given) (calls_here is g) (h t l).1)

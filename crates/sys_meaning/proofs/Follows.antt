@@ -43,11 +43,11 @@ last_end (x ∷ b) s d = last_end b s x
 pub same_end : (b c : States) (s t : List Entry) → b ++ s ∷ [] ≡ c ++ t ∷ [] → s ≡ t
 same_end b c s t e = sym (last_end b s []) ∙ ap (λ q. last_of q []) e ∙ last_end c t []
 
-is_true : (b : Bool) → (b ≡ false → ⊥) → b ≡ true
+pub is_true : (b : Bool) → (b ≡ false → ⊥) → b ≡ true
 is_true true h = refl
 is_true false h = absurd (h refl)
 
-flag_inside : (a b : Bool) → flag a ≡ flag b → a ≡ b
+pub flag_inside : (a b : Bool) → flag a ≡ flag b → a ≡ b
 flag_inside a b e = ap inside e
   where
     inside : Value → Bool
@@ -62,7 +62,7 @@ some_same {A} x y e = ap inside e
     inside None = x
     inside (Some z) = z
 
-none_some : {A : Type 0} (x : A) → None ≡ Some x → ⊥
+pub none_some : {A : Type 0} (x : A) → None ≡ Some x → ⊥
 none_some x e = false≢true (ap is_some e)
 
 -- a property and its formula at one place

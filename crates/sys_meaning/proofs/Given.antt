@@ -14,14 +14,14 @@ use Rattle.sys_terms.specs.View.{Formula}
 use Rattle.sys_terms.specs.Meaning.{Values, truth_of}
 use Rattle.sys_meaning.specs.Slot.{Place, beat, own, named, starting, in_call}
 use Rattle.sys_meaning.specs.Slot as slot
-use Rattle.sys_meaning.specs.Items.{Key}
+use Rattle.sys_meaning.specs.Items.{Key, known}
 use Rattle.sys_meaning.specs.Defaults.{site_of, default_of}
 use Rattle.sys_meaning.specs.State.{held_before}
 use Rattle.sys_meaning.specs.Part.{variable, fixed, equal_parts, value_in, worth}
 use Rattle.sys_meaning.specs.Path.{Course, bare_stage, frame_by}
 use Rattle.sys_meaning.specs.Translate.{Stage, flag_at, present, latest_part, formula, term_of}
 use Rattle.sys_meaning.specs.Seen.{seen}
-use Rattle.sys_meaning.specs.System.{stage, becomes, memory_next, start_next, held_next, held_first, runs_where, Sources}
+use Rattle.sys_meaning.specs.System.{at_numbers, stage, becomes, memory_next, start_next, held_next, held_first, runs_where, Sources}
 use Rattle.sys_meaning.specs.WellTyped.{no_constant, is_declared, clock_here, Stands, ClockFits, IsPlainCall, IsHeldCall, DefaultsFit, MannerFits, CallFits, TreeFits, StreamFits, count_of}
 use Rattle.sys_meaning.proofs.Conditions.{bools_equal, zero_value, parts_equal}
 use Rattle.sys_meaning.proofs.Shown.{variable_worth, value_has, fixed_worth, term_shown, formula_worth}
@@ -36,6 +36,7 @@ use Rattle.sys_meaning.proofs.Balanced.{Picked, pick}
 use Rattle.sys_meaning.proofs.Taken.{Gives, shown_by}
 use Rattle.sys_meaning.proofs.Back as back
 use Rattle.sys_meaning.proofs.Backward.{ordered_at, mapped_all, FrameMeets, CallsMeet, meets_called, call_fits_called, own_meets, call_shown}
+use Rattle.sys_meaning.proofs.Clauses.{items_modes}
 use Rattle.sys_meaning.proofs.Whole.{no_modes}
 
 and_one : (a : Bool) → (a && true) ≡ a
@@ -132,7 +133,7 @@ module _ (d : Component) (cs : List (Name × Value)) (is : Instances) (at : Plac
       ∙ rw (e.manner, e.clock) refl
     where
       none : modes_of no_modes i at ≡ []
-      none = rw fits.0.contract refl
+      none = ap (λ ms. at_numbers at (known ms)) (items_modes i fits.0.contract)
 
   -- ---- what is held
 

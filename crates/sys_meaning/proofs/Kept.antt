@@ -8,7 +8,7 @@ use Rattle.lus_meaning.specs.Value.{Value, absent, Instants, has_sort}
 use Rattle.lus_meaning.specs.Frame.{entry, call_frame}
 use Rattle.lus_meaning.specs.Scene.{Clock, Manner, Scene, Instance, Instances, instance, component_of, call_instance, variables, clock_from, clock_of, is_on}
 use Rattle.lus_meaning.specs.Meaning.{mode_stream, call_outputs}
-use Rattle.lus_meaning.specs.Contract.{scene}
+use Rattle.lus_meaning.specs.Contract.{scene_with, scene}
 use Rattle.lus_meaning.specs.Run.{KeepsText, Equation, equations, IsBalanced, at_instant, have_sorts, first_sorts, is_typed, sort_of_name, active}
 use Rattle.lus_meaning.specs.WellMade.{AreDistinct}
 use Rattle.lus_meaning.proofs.Exists.{sampled_names, sampled_lengths}
@@ -30,6 +30,7 @@ use Rattle.sys_meaning.proofs.Balanced.{source_names, equations_balanced}
 use Rattle.sys_meaning.proofs.Forward.{modes_of}
 use Rattle.sys_meaning.proofs.Backward.{FrameMeets, CallsMeet, call_shown}
 use Rattle.sys_meaning.proofs.Given.{plain_beat, frame_shown}
+use Rattle.sys_meaning.proofs.Clauses.{terms_modes}
 use Rattle.sys_meaning.proofs.Whole.{no_modes}
 
 firsts_sorted : (k : ℕ) (ss : List Sort) (at : Place → ℕ) (c : Course) → have_sorts ss (firsts_by k ss at c) ≡ true
@@ -102,7 +103,8 @@ module _ (d : Component) (cs : List (Name × Value)) (is : Instances) (at : Plac
         (rw (ap (λ z. is_on s z t) e.clock ∙ o) refl)
 
     no_mode : (t : ℕ) (q : Option Name) (x : Name) → mode_stream s q x t ≡ absent
-    no_mode t q x = rw fits.0.contract refl
+    no_mode t q x = ap (λ ms. mode_stream (scene_with i ms b (frame_by i at c n)) q x t)
+        (terms_modes i fits.0.contract)
 
     -- the frame of a path keeps its text
     pub path_keeps : KeepsText n s

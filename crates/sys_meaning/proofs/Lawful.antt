@@ -1,16 +1,15 @@
 -- Where a state meets the formulas of the assertions, the assertions are true.
 use Rattle.std.proofs.Common.{◌≡◌, ℕ, suc, ◌<◌, Bool, true, false, not, ◌&&◌, ◌||◌, List, [], ◌∷◌, map, refl, ap, ◌∙◌, sym}
-use Rattle.std.proofs.Common.{None}
 use Rattle.std.specs.List.{AllByRecursion, list_all}
 use Rattle.std.proofs.lemmas.Bool.{false≢true}
 use Rattle.lus_tree.specs.declared.place.Sort.TheVariants.{Bool as Flags}
 use Rattle.lus_tree.specs.Tree.{Expression}
 use Rattle.lus_meaning.specs.Value.{Value, flag, Instants, is as equals}
 use Rattle.lus_meaning.specs.Frame.{Frame, Frames, no_frames, with_frame, calls_in}
-use Rattle.lus_meaning.specs.Scene.{base, Instance, Instances, instance, no_instances, with_instance, component_of, calls_of}
+use Rattle.lus_meaning.specs.Scene.{base, Instance, Instances, instance, no_instances, with_instance, calls_of}
 use Rattle.lus_meaning.specs.Meaning.{value}
 use Rattle.lus_meaning.specs.Contract.{scene}
-use Rattle.lus_meaning.specs.Property.{assertions, all_assert, calls_assert, meets_assumptions}
+use Rattle.lus_meaning.specs.Property.{assertions, all_assert, calls_assert}
 use Rattle.lus_meaning.specs.Run.{IsRun, CallsRun, active, sort_of}
 use Rattle.lus_meaning.proofs.Now.{left_part, right_part}
 use Rattle.sys_terms.specs.View.{Formula, negation, both}
@@ -103,8 +102,3 @@ module _ (Modes : Instance → Key → Type 0) (contracts : Contracts Modes) (c 
         (calls_asserted is i at b f run fits reads t h (suc p) fs (calls_later p (calls_of i) ∙ ap later_calls e)
         (frames_later p (calls_in f) ∙ ap later_frames d) r.2 w.2
         (right_part T (asserts_in k (below_call a.number at)) (calls_asserts is (stage i at)) q))
-
--- a declaration without a contract assumes nothing
-pub assumes_nothing : (i : Instance) (b : Instants) (f : Frame) (t : ℕ) → (component_of i).contract ≡ None →
-    meets_assumptions i b f t ≡ true
-assumes_nothing (instance d cs is) b f t e = rw e refl

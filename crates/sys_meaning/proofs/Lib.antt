@@ -17,6 +17,7 @@ pub mod Owned
 pub mod Forward
 pub mod Onward
 pub mod Begin
+pub mod Clauses
 pub mod RunPath
 pub mod Offs
 pub mod Taken
@@ -31,3 +32,13 @@ pub mod Reading
 pub mod Lawful
 pub mod PathStates
 pub mod OneRun
+pub mod Found
+pub mod Cells
+pub mod BooleanText
+pub mod CheckedFits
+pub mod CheckedRuns
+pub mod Tracing
+pub mod CheckedTrace
+pub mod CheckedReplay
+pub mod CheckedVerdicts
+pub mod CheckedLines

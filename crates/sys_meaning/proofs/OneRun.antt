@@ -156,10 +156,10 @@ module _ (Modes : Instance → Key → Type 0) (contracts : Contracts Modes) (c 
         (frames_later p (calls_in f) ∙ ap later_frames d) r.2 w.2 in
         rw (one, rest) refl
 
--- ---- paths without contracts
+-- ---- paths without modes and imports
 
 -- the state of an instant is the one listed there
-state_listed : (i : Instance) (f : Frame) (n t u : ℕ) → u < n →
+pub state_listed : (i : Instance) (f : Frame) (n t u : ℕ) → u < n →
     get_or (states_from i f t n) u [] ≡ state_of i f (t + u)
 state_listed i f zero t u h = absurd (omega arith)
 state_listed i f (suc n) t zero h = let here : t ≡ t + 0 = omega arith in ap (state_of i f) here

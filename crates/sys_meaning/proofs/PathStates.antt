@@ -1,4 +1,4 @@
--- For declarations without contracts: the states of a path's frame are the path, and it is lawful.
+-- For declarations without modes and imports: the states of a path's frame are the path, and it is lawful.
 use Rattle.std.proofs.Common.{◌≡◌, ℕ, zero, suc, pred, ◌<◌, ◌+◌, true, List, [], ◌∷◌, map, length, refl, ap, ◌∙◌, sym, arith, Some, is_some, slice_get, get_or}
 use Rattle.std.specs.List.{AllByRecursion}
 use Rattle.std.proofs.lemmas.Bool.{false≢true}
@@ -12,7 +12,7 @@ use Rattle.lus_meaning.specs.Run.{IsRun}
 use Rattle.lus_meaning.specs.Property.{IsLawful, all_assert, meets_all, meets_assumptions}
 use Rattle.lus_meaning.specs.Trace.{or_default}
 use Rattle.lus_meaning.specs.Verdict.{throughout}
-use Rattle.lus_meaning.proofs.Now.{right_part}
+use Rattle.lus_meaning.proofs.Now.{left_part, right_part}
 use Rattle.sys_terms.specs.declared.term.Entry.{Entry}
 use Rattle.sys_terms.specs.declared.term.Entry.TheVariants as entries
 use Rattle.sys_terms.specs.Meaning.{values_of, truth_of}
@@ -27,8 +27,9 @@ use Rattle.sys_meaning.specs.Law.{TreeDistinct, IsRunOf}
 use Rattle.sys_meaning.specs.WellTyped.{HasPlace, WellTyped}
 use Rattle.sys_meaning.proofs.Shows.{Reads, same_both, later_value}
 use Rattle.sys_meaning.proofs.Follows.{some_same}
-use Rattle.sys_meaning.proofs.Forward.{both_true, own_fits}
-use Rattle.sys_meaning.proofs.Lawful.{all_asserted, assumes_nothing}
+use Rattle.sys_meaning.proofs.Forward.{both_true, own_fits, shown_here}
+use Rattle.sys_meaning.proofs.Lawful.{all_asserted}
+use Rattle.sys_meaning.proofs.Clauses.{IsShownBy, assumed_all, true_listed}
 use Rattle.sys_meaning.proofs.PathRun.{from_places, start, path_meets, begins, path_offs, path_is_run}
 use Rattle.sys_meaning.proofs.Reading.{path_reads}
 use Rattle.sys_meaning.proofs.Whole.{no_modes, no_contracts}
@@ -88,14 +89,14 @@ module _ (i : Instance) (w : WellTyped no_modes i) (states : List (List Entry))
 
   pub all_reads : (t : ℕ) → t < n → Reads no_modes i (number_of i) throughout f t (c t)
   all_reads t h ks p z hp e = path_reads ks i (number_of i) c n throughout plain (start i w states path) [] w.tree
-      (path_meets i w states path) (begins i w states path) (path_offs i w states path) t h p z hp
+      (path_meets i w states path) (begins i w states path) (path_offs i w states path) refl t h p z hp
 
   state_same : (t : ℕ) → t < n → state_of i f t ≡ get_or states t []
   state_same t h =
       entries_same (slots i) (λ q. or_default q.sort (reading i throughout f (place_of q) t)) (get_or states t [])
       (path.loose.each t [] h).fit (λ k q d. ap (value_in (c t) q.sort) (sym (w.numbered k q d))
       ∙ path_reads q.path i (number_of i) c n throughout plain (start i w states path) [] w.tree
-      (path_meets i w states path) (begins i w states path) (path_offs i w states path) t h (spot_of q.cell) q.sort
+      (path_meets i w states path) (begins i w states path) (path_offs i w states path) refl t h (spot_of q.cell) q.sort
       (at_index (λ q. HasPlace no_modes q.path i (spot_of q.cell) q.sort) (slots i) w.slots k q d))
 
   -- the states of the path's frame are the path
@@ -107,13 +108,19 @@ module _ (i : Instance) (w : WellTyped no_modes i) (states : List (List Entry))
     run : IsRun i n throughout f
     run = path_is_run i w states path distinct
 
+    shown : (t : ℕ) → t < n → IsShownBy (number_of i) (c t) (c t) throughout f t i
+    shown t h = shown_here no_modes no_contracts c n i (number_of i) throughout f run w.tree all_reads t h (c t)
+
     meets_here : (t : ℕ) → t < n → meets_all i throughout f t ≡ true
     meets_here t h =
         both_true (all_assert i throughout f t) (meets_assumptions i throughout f t)
         (all_asserted no_modes no_contracts c n i (number_of i) throughout f run w.tree all_reads t h
         (right_part (λ z. truth_of (c t) (c t) z ≡ true) (assumed i (number_of i)) (asserts_in i (number_of i))
         (from_places (λ z. truth_of (c t) (c t) z ≡ true) (system_of i).legal (path.loose.each t [] h).legal)))
-        (assumes_nothing i throughout f t (own_fits no_modes i w.tree).contract)
+        (sym (assumed_all (number_of i) (c t) (c t) throughout f t i (own_fits no_modes i w.tree) (shown t h) refl)
+        ∙ true_listed (c t) (c t) (assumed i (number_of i))
+        (left_part (λ z. truth_of (c t) (c t) z ≡ true) (assumed i (number_of i)) (asserts_in i (number_of i))
+        (from_places (λ z. truth_of (c t) (c t) z ≡ true) (system_of i).legal (path.loose.each t [] h).legal)))
 
     -- it is lawful at the last instant
     pub path_lawful : IsLawful i throughout f (pred n)

@@ -1,36 +1,40 @@
--- For declarations without contracts: the states of a run are a path.
-use Rattle.std.proofs.Common.{◌≡◌, ℕ, zero, suc, pred, ◌<◌, true, List, [], ◌∷◌, refl, ap, ◌∙◌, sym, subst, arith, None}
-use Rattle.std.specs.List.{AllByRecursion}
+-- For declarations without modes and imports: the states of a run are a path.
+use Rattle.std.proofs.Common.{◌≡◌, ℕ, zero, suc, pred, ◌<◌, Bool, true, false, not, cond, ◌&&◌, List, [], ◌∷◌, refl, ap, ◌∙◌, sym, subst, arith, is_some}
+use Rattle.std.specs.List.{AllByRecursion, list_all}
+use Rattle.std.proofs.lemmas.Bool.{false≢true}
 use Rattle.lus_tree.specs.declared.place.Sort.{Sort}
 use Rattle.lus_tree.specs.declared.place.Sort.TheVariants.{Bool as Flags}
-use Rattle.lus_tree.specs.Tree.{Variable}
-use Rattle.lus_meaning.specs.Value.{Instants, has_sort}
+use Rattle.lus_tree.specs.Tree.{Variable, Component}
+use Rattle.lus_meaning.specs.Value.{flag, Instants, has_sort, is as equals}
 use Rattle.lus_meaning.specs.Frame.{Frame, call_frame, calls_in}
-use Rattle.lus_meaning.specs.Scene.{Manner, plain, while_true, as_import, Instance, Instances, instance, no_instances, with_instance, instance_at, component_of, calls_of, call_instance}
-use Rattle.lus_meaning.specs.Contract.{scene}
+use Rattle.lus_meaning.specs.Scene.{Manner, plain, while_true, as_import, Instance, Instances, no_instances, with_instance, instance_at, component_of, calls_of, call_instance}
+use Rattle.lus_meaning.specs.Contract.{terms, scene}
 use Rattle.lus_meaning.specs.Slots.{Slot, slots}
 use Rattle.lus_meaning.specs.Run.{IsRun, active, sort_of, sort_of_name}
 use Rattle.lus_meaning.specs.Trace.{or_default}
 use Rattle.lus_meaning.specs.Verdict.{throughout}
-use Rattle.sys_terms.specs.Meaning.{Values, values_of}
-use Rattle.sys_meaning.specs.Slot.{Spot, Place, beat, named, memory, starting, so_far, held, place_of, spot_of}
+use Rattle.sys_terms.specs.Meaning.{values_of, truth_of}
+use Rattle.sys_meaning.specs.Slot.{Spot, Place, beat, named, memory, starting, so_far, held, own, place_of, spot_of}
 use Rattle.sys_meaning.specs.Items.{Key}
 use Rattle.sys_meaning.specs.Defaults.{site_of}
-use Rattle.sys_meaning.specs.State.{reading, remembered, still_starting, held_before, state_of}
+use Rattle.sys_meaning.specs.State.{kept_so_far, reading, remembered, still_starting, held_before, state_of}
 use Rattle.sys_meaning.specs.Path.{Course}
-use Rattle.sys_meaning.specs.Part.{value_in}
-use Rattle.sys_meaning.specs.System.{below_call, number_of, assumed, stage, so_far_next, so_far_first}
+use Rattle.sys_meaning.specs.Part.{a_flag, all_of, value_in}
+use Rattle.sys_meaning.specs.Translate.{flag_at}
+use Rattle.sys_meaning.specs.System.{below_call, number_of, assumed, stage, has_so_far, becomes, so_far_next, so_far_first}
 use Rattle.sys_meaning.specs.Law.{RunsToPaths}
-use Rattle.sys_meaning.specs.WellTyped.{HasSpot, HasPlace, OutputFits, TreeFits, CallsFit, count_of}
+use Rattle.sys_meaning.specs.WellTyped.{HasSpot, HasPlace, OutputFits, OwnFits, TreeFits, CallsFit, count_of}
 use Rattle.sys_meaning.proofs.Shown.{value_has}
 use Rattle.sys_meaning.proofs.Rows.{OwnShown}
 use Rattle.sys_meaning.proofs.Pools.{true_all}
 use Rattle.sys_meaning.proofs.Balanced.{Picked, pick, join_all}
 use Rattle.sys_meaning.proofs.Shows.{Reads, state_reads, call_reads}
-use Rattle.sys_meaning.proofs.Owned.{run_called, stream_typed, sorted_default, typed_default}
+use Rattle.sys_meaning.proofs.Owned.{own_shown, run_called, stream_typed, sorted_default, typed_default}
 use Rattle.sys_meaning.proofs.Forward.{Contracts, modes_of, calls_of_run, own_fits, calls_fit, shown_here}
 use Rattle.sys_meaning.proofs.Onward.{SoFar}
 use Rattle.sys_meaning.proofs.RunPath.{run_is_path}
+use Rattle.sys_meaning.proofs.Conditions.{flags_same, becomes_made}
+use Rattle.sys_meaning.proofs.Clauses.{IsShownBy, assumed_all, all_of_true, listed_true, so_far_then, kept_on}
 
 pub fits_at : (Modes : Instance → Key → Type 0) (i : Instance) (is : Instances) (p j : ℕ) →
     CallsFit Modes i is p → j < count_of is → TreeFits Modes (instance_at is j)
@@ -91,7 +95,7 @@ module _ (Modes : Instance → Key → Type 0) (contracts : Contracts Modes) (c 
       (fits_called Modes i k w.0.counted w.0.listed (calls_fit Modes i fits))
       (λ t h. call_reads Modes i at b f t (c t) (reads t h) k w.0) t h p z w.1
 
--- ---- without contracts
+-- ---- without modes and imports
 
 abbrev pub no_modes : Instance → Key → Type 0
 no_modes j key = ⊥
@@ -99,36 +103,72 @@ no_modes j key = ⊥
 pub no_contracts : Contracts no_modes
 no_contracts i at c n b f run reads fits t h nx sh d m e o = absurd e
 
-no_so_far : (c : Course) (n : ℕ) → SoFar no_modes c n
-no_so_far c n =
-    record {
-      next = λ m i at b f fits run reads t h. next m i at (c t) (c
-          (suc t)) fits.contract;
-      first = λ m i at b f fits run reads h. first m i at (c 0) (c 0) fits.contract;
-    }
-  where
-    next : (m : Manner) (i : Instance) (at : Place → ℕ) (now then : Values) → (component_of i).contract ≡ None →
-        true_all now then (so_far_next (stage i at) m)
-    next (as_import xs) i at now then e = tt
-    next plain i at now then e = rw e tt
-    next (while_true a) i at now then e = rw e tt
+-- what has the flag has a contract
+has_contract : (m : Manner) (d : Component) → has_so_far m d ≡ true → is_some d.contract ≡ true
+has_contract plain d e = e
+has_contract (while_true a) d e = e
+has_contract (as_import xs) d e = absurd (false≢true e)
 
-    first : (m : Manner) (i : Instance) (at : Place → ℕ) (now then : Values) → (component_of i).contract ≡ None →
-        true_all now then (so_far_first (stage i at) m)
-    first (as_import xs) i at now then e = tt
-    first plain i at now then e = rw e tt
-    first (while_true a) i at now then e = rw e tt
+module _ (c : Course) (n : ℕ) (m : Manner) (i : Instance) (at : Place → ℕ) (b : Instants) (f : Frame)
+    (fits : OwnFits i (no_modes i)) (run : IsRun i n b f)
+    (reads : (t : ℕ) → t < n → Reads no_modes i at b f t (c t)) where
+  flag_is : is_some (component_of i).contract ≡ true → (t : ℕ) → t < n →
+      (c t).flag_at (at (own so_far)) ≡ kept_so_far i b f t
+  flag_is e t h =
+      flags_same ((c t).flag_at (at (own so_far))) (kept_so_far i b f t) (reads t h [] so_far Flags (refl, e) refl)
 
-nothing_assumed : (i : Instance) (at : Place → ℕ) (now : Values) → (component_of i).contract ≡ None →
-    true_all now now (assumed i at)
-nothing_assumed (instance d cs is) at now e = rw e tt
+  flag_next : (t : ℕ) → suc t < n → true_all (c t) (c (suc t)) (so_far_next (stage i at) m)
+  flag_next t h = go (has_so_far m (component_of i)) refl
+    where
+      now : t < n
+      now = omega arith
 
--- the first direction, for declarations without contracts
+      shown : IsShownBy at (c t) (c (suc t)) b f t i
+      shown = own_shown no_modes i at c n b f (modes_of no_modes i at) run (calls_of_run i n b f run) reads fits
+          (λ t h nx sh d m e o. absurd e) t now (c (suc t))
+
+      go : (o : Bool) → has_so_far m (component_of i) ≡ o →
+          true_all (c t) (c (suc t)) (cond o (becomes (stage i at) Flags so_far (a_flag (so_far_then i at))
+          ∷ []) [])
+      go false e = tt
+      go true e =
+          let some : is_some (component_of i).contract ≡ true = has_contract m (component_of i) e in (
+            becomes_made (c t) (c (suc t)) (stage i at) Flags so_far (a_flag (so_far_then i at)) refl
+                (ap flag (flag_is some (suc t) h
+                ∙ sym (kept_on (kept_so_far i b f t) (b t) (truth_of (c t) (c (suc t)) (all_of (assumed i at)))
+                (list_all (λ p. equals true (p.test b f t)) (terms i).assumes)
+                (λ o. all_of_true (c t) (c (suc t)) (assumed i at)
+                ∙ assumed_all at (c t) (c (suc t)) b f t i fits shown o))
+                ∙ ap (λ a. a && not (b t && not (truth_of (c t) (c (suc t)) (all_of (assumed i at)))))
+                (sym (flag_is some t now))
+                ∙ ap (λ o. (c t).flag_at (at (own so_far)) && not (o && not (truth_of (c t) (c (suc t)) (all_of
+                (assumed i at))))) (sym (flags_same ((c t).flag_at (at (own beat))) (b t)
+                (reads t now [] beat Flags refl refl))))),
+            tt,
+          )
+
+  flag_first : 0 < n → true_all (c 0) (c 0) (so_far_first (stage i at) m)
+  flag_first h = go (has_so_far m (component_of i)) refl
+    where
+      go : (o : Bool) → has_so_far m (component_of i) ≡ o →
+          true_all (c 0) (c 0) (cond o (flag_at (stage i at) (own so_far) ∷ []) [])
+      go false e = tt
+      go true e = (flag_is (has_contract m (component_of i) e) 0 h, tt)
+
+pub all_so_far : (c : Course) (n : ℕ) → SoFar no_modes c n
+all_so_far c n = record {
+  next = λ m i at b f fits run reads t h. flag_next c n m i at b f fits run reads t h;
+  first = λ m i at b f fits run reads h. flag_first c n m i at b f fits run reads h;
+}
+
+-- the first direction, for declarations without modes and imports
 pub runs_to_paths : RunsToPaths
 runs_to_paths i w n f t run h l = run_is_path no_modes no_contracts i w n f run
     (λ t h. each t h (slots i) w.slots)
-    (no_so_far c n) (λ t h a. nothing_assumed i (number_of i) (values_of (state_of i f t))
-    (own_fits no_modes i w.tree).contract) t h l
+    (all_so_far c n) (λ t h a. listed_true (c t) (c t) (assumed i (number_of i))
+    (assumed_all (number_of i) (c t) (c t) throughout f t i (own_fits no_modes i w.tree)
+    (shown_here no_modes no_contracts c n i (number_of i) throughout f run w.tree
+    (λ t h. state_reads no_modes i w f t) t h (c t)) refl ∙ a)) t h l
   where
     c : Course
     c t = values_of (state_of i f t)

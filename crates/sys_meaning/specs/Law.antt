@@ -15,7 +15,7 @@ use Rattle.sys_meaning.specs.State.{state_of, states_of}
 use Rattle.lus_meaning.specs.WellMade.{AreDistinct}
 use Rattle.sys_meaning.specs.Slot.{Place}
 use Rattle.sys_meaning.specs.Translate.{Stage}
-use Rattle.sys_meaning.specs.Path.{frame_of_path}
+use Rattle.sys_meaning.specs.Path.{TraceOfPath, frame_of_path}
 use Rattle.sys_meaning.specs.System.{Sources, stage, equation_sources, below_call, from_call, number_of, system_of}
 use Rattle.sys_meaning.specs.WellTyped.{WellTyped}
 
@@ -75,7 +75,7 @@ PropertyLaw i = (k : ℕ) (p : Property) (q : Formula) → slice_get (properties
 
 -- ---- for the first direction
 
--- the states of a run up to a lawful instant are a path, for a declaration without contracts
+-- the states of a run up to a lawful instant are a path, for a declaration without modes and imports
 abbrev pub RunsToPaths : Type 0
 RunsToPaths = (i : Instance) → WellTyped (λ j key. ⊥) i → (n : ℕ) (f : Frame) (t : ℕ) → IsRun i n throughout f →
     t < n → IsLawful i throughout f t → IsPath (system_of i) (states_of i f (suc t))
@@ -107,7 +107,7 @@ abbrev mutual
       × CallsDistinct is g
 
 -- the frame of a path is a run of as many instants, lawful at the last, and its states are the path; no other run is;
--- for a declaration without contracts
+-- for a declaration without modes and imports
 abbrev pub PathsToRuns : Type 0
 PathsToRuns = (i : Instance) → WellTyped (λ j key. ⊥) i → TreeDistinct i (number_of i) [] →
     (states : List (List Entry)) → IsPath (system_of i) states →
@@ -116,6 +116,10 @@ PathsToRuns = (i : Instance) → WellTyped (λ j key. ⊥) i → TreeDistinct i 
 
 -- ---- together
 
--- runs are paths, and each path is that of one run, for a declaration without contracts
+-- runs are paths, and each path is that of one run, for a declaration without modes and imports
 abbrev pub RunsArePathsLaw : Type 0
 RunsArePathsLaw = (i : Instance) → WellTyped (λ j key. ⊥) i → TreeDistinct i (number_of i) [] → RunsArePaths i
+
+-- and the trace of a path has the path's frame
+abbrev pub TracesOfPaths : Type 0
+TracesOfPaths = (i : Instance) → WellTyped (λ j key. ⊥) i → TreeDistinct i (number_of i) [] → TraceOfPath i

@@ -1,15 +1,16 @@
 //! The laws of the translation.
 
-ghost use Rattle.sys_meaning.specs.Law.{PathsToRuns, RunsArePathsLaw, RunsToPaths, TruthsInRuns, WhatFollows};
+ghost use Rattle.sys_meaning.specs.Law.{PathsToRuns, RunsArePathsLaw, RunsToPaths, TracesOfPaths, TruthsInRuns, WhatFollows};
 
 /// The states of a run up to a lawful instant are a path of its declaration's system. The declaration and those that
-/// it reaches have no contract.
+/// it reaches have no mode and no import in their contracts.
 pub fn runs_to_paths()
     ensures { RunsToPaths }
 {}
 
 /// The frame of a path is a run of as many instants as the path has states, it is lawful at the last, its states are the
-/// path, and no other run is such. The declaration and those that it reaches have no contract.
+/// path, and no other run is such. The declaration and those that it reaches have no mode and no import in their
+/// contracts.
 pub fn paths_to_runs()
     ensures { PathsToRuns }
 {}
@@ -20,7 +21,7 @@ pub fn truths_in_runs()
 {}
 
 /// Runs are paths, each path is that of one run, and properties have the truth of their formulas. The declaration and
-/// those that it reaches have no contract.
+/// those that it reaches have no mode and no import in their contracts.
 pub fn runs_are_paths()
     ensures { RunsArePathsLaw }
 {}
@@ -30,4 +31,10 @@ pub fn runs_are_paths()
 /// formula false.
 pub fn what_follows()
     ensures { WhatFollows }
+{}
+
+/// The trace of a path has the path's frame. The declaration and those that it reaches have no mode and no import in
+/// their contracts.
+pub fn traces_of_paths()
+    ensures { TracesOfPaths }
 {}

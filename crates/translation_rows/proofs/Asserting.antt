@@ -24,7 +24,7 @@ asserting_fits : TreeFits no_modes asserting
 asserting_fits = (
   record {
     once = (refl, (refl, tt));
-    contract = refl;
+    contract = tt;
     streams = (
       record { name = record { stream = refl; declared = refl; clock = refl }; sort = refl; clock = tt },
       (record { name = record { stream = refl; declared = refl; clock = refl }; sort = refl; clock = tt }, tt),

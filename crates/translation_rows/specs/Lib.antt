@@ -1,1 +1,3 @@
 pub mod RichRow
+pub mod AgainstRow
+pub mod AssumingRow
