@@ -5,3 +5,4 @@ mod Occurrences
 mod Terms
 mod Within
 mod Translated
+mod Traced
