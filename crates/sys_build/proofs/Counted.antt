@@ -1,5 +1,5 @@
 -- What is numbered from 1 on, each number once, has in the order of its numbers those from 1 on.
-use Rattle.std.proofs.Common.{◌≡◌, ℕ, zero, suc, ◌≤◌, ◌<◌, ◌+◌, Bool, true, false, cond, eqb, List, [], ◌∷◌, ◌++◌, map, flat_map, length, refl, ap, ◌∙◌, sym, subst, arith, Some, Option}
+use Rattle.std.proofs.Common.{◌≡◌, ℕ, zero, suc, ◌≤◌, ◌+◌, Bool, true, false, cond, eqb, List, [], ◌∷◌, ◌++◌, map, flat_map, length, refl, ap, ◌∙◌, sym, subst, arith, Some, Option}
 use Rattle.std.specs.List.{find, list_all}
 use Rattle.std.specs.Prelude.{◌==◌, ◌&&◌, option_to_list}
 use Rattle.std.proofs.Math.Logic.{◌⊎◌, inl, inr}

@@ -4,5 +4,7 @@ mod Places
 mod Occurrences
 mod Terms
 mod Within
+mod Conditioned
 mod Translated
+mod Few
 mod Traced

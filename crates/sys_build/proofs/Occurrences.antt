@@ -1,9 +1,9 @@
 -- The `pre` and `->` occurrences of a Boolean node, as its tree lists them.
-use Rattle.std.proofs.Common.{◌≡◌, ℕ, ◌==◌, Bool, true, false, cond, List, [], ◌∷◌, ◌++◌, map, flat_map, length, refl, ap, ◌∙◌, sym, append_assoc, Option, Some, None, option_map}
-use Rattle.std.specs.List.{AllByRecursion, find}
+use Rattle.std.proofs.Common.{◌≡◌, ℕ, List, [], ◌∷◌, ◌++◌, map, flat_map, refl, ap, ◌∙◌, sym, append_assoc}
+use Rattle.std.specs.List.{AllByRecursion}
 use Rattle.std.proofs.lemmas.Grind.{flat_map-append}
 use Rattle.lus_tree.specs.Tree.{Expression, truth, name, negation, pre, arrow, binary, choice, Statement, Component}
-use Rattle.lus_tree.specs.Numbers.{pres, arrows, body_expressions, body_pres, body_arrows}
+use Rattle.lus_tree.specs.Numbers.{pres, arrows, body_pres, body_arrows}
 use Rattle.lus_meaning.specs.Scene.{base, clock_of}
 use Rattle.lus_meaning.specs.Occurrences.{Standing, within, before, on_clock, as_side, occurs, Occurrence, occurrences, statement_texts, memory_in, Memory, memories, start_in, Start, starts}
 use Rattle.lus_meaning.specs.BooleanRules.{IsBooleanExpression, IsBooleanItem, IsBooleanNode}

@@ -1,6 +1,6 @@
 -- The numbers of a Boolean node's variables.
-use Rattle.std.proofs.Common.{◌≡◌, ◌≢◌, ℕ, zero, suc, ◌<◌, ◌≤◌, ◌+◌, Bool, true, false, cond, List, [], ◌∷◌, ◌++◌, map, length, refl, ap, ◌∙◌, sym, arith, Option, Some, None, unwrap_or}
-use Rattle.std.specs.List.{AllByRecursion, list_any}
+use Rattle.std.proofs.Common.{◌≡◌, ◌≢◌, ℕ, zero, suc, ◌<◌, ◌≤◌, ◌+◌, Bool, true, false, cond, List, [], ◌∷◌, ◌++◌, map, length, refl, ap, ◌∙◌, sym, arith, Some, unwrap_or}
+use Rattle.std.specs.List.{AllByRecursion}
 use Rattle.std.specs.Prelude.{nat_le, ◌||◌, ◌==◌}
 use Rattle.std.specs.Str.{bytes_eq}
 use Rattle.std.proofs.Math.Logic.{◌⊎◌, inl, inr}
@@ -12,7 +12,7 @@ use Rattle.lus_meaning.specs.Scene.{Instance, instance, no_instances, variables,
 use Rattle.lus_meaning.specs.Occurrences.{Memory, memories, Start, starts}
 use Rattle.lus_meaning.specs.Program.{in_order}
 use Rattle.lus_meaning.specs.Rules.{names_of}
-use Rattle.lus_meaning.specs.Slots.{Slot, slot, slots, Cell, beat_cell, name_cell, memory_cell, start_cell, own_cells, contract_cells}
+use Rattle.lus_meaning.specs.Slots.{Slot, slot, slots, beat_cell, name_cell, memory_cell, start_cell, own_cells, contract_cells}
 use Rattle.lus_meaning.specs.BooleanRules.{IsBooleanNode}
 use Rattle.lus_meaning.proofs.Exists.{length_mapped}
 use Rattle.lus_meaning.proofs.Lists.{append_none, map_append}
@@ -22,8 +22,8 @@ use Rattle.lus_meaning.proofs.BooleanNode.{boolean_variables}
 use Rattle.lus_meaning.proofs.BooleanFirsts.{boolean_counted}
 use Rattle.sys_meaning.specs.Slot.{Place, own, beat, named, memory, starting, place_of, number_in, same_place}
 use Rattle.sys_meaning.specs.System.{number_of}
-use Rattle.sys_build.specs.Occurring.{Kept, kept_of, started_of}
-use Rattle.sys_build.specs.Numbering.{Numbering, stream_names, numbering_of, place_behind, name_number, memory_number, start_number}
+use Rattle.sys_build.specs.Occurring.{kept_of, started_of}
+use Rattle.sys_build.specs.Numbering.{stream_names, numbering_of, place_behind, name_number, memory_number, start_number}
 use Rattle.sys_build.proofs.Counted.{in_order_numbers}
 use Rattle.sys_build.proofs.Occurrences.{memories_are, starts_are, on_base_clock, started_on_base}
 
@@ -85,6 +85,7 @@ module _ (i : Instance) where
     where
       is_first : x.number ≡ a
       is_first = ap head_of e
+
       go : ((k == x.number) ≡ true) ⊎ ((k == x.number) ≡ false) → (suc a ≤ k → k < suc a + n → suc a + number_in (memory_slots ms ++ ys) (own (memory k)) ≡ k) → a + cond (k == x.number) zero (suc (number_in (memory_slots ms ++ ys) (own (memory k)))) ≡ k
       go (inl t) more = rw t (let f : k ≡ x.number = eqb-true k x.number t in let g : x.number ≡ a = is_first in omega arith)
       go (inr f) more = rw f (let g : x.number ≡ a = is_first in let h : k ≢ x.number = eqb-false k x.number f in let r : suc a + number_in (memory_slots ms ++ ys) (own (memory k)) ≡ k = more (omega (arith, h, g)) (omega arith) in omega arith)
@@ -97,6 +98,7 @@ module _ (i : Instance) where
     where
       is_first : x.number ≡ a
       is_first = ap head_of e
+
       go : ((k == x.number) ≡ true) ⊎ ((k == x.number) ≡ false) → (suc a ≤ k → k < suc a + n → suc a + number_in (start_slots ts ++ ys) (own (starting k)) ≡ k) → a + cond (k == x.number) zero (suc (number_in (start_slots ts ++ ys) (own (starting k)))) ≡ k
       go (inl t) more = rw t (let f : k ≡ x.number = eqb-true k x.number t in let g : x.number ≡ a = is_first in omega arith)
       go (inr f) more = rw f (let g : x.number ≡ a = is_first in let h : k ≢ x.number = eqb-false k x.number f in let r : suc a + number_in (start_slots ts ++ ys) (own (starting k)) ≡ k = more (omega (arith, h, g)) (omega arith) in omega arith)

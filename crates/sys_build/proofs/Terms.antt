@@ -1,5 +1,5 @@
 -- A Boolean expression's term is what it comes to.
-use Rattle.std.proofs.Common.{◌≡◌, ℕ, Bool, true, false, cond, ◌&&◌, ◌||◌, List, [], ◌∷◌, ◌++◌, map, flat_map, refl, ap, ◌∙◌, sym}
+use Rattle.std.proofs.Common.{◌≡◌, ℕ, Bool, true, false, cond, List, [], ◌∷◌, ◌++◌, refl, ap, ◌∙◌}
 use Rattle.std.specs.List.{AllByRecursion}
 use Rattle.lus_tree.specs.declared.expression.Operator.{Operator}
 use Rattle.lus_tree.specs.declared.expression.Operator.TheVariants.{Implies, Or, Xor, And, Equal, Differs}
@@ -7,7 +7,7 @@ use Rattle.lus_tree.specs.Tree.{Name, Place, Expression, truth, name, negation, 
 use Rattle.lus_tree.specs.Numbers.{pres, arrows}
 use Rattle.lus_meaning.specs.Value.{flag, apply}
 use Rattle.lus_meaning.specs.Program.{constant_value}
-use Rattle.lus_meaning.specs.Scene.{Instance, instance, no_instances}
+use Rattle.lus_meaning.specs.Scene.{instance, no_instances}
 use Rattle.lus_meaning.specs.BooleanRules.{IsOfFlags, IsBooleanExpression, IsBooleanNode, used_names}
 use Rattle.lus_meaning.proofs.Now.{left_part, right_part}
 use Rattle.lus_meaning.proofs.BooleanFirsts.{boolean_name_is_flag, boolean_is_flag}

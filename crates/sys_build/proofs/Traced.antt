@@ -5,16 +5,15 @@ use Rattle.std.specs.Str.{bytes_eq}
 use Rattle.std.specs.String.{string_bytes}
 use Rattle.std.proofs.lemmas.Grind.{flat_map-append}
 use Rattle.lus_tree.specs.declared.place.Pos.{Pos}
-use Rattle.lus_tree.specs.Tree.{Name, Variable, Component, Program, declared_node}
-use Rattle.lus_tree.specs.Numbers.{counting, body_pres, body_arrows, IsNumbered}
+use Rattle.lus_tree.specs.Tree.{Name, Variable, Component, Program}
+use Rattle.lus_tree.specs.Numbers.{counting, body_pres, IsNumbered}
 use Rattle.lus_meaning.specs.declared.trace.TraceLine.{TraceLine}
 use Rattle.lus_meaning.specs.declared.trace.Trace.{Trace}
 use Rattle.lus_meaning.specs.Value.{Value, flag}
 use Rattle.lus_meaning.specs.Scene.{Instance, instance, no_instances, variables}
-use Rattle.lus_meaning.specs.Slots.{width}
 use Rattle.lus_meaning.specs.Program.{instance_of}
 use Rattle.lus_meaning.specs.Run.{Equation, body_equations, first_sorts}
-use Rattle.lus_meaning.specs.Rules.{names_of, declared_names, IsWithinCounts}
+use Rattle.lus_meaning.specs.Rules.{names_of}
 use Rattle.lus_meaning.specs.Depends.{named_in}
 use Rattle.lus_meaning.specs.Trace.{Subject, of_name, of_first, Line, is_defined, free_names}
 use Rattle.lus_meaning.specs.TraceView.{all_at, bare_values, bare_line, bare_view, line_view, lines_of, trace_view, unplaced}
@@ -24,7 +23,6 @@ use Rattle.lus_meaning.proofs.Lists.{map_append, both_parts}
 use Rattle.lus_meaning.proofs.Now.{left_part, right_part}
 use Rattle.lus_meaning.proofs.BooleanNode.{boolean_equations, boolean_variables, boolean_checked_instance}
 use Rattle.lus_meaning.proofs.BooleanFirsts.{boolean_firsts}
-use Rattle.lus_meaning.proofs.BooleanSizes.{boolean_width}
 use Rattle.sys_terms.specs.declared.term.Entry.{Entry}
 use Rattle.sys_terms.specs.declared.term.State.{State}
 use Rattle.sys_terms.specs.Meaning.{values_of}
@@ -37,12 +35,13 @@ use Rattle.sys_meaning.specs.Checked.{IsTraceOf}
 use Rattle.sys_meaning.proofs.CheckedFits.{listed_each}
 use Rattle.sys_meaning.proofs.CheckedTrace.{free_part}
 use Rattle.sys_meaning.proofs.CheckedLines as by_states
-use Rattle.sys_build.specs.Occurring.{Kept, kept_of, started_of}
-use Rattle.sys_build.specs.Numbering.{Numbering, stream_names, numbering_of, width_of}
+use Rattle.sys_build.specs.Occurring.{Kept, kept_of}
+use Rattle.sys_build.specs.Numbering.{Numbering, numbering_of}
 use Rattle.sys_build.specs.Conditions.{right_of}
 use Rattle.sys_build.specs.Tracing.{truth_in, own_line, name_line, first_line, free_lines, boolean_lines}
-use Rattle.sys_build.proofs.Occurrences.{body_kept_numbers, body_started_numbers}
-use Rattle.sys_build.proofs.Places.{stream_names_are, name_is, memory_is}
+use Rattle.sys_build.proofs.Occurrences.{body_kept_numbers}
+use Rattle.sys_build.proofs.Places.{name_is, memory_is}
+use Rattle.sys_build.proofs.Few.{one_component}
 
 -- ---- a line that stands in no text
 
@@ -156,25 +155,6 @@ pub path_lines : (p : Program) (d : Component) (states : List (List Entry)) → 
 path_lines p d states h = subst (λ (i : Instance). IsPath (system_of i) states → boolean_lines d states ≡ trace_of i states) (sym (boolean_checked_instance p d h))
     (λ path. sym (lines_are d h.rules.shape h.rules.names h.numbered states path))
 
--- it has one node
-node_of : Component → Program → Component
-node_of d (declared_node e ∷ ds) = e
-node_of d _ = d
-
-pub same_node : (p : Program) (d e : Component) → IsBooleanChecked p d → IsBooleanChecked p e → d ≡ e
-unfolding node_of
-same_node p d e g h = sym (ap (node_of d) g.one_node) ∙ ap (node_of d) h.one_node
-
--- its variables are few
-pub few_variables : (p : Program) (d : Component) → IsBooleanChecked p d → IsWithinCounts p d → width_of (numbering_of d) < 2 ^ 31
-few_variables p d h c =
-    let w : width (instance d [] no_instances) ≤ 20000 = subst (λ (i : Instance). width i ≤ 20000) (boolean_checked_instance p d h) c.variables in
-    let b : width (instance d [] no_instances) ≡ 1 + length (declared_names d) + length (body_pres d.body) + length (body_arrows d.body) = boolean_width d h.rules.shape h.numbered in
-    let s : length (declared_names d) ≡ length (stream_names d) = ap length (stream_names_are d h.rules.shape h.numbered) in
-    let k : length (body_pres d.body) ≡ length (kept_of d.body) = kept_count d h.rules.shape h.rules.names h.numbered [] in
-    let a : length (started_of d.body) ≡ length (body_arrows d.body) = ap length (body_started_numbers d.body h.rules.shape.items) in
-    omega arith
-
 -- a path has a state
 pub some_states : (m : Machine) (states : List State) → IsPath m (states_view states) → states ≢ []
 some_states m states path e = path.loose.some (ap states_view e)
@@ -185,7 +165,7 @@ lines_bare (l ∷ ls) = ap (λ (ks : List Line). bare_view l ∷ ks) (lines_bare
 
 -- a trace with the lines of a path is the path's
 pub is_trace : (p : Program) (d e : Component) (states : List State) (t : Trace) → IsBooleanChecked p d → IsBooleanChecked p e → IsPath (system_of (instance_of p d)) (states_view states) → string_bytes t.node ≡ d.name.text → t.length ≡ length states → map bare_view t.lines.items ≡ boolean_lines d (states_view states) → IsTraceOf p e (states_view states) (trace_view t)
-is_trace p d e states t g h path name count lines = subst (λ (c : Component). IsTraceOf p c (states_view states) (trace_view t)) (same_node p d e g h) record {
+is_trace p d e states t g h path name count lines = subst (λ (c : Component). IsTraceOf p c (states_view states) (trace_view t)) (one_component p d e g h) record {
   node = name;
   length = count ∙ sym (length_mapped _ states);
   lines = lines_bare t.lines.items ∙ lines ∙ path_lines p d (states_view states) g path;

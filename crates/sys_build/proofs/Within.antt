@@ -1,5 +1,5 @@
 -- The variables of a body's expressions have their numbers.
-use Rattle.std.proofs.Common.{◌≡◌, ℕ, suc, ◌≤◌, ◌<◌, ◌+◌, true, List, [], ◌∷◌, ◌++◌, flat_map, length, refl, ap, ◌∙◌, sym, subst, arith}
+use Rattle.std.proofs.Common.{◌≡◌, ℕ, ◌≤◌, ◌<◌, ◌+◌, true, List, [], ◌∷◌, ◌++◌, flat_map, length, ap, ◌∙◌, sym, subst}
 use Rattle.std.specs.List.{AllByRecursion}
 use Rattle.lus_tree.specs.Tree.{Name, Expression, truth, name, negation, pre, arrow, binary, choice, Statement, equation, assertion, property, main_mark, Component}
 use Rattle.lus_tree.specs.Numbers.{pres, arrows, body_expressions, body_pres, body_arrows, an_arrow, are_counted, IsNumbered}

@@ -1,6 +1,6 @@
 -- The `pre` and the `->` occurrences of a Boolean node, in text order.
 use Rattle.std.specs.Prelude.{ℕ, nat_eq, cond, List, [], ◌∷◌, ◌++◌, flat_map, Option, Some, None}
-use Rattle.lus_tree.specs.Tree.{Expression, name, negation, pre, arrow, binary, choice, Statement}
+use Rattle.lus_tree.specs.Tree.{Expression, negation, pre, arrow, binary, choice, Statement}
 use Rattle.lus_tree.specs.Numbers.{body_expressions}
 
 -- a `pre` with its number and its operand

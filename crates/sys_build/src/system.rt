@@ -15,6 +15,7 @@ ghost use Rattle.sys_build.specs.Occurring.{kept_of};
 ghost use Rattle.sys_build.specs.Tables.{KnowsOperands, memory_view};
 
 use crate::conditions::{at_first, properties, push_memories, push_named, push_starting};
+use crate::fault::BuildFault;
 use crate::formulas::flag;
 use crate::numbering::Numbering;
 use crate::occurring::{Memory, memories_of, starts_of};
@@ -22,6 +23,7 @@ use crate::operands::operands_of;
 use crate::rights::sides_of;
 use indexmap::IndexMap;
 use kind_num::Shape;
+use lus_checked::Checked;
 use lus_tree::{Expr, Node};
 use std::alloc::{AllocError, Global};
 use sys_terms::{System, Term};
@@ -82,7 +84,7 @@ fn assembled(alloc: Global, numbers: &Numbering, memories: &[Memory]) -> Result<
 }
 
 /// The system of a node with few variables.
-pub fn built(alloc: Global, node: &Node) -> Result<System, AllocError>
+fn built(alloc: Global, node: &Node) -> Result<System, AllocError>
     requires { width_of (numbering_of (node_view node.now)) < 2 ^ 31 }
     ensures { IfOk result (λ s. system_view s ≡ boolean_system (node_view node.now)) }
 {
@@ -90,4 +92,15 @@ pub fn built(alloc: Global, node: &Node) -> Result<System, AllocError>
     let starts = starts_of(alloc, &node.items)?;
     let numbers = Numbering::of(alloc, node, &memories, &starts)?;
     assembled(alloc, &numbers, &memories)
+}
+
+/// The system of a checked program's node: exactly its translation.
+///
+/// # Errors
+///
+/// Only want of memory.
+pub fn build(alloc: Global, checked: &Checked) -> Result<System, BuildFault>
+    ensures exact { IfOk result (λ s. (d : Component) → IsBooleanChecked (program_view checked.now) d → system_view s ≡ system_of (instance_of (program_view checked.now) d)) }
+{
+    Ok(built(alloc, checked.node())?)
 }

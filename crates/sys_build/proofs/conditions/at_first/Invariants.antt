@@ -1,11 +1,8 @@
-use Rattle.std.proofs.Common.{◌≡◌, ◌++◌, flat_map, map, drop}
-use Rattle.lus_tree.specs.Numbers.{counting}
-use Rattle.lus_tree.specs.View.{item_view, node_view}
+use Rattle.std.proofs.Common.{◌≡◌, ◌++◌, map, drop}
+use Rattle.lus_tree.specs.View.{node_view}
 use Rattle.sys_terms.specs.View.{terms_view}
 use Rattle.sys_build.specs.Numbering.{numbering_of, start_number}
 use Rattle.sys_build.specs.Flags.{flag_at}
-use Rattle.sys_build.specs.Conditions.{memory_conditions, property_formulas, start_condition}
-use Rattle.sys_build.specs.Occurring.{kept_of}
 use Rattle.sys_build.proofs.conditions.at_first.Given as goal
 
 -- what is there, and what is to come, is all

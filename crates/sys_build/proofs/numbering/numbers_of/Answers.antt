@@ -1,4 +1,4 @@
-use Rattle.std.proofs.Common.{rules, map, arith}
+use Rattle.std.proofs.Common.{rules, map}
 use Rattle.lus_tree.specs.View.{param_view}
 use Rattle.lus_meaning.specs.Rules.{names_of}
 use Rattle.sys_build.specs.Tables.{by_name}

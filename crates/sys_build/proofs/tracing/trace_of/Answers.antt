@@ -2,7 +2,8 @@ use Rattle.std.proofs.Common.{rules, refl, length}
 use Rattle.lus_tree.specs.View.{node_view, program_view}
 use Rattle.lus_meaning.specs.Program.{instance_of}
 use Rattle.sys_meaning.specs.System.{system_of}
-use Rattle.sys_build.proofs.Traced.{few_variables, some_states, is_trace}
+use Rattle.sys_build.proofs.Few.{few_variables}
+use Rattle.sys_build.proofs.Traced.{some_states, is_trace}
 use Rattle.sys_build.proofs.tracing.trace_of.Goals as goal
 
 pub lines_of-requires-clause-width : goal.lines_of-requires-clause-width

@@ -1,0 +1,12 @@
+use Rattle.lus_tree.specs.View.{node_view, program_view}
+use Rattle.sys_terms.specs.View.{system_view}
+use Rattle.sys_build.proofs.Few.{few_variables, built_is}
+use Rattle.sys_build.proofs.system.build.Goals as goal
+
+pub built-requires : goal.built-requires
+built-requires c = few_variables (program_view c.args.checked.now) (node_view c.node.result.now) c.node.ensures.rules c.node.ensures.limits
+
+pub returns : goal.returns
+returns c = record {
+  exact = λ d h. built_is (program_view c.args.checked.now) (node_view c.node.result.now) d (system_view c.in_ok-built.field-0) c.node.ensures.rules h c.in_ok-built.ensures;
+}
