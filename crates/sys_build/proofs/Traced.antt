@@ -1,5 +1,5 @@
 -- The lines of a path's trace, by the numbers of the variables.
-use Rattle.std.proofs.Common.{◌≡◌, ◌≢◌, ℕ, zero, suc, ◌+◌, ◌≤◌, ◌<◌, ◌^◌, Bool, true, false, cond, ◌||◌, is_some, List, [], ◌∷◌, ◌++◌, map, flat_map, length, get_or, refl, ap, ◌∙◌, sym, subst, arith, append_assoc, Option, Some, Result, Ok, Err, IfOk}
+use Rattle.std.proofs.Common.{◌≡◌, ◌≢◌, ℕ, zero, suc, ◌+◌, ◌≤◌, ◌<◌, Bool, true, false, cond, ◌||◌, is_some, List, [], ◌∷◌, ◌++◌, map, flat_map, length, get_or, refl, ap, ◌∙◌, sym, subst, arith, append_assoc, Some, Result, Ok, Err, IfOk}
 use Rattle.std.specs.List.{AllByRecursion, list_any}
 use Rattle.std.specs.Str.{bytes_eq}
 use Rattle.std.specs.String.{string_bytes}
@@ -9,14 +9,14 @@ use Rattle.lus_tree.specs.Tree.{Name, Variable, Component, Program}
 use Rattle.lus_tree.specs.Numbers.{counting, body_pres, IsNumbered}
 use Rattle.lus_meaning.specs.declared.trace.TraceLine.{TraceLine}
 use Rattle.lus_meaning.specs.declared.trace.Trace.{Trace}
-use Rattle.lus_meaning.specs.Value.{Value, flag}
+use Rattle.lus_meaning.specs.Value.{Value}
 use Rattle.lus_meaning.specs.Scene.{Instance, instance, no_instances, variables}
 use Rattle.lus_meaning.specs.Program.{instance_of}
 use Rattle.lus_meaning.specs.Run.{Equation, body_equations, first_sorts}
 use Rattle.lus_meaning.specs.Rules.{names_of}
 use Rattle.lus_meaning.specs.Depends.{named_in}
 use Rattle.lus_meaning.specs.Trace.{Subject, of_name, of_first, Line, is_defined, free_names}
-use Rattle.lus_meaning.specs.TraceView.{all_at, bare_values, bare_line, bare_view, line_view, lines_of, trace_view, unplaced}
+use Rattle.lus_meaning.specs.TraceView.{all_at, bare_values, bare_line, bare_view, line_view, trace_view, unplaced}
 use Rattle.lus_meaning.specs.BooleanRules.{IsBooleanNode, HasBooleanNames, IsBooleanChecked}
 use Rattle.lus_meaning.proofs.Exists.{length_mapped}
 use Rattle.lus_meaning.proofs.Lists.{map_append, both_parts}
@@ -25,7 +25,6 @@ use Rattle.lus_meaning.proofs.BooleanNode.{boolean_equations, boolean_variables,
 use Rattle.lus_meaning.proofs.BooleanFirsts.{boolean_firsts}
 use Rattle.sys_terms.specs.declared.term.Entry.{Entry}
 use Rattle.sys_terms.specs.declared.term.State.{State}
-use Rattle.sys_terms.specs.Meaning.{values_of}
 use Rattle.sys_terms.specs.Paths.{IsPath}
 use Rattle.sys_terms.specs.View.{Machine, states_view}
 use Rattle.sys_meaning.specs.System.{system_of}

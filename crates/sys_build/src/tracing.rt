@@ -43,11 +43,7 @@ fn flag_at(state: &State, number: u32) -> bool
 }
 
 /// The values of a variable in these states.
-fn values_in(
-    alloc: Global,
-    states: &[State],
-    number: u32,
-) -> Result<Vec<Option<Value>>, AllocError>
+fn values_in(alloc: Global, states: &[State], number: u32) -> Result<Vec<Option<Value>>, AllocError>
     ensures { IfOk result (λ v. map entry_view v.items ≡ map (truth_in number) (states_view states.now)) }
 {
     let mut values = Vec::with_capacity(alloc, states.len())?;
@@ -182,11 +178,7 @@ fn listed(
 }
 
 /// The lines of a path of a node's system.
-fn lines_of(
-    alloc: Global,
-    node: &Node,
-    states: &[State],
-) -> Result<Vec<TraceLine>, AllocError>
+fn lines_of(alloc: Global, node: &Node, states: &[State]) -> Result<Vec<TraceLine>, AllocError>
     requires width { width_of (numbering_of (node_view node.now)) < 2 ^ 31 }
     requires some { states.now ≢ [] }
     ensures { IfOk result (λ v. map bare_view v.items ≡ boolean_lines (node_view node.now) (states_view states.now)) }
