@@ -7,3 +7,4 @@ mod Within
 mod Conditioned
 mod Translated
 mod Few
+mod Traced
