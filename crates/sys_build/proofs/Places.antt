@@ -1,5 +1,5 @@
 -- The numbers of a Boolean node's variables.
-use Rattle.std.proofs.Common.{◌≡◌, ◌≢◌, ℕ, zero, suc, ◌<◌, ◌≤◌, ◌+◌, Bool, true, false, cond, List, [], ◌∷◌, ◌++◌, map, length, refl, ap, ◌∙◌, sym, arith, Some, unwrap_or}
+use Rattle.std.proofs.Common.{◌≡◌, ◌≢◌, ℕ, zero, suc, ◌<◌, ◌≤◌, ◌+◌, Bool, true, false, cond, List, [], ◌∷◌, ◌++◌, map, length, refl, ap, ◌∙◌, sym, arith}
 use Rattle.std.specs.List.{AllByRecursion}
 use Rattle.std.specs.Prelude.{nat_le, ◌||◌, ◌==◌}
 use Rattle.std.specs.Str.{bytes_eq}
@@ -148,6 +148,7 @@ module _ (d : Component) (node : IsBooleanNode d) (numbered : IsNumbered d) wher
   beat_number = ap (λ qs. number_in qs (own beat)) slots_are
 
   pub name_is : (x : Name) → named_in x (names_of (variables d)) ≡ true → number_of node_instance (own (named x)) ≡ name_number (numbering_of d) x
+  unfolding name_number
   name_is x e =
       let a : number_of node_instance (own (named x)) ≡ suc (number_in listed_slots (own (named x))) = ap (λ qs. number_in qs (own (named x))) slots_are in
       let b : number_of_name (names_of (variables d)) x ≡ number_in listed_slots (own (named x)) = named_place node_instance (variables d) (memory_slots node_instance ms ++ (start_slots node_instance ts ++ [])) x e in

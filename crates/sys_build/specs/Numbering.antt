@@ -21,7 +21,7 @@ numbering_of d = record { names = stream_names d; memories = length (kept_of d.b
 
 -- ---- the number of each variable; the beat's is 0, which also stands for what isn't there
 
-abbrev pub name_number : Numbering → Name → ℕ
+unfoldable pub name_number : Numbering → Name → ℕ
 name_number n x = cond (named_in x n.names) (suc (number_of n.names x)) 0
 
 abbrev pub memory_number : Numbering → ℕ → ℕ

@@ -52,6 +52,7 @@ impl<'a> Numbering<'a> {
     }
 
     /// The number of a stream's variable.
+    #[tactic(auto, unfolding(crate::specs::Numbering::name_number))]
     pub(crate) fn of_name(&self, name: &str) -> u32
         ensures { result ≡ name_number (numbering_of (node_view self.now.node.now)) name.now }
     {

@@ -14,7 +14,8 @@ ghost use Rattle.sys_terms.specs.Paths.{IsPath};
 ghost use Rattle.sys_terms.specs.View.{state_view, states_view};
 ghost use Rattle.sys_meaning.specs.Checked.{IsTraceOf};
 ghost use Rattle.sys_meaning.specs.System.{system_of};
-ghost use Rattle.sys_build.specs.Numbering.{numbering_of, width_of};
+ghost use Rattle.sys_build.specs.Numbering.{numbering_of, stream_names, width_of};
+ghost use Rattle.sys_build.specs.Conditions.{right_of};
 ghost use Rattle.sys_build.specs.Tables.{KnowsRights};
 ghost use Rattle.sys_build.specs.Tracing.{boolean_lines, first_line, free_lines, name_line, own_line, truth_in};
 
@@ -26,6 +27,7 @@ use indexmap::IndexMap;
 use lus_checked::Checked;
 use lus_meaning::{Spot, Trace, TraceLine, Value};
 use lus_tree::{Expr, Node, Param, Pos};
+use name_table::NameTable;
 use std::alloc::{AllocError, Global};
 use sys_terms::{Entry, State};
 
@@ -90,6 +92,14 @@ fn push_named(
     Ok(())
 }
 
+/// Whether a name has an equation.
+fn is_defined(numbers: &Numbering, sides: &IndexMap<&str, &Expr>, name: &str) -> bool
+    requires known { KnowsRights (node_view numbers.now.node.now) sides.now }
+    ensures { result ≡ is_some (right_of (body_equations (node_view numbers.now.node.now).body) name.now) }
+{
+    sides.get(name).is_some()
+}
+
 /// Adds the line of a name that has no equation.
 fn push_open(
     lines: &mut Vec<TraceLine>,
@@ -102,13 +112,10 @@ fn push_open(
     requires known { KnowsRights (node_view numbers.now.node.now) sides.now }
     ensures { OnOk result (map bare_view lines.new.items ≡ map bare_view lines.old.items ++ free_lines (numbering_of (node_view numbers.now.node.now)) (body_equations (node_view numbers.now.node.now).body) (states_view states.now) (param_view param.now ∷ [])) }
 {
-    match sides.get(param.name.text.as_str()) {
-        Some(_) => Ok(()),
-        None => {
-            lines.push(named(alloc, numbers, states, param)?)?;
-            Ok(())
-        }
+    if !is_defined(numbers, sides, param.name.text.as_str()) {
+        lines.push(named(alloc, numbers, states, param)?)?;
     }
+    Ok(())
 }
 
 /// Adds the lines of those of these names that have no equation.
@@ -178,14 +185,20 @@ fn listed(
 }
 
 /// The lines of a path of a node's system.
-fn lines_of(alloc: Global, node: &Node, states: &[State]) -> Result<Vec<TraceLine>, AllocError>
+fn lines_of(
+    alloc: Global,
+    node: &Node,
+    names: &NameTable,
+    states: &[State],
+) -> Result<Vec<TraceLine>, AllocError>
+    requires known { names.now ≡ stream_names (node_view node.now) }
     requires width { width_of (numbering_of (node_view node.now)) < 2 ^ 31 }
     requires some { states.now ≢ [] }
     ensures { IfOk result (λ v. map bare_view v.items ≡ boolean_lines (node_view node.now) (states_view states.now)) }
 {
     let memories = memories_of(alloc, &node.items)?;
     let starts = starts_of(alloc, &node.items)?;
-    let numbers = Numbering::of(alloc, node, &memories, &starts)?;
+    let numbers = Numbering::of(node, names, &memories, &starts);
     listed(alloc, &numbers, states)
 }
 
@@ -201,7 +214,7 @@ pub fn trace_of(alloc: Global, checked: &Checked, states: &[State]) -> Result<Tr
     ensures { IfOk result (λ t. (d : Component) → IsBooleanChecked (program_view checked.now) d → IsTraceOf (program_view checked.now) d (states_view states.now) (trace_view t)) }
 {
     let node = checked.node();
-    let lines = lines_of(alloc, node, states)?;
+    let lines = lines_of(alloc, node, checked.declared(), states)?;
     Ok(Trace {
         node: node.name.text.clone()?,
         node_at: START,

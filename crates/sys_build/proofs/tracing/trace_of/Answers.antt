@@ -2,9 +2,13 @@ use Rattle.std.proofs.Common.{rules, refl, length}
 use Rattle.lus_tree.specs.View.{node_view, program_view}
 use Rattle.lus_meaning.specs.Program.{instance_of}
 use Rattle.sys_meaning.specs.System.{system_of}
-use Rattle.sys_build.proofs.Few.{few_variables}
+use Rattle.sys_build.proofs.Few.{declared_streams, few_variables}
 use Rattle.sys_build.proofs.Traced.{some_states, is_trace}
 use Rattle.sys_build.proofs.tracing.trace_of.Goals as goal
+
+pub lines_of-requires-clause-known : goal.lines_of-requires-clause-known
+lines_of-requires-clause-known c =
+    declared_streams (program_view c.args.checked.now) (node_view c.node-node.result.now) c.declared.result.now c.node-node.ensures.rules c.declared.ensures
 
 pub lines_of-requires-clause-width : goal.lines_of-requires-clause-width
 lines_of-requires-clause-width c =
