@@ -1,6 +1,6 @@
 -- A checked program has one node, and its system few variables.
-use Rattle.std.proofs.Common.{◌≡◌, ◌<◌, ◌+◌, ◌≤◌, ◌^◌, [], ◌∷◌, length, ap, ◌∙◌, sym, arith}
-use Rattle.lus_tree.specs.Tree.{Component, declared_constant, declared_node, declared_contract, Program}
+use Rattle.std.proofs.Common.{List, ◌≡◌, ◌<◌, ◌+◌, ◌≤◌, ◌^◌, [], ◌∷◌, length, ap, ◌∙◌, sym, arith}
+use Rattle.lus_tree.specs.Tree.{Name, Component, declared_constant, declared_node, declared_contract, Program}
 use Rattle.lus_tree.specs.Numbers.{body_pres, body_arrows}
 use Rattle.lus_meaning.specs.Rules.{IsWithinCounts, declared_names}
 use Rattle.lus_meaning.specs.BooleanRules.{IsBooleanChecked}
@@ -16,6 +16,10 @@ use Rattle.sys_build.specs.Conditions.{boolean_system}
 use Rattle.sys_build.proofs.Occurrences.{body_kept_numbers, body_started_numbers}
 use Rattle.sys_build.proofs.Places.{stream_names_are}
 use Rattle.sys_build.proofs.Translated.{boolean_systems}
+
+-- the names that a checked program declares are its node's streams
+pub declared_streams : (p : Program) (d : Component) (names : List Name) → IsBooleanChecked p d → ((e : Component) → IsBooleanChecked p e → names ≡ declared_names e) → names ≡ stream_names d
+declared_streams p d names h known = known d h ∙ stream_names_are d h.rules.shape h.numbered
 
 pub few_variables : (p : Program) (d : Component) → IsBooleanChecked p d → IsWithinCounts p d → width_of (numbering_of d) < 2 ^ 31
 few_variables p d h w =

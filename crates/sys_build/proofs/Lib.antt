@@ -1,5 +1,5 @@
 pub mod Counted
-mod Behind
+mod Listed
 mod Places
 mod Occurrences
 mod Terms
@@ -7,3 +7,4 @@ mod Within
 mod Conditioned
 mod Translated
 mod Few
+mod Traced

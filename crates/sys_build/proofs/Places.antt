@@ -1,5 +1,5 @@
 -- The numbers of a Boolean node's variables.
-use Rattle.std.proofs.Common.{◌≡◌, ◌≢◌, ℕ, zero, suc, ◌<◌, ◌≤◌, ◌+◌, Bool, true, false, cond, List, [], ◌∷◌, ◌++◌, map, length, refl, ap, ◌∙◌, sym, arith, Some, unwrap_or}
+use Rattle.std.proofs.Common.{◌≡◌, ◌≢◌, ℕ, zero, suc, ◌<◌, ◌≤◌, ◌+◌, Bool, true, false, cond, List, [], ◌∷◌, ◌++◌, map, length, refl, ap, ◌∙◌, sym, arith}
 use Rattle.std.specs.List.{AllByRecursion}
 use Rattle.std.specs.Prelude.{nat_le, ◌||◌, ◌==◌}
 use Rattle.std.specs.Str.{bytes_eq}
@@ -22,8 +22,9 @@ use Rattle.lus_meaning.proofs.BooleanNode.{boolean_variables}
 use Rattle.lus_meaning.proofs.BooleanFirsts.{boolean_counted}
 use Rattle.sys_meaning.specs.Slot.{Place, own, beat, named, memory, starting, place_of, number_in, same_place}
 use Rattle.sys_meaning.specs.System.{number_of}
+use Rattle.name_table.specs.Names.{number_of as number_of_name}
 use Rattle.sys_build.specs.Occurring.{kept_of, started_of}
-use Rattle.sys_build.specs.Numbering.{stream_names, numbering_of, place_behind, name_number, memory_number, start_number}
+use Rattle.sys_build.specs.Numbering.{stream_names, numbering_of, name_number, memory_number, start_number}
 use Rattle.sys_build.proofs.Counted.{in_order_numbers}
 use Rattle.sys_build.proofs.Occurrences.{memories_are, starts_are, on_base_clock, started_on_base}
 
@@ -54,14 +55,14 @@ module _ (i : Instance) where
   abbrev pub start_slots : List Start → List Slot
   start_slots ts = map (slot i []) (map start_cell ts)
 
-  named_place : (vs : List Variable) (ys : List Slot) (x : Name) (a : ℕ) → named_in x (names_of vs) ≡ true → unwrap_or (place_behind a (names_of vs) x) 0 ≡ a + number_in (name_slots vs ++ ys) (own (named x))
-  named_place [] ys x a e = absurd (false≢true e)
-  named_place (v ∷ vs) ys x a e = go (bytes_eq x v.name.text) (named_place vs ys x (suc a)) e
+  named_place : (vs : List Variable) (ys : List Slot) (x : Name) → named_in x (names_of vs) ≡ true → number_of_name (names_of vs) x ≡ number_in (name_slots vs ++ ys) (own (named x))
+  named_place [] ys x e = absurd (false≢true e)
+  named_place (v ∷ vs) ys x e = go (bytes_eq x v.name.text) (named_place vs ys x) e
     where
-      go : (b : Bool) → (named_in x (names_of vs) ≡ true → unwrap_or (place_behind (suc a) (names_of vs) x) 0 ≡ suc a + number_in (name_slots vs ++ ys) (own (named x))) → (b || named_in x (names_of vs)) ≡ true
-          → unwrap_or (cond b (Some a) (place_behind (suc a) (names_of vs) x)) 0 ≡ a + cond b zero (suc (number_in (name_slots vs ++ ys) (own (named x))))
-      go true r f = omega arith
-      go false r f = let h : unwrap_or (place_behind (suc a) (names_of vs) x) 0 ≡ suc a + number_in (name_slots vs ++ ys) (own (named x)) = r f in omega arith
+      go : (b : Bool) → (named_in x (names_of vs) ≡ true → number_of_name (names_of vs) x ≡ number_in (name_slots vs ++ ys) (own (named x))) → (b || named_in x (names_of vs)) ≡ true
+          → cond b zero (suc (number_of_name (names_of vs) x)) ≡ cond b zero (suc (number_in (name_slots vs ++ ys) (own (named x))))
+      go true r f = refl
+      go false r f = ap suc (r f)
 
   no_memory_named : (vs : List Variable) (k : ℕ) → AllByRecursion (λ s. same_place (own (memory k)) (place_of s) ≡ false) (name_slots vs)
   no_memory_named [] k = tt
@@ -147,12 +148,12 @@ module _ (d : Component) (node : IsBooleanNode d) (numbered : IsNumbered d) wher
   beat_number = ap (λ qs. number_in qs (own beat)) slots_are
 
   pub name_is : (x : Name) → named_in x (names_of (variables d)) ≡ true → number_of node_instance (own (named x)) ≡ name_number (numbering_of d) x
+  unfolding name_number
   name_is x e =
       let a : number_of node_instance (own (named x)) ≡ suc (number_in listed_slots (own (named x))) = ap (λ qs. number_in qs (own (named x))) slots_are in
-      let b : unwrap_or (place_behind 1 (names_of (variables d)) x) 0 ≡ 1 + number_in listed_slots (own (named x)) = named_place node_instance (variables d) (memory_slots node_instance ms ++ (start_slots node_instance ts ++ [])) x 1 e in
-      let c : unwrap_or (place_behind 1 (names_of (variables d)) x) 0 ≡ name_number (numbering_of d) x = ap (λ xs. unwrap_or (place_behind 1 xs x) 0) stream_names_are in
-      let f : 1 + number_in listed_slots (own (named x)) ≡ suc (number_in listed_slots (own (named x))) = omega arith in
-      a ∙ sym f ∙ sym b ∙ c
+      let b : number_of_name (names_of (variables d)) x ≡ number_in listed_slots (own (named x)) = named_place node_instance (variables d) (memory_slots node_instance ms ++ (start_slots node_instance ts ++ [])) x e in
+      let c : cond (named_in x (names_of (variables d))) (suc (number_of_name (names_of (variables d)) x)) 0 ≡ name_number (numbering_of d) x = ap (λ xs. cond (named_in x xs) (suc (number_of_name xs x)) 0) stream_names_are in
+      a ∙ ap suc (sym b) ∙ ap (λ t. cond t (suc (number_of_name (names_of (variables d)) x)) 0) (sym e) ∙ c
 
   pub names_length : length (name_slots node_instance (variables d)) ≡ length (stream_names d)
   names_length = length_mapped (slot node_instance []) (map name_cell (variables d)) ∙ length_mapped name_cell (variables d) ∙ sym (length_mapped (λ (v : Variable). v.name.text) (variables d)) ∙ ap length stream_names_are

@@ -4,3 +4,4 @@ pub mod Flags
 pub mod Conditions
 pub mod Tables
 pub mod Laws
+pub mod Tracing

@@ -1,9 +1,10 @@
 -- Where the variables of a Boolean node's system stand: the beat first, then its streams, the memory of each `pre`, the
 -- start of each `->`.
-use Rattle.std.specs.Prelude.{ℕ, suc, ◌+◌, cond, nat_le, List, [], ◌∷◌, ◌++◌, length, Option, Some, None, unwrap_or}
-use Rattle.std.specs.Str.{bytes_eq}
+use Rattle.std.specs.Prelude.{ℕ, suc, ◌+◌, cond, nat_le, List, ◌++◌, length}
 use Rattle.lus_tree.specs.Tree.{Name, Component}
+use Rattle.lus_meaning.specs.Depends.{named_in}
 use Rattle.lus_meaning.specs.Rules.{names_of}
+use Rattle.name_table.specs.Names.{number_of}
 use Rattle.sys_build.specs.Occurring.{kept_of, started_of}
 
 -- the names of the streams, and how many `pre` and how many `->` there are
@@ -18,15 +19,10 @@ stream_names d = names_of d.inputs ++ (names_of d.outputs ++ names_of d.locals)
 abbrev pub numbering_of : Component → Numbering
 numbering_of d = record { names = stream_names d; memories = length (kept_of d.body); starts = length (started_of d.body) }
 
--- the number of the first that has this name, where they are numbered from k on
-abbrev pub place_behind : ℕ → List Name → Name → Option ℕ
-place_behind k [] x = None
-place_behind k (y ∷ ys) x = cond (bytes_eq x y) (Some k) (place_behind (suc k) ys x)
-
 -- ---- the number of each variable; the beat's is 0, which also stands for what isn't there
 
-abbrev pub name_number : Numbering → Name → ℕ
-name_number n x = unwrap_or (place_behind 1 n.names x) 0
+unfoldable pub name_number : Numbering → Name → ℕ
+name_number n x = cond (named_in x n.names) (suc (number_of n.names x)) 0
 
 abbrev pub memory_number : Numbering → ℕ → ℕ
 memory_number n k = cond (nat_le k n.memories) (length n.names + k) 0

@@ -8,7 +8,7 @@ ghost use Rattle.lus_meaning.specs.Program.{instance_of};
 ghost use Rattle.lus_meaning.specs.Run.{body_equations};
 ghost use Rattle.sys_meaning.specs.System.{system_of};
 ghost use Rattle.sys_terms.specs.View.{system_view, terms_view};
-ghost use Rattle.sys_build.specs.Numbering.{numbering_of, width_of};
+ghost use Rattle.sys_build.specs.Numbering.{numbering_of, stream_names, width_of};
 ghost use Rattle.sys_build.specs.Flags.{flag_at};
 ghost use Rattle.sys_build.specs.Conditions.{boolean_system};
 ghost use Rattle.sys_build.specs.Occurring.{kept_of};
@@ -25,6 +25,7 @@ use indexmap::IndexMap;
 use kind_num::Shape;
 use lus_checked::Checked;
 use lus_tree::{Expr, Node};
+use name_table::NameTable;
 use std::alloc::{AllocError, Global};
 use sys_terms::{System, Term};
 
@@ -83,14 +84,15 @@ fn assembled(alloc: Global, numbers: &Numbering, memories: &[Memory]) -> Result<
     })
 }
 
-/// The system of a node with few variables.
-fn built(alloc: Global, node: &Node) -> Result<System, AllocError>
-    requires { width_of (numbering_of (node_view node.now)) < 2 ^ 31 }
+/// The system of a node with few variables, by the table of its names.
+fn built(alloc: Global, node: &Node, names: &NameTable) -> Result<System, AllocError>
+    requires known { names.now ≡ stream_names (node_view node.now) }
+    requires few { width_of (numbering_of (node_view node.now)) < 2 ^ 31 }
     ensures { IfOk result (λ s. system_view s ≡ boolean_system (node_view node.now)) }
 {
     let memories = memories_of(alloc, &node.items)?;
     let starts = starts_of(alloc, &node.items)?;
-    let numbers = Numbering::of(alloc, node, &memories, &starts)?;
+    let numbers = Numbering::of(node, names, &memories, &starts);
     assembled(alloc, &numbers, &memories)
 }
 
@@ -102,5 +104,5 @@ fn built(alloc: Global, node: &Node) -> Result<System, AllocError>
 pub fn build(alloc: Global, checked: &Checked) -> Result<System, BuildFault>
     ensures exact { IfOk result (λ s. (d : Component) → IsBooleanChecked (program_view checked.now) d → system_view s ≡ system_of (instance_of (program_view checked.now) d)) }
 {
-    Ok(built(alloc, checked.node())?)
+    Ok(built(alloc, checked.node(), checked.declared())?)
 }
