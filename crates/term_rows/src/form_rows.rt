@@ -4,7 +4,7 @@ ghost use Rattle.std.specs.Prelude.{◌≡◌, Ok, []};
 ghost use Rattle.sys_terms.specs.View.{base, step};
 ghost use Rattle.sys_terms.specs.Queries.{query_of};
 ghost use Rattle.cnf_maker.specs.ClauseForm.{clause_form};
-ghost use Rattle.clause_rows.specs.Five.{five, five_base, five_step};
+ghost use Rattle.term_rows.specs.Five.{five, five_base, five_step};
 
 /// The base query of `x = 5` with the property `x >= 3`.
 pub fn five_at_its_first_state()

@@ -1,3 +1,6 @@
+//! Queries of many conditions, for the benchmark of the clause form.
+
+use cnf_maker::{CnfFault, clauses};
 use std::alloc::{AllocError, Global};
 use sys_terms::{Num, Query, Shape, Term, Var};
 
@@ -68,4 +71,13 @@ pub fn query(alloc: Global, n: u32) -> Result<Query, AllocError> {
         conditions.push(condition(alloc, i, x, x.saturating_add(1))?)?;
     }
     Ok(Query { shapes, conditions })
+}
+
+/// How many clauses the query of n conditions has, where they are to be made.
+pub fn made(alloc: Global, query: &Query, make: bool) -> Result<usize, CnfFault> {
+    if make {
+        Ok(clauses(alloc, query)?.clauses.len())
+    } else {
+        Ok(0)
+    }
 }

@@ -1,22 +1,17 @@
 //! Makes the clauses of terms of 4,000 levels and of one of more than 1,000,000 parts, in the first
-//! thread and in one that it starts, and prints how many variables, atoms and clauses each has.
+//! thread and in one that it starts.
 
-#![tactic(auto)]
-
+use crate::build::value;
+use crate::deep::{LEVELS, Level, deep};
 use cnf_maker::{CnfFault, clauses};
 use std::alloc::{AllocError, Global};
-use std::io;
-use sys_terms::{Num, Query, Shape, Term, Var};
-
-/// The levels of the deep terms.
-const LEVELS: u32 = 4_000;
+use std::thread::{Threads, join};
+use sys_terms::{Num, Query, Shape, Term};
 
 /// A way to make a large term.
 #[derive(Clone, Copy)]
 enum Form {
-    Not,
-    And,
-    If,
+    Deep(Level),
     Sum,
     Choice,
     Quotients,
@@ -24,42 +19,17 @@ enum Form {
 }
 
 const FORMS: [(&'static str, Form); 7] = [
-    ("not", Form::Not),
-    ("and", Form::And),
-    ("if", Form::If),
+    ("not", Form::Deep(Level::Not)),
+    ("and", Form::Deep(Level::And)),
+    ("if", Form::Deep(Level::If)),
     ("sum", Form::Sum),
     ("choice", Form::Choice),
     ("quotients", Form::Quotients),
     ("tree", Form::Tree),
 ];
 
-fn value(alloc: Global, number: u32) -> Result<Box<Num>, AllocError> {
-    let var = Var {
-        number,
-        next: false,
-    };
-    Ok(Box::new(alloc, Num::Value(var))?)
-}
-
-/// One level more of truth values.
-fn above(alloc: Global, form: Form, term: Term) -> Result<Term, AllocError> {
-    let inner = Box::new(alloc, term)?;
-    match form {
-        Form::And => Ok(Term::And(Box::new(alloc, Term::Truth(true))?, inner)),
-        Form::If => {
-            let other = Box::new(alloc, Term::Truth(false))?;
-            Ok(Term::Choose(inner, Box::new(alloc, Term::Truth(true))?, other))
-        }
-        _ => Ok(Term::Not(inner)),
-    }
-}
-
-fn deep(alloc: Global, form: Form) -> Result<Term, AllocError> {
-    let mut term = Term::Truth(true);
-    for _ in 1..LEVELS {
-        term = above(alloc, form, term)?;
-    }
-    Ok(term)
+fn number(alloc: Global, number: u32) -> Result<Box<Num>, AllocError> {
+    Ok(Box::new(alloc, value(number))?)
 }
 
 /// One level more of numbers, which may speak of variable i.
@@ -68,19 +38,16 @@ fn more(alloc: Global, form: Form, i: u32, num: Num) -> Result<Num, AllocError> 
     match form {
         Form::Choice => {
             let condition = Box::new(alloc, Term::Truth(true))?;
-            Ok(Num::Choose(condition, inner, value(alloc, 0)?))
+            Ok(Num::Choose(condition, inner, number(alloc, 0)?))
         }
         Form::Quotients => Ok(Num::Div(inner, 2)),
-        _ => Ok(Num::Add(inner, value(alloc, i)?)),
+        _ => Ok(Num::Add(inner, number(alloc, i)?)),
     }
 }
 
 /// A deep number, at most 0.
 fn deep_number(alloc: Global, form: Form) -> Result<Term, AllocError> {
-    let mut num = Num::Value(Var {
-        number: 0,
-        next: false,
-    });
+    let mut num = value(0);
     for i in 2..LEVELS {
         num = more(alloc, form, i, num)?;
     }
@@ -92,7 +59,7 @@ fn deep_number(alloc: Global, form: Form) -> Result<Term, AllocError> {
 fn tree(alloc: Global, levels: u32, first: i128) -> Result<Term, AllocError> {
     if levels == 0 {
         let bound = Box::new(alloc, Num::Constant(first))?;
-        return Ok(Term::AtMost(value(alloc, 0)?, bound));
+        return Ok(Term::AtMost(number(alloc, 0)?, bound));
     }
     let double = first.wrapping_mul(2);
     let left = tree(alloc, levels - 1, double)?;
@@ -102,7 +69,7 @@ fn tree(alloc: Global, levels: u32, first: i128) -> Result<Term, AllocError> {
 
 fn made(alloc: Global, form: Form) -> Result<Term, AllocError> {
     match form {
-        Form::Not | Form::And | Form::If => deep(alloc, form),
+        Form::Deep(level) => deep(alloc, level),
         Form::Sum | Form::Choice | Form::Quotients => deep_number(alloc, form),
         Form::Tree => tree(alloc, 18, 0),
     }
@@ -126,12 +93,13 @@ fn counts(alloc: Global, form: Form) -> Result<(usize, usize, usize), CnfFault> 
     Ok((cnf.shapes.len(), cnf.atoms.len(), cnf.clauses.len()))
 }
 
-fn main(rt: HostRuntime) -> io::Result<()> {
-    let alloc = rt.alloc();
+/// How many variables, atoms and clauses each has, a line each.
+pub fn lines(rt: &impl Threads, alloc: Global) -> Result<Vec<String>, AllocError> {
+    let mut lines = Vec::new(alloc);
     for (name, form) in FORMS {
         let here = counts(alloc, form);
-        let (there, _) = std::thread::join(&rt, move || counts(alloc, form), || ());
-        println!(rt; "{name}: {here:?}; {there:?}")?;
+        let (there, _) = join(rt, move || counts(alloc, form), || ());
+        lines.push(format!(in alloc; "{name}: {here:?}; {there:?}")?)?;
     }
-    Ok(())
+    Ok(lines)
 }

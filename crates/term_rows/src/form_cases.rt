@@ -1,7 +1,7 @@
 //! Conditions over three flags and two numbers: 0 to 2, and 3 and 4. The truth is flag 5.
 
 use crate::build::{and, at_most, choose, equal, flag, minus, plus, times, value};
-use crate::text::form_text;
+use crate::form_text::form_text;
 use cnf_maker::clauses;
 use std::alloc::{AllocError, Global};
 use sys_terms::{Num, Query, Shape, Term};

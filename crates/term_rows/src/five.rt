@@ -1,7 +1,7 @@
 //! The worked system `x = 5` with the property `x >= 3`, and its queries.
 
 use crate::build::{at_most, choose, equal, flag, value};
-use crate::text::form_text;
+use crate::form_text::form_text;
 use cnf_maker::clauses;
 use std::alloc::{AllocError, Global};
 use sys_terms::{Num, Obligation, QueryFault, Shape, System, Term, obligation};
@@ -34,15 +34,23 @@ fn asked(alloc: Global, what: Obligation) -> Result<String, QueryFault> {
     Ok(form_text(alloc, &clauses(alloc, &query))?)
 }
 
+/// What comes of the query.
+fn line(alloc: Global, name: &str, what: Obligation) -> Result<String, AllocError> {
+    match asked(alloc, what) {
+        Ok(text) => format!(in alloc; "{name}: {text}"),
+        Err(fault) => format!(in alloc; "{name}: {fault:?}"),
+    }
+}
+
 /// Its base query, and its step query with k = 1.
-pub fn lines(alloc: Global) -> Result<Vec<String>, QueryFault> {
+pub fn lines(alloc: Global) -> Result<Vec<String>, AllocError> {
     let base = Obligation::Base {
         property: 0,
         instant: 0,
     };
     let step = Obligation::Step { property: 0, k: 1 };
     let mut lines = Vec::new(alloc);
-    lines.push(format!(in alloc; "base: {}", asked(alloc, base)?)?)?;
-    lines.push(format!(in alloc; "step: {}", asked(alloc, step)?)?)?;
+    lines.push(line(alloc, "base", base)?)?;
+    lines.push(line(alloc, "step", step)?)?;
     Ok(lines)
 }

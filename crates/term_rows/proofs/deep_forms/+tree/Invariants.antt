@@ -1,4 +1,4 @@
-use Rattle.deep_clauses.proofs.+tree.Given as goal
+use Rattle.term_rows.proofs.deep_forms.+tree.Given as goal
 
 abbrev pub decreases-tree : goal.decreases-tree
 decreases-tree l = l.levels
