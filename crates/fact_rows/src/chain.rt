@@ -1,9 +1,10 @@
-//! A system of a chain of equal flags, and the refutation that the last one is false.
+//! A system of a chain of equal flags, and the refutation that the last one is false, for the benchmark of facts.
 //!
 //! In the clause form of its base query clause 1 is the truth, 2 the first flag, and each pair of
 //! flags has five clauses: four of the flag that says that they are equal, of which the first gives
 //! the second flag from the first one, and that flag itself. The last clause denies the last flag.
 
+use cert_rules::{RuleFault, check_base};
 use kind_num::Shape;
 use proof_steps::{Clause, Literal, Proof, Step};
 use smallvec::SmallVec;
@@ -66,4 +67,17 @@ pub fn proof(alloc: Global, n: u32) -> Result<Proof, AllocError> {
         atoms: Vec::new(alloc),
         steps,
     })
+}
+
+/// How many lines of the proof are checked where it makes a base.
+pub fn checked(alloc: Global, system: &System, proof: Proof) -> Result<usize, RuleFault> {
+    if !(system.is_mild() && system.shapes.len() < 1_000_000) {
+        return Ok(0);
+    }
+    let proofs = vec![in alloc; proof]?;
+    let base = check_base(alloc, system, &[], 0, 0, &proofs)?;
+    match base.proofs() {
+        [proof] => Ok(proof.steps.len()),
+        _ => Ok(0),
+    }
 }
