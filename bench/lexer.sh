@@ -2,7 +2,7 @@
 # Instructions that the lexer takes per byte, and how they grow with the source.
 #
 # Run at the top of the repository. Makes sources of 128 KB to 1 MB, of names, numbers, nested
-# expressions, annotations and comments, and counts the instructions of the program lexer_count on
+# expressions, annotations and comments, and counts the instructions of the program reading_cases on
 # each, less those that it takes for an empty file, where valgrind is there.
 set -eu
 
@@ -30,4 +30,4 @@ source_of() {
     }'
 }
 
-measure lexer_count tokens 60
+measure tokens 60

@@ -2,7 +2,7 @@
 # Instructions that reading a source takes per byte, and how they grow with the source.
 #
 # Run at the top of the repository. Makes sources of 128 KB to 1 MB, of nodes with contracts and
-# expressions of every form, and counts the instructions of the program reader_count on each, less
+# expressions of every form, and counts the instructions of the program reading_cases on each, less
 # those that it takes for an empty file, where valgrind is there.
 set -eu
 
@@ -34,4 +34,4 @@ source_of() {
 # The C library keeps no small freed pieces apart, since it would gather them at one size and not at
 # another.
 export GLIBC_TUNABLES=glibc.malloc.mxfast=0
-measure reader_count declarations 400
+measure declarations 400

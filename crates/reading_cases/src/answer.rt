@@ -9,7 +9,7 @@ use lus_reader::Counts;
 use std::alloc::{AllocError, Global};
 
 /// The limit on a source, in bytes.
-const LIMIT: usize = 1_048_576;
+pub const LIMIT: usize = 1_048_576;
 
 /// A file of cases without its `.cases`, and what is asked of each.
 pub type Table = (&'static str, Ask);

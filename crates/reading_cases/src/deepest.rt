@@ -1,12 +1,9 @@
 //! Reads, copies and drops the deepest expressions that the grammar takes, in the first thread and
-//! in one that it starts, and prints what came of each.
-#![tactic(auto)]
-
-ghost use Rattle.std.specs.Prelude.{◌≤◌, length};
+//! in one that it starts.
 
 use contract_reader::read_program;
 use std::alloc::{AllocError, Global};
-use std::io;
+use std::thread::{Threads, join};
 
 /// A way to nest: what opens a level, what stands inside the last one, what closes a level, and how
 /// many levels there are in an expression of at most 1,000 tokens.
@@ -123,13 +120,14 @@ fn word(passed: Result<bool, AllocError>) -> &'static str {
     }
 }
 
-fn main(rt: HostRuntime) -> io::Result<()> {
-    let alloc = rt.alloc();
+/// What came of each, a line each.
+pub fn lines(rt: &impl Threads, alloc: Global) -> Result<Vec<String>, AllocError> {
+    let mut lines = Vec::new(alloc);
     for nesting in NESTINGS {
         let here = word(passes(alloc, nesting));
-        let (there, _) = std::thread::join(&rt, move || word(passes(alloc, nesting)), || ());
+        let (there, _) = join(rt, move || word(passes(alloc, nesting)), || ());
         let name = nesting.name;
-        println!(rt; "{name} {here}, {there}")?;
+        lines.push(format!(in alloc; "{name} {here}, {there}")?)?;
     }
-    Ok(())
+    Ok(lines)
 }
