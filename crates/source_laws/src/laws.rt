@@ -1,0 +1,8 @@
+//! What the grammar gives of every tree that is read.
+
+ghost use Rattle.source_laws.specs.Laws.{IdentifiedSources};
+
+/// In a source each constant, each node and contract node, and all that these declare are named by identifiers.
+pub fn identified_sources()
+    ensures { IdentifiedSources }
+{}
