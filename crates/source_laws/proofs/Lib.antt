@@ -4,4 +4,7 @@ pub mod Parts
 pub mod Names
 pub mod Items
 pub mod Declarations
+pub mod Made
+pub mod Plain
+pub mod Expressions
 pub mod Identified
