@@ -1,14 +1,14 @@
 -- The expression of a text has its marks' words and literals.
-use Rattle.std.proofs.Common.{◌≡◌, ℕ, ◌^◌, true, false, nat_lt, List, [], ◌∷◌, Some}
+use Rattle.std.proofs.Common.{◌≡◌, ℕ, ◌^◌, true, false, nat_lt, List, Some}
 use Rattle.lus_tree.specs.Tree as T
 use Rattle.lus_tree.specs.Tree.{Expression}
 use Rattle.lus_lexer.specs.declared.token.Class.{Class}
 use Rattle.lus_lexer.specs.declared.token.Class.TheVariants as C
 use Rattle.lus_lexer.specs.declared.token.Sign.TheVariants as S
-use Rattle.lus_grammar.specs.Stream.{Stream, Mark}
+use Rattle.lus_grammar.specs.Stream.{Stream}
 use Rattle.lus_grammar.specs.Phrase as P
 use Rattle.lus_grammar.specs.Phrase.{Part, part, one_of, optional, repeated, ◌⨾◌}
-use Rattle.lus_grammar.specs.Grammar.{body, signs, operand, when, bracketed}
+use Rattle.lus_grammar.specs.Grammar.{body, operand, when}
 use Rattle.lus_grammar.specs.Syntax.{Counts, Syntax, node, present}
 use Rattle.lus_grammar.specs.Trees.{spelled, digits_value, place_of, behind, joined, expression_of, grouped, sampled_by, arguments_of, listed_of}
 use Rattle.lus_grammar.specs.Text.{Text}

@@ -1,5 +1,7 @@
-pub mod Marks
 pub mod Lists
+pub mod Marks
+pub mod Literals
+pub mod Words
 pub mod Parts
 pub mod Names
 pub mod Items
@@ -8,3 +10,4 @@ pub mod Made
 pub mod Plain
 pub mod Expressions
 pub mod Identified
+pub mod Grammatical

@@ -50,7 +50,7 @@ name_text c w q (text v e a f) = cc
 
 -- ---- the marks of the stream
 
-abbrev MarkOf : List ℕ → List Tok → Mark → Type 0
+abbrev pub MarkOf : List ℕ → List Tok → Mark → Type 0
 MarkOf bytes ts m = (t : Tok) × In t ts × (m ≡ mark_of bytes t)
 
 marked : (bytes : List ℕ) (ts : List Tok) (k : ℕ) (c : Class) → (get_or (map (mark_of bytes) ts) k (end_mark bytes)).class ≡ Some c → MarkOf bytes ts (get_or (map (mark_of bytes) ts) k (end_mark bytes))
@@ -62,7 +62,7 @@ pub mark_at : (bytes : List ℕ) (ts : List Tok) (k : ℕ) (c : Class) → (stre
 unfolding stream
 mark_at bytes ts k c e = marked bytes ts k c e
 
-has_text : (bytes : List ℕ) (ts : List Tok) (t : Tok) → AreTokens bytes ts → In t ts → HasText t.class (slice bytes t)
+pub has_text : (bytes : List ℕ) (ts : List Tok) (t : Tok) → AreTokens bytes ts → In t ts → HasText t.class (slice bytes t)
 has_text bytes ts t h i = text_of bytes t.from t.to t.class (taken bytes 0 ts whole h t i).longest.spells
 
 mark_name : (bytes : List ℕ) (ts : List Tok) (m : Mark) → AreTokens bytes ts → MarkOf bytes ts m → m.class ≡ Some Ident → is_name m.text ≡ true

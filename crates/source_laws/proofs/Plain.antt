@@ -1,5 +1,5 @@
 -- The words and the literals of an expression, its places aside.
-use Rattle.std.proofs.Common.{◌≡◌, ℕ, ◌^◌, Bool, true, false, ◌&&◌, nat_lt, List, [], ◌∷◌, ◌++◌, refl, Some, None}
+use Rattle.std.proofs.Common.{◌≡◌, ◌^◌, Bool, true, false, ◌&&◌, nat_lt, List, [], ◌∷◌, ◌++◌, refl, Some, None}
 use Rattle.std.specs.List.{list_all}
 use Rattle.lus_tree.specs.Tree.{Name, Place, Expression, Expressions, truth, number, name, negation, minus, pre, arrow, binary, choice, sampled, merged, call, condact, mode_name, no_more, more, Component}
 use Rattle.lus_grammar.specs.Trees.{put_at}

@@ -5,6 +5,7 @@ use Rattle.lus_tree.specs.Tree.{Component, Declaration, declared_constant, decla
 use Rattle.lus_lexer.specs.Names.{is_name}
 use Rattle.lus_grammar.specs.Source.{IsSource}
 use Rattle.lus_meaning.specs.Rules.{declared_names}
+use Rattle.lus_meaning.specs.Grammatical.{IsGrammatical}
 
 -- a node or contract node and the streams that it declares are named by identifiers
 pub record IsIdentified (d : Component) : Type 0 where
@@ -22,3 +23,7 @@ AreIdentified p = AllByRecursion IsIdentifiedDeclaration p
 -- Whatever a source declares is named by identifiers.
 abbrev pub IdentifiedSources : Type 0
 IdentifiedSources = (bytes : List ℕ) (p : Program) → IsSource bytes p → AreIdentified p
+
+-- Each source's tree is one that the grammar gives.
+abbrev pub GrammaticalSources : Type 0
+GrammaticalSources = (bytes : List ℕ) (p : Program) → IsSource bytes p → IsGrammatical p
