@@ -10,6 +10,10 @@ pub all_both : {A : Type 0} (P : A → Type 0) (xs ys : List A) → AllByRecursi
 all_both P [] ys a b = b
 all_both P (x ∷ xs) ys a b = (a.0, all_both P xs ys a.1 b)
 
+pub all_such : {A : Type 0} (P Q : A → Type 0) → ((x : A) → P x → Q x) → (xs : List A) → AllByRecursion P xs → AllByRecursion Q xs
+all_such P Q h [] a = tt
+all_such P Q h (x ∷ xs) a = (h x a.0, all_such P Q h xs a.1)
+
 pub all_map : {A B : Type 0} (P : A → Type 0) (Q : B → Type 0) (f : A → B) → ((x : A) → P x → Q (f x)) → (xs : List A) → AllByRecursion P xs → AllByRecursion Q (map f xs)
 all_map P Q f h [] a = tt
 all_map P Q f h (x ∷ xs) a = (h x a.0, all_map P Q f h xs a.1)

@@ -1,28 +1,57 @@
--- The marks of a source: what a number's value is, and what stands between the quotes of a text.
-use Rattle.std.proofs.Common.{◌≡◌, ℕ, zero, suc, ◌+◌, ◌-◌, ◌*◌, ◌^◌, ◌<◌, ◌≤◌, true, false, not, ◌&&◌, nat_lt, List, [], ◌∷◌, ◌++◌, Some, length, take, drop, refl, sym, ap, subst, ◌∙◌, arith}
+-- The texts of names, of numbers and of labels.
+use Rattle.std.proofs.Common.{◌≡◌, ℕ, zero, suc, ◌+◌, ◌-◌, ◌*◌, ◌<◌, ◌≤◌, true, not, ◌&&◌, List, [], ◌∷◌, ◌++◌, Some, length, take, drop, refl, sym, ap, subst, ◌∙◌, arith}
 use Rattle.std.specs.List.{list_all}
-use Rattle.std.proofs.Math.Seq.{take-append_seam}
+use Rattle.std.proofs.Math.Seq.{take-length, take-append_seam}
 use Rattle.std.proofs.lemmas.Grind.{common_steps}
 use Rattle.std.proofs.lemmas.List.{get_or-take, get_or-drop, length-take-le, length-drop, length-append}
 use Rattle.lus_lexer.specs.declared.token.Token.{Token as Tok}
 use Rattle.lus_lexer.specs.declared.token.Class.{Class}
-use Rattle.lus_lexer.specs.declared.token.Class.TheVariants.{Number, Text}
-use Rattle.lus_lexer.specs.declared.spelling.Lexeme.{Lexeme}
+use Rattle.lus_lexer.specs.declared.token.Class.TheVariants.{Ident, Number, Text}
 use Rattle.lus_lexer.specs.declared.spelling.Lexeme.TheVariants.{Token}
-use Rattle.lus_lexer.specs.Table.{table}
-use Rattle.lus_lexer.specs.Tokens.{byte, value, In, is_plain, whole}
+use Rattle.lus_lexer.specs.Table.{Row}
+use Rattle.lus_lexer.specs.Tokens.{byte, value, In, IsRow, is_letter, is_word, is_plain, whole}
+use Rattle.lus_lexer.specs.Names.{is_name}
 use Rattle.lus_lexer.specs.Laws.{HasText, fixed, name, number, text, slice}
-use Rattle.lus_lexer.proofs.Spans.{in_all, span, span_within, and_left, and_right}
-use Rattle.lus_lexer.proofs.Longest.{both_ways}
+use Rattle.lus_lexer.proofs.Spans.{span, span_within, stands_each, and_left, and_right}
+use Rattle.lus_lexer.proofs.Looking.{same_slice}
+use Rattle.lus_lexer.proofs.Names.{whole_stands, test_of_name}
 use Rattle.lus_lexer.proofs.Order.{taken, small_value}
-use Rattle.lus_lexer.proofs.Rules.{is_fixed, all_fixed}
-use Rattle.lus_grammar.specs.Stream.{Mark, stream}
+use Rattle.lus_grammar.specs.Stream.{stream}
 use Rattle.lus_grammar.specs.Source.{AreTokens}
 use Rattle.lus_grammar.specs.Trees.{digits_value}
 use Rattle.lus_grammar.specs.Programs.{unquoted}
 use Rattle.lus_meaning.specs.Grammatical.{is_in, is_printable}
 use Rattle.source_laws.proofs.Lists.{both_true}
-use Rattle.source_laws.proofs.Marks.{MarkOf, mark_at, has_text}
+use Rattle.source_laws.proofs.Marks.{at_marks, has_text, not_listed}
+use Rattle.source_laws.proofs.Parts.{IsWord, IsSmall, IsPrintable}
+
+-- ---- names
+
+some_letter : (w : List ℕ) → is_letter (byte w 0) ≡ true → 0 < length w
+some_letter [] h = cc
+some_letter (c ∷ w) h = omega arith
+
+whole_slice : (w : List ℕ) → take (length w - 0) (drop 0 w) ≡ w
+whole_slice w = let e : length w - 0 ≡ length w = omega arith in subst (λ (n : ℕ). take n w ≡ w) (sym e) (take-length w)
+
+row_text : (w : List ℕ) (r : Row) → IsRow (byte w) 0 (length w) r → w ≡ r.text
+row_text w r h = sym (same_slice w 0 (length w) r.text (omega arith) h.stands ∙ whole_slice w)
+
+-- what is spelled as a name is no keyword and no word that is left out
+name_text : (c : Class) (w : List ℕ) → c ≡ Ident → HasText c w → is_name w ≡ true
+name_text c w q (fixed r i e f) = Prim.absurd (not_listed c Ident r q refl i f)
+name_text c w q (name l a n e) = test_of_name w (record {
+  some = some_letter w l;
+  letter = l;
+  word = stands_each (byte w) is_word 0 w (length w) a (whole_stands w);
+  no_row = λ r h. n r h.listed (row_text w r h);
+})
+name_text c w q (number o a e) = cc
+name_text c w q (text v e a f) = cc
+
+-- a mark of a name has the text of a name
+pub names_marked : (bytes : List ℕ) (ts : List Tok) → AreTokens bytes ts → (k : ℕ) → (stream bytes ts k).class ≡ Some Ident → IsWord (stream bytes ts k).text
+names_marked bytes ts h = at_marks bytes ts Ident IsWord (λ t i c. name_text t.class (slice bytes t) c (has_text bytes ts t h i))
 
 -- ---- numbers
 
@@ -49,17 +78,12 @@ small_number bytes ts t h i c =
     let v = small_value (byte bytes) t.from t.to (k.fits c) in
     rw (slice_value bytes t o.some l) v
 
-is_small : (n : ℕ) → n ≤ 9223372036854775807 → nat_lt n (2 ^ 63) ≡ true
+is_small : (n : ℕ) → n ≤ 9223372036854775807 → IsSmall n
 is_small n h = grind (arith, common_steps)
 
-mark_number : (bytes : List ℕ) (ts : List Tok) (m : Mark) → AreTokens bytes ts → MarkOf bytes ts m → m.class ≡ Some Number → nat_lt (digits_value m.text) (2 ^ 63) ≡ true
-mark_number bytes ts m h (t, i, e) q =
-    let c : t.class ≡ Number = cc in
-    subst (λ (x : Mark). nat_lt (digits_value x.text) (2 ^ 63) ≡ true) (sym e) (is_small (digits_value (slice bytes t)) (small_number bytes ts t h i c))
-
 -- the value of a number's mark is small
-pub numbers_small : (bytes : List ℕ) (ts : List Tok) → AreTokens bytes ts → (k : ℕ) → (stream bytes ts k).class ≡ Some Number → nat_lt (digits_value (stream bytes ts k).text) (2 ^ 63) ≡ true
-numbers_small bytes ts h k q = mark_number bytes ts (stream bytes ts k) h (mark_at bytes ts k Number q) q
+pub numbers_marked : (bytes : List ℕ) (ts : List Tok) → AreTokens bytes ts → (k : ℕ) → (stream bytes ts k).class ≡ Some Number → IsSmall (digits_value (stream bytes ts k).text)
+numbers_marked bytes ts h = at_marks bytes ts Number (λ w. IsSmall (digits_value w)) (λ t i c. is_small (digits_value (slice bytes t)) (small_number bytes ts t h i c))
 
 -- ---- texts
 
@@ -77,20 +101,11 @@ between v =
     rw e (take-append_seam v (34 ∷ []))
 
 text_printable : (c : Class) (w : List ℕ) → c ≡ Text → HasText c w → is_printable (unquoted w) ≡ true
-text_printable c w q (fixed r i e f) =
-    let a : is_fixed r.is ≡ true = in_all (λ r. is_fixed r.is) r table all_fixed i in
-    let b : is_fixed (Token c) ≡ false = subst (λ (x : Class). is_fixed (Token x) ≡ false) (sym q) refl in
-    let d : is_fixed r.is ≡ false = subst (λ (x : Lexeme). is_fixed x ≡ false) (sym f) b in
-    Prim.absurd (both_ways (is_fixed r.is) a d)
+text_printable c w q (fixed r i e f) = Prim.absurd (not_listed c Text r q refl i f)
 text_printable c w q (name l a n e) = cc
 text_printable c w q (number o a e) = cc
 text_printable c w q (text v e a f) = rw (e, between v) (all_printable v a)
 
-mark_text : (bytes : List ℕ) (ts : List Tok) (m : Mark) → AreTokens bytes ts → MarkOf bytes ts m → m.class ≡ Some Text → is_printable (unquoted m.text) ≡ true
-mark_text bytes ts m h (t, i, e) q =
-    let c : t.class ≡ Text = cc in
-    subst (λ (x : Mark). is_printable (unquoted x.text) ≡ true) (sym e) (text_printable t.class (slice bytes t) c (has_text bytes ts t h i))
-
--- a mark of a text has no quote and no backslash between its quotes
-pub texts_printable : (bytes : List ℕ) (ts : List Tok) → AreTokens bytes ts → (k : ℕ) → (stream bytes ts k).class ≡ Some Text → is_printable (unquoted (stream bytes ts k).text) ≡ true
-texts_printable bytes ts h k q = mark_text bytes ts (stream bytes ts k) h (mark_at bytes ts k Text q) q
+-- a mark of a text has printable bytes between its quotes, and no quote and no backslash
+pub texts_marked : (bytes : List ℕ) (ts : List Tok) → AreTokens bytes ts → (k : ℕ) → (stream bytes ts k).class ≡ Some Text → IsPrintable (Some (unquoted (stream bytes ts k).text))
+texts_marked bytes ts h = at_marks bytes ts Text (λ w. IsPrintable (Some (unquoted w))) (λ t i c. text_printable t.class (slice bytes t) c (has_text bytes ts t h i))
