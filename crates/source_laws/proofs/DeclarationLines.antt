@@ -17,18 +17,21 @@ use Rattle.source_laws.proofs.ExpressionLines.{expressions, expression, conditio
 use Rattle.source_laws.proofs.ItemLines.{folded, names, group, groups, parameters, local_group, locals, left, item, arguments, constant_line, mode_item, contract_item, contract}
 
 module _ {s : Stream} where
-  optional_contract : {x : Syntax} → Shown s (optional (part P.Contract)) x → AllByRecursion IsClause (unwrap_or (contract_of x) [])
+  optional_contract : {x : Syntax} → Shown s (optional (part P.Contract)) x →
+      AllByRecursion IsClause (unwrap_or (contract_of x) [])
   optional_contract not_once = tt
   optional_contract (once (line a)) = a
 
   declaration : (x : Syntax) → Shown s (body P.Declaration) x → IsLine P.Declaration (node P.Declaration x)
-  declaration x (this_one {x = c} (line a)) = all_map IsConstant IsDeclaration declared_constant (λ d h. h) (constants_of c) a
+  declaration x (this_one {x = c} (line a)) =
+      all_map IsConstant IsDeclaration declared_constant (λ d h. h) (constants_of c) a
   declaration x (that_one (this_one (line a))) = a
   declaration x (that_one (that_one (line a))) = a
 
   declarations : {x : Syntax} → Shown s (repeated (fresh P.Declaration)) x → IsProgram (declarations_of x)
   declarations no_more = tt
-  declarations (again {x = d} {y = ds} (line_anew a) r) = all_both IsDeclaration (declaration_of d) (declarations_of ds) a (declarations r)
+  declarations (again {x = d} {y = ds} (line_anew a) r) =
+      all_both IsDeclaration (declaration_of d) (declarations_of ds) a (declarations r)
 
   module _ (marks : AreMarks s) where
     node_line : (x : Syntax) → Shown s (body P.Node) x → IsLine P.Node (node P.Node x)
@@ -93,5 +96,6 @@ module _ {s : Stream} where
     each_line P.Primary x a = primary marks x a
     each_line (P.Chain l) x a = chain l x a
 
-    pub program_parts : {limit end i j : ℕ} {n m : Counts} {x : Syntax} → Text limit end s (part P.Program) i j n m x → IsProgram (program_of x)
+    pub program_parts : {limit end i j : ℕ} {n m : Counts} {x : Syntax} →
+        Text limit end s (part P.Program) i j n m x → IsProgram (program_of x)
     program_parts a = of_line (made IsLine each_line a)

@@ -41,9 +41,11 @@ plain_operand P.Disjunctions x h = h
 
 module _ {s : Stream} where
   -- operators behind an operand
-  operands : {cs : List Class} {p : Part} → ((x : Syntax) → IsLine p x → IsPlain (expression_of x)) → {x : Syntax} → Shown s (repeated (one_of cs ⨾ part p)) x → (a : Expression) → IsPlain a → IsPlain (grouped a x)
+  operands : {cs : List Class} {p : Part} → ((x : Syntax) → IsLine p x → IsPlain (expression_of x)) → {x : Syntax} →
+      Shown s (repeated (one_of cs ⨾ part p)) x → (a : Expression) → IsPlain a → IsPlain (grouped a x)
   operands f no_more a h = h
-  operands f (again (both {y = b} (token {i = i} t) (line u)) r) a h = operands f r (joined a (s i) (expression_of b)) (h, f b u)
+  operands f (again (both {y = b} (token {i = i} t) (line u)) r) a h =
+      operands f r (joined a (s i) (expression_of b)) (h, f b u)
 
   more_expressions : {x : Syntax} → Shown s (repeated (P.sign S.Comma ⨾ part P.Expression)) x → ArePlain (listed_of x)
   more_expressions no_more = tt
@@ -97,8 +99,10 @@ module _ {s : Stream} where
     primary x (this_one (token {i = i} t)) = marks.number i (the_one t)
     primary x (that_one (this_one (token t))) = tt
     primary x (that_one (that_one (this_one (both (token {i = i} t) not_once)))) = marks.name i (the_one t)
-    primary x (that_one (that_one (this_one (both (token {i = i} t) (once (both occurrence (both a u))))))) = (marks.name i (the_one t), arguments a)
-    primary x (that_one (that_one (that_one (this_one (both (token t) (both (token {i = i} u) not_once)))))) = marks.name i (the_one u)
+    primary x (that_one (that_one (this_one (both (token {i = i} t) (once (both occurrence (both a u))))))) =
+        (marks.name i (the_one t), arguments a)
+    primary x (that_one (that_one (that_one (this_one (both (token t) (both (token {i = i} u) not_once)))))) =
+        marks.name i (the_one u)
     primary x (that_one (that_one (that_one (this_one (both (token t) (both (token {i = i} u) (once (both v (token {i = k} w))))))))) =
         (marks.name i (the_one u), marks.name k (the_one w))
     primary x (that_one (that_one (that_one (that_one (this_one (both (token t) (both (token {i = i} u) (both t3 (both t4 (both t5 (both (line a) (both t6 (both t7 (both t8 (both t9 (both (line b) t10)))))))))))))))) =

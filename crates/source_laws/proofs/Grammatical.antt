@@ -86,7 +86,8 @@ clause_plain (assume l) h = (h.value, tt)
 clause_plain (guarantee l) h = (h.value, tt)
 clause_plain (ghost_variable v e) h = (h.1, tt)
 clause_plain (constant c) h = (h.value, tt)
-clause_plain (mode m rs es) h = all_both IsText (on_base rs) (on_base es) (on_base_plain rs h.1) (on_base_plain es h.2)
+clause_plain (mode m rs es) h =
+    all_both IsText (on_base rs) (on_base es) (on_base_plain rs h.1) (on_base_plain es h.2)
 clause_plain («import» k c as_ xs) h = all_map IsPlain IsText (λ a. (on_clock base, a)) (λ a k. k) as_ h
 
 statement_plain : (n : Component) (t : Statement) → IsStatement t → AllByRecursion IsText (statement_texts n t)

@@ -28,7 +28,8 @@ streams_named n h =
     (ghosts_named (clauses n) h.contract)
 
 identified : (n : Component) → IsComponent n → IsIdentified n
-identified n h = record { node = h.name; declared = all_map IsStream IsWord (λ v. v.name.text) (λ v k. k) (variables n) (streams_named n h) }
+identified n h =
+    record { node = h.name; declared = all_map IsStream IsWord (λ v. v.name.text) (λ v k. k) (variables n) (streams_named n h) }
 
 declaration : (d : Declaration) → IsDeclaration d → IsIdentifiedDeclaration d
 declaration (declared_constant c) h = h.name

@@ -20,7 +20,8 @@ use Rattle.source_laws.proofs.Made.{Made, token, occurrence, line, line_within, 
 use Rattle.source_laws.proofs.Lines.{AreMarks, AreModeItems, AreClauses, Adds, IsLine, Shown, the_one}
 
 -- what each of some lines adds to
-pub folded : {H : Part → Syntax → Type 0} {s : Stream} {p : Part} (F : Syntax → Type 0) → F none → ((x : Syntax) → H p x → Adds F x) → {x : Syntax} → Made H s (repeated (part p)) x → F x
+pub folded : {H : Part → Syntax → Type 0} {s : Stream} {p : Part} (F : Syntax → Type 0) → F none →
+    ((x : Syntax) → H p x → Adds F x) → {x : Syntax} → Made H s (repeated (part p)) x → F x
 folded F z f no_more = z
 folded F z f (again {x = x} {y = xs} (line a) r) = f x a xs (folded F z f r)
 
@@ -30,7 +31,8 @@ module _ {s : Stream} where
   pub groups : (x : Syntax) → Shown s (body P.Groups) x → IsLine P.Groups (node P.Groups x)
   groups x (both (line g) not_once) = g None
   groups x (both (line g) (once (both t not_once))) = g None
-  groups x (both {x = g} (line h) (once (both t (once {x = gs} (line r))))) = all_both IsParameter (group_of None g) (groups_of gs) (h None) r
+  groups x (both {x = g} (line h) (once (both t (once {x = gs} (line r))))) =
+      all_both IsParameter (group_of None g) (groups_of gs) (h None) r
 
   pub parameters : (x : Syntax) → Shown s (body P.Parameters) x → IsLine P.Parameters (node P.Parameters x)
   parameters x (both t (both not_once u)) = tt
@@ -41,11 +43,14 @@ module _ {s : Stream} where
       all_map (λ w. IsWord w.text) (IsOnClock c) (variable_of (sort_of q) c) (λ w h. record { name = h; clock = refl }) (names_of xs) a.words
 
   pub local_group : (x : Syntax) → Shown s (body P.LocalGroup) x → IsLine P.LocalGroup (node P.LocalGroup x)
-  local_group x (both {x = g} {y = c} (line h) w) = all_such (IsOnClock (clock_of c)) IsStream (λ v k. k.name) (group_of (clock_of c) g) (h (clock_of c))
+  local_group x (both {x = g} {y = c} (line h) w) =
+      all_such (IsOnClock (clock_of c)) IsStream (λ v k. k.name) (group_of (clock_of c) g) (h (clock_of c))
 
-  local_groups : {x : Syntax} → Shown s (repeated (part P.LocalGroup ⨾ semicolon)) x → AllByRecursion IsStream (local_groups_of x)
+  local_groups : {x : Syntax} → Shown s (repeated (part P.LocalGroup ⨾ semicolon)) x →
+      AllByRecursion IsStream (local_groups_of x)
   local_groups no_more = tt
-  local_groups (again {y = gs} (both {x = g} (line a) t) r) = all_both IsStream (local_group_of g) (local_groups_of gs) a (local_groups r)
+  local_groups (again {y = gs} (both {x = g} (line a) t) r) =
+      all_both IsStream (local_group_of g) (local_groups_of gs) a (local_groups r)
 
   pub locals : (x : Syntax) → Shown s (body P.Locals) x → IsLine P.Locals (node P.Locals x)
   locals x (this_one (both t (both {x = g} (line a) (both {y = gs} u b)))) xs h = record {
@@ -64,17 +69,16 @@ module _ {s : Stream} where
   left x (this_one (line a)) e = a.some_left e
   left x (that_one (both t (both (line a) u))) e = a.some_left e
 
-  limited_plain : {x : Syntax} → Shown s (limited P.Expression) x → IsPlain (expression_of x)
-  limited_plain (line_within a) = a
-
-  more_arguments : {x : Syntax} → Shown s (repeated (P.sign S.Comma ⨾ limited P.Expression)) x → AllByRecursion IsPlain (more_arguments_of x)
+  more_arguments : {x : Syntax} → Shown s (repeated (P.sign S.Comma ⨾ limited P.Expression)) x →
+      AllByRecursion IsPlain (more_arguments_of x)
   more_arguments no_more = tt
   more_arguments (again (both t (line_within a)) r) = (a, more_arguments r)
 
   pub arguments : (x : Syntax) → Shown s (body P.Arguments) x → IsLine P.Arguments (node P.Arguments x)
   arguments x (both (line_within a) r) = (a, more_arguments r)
 
-  import_arguments : {x : Syntax} → Shown s (optional (part P.Arguments)) x → AllByRecursion IsPlain (import_arguments_of x)
+  import_arguments : {x : Syntax} → Shown s (optional (part P.Arguments)) x →
+      AllByRecursion IsPlain (import_arguments_of x)
   import_arguments not_once = tt
   import_arguments (once (line a)) = a
 
@@ -94,10 +98,12 @@ module _ {s : Stream} where
     more_names (again (both t (token {i = i} v)) r) = (marks.name i (the_one v), more_names r)
 
     pub names : (x : Syntax) → Shown s (body P.Names) x → IsLine P.Names (node P.Names x)
-    names x (both (token {i = i} v) r) = record { words = (marks.name i (the_one v), more_names r); some_left = λ e. refl }
+    names x (both (token {i = i} v) r) =
+        record { words = (marks.name i (the_one v), more_names r); some_left = λ e. refl }
 
     pub constant_line : (x : Syntax) → Shown s (body P.Constant) x → IsLine P.Constant (node P.Constant x)
-    constant_line x (both (token t) (both (token {i = i} v) (both q (both u (both (line_within a) w))))) = (record { name = marks.name i (the_one v); value = a }, tt)
+    constant_line x (both (token t) (both (token {i = i} v) (both q (both u (both (line_within a) w))))) =
+        (record { name = marks.name i (the_one v); value = a }, tt)
 
     -- [ TEXT ] expr ";"
     label : {x : Syntax} → Shown s (optional (one_of (C.Text ∷ []))) x → IsPrintable (label_of x)
@@ -116,7 +122,8 @@ module _ {s : Stream} where
     pub mode_item : (x : Syntax) → Shown s (body P.ModeItem) x → IsLine P.ModeItem (node P.ModeItem x)
     mode_item x (both {y = l} (token {i = i} t) e) is h = go t (labelled_item (s i) e)
       where
-        go : ((s i).class ≡ Some (C.Keyword K.Require)) ⊎ (((s i).class ≡ Some (C.Keyword K.Ensure)) ⊎ ⊥) → IsItem (labelled_of (s i) l) → AreModeItems (some (node P.ModeItem (leaf (s i) · l)) is)
+        go : ((s i).class ≡ Some (C.Keyword K.Require)) ⊎ (((s i).class ≡ Some (C.Keyword K.Ensure)) ⊎ ⊥) →
+            IsItem (labelled_of (s i) l) → AreModeItems (some (node P.ModeItem (leaf (s i) · l)) is)
         go (inl a) p = record { required = rw a (p, h.required); ensured = rw a h.ensured }
         go (inr (inl a)) p = record { required = rw a h.required; ensured = rw a (p, h.ensured) }
         go (inr (inr a)) p = absurd a
@@ -124,7 +131,8 @@ module _ {s : Stream} where
     pub contract_item : (x : Syntax) → Shown s (body P.ContractItem) x → IsLine P.ContractItem (node P.ContractItem x)
     contract_item x (this_one (both {y = l} (token {i = i} t) e)) is h = go t (labelled_item (s i) e)
       where
-        go : ((s i).class ≡ Some (C.Keyword K.Assume)) ⊎ (((s i).class ≡ Some (C.Keyword K.Guarantee)) ⊎ ⊥) → IsItem (labelled_of (s i) l) → AreClauses (some (node P.ContractItem (this (leaf (s i) · l))) is)
+        go : ((s i).class ≡ Some (C.Keyword K.Assume)) ⊎ (((s i).class ≡ Some (C.Keyword K.Guarantee)) ⊎ ⊥) →
+            IsItem (labelled_of (s i) l) → AreClauses (some (node P.ContractItem (this (leaf (s i) · l))) is)
         go (inl a) p = rw a (p, h)
         go (inr (inl a)) p = rw a (p, h)
         go (inr (inr a)) p = absurd a
@@ -135,4 +143,5 @@ module _ {s : Stream} where
     contract_item x (that_one (that_one (that_one (this_one (both (token t) (both (token {i = i} v) (both u (both r (both w z))))))))) is h =
         let m = mode_items r in
         ((marks.name i (the_one v), m.required, m.ensured), h)
-    contract_item x (that_one (that_one (that_one (that_one (both occurrence (both (token v) (both u (both a (both t1 (both t2 (both t3 (both w (both t4 t5))))))))))))) is h = (import_arguments a, h)
+    contract_item x (that_one (that_one (that_one (that_one (both occurrence (both (token v) (both u (both a (both t1 (both t2 (both t3 (both w (both t4 t5))))))))))))) is h =
+        (import_arguments a, h)

@@ -19,17 +19,21 @@ use Rattle.lus_grammar.specs.Source.{AreTokens}
 abbrev OfTokens : List ℕ → List Tok → Class → (List ℕ → Type 0) → Type 0
 OfTokens bytes ts c P = (t : Tok) → In t ts → t.class ≡ c → P (slice bytes t)
 
-marked : (bytes : List ℕ) (ts : List Tok) (c : Class) (P : List ℕ → Type 0) → OfTokens bytes ts c P → (k : ℕ) → (get_or (map (mark_of bytes) ts) k (end_mark bytes)).class ≡ Some c → P (get_or (map (mark_of bytes) ts) k (end_mark bytes)).text
+marked : (bytes : List ℕ) (ts : List Tok) (c : Class) (P : List ℕ → Type 0) → OfTokens bytes ts c P → (k : ℕ) →
+    (get_or (map (mark_of bytes) ts) k (end_mark bytes)).class ≡ Some c →
+    P (get_or (map (mark_of bytes) ts) k (end_mark bytes)).text
 marked bytes [] c P h k e = absurd (cc)
 marked bytes (t ∷ ts) c P h zero e = h t (inl refl) (cc)
 marked bytes (t ∷ ts) c P h (suc k) e = marked bytes ts c P (λ u i. h u (inr i)) k e
 
 -- holds of the texts of its marks
-pub at_marks : (bytes : List ℕ) (ts : List Tok) (c : Class) (P : List ℕ → Type 0) → OfTokens bytes ts c P → (k : ℕ) → (stream bytes ts k).class ≡ Some c → P (stream bytes ts k).text
+pub at_marks : (bytes : List ℕ) (ts : List Tok) (c : Class) (P : List ℕ → Type 0) → OfTokens bytes ts c P → (k : ℕ) →
+    (stream bytes ts k).class ≡ Some c → P (stream bytes ts k).text
 unfolding stream
 at_marks bytes ts c P h k e = marked bytes ts c P h k e
 
-pub has_text : (bytes : List ℕ) (ts : List Tok) (t : Tok) → AreTokens bytes ts → In t ts → HasText t.class (slice bytes t)
+pub has_text : (bytes : List ℕ) (ts : List Tok) (t : Tok) → AreTokens bytes ts → In t ts →
+    HasText t.class (slice bytes t)
 has_text bytes ts t h i = text_of bytes t.from t.to t.class (taken bytes 0 ts whole h t i).longest.spells
 
 -- the table has no name, no number and no text

@@ -13,7 +13,8 @@ abbrev plain_occurrence : Occurrence → Bool
 plain_occurrence o = is_plain_form o.expression
 
 one_word : (x : Name) → IsWord x → (list_all is_identifier (x ∷ []) && true) ≡ true
-one_word x h = both_true (list_all is_identifier (x ∷ [])) true (both_true (is_identifier x) true (name_identifier x h) refl) refl
+one_word x h =
+    both_true (list_all is_identifier (x ∷ [])) true (both_true (is_identifier x) true (name_identifier x h) refl) refl
 
 two_words : (x y : Name) → IsWord x → IsWord y → (list_all is_identifier (x ∷ y ∷ []) && true) ≡ true
 two_words x y h k =
@@ -21,16 +22,19 @@ two_words x y h k =
     both_true (list_all is_identifier (x ∷ y ∷ [])) true (both_true (is_identifier x) (list_all is_identifier (y ∷ [])) (name_identifier x h) r) refl
 
 -- an occurrence, and those behind it
-first : (o : Occurrence) (os : List Occurrence) → plain_occurrence o ≡ true → are_plain os ≡ true → are_plain (o ∷ os) ≡ true
+first : (o : Occurrence) (os : List Occurrence) → plain_occurrence o ≡ true → are_plain os ≡ true →
+    are_plain (o ∷ os) ≡ true
 first o os h k = both_true (plain_occurrence o) (are_plain os) h k
 
 two : (os qs : List Occurrence) → are_plain os ≡ true → are_plain qs ≡ true → are_plain (os ++ qs) ≡ true
 two os qs h k = pass_both plain_occurrence os qs h k
 
 mutual
-  pub plain_occurrences : (e : Expression) → IsPlain e → (n : Component) (s : Standing) → are_plain (occurrences n s e) ≡ true
+  pub plain_occurrences : (e : Expression) → IsPlain e → (n : Component) (s : Standing) →
+      are_plain (occurrences n s e) ≡ true
   plain_occurrences (truth p b) h n s = refl
-  plain_occurrences (number p k) h n s = first (occurs s (number p k)) [] (both_true true (nat_lt k (2 ^ 63)) refl h) refl
+  plain_occurrences (number p k) h n s =
+      first (occurs s (number p k)) [] (both_true true (nat_lt k (2 ^ 63)) refl h) refl
   plain_occurrences (name p x) h n s = first (occurs s (name p x)) [] (one_word x h) refl
   plain_occurrences (negation p a) h n s = plain_occurrences a h n (within s)
   plain_occurrences (minus p a) h n s = plain_occurrences a h n (within s)
@@ -61,9 +65,11 @@ mutual
       (first (occurs s (condact p k a f as_ ds)) (occurrences n (within s) a) (one_word f.text h.1) (plain_occurrences a h.0 n (within s)))
       (two (occurrences_among n (within s) as_) (occurrences_among n (within s) ds) (plain_among as_ h.2 n (within s)) (plain_among ds h.3 n (within s)))
   plain_occurrences (mode_name p None m) h n s = first (occurs s (mode_name p None m)) [] (one_word m.text h) refl
-  plain_occurrences (mode_name p (Some c) m) h n s = first (occurs s (mode_name p (Some c) m)) [] (two_words c.text m.text h.0 h.1) refl
+  plain_occurrences (mode_name p (Some c) m) h n s =
+      first (occurs s (mode_name p (Some c) m)) [] (two_words c.text m.text h.0 h.1) refl
 
-  plain_among : (es : Expressions) → ArePlain es → (n : Component) (s : Standing) → are_plain (occurrences_among n s es) ≡ true
+  plain_among : (es : Expressions) → ArePlain es → (n : Component) (s : Standing) →
+      are_plain (occurrences_among n s es) ≡ true
   plain_among no_more h n s = refl
   plain_among (more a as_) h n s =
       two (occurrences n s a) (occurrences_among n s as_) (plain_occurrences a h.0 n s) (plain_among as_ h.1 n s)

@@ -10,7 +10,8 @@ use Rattle.source_laws.proofs.Lines.{AreMarks}
 use Rattle.source_laws.proofs.DeclarationLines.{program_parts}
 
 marks : (bytes : List ℕ) (ts : List Tok) → AreTokens bytes ts → AreMarks (stream bytes ts)
-marks bytes ts h = record { name = names_marked bytes ts h; number = numbers_marked bytes ts h; text = texts_marked bytes ts h }
+marks bytes ts h =
+    record { name = names_marked bytes ts h; number = numbers_marked bytes ts h; text = texts_marked bytes ts h }
 
 pub source_parts : (bytes : List ℕ) (p : Program) → IsSource bytes p → IsProgram p
 source_parts bytes p s = subst IsProgram (sym s.is) (program_parts (marks bytes s.tokens s.cut) s.text)

@@ -32,7 +32,8 @@ some_letter [] h = cc
 some_letter (c ∷ w) h = omega arith
 
 whole_slice : (w : List ℕ) → take (length w - 0) (drop 0 w) ≡ w
-whole_slice w = let e : length w - 0 ≡ length w = omega arith in subst (λ (n : ℕ). take n w ≡ w) (sym e) (take-length w)
+whole_slice w =
+    let e : length w - 0 ≡ length w = omega arith in subst (λ (n : ℕ). take n w ≡ w) (sym e) (take-length w)
 
 row_text : (w : List ℕ) (r : Row) → IsRow (byte w) 0 (length w) r → w ≡ r.text
 row_text w r h = sym (same_slice w 0 (length w) r.text (omega arith) h.stands ∙ whole_slice w)
@@ -50,8 +51,10 @@ name_text c w q (number o a e) = cc
 name_text c w q (text v e a f) = cc
 
 -- a mark of a name has the text of a name
-pub names_marked : (bytes : List ℕ) (ts : List Tok) → AreTokens bytes ts → (k : ℕ) → (stream bytes ts k).class ≡ Some Ident → IsWord (stream bytes ts k).text
-names_marked bytes ts h = at_marks bytes ts Ident IsWord (λ t i c. name_text t.class (slice bytes t) c (has_text bytes ts t h i))
+pub names_marked : (bytes : List ℕ) (ts : List Tok) → AreTokens bytes ts → (k : ℕ) →
+    (stream bytes ts k).class ≡ Some Ident → IsWord (stream bytes ts k).text
+names_marked bytes ts h =
+    at_marks bytes ts Ident IsWord (λ t i c. name_text t.class (slice bytes t) c (has_text bytes ts t h i))
 
 -- ---- numbers
 
@@ -67,10 +70,12 @@ same_value b i n (suc k) l =
 slice_length : (b : List ℕ) (t : Tok) → t.from < t.to → t.to ≤ length b → length (slice b t) ≡ t.to - t.from
 slice_length b t l h = length-take-le (t.to - t.from) (drop t.from b) (omega (arith, length-drop t.from b, l, h))
 
-slice_value : (b : List ℕ) (t : Tok) → t.from < t.to → t.to ≤ length b → digits_value (slice b t) ≡ value (byte b) t.from (t.to - t.from)
+slice_value : (b : List ℕ) (t : Tok) → t.from < t.to → t.to ≤ length b →
+    digits_value (slice b t) ≡ value (byte b) t.from (t.to - t.from)
 slice_value b t l h = rw (slice_length b t l h) (same_value b t.from (t.to - t.from) (t.to - t.from) (omega arith))
 
-small_number : (bytes : List ℕ) (ts : List Tok) (t : Tok) → AreTokens bytes ts → In t ts → t.class ≡ Number → digits_value (slice bytes t) ≤ 9223372036854775807
+small_number : (bytes : List ℕ) (ts : List Tok) (t : Tok) → AreTokens bytes ts → In t ts → t.class ≡ Number →
+    digits_value (slice bytes t) ≤ 9223372036854775807
 small_number bytes ts t h i c =
     let k = taken bytes 0 ts whole h t i in
     let o = span (byte bytes) t.from t.to (Token t.class) k.longest.spells in
@@ -82,17 +87,21 @@ is_small : (n : ℕ) → n ≤ 9223372036854775807 → IsSmall n
 is_small n h = grind (arith, common_steps)
 
 -- the value of a number's mark is small
-pub numbers_marked : (bytes : List ℕ) (ts : List Tok) → AreTokens bytes ts → (k : ℕ) → (stream bytes ts k).class ≡ Some Number → IsSmall (digits_value (stream bytes ts k).text)
-numbers_marked bytes ts h = at_marks bytes ts Number (λ w. IsSmall (digits_value w)) (λ t i c. is_small (digits_value (slice bytes t)) (small_number bytes ts t h i c))
+pub numbers_marked : (bytes : List ℕ) (ts : List Tok) → AreTokens bytes ts → (k : ℕ) →
+    (stream bytes ts k).class ≡ Some Number → IsSmall (digits_value (stream bytes ts k).text)
+numbers_marked bytes ts h =
+    at_marks bytes ts Number (λ w. IsSmall (digits_value w)) (λ t i c. is_small (digits_value (slice bytes t)) (small_number bytes ts t h i c))
 
 -- ---- texts
 
-plain_printable : (c : ℕ) → is_plain c ≡ true → (is_in 32 126 c && (not (is_in 34 34 c) && not (is_in 92 92 c))) ≡ true
+plain_printable : (c : ℕ) → is_plain c ≡ true →
+    (is_in 32 126 c && (not (is_in 34 34 c) && not (is_in 92 92 c))) ≡ true
 plain_printable c h = grind (arith, common_steps)
 
 all_printable : (v : List ℕ) → list_all is_plain v ≡ true → is_printable v ≡ true
 all_printable [] h = refl
-all_printable (c ∷ v) h = both_true _ (is_printable v) (plain_printable c (and_left (is_plain c) _ h)) (all_printable v (and_right (is_plain c) _ h))
+all_printable (c ∷ v) h =
+    both_true _ (is_printable v) (plain_printable c (and_left (is_plain c) _ h)) (all_printable v (and_right (is_plain c) _ h))
 
 -- between its quotes stands what a text is
 between : (v : List ℕ) → unquoted (34 ∷ (v ++ 34 ∷ [])) ≡ v
@@ -107,5 +116,7 @@ text_printable c w q (number o a e) = cc
 text_printable c w q (text v e a f) = rw (e, between v) (all_printable v a)
 
 -- a mark of a text has printable bytes between its quotes, and no quote and no backslash
-pub texts_marked : (bytes : List ℕ) (ts : List Tok) → AreTokens bytes ts → (k : ℕ) → (stream bytes ts k).class ≡ Some Text → IsPrintable (Some (unquoted (stream bytes ts k).text))
-texts_marked bytes ts h = at_marks bytes ts Text (λ w. IsPrintable (Some (unquoted w))) (λ t i c. text_printable t.class (slice bytes t) c (has_text bytes ts t h i))
+pub texts_marked : (bytes : List ℕ) (ts : List Tok) → AreTokens bytes ts → (k : ℕ) →
+    (stream bytes ts k).class ≡ Some Text → IsPrintable (Some (unquoted (stream bytes ts k).text))
+texts_marked bytes ts h =
+    at_marks bytes ts Text (λ w. IsPrintable (Some (unquoted w))) (λ t i c. text_printable t.class (slice bytes t) c (has_text bytes ts t h i))
