@@ -1,4 +1,4 @@
--- What a source declares is named by identifiers.
+-- A source's constants, nodes, contract nodes and streams are named by identifiers.
 use Rattle.std.proofs.Common.{ℕ, List, [], ◌∷◌, ◌++◌}
 use Rattle.std.specs.List.{AllByRecursion}
 use Rattle.lus_tree.specs.Tree.{Clause, assume, guarantee, ghost_variable, constant, mode, «import», Component, Declaration, declared_constant, declared_node, declared_contract, Program}
