@@ -1,11 +1,14 @@
+//! A chain of implications and its refutation, as large as is wished, for the benchmark of the checker.
+
 use kind_num::Shape;
+use proof_checker::check;
 use proof_steps::{Atom, Clause, Line, Literal, Proof, Source, Step};
 use smallvec::SmallVec;
 use std::alloc::{AllocError, Global};
 
 /// A query in clause form with a refutation of it.
 #[derive(Drop)]
-pub struct Case {
+pub struct Refutation {
     pub shapes: Vec<Shape>,
     pub atoms: Vec<Atom>,
     pub clauses: Vec<Clause>,
@@ -97,7 +100,7 @@ fn theory(alloc: Global, n: u32) -> Result<Step, AllocError> {
 
 /// A chain of n implications over the flags 0 to n, and where `lines` says so a theory step of n
 /// lines over n numbers.
-pub fn chain(alloc: Global, n: u32, lines: bool) -> Result<Case, AllocError> {
+pub fn chain(alloc: Global, n: u32, lines: bool) -> Result<Refutation, AllocError> {
     let flags = n.saturating_add(1);
     let mut shapes = vec![in alloc; Shape::Flag; flags as usize]?;
     let mut atoms = Vec::new(alloc);
@@ -110,7 +113,7 @@ pub fn chain(alloc: Global, n: u32, lines: bool) -> Result<Case, AllocError> {
     if lines {
         steps.push(theory(alloc, n)?)?;
     }
-    Ok(Case {
+    Ok(Refutation {
         shapes,
         atoms,
         clauses: implications(alloc, n)?,
@@ -119,4 +122,14 @@ pub fn chain(alloc: Global, n: u32, lines: bool) -> Result<Case, AllocError> {
             steps,
         },
     })
+}
+
+impl Refutation {
+    /// How many steps are accepted: none where one is refused.
+    pub fn accepted(&self, alloc: Global) -> usize {
+        match check(alloc, &self.shapes, &self.atoms, &self.clauses, &self.proof) {
+            Ok(_) => self.proof.steps.len(),
+            Err(_) => 0,
+        }
+    }
 }
