@@ -7,4 +7,5 @@ mod Within
 mod Conditioned
 mod Translated
 mod Few
+mod Mild
 mod Traced
