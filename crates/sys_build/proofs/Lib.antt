@@ -9,3 +9,4 @@ mod Translated
 mod Few
 mod Mild
 mod Traced
+mod Printed
