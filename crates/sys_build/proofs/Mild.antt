@@ -1,5 +1,5 @@
 -- A Boolean node's system is mild, and of truth values alone.
-use Rattle.std.proofs.Common.{◌≡◌, ℕ, zero, suc, ◌<◌, ◌≤◌, ◌+◌, ◌^◌, Bool, true, false, cond, List, [], ◌∷◌, ◌++◌, map, flat_map, length, replicate, refl, ap, ◌∙◌, sym, subst, arith, slice_get, Option, Some, None, option_map, All}
+use Rattle.std.proofs.Common.{◌≡◌, ℕ, zero, suc, ◌<◌, ◌≤◌, ◌+◌, ◌^◌, true, false, cond, List, [], ◌∷◌, ◌++◌, map, flat_map, length, replicate, refl, ap, ◌∙◌, subst, arith, slice_get, Option, Some, None, option_map}
 use Rattle.std.specs.Prelude.{nat_le, option_to_list}
 use Rattle.std.specs.List.{AllByRecursion, list_all}
 use Rattle.std.specs.Option.{option_map_or}
@@ -14,21 +14,16 @@ use Rattle.lus_tree.specs.Tree as e
 use Rattle.lus_tree.specs.Numbers.{counting}
 use Rattle.lus_meaning.specs.Depends.{named_in}
 use Rattle.lus_meaning.specs.Run.{Equation, body_equations}
-use Rattle.lus_meaning.specs.BooleanRules.{IsBooleanChecked}
-use Rattle.lus_meaning.specs.Program.{instance_of}
-use Rattle.lus_meaning.specs.Rules.{IsWithinCounts}
 use Rattle.lus_meaning.proofs.Lists.{all_from, both_parts}
 use Rattle.name_table.specs.Names.{number_of}
-use Rattle.kind_num.specs.declared.Shape.{Shape}
 use Rattle.kind_num.specs.declared.Shape.TheVariants as shapes
 use Rattle.sys_terms.specs.declared.term.Var.{Var}
 use Rattle.sys_terms.specs.View.{Formula, truth, flag, negation, both, same, choice, at_most, equal, Machine}
-use Rattle.sys_terms.specs.Fits.{is_flag, fits, is_present, all_fit, all_fit_one, heaviest, is_light_weight, is_light, all_light, IsFit, IsMild}
-use Rattle.sys_meaning.specs.System.{system_of}
+use Rattle.sys_terms.specs.Fits.{is_flag, fits, is_present, all_fit, all_fit_one, heaviest, is_light_weight, is_light, all_light, IsMild}
 use Rattle.sys_build.specs.Occurring.{Kept, kept_of, operand_of}
 use Rattle.sys_build.specs.Numbering.{Numbering, numbering_of, name_number, memory_number, start_number, width_of}
-use Rattle.sys_build.specs.Flags.{Folded, known, left_open, as_formula, flag_at, next_flag, operate_formulas, negated, operated, chosen, folded, formula_of}
-use Rattle.sys_build.specs.Conditions.{right_of, defined_condition, free_condition, name_condition, here_conditions, memory_condition, memory_conditions, start_condition, property_formulas, boolean_system}
+use Rattle.sys_build.specs.Flags.{Folded, known, left_open, as_formula, flag_at, operate_formulas, negated, operated, chosen, folded, formula_of}
+use Rattle.sys_build.specs.Conditions.{right_of, defined_condition, free_condition, here_conditions, memory_condition, memory_conditions, start_condition, property_formulas, boolean_system}
 use Rattle.sys_build.specs.Laws.{is_boolean, IsOfFlags, MildSystems, SmallSystems, SystemsOfFlags}
 use Rattle.sys_build.proofs.Listed.{number_below}
 use Rattle.sys_build.proofs.Translated.{boolean_systems}
@@ -118,16 +113,19 @@ term_light w f h = ap is_light_weight (no_weight w f h) ∙ zero_light
 
 -- ---- lists of them
 
-all_fitting : (w : ℕ) (fs : List Formula) → AllByRecursion (AreAll (IsBelow w)) fs → all_fit (replicate w shapes.Flag) fs ≡ true
+all_fitting : (w : ℕ) (fs : List Formula) → AllByRecursion (AreAll (IsBelow w)) fs →
+    all_fit (replicate w shapes.Flag) fs ≡ true
 all_fitting w [] a = refl
 all_fitting w (f ∷ fs) a = rw (term_fits w f a.0, all_fitting w fs a.1) refl
 
 below : (w : ℕ) (f : Formula) → AreAll (IsNow w) f → AreAll (IsBelow w) f
 below w f h = weaker (IsNow w) (IsBelow w) (λ v k. k.below) f h
 
-all_fitting_one : (w : ℕ) (fs : List Formula) → AllByRecursion (AreAll (IsNow w)) fs → all_fit_one (replicate w shapes.Flag) fs ≡ true
+all_fitting_one : (w : ℕ) (fs : List Formula) → AllByRecursion (AreAll (IsNow w)) fs →
+    all_fit_one (replicate w shapes.Flag) fs ≡ true
 all_fitting_one w [] a = refl
-all_fitting_one w (f ∷ fs) a = rw (term_fits w f (below w f a.0), term_present w f a.0, all_fitting_one w fs a.1) refl
+all_fitting_one w (f ∷ fs) a =
+    rw (term_fits w f (below w f a.0), term_present w f a.0, all_fitting_one w fs a.1) refl
 
 all_lightest : (w : ℕ) (fs : List Formula) → AllByRecursion (AreAll (IsBelow w)) fs → all_light fs ≡ true
 all_lightest w [] a = refl
@@ -143,21 +141,24 @@ name_below : (n : Numbering) (x : Name) → name_number n x < width_of n
 unfolding name_number
 name_below n x = go (cases_Bool (named_in x n.names))
   where
-    go : (named_in x n.names ≡ true) ⊎ (named_in x n.names ≡ false) → cond (named_in x n.names) (suc (number_of n.names x)) 0 < width_of n
+    go : (named_in x n.names ≡ true) ⊎ (named_in x n.names ≡ false) →
+        cond (named_in x n.names) (suc (number_of n.names x)) 0 < width_of n
     go (inl t) = rw t (let h : number_of n.names x < length n.names = number_below n.names x t in omega arith)
     go (inr f) = rw f (omega arith)
 
 memory_below : (n : Numbering) (k : ℕ) → memory_number n k < width_of n
 memory_below n k = go (cases_Bool (nat_le k n.memories))
   where
-    go : (nat_le k n.memories ≡ true) ⊎ (nat_le k n.memories ≡ false) → cond (nat_le k n.memories) (length n.names + k) 0 < width_of n
+    go : (nat_le k n.memories ≡ true) ⊎ (nat_le k n.memories ≡ false) →
+        cond (nat_le k n.memories) (length n.names + k) 0 < width_of n
     go (inl t) = rw t (let h : k ≤ n.memories = leb-true k n.memories t in omega arith)
     go (inr f) = rw f (omega arith)
 
 start_below : (n : Numbering) (k : ℕ) → start_number n k < width_of n
 start_below n k = go (cases_Bool (nat_le k n.starts))
   where
-    go : (nat_le k n.starts ≡ true) ⊎ (nat_le k n.starts ≡ false) → cond (nat_le k n.starts) (length n.names + n.memories + k) 0 < width_of n
+    go : (nat_le k n.starts ≡ true) ⊎ (nat_le k n.starts ≡ false) →
+        cond (nat_le k n.starts) (length n.names + n.memories + k) 0 < width_of n
     go (inl t) = rw t (let h : k ≤ n.starts = leb-true k n.starts t in omega arith)
     go (inr f) = rw f (omega arith)
 
@@ -218,8 +219,10 @@ module _ (n : Numbering) where
     good_formula (folded n a) (good_folded a),
     good_formula (folded n b) (good_folded b),
   )
-  good_folded (binary p o a b) = good_both o (folded n a) (folded n b) (good_folded a) (good_folded b)
-  good_folded (e.choice p a b c) = good_chosen (folded n a) (folded n b) (folded n c) (good_folded a) (good_folded b) (good_folded c)
+  good_folded (binary p o a b) =
+      good_both o (folded n a) (folded n b) (good_folded a) (good_folded b)
+  good_folded (e.choice p a b c) =
+      good_chosen (folded n a) (folded n b) (folded n c) (good_folded a) (good_folded b) (good_folded c)
   good_folded _ = tt
 
   good_term : (a : Expression) → Good (formula_of n a)
@@ -234,7 +237,8 @@ module _ (n : Numbering) where
   good_firsts [] = tt
   good_firsts (k ∷ ks) = (good_flag (start_number n k) (start_below n k), good_firsts ks)
 
-  good_name : (x : Name) (o : Option Expression) → Good (option_map_or (defined_condition n x) o (free_condition n x))
+  good_name : (x : Name) (o : Option Expression) →
+      Good (option_map_or (defined_condition n x) o (free_condition n x))
   good_name x None = (good_beat, (good_flag (name_number n x) (name_below n x), tt))
   good_name x (Some a) = (good_flag (name_number n x) (name_below n x), (good_beat, good_term a, tt))
 
@@ -255,14 +259,17 @@ module _ (n : Numbering) where
   fine : (f : Formula) → Good f → Fine f
   fine f h = below w f h
 
-  fine_memory : (k : ℕ) (o : Option Expression) → AllByRecursion Fine (option_to_list (option_map (memory_condition n k) o))
+  fine_memory : (k : ℕ) (o : Option Expression) →
+      AllByRecursion Fine (option_to_list (option_map (memory_condition n k) o))
   fine_memory k None = tt
   fine_memory k (Some a) =
       ((memory_below n k, (beat_below n, fine (formula_of n a) (good_term a), memory_below n k)), tt)
 
   fine_memories : (ms : List Kept) (ks : List ℕ) → AllByRecursion Fine (flat_map (memory_conditions n ms) ks)
   fine_memories ms [] = tt
-  fine_memories ms (k ∷ ks) = both_parts Fine (memory_conditions n ms k) (flat_map (memory_conditions n ms) ks) (fine_memory k (operand_of ms k)) (fine_memories ms ks)
+  fine_memories ms (k ∷ ks) =
+      both_parts Fine (memory_conditions n ms k) (flat_map (memory_conditions n ms) ks)
+      (fine_memory k (operand_of ms k)) (fine_memories ms ks)
 
   fine_starts : (ks : List ℕ) → AllByRecursion Fine (map (start_condition n) ks)
   fine_starts [] = tt
@@ -328,7 +335,9 @@ pub systems_of_flags : SystemsOfFlags
 systems_of_flags p d h = subst IsOfFlags (boolean_systems p d h) (of_flags d)
 
 pub small_systems : SmallSystems
-small_systems p d h l = subst (λ (m : Machine). length m.shapes < 2 ^ 32) (boolean_systems p d h)
-    (let a : length (replicate (width_of (numbering_of d)) shapes.Flag) ≡ width_of (numbering_of d) = length-replicate (width_of (numbering_of d)) shapes.Flag in
-    let b : width_of (numbering_of d) < 2 ^ 31 = few_variables p d h l in
-    omega (arith, a, b))
+small_systems p d h l = subst (λ (m : Machine). length m.shapes < 2 ^ 32) (boolean_systems p d h) (
+    let width : ℕ = width_of (numbering_of d) in
+    let a : length (replicate width shapes.Flag) ≡ width = length-replicate width shapes.Flag in
+    let b : width < 2 ^ 31 = few_variables p d h l in
+    omega (arith, a, b)
+    )

@@ -1,5 +1,5 @@
 -- The lines of the trace of states, by the numbers of the variables.
-use Rattle.std.proofs.Common.{◌≡◌, ℕ, zero, suc, ◌+◌, ◌≤◌, ◌<◌, Bool, true, false, cond, ◌||◌, is_some, List, [], ◌∷◌, ◌++◌, map, flat_map, length, get_or, refl, ap, ◌∙◌, sym, subst, arith, append_assoc, Some, Result, Ok, Err, IfOk}
+use Rattle.std.proofs.Common.{◌≡◌, ℕ, suc, ◌+◌, ◌≤◌, ◌<◌, Bool, true, false, cond, ◌||◌, is_some, List, [], ◌∷◌, ◌++◌, map, flat_map, length, get_or, refl, ap, ◌∙◌, sym, subst, arith, append_assoc, Some, Result, Ok, Err, IfOk}
 use Rattle.std.specs.List.{AllByRecursion, list_any}
 use Rattle.std.specs.Str.{bytes_eq}
 use Rattle.std.specs.String.{string_bytes}
@@ -20,7 +20,7 @@ use Rattle.lus_meaning.specs.Recompute.{sample}
 use Rattle.lus_meaning.specs.Verdict.{throughout}
 use Rattle.lus_meaning.specs.Rules.{names_of}
 use Rattle.lus_meaning.specs.Depends.{named_in}
-use Rattle.lus_meaning.specs.Trace.{Subject, of_name, of_first, Line, is_defined, free_names}
+use Rattle.lus_meaning.specs.Trace.{Subject, Line, is_defined, free_names}
 use Rattle.lus_meaning.specs.TraceView.{all_at, bare_values, bare_line, bare_view, line_view, trace_view, unplaced}
 use Rattle.lus_meaning.specs.BooleanRules.{IsBooleanNode, IsBooleanChecked}
 use Rattle.lus_meaning.proofs.Exists.{length_mapped}
@@ -128,20 +128,29 @@ module _ (d : Component) (node : IsBooleanNode d) (numbered : IsNumbered d) (sta
   abbrev IsNamed : Variable → Type 0
   IsNamed v = named_in v.name.text (names_of (variables d)) ≡ true
 
-  value_is : (x : Name) → named_in x (names_of (variables d)) ≡ true → (t : ℕ) → t < length states → entry f x t ≡ value_at (name_number n x) (get_or states t [])
+  value_is : (x : Name) → named_in x (names_of (variables d)) ≡ true → (t : ℕ) → t < length states →
+      entry f x t ≡ value_at (name_number n x) (get_or states t [])
   value_is x e t l =
       entry_by d [] no_instances (λ key. ⊥) at c (length states) throughout [] t l x e
-      ∙ ap (λ k. cond (truth_of (c t) (c t) (present (bare_stage the_one at) k)) (value_in (c t) (sort_of_name the_one x) (at (own (named x)))) absent) (boolean_on_base d node x)
-      ∙ ap (λ z. cond (truth_of (c t) (c t) (present (bare_stage the_one at) base)) (value_in (c t) z (at (own (named x)))) absent) (boolean_name_is_flag d node x)
-      ∙ ap (λ k. cond ((c t).flag_at k) (flag ((c t).flag_at (at (own (named x))))) absent) (beat_number d node numbered)
+      ∙ ap (λ k. cond (truth_of (c t) (c t) (present (bare_stage the_one at) k))
+      (value_in (c t) (sort_of_name the_one x) (at (own (named x)))) absent) (boolean_on_base d node x)
+      ∙ ap (λ z. cond (truth_of (c t) (c t) (present (bare_stage the_one at) base))
+      (value_in (c t) z (at (own (named x)))) absent) (boolean_name_is_flag d node x)
+      ∙ ap (λ k. cond ((c t).flag_at k) (flag ((c t).flag_at (at (own (named x))))) absent)
+      (beat_number d node numbered)
       ∙ ap (λ k. cond ((c t).flag_at 0) (flag ((c t).flag_at k)) absent) (name_is d node numbered x e)
 
-  names_are : (vs : List Variable) → AllByRecursion IsNamed vs → name_lines [] (length states) f vs ≡ map (name_line n states) vs
+  names_are : (vs : List Variable) → AllByRecursion IsNamed vs →
+      name_lines [] (length states) f vs ≡ map (name_line n states) vs
   names_are [] a = refl
   names_are (v ∷ vs) a =
-      rw (sampled_states (value_at (name_number n v.name.text)) states (entry f v.name.text) (value_is v.name.text a.0), names_are vs a.1) refl
+      rw (
+        sampled_states (value_at (name_number n v.name.text)) states (entry f v.name.text) (value_is v.name.text a.0),
+        names_are vs a.1,
+      ) refl
 
-  firsts_are : (k : ℕ) (ss : List Sort) → AllByRecursion (λ s. s ≡ Flags) ss → 1 ≤ k → k + length ss ≤ 1 + length (kept_of d.body) →
+  firsts_are : (k : ℕ) (ss : List Sort) → AllByRecursion (λ s. s ≡ Flags) ss → 1 ≤ k →
+      k + length ss ≤ 1 + length (kept_of d.body) →
       first_lines [] k (firsts_by k ss at c) ≡ map (first_line n (get_or states 0 [])) (counting k (length ss))
   firsts_are k [] a l m = refl
   firsts_are k (s ∷ ss) a l m =
@@ -153,9 +162,11 @@ module _ (d : Component) (node : IsBooleanNode d) (numbered : IsNumbered d) (sta
   first_count : length (first_sorts the_one) ≡ length (kept_of d.body)
   first_count = ap length (boolean_firsts d node numbered) ∙ length_mapped _ (body_pres d.body) ∙ kept_count
 
-  firsts_listed : first_lines [] 1 (firsts_by 1 (first_sorts the_one) at c) ≡ map (first_line n (get_or states 0 [])) (counting 1 (length (kept_of d.body)))
+  firsts_listed : first_lines [] 1 (firsts_by 1 (first_sorts the_one) at c)
+      ≡ map (first_line n (get_or states 0 [])) (counting 1 (length (kept_of d.body)))
   firsts_listed =
-      let sorts : AllByRecursion (λ s. s ≡ Flags) (first_sorts the_one) = subst (AllByRecursion (λ s. s ≡ Flags)) (sym (boolean_firsts d node numbered)) (all_flags (body_pres d.body)) in
+      let sorts : AllByRecursion (λ s. s ≡ Flags) (first_sorts the_one) =
+      subst (AllByRecursion (λ s. s ≡ Flags)) (sym (boolean_firsts d node numbered)) (all_flags (body_pres d.body)) in
       let count : length (first_sorts the_one) ≡ length (kept_of d.body) = first_count in
       firsts_are 1 (first_sorts the_one) sorts (omega arith) (omega (arith, count))
       ∙ ap (λ (k : ℕ). map (first_line n (get_or states 0 [])) (counting 1 k)) count
@@ -174,23 +185,31 @@ module _ (d : Component) (node : IsBooleanNode d) (numbered : IsNumbered d) (sta
       let outs : List Line = free_lines n es states d.outputs in
       let locals : List Line = free_lines n es states d.locals in
       ap (λ (ls : List Line). inputs ++ ls) (append_none (free ++ firsts))
-      ∙ ap (λ (ls : List Line). ls ++ (free ++ firsts)) (names_are d.inputs (left_part IsNamed d.inputs (d.outputs ++ d.locals) declared))
-      ∙ ap (λ (ls : List Line). map (name_line n states) d.inputs ++ (ls ++ firsts)) (names_are (free_names d) (free_part IsNamed d (d.outputs ++ d.locals) (right_part IsNamed d.inputs (d.outputs ++ d.locals) declared)) ∙ free_split)
+      ∙ ap (λ (ls : List Line). ls ++ (free ++ firsts))
+      (names_are d.inputs (left_part IsNamed d.inputs (d.outputs ++ d.locals) declared))
+      ∙ ap (λ (ls : List Line). map (name_line n states) d.inputs ++ (ls ++ firsts)) (names_are (free_names d)
+      (free_part IsNamed d (d.outputs ++ d.locals) (right_part IsNamed d.inputs (d.outputs ++ d.locals) declared))
+      ∙ free_split)
       ∙ ap (λ (ls : List Line). map (name_line n states) d.inputs ++ ls) (append_assoc outs locals firsts)
       ∙ ap (λ (ls : List Line). map (name_line n states) d.inputs ++ (outs ++ (locals ++ ls))) firsts_listed
 
 -- ---- of a checked program
 
-states_lines : (p : Program) (d : Component) (states : List (List Entry)) → IsBooleanChecked p d → boolean_lines d states ≡ trace_of (instance_of p d) states
+states_lines : (p : Program) (d : Component) (states : List (List Entry)) → IsBooleanChecked p d →
+    boolean_lines d states ≡ trace_of (instance_of p d) states
 states_lines p d states h =
-    sym (lines_are d h.rules.shape h.numbered states) ∙ ap (λ (i : Instance). trace_of i states) (sym (boolean_checked_instance p d h))
+    sym (lines_are d h.rules.shape h.numbered states)
+    ∙ ap (λ (i : Instance). trace_of i states) (sym (boolean_checked_instance p d h))
 
 lines_bare : (ls : List TraceLine) → map bare_line (map line_view ls) ≡ map bare_view ls
 lines_bare [] = refl
 lines_bare (l ∷ ls) = ap (λ (ks : List Line). bare_view l ∷ ks) (lines_bare ls)
 
 -- a trace with the lines of these states is theirs
-pub is_trace : (p : Program) (d e : Component) (states : List State) (t : Trace) → IsBooleanChecked p d → IsBooleanChecked p e → string_bytes t.node ≡ d.name.text → t.length ≡ length states → map bare_view t.lines.items ≡ boolean_lines d (states_view states) → IsTraceOf p e (states_view states) (trace_view t)
+pub is_trace : (p : Program) (d e : Component) (states : List State) (t : Trace) → IsBooleanChecked p d →
+    IsBooleanChecked p e → string_bytes t.node ≡ d.name.text → t.length ≡ length states →
+    map bare_view t.lines.items ≡ boolean_lines d (states_view states) →
+    IsTraceOf p e (states_view states) (trace_view t)
 is_trace p d e states t g h name count lines = subst (λ (c : Component). IsTraceOf p c (states_view states) (trace_view t)) (one_component p d e g h) record {
   node = name;
   length = count ∙ sym (length_mapped _ states);

@@ -17,7 +17,8 @@ use std::alloc::{AllocError, Global};
 
 /// The stream at this place, counted from 0, in the order of the declarations.
 fn stream_at(node: &Node, place: usize) -> Option<&Param>
-    ensures { option_map (λ v. param_view v.now) result ≡ slice_get ((node_view node.now).inputs ++ ((node_view node.now).outputs ++ (node_view node.now).locals)) place }
+    ensures { option_map (λ v. param_view v.now) result
+        ≡ slice_get ((node_view node.now).inputs ++ ((node_view node.now).outputs ++ (node_view node.now).locals)) place }
 {
     let inputs = node.inputs.len();
     let outputs = node.outputs.len();
@@ -53,8 +54,10 @@ pub fn place_of(
     checked: &Checked,
     number: u32,
 ) -> Result<(Vec<u32>, Spot), BuildFault>
-    requires placed { (d : Component) → IsBooleanChecked (program_view checked.now) d → is_some (printed_place (instance_of (program_view checked.now) d) number) ≡ true }
-    ensures exact { IfOk result (λ r. (d : Component) → IsBooleanChecked (program_view checked.now) d → printed_place (instance_of (program_view checked.now) d) number ≡ Some (r.0.items, spot_view r.1)) }
+    requires placed { (d : Component) → IsBooleanChecked (program_view checked.now) d
+        → is_some (printed_place (instance_of (program_view checked.now) d) number) ≡ true }
+    ensures exact { IfOk result (λ r. (d : Component) → IsBooleanChecked (program_view checked.now) d
+        → printed_place (instance_of (program_view checked.now) d) number ≡ Some (r.0.items, spot_view r.1)) }
 {
     let spot = spot_of(checked.node(), checked.declared().len(), number)?;
     Ok((Vec::new(alloc), spot))

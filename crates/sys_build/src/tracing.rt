@@ -221,7 +221,8 @@ fn lines_of(
 pub fn trace_of(alloc: Global, checked: &Checked, states: &[State]) -> Result<Trace, BuildFault>
     requires some { states.now ≢ [] }
     requires few { length states.now < 2 ^ 32 }
-    ensures exact { IfOk result (λ t. (d : Component) → IsBooleanChecked (program_view checked.now) d → IsTraceOf (program_view checked.now) d (states_view states.now) (trace_view t)) }
+    ensures exact { IfOk result (λ t. (d : Component) → IsBooleanChecked (program_view checked.now) d
+        → IsTraceOf (program_view checked.now) d (states_view states.now) (trace_view t)) }
 {
     let node = checked.node();
     let lines = lines_of(alloc, node, checked.declared(), states)?;
