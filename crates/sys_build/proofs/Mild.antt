@@ -15,6 +15,8 @@ use Rattle.lus_tree.specs.Numbers.{counting}
 use Rattle.lus_meaning.specs.Depends.{named_in}
 use Rattle.lus_meaning.specs.Run.{Equation, body_equations}
 use Rattle.lus_meaning.proofs.Lists.{all_from, both_parts}
+use Rattle.lus_meaning.specs.Program.{instance_of}
+use Rattle.lus_meaning.specs.Property.{properties}
 use Rattle.name_table.specs.Names.{number_of}
 use Rattle.kind_num.specs.declared.Shape.TheVariants as shapes
 use Rattle.sys_terms.specs.declared.term.Var.{Var}
@@ -24,7 +26,9 @@ use Rattle.sys_build.specs.Occurring.{Kept, kept_of, operand_of}
 use Rattle.sys_build.specs.Numbering.{Numbering, numbering_of, name_number, memory_number, start_number, width_of}
 use Rattle.sys_build.specs.Flags.{Folded, known, left_open, as_formula, flag_at, operate_formulas, negated, operated, chosen, folded, formula_of}
 use Rattle.sys_build.specs.Conditions.{right_of, defined_condition, free_condition, here_conditions, memory_condition, memory_conditions, start_condition, property_formulas, boolean_system}
-use Rattle.sys_build.specs.Laws.{is_boolean, IsOfFlags, MildSystems, SmallSystems, SystemsOfFlags}
+use Rattle.sys_build.specs.Laws.{is_boolean, IsOfFlags, FewProperties, MildSystems, SmallSystems, SystemsOfFlags}
+use Rattle.sys_meaning.specs.System.{system_of}
+use Rattle.sys_meaning.proofs.CheckedVerdicts.{checked_formulas}
 use Rattle.sys_build.proofs.Listed.{number_below}
 use Rattle.sys_build.proofs.Translated.{boolean_systems}
 use Rattle.sys_build.proofs.Few.{few_variables}
@@ -341,3 +345,10 @@ small_systems p d h l = subst (λ (m : Machine). length m.shapes < 2 ^ 32) (bool
     let b : width < 2 ^ 31 = few_variables p d h l in
     omega (arith, a, b)
     )
+
+pub few_properties : FewProperties
+few_properties p d h l =
+    let same : length (system_of (instance_of p d)).properties ≡ length (properties (instance_of p d)) =
+    checked_formulas p d h in
+    let few : length (properties (instance_of p d)) ≤ 500 = l.properties in
+    omega (arith, same, few)

@@ -1,5 +1,5 @@
 -- What a checked program's system is, written out, and what those who work on it may count on.
-use Rattle.std.specs.Prelude.{◌≡◌, ◌<◌, ◌^◌, Bool, true, false, ◌&&◌, All, length}
+use Rattle.std.specs.Prelude.{◌≡◌, ◌<◌, ◌≤◌, ◌^◌, Bool, true, false, ◌&&◌, All, length}
 use Rattle.std.specs.List.{list_all}
 use Rattle.lus_tree.specs.Tree.{Component, Program}
 use Rattle.lus_meaning.specs.Program.{instance_of}
@@ -24,6 +24,11 @@ MildSystems = OfChecked (λ i. IsMild (system_of i))
 abbrev pub SmallSystems : Type 0
 SmallSystems = (p : Program) (d : Component) → IsBooleanChecked p d → IsWithinCounts p d →
     length (system_of (instance_of p d)).shapes < 2 ^ 32
+
+-- and at most 500 formulas of properties
+abbrev pub FewProperties : Type 0
+FewProperties = (p : Program) (d : Component) → IsBooleanChecked p d → IsWithinCounts p d →
+    length (system_of (instance_of p d)).properties ≤ 500
 
 -- ---- truth values alone
 
