@@ -38,3 +38,4 @@ pub mod Sparse
 pub mod Kept
 pub mod Crossings
 pub mod Sorting
+pub mod OnRows

@@ -16,3 +16,4 @@ pub mod Valued
 pub mod Choosing
 pub mod Refuting
 pub mod Running
+pub mod OnRows
