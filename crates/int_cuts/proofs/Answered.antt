@@ -1,5 +1,5 @@
 -- What is answered of a row.
-use Rattle.std.specs.Prelude.{ℕ, zero, suc, ◌≡◌, ◌≢◌, Bool, true, false, List, map, unsigned_abs}
+use Rattle.std.specs.Prelude.{ℕ, zero, suc, ◌≡◌, ◌≢◌, true, false, List, map, unsigned_abs}
 use Rattle.std.proofs.Common.{sym, ◌∙◌, ap, subst, refl}
 use Rattle.std.proofs.lemmas.Int.{ints}
 use Rattle.std.proofs.Common.{arith}
@@ -14,7 +14,7 @@ use Rattle.int_simplex.specs.Sound.{IsSound}
 use Rattle.int_simplex.proofs.Floors.{is_below, not_below}
 use Rattle.int_cuts.specs.Splits.{IsBroken}
 use Rattle.int_cuts.specs.Cuts.{IsCut, IsCutPast}
-use Rattle.int_cuts.specs.Parts.{facing, AreParts, AreSumsPast, AreTermsPast, IsMadeOf, IsRowOf, IsSizePast, NoneLooseIn}
+use Rattle.int_cuts.specs.Parts.{facing, AreParts, AreTermsPast, IsMadeOf, IsRowOf, IsSizePast, NoneLooseIn}
 use Rattle.int_cuts.specs.declared.parts.Part.{Part}
 use Rattle.int_cuts.specs.declared.trouble.Trouble.{Trouble}
 use Rattle.int_cuts.specs.declared.trouble.Trouble.TheVariants as t

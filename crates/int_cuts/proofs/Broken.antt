@@ -1,20 +1,20 @@
 -- The values of a tableau break the cut of a row.
 use Prim.Native.Nat.{◌∣◌}
-use Rattle.std.specs.Prelude.{ℕ, zero, suc, ◌≡◌, ◌≢◌, ◌⊎◌, ◌==◌, ◌<◌, ◌≤◌, ◌*◌, Bool, true, false, cond, List, [], ◌∷◌, length, map, All, Contains, Some, slice_get, unsigned_abs}
+use Rattle.std.specs.Prelude.{ℕ, zero, suc, ◌≡◌, ◌≢◌, ◌⊎◌, ◌==◌, ◌<◌, ◌*◌, Bool, true, false, cond, List, [], ◌∷◌, All, Some, slice_get, unsigned_abs}
 use Rattle.std.specs.Int.{int_div_euclid, int_rem_euclid}
-use Rattle.std.proofs.Common.{sym, ◌∙◌, ap, subst, arith, refl, inl, inr, get_or}
+use Rattle.std.proofs.Common.{sym, ◌∙◌, ap, subst, arith, refl, inl, inr}
 use Rattle.std.proofs.lemmas.Int.{ints, unsigned_abs-mul}
 use Rattle.std.proofs.lemmas.Nat.Gcd.{dvd_refl}
 use Rattle.std.proofs.Math.Nat.{dvd-mul_left}
-use Rattle.std.proofs.lemmas.Option.{slice_get-get_or, slice_get_within, get_or_from_slice_get}
-use lib.IntN.{ℤ, pos, negsuc, ◌+ℤ◌, ◌-ℤ◌, ◌*ℤ◌, neg_ℤ, *ℤ-zero, zero-*ℤ, *ℤ_comm}
+use Rattle.std.proofs.lemmas.Option.{slice_get_within, get_or_from_slice_get}
+use lib.IntN.{ℤ, pos, negsuc, ◌+ℤ◌, ◌*ℤ◌, neg_ℤ, *ℤ-zero, zero-*ℤ, *ℤ_comm}
 use lib.Signed.{◌≤ℤ◌, ◌<ℤ◌}
 use Rattle.kind_num.proofs.Ring.{times_le, times_sum, sum_times, neg_times, times_neg, times_times}
 use Rattle.kind_num.proofs.Quotients.{division_is}
 use Rattle.proof_steps.specs.Meaning.{sum_of}
 use Rattle.proof_steps.specs.Rows.{entry, combined}
 use Rattle.int_simplex.specs.State.{Standing, State}
-use Rattle.int_simplex.specs.Given.{AreGiven, IsWithin}
+use Rattle.int_simplex.specs.Given.{IsWithin}
 use Rattle.int_simplex.specs.Farkas.{turned, weight, limits}
 use Rattle.int_simplex.specs.OnRows.{AreOnRows}
 use Rattle.int_simplex.specs.Points.{Point, HasValues, IsFraction}
@@ -23,7 +23,7 @@ use Rattle.int_simplex.specs.Valued.{rest_in}
 use Rattle.int_simplex.proofs.Algebra.{same_multiple}
 use Rattle.int_simplex.proofs.First.{times-one}
 use Rattle.int_simplex.proofs.Fitting.{row-below}
-use Rattle.int_simplex.proofs.NoPoint.{summed, summed_same, row_sum, RowBelow, RowsBelow, BoundsBelow, RowsMet, combined-sum, lefts, weight-sum, rows-met}
+use Rattle.int_simplex.proofs.NoPoint.{summed, summed_same, row_sum, RowsBelow, BoundsBelow, RowsMet, combined-sum, lefts, weight-sum, rows-met}
 use Rattle.int_simplex.proofs.Once.{times_lt}
 use Rattle.int_simplex.proofs.Sparse.{by_test, same_if}
 use Rattle.int_cuts.specs.Splits.{IsBroken}

@@ -1,22 +1,21 @@
 -- The columns that given rows define, put in: what a sum over columns comes to at the others.
-use Rattle.std.specs.Prelude.{ℕ, zero, suc, ◌≡◌, ◌≢◌, ◌⊎◌, ◌==◌, ◌<◌, ◌≤◌, Bool, true, false, cond, List, [], ◌∷◌, length, map, All, Contains, Option, Some, None, slice_get}
+use Rattle.std.specs.Prelude.{ℕ, zero, suc, ◌≡◌, ◌≢◌, ◌⊎◌, ◌==◌, ◌<◌, ◌≤◌, Bool, true, false, cond, List, [], ◌∷◌, map, All, Contains, Option, Some, None, slice_get}
 use Rattle.std.proofs.Common.{sym, ◌∙◌, ap, subst, arith, refl, inl, inr}
 use Rattle.std.proofs.lemmas.Int.{ints}
 use Rattle.std.proofs.lemmas.List.{length-map}
 use Rattle.std.proofs.lemmas.Option.{slice_get_within, slice_get-get_or}
-use lib.IntN.{ℤ, pos, negsuc, ◌+ℤ◌, ◌*ℤ◌, neg_ℤ, *ℤ-zero, zero-*ℤ, *ℤ_comm}
-use Rattle.kind_num.proofs.Ring.{times_sum, sum_times, neg_times, times_neg, times_times}
+use lib.IntN.{ℤ, pos, negsuc, ◌+ℤ◌, ◌*ℤ◌, neg_ℤ, *ℤ-zero, zero-*ℤ}
+use Rattle.kind_num.proofs.Ring.{times_sum, sum_times, neg_times, times_times}
 use Rattle.proof_steps.specs.Rows.{entry, combined, AllDiffer}
-use Rattle.int_simplex.specs.State.{Standing, State}
 use Rattle.int_simplex.specs.Farkas.{turned, weight}
-use Rattle.int_simplex.specs.Given.{AreGiven, last_column, last_columns, column_of, IsWithin}
+use Rattle.int_simplex.specs.Given.{AreGiven, last_column, last_columns, IsWithin}
 use Rattle.int_simplex.specs.Inner.{read_off, IsCombination}
 use Rattle.int_simplex.proofs.Apart.{apart, end-at, read_off_is}
 use Rattle.int_simplex.proofs.First.{first_differ, times-one, place-of}
 use Rattle.int_simplex.proofs.Places.{same_some, listed_at, at_listed, mapped_at}
 use Rattle.int_simplex.proofs.Sorting.{entry_zero}
 use Rattle.int_simplex.proofs.Sparse.{by_test, same_if, other_if, is_other, is_same}
-use Rattle.int_cuts.specs.Parts.{IsDefinedBy, coefficient_by, coefficient_of, factor_of, row_of, sum_by}
+use Rattle.int_cuts.specs.Parts.{IsDefinedBy, coefficient_by, coefficient_of, row_of, sum_by}
 use Rattle.int_cuts.specs.declared.parts.Part.{Part}
 use Rattle.int_cuts.proofs.Remainders.{Multiple, times_less}
 use Rattle.int_cuts.proofs.Multiples.{bounds_of, multipliers_of}

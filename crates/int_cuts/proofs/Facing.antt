@@ -1,7 +1,7 @@
 -- A row, or its opposite: the one in which the entry of the basis column is below 0.
 use Prim.Native.Nat.{◌∣◌}
-use Rattle.std.specs.Prelude.{ℕ, zero, suc, ◌≡◌, ◌≢◌, ◌⊎◌, ◌==◌, ◌<◌, Bool, true, false, cond, List, [], ◌∷◌, length, map, All, Contains, Option, Some, None, slice_get, unsigned_abs}
-use Rattle.std.proofs.Common.{sym, ◌∙◌, ap, subst, arith, refl, inl, inr, get_or}
+use Rattle.std.specs.Prelude.{ℕ, zero, suc, ◌≡◌, ◌==◌, ◌<◌, Bool, true, false, cond, List, [], ◌∷◌, map, All, unsigned_abs}
+use Rattle.std.proofs.Common.{sym, ◌∙◌, ap, subst, arith, refl}
 use Rattle.std.proofs.lemmas.Int.{ints}
 use Rattle.std.proofs.lemmas.List.{length-map}
 use Rattle.std.proofs.lemmas.List.Elements.{All-nil, All-cons, All-head, All-tail}

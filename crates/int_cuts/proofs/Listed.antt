@@ -1,20 +1,18 @@
 -- The terms of a row in order, and the parts that are made of them.
-use Rattle.std.specs.Prelude.{ℕ, zero, suc, ◌≡◌, ◌≢◌, ◌⊎◌, ◌<◌, ◌≤◌, ◌+◌, Bool, true, false, List, [], ◌∷◌, length, map, All, Contains, Option, Some, None, slice_get}
+use Rattle.std.specs.Prelude.{ℕ, zero, suc, ◌≡◌, ◌≢◌, ◌⊎◌, ◌<◌, Bool, true, false, List, [], ◌∷◌, length, map, All, Contains, Option, Some, None, slice_get}
 use Rattle.std.specs.Int.{int_rem_euclid}
-use Rattle.std.specs.List.Sorted.{IsStrictlyIncreasing}
 use Rattle.std.proofs.Common.{sym, ◌∙◌, ap, subst, arith, refl, inl, inr, get_or}
 use Rattle.std.proofs.lemmas.Int.{ints}
 use Rattle.std.proofs.lemmas.List.{length-map}
 use Rattle.std.proofs.lemmas.List.Elements.{All-nil, All-cons}
 use Rattle.std.proofs.lemmas.List.Kept.{AllPairs-from_increasing}
-use Rattle.std.proofs.lemmas.Option.{slice_get-get_or, slice_get_within, get_or_from_slice_get}
-use lib.IntN.{ℤ, pos, neg_ℤ, ◌+ℤ◌, ◌*ℤ◌}
-use lib.Signed.{◌≤ℤ◌}
+use Rattle.std.proofs.lemmas.Option.{slice_get_within, get_or_from_slice_get}
+use lib.IntN.{ℤ, pos, ◌*ℤ◌}
 use Rattle.proof_steps.specs.declared.Source.{Source}
 use Rattle.proof_steps.specs.Rows.{entry, AllDiffer}
 use Rattle.int_simplex.specs.State.{Standing, State}
 use Rattle.int_simplex.specs.Farkas.{turned, limits}
-use Rattle.int_simplex.specs.Given.{column_of, IsInOrder, IsWithin, HasNoZero}
+use Rattle.int_simplex.specs.Given.{column_of, IsInOrder, HasNoZero}
 use Rattle.int_simplex.proofs.Places.{same_some, listed_at, at_listed, mapped_at}
 use Rattle.int_simplex.proofs.Sorting.{entry_of}
 use Rattle.int_simplex.proofs.Sparse.{entry_listed}
@@ -23,7 +21,7 @@ use Rattle.int_cuts.specs.Cuts.{IsAtBound, IsLoose, NoneLoose, column_in, source
 use Rattle.int_cuts.specs.Parts.{IsPart, IsPartOf, AreParts, AreDefined, IsDefinedIn, IsPlaceIn, IsDefinedBy, IsRowOf, StandTo, NoneLooseIn, sum_by, parts_line}
 use Rattle.int_cuts.specs.declared.parts.Part.{Part}
 use Rattle.int_cuts.proofs.Combined.{AreDefinedBy}
-use Rattle.int_cuts.proofs.Multiples.{part_bound, bounds_of, multipliers_of, Stood, Owned}
+use Rattle.int_cuts.proofs.Multiples.{part_bound, bounds_of, multipliers_of}
 
 read-at : (xs : List ℕ) (k x : ℕ) → slice_get xs k ≡ Some x → get_or xs k 0 ≡ x
 read-at xs k x e = get_or_from_slice_get xs k x 0 e
@@ -175,7 +173,7 @@ remainders_listed s x d [] parts a k t e n b r = absurd cc
 remainders_listed s x d (u ∷ row) parts (inl (h, a)) zero t e n b r =
     let q : u ≡ t = same_some u t e in
     let P : ℕ × ℤ → Type 0 = λ w. IsPartOf s x d w None in
-    elim (subst P q h) [ | inl y ↦ absurd (n y) | inr (inl y) ↦ absurd (y b) | inr (inr y) ↦ absurd (r y) ]
+    elim (subst P q h) [ inl y ↦ absurd (n y) | inr (inl y) ↦ absurd (y b) | inr (inr y) ↦ absurd (r y) ]
 remainders_listed s x d (u ∷ row) parts (inl (h, a)) (suc k) t e n b r = remainders_listed s x d row parts a k t e n b r
 remainders_listed s x d (u ∷ row) parts (inr (p, rest, q, i, a)) zero t e n b r =
     let w : u ≡ t = same_some u t e in

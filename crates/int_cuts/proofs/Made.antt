@@ -1,10 +1,10 @@
 -- The line of a row's parts is the row's cut, and its atom follows by it.
-use Rattle.std.specs.Prelude.{ℕ, zero, suc, ◌≡◌, ◌≢◌, ◌⊎◌, ◌<◌, ◌≤◌, Bool, true, false, cond, List, [], ◌∷◌, length, map, All, Contains, Some, None, slice_get}
+use Rattle.std.specs.Prelude.{ℕ, suc, ◌≡◌, ◌≢◌, ◌⊎◌, ◌<◌, ◌≤◌, Bool, false, cond, List, [], ◌∷◌, map, All, Contains, Some, None, slice_get}
 use Rattle.std.specs.Int.{int_div_euclid, int_rem_euclid}
 use Rattle.std.proofs.Common.{sym, ◌∙◌, ap, subst, arith, refl, inl, inr, get_or}
 use Rattle.std.proofs.lemmas.Int.{ints}
-use Rattle.std.proofs.lemmas.Option.{slice_get-get_or, slice_get_within, get_or_from_slice_get}
-use lib.IntN.{ℤ, pos, negsuc, ◌+ℤ◌, ◌*ℤ◌, neg_ℤ, *ℤ-zero}
+use Rattle.std.proofs.lemmas.Option.{slice_get-get_or, slice_get_within}
+use lib.IntN.{ℤ, pos, ◌+ℤ◌, ◌*ℤ◌, neg_ℤ, *ℤ-zero}
 use lib.Signed.{◌≤ℤ◌, ◌<ℤ◌}
 use Rattle.kind_num.proofs.Ring.{exact_quotient}
 use Rattle.kind_num.proofs.Quotients.{division_is}
@@ -13,7 +13,6 @@ use Rattle.proof_steps.specs.Meaning.{sum_of, as_said}
 use Rattle.proof_steps.specs.View.{Inequality, Sum}
 use Rattle.proof_steps.specs.Rows.{entry, combined, AllDiffer}
 use Rattle.int_simplex.specs.State.{Standing, State}
-use Rattle.int_simplex.specs.Bounds.{tightest}
 use Rattle.int_simplex.specs.Farkas.{turned, weight, limits}
 use Rattle.int_simplex.specs.Given.{column_of, last_column, last_columns, IsWithin}
 use Rattle.int_simplex.specs.Inner.{read_off, IsCombination}
@@ -24,17 +23,16 @@ use Rattle.int_simplex.proofs.Algebra.{product_zero}
 use Rattle.int_simplex.proofs.Apart.{apart, made_combination}
 use Rattle.int_simplex.proofs.Sorting.{entry_of}
 use Rattle.int_simplex.proofs.Sparse.{is_other, entry_listed, entry_past, listed_entry, sparse_in_order, sparse_no_zero, sparse_within}
-use Rattle.int_simplex.proofs.Tables.{tightest_stands, IsStanding}
-use Rattle.int_simplex.proofs.NoPoint.{BoundsBelow}
+use Rattle.int_simplex.proofs.Tables.{tightest_stands}
 use Rattle.int_cuts.specs.Splits.{IsBroken}
-use Rattle.int_cuts.specs.Cuts.{IsAtBound, NoneLoose, IsGomory, FollowsBy, IsCut, BreakAtom, column_in, source_of, multipliers_in, remainder}
-use Rattle.int_cuts.specs.Parts.{IsPart, AreParts, IsMadeOf, sum_by, parts_line}
+use Rattle.int_cuts.specs.Cuts.{NoneLoose, IsGomory, FollowsBy, IsCut, BreakAtom, column_in}
+use Rattle.int_cuts.specs.Parts.{IsPart, AreParts, sum_by, parts_line}
 use Rattle.int_cuts.specs.declared.parts.Part.{Part}
 use Rattle.int_cuts.proofs.Broken.{terms-sum, breaks}
 use Rattle.int_cuts.proofs.Combined.{put_in, left_multiple, sums_left, none_left, put_beyond}
 use Rattle.int_cuts.proofs.Listed.{defined_by, all_bounds, all_multipliers, parts_differ, multipliers_are, remainders_listed, line_multipliers, line_sources, right_sides}
 use Rattle.int_cuts.proofs.Multiples.{part_bound, bounds_of, multipliers_of, Owned, Stood, whole}
-use Rattle.int_cuts.proofs.Remainders.{Multiple, rest_is, multiple_rest}
+use Rattle.int_cuts.proofs.Remainders.{Multiple, multiple_rest}
 
 standing-is : (b : Standing) (c : ℕ) (u : Bool) (l : ℤ) (n : ℕ) → b.column ≡ c → b.upper ≡ u → b.limit ≡ l → b.literal ≡ n
     → b ≡ record { column = c; upper = u; limit = l; literal = n }

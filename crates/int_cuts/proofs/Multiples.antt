@@ -1,9 +1,9 @@
 -- A row with its parts is a multiple of the divisor in each column.
-use Rattle.std.specs.Prelude.{ℕ, zero, suc, ◌≡◌, ◌≢◌, ◌⊎◌, ◌==◌, ◌<◌, Bool, true, false, cond, List, [], ◌∷◌, map, Contains, Option, Some, None, slice_get}
+use Rattle.std.specs.Prelude.{ℕ, suc, ◌≡◌, ◌≢◌, ◌⊎◌, ◌==◌, Bool, true, false, cond, List, [], ◌∷◌, map, Some, None, slice_get}
 use Rattle.std.specs.Int.{int_div_euclid, int_rem_euclid}
 use Rattle.std.proofs.Common.{sym, ◌∙◌, ap, subst, arith, refl, inl, inr}
 use Rattle.std.proofs.lemmas.Int.{ints}
-use lib.IntN.{ℤ, pos, negsuc, ◌+ℤ◌, ◌*ℤ◌, neg_ℤ, *ℤ-zero, zero-*ℤ, *ℤ_comm}
+use lib.IntN.{ℤ, pos, negsuc, ◌+ℤ◌, ◌*ℤ◌, neg_ℤ, *ℤ-zero, zero-*ℤ}
 use Rattle.kind_num.proofs.Ring.{times_sum, sum_times, neg_times, times_neg, times_times}
 use Rattle.kind_num.proofs.Quotients.{division_is}
 use Rattle.proof_steps.specs.Rows.{entry}
@@ -88,7 +88,7 @@ whole s x n (t ∷ row) parts (inl (h, a)) f g c =
 whole s x n (t ∷ row) parts (inr (p, rest, e, i, a)) f g c =
     let P : List Part → Type 0 = λ ps. Multiple (pos (suc n)) (weight (multipliers_of ps) (bounds_of ps) c +ℤ entry (t ∷ row) c) in
     let Q : ℕ → Type 0 = λ k. Multiple (pos (suc n)) (cond (k == c) (turned p.upper p.multiplier +ℤ weight (multipliers_of rest) (bounds_of rest) c) (weight (multipliers_of rest) (bounds_of rest) c)
-        +ℤ cond (t.0 == c) (t.1 +ℤ entry row c) (entry row c)) in
+    +ℤ cond (t.0 == c) (t.1 +ℤ entry row c) (entry row c)) in
     subst P (sym e) (subst Q (sym i.column)
     (step-part (pos (suc n)) (weight (multipliers_of rest) (bounds_of rest) c) (entry row c) t.1 (turned p.upper p.multiplier) (t.0 == c)
     (whole s x n row rest a (λ k u w. f (suc k) u w) (λ k u w. g (suc k) u w) c) (part-multiple s x n t p i)))
@@ -160,6 +160,6 @@ module _ (s : State) (x n : ℕ) (b : ℤ) (v : ℕ → ℤ) (at : Stands s b v)
       let y : (limits (multipliers_of rest) (bounds_of rest) *ℤ b +ℤ rest_in x v row) +ℤ ((p.multiplier *ℤ turned p.upper p.limit) *ℤ b +ℤ t.1 *ℤ v t.0)
       ≡ (p.multiplier *ℤ turned p.upper p.limit +ℤ limits (multipliers_of rest) (bounds_of rest)) *ℤ b +ℤ (t.1 *ℤ v t.0 +ℤ rest_in x v row) = omega (arith, ints) in
       subst P (sym e) (subst (λ (w : Bool). Scaled (pos (suc n)) b ((p.multiplier *ℤ turned p.upper p.limit +ℤ limits (multipliers_of rest) (bounds_of rest)) *ℤ b
-          +ℤ cond w (rest_in x v row) (t.1 *ℤ v t.0 +ℤ rest_in x v row))) (sym (is_other t.0 x i.other))
+      +ℤ cond w (rest_in x v row) (t.1 *ℤ v t.0 +ℤ rest_in x v row))) (sym (is_other t.0 x i.other))
       (subst (Scaled (pos (suc n)) b) y (scaled_sum (pos (suc n)) b (limits (multipliers_of rest) (bounds_of rest) *ℤ b +ℤ rest_in x v row)
       ((p.multiplier *ℤ turned p.upper p.limit) *ℤ b +ℤ t.1 *ℤ v t.0) r q)))

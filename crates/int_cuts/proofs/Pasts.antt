@@ -1,26 +1,21 @@
 -- Operations over a row's parts that are outside 128 bits.
-use Rattle.std.specs.Prelude.{ℕ, zero, suc, ◌≡◌, ◌≢◌, ◌⊎◌, ◌==◌, ◌<◌, ◌≤◌, Bool, true, false, cond, List, [], ◌∷◌, ◌++◌, length, map, take, All, Contains, Option, Some, None, slice_get, unsigned_abs}
-use Rattle.std.proofs.Common.{sym, ◌∙◌, ap, subst, arith, refl, inl, inr, get_or}
+use Rattle.std.specs.Prelude.{ℕ, zero, suc, ◌≡◌, ◌≢◌, ◌⊎◌, ◌==◌, Bool, true, false, cond, List, [], ◌∷◌, ◌++◌, map, take, All, Contains, Option, Some, None, slice_get, unsigned_abs}
+use Rattle.std.proofs.Common.{sym, ◌∙◌, ap, subst, arith, refl, inl, inr}
 use Rattle.std.proofs.lemmas.Int.{ints}
 use Rattle.std.proofs.lemmas.List.Elements.{All-nil, All-cons, All-append}
-use Rattle.std.proofs.lemmas.Option.{slice_get_within}
-use lib.IntN.{ℤ, pos, negsuc, ◌+ℤ◌, ◌-ℤ◌, ◌*ℤ◌, neg_ℤ, *ℤ-zero}
+use lib.IntN.{ℤ, pos, negsuc, ◌+ℤ◌, ◌*ℤ◌, neg_ℤ, *ℤ-zero}
 use lib.Signed.{◌≤ℤ◌, ◌<ℤ◌}
-use Rattle.kind_num.specs.Exact.{within}
 use Rattle.kind_num.specs.declared.Past.{Past}
-use Rattle.kind_num.specs.declared.Op.TheVariants.{Add, Sub, Mul}
 use Rattle.proof_steps.specs.Rows.{entry, AllDiffer}
 use Rattle.proof_steps.specs.Stopped.{Product, total, signed}
 use Rattle.int_simplex.specs.State.{State}
 use Rattle.int_simplex.specs.Farkas.{turned}
-use Rattle.int_simplex.specs.Given.{column_of, last_column, HasNoZero}
-use Rattle.int_simplex.specs.Sound.{IsSound}
+use Rattle.int_simplex.specs.Given.{HasNoZero}
 use Rattle.int_simplex.proofs.First.{times-one}
 use Rattle.int_simplex.proofs.Places.{same_some, listed_at, at_listed, mapped_at}
 use Rattle.int_simplex.proofs.Sorting.{entry_of}
-use Rattle.int_simplex.proofs.Turned.{place_once}
-use Rattle.int_cuts.specs.Cuts.{IsNumber, IsFactor, IsCutProduct, AreCutProducts, AreCutOperands, IsCutPast, remainder, column_in}
-use Rattle.int_cuts.specs.Parts.{IsPart, AreParts, IsDefinedBy, IsRowOf, NoneLooseIn, facing, IsSizePast, IsStepPast, IsSumPast, AreSumsPast, step_op, coefficient_by, factor_of, row_of, sum_by}
+use Rattle.int_cuts.specs.Cuts.{IsFactor, IsCutProduct, AreCutProducts, IsCutPast, remainder, column_in}
+use Rattle.int_cuts.specs.Parts.{IsPart, AreParts, IsDefinedBy, IsRowOf, NoneLooseIn, facing, IsSizePast, AreSumsPast, step_op, coefficient_by, factor_of, row_of, sum_by}
 use Rattle.int_cuts.specs.declared.parts.Part.{Part}
 use Rattle.int_cuts.proofs.Facing.{IsFacing, is_facing}
 use Rattle.int_cuts.proofs.Listed.{none_loose, parts_differ}
@@ -205,8 +200,11 @@ module _ (s : State) (x n : ℕ) (row : List (ℕ × ℤ)) (i : IsFacing s x n r
   product-is of negative p (k, t, e, w) f =
       let a : entry row p.column ≡ t.1 = ap (entry row) w.column ∙ entry_of row k t i.differ e in record {
         has_entry = λ z. no_zero k t e (sym a ∙ z);
-        number = inr (p.upper, w.multiplier ∙ ap (remainder (pos (suc n)) p.upper) (sym a)
-            ∙ ap (λ z. remainder (pos (unsigned_abs z)) p.upper (entry row p.column)) (sym i.own));
+        number = inr (
+          p.upper,
+          w.multiplier ∙ ap (remainder (pos (suc n)) p.upper) (sym a)
+              ∙ ap (λ z. remainder (pos (unsigned_abs z)) p.upper (entry row p.column)) (sym i.own),
+        );
         factor = factor-is of t p w f;
       }
 

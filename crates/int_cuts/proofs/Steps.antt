@@ -1,9 +1,9 @@
 -- One turn of a loop after the other.
-use Rattle.std.specs.Prelude.{ℕ, zero, suc, ◌≡◌, ◌≢◌, ◌⊎◌, ◌<◌, ◌≤◌, ◌+◌, ◌==◌, Bool, true, false, cond, List, [], ◌∷◌, ◌++◌, length, map, take, drop, All, Contains, Option, Some, None, Result, Ok, Err, IfErr, IsErrAnd, slice_get}
-use Rattle.std.specs.Int.{int_div_euclid, int_rem_euclid}
+use Rattle.std.specs.Prelude.{ℕ, zero, suc, ◌≡◌, ◌≢◌, ◌⊎◌, ◌<◌, ◌≤◌, ◌+◌, Bool, true, false, cond, List, [], ◌∷◌, ◌++◌, length, map, take, drop, All, Option, Some, None, Result, Ok, Err, IfErr, IsErrAnd, slice_get}
+use Rattle.std.specs.Int.{int_rem_euclid}
 use Rattle.std.specs.declared.vec.Vec.{Vec}
 use Rattle.std.specs.declared.alloc.Global.{Global}
-use Rattle.std.proofs.Common.{sym, ◌∙◌, ap, subst, arith, refl, inl, inr, get_or, append_assoc}
+use Rattle.std.proofs.Common.{sym, ◌∙◌, ap, subst, arith, refl, inl, inr, get_or}
 use Rattle.std.proofs.lemmas.Int.{ints}
 use Rattle.std.proofs.lemmas.Option.{slice_get-get_or, slice_get_within, get_or_from_slice_get}
 use lib.IntN.{ℤ, pos, ◌+ℤ◌, ◌*ℤ◌, neg_ℤ}
@@ -17,10 +17,10 @@ use Rattle.int_simplex.specs.Farkas.{turned}
 use Rattle.int_simplex.specs.Making.{IsMadeTo}
 use Rattle.int_simplex.proofs.Crossings.{made_skip, made_more}
 use Rattle.int_simplex.proofs.Places.{same_some, mapped_at}
-use Rattle.int_simplex.proofs.Rests.{take-next, take-whole}
+use Rattle.int_simplex.proofs.Rests.{take-next}
 use Rattle.int_simplex.proofs.Sparse.{is_other}
 use Rattle.int_cuts.specs.Cuts.{remainder}
-use Rattle.int_cuts.specs.Parts.{facing, differ, IsPart, IsPartOf, IsPushed, AreParts, IsGrown, coefficient_by, row_of, sum_by, factor_of, IsStepPast, IsSumPast}
+use Rattle.int_cuts.specs.Parts.{facing, differ, IsPartOf, IsPushed, AreParts, IsGrown, coefficient_by, row_of, sum_by, factor_of, IsStepPast, IsSumPast}
 use Rattle.int_cuts.specs.declared.parts.Part.{Part}
 use Rattle.int_cuts.proofs.Remainders.{opposite_none}
 

@@ -1,5 +1,5 @@
 -- Cuts of rows (R. E. Gomory, Outline of an algorithm for integer solutions to linear programs, 1958).
-use Rattle.std.specs.Prelude.{ℕ, ◌≡◌, ◌≢◌, ◌⊎◌, ◌<◌, Bool, true, false, List, ◌++◌, map, All, Contains, Some, slice_get, unsigned_abs}
+use Rattle.std.specs.Prelude.{ℕ, ◌≡◌, ◌≢◌, ◌⊎◌, ◌<◌, Bool, false, List, ◌++◌, map, All, Contains, Some, slice_get, unsigned_abs}
 use Rattle.std.specs.Int.{int_div_euclid, int_rem_euclid}
 use lib.IntN.{ℤ, pos, ◌+ℤ◌, ◌*ℤ◌, neg_ℤ}
 use lib.Signed.{◌≤ℤ◌, ◌<ℤ◌}

@@ -1,5 +1,5 @@
 -- How a row's cut is made.
-use Rattle.std.specs.Prelude.{ℕ, ◌≡◌, ◌≢◌, ◌⊎◌, ◌<◌, ◌==◌, Bool, true, false, cond, List, [], ◌∷◌, ◌++◌, length, map, take, All, Contains, Option, Some, None, slice_get, unsigned_abs}
+use Rattle.std.specs.Prelude.{ℕ, ◌≡◌, ◌≢◌, ◌⊎◌, ◌<◌, ◌==◌, Bool, true, false, cond, List, [], ◌∷◌, ◌++◌, length, map, take, All, Option, Some, None, slice_get}
 use Rattle.std.specs.Int.{int_div_euclid, int_rem_euclid}
 use lib.IntN.{ℤ, pos, ◌+ℤ◌, ◌-ℤ◌, ◌*ℤ◌, neg_ℤ}
 use lib.Signed.{◌<ℤ◌}
@@ -10,7 +10,7 @@ use Rattle.proof_steps.specs.declared.Source.{Source}
 use Rattle.proof_steps.specs.declared.Source.TheVariants.{Literal}
 use Rattle.proof_steps.specs.View.{Sum, Inequality, line_view, atom_view}
 use Rattle.proof_steps.specs.Rows.{entry, AllDiffer}
-use Rattle.int_simplex.specs.State.{Standing, State}
+use Rattle.int_simplex.specs.State.{State}
 use Rattle.int_simplex.specs.Bounds.{tightest}
 use Rattle.int_simplex.specs.Given.{column_of, last_column, IsInOrder, IsWithin, HasNoZero}
 use Rattle.int_simplex.specs.Farkas.{turned}

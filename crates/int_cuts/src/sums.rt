@@ -64,11 +64,7 @@ fn with_product(sum: i128, upper: bool, m: i128, f: i128) -> Result<i128, Past>
 
 // The sum of the parts' bounds, each times its multiplier: the right side, or the coefficient of the
 // variable.
-fn sum_of(
-    given: &[Vec<(u32, i128)>],
-    parts: &[Part],
-    variable: Option<u32>,
-) -> Result<i128, Past>
+fn sum_of(given: &[Vec<(u32, i128)>], parts: &[Part], variable: Option<u32>) -> Result<i128, Past>
     requires distinct { AreDistinct (map row_view given.now) }
     requires defined { AreDefined (length given.now) parts.now }
     ensures sum { IfOk result (λ z. z ≡ sum_by (map row_view given.now) variable parts.now) }
@@ -128,10 +124,7 @@ pub(crate) fn bound_of(given: &[Vec<(u32, i128)>], parts: &[Part], d: i128) -> R
 }
 
 // The parts' multipliers, each with its literal.
-pub(crate) fn sources_of(
-    alloc: Global,
-    parts: &[Part],
-) -> Result<Vec<(i128, Source)>, AllocError>
+pub(crate) fn sources_of(alloc: Global, parts: &[Part]) -> Result<Vec<(i128, Source)>, AllocError>
     ensures { IfOk result (λ v. v.items ≡ parts_line parts.now) }
 {
     let mut sources = Vec::new(alloc);

@@ -39,3 +39,4 @@ pub mod Kept
 pub mod Crossings
 pub mod Sorting
 pub mod OnRows
+pub mod Calls

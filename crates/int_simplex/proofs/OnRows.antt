@@ -65,17 +65,19 @@ module _ (s : State) (sound : IsSound s) (free : IsFree s.given s.basis) (p : Po
   met x i =
       let l = in-columns x i in
       let v = listed x l in
-      let w = sound.inside x v.0 i v.1 in
-      (combined w.multipliers s.given, record {
-        combination = made_combination s.given w.multipliers (apart s.given s.columns sound.given) w.value.row.multipliers;
-        has_entry = w.value.row.has_entry;
-        alone = w.value.row.alone;
-        sum = split-on (combined w.multipliers s.given) (places_of s.values) p.tops p.bottom x s.columns l
-            (λ c k d. one x w c k d (by_test (is_in s.basis c)))
-            ∙ ap (λ z. z *ℤ p.bottom +ℤ combined w.multipliers s.given x *ℤ p.tops x) w.value.numerator
-            ∙ ap (λ z. w.top *ℤ p.bottom +ℤ z *ℤ p.tops x) w.value.denominator
-            ∙ value-sum w.top w.bottom p.bottom (p.tops x) v.0.0 v.0.1 (no-divisor v.0.1 (positive x v.0 v.1)) w.same (h.same x v.0 v.1);
-      }) where
+      let w = sound.inside x v.0 i v.1 in (
+        combined w.multipliers s.given,
+        record {
+          combination = made_combination s.given w.multipliers (apart s.given s.columns sound.given) w.value.row.multipliers;
+          has_entry = w.value.row.has_entry;
+          alone = w.value.row.alone;
+          sum = split-on (combined w.multipliers s.given) (places_of s.values) p.tops p.bottom x s.columns l
+              (λ c k d. one x w c k d (by_test (is_in s.basis c)))
+              ∙ ap (λ z. z *ℤ p.bottom +ℤ combined w.multipliers s.given x *ℤ p.tops x) w.value.numerator
+              ∙ ap (λ z. w.top *ℤ p.bottom +ℤ z *ℤ p.tops x) w.value.denominator
+              ∙ value-sum w.top w.bottom p.bottom (p.tops x) v.0.0 v.0.1 (no-divisor v.0.1 (positive x v.0 v.1)) w.same (h.same x v.0 v.1);
+        },
+      ) where
         one : (x : ℕ) {v : ℤ × ℤ} (w : IsValueOf s x v) (c : ℕ) → c < s.columns → c ≢ x → ((is_in s.basis c ≡ true) ⊎ (is_in s.basis c ≡ false))
             → combined w.multipliers s.given c *ℤ p.tops c ≡ (combined w.multipliers s.given c *ℤ places_of s.values c) *ℤ p.bottom
         one x w c k d (inl t) = both-none (combined w.multipliers s.given c) (p.tops c) (places_of s.values c) p.bottom (w.value.row.alone c (in_yes s.basis c t) d)

@@ -17,3 +17,4 @@ pub mod Choosing
 pub mod Refuting
 pub mod Running
 pub mod OnRows
+pub mod Calls

@@ -9,6 +9,9 @@ returns-in-Some-loose_in c =
       in_order = c.in-Some-row.ensures.in_order;
       in_range = c.in-Some-row.ensures.in_range;
       entries = c.in-Some-row.ensures.entries;
-    } in
-    (c.in-Some.x, c.in-Some.field-0-1, c.in-Some.ensures,
-    loose_is c.args.tableau.now c.in-Some.x c.in-Some-loose_in.column c.in-Some-row.row.now r c.in-Some-loose_in.ensures)
+    } in (
+      c.in-Some.x,
+      c.in-Some.field-0-1,
+      c.in-Some.ensures,
+      loose_is c.args.tableau.now c.in-Some.x c.in-Some-loose_in.column c.in-Some-row.row.now r c.in-Some-loose_in.ensures,
+    )

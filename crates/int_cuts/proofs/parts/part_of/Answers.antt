@@ -1,7 +1,7 @@
 use Rattle.std.specs.Int.{w128, int_rem_euclid}
 use Rattle.std.specs.Prelude.{◌≡◌, Bool, cond}
-use Rattle.std.proofs.Common.{rules, ap, subst, inl, inr}
-use mir.Val.{SFits, to_z, of_z}
+use Rattle.std.proofs.Common.{rules, ap, subst, inr}
+use mir.Val.{SFits, to_z}
 use Rattle.std.proofs.lemmas.Int.{to_z-of_z}
 use lib.IntN.{pos, neg_ℤ}
 use Rattle.int_cuts.proofs.Steps.{facing_none}

@@ -1,5 +1,4 @@
 use Rattle.std.specs.Int.{w128}
-use Rattle.std.proofs.Common.{rules}
 use lib.IntN.{pos}
 use mir.Val.{SFits}
 use Rattle.std.proofs.lemmas.Int.{to_z-of_z}

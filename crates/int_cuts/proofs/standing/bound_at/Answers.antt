@@ -1,4 +1,3 @@
-use Rattle.std.specs.Prelude.{Option}
 use Rattle.std.proofs.Common.{subst}
 use Rattle.int_cuts.specs.Parts.{IsAtLimit}
 use Rattle.int_cuts.proofs.Stands.{none_at}

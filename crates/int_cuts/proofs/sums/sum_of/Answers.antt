@@ -1,17 +1,13 @@
 use Rattle.std.specs.Int.{w128}
-use Rattle.std.specs.Prelude.{◌≡◌, Result, Ok, Err, IfErr, IsErrAnd, false, None, List, Option}
-use Rattle.std.proofs.Common.{rules, get_or, sym, subst}
+use Rattle.std.specs.Prelude.{false, None}
+use Rattle.std.proofs.Common.{rules, get_or}
 use mir.Val.{SFits, to_z}
-use lib.IntN.{ℤ, pos}
+use lib.IntN.{pos}
 use Rattle.std.proofs.lemmas.Int.{to_z-of_z}
-use Rattle.kind_num.specs.declared.Past.{Past}
 use Rattle.proof_steps.specs.View.{row_view}
 use Rattle.std.specs.Prelude.{map}
-use Rattle.int_cuts.specs.declared.parts.Part.{Part}
-use Rattle.int_cuts.specs.Parts.{IsSumPast}
 use Rattle.int_cuts.proofs.Steps.{sum_next, sum_past, sum_result}
 use Rattle.int_cuts.proofs.sums.sum_of.Goals as goal
-
 
 pub returns-in_err-sum-clause-past : goal.returns-in_err-sum-clause-past
 returns-in_err-sum-clause-past c =
