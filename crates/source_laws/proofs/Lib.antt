@@ -1,0 +1,14 @@
+pub mod Lists
+pub mod Parts
+pub mod Marks
+pub mod Tokens
+pub mod Words
+pub mod Made
+pub mod Lines
+pub mod ExpressionLines
+pub mod ItemLines
+pub mod DeclarationLines
+pub mod Read
+pub mod Plain
+pub mod Identified
+pub mod Grammatical
