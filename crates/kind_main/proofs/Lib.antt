@@ -5,3 +5,6 @@ pub mod Printing
 pub mod Answering
 pub mod Leaving
 pub mod Replayed
+pub mod BrokenBy
+pub mod Verdicts
+pub mod Cutting
