@@ -1,0 +1,13 @@
+pub mod Lists
+pub mod Marks
+pub mod Literals
+pub mod Words
+pub mod Parts
+pub mod Names
+pub mod Items
+pub mod Declarations
+pub mod Made
+pub mod Plain
+pub mod Expressions
+pub mod Identified
+pub mod Grammatical
