@@ -1,6 +1,6 @@
 -- What the answers of the solver say of a property.
 use Rattle.std.specs.Prelude.{ℕ, zero, suc, ◌≡◌, ◌≢◌, ◌<◌, ◌≤◌, true, false, List, [], ◌∷◌, ◌++◌, length, All, Some, None, Option, slice_get, refl}
-use Rattle.std.proofs.Common.{ap, sym, subst, ◌∙◌, arith}
+use Rattle.std.proofs.Common.{ap, sym, subst, ◌∙◌, arith, rules, ◌⊎◌, inl, inr}
 use Rattle.proof_steps.specs.View.{Refutation}
 use Rattle.proof_steps.specs.StopView.{Halt}
 use Rattle.proof_steps.specs.declared.stops.Budgets.{Budgets}
@@ -14,7 +14,7 @@ use Rattle.smt_solver.specs.View.{unsat, sat, stop}
 use Rattle.smt_solver.specs.Answered.{IsAnswered, StopsByConflicts}
 use Rattle.cert_rules.specs.Facts.{IsRefuted}
 use Rattle.cert_rules.proofs.Paths.{Which, which, is_true, is_false, path-front}
-use Rattle.induction.specs.Found.{IsStopped}
+use Rattle.induction.specs.Found.{AreRefutedBefore, IsStopped, IsBoundedWhy, IsStepWhy, IsStuck, StopsAtStep, StopsAtBase, depth, stopped}
 
 -- what is refuted has no answer
 abbrev pub NoAnswers : Type 0
@@ -76,3 +76,31 @@ module _ (m : Machine) (p : ℕ) (named : p < length m.properties) where
       by_first : Which (property_term m p) s → Breaks m p (s ∷ t ∷ []) × (length (s ∷ t ∷ []) ≤ 2)
       by_first (is_true h) = (broken_by (s ∷ t ∷ []) a.path (h, a.against), omega arith)
       by_first (is_false h) = absurd (none m (base p 0) [] proof (s ∷ []) fit asked refl r (first_of s t a h))
+
+-- ---- causes
+
+module _ (m : Machine) (budgets : Budgets) (p : ℕ) where
+  none_before : AreRefutedBefore m p 0
+  none_before j lt = absurd (omega (arith, lt))
+
+  one_before : (r : Refutation) → IsRefuted m (base p 0) [] r → AreRefutedBefore m p 1
+  one_before r h zero lt = (r, h)
+  one_before r h (suc j) lt = absurd (omega (arith, lt))
+
+  pub stops_at_first : (h : Halt) → IsStopped m budgets (base p 0) h → IsBoundedWhy m budgets 1 p (stopped h)
+  stops_at_first h s = (0, omega arith, none_before, s)
+
+  pub stops_at_second : (r : Refutation) → IsRefuted m (base p 0) [] r → (h : Halt) → IsStopped m budgets (base p 1) h → IsBoundedWhy m budgets 1 p (stopped h)
+  stops_at_second r e h s = (1, omega arith, one_before r e, s)
+
+  pub stuck : (states : List (List Entry)) → IsAnswer m (step p 1) [] states → IsStepWhy m budgets 1 p (depth 1)
+  stuck states a = (refl, (states, a))
+
+  no_less : (k : ℕ) → 0 ≡ suc k → IsStuck m p 0
+  no_less k e = absurd cc
+
+  pub stops_at_step : (h : Halt) → IsStopped m budgets (step p 1) h → IsStepWhy m budgets 1 p (stopped h)
+  stops_at_step h s = inl (record { before = 0; within = omega arith; stuck = no_less; stops = s })
+
+  pub stops_at_base : (r : Refutation) → IsRefuted m (step p 1) [] r → (h : Halt) → IsStopped m budgets (base p 0) h → IsStepWhy m budgets 1 p (stopped h)
+  stops_at_base r e h s = inr (record { k = 1; within = omega arith; instant = 0; below = omega arith; proof = r; is_refuted = e; stops = s })

@@ -1,7 +1,7 @@
 //! Decides a property.
 
-ghost use Rattle.std.specs.Prelude.{◌≡◌, ◌<◌, [], length, IfOk};
-ghost use Rattle.proof_steps.specs.View.{proof_view};
+ghost use Rattle.std.specs.Prelude.{◌≡◌, ◌<◌, [], length, map, IfOk};
+ghost use Rattle.proof_steps.specs.View.{clause_view, proof_view};
 ghost use Rattle.proof_steps.specs.StopView.{stop_view};
 ghost use Rattle.sys_terms.specs.View.{system_view, base};
 ghost use Rattle.smt_solver.specs.Answered.{IsConflicts};
@@ -93,8 +93,35 @@ fn founded(
         Answer::Unsat(step) => Ok(Verdict::Valid(held(alloc, system, property, first, &step)?)),
         Answer::Sat(_) => at_one(alloc, system, property, budgets, first, Cause::Depth(1)),
         Answer::Stop(stop) => {
-            at_one(alloc, system, property, budgets, first, Cause::Stopped(stop))
+            at_one(
+                alloc,
+                system,
+                property,
+                budgets,
+                first,
+                Cause::Stopped(stop),
+            )
         }
+    }
+}
+
+/// Why induction leaves a property undecided whose query at instant 0 stops.
+fn step_cause(
+    alloc: Global,
+    system: &System,
+    property: u32,
+    budgets: Budgets,
+    first: &Stop,
+) -> Result<Cause, DecideFault>
+    requires ready { IsReady (system_view system.now) }
+    requires named { property < length (system_view system.now).properties }
+    requires stopped { IsStopped (system_view system.now) budgets (base property 0) (stop_view first.now) }
+    ensures { IfOk result (λ c. IsStepWhy (system_view system.now) budgets 1 property (why_view c)) }
+{
+    match after_one(alloc, system, property, budgets)? {
+        Answer::Sat(_) => Ok(Cause::Depth(1)),
+        Answer::Stop(stop) => Ok(Cause::Stopped(stop)),
+        Answer::Unsat(_) => Ok(Cause::Stopped(copied_stop(alloc, first)?)),
     }
 }
 
@@ -104,20 +131,16 @@ fn unfounded(
     system: &System,
     property: u32,
     budgets: Budgets,
-    stop: Stop,
+    first: Stop,
 ) -> Result<Verdict, DecideFault>
     requires ready { IsReady (system_view system.now) }
     requires named { property < length (system_view system.now).properties }
-    requires stopped { IsStopped (system_view system.now) budgets (base property 0) (stop_view stop) }
+    requires stopped { IsStopped (system_view system.now) budgets (base property 0) (stop_view first) }
     ensures { IfOk result (λ v. IsFound (system_view system.now) budgets property (found_view v)) }
 {
-    let step = match after_one(alloc, system, property, budgets)? {
-        Answer::Sat(_) => Cause::Depth(1),
-        Answer::Stop(stop) => Cause::Stopped(stop),
-        Answer::Unsat(_) => Cause::Stopped(copied_stop(alloc, &stop)?),
-    };
+    let step = step_cause(alloc, system, property, budgets, &first)?;
     Ok(Verdict::Unknown {
-        bounded: Cause::Stopped(stop),
+        bounded: Cause::Stopped(first),
         step,
     })
 }

@@ -8,3 +8,4 @@ pub mod Replayed
 pub mod BrokenBy
 pub mod Verdicts
 pub mod Cutting
+pub mod Readable
