@@ -7,4 +7,6 @@ mod Within
 mod Conditioned
 mod Translated
 mod Few
+mod Mild
 mod Traced
+mod Printed

@@ -8,7 +8,7 @@ use Rattle.lus_meaning.specs.Depends.{named_in}
 use Rattle.name_table.specs.Names.{number_of}
 use Rattle.sys_build.specs.Numbering.{Numbering, width_of}
 
-number_below : (xs : List Name) (x : Name) → named_in x xs ≡ true → number_of xs x < length xs
+pub number_below : (xs : List Name) (x : Name) → named_in x xs ≡ true → number_of xs x < length xs
 number_below [] x e = absurd (false≢true e)
 number_below (y ∷ xs) x e = go (bytes_eq x y) (number_below xs x) e
   where

@@ -1,45 +1,52 @@
--- The lines of a path's trace, by the numbers of the variables.
-use Rattle.std.proofs.Common.{◌≡◌, ◌≢◌, ℕ, zero, suc, ◌+◌, ◌≤◌, ◌<◌, Bool, true, false, cond, ◌||◌, is_some, List, [], ◌∷◌, ◌++◌, map, flat_map, length, get_or, refl, ap, ◌∙◌, sym, subst, arith, append_assoc, Some, Result, Ok, Err, IfOk}
+-- The lines of the trace of states, by the numbers of the variables.
+use Rattle.std.proofs.Common.{◌≡◌, ℕ, suc, ◌+◌, ◌≤◌, ◌<◌, Bool, true, false, cond, ◌||◌, is_some, List, [], ◌∷◌, ◌++◌, map, flat_map, length, get_or, refl, ap, ◌∙◌, sym, subst, arith, append_assoc, Some, Result, Ok, Err, IfOk}
 use Rattle.std.specs.List.{AllByRecursion, list_any}
 use Rattle.std.specs.Str.{bytes_eq}
 use Rattle.std.specs.String.{string_bytes}
 use Rattle.std.proofs.lemmas.Grind.{flat_map-append}
 use Rattle.lus_tree.specs.declared.place.Pos.{Pos}
+use Rattle.lus_tree.specs.declared.place.Sort.{Sort}
+use Rattle.lus_tree.specs.declared.place.Sort.TheVariants.{Bool as Flags}
 use Rattle.lus_tree.specs.Tree.{Name, Variable, Component, Program}
 use Rattle.lus_tree.specs.Numbers.{counting, body_pres, IsNumbered}
 use Rattle.lus_meaning.specs.declared.trace.TraceLine.{TraceLine}
 use Rattle.lus_meaning.specs.declared.trace.Trace.{Trace}
-use Rattle.lus_meaning.specs.Value.{Value}
-use Rattle.lus_meaning.specs.Scene.{Instance, instance, no_instances, variables}
+use Rattle.lus_meaning.specs.Value.{Value, absent, flag, Stream}
+use Rattle.lus_meaning.specs.Frame.{Frame, entry}
+use Rattle.lus_meaning.specs.Scene.{base, Instance, instance, no_instances, variables}
 use Rattle.lus_meaning.specs.Program.{instance_of}
-use Rattle.lus_meaning.specs.Run.{Equation, body_equations, first_sorts}
+use Rattle.lus_meaning.specs.Run.{Equation, body_equations, first_sorts, sort_of_name}
+use Rattle.lus_meaning.specs.Recompute.{sample}
+use Rattle.lus_meaning.specs.Verdict.{throughout}
 use Rattle.lus_meaning.specs.Rules.{names_of}
 use Rattle.lus_meaning.specs.Depends.{named_in}
-use Rattle.lus_meaning.specs.Trace.{Subject, of_name, of_first, Line, is_defined, free_names}
+use Rattle.lus_meaning.specs.Trace.{Subject, Line, is_defined, free_names}
 use Rattle.lus_meaning.specs.TraceView.{all_at, bare_values, bare_line, bare_view, line_view, trace_view, unplaced}
-use Rattle.lus_meaning.specs.BooleanRules.{IsBooleanNode, HasBooleanNames, IsBooleanChecked}
+use Rattle.lus_meaning.specs.BooleanRules.{IsBooleanNode, IsBooleanChecked}
 use Rattle.lus_meaning.proofs.Exists.{length_mapped}
-use Rattle.lus_meaning.proofs.Lists.{map_append, both_parts}
+use Rattle.lus_meaning.proofs.Lists.{append_none}
 use Rattle.lus_meaning.proofs.Now.{left_part, right_part}
-use Rattle.lus_meaning.proofs.BooleanNode.{boolean_equations, boolean_variables, boolean_checked_instance}
-use Rattle.lus_meaning.proofs.BooleanFirsts.{boolean_firsts}
+use Rattle.lus_meaning.proofs.BooleanNode.{boolean_equations, boolean_variables, boolean_on_base, boolean_checked_instance}
+use Rattle.lus_meaning.proofs.BooleanFirsts.{boolean_name_is_flag, boolean_firsts}
 use Rattle.sys_terms.specs.declared.term.Entry.{Entry}
 use Rattle.sys_terms.specs.declared.term.State.{State}
-use Rattle.sys_terms.specs.Paths.{IsPath}
-use Rattle.sys_terms.specs.View.{Machine, states_view}
-use Rattle.sys_meaning.specs.System.{system_of}
-use Rattle.sys_meaning.specs.Path.{trace_of}
-use Rattle.sys_meaning.specs.Checked as checked
+use Rattle.sys_terms.specs.Meaning.{truth_of}
+use Rattle.sys_terms.specs.View.{states_view}
+use Rattle.sys_meaning.specs.Slot.{Place, named, own}
+use Rattle.sys_meaning.specs.Part.{value_in}
+use Rattle.sys_meaning.specs.Translate.{present}
+use Rattle.sys_meaning.specs.System.{number_of}
+use Rattle.sys_meaning.specs.Path.{Course, course_of, bare_stage, firsts_by, frame_of_path, name_lines, first_lines, trace_of}
 use Rattle.sys_meaning.specs.Checked.{IsTraceOf}
+use Rattle.sys_meaning.proofs.Back.{entry_by}
 use Rattle.sys_meaning.proofs.CheckedFits.{listed_each}
 use Rattle.sys_meaning.proofs.CheckedTrace.{free_part}
-use Rattle.sys_meaning.proofs.CheckedLines as by_states
 use Rattle.sys_build.specs.Occurring.{Kept, kept_of}
-use Rattle.sys_build.specs.Numbering.{Numbering, numbering_of}
+use Rattle.sys_build.specs.Numbering.{Numbering, numbering_of, name_number}
 use Rattle.sys_build.specs.Conditions.{right_of}
-use Rattle.sys_build.specs.Tracing.{truth_in, own_line, name_line, first_line, free_lines, boolean_lines}
+use Rattle.sys_build.specs.Tracing.{value_at, own_line, name_line, first_line, free_lines, boolean_lines}
 use Rattle.sys_build.proofs.Occurrences.{body_kept_numbers}
-use Rattle.sys_build.proofs.Places.{name_is, memory_is}
+use Rattle.sys_build.proofs.Places.{beat_number, name_is, memory_is}
 use Rattle.sys_build.proofs.Few.{one_component}
 
 -- ---- a line that stands in no text
@@ -84,9 +91,22 @@ module _ (d : Component) (node : IsBooleanNode d) where
       go true r = r
       go false r = ap (λ (ls : List Line). name_line n states v ∷ ls) r
 
+-- ---- what a name is in each state
+
+-- a sample of what is read of each state
+sampled_states : (h : List Entry → Value) (states : List (List Entry)) (xs : Stream) →
+    ((t : ℕ) → t < length states → xs t ≡ h (get_or states t [])) → sample (length states) xs ≡ map h states
+sampled_states h [] xs e = refl
+sampled_states h (s ∷ states) xs e =
+    rw (e 0 (omega arith), sampled_states h states (λ t. xs (suc t)) (λ t l. e (suc t) (omega arith))) refl
+
+all_flags : {A : Type 0} (xs : List A) → AllByRecursion (λ s. s ≡ Flags) (map (λ _. Flags) xs)
+all_flags [] = tt
+all_flags (x ∷ xs) = (refl, all_flags xs)
+
 -- ---- by the numbers of the variables
 
-module _ (d : Component) (node : IsBooleanNode d) (names : HasBooleanNames d) (numbered : IsNumbered d) (states : List (List Entry)) where
+module _ (d : Component) (node : IsBooleanNode d) (numbered : IsNumbered d) (states : List (List Entry)) where
   abbrev the_one : Instance
   the_one = instance d [] no_instances
 
@@ -96,26 +116,45 @@ module _ (d : Component) (node : IsBooleanNode d) (names : HasBooleanNames d) (n
   abbrev es : List Equation
   es = body_equations d.body
 
+  abbrev c : Course
+  c = course_of states
+
+  abbrev at : Place → ℕ
+  at = number_of the_one
+
+  abbrev f : Frame
+  f = frame_of_path the_one states
+
   abbrev IsNamed : Variable → Type 0
   IsNamed v = named_in v.name.text (names_of (variables d)) ≡ true
 
-  name_line_is : (v : Variable) → IsNamed v → checked.name_line the_one states v ≡ name_line n states v
-  name_line_is v e = ap (λ (k : ℕ). own_line (of_name v.name.text) (map (truth_in k) states)) (name_is d node numbered v.name.text e)
+  value_is : (x : Name) → named_in x (names_of (variables d)) ≡ true → (t : ℕ) → t < length states →
+      entry f x t ≡ value_at (name_number n x) (get_or states t [])
+  value_is x e t l =
+      entry_by d [] no_instances (λ key. ⊥) at c (length states) throughout [] t l x e
+      ∙ ap (λ k. cond (truth_of (c t) (c t) (present (bare_stage the_one at) k))
+      (value_in (c t) (sort_of_name the_one x) (at (own (named x)))) absent) (boolean_on_base d node x)
+      ∙ ap (λ z. cond (truth_of (c t) (c t) (present (bare_stage the_one at) base))
+      (value_in (c t) z (at (own (named x)))) absent) (boolean_name_is_flag d node x)
+      ∙ ap (λ k. cond ((c t).flag_at k) (flag ((c t).flag_at (at (own (named x))))) absent)
+      (beat_number d node numbered)
+      ∙ ap (λ k. cond ((c t).flag_at 0) (flag ((c t).flag_at k)) absent) (name_is d node numbered x e)
 
-  names_are : (vs : List Variable) → AllByRecursion IsNamed vs → map (checked.name_line the_one states) vs ≡ map (name_line n states) vs
+  names_are : (vs : List Variable) → AllByRecursion IsNamed vs →
+      name_lines [] (length states) f vs ≡ map (name_line n states) vs
   names_are [] a = refl
   names_are (v ∷ vs) a =
-      ap (λ (l : Line). l ∷ map (checked.name_line the_one states) vs) (name_line_is v a.0)
-      ∙ ap (λ (ls : List Line). name_line n states v ∷ ls) (names_are vs a.1)
+      rw (
+        sampled_states (value_at (name_number n v.name.text)) states (entry f v.name.text) (value_is v.name.text a.0),
+        names_are vs a.1,
+      ) refl
 
-  first_line_is : (k : ℕ) → 1 ≤ k → k < 1 + length (kept_of d.body) → checked.first_line the_one states k ≡ first_line n (get_or states 0 []) k
-  first_line_is k l m = ap (λ (j : ℕ). own_line (of_first k) (truth_in j (get_or states 0 []) ∷ [])) (memory_is d node numbered k l m)
-
-  firsts_are : (k j : ℕ) → 1 ≤ k → k + j ≤ 1 + length (kept_of d.body) → map (checked.first_line the_one states) (counting k j) ≡ map (first_line n (get_or states 0 [])) (counting k j)
-  firsts_are k zero l m = refl
-  firsts_are k (suc j) l m =
-      ap (λ (x : Line). x ∷ map (checked.first_line the_one states) (counting (suc k) j)) (first_line_is k l (omega arith))
-      ∙ ap (λ (ls : List Line). first_line n (get_or states 0 []) k ∷ ls) (firsts_are (suc k) j (omega arith) (omega arith))
+  firsts_are : (k : ℕ) (ss : List Sort) → AllByRecursion (λ s. s ≡ Flags) ss → 1 ≤ k →
+      k + length ss ≤ 1 + length (kept_of d.body) →
+      first_lines [] k (firsts_by k ss at c) ≡ map (first_line n (get_or states 0 [])) (counting k (length ss))
+  firsts_are k [] a l m = refl
+  firsts_are k (s ∷ ss) a l m =
+      rw (a.0, memory_is d node numbered k l (omega arith), firsts_are (suc k) ss a.1 (omega arith) (omega arith)) refl
 
   kept_count : length (body_pres d.body) ≡ length (kept_of d.body)
   kept_count = sym (ap length (body_kept_numbers d.body node.items)) ∙ length_mapped (λ (m : Kept). m.number) (kept_of d.body)
@@ -123,49 +162,56 @@ module _ (d : Component) (node : IsBooleanNode d) (names : HasBooleanNames d) (n
   first_count : length (first_sorts the_one) ≡ length (kept_of d.body)
   first_count = ap length (boolean_firsts d node numbered) ∙ length_mapped _ (body_pres d.body) ∙ kept_count
 
+  firsts_listed : first_lines [] 1 (firsts_by 1 (first_sorts the_one) at c)
+      ≡ map (first_line n (get_or states 0 [])) (counting 1 (length (kept_of d.body)))
+  firsts_listed =
+      let sorts : AllByRecursion (λ s. s ≡ Flags) (first_sorts the_one) =
+      subst (AllByRecursion (λ s. s ≡ Flags)) (sym (boolean_firsts d node numbered)) (all_flags (body_pres d.body)) in
+      let count : length (first_sorts the_one) ≡ length (kept_of d.body) = first_count in
+      firsts_are 1 (first_sorts the_one) sorts (omega arith) (omega (arith, count))
+      ∙ ap (λ (k : ℕ). map (first_line n (get_or states 0 [])) (counting 1 k)) count
+
   declared : AllByRecursion IsNamed (d.inputs ++ (d.outputs ++ d.locals))
   declared = subst (AllByRecursion IsNamed) (boolean_variables d node) (listed_each (variables d))
-
-  open_named : AllByRecursion IsNamed (d.inputs ++ free_names d)
-  open_named =
-      both_parts IsNamed d.inputs (free_names d) (left_part IsNamed d.inputs (d.outputs ++ d.locals) declared)
-      (free_part IsNamed d (d.outputs ++ d.locals) (right_part IsNamed d.inputs (d.outputs ++ d.locals) declared))
 
   free_split : map (name_line n states) (free_names d) ≡ free_lines n es states d.outputs ++ free_lines n es states d.locals
   free_split = sym (free_are d node n states (d.outputs ++ d.locals)) ∙ flat_map-append (λ v. cond (is_some (right_of es v.name.text)) [] (name_line n states v ∷ [])) d.outputs d.locals
 
-  four : (ks bs cs ms : List Line) → (ks ++ (bs ++ cs)) ++ ms ≡ ks ++ (bs ++ (cs ++ ms))
-  four ks bs cs ms = append_assoc ks (bs ++ cs) ms ∙ ap (λ (ls : List Line). ks ++ ls) (append_assoc bs cs ms)
-
-  lines_are : IsPath (system_of the_one) states → trace_of the_one states ≡ boolean_lines d states
-  lines_are path =
-      let firsts : List Line = map (first_line n (get_or states 0 [])) (counting 1 (length (kept_of d.body))) in
-      by_states.boolean_lines d node names numbered states path
-      ∙ ap (λ (k : ℕ). map (checked.name_line the_one states) (d.inputs ++ free_names d) ++ map (checked.first_line the_one states) (counting 1 k)) first_count
-      ∙ ap (λ (ls : List Line). map (checked.name_line the_one states) (d.inputs ++ free_names d) ++ ls) (firsts_are 1 (length (kept_of d.body)) (omega arith) (omega arith))
-      ∙ ap (λ (ls : List Line). ls ++ firsts) (names_are (d.inputs ++ free_names d) open_named
-      ∙ map_append (name_line n states) d.inputs (free_names d)
-      ∙ ap (λ (ls : List Line). map (name_line n states) d.inputs ++ ls) free_split)
-      ∙ four (map (name_line n states) d.inputs) (free_lines n es states d.outputs) (free_lines n es states d.locals) firsts
+  lines_are : trace_of the_one states ≡ boolean_lines d states
+  lines_are =
+      let inputs : List Line = name_lines [] (length states) f d.inputs in
+      let free : List Line = name_lines [] (length states) f (free_names d) in
+      let firsts : List Line = first_lines [] 1 (firsts_by 1 (first_sorts the_one) at c) in
+      let outs : List Line = free_lines n es states d.outputs in
+      let locals : List Line = free_lines n es states d.locals in
+      ap (λ (ls : List Line). inputs ++ ls) (append_none (free ++ firsts))
+      ∙ ap (λ (ls : List Line). ls ++ (free ++ firsts))
+      (names_are d.inputs (left_part IsNamed d.inputs (d.outputs ++ d.locals) declared))
+      ∙ ap (λ (ls : List Line). map (name_line n states) d.inputs ++ (ls ++ firsts)) (names_are (free_names d)
+      (free_part IsNamed d (d.outputs ++ d.locals) (right_part IsNamed d.inputs (d.outputs ++ d.locals) declared))
+      ∙ free_split)
+      ∙ ap (λ (ls : List Line). map (name_line n states) d.inputs ++ ls) (append_assoc outs locals firsts)
+      ∙ ap (λ (ls : List Line). map (name_line n states) d.inputs ++ (outs ++ (locals ++ ls))) firsts_listed
 
 -- ---- of a checked program
 
-pub path_lines : (p : Program) (d : Component) (states : List (List Entry)) → IsBooleanChecked p d → IsPath (system_of (instance_of p d)) states → boolean_lines d states ≡ trace_of (instance_of p d) states
-path_lines p d states h = subst (λ (i : Instance). IsPath (system_of i) states → boolean_lines d states ≡ trace_of i states) (sym (boolean_checked_instance p d h))
-    (λ path. sym (lines_are d h.rules.shape h.rules.names h.numbered states path))
-
--- a path has a state
-pub some_states : (m : Machine) (states : List State) → IsPath m (states_view states) → states ≢ []
-some_states m states path e = path.loose.some (ap states_view e)
+states_lines : (p : Program) (d : Component) (states : List (List Entry)) → IsBooleanChecked p d →
+    boolean_lines d states ≡ trace_of (instance_of p d) states
+states_lines p d states h =
+    sym (lines_are d h.rules.shape h.numbered states)
+    ∙ ap (λ (i : Instance). trace_of i states) (sym (boolean_checked_instance p d h))
 
 lines_bare : (ls : List TraceLine) → map bare_line (map line_view ls) ≡ map bare_view ls
 lines_bare [] = refl
 lines_bare (l ∷ ls) = ap (λ (ks : List Line). bare_view l ∷ ks) (lines_bare ls)
 
--- a trace with the lines of a path is the path's
-pub is_trace : (p : Program) (d e : Component) (states : List State) (t : Trace) → IsBooleanChecked p d → IsBooleanChecked p e → IsPath (system_of (instance_of p d)) (states_view states) → string_bytes t.node ≡ d.name.text → t.length ≡ length states → map bare_view t.lines.items ≡ boolean_lines d (states_view states) → IsTraceOf p e (states_view states) (trace_view t)
-is_trace p d e states t g h path name count lines = subst (λ (c : Component). IsTraceOf p c (states_view states) (trace_view t)) (one_component p d e g h) record {
+-- a trace with the lines of these states is theirs
+pub is_trace : (p : Program) (d e : Component) (states : List State) (t : Trace) → IsBooleanChecked p d →
+    IsBooleanChecked p e → string_bytes t.node ≡ d.name.text → t.length ≡ length states →
+    map bare_view t.lines.items ≡ boolean_lines d (states_view states) →
+    IsTraceOf p e (states_view states) (trace_view t)
+is_trace p d e states t g h name count lines = subst (λ (c : Component). IsTraceOf p c (states_view states) (trace_view t)) (one_component p d e g h) record {
   node = name;
   length = count ∙ sym (length_mapped _ states);
-  lines = lines_bare t.lines.items ∙ lines ∙ path_lines p d (states_view states) g path;
+  lines = lines_bare t.lines.items ∙ lines ∙ states_lines p d (states_view states) g;
 }

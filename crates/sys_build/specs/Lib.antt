@@ -5,3 +5,4 @@ pub mod Conditions
 pub mod Tables
 pub mod Laws
 pub mod Tracing
+pub mod Printed

@@ -1,8 +1,8 @@
--- The lines of the trace of a path of a Boolean node's system.
+-- The lines of the trace of states of a Boolean node's system.
 use Rattle.std.specs.Prelude.{ℕ, cond, is_some, List, [], ◌∷◌, ◌++◌, map, flat_map, get_or}
 use Rattle.lus_tree.specs.Tree.{Variable, Component}
 use Rattle.lus_tree.specs.Numbers.{counting}
-use Rattle.lus_meaning.specs.Value.{Value, flag}
+use Rattle.lus_meaning.specs.Value.{Value, absent, flag}
 use Rattle.lus_meaning.specs.Run.{Equation, body_equations}
 use Rattle.lus_meaning.specs.Trace.{Subject, of_name, of_first, Line}
 use Rattle.sys_terms.specs.declared.term.Entry.{Entry}
@@ -14,13 +14,17 @@ use Rattle.sys_build.specs.Conditions.{right_of}
 abbrev pub truth_in : ℕ → List Entry → Value
 truth_in k s = flag ((values_of s).flag_at k)
 
+-- what a name is in a state: absent where the node isn't active
+abbrev pub value_at : ℕ → List Entry → Value
+value_at k s = cond ((values_of s).flag_at 0) (truth_in k s) absent
+
 -- a line of the node itself
 abbrev pub own_line : Subject → List Value → Line
 own_line x vs = record { path = []; subject = x; values = vs }
 
 -- a name at each state, and a first value, which is the memory of its `pre` in the first state
 abbrev pub name_line : Numbering → List (List Entry) → Variable → Line
-name_line n states v = own_line (of_name v.name.text) (map (truth_in (name_number n v.name.text)) states)
+name_line n states v = own_line (of_name v.name.text) (map (value_at (name_number n v.name.text)) states)
 
 abbrev pub first_line : Numbering → List Entry → ℕ → Line
 first_line n s k = own_line (of_first k) (truth_in (memory_number n k) s ∷ [])

@@ -20,7 +20,7 @@ use std::alloc::{AllocError, Global};
 use sys_terms::Term;
 
 /// The number of the variable that says whether the node is active.
-const BEAT: u32 = 0;
+pub(crate) const BEAT: u32 = 0;
 
 /// That a name has the value of its right side.
 fn defined(alloc: Global, numbers: &Numbering, name: &str, side: &Expr) -> Result<Term, AllocError>

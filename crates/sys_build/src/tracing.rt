@@ -1,24 +1,22 @@
-//! The trace of a path of a node's system.
+//! The trace of states of a node's system.
 
 ghost use Rattle.std.specs.Prelude.{◌≡◌, ◌≢◌, ◌++◌, ◌<◌, ◌^◌, ◌∷◌, [], IfOk, OnOk, cond, is_some, get_or, length, map, List};
 ghost use Rattle.lus_tree.specs.Numbers.{counting};
 ghost use Rattle.lus_tree.specs.Tree.{Component};
 ghost use Rattle.lus_tree.specs.View.{node_view, param_view, program_view};
 ghost use Rattle.lus_meaning.specs.BooleanRules.{IsBooleanChecked};
-ghost use Rattle.lus_meaning.specs.Program.{instance_of};
 ghost use Rattle.lus_meaning.specs.Run.{body_equations};
 ghost use Rattle.lus_meaning.specs.Trace.{of_first, of_name};
 ghost use Rattle.lus_meaning.specs.TraceView.{bare_view, entry_view, spot_view, trace_view};
 ghost use Rattle.sys_terms.specs.Meaning.{values_of};
-ghost use Rattle.sys_terms.specs.Paths.{IsPath};
 ghost use Rattle.sys_terms.specs.View.{state_view, states_view};
 ghost use Rattle.sys_meaning.specs.Checked.{IsTraceOf};
-ghost use Rattle.sys_meaning.specs.System.{system_of};
 ghost use Rattle.sys_build.specs.Numbering.{numbering_of, stream_names, width_of};
 ghost use Rattle.sys_build.specs.Conditions.{right_of};
 ghost use Rattle.sys_build.specs.Tables.{KnowsRights};
-ghost use Rattle.sys_build.specs.Tracing.{boolean_lines, first_line, free_lines, name_line, own_line, truth_in};
+ghost use Rattle.sys_build.specs.Tracing.{boolean_lines, first_line, free_lines, name_line, own_line, value_at};
 
+use crate::conditions::BEAT;
 use crate::fault::BuildFault;
 use crate::numbering::{Numbering, counted};
 use crate::occurring::{memories_of, starts_of};
@@ -44,13 +42,24 @@ fn flag_at(state: &State, number: u32) -> bool
     }
 }
 
-/// The values of a variable in these states.
+/// The value of a name's variable in a state, none where the node isn't active.
+fn value_at(state: &State, number: u32) -> Option<Value>
+    ensures { entry_view result ≡ value_at number (state_view state.now) }
+{
+    if flag_at(state, BEAT) {
+        Some(Value::Truth(flag_at(state, number)))
+    } else {
+        None
+    }
+}
+
+/// The values of a name's variable in these states.
 fn values_in(alloc: Global, states: &[State], number: u32) -> Result<Vec<Option<Value>>, AllocError>
-    ensures { IfOk result (λ v. map entry_view v.items ≡ map (truth_in number) (states_view states.now)) }
+    ensures { IfOk result (λ v. map entry_view v.items ≡ map (value_at number) (states_view states.now)) }
 {
     let mut values = Vec::with_capacity(alloc, states.len())?;
     for state in states {
-        values.push(Some(Value::Truth(flag_at(state, number))))?;
+        values.push(value_at(state, number))?;
     }
     Ok(values)
 }
@@ -165,7 +174,7 @@ fn push_firsts(
     Ok(())
 }
 
-/// The lines of a path, by the numbers of the variables.
+/// The lines of these states, by the numbers of the variables.
 fn listed(
     alloc: Global,
     numbers: &Numbering,
@@ -184,7 +193,7 @@ fn listed(
     Ok(lines)
 }
 
-/// The lines of a path of a node's system.
+/// The lines of states of a node's system.
 fn lines_of(
     alloc: Global,
     node: &Node,
@@ -202,16 +211,18 @@ fn lines_of(
     listed(alloc, &numbers, states)
 }
 
-/// The trace of a path of the program's system: what it says of the inputs and the names without an equation at each
-/// state, and the first value of each `pre`. It stands in no text: all its places are line 1, column 1.
+/// The trace of states of the program's system: the value of each input and of each name without an equation in each
+/// state, absent in a state where the node isn't active, and the first value of each `pre`, which is its memory in the
+/// first state. It stands in no text: all its places are line 1, column 1.
 ///
 /// # Errors
 ///
 /// Only want of memory.
 pub fn trace_of(alloc: Global, checked: &Checked, states: &[State]) -> Result<Trace, BuildFault>
-    requires path { (d : Component) → IsBooleanChecked (program_view checked.now) d → IsPath (system_of (instance_of (program_view checked.now) d)) (states_view states.now) }
+    requires some { states.now ≢ [] }
     requires few { length states.now < 2 ^ 32 }
-    ensures { IfOk result (λ t. (d : Component) → IsBooleanChecked (program_view checked.now) d → IsTraceOf (program_view checked.now) d (states_view states.now) (trace_view t)) }
+    ensures exact { IfOk result (λ t. (d : Component) → IsBooleanChecked (program_view checked.now) d
+        → IsTraceOf (program_view checked.now) d (states_view states.now) (trace_view t)) }
 {
     let node = checked.node();
     let lines = lines_of(alloc, node, checked.declared(), states)?;

@@ -1,3 +1,4 @@
 pub mod RichRow
 pub mod AgainstRow
 pub mod AssumingRow
+pub mod PlaceRows

@@ -1,9 +1,7 @@
 use Rattle.std.proofs.Common.{rules, refl, length}
 use Rattle.lus_tree.specs.View.{node_view, program_view}
-use Rattle.lus_meaning.specs.Program.{instance_of}
-use Rattle.sys_meaning.specs.System.{system_of}
 use Rattle.sys_build.proofs.Few.{declared_streams, few_variables}
-use Rattle.sys_build.proofs.Traced.{some_states, is_trace}
+use Rattle.sys_build.proofs.Traced.{is_trace}
 use Rattle.sys_build.proofs.tracing.trace_of.Goals as goal
 
 pub lines_of-requires-clause-known : goal.lines_of-requires-clause-known
@@ -14,20 +12,16 @@ pub lines_of-requires-clause-width : goal.lines_of-requires-clause-width
 lines_of-requires-clause-width c =
     few_variables (program_view c.args.checked.now) (node_view c.node-node.result.now) c.node-node.ensures.rules c.node-node.ensures.limits
 
-pub lines_of-requires-clause-some : goal.lines_of-requires-clause-some
-lines_of-requires-clause-some c =
-    some_states (system_of (instance_of (program_view c.args.checked.now) (node_view c.node-node.result.now))) c.args.states.now
-    (c.requires.path (node_view c.node-node.result.now) c.node-node.ensures.rules)
-
 pub returns : goal.returns
-returns c = λ d h. is_trace (program_view c.args.checked.now) (node_view c.node-node.result.now) d c.args.states.now
-    record {
-      node = c.in_ok-clone.field-0;
-      node_at = record { line = 1; column = 1 };
-      length = length c.args.states.now;
-      length_at = record { line = 1; column = 1 };
-      lines = c.in_ok-lines.lines;
-      end_at = record { line = 1; column = 1 };
-    }
-    c.node-node.ensures.rules h (c.requires.path (node_view c.node-node.result.now) c.node-node.ensures.rules) (search rules) refl
-    c.in_ok-lines.ensures
+returns c = record {
+  exact = λ d h. is_trace (program_view c.args.checked.now) (node_view c.node-node.result.now) d c.args.states.now
+      record {
+        node = c.in_ok-clone.field-0;
+        node_at = record { line = 1; column = 1 };
+        length = length c.args.states.now;
+        length_at = record { line = 1; column = 1 };
+        lines = c.in_ok-lines.lines;
+        end_at = record { line = 1; column = 1 };
+      }
+      c.node-node.ensures.rules h (search rules) refl c.in_ok-lines.ensures;
+}
