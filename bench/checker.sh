@@ -3,9 +3,9 @@
 # term for a theory part of n lines, n from 1,000 to 64,000. Needs valgrind. The instructions are those
 # of a run that builds the proof and checks it, less those of a run that only builds it.
 set -eu
-cd "$(dirname "$0")/../crates/checker_bench"
+cd "$(dirname "$0")/../crates/checker_cases"
 rt run -- 1000 lines check >/dev/null 2>&1
-program=out/checker_bench
+program=out/checker_cases
 
 instructions() {
     valgrind --tool=callgrind --callgrind-out-file=/dev/null "$program" "$1" "$2" "$3" 2>&1 |
