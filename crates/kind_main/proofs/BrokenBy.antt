@@ -10,7 +10,7 @@ use Rattle.lus_meaning.specs.Property.{properties}
 use Rattle.lus_meaning.specs.Verdict.{Breaks}
 use Rattle.lus_meaning.specs.Trace.{IsFrameOf, Line as TraceLine}
 use Rattle.lus_meaning.specs.TraceView.{Listing, lines_of}
-use Rattle.lus_meaning.specs.Fits.{FitsProgram, FitsNode}
+use Rattle.lus_meaning.specs.Fits.{FitsProgram, FitsNode, first_named}
 use Rattle.lus_meaning.specs.Replay.{Shown, Replays, ReplaysTrace}
 use Rattle.lus_meaning.specs.BooleanRules.{IsBooleanChecked}
 use Rattle.trace_replay.specs.Traces.{IsTraceText, trace_text}
@@ -32,7 +32,7 @@ fits_as p s t e h = subst (λ x. FitsNode p x s.length (lines_of s)) (sym e.node
 replays_as : (p : Program) (s t : Listing) → SameButPlaces s t → (w : Shown) → ReplaysTrace p s w → ReplaysTrace p t w
 replays_as p s t e w r = record {
   node = r.node;
-  named = ap (λ x. _) e.node ∙ r.named;
+  named = ap (λ x. first_named x (nodes_of p)) (sym e.node) ∙ r.named;
   replays = subst (λ n. Replays (instance_of p r.node) (lines_of t) n w) e.length
       (subst (λ ls. Replays (instance_of p r.node) ls s.length w) e.lines r.replays);
 }
@@ -56,18 +56,20 @@ module _ (traces : CheckedTraces) (breaks : CheckedBreaks) (replays : CheckedRep
       let end : pred (length states) ≡ last = ap pred (sym count) in
       let at_last = breaks p d checked k states broken in
       let this : at_last.0 ≡ q = let e = at_last.1 in cc in
-      let frame : Frame = frame_of_path (instance_of p d) states in
-      (each, record {
-        trace = read;
-        read = subst (λ x. IsTraceText x read) (sym text) written.1;
-        fits = fits_as p read t same replayed.0;
-        length = many ∙ sym count;
-        frame = frame;
-        is_frame = subst (λ n. IsFrameOf (lines_of read) (instance_of p d) n frame) (sym many)
-            (subst (λ ls. IsFrameOf ls (instance_of p d) (length states) frame) (sym listed) has.frame);
-        only = λ other h. has.only other (subst (λ ls. IsFrameOf ls (instance_of p d) (length states) other) listed
-            (subst (λ n. IsFrameOf (lines_of read) (instance_of p d) n other) many h));
-        breaks = subst (λ n. Breaks (instance_of p d) q frame n) end
-            (subst (λ r. Breaks (instance_of p d) r frame (pred (length states))) this at_last.2);
-        replays = λ s h. replayed.1 s (replays_as p read t same s h) ∙ ap Some end;
-      })
+      let frame : Frame = frame_of_path (instance_of p d) states in (
+        each,
+        record {
+          trace = read;
+          read = subst (λ x. IsTraceText x read) (sym text) written.1;
+          fits = fits_as p read t same replayed.0;
+          length = many ∙ sym count;
+          frame = frame;
+          is_frame = subst (λ n. IsFrameOf (lines_of read) (instance_of p d) n frame) (sym many)
+              (subst (λ ls. IsFrameOf ls (instance_of p d) (length states) frame) (sym listed) has.frame);
+          only = λ other h. has.only other (subst (λ ls. IsFrameOf ls (instance_of p d) (length states) other) listed
+              (subst (λ n. IsFrameOf (lines_of read) (instance_of p d) n other) many h));
+          breaks = subst (λ n. Breaks (instance_of p d) q frame n) end
+              (subst (λ r. Breaks (instance_of p d) r frame (pred (length states))) this at_last.2);
+          replays = λ s h. replayed.1 s (replays_as p read t same s h) ∙ ap Some end;
+        },
+      )

@@ -1,10 +1,12 @@
 -- A text that is cut into its lines.
-use Rattle.std.proofs.Common.{◌≡◌, ◌≢◌, ◌≤◌, ◌<◌, ◌+◌, ℕ, suc, List, [], ◌∷◌, ◌++◌, length, get_or, take, refl, sym, ap, ◌∙◌, subst, arith, append_assoc, append-nil, add-one}
+use Rattle.std.proofs.Common.{◌≡◌, ◌≢◌, ◌≤◌, ◌<◌, ◌+◌, ℕ, suc, List, [], ◌∷◌, ◌++◌, length, get_or, take, refl, sym, ap, ◌∙◌, subst, arith, append_assoc, append-nil, add-one, codes, decimal}
 use Rattle.std.specs.List.{AllByRecursion}
 use Rattle.std.proofs.Math.Seq.{take-suc}
 use Rattle.std.proofs.lemmas.List.{take_all}
 use Rattle.kind_main.specs.Lines.{Line, text_of}
-use Rattle.kind_main.specs.Verdicts.{IsOneLine}
+use Rattle.trace_replay.specs.Traces.{trace_text}
+use Rattle.lus_meaning.specs.TraceView.{Listing}
+use Rattle.kind_main.specs.Verdicts.{IsOneLine, IsEnded, Cuts, ends, goes_on}
 use Rattle.kind_main.proofs.Printing.{text-append}
 
 -- whole lines, and the front of the next one, are the first i bytes
@@ -20,20 +22,18 @@ one_more : {X : Type 0} (P : X → Type 0) (xs : List X) (x : X) → AllByRecurs
 one_more P [] x h p = (p, tt)
 one_more P (y ∷ ys) x h p = (h.0, one_more P ys x h.1 p)
 
-module _ (text : List ℕ) (i : ℕ) (lines : List Line) (line : List ℕ) (b : ℕ) (inside : i < length text) (is : b ≡ get_or text i b) (c : Cutting text i lines line) where
-  further : take (i + 1) text ≡ take i text ++ b ∷ []
-  further = rw add-one (take-suc text i b inside ∙ ap (λ x. take i text ++ x ∷ []) (sym is))
-
+-- one byte more, of which it is known that it is the next one
+module _ (text : List ℕ) (i : ℕ) (lines : List Line) (line : List ℕ) (b : ℕ) (further : take (i + 1) text ≡ take i text ++ b ∷ []) (c : Cutting text i lines line) where
   -- a byte that ends no line
-  pub cutting_goes_on : b ≢ 10 → Cutting text (i + 1) lines (line ++ b ∷ [])
-  cutting_goes_on no = record {
+  cutting_goes_on : b ≢ 10 → Cutting text (i + 1) lines (line ++ b ∷ [])
+  cutting_goes_on differs = record {
     whole = sym (append_assoc (text_of lines) line (b ∷ [])) ∙ (ap (λ t. t ++ b ∷ []) c.whole ∙ sym further);
     each = c.each;
-    one = one_more (λ x. x ≢ 10) line b c.one no;
+    one = one_more (λ x. x ≢ 10) line b c.one differs;
   }
 
   -- a line feed
-  pub cutting_ends : b ≡ 10 → Cutting text (i + 1) (lines ++ (line ++ b ∷ []) ∷ []) []
+  cutting_ends : b ≡ 10 → Cutting text (i + 1) (lines ++ (line ++ b ∷ []) ∷ []) []
   cutting_ends feed = record {
     whole = append-nil (text_of (lines ++ (line ++ b ∷ []) ∷ []))
         ∙ (text-append lines ((line ++ b ∷ []) ∷ [])
@@ -43,9 +43,18 @@ module _ (text : List ℕ) (i : ℕ) (lines : List Line) (line : List ℕ) (b : 
     one = tt;
   }
 
+  cutting_by : (new : List Line) (rest : List ℕ) → Cuts b lines line new rest → Cutting text (i + 1) new rest
+  cutting_by new rest (ends feed e f) = rw (e, f) (cutting_ends feed)
+  cutting_by new rest (goes_on differs e f) = rw (e, f) (cutting_goes_on differs)
+
+pub cutting_next : (text : List ℕ) (i : ℕ) (lines : List Line) (line : List ℕ) → i < length text → Cutting text i lines line
+    → (new : List Line) (rest : List ℕ) → Cuts (get_or text i 0) lines line new rest → Cutting text (i + 1) new rest
+cutting_next text i lines line inside c new rest h =
+    cutting_by text i lines line (get_or text i 0) (rw add-one (take-suc text i 0 inside)) c new rest h
+
 -- ---- nothing is left behind the last line feed
 
-last_of : List ℕ → ℕ
+abbrev last_of : List ℕ → ℕ
 last_of [] = 0
 last_of (x ∷ []) = x
 last_of (x ∷ y ∷ xs) = last_of (y ∷ xs)
@@ -64,9 +73,21 @@ nothing_left before [] words h e = refl
 nothing_left before (y ∷ ys) words h e =
     absurd (last_differs y ys h (sym (last_behind before y ys) ∙ (ap last_of e ∙ last_behind words 10 [])))
 
-module _ (text words : List ℕ) (ended : text ≡ words ++ 10 ∷ []) (i : ℕ) (lines : List Line) (line : List ℕ) (le : length text ≤ i) (c : Cutting text i lines line) where
+module _ (text : List ℕ) (text_ends : IsEnded text) (i : ℕ) (lines : List Line) (line : List ℕ) (le : length text ≤ i) (c : Cutting text i lines line) where
   pub cutting_whole : text_of lines ≡ text
   cutting_whole =
       let all : text_of lines ++ line ≡ text = c.whole ∙ take_all i text le in
-      let none : line ≡ [] = nothing_left (text_of lines) line words c.one (all ∙ ended) in
+      let none : line ≡ [] = nothing_left (text_of lines) line text_ends.words c.one (all ∙ text_ends.ended) in
       sym (append-nil (text_of lines)) ∙ (ap (λ l. text_of lines ++ l) (sym none) ∙ all)
+
+-- the text of a trace ends with its line feed
+behind : (xs ys : List ℕ) → IsEnded ys → IsEnded (xs ++ ys)
+behind xs ys e = record { words = xs ++ e.words; ended = ap (λ l. xs ++ l) e.ended ∙ sym (append_assoc xs e.words (10 ∷ [])) }
+
+behind_one : (x : ℕ) (ys : List ℕ) → IsEnded ys → IsEnded (x ∷ ys)
+behind_one x ys e = record { words = x ∷ e.words; ended = ap (λ l. x ∷ l) e.ended }
+
+pub trace_ends : (t : Listing) → IsEnded (trace_text t)
+trace_ends t =
+    let last : IsEnded (codes "end\n") = record { words = codes "end"; ended = refl } in
+    behind (codes "trace ") _ (behind t.node _ (behind_one 32 _ (behind (decimal t.length) _ (behind_one 10 _ (behind _ (codes "end\n") last)))))

@@ -62,8 +62,9 @@ IsDoneCode code = IsProofCode code ⊎ IsReplayCode code
 -- none of the other statuses
 not_other : (code k : ℕ) → IsDoneCode code → code ≡ k → (k ≡ 2) ⊎ ((k ≡ 3) ⊎ ((k ≡ 5) ⊎ ((k ≡ 6) ⊎ (k ≡ 7)))) → ⊥
 not_other code k d e o = elim d [
-    inl p ↦ elim p [ inl x ↦ omega arith | inr q ↦ elim q [ inl x ↦ omega arith | inr x ↦ omega arith ] ]
-  | inr p ↦ elim p [ inl x ↦ omega arith | inr x ↦ omega arith ] ]
+  | inl p ↦ elim p [ inl x ↦ omega arith | inr q ↦ elim q [ inl x ↦ omega arith | inr x ↦ omega arith ] ]
+  | inr p ↦ elim p [ inl x ↦ omega arith | inr x ↦ omega arith ]
+]
 
 module _ (told : Tells) (before now : ℕ) (words : List (List ℕ)) (puts_before puts_now : ℕ) (old new : Written) where
   first_of : (lines first rest : List Line) (status : ℕ) → IsAnswer told before now words lines status → lines ≡ first ++ rest → AreFirst told before now words first

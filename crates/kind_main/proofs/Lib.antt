@@ -1,4 +1,9 @@
-pub mod ThreeWords
+pub mod FewWords
+pub mod Lists
+pub mod Counting
+pub mod Outcomes
+pub mod Lining
+pub mod Proofs
 pub mod FirstToken
 pub mod Reporting
 pub mod Printing
@@ -6,6 +11,7 @@ pub mod Answering
 pub mod Leaving
 pub mod Replayed
 pub mod BrokenBy
-pub mod Verdicts
+pub mod Deciding
 pub mod Cutting
 pub mod Readable
+pub mod Ready

@@ -49,6 +49,16 @@ pub record IsOneLine (line : Line) : Type 0 where
   pub ended : line ≡ words ++ 10 ∷ []
   pub one : AllByRecursion (λ b. b ≢ 10) words
 
+-- a text whose last line has its line feed
+pub record IsEnded (text : List ℕ) : Type 0 where
+  pub words : List ℕ
+  pub ended : text ≡ words ++ 10 ∷ []
+
+-- a byte more: it ends its line, or the line goes on
+pub data Cuts (b : ℕ) (old : List Line) (line : List ℕ) (new : List Line) (rest : List ℕ) : Type 0 where
+  ends : b ≡ 10 → new ≡ old ++ (line ++ b ∷ []) ∷ [] → rest ≡ [] → Cuts b old line new rest
+  goes_on : b ≢ 10 → new ≡ old → rest ≡ line ++ b ∷ [] → Cuts b old line new rest
+
 -- The text is a trace that fits the program. Its one frame breaks the property first at this instant, and each replay
 -- of the trace shows that break.
 pub record BreaksBy (p : Program) (d : Component) (k : ℕ) (q : Property) (last : ℕ) (text : List ℕ) : Type 0 where

@@ -9,7 +9,7 @@ use crate::proving::prove_file;
 use crate::replaying::replay_files;
 use crate::status::Status;
 use crate::text::read_fault_text;
-use crate::words::{Command, command};
+use crate::words::{Command, read_words};
 use kind_io::Shelf;
 use std::alloc::{AllocError, Global};
 
@@ -17,7 +17,7 @@ use std::alloc::{AllocError, Global};
 fn carried_out<H: Shelf>(alloc: Global, words: &[String], shelf: &mut H) -> Result<Report, Stopped>
     ensures { IfEnded (EndsSo (H.told shelf.old) (H.faults shelf.old) (H.faults shelf.new) (map string_bytes words.now)) result }
 {
-    match command(words) {
+    match read_words(words) {
         None => Err(Stopped::Usage),
         Some(Command::Prove { source }) => prove_file(alloc, source, shelf),
         Some(Command::Replay { source, trace }) => replay_files(alloc, source, trace, shelf),

@@ -71,7 +71,7 @@ fn broken(
 }
 
 /// What is said of the property of this number, by the system of its node.
-fn outcome(
+fn said_of(
     alloc: Global,
     checked: &Checked,
     system: &System,
@@ -107,7 +107,7 @@ pub fn outcomes(
     checked_verdicts();
     let mut outcomes = Vec::new(alloc);
     for i in 0..system.properties.len() {
-        outcomes.push(outcome(alloc, checked, system, i as u32)?)?;
+        outcomes.push(said_of(alloc, checked, system, i as u32)?)?;
     }
     Ok(outcomes)
 }

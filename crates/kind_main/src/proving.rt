@@ -16,12 +16,17 @@ use lus_checked::Checked;
 use source_laws::laws::identified_sources;
 use std::alloc::{AllocError, Global};
 use sys_build::build;
+use sys_build::laws::{few_properties, mild_systems, small_systems, systems_of_flags};
 
 /// What is proved of a program.
 fn proof_report(alloc: Global, checked: &Checked) -> Result<Report, AllocError>
     requires { IsReadable (program_view checked.now) }
     ensures { IfOk result (λ r. IsProof (program_view checked.now) (lines_view r.lines.items) r.status.code) }
 {
+    mild_systems();
+    small_systems();
+    systems_of_flags();
+    few_properties();
     let node = checked.node();
     let Ok(system) = build(alloc, checked) else {
         return Err(AllocError);
@@ -38,11 +43,7 @@ fn proof_report(alloc: Global, checked: &Checked) -> Result<Report, AllocError>
 }
 
 /// Decides the properties of a source.
-pub fn prove_file<H: Shelf>(
-    alloc: Global,
-    source: &str,
-    shelf: &mut H,
-) -> Result<Report, Stopped>
+pub fn prove_file<H: Shelf>(alloc: Global, source: &str, shelf: &mut H) -> Result<Report, Stopped>
     ensures { IfEnded (EndsProof (H.told shelf.old) (H.faults shelf.old) (H.faults shelf.new) source.now) result }
 {
     identified_sources();

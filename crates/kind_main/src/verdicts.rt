@@ -7,7 +7,7 @@ ghost use Rattle.lus_tree.specs.View.{item_view, named_view};
 ghost use Rattle.induction.specs.Found.{why_view};
 ghost use Rattle.kind_main.specs.Ending.{lines_view};
 ghost use Rattle.kind_main.specs.Report.{labelled_in};
-ghost use Rattle.kind_main.specs.Verdicts.{halt_text, operation_text, outcome_view, outcomes_view, past_text, property_label, verdict_lines, verdict_report as report_of_verdicts, why_text};
+ghost use Rattle.kind_main.specs.Verdicts.{falsifiable, unknown, halt_text, operation_text, outcome_view, outcomes_view, past_text, property_label, verdict_lines, verdict_report as report_of_verdicts, why_text};
 
 use crate::outcome::Outcome;
 use induction::Cause;
@@ -81,20 +81,80 @@ fn cause_text(alloc: Global, cause: &Cause) -> Result<String, AllocError>
     }
 }
 
+/// Adds a line behind two spaces.
+fn push_indented(alloc: Global, line: &[u8], lines: &mut Vec<Vec<u8>>) -> Result<(), AllocError>
+    ensures { OnOk result (lines_view lines.new.items ≡ lines_view lines.old.items ++ (codes "  " ++ line.now) ∷ []) }
+{
+    let mut indented = Vec::from_slice(alloc, b"  ")?;
+    indented.extend_from_slice(line)?;
+    lines.push(indented)?;
+    Ok(())
+}
+
 /// Adds the lines of a trace, each behind two spaces.
-fn push_trace(
-    alloc: Global,
-    trace: &[Vec<u8>],
-    lines: &mut Vec<Vec<u8>>,
-) -> Result<(), AllocError>
+fn push_trace(alloc: Global, trace: &[Vec<u8>], lines: &mut Vec<Vec<u8>>) -> Result<(), AllocError>
     ensures { OnOk result (lines_view lines.new.items ≡ lines_view lines.old.items ++ map (λ l. codes "  " ++ l) (lines_view trace.now)) }
 {
     for line in trace {
-        let mut indented = Vec::from_slice(alloc, b"  ")?;
-        indented.extend_from_slice(line)?;
-        lines.push(indented)?;
+        push_indented(alloc, line, lines)?;
     }
     Ok(())
+}
+
+/// Adds a line.
+fn push_line(lines: &mut Vec<Vec<u8>>, line: String) -> Result<(), AllocError>
+    ensures { OnOk result (lines_view lines.new.items ≡ lines_view lines.old.items ++ string_bytes line ∷ []) }
+{
+    lines.push(line.into_bytes())?;
+    Ok(())
+}
+
+/// Adds the lines of a property that a trace breaks.
+fn push_falsifiable(
+    alloc: Global,
+    label: &str,
+    last: u32,
+    trace: &[Vec<u8>],
+    lines: &mut Vec<Vec<u8>>,
+) -> Result<(), AllocError>
+    ensures { OnOk result (lines_view lines.new.items ≡ lines_view lines.old.items ++ verdict_lines label.now (falsifiable last (lines_view trace.now))) }
+{
+    let line = format!(in alloc; "falsifiable {label} at {last}\n")?;
+    push_line(lines, line)?;
+    push_trace(alloc, trace, lines)?;
+    Ok(())
+}
+
+/// Adds the line of a property of which neither was found.
+fn push_unknown(
+    alloc: Global,
+    label: &str,
+    bounded: &Cause,
+    step: &Cause,
+    lines: &mut Vec<Vec<u8>>,
+) -> Result<(), AllocError>
+    ensures { OnOk result (lines_view lines.new.items ≡ lines_view lines.old.items ++ verdict_lines label.now (unknown (why_view bounded.now) (why_view step.now))) }
+{
+    let bounded = cause_text(alloc, bounded)?;
+    let step = cause_text(alloc, step)?;
+    let line = format!(in alloc; "unknown {label}: bounded {bounded}; step {step}\n")?;
+    push_line(lines, line)
+}
+
+/// Adds the lines of the verdict on the property with this label.
+fn push_outcome(
+    alloc: Global,
+    label: &str,
+    outcome: &Outcome,
+    lines: &mut Vec<Vec<u8>>,
+) -> Result<(), AllocError>
+    ensures { OnOk result (lines_view lines.new.items ≡ lines_view lines.old.items ++ verdict_lines label.now (outcome_view outcome.now)) }
+{
+    match outcome {
+        Outcome::Valid => push_line(lines, format!(in alloc; "valid {label}\n")?),
+        Outcome::Falsifiable { last, trace } => push_falsifiable(alloc, label, *last, trace, lines),
+        Outcome::Unknown { bounded, step } => push_unknown(alloc, label, bounded, step, lines),
+    }
 }
 
 /// Adds the lines of a property's verdict.
@@ -107,22 +167,15 @@ fn push_verdict(
     ensures { OnOk result (lines_view lines.new.items ≡ lines_view lines.old.items ++ verdict_lines (property_label (named_view property.now)) (outcome_view outcome.now)) }
 {
     let label = label_text(alloc, property)?;
-    match outcome {
-        Outcome::Valid => {
-            let line = format!(in alloc; "valid {label}\n")?;
-            lines.push(line.into_bytes())?;
-        }
-        Outcome::Falsifiable { last, trace } => {
-            let line = format!(in alloc; "falsifiable {label} at {last}\n")?;
-            lines.push(line.into_bytes())?;
-            push_trace(alloc, trace, lines)?;
-        }
-        Outcome::Unknown { bounded, step } => {
-            let bounded = cause_text(alloc, bounded)?;
-            let step = cause_text(alloc, step)?;
-            let line = format!(in alloc; "unknown {label}: bounded {bounded}; step {step}\n")?;
-            lines.push(line.into_bytes())?;
-        }
+    push_outcome(alloc, label.as_str(), outcome, lines)
+}
+
+/// Adds an item that is a property.
+fn push_property<'a>(properties: &mut Vec<&'a Named>, item: &'a Item) -> Result<(), AllocError>
+    ensures { OnOk result (map (λ r. named_view r.now) properties.new.items ≡ map (λ r. named_view r.now) properties.old.items ++ labelled_in (item_view item.now ∷ [])) }
+{
+    if let Item::Property(property) = item {
+        properties.push(property)?;
     }
     Ok(())
 }
@@ -133,9 +186,7 @@ fn properties_of<'a>(alloc: Global, items: &'a [Item]) -> Result<Vec<&'a Named>,
 {
     let mut properties = Vec::new(alloc);
     for item in items {
-        if let Item::Property(property) = item {
-            properties.push(property)?;
-        }
+        push_property(&mut properties, item)?;
     }
     Ok(properties)
 }

@@ -18,7 +18,7 @@ fn is_option(word: &str) -> bool
 }
 
 /// The command of these words, where they have the form of one that is built.
-pub fn command(words: &[String]) -> Option<Command<'_>>
+pub fn read_words(words: &[String]) -> Option<Command<'_>>
     ensures { MatchOption result (AreNoCommand (map string_bytes words.now)) (IsCommand (map string_bytes words.now)) }
 {
     match words {

@@ -1,6 +1,7 @@
 -- Verdicts on properties, one after the other, and their lines.
 use Rattle.std.proofs.Common.{◌≡◌, ◌≤◌, ◌<◌, ◌+◌, ℕ, zero, suc, List, [], ◌∷◌, ◌++◌, length, All, Some, None, Option, refl, sym, ap, ◌∙◌, subst, arith, slice_get, get_or, take, drop, map, append_assoc, append-nil, add-one}
 use Rattle.std.proofs.Math.Seq.{drop-cons}
+use Rattle.std.proofs.lemmas.List.{take_all}
 use Rattle.lus_tree.specs.Tree.{Program, Component, Labelled, Statement, equation, assertion, property, main_mark}
 use Rattle.lus_meaning.specs.Scene.{Instance}
 use Rattle.lus_meaning.specs.Program.{instance_of}
@@ -34,19 +35,18 @@ first_more p d k (q ∷ qs) (w ∷ vs) v lt h f =
 pub none_yet : (p : Program) (d : Component) → AreTrueOfFirst p d 0 (properties (instance_of p d)) []
 none_yet p d = tt
 
+same_place : (i n : ℕ) → i ≡ n → i ≡ 0 + n
+same_place i n e = omega (arith, e)
+
 pub one_more : (p : Program) (d : Component) (vs : List Verdict) (v : Verdict) (i : ℕ) → i ≡ length vs → i < length (properties (instance_of p d))
     → AreTrueOfFirst p d 0 (properties (instance_of p d)) vs → IsTrueOfNumber p d i v
     → AreTrueOfFirst p d 0 (properties (instance_of p d)) (vs ++ v ∷ [])
 one_more p d vs v i e lt h f = first_more p d 0 (properties (instance_of p d)) vs v (subst (λ j. j < length (properties (instance_of p d))) e lt) h
-    (λ q g. subst (λ j. IsTrueVerdict p d j q v) e (f q (ap (slice_get (properties (instance_of p d))) e ∙ g)))
-
-take_whole : {X : Type 0} (xs : List X) (n : ℕ) → length xs ≡ n → take n xs ≡ xs
-take_whole [] n e = subst (λ m. take m [] ≡ []) e refl
-take_whole (x ∷ xs) n e = subst (λ m. take m (x ∷ xs) ≡ x ∷ xs) e (ap (λ (l : List _). x ∷ l) (take_whole xs (length xs) refl))
+    (λ q g. subst (λ j. IsTrueVerdict p d j q v) (same_place i (length vs) e) (f q (ap (slice_get (properties (instance_of p d))) e ∙ g)))
 
 pub all_done : (p : Program) (d : Component) (vs : List Verdict) → length (properties (instance_of p d)) ≡ length vs
     → AreTrueOfFirst p d 0 (properties (instance_of p d)) vs → AreTrueVerdicts p d 0 (properties (instance_of p d)) vs
-all_done p d vs e h = subst (λ qs. AreTrueVerdicts p d 0 qs vs) (take_whole (properties (instance_of p d)) (length vs) e) h
+all_done p d vs e h = subst (λ qs. AreTrueVerdicts p d 0 qs vs) (take_all (length vs) (properties (instance_of p d)) (omega (arith, e))) h
 
 -- ---- labels
 
@@ -66,3 +66,36 @@ report_step labels vs i l v a b e f =
     let x : drop i labels ≡ l ∷ drop (suc i) labels = drop-cons labels i l a ∙ ap (λ y. y ∷ drop (suc i) labels) (sym e) in
     let y : drop i vs ≡ v ∷ drop (suc i) vs = drop-cons vs i v b ∙ ap (λ y. y ∷ drop (suc i) vs) (sym f) in
     rw (x, y, add-one) refl
+
+-- ---- a loop over the properties
+
+-- verdicts on the first i properties
+pub record DecidingUpTo (p : Program) (i : ℕ) (vs : List Verdict) : Type 0 where
+  pub count : i ≡ length vs
+  pub right : (d : Component) → IsBooleanChecked p d → AreTrueOfFirst p d 0 (properties (instance_of p d)) vs
+
+pub deciding_start : (p : Program) → DecidingUpTo p 0 []
+deciding_start p = record { count = refl; right = λ d checked. none_yet p d }
+
+counted_more : {X : Type 0} (xs : List X) (x : X) (i : ℕ) → i ≡ length xs → i + 1 ≡ length (xs ++ x ∷ [])
+counted_more [] x i e = omega (arith, e)
+counted_more (y ∷ ys) x zero e = absurd (omega (arith, e))
+counted_more (y ∷ ys) x (suc i) e = let f : i + 1 ≡ length (ys ++ x ∷ []) = counted_more ys x i (omega (arith, e)) in omega (arith, f)
+
+pub deciding_next : (p : Program) (i : ℕ) (vs : List Verdict) (v : Verdict) → DecidingUpTo p i vs
+    → ((d : Component) → IsBooleanChecked p d → i < length (properties (instance_of p d)))
+    → ((d : Component) → IsBooleanChecked p d → IsTrueOfNumber p d i v) → DecidingUpTo p (i + 1) (vs ++ v ∷ [])
+deciding_next p i vs v r lt f = record {
+  count = counted_more vs v i r.count;
+  right = λ d checked. one_more p d vs v i r.count (lt d checked) (r.right d checked) (f d checked);
+}
+
+pub deciding_end : (p : Program) (i : ℕ) (vs : List Verdict) → DecidingUpTo p i vs
+    → ((d : Component) → IsBooleanChecked p d → length (properties (instance_of p d)) ≤ i)
+    → ((d : Component) → IsBooleanChecked p d → i ≤ length (properties (instance_of p d)))
+    → (d : Component) → IsBooleanChecked p d → AreTrueVerdicts p d 0 (properties (instance_of p d)) vs
+deciding_end p i vs r le ge d checked =
+    let a = le d checked in
+    let b = ge d checked in
+    let e = r.count in
+    all_done p d vs (omega (arith, a, b, e)) (r.right d checked)
