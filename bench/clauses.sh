@@ -5,9 +5,9 @@
 # those of a run that only builds it. Ends with status 1 where a doubling of n does not double them to
 # within 5 %.
 set -eu
-cd "$(dirname "$0")/../crates/clauses_bench"
+cd "$(dirname "$0")/../crates/term_rows"
 rt run -- 1000 make >/dev/null 2>&1
-program=out/clauses_bench
+program=out/term_rows
 
 instructions() {
     valgrind --tool=callgrind --callgrind-out-file=/dev/null "$program" "$1" "$2" 2>&1 |

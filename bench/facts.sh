@@ -3,9 +3,9 @@
 # a query of 5 n clauses, n from 1,000 to 64,000. Needs valgrind. The instructions are those of a run
 # that builds system and refutation and makes the base, less those of a run that only builds them.
 set -eu
-cd "$(dirname "$0")/../crates/facts_bench"
+cd "$(dirname "$0")/../crates/fact_rows"
 rt run -- 1000 check >/dev/null 2>&1
-program=out/facts_bench
+program=out/fact_rows
 
 instructions() {
     valgrind --tool=callgrind --callgrind-out-file=/dev/null "$program" "$1" "$2" 2>&1 |

@@ -4,9 +4,9 @@
 # a variable, ten seeds each, and a chain of 10,000 implications. Instructions need valgrind, and are
 # those of the search less those of reading the file alone. The word `quick` takes three seeds.
 set -eu
-cd "$(dirname "$0")/../crates/search_bench"
+cd "$(dirname "$0")/../crates/search_trial"
 rt run -- data/four.cnf search >/dev/null 2>&1
-program=$PWD/out/search_bench
+program=$PWD/out/search_trial
 work=$(mktemp -d)
 trap 'rm -rf "$work"' EXIT
 seeds="1 2 3 4 5 6 7 8 9 10"

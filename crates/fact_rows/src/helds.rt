@@ -1,14 +1,17 @@
 //! Held properties.
 
-ghost use Rattle.std.specs.Prelude.{◌<◌, ◌^◌, length};
+ghost use Rattle.std.specs.Prelude.{◌≡◌, ◌<◌, ◌≤◌, ◌^◌, length, IfOk};
 ghost use Rattle.sys_terms.specs.View.{system_view};
 ghost use Rattle.sys_terms.specs.Fits.{IsMild};
+ghost use Rattle.cert_rules.specs.Kept.{base_machine, step_machine, lemma_machine};
 
 use crate::bases::proofs_of;
 use crate::five::at_least;
 use crate::proofs::Sketch;
 use crate::sketches::*;
-use cert_rules::{Held, RuleFault, check_base, check_lemma, check_step, conclude, conclude_by};
+use cert_rules::{
+    Base, Held, Lemma, RuleFault, Step, check_base, check_lemma, check_step, conclude, conclude_by,
+};
 use std::alloc::{AllocError, Global};
 use sys_terms::System;
 
@@ -29,17 +32,47 @@ fn answer(alloc: Global, held: &Result<Held, RuleFault>) -> Result<String, Alloc
     }
 }
 
+/// The base at the first instant.
+fn first_base(alloc: Global, system: &System) -> Result<Base, RuleFault>
+    requires mild { IsMild (system_view system.now) }
+    requires few { length (system_view system.now).shapes < 2 ^ 32 }
+    ensures { IfOk result (λ b. base_machine b ≡ system_view system.now) }
+{
+    let proofs = proofs_of(alloc, &[AT_0])?;
+    check_base(alloc, system, &[], 0, 0, &proofs)
+}
+
+/// The step after k states.
+fn step_after(alloc: Global, system: &System, k: u32, sketch: Sketch) -> Result<Step, RuleFault>
+    requires mild { IsMild (system_view system.now) }
+    requires few { length (system_view system.now).shapes < 2 ^ 32 }
+    requires some { 1 ≤ k }
+    ensures { IfOk result (λ s. step_machine s ≡ system_view system.now) }
+{
+    let proof = sketch.proof(alloc)?;
+    check_step(alloc, system, &[], 0, k, &proof)
+}
+
 fn both(alloc: Global, system: &System, k: u32, sketch: Sketch) -> Result<String, RuleFault>
     requires mild { IsMild (system_view system.now) }
     requires few { length (system_view system.now).shapes < 2 ^ 32 }
+    requires some { 1 ≤ k }
 {
-    if k == 0 {
-        return Ok(format!(in alloc; "not asked")?);
-    }
-    let base = check_base(alloc, system, &[], 0, 0, &proofs_of(alloc, &[AT_0])?)?;
-    let step = check_step(alloc, system, &[], 0, k, &sketch.proof(alloc)?)?;
-    let text = answer(alloc, &conclude(&base, &step))?;
-    Ok(format!(in alloc; "base 0 at 0 and step 0 after {k}: {text}")?)
+    let base = first_base(alloc, system)?;
+    let step = step_after(alloc, system, k, sketch)?;
+    Ok(answer(alloc, &conclude(&base, &step))?)
+}
+
+/// The lemma that x is at least 3.
+fn at_least_3(alloc: Global, system: &System) -> Result<Lemma, RuleFault>
+    requires mild { IsMild (system_view system.now) }
+    requires few { length (system_view system.now).shapes < 2 ^ 32 }
+    ensures { IfOk result (λ l. lemma_machine l ≡ system_view system.now) }
+{
+    let term = at_least(alloc, 3)?;
+    let first = AT_0.proof(alloc)?;
+    let next = AFTER_1.proof(alloc)?;
+    check_lemma(alloc, system, &[], &term, &first, &next)
 }
 
 fn implied(
@@ -51,12 +84,10 @@ fn implied(
     requires mild { IsMild (system_view system.now) }
     requires few { length (system_view system.now).shapes < 2 ^ 32 }
 {
-    let term = at_least(alloc, 3)?;
-    let (first, next) = (AT_0.proof(alloc)?, AFTER_1.proof(alloc)?);
-    let lemma = check_lemma(alloc, system, &[], &term, &first, &next)?;
-    let held = conclude_by(alloc, system, &lemma, property, &sketch.proof(alloc)?);
-    let text = answer(alloc, &held)?;
-    Ok(format!(in alloc; "x at least 3 implies {property}: {text}")?)
+    let lemma = at_least_3(alloc, system)?;
+    let proof = sketch.proof(alloc)?;
+    let held = conclude_by(alloc, system, &lemma, property, &proof);
+    Ok(answer(alloc, &held)?)
 }
 
 /// What comes of each row.
@@ -66,10 +97,14 @@ pub fn lines(alloc: Global, system: &System) -> Result<Vec<String>, RuleFault>
 {
     let mut lines = Vec::new(alloc);
     for (k, sketch) in STEPS {
-        lines.push(both(alloc, system, k, sketch)?)?;
+        if k > 0 {
+            let text = both(alloc, system, k, sketch)?;
+            lines.push(format!(in alloc; "base 0 at 0 and step 0 after {k}: {text}")?)?;
+        }
     }
     for (property, sketch) in IMPLIED {
-        lines.push(implied(alloc, system, property, sketch)?)?;
+        let text = implied(alloc, system, property, sketch)?;
+        lines.push(format!(in alloc; "x at least 3 implies {property}: {text}")?)?;
     }
     Ok(lines)
 }

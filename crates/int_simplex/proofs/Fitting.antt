@@ -82,7 +82,7 @@ split-off e p t b x (suc n) h f =
     let y : (e n *ℤ t n) +ℤ summed e t n ≡ (e n *ℤ p n +ℤ rest_below e p x n) *ℤ b = omega (arith, ints) in
     y ∙ sym (ap (λ s. cond s (rest_below e p x n) (e n *ℤ p n +ℤ rest_below e p x n) *ℤ b) (is_other n x d))
 
-split-on : (e p t : ℕ → ℤ) (b : ℤ) (x n : ℕ) → x < n → ((c : ℕ) → c < n → c ≢ x → e c *ℤ t c ≡ (e c *ℤ p c) *ℤ b)
+pub split-on : (e p t : ℕ → ℤ) (b : ℤ) (x n : ℕ) → x < n → ((c : ℕ) → c < n → c ≢ x → e c *ℤ t c ≡ (e c *ℤ p c) *ℤ b)
     → summed e t n ≡ rest_below e p x n *ℤ b +ℤ e x *ℤ t x
 split-on e p t b x zero h f = absurd (omega arith)
 split-on e p t b x (suc n) h f = elim (by_test (n == x)) [
@@ -111,7 +111,7 @@ to-zero rest own b t v w n e q =
     let s5 : (rest *ℤ w +ℤ own *ℤ v) *ℤ b ≡ pos 0 = ap (λ z. z *ℤ b) q ∙ zero-*ℤ b in
     product_zero w (rest *ℤ b +ℤ own *ℤ t) n (omega (arith, ints))
 
-crossed-sum : (p q : ℤ) (e f v : ℕ → ℤ) (n : ℕ) → summed (λ c. p *ℤ e c -ℤ q *ℤ f c) v n ≡ p *ℤ summed e v n -ℤ q *ℤ summed f v n
+pub crossed-sum : (p q : ℤ) (e f v : ℕ → ℤ) (n : ℕ) → summed (λ c. p *ℤ e c -ℤ q *ℤ f c) v n ≡ p *ℤ summed e v n -ℤ q *ℤ summed f v n
 crossed-sum p q e f v zero = sym (difference_zero p q)
 crossed-sum p q e f v (suc n) =
     let r = crossed-sum p q e f v n in
@@ -123,11 +123,11 @@ crossed-sum p q e f v (suc n) =
     let s6 : q *ℤ (f n *ℤ v n +ℤ summed f v n) ≡ q *ℤ (f n *ℤ v n) +ℤ q *ℤ summed f v n = sum_times q (f n *ℤ v n) (summed f v n) in
     omega (arith, ints)
 
-row-below : (n : ℕ) (row : List (ℕ × ℤ)) → IsWithin n row → RowBelow n row
+pub row-below : (n : ℕ) (row : List (ℕ × ℤ)) → IsWithin n row → RowBelow n row
 row-below n [] a = tt
 row-below n (t ∷ row) a = (a 0 t (omega arith), row-below n row (λ k d h. a (suc k) d (omega arith)))
 
-further : (k j : ℕ) → k ≤ j → j ≢ k → suc k ≤ j
+pub further : (k j : ℕ) → k ≤ j → j ≢ k → suc k ≤ j
 further k j h n = by (test k j) where
   test : (k j : ℕ) → (k < j) ⊎ (j ≤ k)
   test k j = grind arith
@@ -139,7 +139,7 @@ further k j h n = by (test k j) where
 no-divisor : (w : ℤ) → pos 0 <ℤ w → w ≢ pos 0
 no-divisor w h e = absurd (omega (arith, ints))
 
-both-none : (a t p b : ℤ) → a ≡ pos 0 → a *ℤ t ≡ (a *ℤ p) *ℤ b
+pub both-none : (a t p b : ℤ) → a ≡ pos 0 → a *ℤ t ≡ (a *ℤ p) *ℤ b
 both-none a t p b e =
     ap (λ z. z *ℤ t) e ∙ zero-*ℤ t ∙ sym (ap (λ z. (z *ℤ p) *ℤ b) e ∙ ap (λ z. z *ℤ b) (zero-*ℤ p) ∙ zero-*ℤ b)
 

@@ -38,3 +38,5 @@ pub mod Sparse
 pub mod Kept
 pub mod Crossings
 pub mod Sorting
+pub mod OnRows
+pub mod Calls

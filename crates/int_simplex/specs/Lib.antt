@@ -16,3 +16,5 @@ pub mod Valued
 pub mod Choosing
 pub mod Refuting
 pub mod Running
+pub mod OnRows
+pub mod Calls

@@ -3,6 +3,7 @@ ghost use Rattle.proof_steps.specs.View.{row_view};
 ghost use Rattle.int_simplex.specs.Given.{AreGiven, IsInOrder, IsWithin, HasNoZero};
 ghost use Rattle.int_simplex.specs.Bounds.{tightest};
 ghost use Rattle.int_simplex.specs.Points.{IsFraction};
+ghost use Rattle.int_simplex.specs.OnRows.{AreOnRows};
 ghost use Rattle.int_simplex.specs.Sound.{IsSound, IsRowIn};
 ghost use Rattle.int_simplex.specs.Answers.{IsNew, IsAsserted, IsCheckup, IsAnswered, a_bound};
 
@@ -85,6 +86,7 @@ impl Tableau {
         requires { self.now.usable ≡ true }
         ensures number { result ≡ self.now.columns }
         ensures sound { IsSound self.now }
+        ensures on_rows { AreOnRows self.now }
     {
         self.columns
     }

@@ -8,7 +8,7 @@ use Rattle.lus_tree.specs.declared.place.Sort.TheVariants.{Bool as Flags, Int as
 use Rattle.lus_tree.specs.declared.expression.Operator.{Operator}
 use Rattle.lus_tree.specs.declared.expression.Operator.TheVariants.{Add, Sub, Mul, Div, Mod}
 use Rattle.lus_tree.specs.Tree.{Name, Spelled, Expression, truth, number, name, negation, minus, pre, arrow, binary, choice, sampled, merged, call, condact, mode_name, Variable, Constant, Clause, ghost_variable, constant, mode, «import», Component, declared_constant, declared_node, declared_contract, Program}
-use Rattle.lus_meaning.specs.Value.{Value, absent, flag, whole, is_absent, not_value, minus_value, apply, choose}
+use Rattle.lus_meaning.specs.Value.{Value, absent, flag, whole, not_value, minus_value, apply, choose}
 use Rattle.lus_meaning.specs.Scene.{Clock, base, clock_from, clauses, no_component}
 use Rattle.lus_meaning.specs.Program.{clause_constants}
 use Rattle.lus_meaning.specs.Run.{sort_of_operator}
@@ -138,8 +138,15 @@ apply_total Div v w = cond (is_zero w) absent (apply Div v w)
 apply_total Mod v w = cond (is_zero w) absent (apply Mod v w)
 apply_total o v w = apply o v w
 
+-- whether there are two values, of one type
+abbrev pub are_alike : Value → Value → Bool
+are_alike (flag a) (flag b) = true
+are_alike (whole a) (whole b) = true
+are_alike _ _ = false
+
+-- a choice between values of two types has no value, as an operator on them has none
 abbrev pub choose_total : Value → Value → Value → Value
-choose_total c v w = cond (is_absent v || is_absent w) absent (choose c v w)
+choose_total c v w = cond (are_alike v w) (choose c v w) absent
 
 -- ---- values and weights
 

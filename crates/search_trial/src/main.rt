@@ -2,7 +2,10 @@
 //!
 //! The first word is how many random forms are tried, each compared with all assignments. The
 //! others are files of clauses, a clause a line, of numbers other than 0: n is the flag n - 1, and -n
-//! its opposite.
+//! its opposite. The first file is searched once more at the end, as for the benchmark.
+//!
+//! For the benchmark of the search, the words `FILE search` have it search through the form of the file and print the answer
+//! with the number of conflicts, and `FILE read` leaves the search out.
 
 #![tactic(auto)]
 
@@ -13,9 +16,10 @@ mod trial;
 
 use anyhow::{Result, bail};
 use clauses::read_form;
+use cnf_maker::Cnf;
 use random::random_forms;
 use std::{env, fs};
-use trial::{Report, tried};
+use trial::{Report, answered, tried};
 
 fn tell(rt: &HostRuntime, name: &str, report: Report) -> Result<()> {
     let first = report.first;
@@ -28,23 +32,52 @@ fn tell(rt: &HostRuntime, name: &str, report: Report) -> Result<()> {
     Ok(())
 }
 
+fn form_of(rt: &HostRuntime, name: &str) -> Result<Cnf> {
+    let text = fs::read_to_string(rt, name)?;
+    read_form(rt.alloc(), text.as_str())
+}
+
 /// Tries the form of a file.
 fn try_file(rt: &HostRuntime, name: &str) -> Result<()> {
-    let text = fs::read_to_string(rt, name)?;
-    let form = read_form(rt.alloc(), text.as_str())?;
+    let form = form_of(rt, name)?;
     tell(rt, name, tried(rt.alloc(), &form)?)
+}
+
+/// Searches through the form of a file.
+fn search_file(rt: &HostRuntime, name: &str) -> Result<()> {
+    let form = form_of(rt, name)?;
+    let (answer, conflicts) = answered(rt.alloc(), &form)?;
+    println!(rt; "{answer} {conflicts}")?;
+    Ok(())
+}
+
+/// Reads the form of a file and leaves the search out.
+fn only_read(rt: &HostRuntime, name: &str) -> Result<()> {
+    let _form = form_of(rt, name)?;
+    println!(rt; "read")?;
+    Ok(())
+}
+
+/// Tries so many random forms, and the files.
+fn try_all(rt: &HostRuntime, number: &str, names: &[String]) -> Result<()> {
+    let count: u32 = number.parse()?;
+    let right = random_forms(rt.alloc(), count)?;
+    println!(rt; "{right} of {count} random forms answered right")?;
+    for name in names {
+        try_file(rt, name.as_str())?;
+    }
+    Ok(())
 }
 
 fn main(rt: HostRuntime) -> Result<()> {
     let words: Vec<String> = env::args(&rt)?.collect(rt.alloc())?;
-    let Some(word) = words.get(1) else {
-        bail!("usage: search_trial NUMBER FILE..");
-    };
-    let count: u32 = word.as_str().parse()?;
-    let right = random_forms(rt.alloc(), count)?;
-    println!(rt; "{right} of {count} random forms answered right")?;
-    for i in 2..words.len() {
-        try_file(&rt, words[i].as_str())?;
+    match words.as_slice() {
+        [_, name, work] if work.as_str() == "search" => search_file(&rt, name.as_str()),
+        [_, name, work] if work.as_str() == "read" => only_read(&rt, name.as_str()),
+        [_, number, first, ..] => {
+            try_all(&rt, number.as_str(), &words[2..])?;
+            search_file(&rt, first.as_str())
+        }
+        _ => bail!("usage: search_trial NUMBER FILE.. | FILE search | FILE read"),
     }
-    Ok(())
 }

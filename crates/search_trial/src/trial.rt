@@ -26,13 +26,13 @@ fn word(found: Found) -> &'static str {
 
 /// Searches until all variables have values or the empty clause is derived.
 fn searched(alloc: Global, search: &mut Search) -> Result<Found> {
-    for _ in 0..1_000_000u32 {
+    for _ in 0..10_000_000u32 {
         match search.decide_or_conflict(alloc)? {
             Found::Conflict => search.learn(alloc)?,
             found => return Ok(found),
         }
     }
-    bail!("a million conflicts");
+    bail!("ten million conflicts");
 }
 
 fn clause_of(step: &Step) -> &Clause {
@@ -207,4 +207,16 @@ pub fn tried(alloc: Global, form: &Cnf) -> Result<Report> {
         answer: word(found),
         shown: shown(alloc, &search, form, found)?,
     })
+}
+
+/// The answer of a search through a form of few enough clauses, and its conflicts.
+pub fn answered(alloc: Global, form: &Cnf) -> Result<(&'static str, u64)> {
+    let mut search = search_of(alloc, form)?;
+    let found = searched(alloc, &mut search)?;
+    let answer = if found == Found::Full {
+        "satisfiable"
+    } else {
+        "unsatisfiable"
+    };
+    Ok((answer, search.conflicts()))
 }

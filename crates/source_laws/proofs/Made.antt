@@ -23,7 +23,9 @@ pub data Made (H : Part → Syntax → Type 0) (s : Stream) : Phrase → Syntax 
   no_more : {a : Phrase} → Made H s (repeated a) none
   again : {a : Phrase} {x y : Syntax} → Made H s a x → Made H s (repeated a) y → Made H s (repeated a) (some x y)
 
-pub made : {limit end : ℕ} {s : Stream} (H : Part → Syntax → Type 0) → ((p : Part) (x : Syntax) → Made H s (body p) x → H p (node p x)) → {g : Phrase} {i j : ℕ} {n m : Counts} {x : Syntax} → Text limit end s g i j n m x → Made H s g x
+pub made : {limit end : ℕ} {s : Stream} (H : Part → Syntax → Type 0) →
+    ((p : Part) (x : Syntax) → Made H s (body p) x → H p (node p x)) →
+    {g : Phrase} {i j : ℕ} {n m : Counts} {x : Syntax} → Text limit end s g i j n m x → Made H s g x
 made H h (G.token t) = token t
 made H h (G.occurrence t) = occurrence
 made H h (G.line {p = p} {x = x} a) = line (h p x (made H h a))

@@ -1,52 +1,99 @@
--- What is said of each part of a declaration, by what is said of its words, of its expressions and of the labels in it.
-use Rattle.std.proofs.Common.{◌≡◌, true, Option, Some, None}
+-- What is shown of each part of a source's tree.
+use Rattle.std.proofs.Common.{◌≡◌, ℕ, ◌^◌, nat_lt, Bool, true, List, Option, Some, None}
 use Rattle.std.specs.List.{AllByRecursion}
-use Rattle.lus_tree.specs.Tree.{Name, Expression, Variable, Constant, Labelled, Statement, equation, assertion, property, main_mark, Clause, assume, guarantee, ghost_variable, constant, mode, «import», Component, Declaration, declared_constant, declared_node, declared_contract, Program}
+use Rattle.lus_tree.specs.Tree.{Name, Spelled, Expression, Expressions, truth, number, name, negation, minus, pre, arrow, binary, choice, sampled, merged, call, condact, mode_name, no_more, more, Variable, Constant, Labelled, Statement, equation, assertion, property, main_mark, Clause, assume, guarantee, ghost_variable, constant, mode, «import», Component, Declaration, declared_constant, declared_node, declared_contract, Program}
+use Rattle.lus_lexer.specs.Names.{is_name}
 use Rattle.lus_meaning.specs.Scene.{clauses}
-use Rattle.lus_meaning.specs.Grammatical.{has_left_name, IsContractNode}
+use Rattle.lus_meaning.specs.Grammatical.{has_left_name, is_printable, IsContractNode}
 
-module _ (W : Name → Type 0) (E : Expression → Type 0) (L : Name → Type 0) where
-  abbrev pub IsLabel : Option Name → Type 0
-  IsLabel None = Unit {0}
-  IsLabel (Some x) = L x
+abbrev pub IsWord : Name → Type 0
+IsWord x = is_name x ≡ true
 
-  -- a stream, and one on the base clock
-  abbrev pub IsStream : Variable → Type 0
-  IsStream v = W v.name.text
+abbrev pub AreWords : List Spelled → Type 0
+AreWords ws = AllByRecursion (λ w. IsWord w.text) ws
 
-  abbrev pub IsParameter : Variable → Type 0
-  IsParameter v = W v.name.text × (v.clock ≡ None)
+-- ---- expressions
 
-  abbrev pub IsItem : Labelled → Type 0
-  IsItem l = IsLabel l.label × E l.value
+abbrev pub IsSmall : ℕ → Type 0
+IsSmall n = nat_lt n (2 ^ 63) ≡ true
 
-  abbrev pub IsConstant : Constant → Type 0
-  IsConstant c = W c.name.text × E c.value
+-- its words are names, and its literals are small
+abbrev mutual
+  pub IsPlain : Expression → Type 0
+  IsPlain (truth p b) = Unit {0}
+  IsPlain (number p n) = IsSmall n
+  IsPlain (name p x) = IsWord x
+  IsPlain (negation p a) = IsPlain a
+  IsPlain (minus p a) = IsPlain a
+  IsPlain (pre p k a) = IsPlain a
+  IsPlain (arrow p k a b) = IsPlain a × IsPlain b
+  IsPlain (binary p o a b) = IsPlain a × IsPlain b
+  IsPlain (choice p a b c) = IsPlain a × IsPlain b × IsPlain c
+  IsPlain (sampled p a b x) = IsPlain a × IsWord x.text
+  IsPlain (merged p x a b) = IsWord x.text × IsPlain a × IsPlain b
+  IsPlain (call p k f as_) = IsWord f.text × ArePlain as_
+  IsPlain (condact p k a f as_ ds) = IsPlain a × IsWord f.text × ArePlain as_ × ArePlain ds
+  IsPlain (mode_name p None m) = IsWord m.text
+  IsPlain (mode_name p (Some c) m) = IsWord c.text × IsWord m.text
 
-  abbrev pub IsClause : Clause → Type 0
-  IsClause (assume l) = IsItem l
-  IsClause (guarantee l) = IsItem l
-  IsClause (ghost_variable v e) = IsParameter v × E e
-  IsClause (constant c) = IsConstant c
-  IsClause (mode m rs es) = W m.text × AllByRecursion IsItem rs × AllByRecursion IsItem es
-  IsClause («import» k c as_ xs) = AllByRecursion E as_
+  pub ArePlain : Expressions → Type 0
+  ArePlain no_more = Unit {0}
+  ArePlain (more a as_) = IsPlain a × ArePlain as_
 
-  abbrev pub IsStatement : Statement → Type 0
-  IsStatement (equation xs e) = (has_left_name (equation xs e) ≡ true) × E e
-  IsStatement (assertion e) = E e
-  IsStatement (property l) = IsItem l
-  IsStatement (main_mark p) = Unit {0}
+-- ---- items
 
-  abbrev pub IsComponent : Component → Type 0
-  IsComponent n =
-      W n.name.text × AllByRecursion IsParameter n.inputs × AllByRecursion IsParameter n.outputs
-      × AllByRecursion IsStream n.locals × AllByRecursion IsConstant n.constants
-      × AllByRecursion IsClause (clauses n) × AllByRecursion IsStatement n.body
+abbrev pub IsPrintable : Option Name → Type 0
+IsPrintable None = Unit {0}
+IsPrintable (Some x) = is_printable x ≡ true
 
-  abbrev pub IsDeclaration : Declaration → Type 0
-  IsDeclaration (declared_constant c) = IsConstant c
-  IsDeclaration (declared_node n) = IsComponent n
-  IsDeclaration (declared_contract n) = IsComponent n × IsContractNode n
+pub record IsItem (l : Labelled) : Type 0 where
+  pub label : IsPrintable l.label
+  pub value : IsPlain l.value
 
-  abbrev pub IsProgram : Program → Type 0
-  IsProgram p = AllByRecursion IsDeclaration p
+pub record IsConstant (c : Constant) : Type 0 where
+  pub name : IsWord c.name.text
+  pub value : IsPlain c.value
+
+abbrev pub IsStream : Variable → Type 0
+IsStream v = IsWord v.name.text
+
+-- a stream on that clock, and on the base clock
+pub record IsOnClock (c : Option (Bool × Spelled)) (v : Variable) : Type 0 where
+  pub name : IsStream v
+  pub clock : v.clock ≡ c
+
+abbrev pub IsParameter : Variable → Type 0
+IsParameter v = IsOnClock None v
+
+abbrev pub IsClause : Clause → Type 0
+IsClause (assume l) = IsItem l
+IsClause (guarantee l) = IsItem l
+IsClause (ghost_variable v e) = IsParameter v × IsPlain e
+IsClause (constant c) = IsConstant c
+IsClause (mode m rs es) = IsWord m.text × AllByRecursion IsItem rs × AllByRecursion IsItem es
+IsClause («import» k c as_ xs) = AllByRecursion IsPlain as_
+
+abbrev pub IsStatement : Statement → Type 0
+IsStatement (equation xs e) = (has_left_name (equation xs e) ≡ true) × IsPlain e
+IsStatement (assertion e) = IsPlain e
+IsStatement (property l) = IsItem l
+IsStatement (main_mark p) = Unit {0}
+
+-- ---- declarations
+
+pub record IsComponent (n : Component) : Type 0 where
+  pub name : IsWord n.name.text
+  pub inputs : AllByRecursion IsParameter n.inputs
+  pub outputs : AllByRecursion IsParameter n.outputs
+  pub locals : AllByRecursion IsStream n.locals
+  pub constants : AllByRecursion IsConstant n.constants
+  pub contract : AllByRecursion IsClause (clauses n)
+  pub body : AllByRecursion IsStatement n.body
+
+abbrev pub IsDeclaration : Declaration → Type 0
+IsDeclaration (declared_constant c) = IsConstant c
+IsDeclaration (declared_node n) = IsComponent n
+IsDeclaration (declared_contract n) = IsComponent n × IsContractNode n
+
+abbrev pub IsProgram : Program → Type 0
+IsProgram p = AllByRecursion IsDeclaration p

@@ -20,7 +20,8 @@ word_byte c h = grind (arith, common_steps)
 
 word_bytes : (w : Name) → list_all is_word w ≡ true → list_all is_name_byte w ≡ true
 word_bytes [] h = refl
-word_bytes (c ∷ w) h = both_true (is_name_byte c) (list_all is_name_byte w) (word_byte c (and_left (is_word c) _ h)) (word_bytes w (and_right (is_word c) _ h))
+word_bytes (c ∷ w) h =
+    both_true (is_name_byte c) (list_all is_name_byte w) (word_byte c (and_left (is_word c) _ h)) (word_bytes w (and_right (is_word c) _ h))
 
 begins : (w : Name) → L.is_letter (byte w 0) ≡ true → starts_name w ≡ true
 begins [] h = cc

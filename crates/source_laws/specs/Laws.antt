@@ -20,7 +20,7 @@ IsIdentifiedDeclaration (declared_contract n) = IsIdentified n
 abbrev pub AreIdentified : Program → Type 0
 AreIdentified p = AllByRecursion IsIdentifiedDeclaration p
 
--- Whatever a source declares is named by identifiers.
+-- A source's constants, its nodes and contract nodes, and the streams of these are named by identifiers.
 abbrev pub IdentifiedSources : Type 0
 IdentifiedSources = (bytes : List ℕ) (p : Program) → IsSource bytes p → AreIdentified p
 

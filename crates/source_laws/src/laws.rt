@@ -2,7 +2,8 @@
 
 ghost use Rattle.source_laws.specs.Laws.{IdentifiedSources, GrammaticalSources};
 
-/// In a source each constant, each node and contract node, and all that these declare are named by identifiers.
+/// In a source each constant, each node and contract node, and each input, output, local and ghost variable of these
+/// is named by an identifier.
 pub fn identified_sources()
     ensures { IdentifiedSources }
 {}

@@ -34,14 +34,14 @@ number_behind : (xs ys : List Slot) (p : Place) → AllByRecursion (λ s. same_p
 number_behind [] ys p a = omega arith
 number_behind (x ∷ xs) ys p a = rw a.0 (let r : number_in (xs ++ ys) p ≡ length xs + number_in ys p = number_behind xs ys p a.1 in omega arith)
 
-no_more : (k : ℕ) (ks : List ℕ) → [] ≡ k ∷ ks → ⊥
+pub no_more : (k : ℕ) (ks : List ℕ) → [] ≡ k ∷ ks → ⊥
 no_more k ks e = let f : 0 ≡ suc (length ks) = ap length e in omega arith
 
-abbrev head_of : List ℕ → ℕ
+abbrev pub head_of : List ℕ → ℕ
 head_of [] = 0
 head_of (j ∷ js) = j
 
-abbrev tail_of : List ℕ → List ℕ
+abbrev pub tail_of : List ℕ → List ℕ
 tail_of [] = []
 tail_of (j ∷ js) = js
 

@@ -1,5 +1,5 @@
 -- The places that printed text has for the variables of a Boolean node.
-use Rattle.std.proofs.Common.{◌≡◌, ℕ, zero, suc, ◌≤◌, ◌<◌, ◌+◌, ◌-◌, true, List, [], ◌∷◌, ◌++◌, map, length, refl, ap, ◌∙◌, sym, subst, arith, slice_get, Option, Some, None, is_some}
+use Rattle.std.proofs.Common.{◌≡◌, ℕ, zero, suc, ◌+◌, ◌-◌, true, List, [], ◌∷◌, ◌++◌, map, length, refl, ap, ◌∙◌, sym, subst, arith, slice_get, Option, Some, None, is_some}
 use Rattle.std.specs.Option.{option_map_or}
 use Rattle.std.proofs.lemmas.Bool.{false≢true}
 use Rattle.lus_tree.specs.Tree.{Variable, Component, Program}
@@ -14,37 +14,16 @@ use Rattle.lus_meaning.proofs.Exists.{length_mapped}
 use Rattle.lus_meaning.proofs.BooleanNode.{boolean_variables, boolean_checked_instance}
 use Rattle.sys_build.specs.Numbering.{stream_names}
 use Rattle.sys_build.specs.Printed.{PrintedPlace, printed_slot, printed_among, printed_place, boolean_subject}
-use Rattle.sys_build.proofs.Places.{name_slots, memory_slots, start_slots, node_instance, ms, ts, slots_are, memory_order, stream_names_are, names_length}
+use Rattle.sys_build.proofs.Places.{no_more, head_of, tail_of, name_slots, memory_slots, start_slots, node_instance, ms, ts, slots_are, memory_order, stream_names_are, names_length}
 use Rattle.sys_build.proofs.Few.{one_component}
-
-abbrev head_of : List ℕ → ℕ
-head_of [] = 0
-head_of (j ∷ js) = j
-
-abbrev tail_of : List ℕ → List ℕ
-tail_of [] = []
-tail_of (j ∷ js) = js
-
-no_more : (k : ℕ) (ks : List ℕ) → [] ≡ k ∷ ks → ⊥
-no_more k ks e = let f : 0 ≡ suc (length ks) = ap length e in omega arith
 
 -- ---- in one list and then another
 
-pub get_left : {A : Type 0} (xs ys : List A) (k : ℕ) → k < length xs → slice_get (xs ++ ys) k ≡ slice_get xs k
-get_left [] ys k l = absurd (omega arith)
-get_left (x ∷ xs) ys zero l = refl
-get_left (x ∷ xs) ys (suc k) l = get_left xs ys k (omega arith)
-
-pub get_right : {A : Type 0} (xs ys : List A) (k j : ℕ) → k ≡ length xs + j →
+get_right : {A : Type 0} (xs ys : List A) (k j : ℕ) → k ≡ length xs + j →
     slice_get (xs ++ ys) k ≡ slice_get ys j
 get_right [] ys k j e = let f : k ≡ j = omega (arith, e) in ap (slice_get ys) f
 get_right (x ∷ xs) ys zero j e = absurd (omega (arith, e))
 get_right (x ∷ xs) ys (suc k) j e = get_right xs ys k j (omega (arith, e))
-
-pub get_none : {A : Type 0} (xs : List A) (k : ℕ) → slice_get xs k ≡ None → length xs ≤ k
-get_none [] k e = omega arith
-get_none (x ∷ xs) zero e = absurd (false≢true (sym (ap is_some e)))
-get_none (x ∷ xs) (suc k) e = let r : length xs ≤ k = get_none xs k e in omega arith
 
 -- a name or first value of the node's own frame
 abbrev here : Subject → Option PrintedPlace

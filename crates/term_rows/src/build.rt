@@ -16,6 +16,16 @@ pub fn next(number: u32) -> Var {
     Var { number, next: true }
 }
 
+/// A flag of this state.
+pub fn flag(number: u32) -> Term {
+    Term::Flag(now(number))
+}
+
+/// A number of this state.
+pub fn value(number: u32) -> Num {
+    Num::Value(now(number))
+}
+
 /// The denial.
 pub fn not(alloc: Global, a: Term) -> Result<Term, AllocError> {
     Ok(Term::Not(Box::new(alloc, a)?))
@@ -44,6 +54,16 @@ pub fn equal(alloc: Global, a: Num, b: Num) -> Result<Term, AllocError> {
 /// The sum.
 pub fn plus(alloc: Global, a: Num, b: Num) -> Result<Num, AllocError> {
     Ok(Num::Add(Box::new(alloc, a)?, Box::new(alloc, b)?))
+}
+
+/// The difference.
+pub fn minus(alloc: Global, a: Num, b: Num) -> Result<Num, AllocError> {
+    Ok(Num::Sub(Box::new(alloc, a)?, Box::new(alloc, b)?))
+}
+
+/// So many times the number.
+pub fn times(alloc: Global, n: i128, a: Num) -> Result<Num, AllocError> {
+    Ok(Num::Scale(n, Box::new(alloc, a)?))
 }
 
 /// The second where the first is true, else the third.

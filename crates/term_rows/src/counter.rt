@@ -26,40 +26,48 @@ impl Counted {
     }
 }
 
-/// `n` is 0 at the first instant, else one more than what is kept; 0 off the beat.
+/// One more than what is kept.
+fn one_more(alloc: Global) -> Result<Num, AllocError> {
+    plus(alloc, value(2), Num::Constant(1))
+}
+
+/// 0 at the first instant, else one more than what is kept.
+fn first_or_more(alloc: Global) -> Result<Num, AllocError> {
+    let more = one_more(alloc)?;
+    choose(alloc, flag(3), Num::Constant(0), more)
+}
+
+/// The same on the beat, and 0 off it.
+fn on_beat(alloc: Global) -> Result<Num, AllocError> {
+    let value = first_or_more(alloc)?;
+    choose(alloc, flag(0), value, Num::Constant(0))
+}
+
 fn value_of_n(alloc: Global) -> Result<Term, AllocError> {
-    let more = plus(alloc, Num::Value(now(2)), Num::Constant(1))?;
-    let value = choose(alloc, Term::Flag(now(3)), Num::Constant(0), more)?;
-    let on_beat = choose(alloc, Term::Flag(now(0)), value, Num::Constant(0))?;
-    equal(alloc, Num::Value(now(1)), on_beat)
+    let on_beat = on_beat(alloc)?;
+    equal(alloc, value(1), on_beat)
 }
 
 fn kept_next(alloc: Global) -> Result<Term, AllocError> {
-    let kept = choose(
-        alloc,
-        Term::Flag(now(0)),
-        Num::Value(now(1)),
-        Num::Value(now(2)),
-    )?;
+    let kept = choose(alloc, flag(0), value(1), value(2))?;
     equal(alloc, Num::Value(next(2)), kept)
 }
 
 fn first_next(alloc: Global) -> Result<Term, AllocError> {
-    let off = not(alloc, Term::Flag(now(0)))?;
-    let still = and(alloc, Term::Flag(now(3)), off)?;
+    let off = not(alloc, flag(0))?;
+    let still = and(alloc, flag(3), off)?;
     same(alloc, Term::Flag(next(3)), still)
 }
 
 /// The counter as a system.
 pub fn counter(alloc: Global) -> Result<System, AllocError> {
-    let (flag, number) = (Shape::Flag, Shape::Number);
-    let at_least_0 = at_most(alloc, Num::Constant(0), Num::Value(now(1)))?;
-    let at_least_3 = at_most(alloc, Num::Constant(3), Num::Value(now(1)))?;
+    let at_least_0 = at_most(alloc, Num::Constant(0), value(1))?;
+    let at_least_3 = at_most(alloc, Num::Constant(3), value(1))?;
     let below_3 = not(alloc, at_least_3)?;
     Ok(System {
-        shapes: vec![in alloc; flag, number, number, flag]?,
-        first: vec![in alloc; Term::Flag(now(3))]?,
-        here: vec![in alloc; Term::Flag(now(0)), value_of_n(alloc)?]?,
+        shapes: vec![in alloc; Shape::Flag, Shape::Number, Shape::Number, Shape::Flag]?,
+        first: vec![in alloc; flag(3)]?,
+        here: vec![in alloc; flag(0), value_of_n(alloc)?]?,
         next: vec![in alloc; kept_next(alloc)?, first_next(alloc)?]?,
         legal: Vec::new(alloc),
         properties: vec![in alloc; at_least_0, below_3]?,

@@ -19,13 +19,21 @@ const DIVISIONS: [Division; 5] = [
     (i128::MIN, -1, 0, 0),
 ];
 
+fn quotient_is(alloc: Global, n: i128, d: i128, q: i128) -> Result<Term, AllocError> {
+    let n = Box::new(alloc, Num::Constant(n))?;
+    equal(alloc, Num::Div(n, d), Num::Constant(q))
+}
+
+fn remainder_is(alloc: Global, n: i128, d: i128, r: i128) -> Result<Term, AllocError> {
+    let n = Box::new(alloc, Num::Constant(n))?;
+    equal(alloc, Num::Mod(n, d), Num::Constant(r))
+}
+
 /// That the quotient and the remainder are these.
 fn division_term(alloc: Global, division: Division) -> Result<Term, AllocError> {
     let (n, d, q, r) = division;
-    let quotient = Num::Div(Box::new(alloc, Num::Constant(n))?, d);
-    let remainder = Num::Mod(Box::new(alloc, Num::Constant(n))?, d);
-    let first = equal(alloc, quotient, Num::Constant(q))?;
-    let second = equal(alloc, remainder, Num::Constant(r))?;
+    let first = quotient_is(alloc, n, d, q)?;
+    let second = remainder_is(alloc, n, d, r)?;
     and(alloc, first, second)
 }
 
@@ -58,20 +66,33 @@ fn value_line(alloc: Global, term: &Term, state: &State) -> Result<String, Alloc
     }
 }
 
-/// Terms that break one demand each, or none.
-fn samples(alloc: Global) -> Result<Vec<Term>, AllocError> {
-    let heaviest = Num::Scale(1 << 63, Box::new(alloc, Num::Value(now(1)))?);
+/// `y div 0 <= 0`
+fn divided_by_0(alloc: Global) -> Result<Term, AllocError> {
+    let y = Box::new(alloc, value(1))?;
+    at_most(alloc, Num::Div(y, 0), Num::Constant(0))
+}
+
+/// `2^63 y + 1 <= y`
+fn too_heavy(alloc: Global) -> Result<Term, AllocError> {
+    let heaviest = times(alloc, 1 << 63, value(1))?;
     let heavier = plus(alloc, heaviest, Num::Constant(1))?;
-    let half = Num::Div(Box::new(alloc, Num::Value(now(1)))?, 0);
-    let mut terms = Vec::new(alloc);
-    terms.push(Term::Truth(true))?;
-    terms.push(not(alloc, Term::Flag(now(0)))?)?;
-    terms.push(Term::Flag(now(1)))?;
-    terms.push(same(alloc, Term::Flag(now(0)), Term::Flag(next(0)))?)?;
-    terms.push(at_most(alloc, half, Num::Constant(0))?)?;
-    terms.push(at_most(alloc, Num::Constant(1 << 63), Num::Value(now(1)))?)?;
-    terms.push(at_most(alloc, heavier, Num::Value(now(1)))?)?;
-    Ok(terms)
+    at_most(alloc, heavier, value(1))
+}
+
+/// How many samples there are.
+const SAMPLES: u32 = 7;
+
+/// The term of that number from 0 on, which breaks one demand or none.
+fn sample(alloc: Global, number: u32) -> Result<Term, AllocError> {
+    match number {
+        0 => Ok(Term::Truth(true)),
+        1 => not(alloc, flag(0)),
+        2 => Ok(flag(1)),
+        3 => same(alloc, flag(0), Term::Flag(next(0))),
+        4 => divided_by_0(alloc),
+        5 => at_most(alloc, Num::Constant(1 << 63), value(1)),
+        _ => too_heavy(alloc),
+    }
 }
 
 /// Its parts, whether it fits, is of one state and light, has at most two levels, and equals its copy.
@@ -98,8 +119,8 @@ pub fn lines(alloc: Global) -> Result<Vec<String>, AllocError> {
     for number in EDGES {
         lines.push(value_line(alloc, &edge_term(alloc)?, &state(alloc, number)?)?)?;
     }
-    for term in samples(alloc)? {
-        lines.push(sample_line(alloc, &term)?)?;
+    for number in 0..SAMPLES {
+        lines.push(sample_line(alloc, &sample(alloc, number)?)?)?;
     }
     Ok(lines)
 }

@@ -4,8 +4,12 @@ use std::alloc::{AllocError, Global};
 use sys_terms::{Num, Term, Var};
 
 fn var_text(alloc: Global, var: Var) -> Result<String, AllocError> {
-    let mark = if var.next { "'" } else { "" };
-    format!(in alloc; "v{}{}", var.number, mark)
+    let number = var.number;
+    if var.next {
+        format!(in alloc; "v{number}'")
+    } else {
+        format!(in alloc; "v{number}")
+    }
 }
 
 /// The term as text.

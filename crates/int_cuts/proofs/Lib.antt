@@ -1,0 +1,12 @@
+pub mod Firsts
+pub mod Remainders
+pub mod Stands
+pub mod Steps
+pub mod Multiples
+pub mod Combined
+pub mod Listed
+pub mod Broken
+pub mod Made
+pub mod Facing
+pub mod Pasts
+pub mod Answered

@@ -1,0 +1,18 @@
+//! The rules of names, types and numbers.
+#![tactic(auto)]
+
+mod calls;
+mod equation;
+mod expression;
+mod forms;
+mod found;
+mod least;
+mod lookup;
+mod notes;
+mod part;
+mod scope;
+mod statement;
+mod values;
+mod weights;
+mod worth;
+mod worths;

@@ -1,0 +1,8 @@
+use Rattle.std.specs.Prelude.{◌≡◌, true, IfSome}
+use Rattle.simplex_cases.proofs.main.Given as goal
+
+abbrev pub invariant-loop-line : goal.invariant-loop-line
+invariant-loop-line l =
+    (goal.iterator-loop-line).can_next l.line-iterator
+    × (goal.iterator-loop-line).is_finite l.line-iterator
+    × IfSome l.tableau (λ t. t.usable ≡ true)
