@@ -12,6 +12,8 @@ pub type Table = (&'static str, Ask);
 pub enum Ask {
     /// `SOURCE | TRACE`: a replay of the trace on the source.
     Replay,
+    /// `SOURCE`: its proof.
+    Prove,
     /// Words. The first fetch would fail.
     Words,
     /// `FETCHES | PUTS | WORDS | SOURCE | TRACE`: the fetches and the puts with these numbers fail.
@@ -28,6 +30,10 @@ pub fn answer(alloc: Global, ask: Ask, line: &str) -> Result<String, AllocError>
     match ask {
         Ask::Replay => {
             add_words(alloc, "replay f t", &mut case)?;
+            add_files(alloc, line, &mut case)?;
+        }
+        Ask::Prove => {
+            add_words(alloc, "prove f", &mut case)?;
             add_files(alloc, line, &mut case)?;
         }
         Ask::Words => {

@@ -11,7 +11,7 @@ use std::alloc::Global;
 use std::{fs, io};
 
 /// A table of cases is a file, and what each of its lines says.
-const TABLES: [Table; 14] = [
+const TABLES: [Table; 17] = [
     ("first_replays", Ask::Replay),
     ("order_of_properties", Ask::Replay),
     ("order_of_equations", Ask::Replay),
@@ -24,8 +24,11 @@ const TABLES: [Table; 14] = [
     ("no_tree", Ask::Replay),
     ("limits", Ask::Replay),
     ("misfits", Ask::Replay),
+    ("proofs", Ask::Prove),
+    ("proofs_of_operators", Ask::Prove),
     ("other_words", Ask::Words),
     ("failing_calls", Ask::Calls),
+    ("failing_proofs", Ask::Calls),
 ];
 
 fn main(rt: HostRuntime) -> io::Result<()> {

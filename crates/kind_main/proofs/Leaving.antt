@@ -1,9 +1,12 @@
 -- What a call leaves, from its answer and its printing.
-use Rattle.std.proofs.Common.{◌≡◌, ◌≢◌, ℕ, ◌⊎◌, inl, inr, List, [], ◌∷◌, ◌++◌, refl, sym, ap, ◌∙◌, subst, arith, append-nil}
+use Rattle.std.proofs.Common.{◌≡◌, ◌≢◌, ◌==◌, ℕ, Bool, true, false, cond, ◌⊎◌, inl, inr, List, [], ◌∷◌, ◌++◌, refl, sym, ap, ◌∙◌, subst, arith, append-nil}
 use Rattle.std.specs.Io.KnownBytes.{Appends}
-use Rattle.kind_main.specs.Words.{AreReplay}
+use Rattle.kind_main.specs.Words as W
+use Rattle.kind_main.specs.Words.{AreProve, AreReplay, AreNoCommand}
 use Rattle.kind_main.specs.Lines.{Line, text_of, usage_line, memory_line, read_fault_line}
 use Rattle.kind_main.specs.Report.{code_of}
+use Rattle.kind_main.specs.Verdicts.{Tally, tally_code, tally_of}
+use Rattle.kind_main.specs.Proved.{IsProved}
 use Rattle.kind_main.specs.Printing as P
 use Rattle.kind_main.specs.Printing.{IsSaid, Printed}
 use Rattle.kind_main.specs.Ending.{Ending, usage, unread, refused, done, lines_of, status_of, Shows}
@@ -12,7 +15,56 @@ use Rattle.kind_main.specs.Traced.{IsReplayed}
 use Rattle.kind_main.specs.Answer as A
 use Rattle.kind_main.specs.Answer.{EndsSo, IsAnswer}
 use Rattle.kind_main.specs.Left as L
-use Rattle.kind_main.specs.Left.{AreFirst, IsWhole, Leaves, Written, IsDone, IsUsage, IsRefusal, IsUnread, IsBroken, IsShort, IsKnown}
+use Rattle.kind_main.specs.Left.{AreFirst, IsWhole, Leaves, Written, IsProofCode, IsReplayCode, IsProofDone, IsReplayDone, IsUsage, IsRefusal, IsUnread, IsBroken, IsShort, IsKnown}
+
+-- ---- the words of one command are not those of another
+
+one_file : (words : List (List ℕ)) (a b : List ℕ) → AreProve words a → AreProve words b → a ≡ b
+one_file words a b (W.no_words e f) (W.no_words g h) = f ∙ sym h
+one_file words a b (W.no_words e f) (W.on_input g h) = f ∙ sym h
+one_file words a b (W.no_words e f) (W.on_file g h) = cc
+one_file words a b (W.on_input e f) (W.no_words g h) = f ∙ sym h
+one_file words a b (W.on_input e f) (W.on_input g h) = f ∙ sym h
+one_file words a b (W.on_input e f) (W.on_file g h) = cc
+one_file words a b (W.on_file e f) (W.no_words g h) = cc
+one_file words a b (W.on_file e f) (W.on_input g h) = cc
+one_file words a b (W.on_file e f) (W.on_file g h) = cc
+
+not_both : (words : List (List ℕ)) (a file trace : List ℕ) → AreProve words a → AreReplay words file trace → ⊥
+not_both words a file trace (W.no_words e f) r = let g = r.spelled in cc
+not_both words a file trace (W.on_input e f) r = let g = r.spelled in cc
+not_both words a file trace (W.on_file e f) r = let g = r.spelled in cc
+
+same_file : (words : List (List ℕ)) (a b c d : List ℕ) → AreReplay words a b → AreReplay words c d → a ≡ c
+same_file words a b c d r s = let e = r.spelled in let f = s.spelled in cc
+
+same_trace : (words : List (List ℕ)) (a b c d : List ℕ) → AreReplay words a b → AreReplay words c d → b ≡ d
+same_trace words a b c d r s = let e = r.spelled in let f = s.spelled in cc
+
+-- ---- statuses
+
+proof_code : (t : Tally) → IsProofCode (tally_code t)
+proof_code t = by (t.falsifiable == 0) (t.unknown == 0)
+  where
+    by : (a b : Bool) → IsProofCode (cond a (cond b 0 4) 1)
+    by true true = inl refl
+    by true false = inr (inr refl)
+    by false b = inr (inl refl)
+
+replay_code : (lines : List Line) → IsReplayCode (code_of lines)
+replay_code [] = inr refl
+replay_code (l ∷ ls) = inl refl
+
+-- a command that was carried out
+abbrev IsDoneCode : ℕ → Type 0
+IsDoneCode code = IsProofCode code ⊎ IsReplayCode code
+
+-- none of the other statuses
+not_other : (code k : ℕ) → IsDoneCode code → code ≡ k → (k ≡ 2) ⊎ ((k ≡ 3) ⊎ ((k ≡ 5) ⊎ ((k ≡ 6) ⊎ (k ≡ 7)))) → ⊥
+not_other code k d e o = elim d [
+  | inl p ↦ elim p [ inl x ↦ omega arith | inr q ↦ elim q [ inl x ↦ omega arith | inr x ↦ omega arith ] ]
+  | inr p ↦ elim p [ inl x ↦ omega arith | inr x ↦ omega arith ]
+]
 
 module _ (told : Tells) (before now : ℕ) (words : List (List ℕ)) (puts_before puts_now : ℕ) (old new : Written) where
   first_of : (lines first rest : List Line) (status : ℕ) → IsAnswer told before now words lines status → lines ≡ first ++ rest → AreFirst told before now words first
@@ -32,72 +84,79 @@ module _ (told : Tells) (before now : ℕ) (words : List (List ℕ)) (puts_befor
 
   -- ---- status by status
 
-  one_or_ten : (lines : List Line) → (code_of lines ≡ 1) ⊎ (code_of lines ≡ 10)
-  one_or_ten [] = inr refl
-  one_or_ten (l ∷ ls) = inl refl
-
   -- a command that was carried out has a status of its own
-  done_code : (e : Ending) → EndsSo told before now words e → (lines : List Line) (k : ℕ) → e ≡ done lines k → (k ≡ 1) ⊎ (k ≡ 10)
-  done_code usage s lines k q = cc
-  done_code (unread name) s lines k q = cc
-  done_code (refused line) s lines k q = cc
-  done_code (done ls j) (A.no_command o e) lines k q = cc
-  done_code (done ls j) (A.replay file trace m r) lines k q =
-      let f : j ≡ k = cc in
-      elim (one_or_ten r.replay.broken) [ inl e ↦ inl (sym f ∙ r.replay.status ∙ e) | inr e ↦ inr (sym f ∙ r.replay.status ∙ e) ]
+  done_code : (lines : List Line) (k : ℕ) → EndsSo told before now words (done lines k) → IsDoneCode k
+  done_code lines k (A.no_command o e) = cc
+  done_code lines k (A.prove file m r) = inl (subst IsProofCode (sym r.proof.status) (proof_code (tally_of r.proof.verdicts)))
+  done_code lines k (A.replay file trace m r) = inr (subst IsReplayCode (sym r.replay.status) (replay_code r.replay.broken))
 
   line_alone : (lines : List Line) (line : Line) → lines ≡ line ∷ [] → Appends old new (text_of lines) → Appends old new line
   line_alone lines line e w = subst (Appends old new) (ap text_of e ∙ append-nil line) w
 
-  done_by : (lines : List Line) (code : ℕ) (e : Ending) → EndsSo told before now words e → Shows lines code e → Appends old new (text_of lines) → (code ≡ 1) ⊎ (code ≡ 10) → IsDone told words old new code
-  done_by lines code usage s h w c = let k : code ≡ 2 = h.status in absurd (elim c [ inl e ↦ omega arith | inr e ↦ omega arith ])
-  done_by lines code (unread name) s h w c = let k : code ≡ 5 = h.status in absurd (elim c [ inl e ↦ omega arith | inr e ↦ omega arith ])
-  done_by lines code (refused line) s h w c = let k : code ≡ 3 = h.status in absurd (elim c [ inl e ↦ omega arith | inr e ↦ omega arith ])
-  done_by lines code (done ls j) (A.no_command o e) h w c = cc
-  done_by lines code (done ls j) (A.replay file trace m r) h w c = record {
-    file = file;
-    trace = trace;
-    command = m;
+  proof_by : (lines : List Line) (code : ℕ) (e : Ending) → EndsSo told before now words e → Shows lines code e → Appends old new (text_of lines)
+      → (file : List ℕ) → AreProve words file → IsDoneCode code → IsProofDone (told file) old new code
+  proof_by lines code usage s h w file m c = absurd (not_other code 2 c h.status (inl refl))
+  proof_by lines code (unread name) s h w file m c = absurd (not_other code 5 c h.status (inr (inr (inl refl))))
+  proof_by lines code (refused line) s h w file m c = absurd (not_other code 3 c h.status (inr (inl refl)))
+  proof_by lines code (done ls j) (A.no_command o e) h w file m c = cc
+  proof_by lines code (done ls j) (A.replay f t r d) h w file m c = absurd (not_both words file f t m r)
+  proof_by lines code (done ls j) (A.prove f n d) h w file m c = record {
     lines = lines;
-    replayed = subst (IsReplayed told file trace lines) (sym h.status) (subst (λ l. IsReplayed told file trace l j) (sym h.printed) r);
+    proved = subst (λ x. IsProved (told x) lines code) (one_file words f file n m)
+        (subst (IsProved (told f) lines) (sym h.status) (subst (λ l. IsProved (told f) l j) (sym h.printed) d));
+    printed = w;
+  }
+
+  replay_by : (lines : List Line) (code : ℕ) (e : Ending) → EndsSo told before now words e → Shows lines code e → Appends old new (text_of lines)
+      → (file trace : List ℕ) → AreReplay words file trace → IsDoneCode code → IsReplayDone told file trace old new code
+  replay_by lines code usage s h w file trace m c = absurd (not_other code 2 c h.status (inl refl))
+  replay_by lines code (unread name) s h w file trace m c = absurd (not_other code 5 c h.status (inr (inr (inl refl))))
+  replay_by lines code (refused line) s h w file trace m c = absurd (not_other code 3 c h.status (inr (inl refl)))
+  replay_by lines code (done ls j) (A.no_command o e) h w file trace m c = cc
+  replay_by lines code (done ls j) (A.prove f n d) h w file trace m c = absurd (not_both words f file trace n m)
+  replay_by lines code (done ls j) (A.replay f t n d) h w file trace m c = record {
+    lines = lines;
+    replayed = subst (λ x. IsReplayed told x trace lines code) (same_file words f t file trace n m)
+        (subst (λ x. IsReplayed told f x lines code) (same_trace words f t file trace n m)
+        (subst (IsReplayed told f t lines) (sym h.status) (subst (λ l. IsReplayed told f t l j) (sym h.printed) d)));
     printed = w;
   }
 
   usage_by : (lines : List Line) (code : ℕ) (e : Ending) → EndsSo told before now words e → Shows lines code e → Appends old new (text_of lines) → code ≡ 2 → IsUsage words old new
   usage_by lines code usage (A.no_command o e) h w c = record { other = o; printed = line_alone lines usage_line h.printed w }
+  usage_by lines code usage (A.prove file m r) h w c = absurd r
   usage_by lines code usage (A.replay file trace m r) h w c = absurd r
   usage_by lines code (unread name) s h w c = let k : code ≡ 5 = h.status in absurd (omega arith)
   usage_by lines code (refused line) s h w c = let k : code ≡ 3 = h.status in absurd (omega arith)
-  usage_by lines code (done ls j) s h w c =
-      let k : code ≡ j = h.status in
-      absurd (elim (done_code (done ls j) s ls j refl) [ inl e ↦ omega arith | inr e ↦ omega arith ])
+  usage_by lines code (done ls j) s h w c = absurd (not_other j 2 (done_code ls j s) (sym h.status ∙ c) (inl refl))
 
   refusal_by : (lines : List Line) (code : ℕ) (e : Ending) → EndsSo told before now words e → Shows lines code e → Appends old new (text_of lines) → code ≡ 3 → IsRefusal told words old new
   refusal_by lines code (refused line) (A.no_command o e) h w c = cc
-  refusal_by lines code (refused line) (A.replay file trace m r) h w c =
-      record { file = file; trace = trace; command = m; line = line; cause = r; printed = line_alone lines line h.printed w }
+  refusal_by lines code (refused line) (A.prove file m r) h w c = record { line = line; cause = L.in_proof file m r; printed = line_alone lines line h.printed w }
+  refusal_by lines code (refused line) (A.replay file trace m r) h w c = record { line = line; cause = L.in_replay file trace m r; printed = line_alone lines line h.printed w }
   refusal_by lines code usage s h w c = let k : code ≡ 2 = h.status in absurd (omega arith)
   refusal_by lines code (unread name) s h w c = let k : code ≡ 5 = h.status in absurd (omega arith)
-  refusal_by lines code (done ls j) s h w c =
-      let k : code ≡ j = h.status in
-      absurd (elim (done_code (done ls j) s ls j refl) [ inl e ↦ omega arith | inr e ↦ omega arith ])
+  refusal_by lines code (done ls j) s h w c = absurd (not_other j 3 (done_code ls j s) (sym h.status ∙ c) (inr (inl refl)))
 
   unread_by : (lines : List Line) (code : ℕ) (e : Ending) → EndsSo told before now words e → Shows lines code e → Appends old new (text_of lines) → code ≡ 5 → IsUnread told before now words old new
   unread_by lines code (unread name) (A.no_command o e) h w c = cc
+  unread_by lines code (unread name) (A.prove file m r) h w c =
+      record { rose = r.0; name = name; which = L.in_proof file m r.1; printed = line_alone lines (read_fault_line name) h.printed w }
   unread_by lines code (unread name) (A.replay file trace m r) h w c =
-      record { rose = r.0; file = file; trace = trace; command = m; name = name; which = r.1; printed = line_alone lines (read_fault_line name) h.printed w }
+      record { rose = r.0; name = name; which = L.in_replay file trace m r.1; printed = line_alone lines (read_fault_line name) h.printed w }
   unread_by lines code usage s h w c = let k : code ≡ 2 = h.status in absurd (omega arith)
   unread_by lines code (refused line) s h w c = let k : code ≡ 3 = h.status in absurd (omega arith)
-  unread_by lines code (done ls j) s h w c =
-      let k : code ≡ j = h.status in
-      absurd (elim (done_code (done ls j) s ls j refl) [ inl e ↦ omega arith | inr e ↦ omega arith ])
+  unread_by lines code (done ls j) s h w c = absurd (not_other j 5 (done_code ls j s) (sym h.status ∙ c) (inr (inr (inl refl))))
 
-  known_by : (lines : List Line) (code : ℕ) (e : Ending) → EndsSo told before now words e → Shows lines code e → IsKnown code
-  known_by lines code usage s h = inr (inl h.status)
-  known_by lines code (unread name) s h = inr (inr (inr (inl h.status)))
-  known_by lines code (refused line) s h = inr (inr (inl h.status))
-  known_by lines code (done ls j) s h =
-      elim (done_code (done ls j) s ls j refl) [ inl e ↦ inl (h.status ∙ e) | inr e ↦ inr (inr (inr (inr (inr (inr (h.status ∙ e)))))) ]
+  known_by : (lines : List Line) (code : ℕ) (e : Ending) → EndsSo told before now words e → Shows lines code e → IsKnown words code
+  known_by lines code usage s h = L.of_no_command (inl h.status)
+  known_by lines code (unread name) s h = L.of_no_command (inr (inr (inl h.status)))
+  known_by lines code (refused line) s h = L.of_no_command (inr (inl h.status))
+  known_by lines code (done ls j) (A.no_command o e) h = cc
+  known_by lines code (done ls j) (A.prove file m r) h =
+      L.of_proof file m (subst IsProofCode (sym (h.status ∙ r.proof.status)) (proof_code (tally_of r.proof.verdicts)))
+  known_by lines code (done ls j) (A.replay file trace m r) h =
+      L.of_replay file trace m (subst IsReplayCode (sym (h.status ∙ r.replay.status)) (replay_code r.replay.broken))
 
   -- no answer has the status of a put that failed, or of want of memory
   not_by : (lines : List Line) (code k : ℕ) (e : Ending) → EndsSo told before now words e → Shows lines code e → code ≡ k → (k ≡ 6) ⊎ (k ≡ 7) → ⊥
@@ -105,13 +164,17 @@ module _ (told : Tells) (before now : ℕ) (words : List (List ℕ)) (puts_befor
   not_by lines code k (unread name) s h c d = let j : code ≡ 5 = h.status in elim d [ inl e ↦ omega arith | inr e ↦ omega arith ]
   not_by lines code k (refused line) s h c d = let j : code ≡ 3 = h.status in elim d [ inl e ↦ omega arith | inr e ↦ omega arith ]
   not_by lines code k (done ls j) s h c d =
-      let q : code ≡ j = h.status in
-      elim (done_code (done ls j) s ls j refl) [ inl e ↦ elim d [ inl f ↦ omega arith | inr f ↦ omega arith ] | inr e ↦ elim d [ inl f ↦ omega arith | inr f ↦ omega arith ] ]
+      not_other j k (done_code ls j s) (sym h.status ∙ c) (elim d [ inl e ↦ inr (inr (inr (inl e))) | inr e ↦ inr (inr (inr (inr e))) ])
 
-  pub done_of : (code : ℕ) → Leaves told before now words puts_before puts_now old new code → (code ≡ 1) ⊎ (code ≡ 10) → IsDone told words old new code
-  done_of code (L.answer lines a w) h = done_by lines code a.ending a.ends a.shown w h
-  done_of code (L.failed text c r t w) h = absurd (elim h [ inl e ↦ omega arith | inr e ↦ omega arith ])
-  done_of code (L.no_memory lines c f w) h = absurd (elim h [ inl e ↦ omega arith | inr e ↦ omega arith ])
+  pub proof_of : (code : ℕ) → Leaves told before now words puts_before puts_now old new code → (file : List ℕ) → AreProve words file → IsProofCode code → IsProofDone (told file) old new code
+  proof_of code (L.answer lines a w) file m h = proof_by lines code a.ending a.ends a.shown w file m (inl h)
+  proof_of code (L.failed text c r t w) file m h = absurd (not_other code 6 (inl h) c (inr (inr (inr (inl refl)))))
+  proof_of code (L.no_memory lines c f w) file m h = absurd (not_other code 7 (inl h) c (inr (inr (inr (inr refl)))))
+
+  pub replay_of : (code : ℕ) → Leaves told before now words puts_before puts_now old new code → (file trace : List ℕ) → AreReplay words file trace → IsReplayCode code → IsReplayDone told file trace old new code
+  replay_of code (L.answer lines a w) file trace m h = replay_by lines code a.ending a.ends a.shown w file trace m (inr h)
+  replay_of code (L.failed text c r t w) file trace m h = absurd (not_other code 6 (inr h) c (inr (inr (inr (inl refl)))))
+  replay_of code (L.no_memory lines c f w) file trace m h = absurd (not_other code 7 (inr h) c (inr (inr (inr (inr refl)))))
 
   pub usage_of : (code : ℕ) → Leaves told before now words puts_before puts_now old new code → code ≡ 2 → IsUsage words old new
   usage_of code (L.answer lines a w) h = usage_by lines code a.ending a.ends a.shown w h
@@ -138,10 +201,10 @@ module _ (told : Tells) (before now : ℕ) (words : List (List ℕ)) (puts_befor
   short_of code (L.failed text c r t w) h = absurd (omega arith)
   short_of code (L.no_memory lines c f w) h = record { lines = lines; first = f; printed = w }
 
-  pub known_of : (code : ℕ) → Leaves told before now words puts_before puts_now old new code → IsKnown code
+  pub known_of : (code : ℕ) → Leaves told before now words puts_before puts_now old new code → IsKnown words code
   known_of code (L.answer lines a w) = known_by lines code a.ending a.ends a.shown
-  known_of code (L.failed text c r t w) = inr (inr (inr (inr (inl c))))
-  known_of code (L.no_memory lines c f w) = inr (inr (inr (inr (inr (inl c)))))
+  known_of code (L.failed text c r t w) = L.of_no_command (inr (inr (inr (inl c))))
+  known_of code (L.no_memory lines c f w) = L.of_no_command (inr (inr (inr (inr c))))
 
-  pub words_of : (code : ℕ) → Leaves told before now words puts_before puts_now old new code → (file trace : List ℕ) → AreReplay words file trace → code ≡ 2 → ⊥
-  words_of code e file trace m h = (usage_of code e h).other file trace m
+  pub words_of : (code : ℕ) → Leaves told before now words puts_before puts_now old new code → code ≡ 2 → AreNoCommand words
+  words_of code e h = (usage_of code e h).other

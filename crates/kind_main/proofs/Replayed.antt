@@ -26,8 +26,11 @@ one_node p d e x only named = by_name (bytes_eq x d.name.text) (subst (λ q. fir
     by_name false h = cc
 
 module _ (p : Program) (d : Component) (checked : IsBooleanChecked p d) where
-  body_only : properties (instance_of p d) ≡ body_properties (instance_of p d) d.body
+  pub body_only : properties (instance_of p d) ≡ body_properties (instance_of p d) d.body
   body_only = subst (λ (i : Instance). properties i ≡ body_properties i d.body) (sym (boolean_checked_instance p d checked)) (properties_are d checked.rules.shape)
+
+  pub labelled_many : length (labelled_in d.body) ≡ length (properties (instance_of p d))
+  labelled_many = as_many (instance_of p d) d.body ∙ ap length (sym body_only)
 
   pub few : IsWithinCounts p d → length (labelled_in d.body) ≤ 500
   few limits = subst (λ n. n ≤ 500) (sym (as_many (instance_of p d) d.body ∙ ap length (sym body_only))) limits.properties

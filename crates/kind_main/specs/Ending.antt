@@ -1,5 +1,7 @@
 -- How a command ends, where memory is found.
 use Rattle.std.specs.Prelude.{◌≡◌, ℕ, List, [], ◌∷◌, map, Result, Ok, Err, Option, Some, None, IfSome}
+use Rattle.std.specs.declared.vec.Vec.{Vec}
+use Rattle.std.specs.declared.alloc.Global.{Global}
 use Rattle.std.specs.String.{string_bytes}
 use Rattle.kind_main.specs.declared.ending.Report.{Report}
 use Rattle.kind_main.specs.declared.ending.Stopped.{Stopped}
@@ -26,6 +28,13 @@ status_of (unread name) = 5
 status_of (refused line) = 3
 status_of (done lines code) = code
 
+-- lines without where they lie in memory
+abbrev pub line_bytes : Vec ℕ Global → Line
+line_bytes l = l.items
+
+abbrev pub lines_view : List (Vec ℕ Global) → List Line
+lines_view = map line_bytes
+
 -- the ending that a stop is; want of memory is none
 abbrev pub stop_of : Stopped → Option Ending
 stop_of Usage = Some usage
@@ -34,7 +43,7 @@ stop_of (Refused line) = Some (refused (string_bytes line))
 stop_of Memory = None
 
 abbrev pub ending_of : Result Report Stopped → Option Ending
-ending_of (Ok r) = Some (done (map string_bytes r.lines.items) r.status.code)
+ending_of (Ok r) = Some (done (lines_view r.lines.items) r.status.code)
 ending_of (Err s) = stop_of s
 
 abbrev pub IfStopped : (Ending → Type 0) → Stopped → Type 0

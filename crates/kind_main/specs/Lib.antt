@@ -5,6 +5,8 @@ pub mod Ending
 pub mod Fetched
 pub mod Source
 pub mod Traced
+pub mod Verdicts
+pub mod Proved
 pub mod Answer
 pub mod Printing
 pub mod Left

@@ -1,10 +1,18 @@
 -- The words of the command line.
 use Rattle.std.specs.Prelude.{◌≡◌, ℕ, Bool, false, ◌==◌, List, [], ◌∷◌, codes}
+use Rattle.kind_main.specs.declared.words.Command.{Command}
+use Rattle.kind_main.specs.declared.words.Command.TheVariants.{Prove, Replay}
 
 -- a word that begins with `-` is an option, and no positional word
 abbrev pub is_option : List ℕ → Bool
 is_option [] = false
 is_option (b ∷ bs) = b == 45
+
+-- no words, the word `prove`, or `prove FILE`; without a file the name is empty, which is standard input
+pub data AreProve (words : List (List ℕ)) (file : List ℕ) : Type 0 where
+  no_words : words ≡ [] → file ≡ [] → AreProve words file
+  on_input : words ≡ codes "prove" ∷ [] → file ≡ [] → AreProve words file
+  on_file : words ≡ codes "prove" ∷ file ∷ [] → is_option file ≡ false → AreProve words file
 
 -- the words `replay FILE TRACE`
 pub record AreReplay (words : List (List ℕ)) (file trace : List ℕ) : Type 0 where
@@ -13,5 +21,11 @@ pub record AreReplay (words : List (List ℕ)) (file trace : List ℕ) : Type 0 
   pub trace_word : is_option trace ≡ false
 
 -- the words are of no form that is built
-abbrev pub AreNoCommand : List (List ℕ) → Type 0
-AreNoCommand words = (file trace : List ℕ) → AreReplay words file trace → ⊥
+pub record AreNoCommand (words : List (List ℕ)) : Type 0 where
+  pub no_proof : (file : List ℕ) → AreProve words file → ⊥
+  pub no_replay : (file trace : List ℕ) → AreReplay words file trace → ⊥
+
+-- the words are those of the command
+abbrev pub IsCommand : List (List ℕ) → Command → Type 0
+IsCommand words (Prove source) = AreProve words source.now
+IsCommand words (Replay source trace) = AreReplay words source.now trace.now

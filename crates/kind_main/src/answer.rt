@@ -1,14 +1,15 @@
 //! The answer to the words: how their command ends, where memory is found, and what is printed of it.
 ghost use Rattle.std.specs.Prelude.{◌≡◌, ◌∷◌, [], map, IfOk, IsSomeAnd};
 ghost use Rattle.std.specs.String.{string_bytes};
-ghost use Rattle.kind_main.specs.Ending.{IfEnded, ending_of, Shows};
+ghost use Rattle.kind_main.specs.Ending.{IfEnded, ending_of, lines_view, Shows};
 ghost use Rattle.kind_main.specs.Answer.{EndsSo, IsAnswer};
 
 use crate::ending::{Report, Stopped};
+use crate::proving::prove_file;
 use crate::replaying::replay_files;
 use crate::status::Status;
 use crate::text::read_fault_text;
-use crate::words::command;
+use crate::words::{Command, read_words};
 use kind_io::Shelf;
 use std::alloc::{AllocError, Global};
 
@@ -16,19 +17,20 @@ use std::alloc::{AllocError, Global};
 fn carried_out<H: Shelf>(alloc: Global, words: &[String], shelf: &mut H) -> Result<Report, Stopped>
     ensures { IfEnded (EndsSo (H.told shelf.old) (H.faults shelf.old) (H.faults shelf.new) (map string_bytes words.now)) result }
 {
-    match command(words) {
+    match read_words(words) {
         None => Err(Stopped::Usage),
-        Some(files) => replay_files(alloc, files.source, files.trace, shelf),
+        Some(Command::Prove { source }) => prove_file(alloc, source, shelf),
+        Some(Command::Replay { source, trace }) => replay_files(alloc, source, trace, shelf),
     }
 }
 
 /// A report of one line.
 fn one_line(alloc: Global, line: String, code: u8) -> Result<Report, AllocError>
-    ensures lines { IfOk result (λ r. map string_bytes r.lines.items ≡ string_bytes line ∷ []) }
+    ensures lines { IfOk result (λ r. lines_view r.lines.items ≡ string_bytes line ∷ []) }
     ensures status { IfOk result (λ r. r.status.code ≡ code) }
 {
     let mut lines = Vec::new(alloc);
-    lines.push(line)?;
+    lines.push(line.into_bytes())?;
     Ok(Report {
         lines,
         status: Status { code },
@@ -37,7 +39,7 @@ fn one_line(alloc: Global, line: String, code: u8) -> Result<Report, AllocError>
 
 /// What is printed of a command's end.
 fn printed(alloc: Global, ended: Result<Report, Stopped>) -> Result<Report, AllocError>
-    ensures { IfOk result (λ r. IsSomeAnd (ending_of ended) (Shows (map string_bytes r.lines.items) r.status.code)) }
+    ensures { IfOk result (λ r. IsSomeAnd (ending_of ended) (Shows (lines_view r.lines.items) r.status.code)) }
 {
     match ended {
         Ok(report) => Ok(report),
@@ -64,7 +66,7 @@ pub fn answer_to<H: Shelf>(
     shelf: &mut H,
 ) -> Result<Report, AllocError>
     ensures { IfOk result (λ r. IsAnswer (H.told shelf.old) (H.faults shelf.old) (H.faults shelf.new) (map string_bytes words.now)
-        (map string_bytes r.lines.items) r.status.code) }
+        (lines_view r.lines.items) r.status.code) }
 {
     let ended = carried_out(alloc, words, shelf);
     printed(alloc, ended)

@@ -7,10 +7,10 @@ use crate::status::Status;
 use std::alloc::{AllocError, AllocFailed};
 use thiserror::Error;
 
-/// What a command that was carried out prints, each line with its line feed, and its status.
+/// What a command that was carried out prints, the bytes of each line with its line feed, and its status.
 #[derive(Debug, Drop)]
 pub struct Report {
-    pub lines: Vec<String>,
+    pub lines: Vec<Vec<u8>>,
     pub status: Status,
 }
 

@@ -4,13 +4,18 @@
 mod answer;
 mod ending;
 mod fetching;
+mod outcome;
 mod print;
+mod proving;
 mod replaying;
 mod report;
 mod source;
 mod status;
+mod tally;
 mod text;
+mod text_lines;
 mod top;
+mod verdicts;
 mod words;
 
 pub use status::Status;

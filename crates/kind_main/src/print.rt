@@ -1,7 +1,7 @@
 //! Printing an answer, a put for each line.
-ghost use Rattle.std.specs.Prelude.{◌≡◌, ◌+◌, ◌-◌, ◌^◌, ◌≤◌, ◌++◌, ◌⊎◌, ◌∷◌, [], List, Option, ℕ, map};
-ghost use Rattle.std.specs.String.{string_bytes};
+ghost use Rattle.std.specs.Prelude.{◌≡◌, ◌+◌, ◌-◌, ◌^◌, ◌≤◌, ◌++◌, ◌⊎◌, ◌∷◌, [], List, Option, ℕ};
 ghost use Rattle.kind_io.specs.Counts.{Rose};
+ghost use Rattle.kind_main.specs.Ending.{lines_view};
 ghost use Rattle.kind_main.specs.Lines.{memory_line};
 ghost use Rattle.kind_main.specs.Printing.{Printed, IsSaid};
 
@@ -21,12 +21,12 @@ pub fn out_of_memory<K: Sink>(out: &mut K) -> Status
 
 /// Prints the lines of an answer. The status is the one handed in, 6 where a line could not be
 /// written, or 7 where memory ran out.
-pub fn print<K: Sink>(lines: &[String], status: Status, out: &mut K) -> Status
-    ensures { Printed (map string_bytes lines.now) status.code
+pub fn print<K: Sink>(lines: &[Vec<u8>], status: Status, out: &mut K) -> Status
+    ensures { Printed (lines_view lines.now) status.code
         (K.faults out.old) (K.faults out.new) (K.written out.old) (K.written out.new) result.code }
 {
     for line in lines {
-        match out.put(line.as_bytes()) {
+        match out.put(line) {
             Ok(()) => {}
             Err(PutFault::Failed) => return Status { code: 6 },
             Err(PutFault::Memory) => return out_of_memory(out),

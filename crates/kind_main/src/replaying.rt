@@ -1,6 +1,5 @@
 //! The command `replay`.
 ghost use Rattle.std.specs.Prelude.{◌≡◌, ◌≤◌, ◌++◌, ◌∷◌, [], List, ℕ, length, map, IfOk, MatchResult};
-ghost use Rattle.std.specs.String.{string_bytes};
 ghost use Rattle.lus_tree.specs.View.{program_view};
 ghost use Rattle.lus_meaning.specs.TraceView.{trace_view};
 ghost use Rattle.lus_meaning.specs.Fits.{FitsProgram};
@@ -8,7 +7,7 @@ ghost use Rattle.lus_meaning.specs.Replay.{ReplaysTrace};
 ghost use Rattle.trace_replay.specs.Answer.{replay_view};
 ghost use Rattle.trace_replay.specs.Traces.{IsTraceText};
 ghost use Rattle.kind_main.specs.Report.{code_of, IsReplay};
-ghost use Rattle.kind_main.specs.Ending.{IfStopped, IfEnded, refused as ends_refused};
+ghost use Rattle.kind_main.specs.Ending.{lines_view, IfStopped, IfEnded, refused as ends_refused};
 ghost use Rattle.kind_main.specs.Traced.{EndsAt, EndsAtTrace, EndsReplay};
 
 use crate::ending::{Report, Stopped};
@@ -66,8 +65,8 @@ fn read_replay<'a>(
 }
 
 /// The status of a replay, by the lines of its breaks.
-fn break_status(lines: &[String]) -> Status
-    ensures { result.code ≡ code_of (map string_bytes lines.now) }
+fn break_status(lines: &[Vec<u8>]) -> Status
+    ensures { result.code ≡ code_of (lines_view lines.now) }
 {
     match lines {
         [] => Status { code: 10 },
@@ -83,12 +82,12 @@ fn replay_report(
     replay: &Replay,
 ) -> Result<Report, AllocError>
     requires { ReplaysTrace (program_view checked.now) (trace_view trace.now) (replay_view replay.now) }
-    ensures { IfOk result (λ r. IsReplay (program_view checked.now) (trace_view trace.now) (map string_bytes r.lines.items) r.status.code) }
+    ensures { IfOk result (λ r. IsReplay (program_view checked.now) (trace_view trace.now) (lines_view r.lines.items) r.status.code) }
 {
     let mut lines = break_lines(alloc, &checked.node().items, replay)?;
     let status = break_status(&lines);
     let last = lawful_text(alloc, replay.lawful(), trace.length)?;
-    lines.push(last)?;
+    lines.push(last.into_bytes())?;
     Ok(Report { lines, status })
 }
 

@@ -1,8 +1,8 @@
 //! The lines of the properties that break.
 ghost use Rattle.std.specs.Prelude.{◌≡◌, ◌≤◌, ◌++◌, ◌∷◌, [], length, map, IfOk, OnOk};
-ghost use Rattle.std.specs.String.{string_bytes};
 ghost use Rattle.lus_tree.specs.View.{item_view, named_view};
 ghost use Rattle.trace_replay.specs.Answer.{replay_view};
+ghost use Rattle.kind_main.specs.Ending.{lines_view};
 ghost use Rattle.kind_main.specs.Report.{property_line, labelled_in, body_report, GoesOn};
 
 use crate::text::breaks_text;
@@ -16,13 +16,13 @@ fn push_break(
     alloc: Global,
     property: &Named,
     instant: Option<u32>,
-    lines: &mut Vec<String>,
+    lines: &mut Vec<Vec<u8>>,
 ) -> Result<(), AllocError>
-    ensures { OnOk result (map string_bytes lines.new.items ≡ map string_bytes lines.old.items ++ property_line (named_view property.now) instant) }
+    ensures { OnOk result (lines_view lines.new.items ≡ lines_view lines.old.items ++ property_line (named_view property.now) instant) }
 {
     if let Some(t) = instant {
         let line = breaks_text(alloc, property, t)?;
-        lines.push(line)?;
+        lines.push(line.into_bytes())?;
     }
     Ok(())
 }
@@ -34,10 +34,10 @@ fn push_item(
     item: &Item,
     replay: &Replay,
     count: u32,
-    lines: &mut Vec<String>,
+    lines: &mut Vec<Vec<u8>>,
 ) -> Result<u32, AllocError>
     requires { count ≤ 500 }
-    ensures { IfOk result (λ after. GoesOn (item_view item.now) (replay_view replay.now).breaks count after (map string_bytes lines.old.items) (map string_bytes lines.new.items)) }
+    ensures { IfOk result (λ after. GoesOn (item_view item.now) (replay_view replay.now).breaks count after (lines_view lines.old.items) (lines_view lines.new.items)) }
 {
     let Item::Property(property) = item else {
         return Ok(count);
@@ -51,9 +51,9 @@ pub fn break_lines(
     alloc: Global,
     items: &[Item],
     replay: &Replay,
-) -> Result<Vec<String>, AllocError>
+) -> Result<Vec<Vec<u8>>, AllocError>
     requires { length (labelled_in (map item_view items.now)) ≤ 500 }
-    ensures { IfOk result (λ lines. map string_bytes lines.items ≡ body_report 0 (labelled_in (map item_view items.now)) (replay_view replay.now).breaks) }
+    ensures { IfOk result (λ lines. lines_view lines.items ≡ body_report 0 (labelled_in (map item_view items.now)) (replay_view replay.now).breaks) }
 {
     let mut lines = Vec::new(alloc);
     let mut count = 0;

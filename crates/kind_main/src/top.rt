@@ -1,8 +1,8 @@
 //! All that the program does.
 ghost use Rattle.std.specs.Prelude.{◌≡◌, ◌+◌, ◌-◌, ◌^◌, ◌<◌, ◌≤◌, ◌++◌, ◌⊎◌, ◌∷◌, [], List, ℕ, map};
 ghost use Rattle.std.specs.String.{string_bytes};
-ghost use Rattle.kind_main.specs.Left.{Leaves, IsUsage, IsRefusal, IsUnread, IsDone, IsBroken, IsShort, IsKnown};
-ghost use Rattle.kind_main.specs.Words.{AreReplay};
+ghost use Rattle.kind_main.specs.Left.{Leaves, IsUsage, IsRefusal, IsUnread, IsProofCode, IsProofDone, IsReplayCode, IsReplayDone, IsBroken, IsShort, IsKnown};
+ghost use Rattle.kind_main.specs.Words.{AreNoCommand, AreProve, AreReplay};
 
 use crate::answer::answer_to;
 use crate::print::{out_of_memory, print};
@@ -23,23 +23,28 @@ fn run<H: Shelf, K: Sink>(alloc: Global, words: &[String], shelf: &mut H, out: &
 
 /// All that the program does: reads the words, fetches what they name, and prints the answer.
 ///
-/// The words `replay FILE TRACE` replay a trace on a source. The status is 1 where some property
-/// breaks and 10 where none does, 2 for all other words, 3 where the source or the trace is
-/// refused, 5 where a file could not be read, 6 where a line could not be written, and 7 for
-/// want of memory. The shelf and the sink are left as the calls on them left them.
+/// No words, `prove` and `prove FILE` decide each property of a source: the status is 0 where all
+/// are valid, 1 where some is falsifiable, and 4 where none is and some is unknown. The words
+/// `replay FILE TRACE` replay a trace on a source: the status is 1 where some property breaks and 10
+/// where none does. It is 2 for all other words, 3 where the source or the trace is refused, 5 where
+/// a file could not be read, 6 where a line could not be written, and 7 for want of memory. The shelf
+/// and the sink are left as the calls on them left them.
 pub fn kind_top<H: Shelf, K: Sink>(
     alloc: Global,
     words: &[String],
     shelf: &mut H,
     out: &mut K,
 ) -> Status
-    // 1 and 10: the files hold a source and a trace, and the lines say what the trace's one frame breaks.
-    ensures replayed { (result.code ≡ 1) ⊎ (result.code ≡ 10) → IsDone (H.told shelf.old) (map string_bytes words.now) (K.written out.old) (K.written out.new) result.code }
+    // A proof, 0, 1 and 4: the file holds a source, and the lines say what is so of each of its properties: that it
+    // holds, by which trace it breaks, or why neither was found.
+    ensures proved { (file : List ℕ) → AreProve (map string_bytes words.now) file → IsProofCode result.code → IsProofDone (H.told shelf.old file) (K.written out.old) (K.written out.new) result.code }
+    // A replay, 1 and 10: the files hold a source and a trace, and the lines say what the trace's one frame breaks.
+    ensures replayed { (file trace : List ℕ) → AreReplay (map string_bytes words.now) file trace → IsReplayCode result.code → IsReplayDone (H.told shelf.old) file trace (K.written out.old) (K.written out.new) result.code }
     // 2: the words are of no form that is built.
     ensures usage { result.code ≡ 2 → IsUsage (map string_bytes words.now) (K.written out.old) (K.written out.new) }
     // Where they are of a form that is built, 2 never comes.
-    ensures words { (file trace : List ℕ) → AreReplay (map string_bytes words.now) file trace → result.code ≡ 2 → ⊥ }
-    // 3: the source or the trace is outside, and the line says which.
+    ensures words { result.code ≡ 2 → AreNoCommand (map string_bytes words.now) }
+    // 3: a file of the command is outside, and the line says which.
     ensures refused { result.code ≡ 3 → IsRefusal (H.told shelf.old) (map string_bytes words.now) (K.written out.old) (K.written out.new) }
     // 5: the shelf's count of faults rose, and the line names the file.
     ensures unread { result.code ≡ 5 → IsUnread (H.told shelf.old) (H.faults shelf.old) (H.faults shelf.new) (map string_bytes words.now) (K.written out.old) (K.written out.new) }
@@ -47,8 +52,8 @@ pub fn kind_top<H: Shelf, K: Sink>(
     ensures broken { result.code ≡ 6 → IsBroken (H.told shelf.old) (H.faults shelf.old) (H.faults shelf.new) (map string_bytes words.now) (K.faults out.old) (K.faults out.new) (K.written out.old) (K.written out.new) }
     // 7: whole first lines of the answer are written, and then, where that was possible, that memory ran out.
     ensures short { result.code ≡ 7 → IsShort (H.told shelf.old) (H.faults shelf.old) (H.faults shelf.new) (map string_bytes words.now) (K.written out.old) (K.written out.new) }
-    // There is no other status.
-    ensures known { IsKnown result.code }
+    // There is no other status, and those of a proof or of a replay come for it alone.
+    ensures known { IsKnown (map string_bytes words.now) result.code }
 {
     run(alloc, words, shelf, out)
 }

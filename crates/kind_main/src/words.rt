@@ -1,13 +1,13 @@
 //! The words of the command line.
 ghost use Rattle.std.specs.Prelude.{◌≡◌, map, MatchOption};
 ghost use Rattle.std.specs.String.{string_bytes};
-ghost use Rattle.kind_main.specs.Words.{is_option as option_of, AreReplay, AreNoCommand};
+ghost use Rattle.kind_main.specs.Words.{is_option as option_of, AreNoCommand, IsCommand};
 
-/// The names of the two files of the command `replay`.
+/// A command with the names of its files. The empty name is standard input.
 #[derive(Drop)]
-pub struct Replay<'a> {
-    pub source: &'a str,
-    pub trace: &'a str,
+pub enum Command<'a> {
+    Prove { source: &'a str },
+    Replay { source: &'a str, trace: &'a str },
 }
 
 /// Whether a word is an option.
@@ -18,16 +18,31 @@ fn is_option(word: &str) -> bool
 }
 
 /// The command of these words, where they have the form of one that is built.
-pub fn command(words: &[String]) -> Option<Replay<'_>>
-    ensures { MatchOption result (AreNoCommand (map string_bytes words.now))
-        (λ r. AreReplay (map string_bytes words.now) r.source.now r.trace.now) }
+pub fn read_words(words: &[String]) -> Option<Command<'_>>
+    ensures { MatchOption result (AreNoCommand (map string_bytes words.now)) (IsCommand (map string_bytes words.now)) }
 {
     match words {
+        [] => Some(Command::Prove { source: "" }),
+        [command] => {
+            if command.as_str() == "prove" {
+                Some(Command::Prove { source: "" })
+            } else {
+                None
+            }
+        }
+        [command, source] => {
+            let source = source.as_str();
+            if command.as_str() == "prove" && !is_option(source) {
+                Some(Command::Prove { source })
+            } else {
+                None
+            }
+        }
         [command, source, trace] => {
             let source = source.as_str();
             let trace = trace.as_str();
             if command.as_str() == "replay" && !is_option(source) && !is_option(trace) {
-                Some(Replay { source, trace })
+                Some(Command::Replay { source, trace })
             } else {
                 None
             }

@@ -2,6 +2,10 @@ use Rattle.kind_main.specs.Answer as A
 use Rattle.kind_main.proofs.Answering.{ended_as}
 use Rattle.kind_main.proofs.answer.carried_out.Goals as goal
 
-pub returns-in-Some : goal.returns-in-Some
-returns-in-Some g c =
-    ended_as _ _ (λ e h. A.replay c.in-Some.files.source.now c.in-Some.files.trace.now c.in-Some.ensures h) _ c.replay_files.ensures
+pub returns-in-Some-Prove : goal.returns-in-Some-Prove
+returns-in-Some-Prove g c =
+    ended_as _ _ (λ e h. A.prove c.in-Some-Prove.source.now (rw c.in-Some-Prove.field-0-is at c.in-Some-Prove.ensures) h) _ c.prove_file.ensures
+
+pub returns-in-Some-Replay : goal.returns-in-Some-Replay
+returns-in-Some-Replay g c =
+    ended_as _ _ (λ e h. A.replay c.in-Some-Replay.source.now c.in-Some-Replay.trace.now (rw c.in-Some-Replay.field-0-is at c.in-Some-Replay.ensures) h) _ c.replay_files.ensures

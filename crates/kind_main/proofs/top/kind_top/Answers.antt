@@ -1,9 +1,10 @@
-use Rattle.kind_main.proofs.Leaving.{done_of, usage_of, words_of, refusal_of, unread_of, broken_of, short_of, known_of}
+use Rattle.kind_main.proofs.Leaving.{proof_of, replay_of, usage_of, words_of, refusal_of, unread_of, broken_of, short_of, known_of}
 use Rattle.kind_main.proofs.top.kind_top.Goals as goal
 
 pub returns : goal.returns
 returns g c = record {
-  replayed = done_of _ _ _ _ _ _ _ _ _ c.run.ensures;
+  proved = proof_of _ _ _ _ _ _ _ _ _ c.run.ensures;
+  replayed = replay_of _ _ _ _ _ _ _ _ _ c.run.ensures;
   usage = usage_of _ _ _ _ _ _ _ _ _ c.run.ensures;
   words = words_of _ _ _ _ _ _ _ _ _ c.run.ensures;
   refused = refusal_of _ _ _ _ _ _ _ _ _ c.run.ensures;

@@ -1,0 +1,75 @@
+-- The trace of a path that breaks a property, as it is written and read back.
+use Rattle.std.proofs.Common.{◌≡◌, ◌≤◌, ◌<◌, ℕ, suc, pred, List, [], ◌∷◌, length, Some, Option, refl, sym, ap, ◌∙◌, subst, arith, slice_get}
+use Rattle.std.specs.List.{AllByRecursion}
+use Rattle.lus_tree.specs.Tree.{Program, Component, declared_node}
+use Rattle.lus_tree.specs.Lookup.{nodes_of}
+use Rattle.lus_meaning.specs.Frame.{Frame}
+use Rattle.lus_meaning.specs.Program.{instance_of}
+use Rattle.lus_meaning.specs.Contract.{Property}
+use Rattle.lus_meaning.specs.Property.{properties}
+use Rattle.lus_meaning.specs.Verdict.{Breaks}
+use Rattle.lus_meaning.specs.Trace.{IsFrameOf, Line as TraceLine}
+use Rattle.lus_meaning.specs.TraceView.{Listing, lines_of}
+use Rattle.lus_meaning.specs.Fits.{FitsProgram, FitsNode, first_named}
+use Rattle.lus_meaning.specs.Replay.{Shown, Replays, ReplaysTrace}
+use Rattle.lus_meaning.specs.BooleanRules.{IsBooleanChecked}
+use Rattle.trace_replay.specs.Traces.{IsTraceText, trace_text}
+use Rattle.trace_replay.specs.Laws.{FitReadBack, SameButPlaces}
+use Rattle.sys_terms.specs.declared.term.Entry.{Entry}
+use Rattle.sys_terms.specs.Paths as paths
+use Rattle.sys_meaning.specs.System.{system_of}
+use Rattle.sys_meaning.specs.Path.{frame_of_path, trace_of}
+use Rattle.sys_meaning.specs.Checked.{CheckedTraces, CheckedBreaks, CheckedReplays, HasTrace, IsTraceOf}
+use Rattle.kind_main.specs.Lines.{Line, text_of}
+use Rattle.kind_main.specs.Verdicts.{falsifiable, IsOneLine, BreaksBy, IsReadable, IsTrueOfNumber}
+
+-- what is so of a trace is so of one that is the same but for its places
+fits_as : (p : Program) (s t : Listing) → SameButPlaces s t → FitsProgram p t → FitsProgram p s
+fits_as p s t e h = subst (λ x. FitsNode p x s.length (lines_of s)) (sym e.node)
+    (subst (λ n. FitsNode p t.node n (lines_of s)) (sym e.length)
+    (subst (λ ls. FitsNode p t.node t.length ls) (sym e.lines) h))
+
+replays_as : (p : Program) (s t : Listing) → SameButPlaces s t → (w : Shown) → ReplaysTrace p s w → ReplaysTrace p t w
+replays_as p s t e w r = record {
+  node = r.node;
+  named = ap (λ x. first_named x (nodes_of p)) (sym e.node) ∙ r.named;
+  replays = subst (λ n. Replays (instance_of p r.node) (lines_of t) n w) e.length
+      (subst (λ ls. Replays (instance_of p r.node) ls s.length w) e.lines r.replays);
+}
+
+module _ (traces : CheckedTraces) (breaks : CheckedBreaks) (replays : CheckedReplays) (read_back : FitReadBack)
+    (p : Program) (readable : IsReadable p) (k : ℕ) (states : List (List Entry)) (short : length states ≤ 2) (some : 0 < length states)
+    (path : (d : Component) → IsBooleanChecked p d → paths.Breaks (system_of (instance_of p d)) k states)
+    (t : Listing) (of : (d : Component) → IsBooleanChecked p d → IsTraceOf p d states t) where
+  pub broken_by : (lines : List Line) → AllByRecursion IsOneLine lines → text_of lines ≡ trace_text t → (last : ℕ) → suc last ≡ length states
+      → (d : Component) → IsBooleanChecked p d → IsTrueOfNumber p d k (falsifiable last lines)
+  broken_by lines each text last count d checked q found =
+      let broken : paths.Breaks (system_of (instance_of p d)) k states = path d checked in
+      let is : IsTraceOf p d states t = of d checked in
+      let has : HasTrace (instance_of p d) states = traces p d checked states broken.path in
+      let replayed = replays p d checked k states broken (omega (arith, short)) t is in
+      let written = read_back p d checked (readable.limits d checked) (readable.identifiers d checked) t replayed.0 in
+      let read : Listing = written.0 in
+      let same : SameButPlaces read t = written.2 in
+      let many : read.length ≡ length states = same.length ∙ is.length in
+      let listed : lines_of read ≡ trace_of (instance_of p d) states = same.lines ∙ is.lines in
+      let end : pred (length states) ≡ last = ap pred (sym count) in
+      let at_last = breaks p d checked k states broken in
+      let this : at_last.0 ≡ q = let e = at_last.1 in cc in
+      let frame : Frame = frame_of_path (instance_of p d) states in (
+        each,
+        record {
+          trace = read;
+          read = subst (λ x. IsTraceText x read) (sym text) written.1;
+          fits = fits_as p read t same replayed.0;
+          length = many ∙ sym count;
+          frame = frame;
+          is_frame = subst (λ n. IsFrameOf (lines_of read) (instance_of p d) n frame) (sym many)
+              (subst (λ ls. IsFrameOf ls (instance_of p d) (length states) frame) (sym listed) has.frame);
+          only = λ other h. has.only other (subst (λ ls. IsFrameOf ls (instance_of p d) (length states) other) listed
+              (subst (λ n. IsFrameOf (lines_of read) (instance_of p d) n other) many h));
+          breaks = subst (λ n. Breaks (instance_of p d) q frame n) end
+              (subst (λ r. Breaks (instance_of p d) r frame (pred (length states))) this at_last.2);
+          replays = λ s h. replayed.1 s (replays_as p read t same s h) ∙ ap Some end;
+        },
+      )

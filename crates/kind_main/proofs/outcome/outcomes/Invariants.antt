@@ -1,0 +1,7 @@
+use Rattle.lus_tree.specs.View.{program_view}
+use Rattle.kind_main.specs.Verdicts.{outcomes_view}
+use Rattle.kind_main.proofs.Deciding.{DecidingUpTo}
+use Rattle.kind_main.proofs.outcome.outcomes.Given as goal
+
+abbrev pub invariant-loop-i : goal.invariant-loop-i
+invariant-loop-i l = DecidingUpTo (program_view l.checked) l.i (outcomes_view l.outcomes.items)

@@ -1,0 +1,191 @@
+-- What is said of a property, when that is true, and the lines that say it.
+use Rattle.std.specs.Prelude.{◌≡◌, ◌≢◌, ℕ, suc, zero, ◌++◌, ◌+◌, ◌==◌, cond, codes, decimal, length, map, List, [], ◌∷◌, Some, slice_get}
+use Rattle.std.specs.List.{AllByRecursion}
+use Rattle.std.specs.Fmt.{signed_decimal}
+use Rattle.proof_steps.specs.declared.stops.Budgets.{Budgets}
+use Rattle.proof_steps.specs.StopView.{Halt, conflicts, splits, pivots, past}
+use Rattle.kind_num.specs.declared.Past.{Past}
+use Rattle.kind_num.specs.declared.Op.{Op}
+use Rattle.kind_num.specs.declared.Op.TheVariants.{Add, Sub, Mul, Div}
+use Rattle.lus_tree.specs.Tree.{Program, Component, Labelled}
+use Rattle.lus_meaning.specs.Frame.{Frame}
+use Rattle.lus_meaning.specs.Program.{instance_of}
+use Rattle.lus_meaning.specs.Contract.{Property, first_token}
+use Rattle.lus_meaning.specs.Property.{properties}
+use Rattle.lus_meaning.specs.Label.{label_of, name_text}
+use Rattle.lus_meaning.specs.Verdict.{Holds, Breaks}
+use Rattle.lus_meaning.specs.Trace.{IsFrameOf}
+use Rattle.lus_meaning.specs.TraceView.{Listing, lines_of}
+use Rattle.lus_meaning.specs.Fits.{FitsProgram}
+use Rattle.lus_meaning.specs.Replay.{Shown, ReplaysTrace}
+use Rattle.lus_meaning.specs.BooleanRules.{IsBooleanChecked}
+use Rattle.lus_meaning.specs.Rules.{IsWithinCounts}
+use Rattle.trace_replay.specs.Traces.{IsTraceText}
+use Rattle.sys_meaning.specs.System.{system_of}
+use Rattle.trace_replay.specs.Laws.{HasIdentifiers}
+use Rattle.induction.specs.Found.{Why, depth, stopped, IsBoundedWhy, IsStepWhy, why_view}
+use Rattle.kind_main.specs.declared.outcome.Outcome.{Outcome}
+use Rattle.kind_main.specs.declared.outcome.Outcome.TheVariants.{Valid, Falsifiable, Unknown}
+use Rattle.kind_main.specs.declared.tally.Tally.{Tally as Counted}
+use Rattle.kind_main.specs.Ending.{lines_view}
+use Rattle.kind_main.specs.Lines.{Line, text_of}
+
+-- what is said of a property: it holds; a trace breaks it first at this instant, whose lines are these; or neither,
+-- for these causes of bounded search and of induction
+pub data Verdict : Type 0 where
+  valid : Verdict
+  falsifiable : (last : ℕ) (trace : List Line) → Verdict
+  unknown : (bounded step : Why) → Verdict
+
+-- what the solver may spend on a query
+abbrev pub default_budgets : Budgets
+default_budgets = record { conflicts = 100000; splits = 2000; pivots = 200000 }
+
+-- ---- when it is true
+
+-- some bytes without a line feed, and then one
+pub record IsOneLine (line : Line) : Type 0 where
+  pub words : List ℕ
+  pub ended : line ≡ words ++ 10 ∷ []
+  pub one : AllByRecursion (λ b. b ≢ 10) words
+
+-- a text whose last line has its line feed
+pub record IsEnded (text : List ℕ) : Type 0 where
+  pub words : List ℕ
+  pub ended : text ≡ words ++ 10 ∷ []
+
+-- a byte more: it ends its line, or the line goes on
+pub data Cuts (b : ℕ) (old : List Line) (line : List ℕ) (new : List Line) (rest : List ℕ) : Type 0 where
+  ends : b ≡ 10 → new ≡ old ++ (line ++ b ∷ []) ∷ [] → rest ≡ [] → Cuts b old line new rest
+  goes_on : b ≢ 10 → new ≡ old → rest ≡ line ++ b ∷ [] → Cuts b old line new rest
+
+-- The text is a trace that fits the program. Its one frame breaks the property first at this instant, and each replay
+-- of the trace shows that break.
+pub record BreaksBy (p : Program) (d : Component) (k : ℕ) (q : Property) (last : ℕ) (text : List ℕ) : Type 0 where
+  pub trace : Listing
+  pub read : IsTraceText text trace
+  pub fits : FitsProgram p trace
+  pub length : trace.length ≡ suc last
+  pub frame : Frame
+  pub is_frame : IsFrameOf (lines_of trace) (instance_of p d) trace.length frame
+  pub only : (other : Frame) → IsFrameOf (lines_of trace) (instance_of p d) trace.length other → other ≡ frame
+  pub breaks : Breaks (instance_of p d) q frame last
+  pub replays : (s : Shown) → ReplaysTrace p trace s → s.breaks k ≡ Some last
+
+-- of property q, the one of number k of the node d
+abbrev pub IsTrueVerdict : Program → Component → ℕ → Property → Verdict → Type 0
+IsTrueVerdict p d k q valid = Holds (instance_of p d) q
+IsTrueVerdict p d k q (falsifiable last trace) = AllByRecursion IsOneLine trace × BreaksBy p d k q last (text_of trace)
+IsTrueVerdict p d k q (unknown bounded step) =
+    IsBoundedWhy (system_of (instance_of p d)) default_budgets 1 k bounded
+    × IsStepWhy (system_of (instance_of p d)) default_budgets 1 k step
+
+-- of each property from number k on
+abbrev pub AreTrueVerdicts : Program → Component → ℕ → List Property → List Verdict → Type 0
+AreTrueVerdicts p d k [] [] = Unit {0}
+AreTrueVerdicts p d k (q ∷ qs) (s ∷ ss) = IsTrueVerdict p d k q s × AreTrueVerdicts p d (suc k) qs ss
+AreTrueVerdicts p d k [] (s ∷ ss) = ⊥
+AreTrueVerdicts p d k (q ∷ qs) [] = ⊥
+
+-- ---- the lines
+
+abbrev pub operation_text : Op → List ℕ
+operation_text Add = codes "+"
+operation_text Sub = codes "-"
+operation_text Mul = codes "*"
+operation_text Div = codes "div"
+
+abbrev pub past_text : Past → List ℕ
+past_text p = operation_text p.op ++ (codes " " ++ (signed_decimal p.left ++ (codes " " ++ signed_decimal p.right)))
+
+-- a budget that was spent, or the operation whose result has more than 128 bits
+abbrev pub halt_text : Halt → List ℕ
+halt_text (conflicts clauses pairs) = codes "conflicts " ++ decimal (length clauses)
+halt_text (splits pairs) = codes "splits " ++ decimal (length pairs)
+halt_text (pivots start pairs) = codes "pivots " ++ decimal start.pivots
+halt_text (past step pairs) = codes "past 128 bits " ++ past_text step.past
+
+abbrev pub why_text : Why → List ℕ
+why_text (depth k) = codes "depth " ++ decimal k
+why_text (stopped halt) = halt_text halt
+
+-- the lines of what is said of the property with this label
+abbrev pub verdict_lines : List ℕ → Verdict → List Line
+verdict_lines label valid = (codes "valid " ++ (label ++ codes "\n")) ∷ []
+verdict_lines label (falsifiable last trace) =
+    (codes "falsifiable " ++ (label ++ (codes " at " ++ (decimal last ++ codes "\n"))))
+    ∷ map (λ l. codes "  " ++ l) trace
+verdict_lines label (unknown bounded step) =
+    (codes "unknown " ++ (label ++ (codes ": bounded " ++ (why_text bounded
+    ++ (codes "; step " ++ (why_text step ++ codes "\n"))))))
+    ∷ []
+
+abbrev pub verdict_report : List (List ℕ) → List Verdict → List Line
+verdict_report (l ∷ ls) (s ∷ ss) = verdict_lines l s ++ verdict_report ls ss
+verdict_report [] ss = []
+verdict_report (l ∷ ls) [] = []
+
+-- ---- the summary
+
+pub record Tally : Type 0 where
+  pub valid : ℕ
+  pub falsifiable : ℕ
+  pub unknown : ℕ
+
+abbrev pub tally_of : List Verdict → Tally
+tally_of [] = record { valid = 0; falsifiable = 0; unknown = 0 }
+tally_of (valid ∷ ss) = let t : Tally = tally_of ss in record t { valid = suc t.valid }
+tally_of (falsifiable last trace ∷ ss) = let t : Tally = tally_of ss in record t { falsifiable = suc t.falsifiable }
+tally_of (unknown bounded step ∷ ss) = let t : Tally = tally_of ss in record t { unknown = suc t.unknown }
+
+abbrev pub summary_line : Tally → Line
+summary_line t =
+    codes "summary valid " ++ (decimal t.valid ++ (codes " falsifiable " ++ (decimal t.falsifiable
+    ++ (codes " unknown " ++ (decimal t.unknown ++ codes "\n")))))
+
+-- 1 where some property is falsifiable, else 4 where some is unknown, else 0
+abbrev pub tally_code : Tally → ℕ
+tally_code t = cond (t.falsifiable == 0) (cond (t.unknown == 0) 0 4) 1
+
+-- ---- all of it
+
+-- each property of the program's node has its verdict, in order, and then comes the summary
+pub record IsProof (p : Program) (lines : List Line) (code : ℕ) : Type 0 where
+  pub node : Component
+  pub checked : IsBooleanChecked p node
+  pub verdicts : List Verdict
+  pub right : AreTrueVerdicts p node 0 (properties (instance_of p node)) verdicts
+  pub printed : lines ≡ verdict_report (map label_of (properties (instance_of p node))) verdicts ++ summary_line (tally_of verdicts) ∷ []
+  pub status : code ≡ tally_code (tally_of verdicts)
+
+-- ---- as clauses see it
+
+-- what the property of this number is said to be
+abbrev pub IsTrueOfNumber : Program → Component → ℕ → Verdict → Type 0
+IsTrueOfNumber p d k s = (q : Property) → slice_get (properties (instance_of p d)) k ≡ Some q → IsTrueVerdict p d k q s
+
+abbrev pub outcome_view : Outcome → Verdict
+outcome_view Valid = valid
+outcome_view (Falsifiable last trace) = falsifiable last (lines_view trace.items)
+outcome_view (Unknown bounded step) = unknown (why_view bounded) (why_view step)
+
+abbrev pub outcomes_view : List Outcome → List Verdict
+outcomes_view = map outcome_view
+
+-- the label of a body's property
+abbrev pub property_label : Labelled → List ℕ
+property_label l = codes "property " ++ name_text l.label (first_token l.value)
+
+-- what is written of a trace of the program is read back: its names are identifiers, and it is within the limits
+pub record IsReadable (p : Program) : Type 0 where
+  pub identifiers : (d : Component) → IsBooleanChecked p d → HasIdentifiers d
+  pub limits : (d : Component) → IsBooleanChecked p d → IsWithinCounts p d
+
+abbrev pub counts_of : Counted → Tally
+counts_of t = record { valid = t.valid; falsifiable = t.falsifiable; unknown = t.unknown }
+
+-- one more of what is said
+abbrev pub Grown : Verdict → Tally → Tally → Type 0
+Grown valid old new = new ≡ record old { valid = suc old.valid }
+Grown (falsifiable last trace) old new = new ≡ record old { falsifiable = suc old.falsifiable }
+Grown (unknown bounded step) old new = new ≡ record old { unknown = suc old.unknown }
