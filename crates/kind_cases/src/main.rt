@@ -11,7 +11,7 @@ use std::alloc::Global;
 use std::{fs, io};
 
 /// A table of cases is a file, and what each of its lines says.
-const TABLES: [Table; 17] = [
+const TABLES: [Table; 18] = [
     ("first_replays", Ask::Replay),
     ("order_of_properties", Ask::Replay),
     ("order_of_equations", Ask::Replay),
@@ -26,6 +26,7 @@ const TABLES: [Table; 17] = [
     ("misfits", Ask::Replay),
     ("proofs", Ask::Prove),
     ("proofs_of_operators", Ask::Prove),
+    ("traces_of_proofs", Ask::Replay),
     ("other_words", Ask::Words),
     ("failing_calls", Ask::Calls),
     ("failing_proofs", Ask::Calls),
