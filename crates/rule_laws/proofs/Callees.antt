@@ -8,7 +8,7 @@ use Rattle.lus_tree.specs.Tree.{Name, text_of, Spelled, Expression, truth, numbe
 use Rattle.lus_tree.specs.declared.place.Sort.TheVariants.{Bool as Flags}
 use Rattle.lus_tree.specs.Reason.{name_twice, node_recursion}
 use Rattle.lus_meaning.specs.Scene.{base, Site, clauses, clock_of_names}
-use Rattle.lus_meaning.specs.Program.{listed, site_in, import_site, all_sites, component_named}
+use Rattle.lus_meaning.specs.Program.{listed, site_in, import_site, all_sites, first_of_two, component_named}
 use Rattle.lus_meaning.specs.Depends.{named_in}
 use Rattle.lus_meaning.specs.Occurrences.{Standing, on_clock, as_side, Occurrence, occurrences, Text, on_base, clause_texts, statement_texts, constant_texts, texts, all_occurrences, gathered}
 use Rattle.lus_meaning.specs.Scope.{Scope, Home, component_where, node_if, node_named, contract_named, clause_scope, constant_scope, body_scope}
@@ -280,3 +280,41 @@ sites_down p n c =
 
 pub each_site : (p : Program) → IsTyped p → (n : Component) → Contains (components p) n → AllByRecursion (λ s. GoesDown p n s.callee) (all_sites n)
 each_site p t n i = sites_down p n (callees_known p n (at_one (Clean p) (components p) n (all_clean p t) i))
+
+-- each call names a node or function, and each import a contract node
+nodes_of_sites : (p : Program) (n : Component) → CalleesKnown p n → AllByRecursion (λ s. is_declared (node_named p s.callee) ≡ true) (gathered site_in n)
+nodes_of_sites p n c =
+    let calls : map (λ s. s.callee) (gathered site_in n) ≡ map text_of (gathered callee_in n) =
+    flat_alike (λ s. s.callee) text_of (λ o. site_in o.standing o.expression) (λ o. callee_in o.standing o.expression) (λ o. site_callee o.standing o.expression) (all_occurrences n) in
+    mapped_all (λ x. is_declared (node_named p x) ≡ true) (λ s. s.callee) (gathered site_in n)
+    (subst (AllByRecursion (λ x. is_declared (node_named p x) ≡ true)) (sym calls) (all_mapped (λ x. is_declared (node_named p x) ≡ true) text_of (gathered callee_in n) c.nodes))
+
+contracts_of_sites : (p : Program) (n : Component) → CalleesKnown p n → AllByRecursion (λ s. is_declared (contract_named p s.callee) ≡ true) (flat_map import_site (clauses n))
+contracts_of_sites p n c =
+    let imports : map (λ s. s.callee) (flat_map import_site (clauses n)) ≡ map text_of (flat_map import_words (clauses n)) =
+    flat_alike (λ s. s.callee) text_of import_site import_words import_callee (clauses n) in
+    mapped_all (λ x. is_declared (contract_named p x) ≡ true) (λ s. s.callee) (flat_map import_site (clauses n))
+    (subst (AllByRecursion (λ x. is_declared (contract_named p x) ≡ true)) (sym imports) (all_mapped (λ x. is_declared (contract_named p x) ≡ true) text_of (flat_map import_words (clauses n)) c.contracts))
+
+pub each_call : (p : Program) → IsTyped p → (n : Component) → Contains (components p) n → AllByRecursion (λ s. is_declared (node_named p s.callee) ≡ true) (gathered site_in n)
+each_call p t n i = nodes_of_sites p n (callees_known p n (at_one (Clean p) (components p) n (all_clean p t) i))
+
+pub each_import : (p : Program) → IsTyped p → (n : Component) → Contains (components p) n → AllByRecursion (λ s. is_declared (contract_named p s.callee) ≡ true) (flat_map import_site (clauses n))
+each_import p t n i = contracts_of_sites p n (callees_known p n (at_one (Clean p) (components p) n (all_clean p t) i))
+
+-- the first declaration of that name is the one
+pub where_is_named : (wanted : Bool) (ds : Program) (x : Name) → is_declared (component_where wanted ds x) ≡ true → component_where wanted ds x ≡ component_named ds x
+where_is_named wanted [] x e = refl
+where_is_named wanted (declared_constant c ∷ ds) x e = where_is_named wanted ds x e
+where_is_named wanted (declared_node n ∷ ds) x e = go wanted (bytes_eq x n.name.text) e (where_is_named wanted ds x)
+  where
+    go : (w c : Bool) → is_declared (cond c (node_if w n) (component_where wanted ds x)) ≡ true → (is_declared (component_where wanted ds x) ≡ true → component_where wanted ds x ≡ component_named ds x) → cond c (node_if w n) (component_where wanted ds x) ≡ first_of_two (cond c (Some n) None) (component_named ds x)
+    go true true h r = refl
+    go false true h r = absurd (false≢true h)
+    go w false h r = r h
+where_is_named wanted (declared_contract n ∷ ds) x e = go (not wanted) (bytes_eq x n.name.text) e (where_is_named wanted ds x)
+  where
+    go : (w c : Bool) → is_declared (cond c (node_if w n) (component_where wanted ds x)) ≡ true → (is_declared (component_where wanted ds x) ≡ true → component_where wanted ds x ≡ component_named ds x) → cond c (node_if w n) (component_where wanted ds x) ≡ first_of_two (cond c (Some n) None) (component_named ds x)
+    go true true h r = refl
+    go false true h r = absurd (false≢true h)
+    go w false h r = r h

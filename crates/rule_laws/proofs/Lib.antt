@@ -7,3 +7,5 @@ pub mod Constants
 pub mod Declared
 pub mod Cleaned
 pub mod Tables
+pub mod Numbered
+pub mod Places

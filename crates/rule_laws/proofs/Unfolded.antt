@@ -96,7 +96,7 @@ onward p d k e n i vs w x g =
       );
     }
 
-component_within : (d : ℕ) (p : Program) (n : Component) → component_of (instance_within d p n) ≡ n
+pub component_within : (d : ℕ) (p : Program) (n : Component) → component_of (instance_within d p n) ≡ n
 component_within zero p n = refl
 component_within (suc d) p n = refl
 

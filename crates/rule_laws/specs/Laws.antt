@@ -1,12 +1,15 @@
 -- The laws of the programs that follow the rules.
-use Rattle.std.specs.Prelude.{◌≡◌, ℕ, suc, cond, true, List, [], ◌∷◌, ◌++◌, find, Contains, Some, None}
+use Rattle.std.specs.Prelude.{◌≡◌, ℕ, zero, suc, pred, ◌≤◌, cond, true, List, [], ◌∷◌, ◌++◌, flat_map, find, Contains, Option, Some, None}
 use Rattle.std.specs.Map.{lookup}
 use Rattle.std.specs.Str.{bytes_eq}
 use Rattle.lus_tree.specs.Tree.{Name, Component, declared_constant, declared_node, declared_contract, Program}
-use Rattle.lus_meaning.specs.Scene.{Site, Instance, Instances, instance, no_instances, with_instance, component_of, constants_of, clock_of}
-use Rattle.lus_meaning.specs.Program.{all_sites, component_named, constants_in, instance_of}
-use Rattle.lus_meaning.specs.Run.{sort_of_name, is_typed}
-use Rattle.lus_meaning.specs.Scope.{Entry, is_constant_role, own_names, outer_names}
+use Rattle.lus_meaning.specs.Value.{has_sort}
+use Rattle.lus_meaning.specs.Frame.{Frame, firsts_of, first_value}
+use Rattle.lus_meaning.specs.Scene.{Site, Instance, Instances, instance, no_instances, with_instance, component_of, constants_of, calls_of, call_instance, clauses, clock_of}
+use Rattle.lus_meaning.specs.Program.{site_in, import_site, all_sites, component_named, constants_in, instance_of}
+use Rattle.lus_meaning.specs.Run.{sort_of_name, sort_of, first_sorts, have_sorts, is_typed}
+use Rattle.lus_meaning.specs.Occurrences.{Memory, gathered, memories}
+use Rattle.lus_meaning.specs.Scope.{Entry, is_constant_role, own_names, outer_names, node_named, contract_named}
 use Rattle.lus_meaning.specs.NameFaults.{home}
 use Rattle.lus_meaning.specs.Refusals.{IsChecked}
 use Rattle.lus_meaning.specs.RuleLaws.{OfEach}
@@ -52,3 +55,30 @@ abbrev pub TablesAgree : Type 0
 TablesAgree =
     (p : Program) → IsChecked p → (h : ℕ × Component) → Contains (placed 0 p) h → (x : Name) (e : Entry)
     → find (λ a. bytes_eq x a.word.text) (table p h) ≡ Some e → Agrees (instance_of p h.1) x e
+
+abbrev pub site_at : Instances → ℕ → Option Site
+site_at no_instances k = None
+site_at (with_instance s i is) zero = Some s
+site_at (with_instance s i is) (suc k) = site_at is k
+
+-- A call occurrence has the place of its number among the calls of the instance, and there an instance of what it names.
+pub record HasItsPlace (i : Instance) (named : Option Component) (s : Site) : Type 0 where
+  pub number : 1 ≤ s.number
+  pub site : site_at (calls_of i) (pred s.number) ≡ Some s
+  pub callee : named ≡ Some (component_of (call_instance i s.number))
+
+-- Calls name nodes and functions, and imports contract nodes.
+abbrev pub CallsInPlace : Type 0
+CallsInPlace =
+    OfEach (λ p n. (s : Site) → Contains (gathered site_in n) s → HasItsPlace (instance_of p n) (node_named p s.callee) s)
+
+abbrev pub ImportsInPlace : Type 0
+ImportsInPlace =
+    OfEach (λ p n. (s : Site) → Contains (flat_map import_site (clauses n)) s
+    → HasItsPlace (instance_of p n) (contract_named p s.callee) s)
+
+-- First values of the types of an instance have each the type of what stands under the `pre` of its number.
+abbrev pub FirstsInPlace : Type 0
+FirstsInPlace =
+    OfEach (λ p n. (f : Frame) → have_sorts (first_sorts (instance_of p n)) (firsts_of f) ≡ true
+    → (m : Memory) → Contains (memories n) m → has_sort (sort_of (instance_of p n) m.operand) (first_value f m.number) ≡ true)
