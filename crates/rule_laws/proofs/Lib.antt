@@ -9,3 +9,4 @@ pub mod Cleaned
 pub mod Tables
 pub mod Numbered
 pub mod Places
+pub mod Known

@@ -281,6 +281,7 @@ stream_says : (n : Component) (cs : Values) (v : Variable) → IsStream n cs v �
 stream_says n cs v i r s = λ c. record {
   sort = ap (λ (q : Sort). Some q) (sym (sort_found n cs v.name.text (Some v) i.found));
   clock = sym (clock_found n v.name.text (Some v) i.found);
+  stream = ap (option_map (λ w. clock_from w.clock)) i.found ∙ sym (ap (λ (b : Bool). cond b None (Some (clock_from v.clock))) c);
   constant = i.none ∙ sym (ap (λ (b : Bool). cond b (Some absent) None) c);
   typed = ap (λ b. is_typed (sort_of_name (alone n cs) v.name.text) b absent) c;
 }
@@ -310,6 +311,7 @@ constant_says n cs e a f r =
     record {
       sort = f.is_sort ∙ ap (λ (q : Sort). Some q) (sym sort);
       clock = f.clock ∙ sym (clock_found n x None none);
+      stream = ap (option_map (λ w. clock_from w.clock)) none ∙ sym (ap (λ (b : Bool). cond b None (Some e.clock)) r);
       constant = f.found ∙ sym (ap (λ (b : Bool). cond b (Some e.value) None) r);
       typed = ap (λ b. is_typed (sort_of_name (alone n cs) x) b e.value) r ∙ subst (λ q. has_sort q e.value ≡ true) (sym sort) f.has;
     }
@@ -338,7 +340,7 @@ outer_vacuous n cs (declared_node m ∷ ds) = outer_vacuous n cs ds
 outer_vacuous n cs (declared_contract m ∷ ds) = outer_vacuous n cs ds
 
 says_known : (n : Component) (cs : Values) (k : ℕ) (e : Entry) → StreamSays n cs e → StreamSays n cs (known_after k e)
-says_known n cs k e s = λ h. let a : Says n cs e = s h in record { sort = a.sort; clock = a.clock; constant = a.constant; typed = a.typed }
+says_known n cs k e s = λ h. let a : Says n cs e = s h in record { sort = a.sort; clock = a.clock; stream = a.stream; constant = a.constant; typed = a.typed }
 
 table_says : (p : Program) (h : ℕ × Component) → AllByRecursion (IsStream h.1 (constants_in p h.1)) (variables h.1) → AllByRecursion (Good (constants_in p h.1)) (table p h) → AllByRecursion (Says h.1 (constants_in p h.1)) (table p h)
 table_says p h a g =
@@ -362,7 +364,7 @@ found_entry P x e (d ∷ es) a f = go (bytes_eq x d.word.text) refl f (found_ent
 -- whatever its calls
 to_any : (d : ℕ) (p : Program) (n : Component) (x : Name) (e : Entry) → Agrees (alone n (constants_in p n)) x e → Agrees (instance_within d p n) x e
 to_any zero p n x e a = a
-to_any (suc d) p n x e a = record { sort = a.sort; clock = a.clock; constant = a.constant; typed = a.typed }
+to_any (suc d) p n x e a = record { sort = a.sort; clock = a.clock; stream = a.stream; constant = a.constant; typed = a.typed }
 
 -- without faults of names and types
 pub typed_tables : (p : Program) → IsTyped p → (h : ℕ × Component) → Contains (placed 0 p) h → (x : Name) (e : Entry) → find (is_word x) (table p h) ≡ Some e → Agrees (instance_of p h.1) x e

@@ -11,6 +11,7 @@ use Rattle.lus_meaning.specs.Run.{sort_of_name, sort_of, first_sorts, have_sorts
 use Rattle.lus_meaning.specs.Occurrences.{Memory, gathered, memories}
 use Rattle.lus_meaning.specs.Scope.{Entry, is_constant_role, own_names, outer_names, node_named, contract_named}
 use Rattle.lus_meaning.specs.NameFaults.{home}
+use Rattle.lus_meaning.specs.ClockFaults.{name_clock}
 use Rattle.lus_meaning.specs.Refusals.{IsChecked}
 use Rattle.lus_meaning.specs.RuleLaws.{OfEach}
 
@@ -42,11 +43,12 @@ placed k (declared_contract n ∷ ds) = (k, n) ∷ placed k ds
 abbrev pub table : Program → ℕ × Component → List Entry
 table p h = own_names (home p h.0 h.1) ++ outer_names p h.0
 
--- An entry says of a name what the instance says: its type, its clock, whether it is a constant, and then its value,
--- which is of that type.
+-- An entry says of a name what the instance says: its type, its clock, which the rules read of streams alone, whether
+-- it is a constant, and then its value, which is of that type.
 pub record Agrees (i : Instance) (x : Name) (e : Entry) : Type 0 where
   pub sort : e.sort ≡ Some (sort_of_name i x)
   pub clock : e.clock ≡ clock_of (component_of i) x
+  pub stream : name_clock (component_of i) x ≡ cond (is_constant_role e.role) None (Some e.clock)
   pub constant : lookup (bytes_eq x) (constants_of i) ≡ cond (is_constant_role e.role) (Some e.value) None
   pub typed : is_typed (sort_of_name i x) (is_constant_role e.role) e.value ≡ true
 
