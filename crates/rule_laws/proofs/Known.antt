@@ -4,7 +4,7 @@ use Rattle.std.specs.Prelude.{Contains, find, option_map, option_and_then, unwra
 use Rattle.std.specs.Str.{bytes_eq}
 use Rattle.std.proofs.lemmas.Bool.{false≢true}
 use Rattle.lus_tree.specs.Tree.{Name, Clause, Component, Program}
-use Rattle.lus_meaning.specs.Scene.{Scene, Instance, component_of}
+use Rattle.lus_meaning.specs.Scene.{Scene}
 use Rattle.lus_meaning.specs.Program.{clause_constants, instance_of}
 use Rattle.lus_meaning.specs.Run.{sort_of_name, is_typed}
 use Rattle.lus_meaning.specs.Scope.{Entry, is_constant_role, Scope, entry_of, is_known, sort_of_entry, left_after, known_after, first_constants, hide_local, own_names, outer_names, clause_scope, constant_scope}

@@ -1,14 +1,15 @@
 -- In a checked program call occurrences and first values stand at their numbers.
-use Rattle.std.proofs.Common.{◌≡◌, ℕ, zero, suc, ◌≤◌, Bool, true, false, ◌&&◌, List, [], ◌∷◌, ◌++◌, map, flat_map, Option, Some, refl, sym, ap, ◌∙◌, subst, arith}
+use Rattle.std.proofs.Common.{cond, ◌≡◌, ℕ, zero, suc, ◌≤◌, Bool, true, false, ◌&&◌, List, [], ◌∷◌, ◌++◌, map, flat_map, Option, Some, refl, sym, ap, ◌∙◌, subst, arith}
 use Rattle.std.specs.Prelude.{Contains, pred, slice_index_or}
 use Rattle.std.specs.List.{AllByRecursion}
+use Rattle.std.specs.Str.{bytes_eq}
 use Rattle.std.proofs.lemmas.Bool.{false≢true}
 use Rattle.lus_tree.specs.declared.place.Sort.{Sort}
 use Rattle.lus_tree.specs.Tree.{Expression, truth, number, name, negation, minus, pre, arrow, binary, choice, sampled, merged, call, condact, mode_name, Clause, assume, guarantee, ghost_variable, constant, mode, «import», Component, declared_constant, declared_node, declared_contract, Program}
 use Rattle.lus_tree.specs.Numbers.{a_pre, a_call, pre_number, call_number, all_numbers, import_number, numbers_in, are_counted, IsNumbered}
 use Rattle.lus_meaning.specs.Value.{Value, absent, has_sort}
 use Rattle.lus_meaning.specs.Frame.{firsts_of}
-use Rattle.lus_meaning.specs.Scene.{Site, Instance, Instances, instance, no_instances, with_instance, component_of, calls_of, instance_at, call_instance, clauses}
+use Rattle.lus_meaning.specs.Scene.{Site, Instance, Instances, instance, no_instances, with_instance, component_of, calls_of, instance_at, call_instance, called_among, clauses}
 use Rattle.lus_meaning.specs.Program.{site_in, import_site, all_sites, component_named, in_order, instance_of}
 use Rattle.lus_meaning.specs.Run.{sort_of, have_sorts}
 use Rattle.lus_meaning.specs.Occurrences.{Standing, Memory, gathered, memories}
@@ -17,6 +18,8 @@ use Rattle.lus_meaning.specs.NameFaults.{is_declared}
 use Rattle.lus_meaning.specs.ClockFaults.{components}
 use Rattle.lus_meaning.specs.Grammatical.{IsGrammaticalComponent, IsGrammaticalDeclaration, IsGrammatical}
 use Rattle.lus_meaning.specs.Refusals.{IsChecked}
+use Rattle.lus_meaning.proofs.Exists.{self_bytes}
+use Rattle.lus_meaning.proofs.Unique.{same_bytes}
 use Rattle.lus_meaning.proofs.Lists.{append_none, map_append}
 use Rattle.lus_meaning.proofs.NamesOnce.{at_one}
 use Rattle.lus_meaning.proofs.Now.{left_part, right_part}
@@ -95,6 +98,19 @@ placed_site p (c ∷ ss) no_instances k s u a = absurd u
 placed_site p (c ∷ ss) (with_instance d i is) zero s u a = (ap (λ (x : Site). Some x) (u.0 ∙ a), subst (λ x. component_named p x.callee ≡ Some (component_of i)) a u.1)
 placed_site p (c ∷ ss) (with_instance d i is) (suc k) s u a = placed_site p ss is k s u.3 a
 
+-- the first call of its callee
+first_call : (p : Program) (ss : List Site) (is : Instances) (k : ℕ) (s : Site) → AreUnfolded p ss is → At ss k s → component_named p s.callee ≡ Some (component_of (called_among is s.callee))
+first_call p [] is k s u a = absurd a
+first_call p (c ∷ ss) no_instances k s u a = absurd u
+first_call p (c ∷ ss) (with_instance d i is) zero s u a =
+    let same : bytes_eq s.callee d.callee ≡ true = ap (bytes_eq s.callee) (ap (λ (x : Site). x.callee) (u.0 ∙ a)) ∙ self_bytes s.callee in
+    subst (λ x. component_named p x.callee ≡ Some (component_of i)) a u.1 ∙ ap (λ b. Some (component_of (cond b i (called_among is s.callee)))) (sym same)
+first_call p (c ∷ ss) (with_instance d i is) (suc k) s u a = go (bytes_eq s.callee d.callee) refl (first_call p ss is k s u.3 a)
+  where
+    go : (b : Bool) → bytes_eq s.callee d.callee ≡ b → component_named p s.callee ≡ Some (component_of (called_among is s.callee)) → component_named p s.callee ≡ Some (component_of (cond b i (called_among is s.callee)))
+    go true m r = subst (λ x. component_named p x ≡ Some (component_of i)) (sym (same_bytes s.callee d.callee m ∙ ap (λ (x : Site). x.callee) u.0)) u.1
+    go false m r = r
+
 calls_unfolded : (p : Program) (i : Instance) (n : Component) → component_of i ≡ n → IsUnfolded p i → AreUnfolded p (all_sites n) (calls_of i)
 calls_unfolded p (instance m cs is) n e u = subst (λ k. AreUnfolded p (all_sites k) is) e u.1
 
@@ -107,7 +123,7 @@ site_in_place p c n i named s e h =
     let u : AreUnfolded p (all_sites n) (calls_of (instance_of p n)) = calls_unfolded p (instance_of p n) n (component_within _ p n) (each_unfolded p c n i) in
     let q : (site_at (calls_of (instance_of p n)) (pred s.number) ≡ Some s) × (component_named p s.callee ≡ Some (component_of (instance_at (calls_of (instance_of p n)) (pred s.number)))) =
     placed_site p (all_sites n) (calls_of (instance_of p n)) (pred s.number) s u h.place in
-    record { number = h.positive; site = q.0; callee = e ∙ q.1 ∙ ap (λ j. Some (component_of j)) (by_number (instance_of p n) s.number h.positive) }
+    record { number = h.positive; by_name = e ∙ first_call p (all_sites n) (calls_of (instance_of p n)) (pred s.number) s u h.place; site = q.0; callee = e ∙ q.1 ∙ ap (λ j. Some (component_of j)) (by_number (instance_of p n) s.number h.positive) }
 
 sites_in_place : (p : Program) → IsChecked p → (n : Component) → Contains (components p) n → AllByRecursion (InPlace (λ c. c.number) (found_sites n)) (found_sites n)
 sites_in_place p c n i = all_in_place (λ c. c.number) (found_sites n) (sites_counted n (numbered p c.grammatical n i))

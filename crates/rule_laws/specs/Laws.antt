@@ -5,7 +5,7 @@ use Rattle.std.specs.Str.{bytes_eq}
 use Rattle.lus_tree.specs.Tree.{Name, Component, declared_constant, declared_node, declared_contract, Program}
 use Rattle.lus_meaning.specs.Value.{has_sort}
 use Rattle.lus_meaning.specs.Frame.{Frame, firsts_of, first_value}
-use Rattle.lus_meaning.specs.Scene.{Site, Instance, Instances, instance, no_instances, with_instance, component_of, constants_of, calls_of, call_instance, clauses, clock_of}
+use Rattle.lus_meaning.specs.Scene.{Site, Instance, Instances, instance, no_instances, with_instance, component_of, constants_of, calls_of, call_instance, instance_called, clauses, clock_of}
 use Rattle.lus_meaning.specs.Program.{site_in, import_site, all_sites, component_named, constants_in, instance_of}
 use Rattle.lus_meaning.specs.Run.{sort_of_name, sort_of, first_sorts, have_sorts, is_typed}
 use Rattle.lus_meaning.specs.Occurrences.{Memory, gathered, memories}
@@ -63,11 +63,13 @@ site_at no_instances k = None
 site_at (with_instance s i is) zero = Some s
 site_at (with_instance s i is) (suc k) = site_at is k
 
--- A call occurrence has the place of its number among the calls of the instance, and there an instance of what it names.
+-- A call occurrence has the place of its number among the calls of the instance, and there an instance of what it names;
+-- so has the first call of that callee.
 pub record HasItsPlace (i : Instance) (named : Option Component) (s : Site) : Type 0 where
   pub number : 1 ≤ s.number
   pub site : site_at (calls_of i) (pred s.number) ≡ Some s
   pub callee : named ≡ Some (component_of (call_instance i s.number))
+  pub by_name : named ≡ Some (component_of (instance_called i s.callee))
 
 -- Calls name nodes and functions, and imports contract nodes.
 abbrev pub CallsInPlace : Type 0
