@@ -1,0 +1,12 @@
+pub mod Lists
+pub mod Reached
+pub mod Callees
+pub mod Unfolded
+pub mod Worths
+pub mod Constants
+pub mod Declared
+pub mod Cleaned
+pub mod Tables
+pub mod Numbered
+pub mod Places
+pub mod Known

@@ -1,0 +1,23 @@
+//! The laws of the programs that follow the rules.
+
+ghost use Rattle.rule_laws.specs.Laws.{CallsInPlace, FirstsInPlace, ImportsInPlace, TablesAgree, Unfolding};
+
+/// In a checked program the instance of each declaration is unfolded to its end: each call occurrence and each import,
+/// at every depth, has an instance of the declaration that it names.
+pub fn unfolded_instances()
+    ensures { Unfolding }
+{}
+
+/// In a checked program the tables by which the rules know a declaration's names say of each name what its instance has:
+/// its type, its clock, whether it is a constant, and then its value.
+pub fn tables_agree()
+    ensures { TablesAgree }
+{}
+
+/// In a checked program each call occurrence and each import has, at its number, an instance of the declaration that it
+/// names, and first values have each the type of what stands under the `pre` of its number.
+pub fn numbered_places()
+    ensures calls { CallsInPlace }
+    ensures imports { ImportsInPlace }
+    ensures firsts { FirstsInPlace }
+{}
