@@ -1,0 +1,5 @@
+pub mod Substituted
+pub mod Bounded
+pub mod Summed
+pub mod Limited
+pub mod CutLines

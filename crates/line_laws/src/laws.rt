@@ -1,0 +1,14 @@
+//! Laws of lines over literals, over the definitions alone: each function is its contract.
+
+ghost use Rattle.line_laws.specs.Lines.{CutLinesSumToTheirAtom, RefutedBoundsSumToNothing};
+
+/// Where bounds sum to a whole combination of the rows, what their literals mean sums to nothing, with the same right
+/// side.
+pub fn refuted_bounds_sum_to_nothing()
+    ensures { RefutedBoundsSumToNothing }
+{}
+
+/// Where bounds and rows sum to a multiple of a cut's atom, so does what their literals mean.
+pub fn cut_lines_sum_to_their_atom()
+    ensures { CutLinesSumToTheirAtom }
+{}
