@@ -3,3 +3,4 @@ pub mod Bounded
 pub mod Summed
 pub mod Limited
 pub mod CutLines
+pub mod Said

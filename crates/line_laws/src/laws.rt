@@ -1,6 +1,6 @@
 //! Laws of lines over literals, over the definitions alone: each function is its contract.
 
-ghost use Rattle.line_laws.specs.Lines.{CutLinesSumToTheirAtom, RefutedBoundsSumToNothing};
+ghost use Rattle.line_laws.specs.Lines.{BoundsSayWhatLiteralsSay, CutLinesSumToTheirAtom, RefutedBoundsSumToNothing};
 
 /// Where bounds sum to a whole combination of the rows, what their literals mean sums to nothing, with the same right
 /// side.
@@ -11,4 +11,9 @@ pub fn refuted_bounds_sum_to_nothing()
 /// Where bounds and rows sum to a multiple of a cut's atom, so does what their literals mean.
 pub fn cut_lines_sum_to_their_atom()
     ensures { CutLinesSumToTheirAtom }
+{}
+
+/// A literal of an atom is true exactly where its bound is met.
+pub fn bounds_say_what_literals_say()
+    ensures { BoundsSayWhatLiteralsSay }
 {}
