@@ -4,3 +4,8 @@ pub mod Summed
 pub mod Limited
 pub mod CutLines
 pub mod Said
+pub mod Outcomes
+pub mod Differing
+pub mod OwnLines
+pub mod SumLines
+pub mod ConflictSteps

@@ -1,6 +1,7 @@
 //! Laws of lines over literals, over the definitions alone: each function is its contract.
 
 ghost use Rattle.line_laws.specs.Lines.{BoundsSayWhatLiteralsSay, CutLinesSumToTheirAtom, RefutedBoundsSumToNothing};
+ghost use Rattle.line_laws.specs.Steps.{RefutedBoundsGiveAStep};
 
 /// Where bounds sum to a whole combination of the rows, what their literals mean sums to nothing, with the same right
 /// side.
@@ -16,4 +17,9 @@ pub fn cut_lines_sum_to_their_atom()
 /// A literal of an atom is true exactly where its bound is met.
 pub fn bounds_say_what_literals_say()
     ensures { BoundsSayWhatLiteralsSay }
+{}
+
+/// Bounds that refute each other give a theory step that breaks no rule, unless a number of it is outside 128 bits.
+pub fn refuted_bounds_give_a_step()
+    ensures { RefutedBoundsGiveAStep }
 {}

@@ -1,0 +1,60 @@
+-- The theory steps that a solver makes.
+use Rattle.std.specs.Prelude.{ℕ, suc, ◌≡◌, ◌⊎◌, ◌++◌, true, false, List, [], ◌∷◌, map, All, Some, None, unsigned_abs}
+use lib.IntN.{ℤ, pos}
+use lib.Signed.{◌≤ℤ◌, ◌<ℤ◌}
+use Rattle.proof_steps.specs.declared.Literal.{Literal}
+use Rattle.proof_steps.specs.declared.Literal.TheVariants.{Atom}
+use Rattle.proof_steps.specs.declared.Source.{Source}
+use Rattle.proof_steps.specs.declared.Source.TheVariants as s
+use Rattle.proof_steps.specs.View.{Move, theory, Sum}
+use Rattle.proof_steps.specs.Meaning.{opposite}
+use Rattle.proof_steps.specs.Rows.{Form, rows_of, combined}
+use Rattle.proof_checker.specs.declared.rule.Rule.TheVariants as r
+use Rattle.proof_checker.specs.Check.{move_fault}
+use Rattle.int_simplex.specs.Farkas.{weight, limits}
+use Rattle.cnf_maker.specs.Plain.{IsPlain}
+use Rattle.line_laws.specs.Lines.{Part, IsPart, multipliers_of, bounds_of}
+
+-- the clause `a -a` of a split's atom, whose two inequalities sum to 0 <= -1
+abbrev pub split_step : ℕ → Move
+split_step n =
+    theory (Atom n true ∷ Atom n false ∷ [])
+    (record { parts = (pos 1, s.Literal 1) ∷ (pos 1, s.Literal 2) ∷ []; divisor = pos 1 } ∷ [])
+
+-- the size of an atom's one coefficient, by which its inequality is divided
+abbrev pub divisor_of : List (ℕ × ℤ) → ℤ
+divisor_of [] = pos 1
+divisor_of (t ∷ []) = pos (unsigned_abs t.1)
+divisor_of (t ∷ u ∷ rest) = pos 1
+
+-- first each literal's own line, divided; the literals are numbered from n on
+abbrev pub own_lines : ℕ → List Part → List Sum
+own_lines n [] = []
+own_lines n (p ∷ rest) =
+    record { parts = (pos 1, s.Literal n) ∷ []; divisor = divisor_of p.atom.terms } ∷ own_lines (suc n) rest
+
+abbrev pub line_parts : ℕ → List Part → List (ℤ × Source)
+line_parts n [] = []
+line_parts n (p ∷ rest) = (p.multiplier, s.Line n) ∷ line_parts (suc n) rest
+
+-- then their sum
+abbrev pub sum_of_lines : ℕ → List Part → Sum
+sum_of_lines n parts = record { parts = line_parts n parts; divisor = pos 1 }
+
+abbrev pub denied : Part → Literal
+denied p = opposite (Atom p.bound.literal p.sign)
+
+-- some literal of the refuted bounds is false
+abbrev pub conflict_step : List Part → Move
+conflict_step parts = theory (map denied parts) (own_lines 1 parts ++ sum_of_lines 1 parts ∷ [])
+
+-- bounds that refute each other give a step that the checker takes, unless a number of it is outside
+-- 128 bits
+abbrev pub RefutedBoundsGiveAStep : Type 0
+RefutedBoundsGiveAStep =
+    (g : Form) (known : List (List Literal)) (parts : List Part) (ms : List ℤ) → IsPlain g → All (IsPart g) parts
+    → All (λ (p : Part). pos 0 ≤ℤ p.multiplier) parts
+    → ((c : ℕ) → weight (multipliers_of parts) (bounds_of parts) c ≡ combined ms (rows_of g) c)
+    → limits (multipliers_of parts) (bounds_of parts) <ℤ pos 0
+    → (move_fault g.shapes g.atoms known (conflict_step parts) ≡ None)
+    ⊎ (move_fault g.shapes g.atoms known (conflict_step parts) ≡ Some r.Past)
