@@ -9,3 +9,4 @@ pub mod Differing
 pub mod OwnLines
 pub mod SumLines
 pub mod ConflictSteps
+pub mod Refutations

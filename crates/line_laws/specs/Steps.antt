@@ -1,17 +1,18 @@
 -- The theory steps that a solver makes.
-use Rattle.std.specs.Prelude.{ℕ, suc, ◌≡◌, ◌⊎◌, ◌++◌, true, false, List, [], ◌∷◌, map, All, Some, None, unsigned_abs}
+use Rattle.std.specs.Prelude.{ℕ, suc, ◌≡◌, ◌⊎◌, ◌++◌, Bool, true, false, List, [], ◌∷◌, map, All, Contains, Some, None, unsigned_abs}
 use lib.IntN.{ℤ, pos}
 use lib.Signed.{◌≤ℤ◌, ◌<ℤ◌}
 use Rattle.proof_steps.specs.declared.Literal.{Literal}
 use Rattle.proof_steps.specs.declared.Literal.TheVariants.{Atom}
 use Rattle.proof_steps.specs.declared.Source.{Source}
 use Rattle.proof_steps.specs.declared.Source.TheVariants as s
-use Rattle.proof_steps.specs.View.{Move, theory, Sum}
+use Rattle.proof_steps.specs.View.{Inequality, Move, theory, Sum}
 use Rattle.proof_steps.specs.Meaning.{opposite}
 use Rattle.proof_steps.specs.Rows.{Form, rows_of, combined}
 use Rattle.proof_checker.specs.declared.rule.Rule.TheVariants as r
 use Rattle.proof_checker.specs.Check.{move_fault}
-use Rattle.int_simplex.specs.Farkas.{weight, limits}
+use Rattle.int_simplex.specs.State.{Standing}
+use Rattle.int_simplex.specs.Farkas.{weight, limits, Refutes}
 use Rattle.cnf_maker.specs.Plain.{IsPlain}
 use Rattle.line_laws.specs.Lines.{Part, IsPart, multipliers_of, bounds_of}
 
@@ -58,3 +59,29 @@ RefutedBoundsGiveAStep =
     → limits (multipliers_of parts) (bounds_of parts) <ℤ pos 0
     → (move_fault g.shapes g.atoms known (conflict_step parts) ≡ None)
     ⊎ (move_fault g.shapes g.atoms known (conflict_step parts) ≡ Some r.Past)
+
+-- the bound is what one literal of the atom that its number names means
+abbrev pub IsOfLiteral : Form → Standing → Type 0
+IsOfLiteral g b =
+    (i : Inequality) × (sign : Bool) × IsPart g record { bound = b; atom = i; sign = sign; multiplier = pos 0 }
+
+-- the multipliers of a refutation, each with the number of its bound's literal
+abbrev pub numbered : Part → ℤ × ℕ
+numbered p = (p.multiplier, p.bound.literal)
+
+-- a step whose clause is of the opposites of bounds' literals, and whose last line sums these with the
+-- multipliers; the checker takes it, unless a number of it is outside 128 bits
+pub record IsStepOf (g : Form) (known : List (List Literal)) (bounds : List Standing) (multipliers : List (ℤ × ℕ)) : Type 0 where
+  pub parts : List Part
+  pub are_parts : All (IsPart g) parts
+  pub stand : All (λ (p : Part). Contains bounds p.bound) parts
+  pub same : map numbered parts ≡ multipliers
+  pub taken : (move_fault g.shapes g.atoms known (conflict_step parts) ≡ None)
+      ⊎ (move_fault g.shapes g.atoms known (conflict_step parts) ≡ Some r.Past)
+
+-- what a tableau over a query's rows answers of bounds of its literals gives such a step
+abbrev pub RefutationsGiveSteps : Type 0
+RefutationsGiveSteps =
+    (g : Form) (known : List (List Literal)) (bounds : List Standing) (multipliers : List (ℤ × ℕ)) → IsPlain g
+    → All (IsOfLiteral g) bounds
+    → Refutes (rows_of g) bounds multipliers → IsStepOf g known bounds multipliers

@@ -1,7 +1,7 @@
 //! Laws of lines over literals, over the definitions alone: each function is its contract.
 
 ghost use Rattle.line_laws.specs.Lines.{BoundsSayWhatLiteralsSay, CutLinesSumToTheirAtom, RefutedBoundsSumToNothing};
-ghost use Rattle.line_laws.specs.Steps.{RefutedBoundsGiveAStep};
+ghost use Rattle.line_laws.specs.Steps.{RefutationsGiveSteps, RefutedBoundsGiveAStep};
 
 /// Where bounds sum to a whole combination of the rows, what their literals mean sums to nothing, with the same right
 /// side.
@@ -22,4 +22,10 @@ pub fn bounds_say_what_literals_say()
 /// Bounds that refute each other give a theory step that breaks no rule, unless a number of it is outside 128 bits.
 pub fn refuted_bounds_give_a_step()
     ensures { RefutedBoundsGiveAStep }
+{}
+
+/// What a tableau answers of bounds that refute each other, where each is what a literal means, gives such a step, with
+/// its multipliers and literals.
+pub fn refutations_give_steps()
+    ensures { RefutationsGiveSteps }
 {}
