@@ -20,7 +20,7 @@ use Rattle.proof_checker.specs.Check.{counted, atoms_fit, theory_fault, move_fau
 use Rattle.proof_checker.proofs.Sound.{slice_get-all}
 use Rattle.cnf_maker.specs.Plain.{IsPlain, IsPlainAtom, IsTermOf}
 use Rattle.line_laws.specs.Lines.{Part, IsPart, multipliers_of, bounds_of, coefficient_in, right_side}
-use Rattle.line_laws.specs.Steps.{own_lines, line_parts, sum_of_lines, denied, conflict_step}
+use Rattle.line_laws.specs.Steps.{own_lines, line_parts, sum_of_lines, denied, conflict_step, RefuteEachOther, IsTakenOrPast}
 use Rattle.line_laws.proofs.Outcomes.{Gives}
 use Rattle.line_laws.proofs.SumLines.{IsGood, all-denied, steps}
 use Rattle.line_laws.proofs.Summed.{nothing_left}
@@ -89,16 +89,11 @@ concluded fit sums (value ls) e f h = inl
     ∙ ap (λ b. cond b (cond (absurd_last ls) None (Some r.Theory)) (Some r.Theory)) f
     ∙ ap (λ b. cond b None (Some r.Theory)) h)
 
-pub step_is_taken : (g : Form) (known : List (List Literal)) (parts : List Part) (ms : List ℤ) → IsPlain g → All (IsPart g) parts
-    → All (λ (p : Part). pos 0 ≤ℤ p.multiplier) parts
-    → ((c : ℕ) → weight (multipliers_of parts) (bounds_of parts) c ≡ combined ms (rows_of g) c)
-    → limits (multipliers_of parts) (bounds_of parts) <ℤ pos 0
-    → (move_fault g.shapes g.atoms known (conflict_step parts) ≡ None)
-    ⊎ (move_fault g.shapes g.atoms known (conflict_step parts) ≡ Some r.Past)
-step_is_taken g known parts ms plain are signed sums low =
-    let all : AllByRecursion (IsPart g) parts = recursion_from_All (IsPart g) parts are in
-    let right : right_side parts <ℤ pos 0 = subst (λ z. z <ℤ pos 0) (sym (same_right_side g parts are)) low in
+pub step_is_taken : (g : Form) (known : List (List Literal)) (parts : List Part) → IsPlain g → RefuteEachOther g parts → IsTakenOrPast g known parts
+step_is_taken g known parts plain h =
+    let all : AllByRecursion (IsPart g) parts = recursion_from_All (IsPart g) parts h.are_parts in
+    let right : right_side parts <ℤ pos 0 = subst (λ z. z <ℤ pos 0) (sym (same_right_side g parts h.are_parts)) h.absurd in
     concluded (atoms_fit (length g.atoms) (map denied parts)) (are_sums (own_lines 1 parts ++ sum_of_lines 1 parts ∷ [])) _
     (denied-fit g parts all)
-    (are-sums 1 parts parts (last-is-sum parts (recursion_from_All (λ (p : Part). pos 0 ≤ℤ p.multiplier) parts signed) right))
-    (steps g (map denied parts) parts (nothing_left g plain parts ms are sums) right 1 [] parts [] refl refl tt (all-denied parts) (good g plain parts all) refl)
+    (are-sums 1 parts parts (last-is-sum parts (recursion_from_All (λ (p : Part). pos 0 ≤ℤ p.multiplier) parts h.not_negative) right))
+    (steps g (map denied parts) parts (nothing_left g plain parts h.on_rows.0 h.are_parts h.on_rows.1) right 1 [] parts [] refl refl tt (all-denied parts) (good g plain parts all) refl)

@@ -11,7 +11,7 @@ use Rattle.int_simplex.specs.State.{Standing}
 use Rattle.int_simplex.specs.Farkas.{weight, limits, Refutes}
 use Rattle.cnf_maker.specs.Plain.{IsPlain}
 use Rattle.line_laws.specs.Lines.{Part, IsPart, multipliers_of, bounds_of}
-use Rattle.line_laws.specs.Steps.{IsOfLiteral, numbered, IsStepOf}
+use Rattle.line_laws.specs.Steps.{RefuteEachOther, IsOfLiteral, numbered, IsStepOf}
 use Rattle.line_laws.proofs.ConflictSteps.{step_is_taken}
 
 literal_in : Standing → ℕ
@@ -56,16 +56,18 @@ module _ (g : Form) (bounds : List Standing) (means : All (IsOfLiteral g) bounds
   refutation_gives_step known pairs plain f =
       let w = joined f.used pairs f.literals (recursion_from_All (Contains bounds) f.used f.stand)
       (recursion_from_All (λ (p : ℤ × ℕ). pos 0 ≤ℤ p.0) pairs f.not_negative) in
-      let are = All-from_recursion (IsPart g) w.parts w.are_parts in
+      let refute : RefuteEachOther g w.parts = record {
+        are_parts = All-from_recursion (IsPart g) w.parts w.are_parts;
+        not_negative = All-from_recursion (λ (p : Part). pos 0 ≤ℤ p.multiplier) w.parts w.signed;
+        on_rows = (f.multipliers, λ c. ap (λ ms. weight ms (bounds_of w.parts) c) w.same_multipliers
+            ∙ ap (λ bs. weight (map (λ (p : ℤ × ℕ). p.0) pairs) bs c) w.same_bounds ∙ f.cancels c);
+        absurd = subst (λ z. z <ℤ pos 0) (sym (ap (λ ms. limits ms (bounds_of w.parts)) w.same_multipliers
+            ∙ ap (λ bs. limits (map (λ (p : ℤ × ℕ). p.0) pairs) bs) w.same_bounds)) f.absurd;
+      } in
       record {
         parts = w.parts;
-        are_parts = are;
         stand = All-from_recursion (λ (p : Part). Contains bounds p.bound) w.parts w.stand;
         same = w.same;
-        taken = step_is_taken g known w.parts f.multipliers plain are
-            (All-from_recursion (λ (p : Part). pos 0 ≤ℤ p.multiplier) w.parts w.signed)
-            (λ c. ap (λ ms. weight ms (bounds_of w.parts) c) w.same_multipliers
-            ∙ ap (λ bs. weight (map (λ (p : ℤ × ℕ). p.0) pairs) bs c) w.same_bounds ∙ f.cancels c)
-            (subst (λ z. z <ℤ pos 0) (sym (ap (λ ms. limits ms (bounds_of w.parts)) w.same_multipliers
-            ∙ ap (λ bs. limits (map (λ (p : ℤ × ℕ). p.0) pairs) bs) w.same_bounds)) f.absurd);
+        refute = refute;
+        taken = step_is_taken g known w.parts plain refute;
       }

@@ -12,10 +12,6 @@ use Rattle.int_simplex.specs.State.{Standing}
 use Rattle.int_simplex.specs.Farkas.{weight, limits}
 use Rattle.cnf_maker.specs.Plain.{IsPlain}
 
--- the query with further atoms: those of splits and cuts. Its rows are those of the tableau
-abbrev pub grown : Form → List Inequality → Form
-grown f extra = record f { atoms = f.atoms ++ extra }
-
 -- `a*x <= b` divided by the size of a, as a line divides
 abbrev pub divided_by : ℕ → ℤ → ℤ → Inequality
 divided_by x (pos zero) b = record { terms = []; bound = b }
@@ -64,28 +60,37 @@ abbrev pub right_side : List Part → ℤ
 right_side [] = pos 0
 right_side (p ∷ rest) = (p.multiplier *ℤ (said p.sign p.atom).bound) +ℤ right_side rest
 
--- where the bounds sum to a whole combination of the tableau's rows, what their literals mean sums
--- to nothing, with the same right side: the rows' own columns drop out, no multiplier is lost, and
--- the rows' multipliers need not be known
+-- the variables are gone from that sum, and its right side is that of the bounds' sum
 pub record SumsToNothing (parts : List Part) : Type 0 where
   pub left : (c : ℕ) → coefficient_in parts c ≡ pos 0
   pub right : right_side parts ≡ limits (multipliers_of parts) (bounds_of parts)
 
+-- the bounds, each times its multiplier, sum to a whole combination of the rows
+abbrev pub AreOnRowsOf : Form → List Part → Type 0
+AreOnRowsOf g parts =
+    (rows : List ℤ) × ((c : ℕ) → weight (multipliers_of parts) (bounds_of parts) c ≡ combined rows (rows_of g) c)
+
+-- then what their literals mean sums to nothing: the rows' own columns drop out, no multiplier is
+-- lost, and the rows' multipliers need not be known
 abbrev pub RefutedBoundsSumToNothing : Type 0
 RefutedBoundsSumToNothing =
-    (g : Form) (parts : List Part) (ms : List ℤ) → IsPlain g → All (IsPart g) parts
-    → ((c : ℕ) → weight (multipliers_of parts) (bounds_of parts) c ≡ combined ms (rows_of g) c)
-    → SumsToNothing parts
+    (g : Form) (parts : List Part) → IsPlain g → All (IsPart g) parts → AreOnRowsOf g parts → SumsToNothing parts
 
 abbrev pub IsVariable : Form → ℕ → Type 0
 IsVariable g x = x < length g.shapes
 
--- a cut's line: the bounds and rows sum to the divisor times the atom, and so does what the literals mean
+-- bounds and rows sum to d times the terms
+abbrev pub SumTo : Form → List Part → ℤ → List (ℕ × ℤ) → Type 0
+SumTo g parts d terms =
+    (rows : List ℤ)
+    × ((c : ℕ) → weight (multipliers_of parts) (bounds_of parts) c +ℤ combined rows (rows_of g) c ≡ d *ℤ entry terms c)
+
+-- a cut's line: where they sum to the divisor times the cut's atom, so does what the literals mean
 abbrev pub CutLinesSumToTheirAtom : Type 0
 CutLinesSumToTheirAtom =
-    (g : Form) (parts : List Part) (ms : List ℤ) (d : ℤ) (terms : List (ℕ × ℤ)) → IsPlain g → All (IsPart g) parts
+    (g : Form) (parts : List Part) (d : ℤ) (terms : List (ℕ × ℤ)) → IsPlain g → All (IsPart g) parts
     → All (λ (t : ℕ × ℤ). IsVariable g t.0) terms
-    → ((c : ℕ) → weight (multipliers_of parts) (bounds_of parts) c +ℤ combined ms (rows_of g) c ≡ d *ℤ entry terms c)
+    → SumTo g parts d terms
     → (c : ℕ) → coefficient_in parts c ≡ d *ℤ entry terms c
 
 -- whole values of the columns, those of the sums too, under which each row is 0
@@ -102,6 +107,6 @@ IsInside v b = Inside b.upper (v b.column) b.limit
 -- then a literal is true exactly where its bound is met
 abbrev pub BoundsSayWhatLiteralsSay : Type 0
 BoundsSayWhatLiteralsSay =
-    (g : Form) (v : Values) (n : ℕ) (sign : Bool) (b : Bound) → IsPlain g → AreOnRows g v.number
+    (g : Form) (v : Values) (n : ℕ) (sign : Bool) (b : Bound) → AreOnRows g v.number
     → bound_of_literal g [] (Atom n sign) ≡ Some b
     → (literal_true g.atoms v (Atom n sign) ≡ true) ↔ IsInside v.number b

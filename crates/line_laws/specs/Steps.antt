@@ -1,4 +1,4 @@
--- The theory steps that a solver makes.
+-- The theory step that bounds give which refute each other.
 use Rattle.std.specs.Prelude.{ℕ, suc, ◌≡◌, ◌⊎◌, ◌++◌, Bool, true, false, List, [], ◌∷◌, map, All, Contains, Some, None, unsigned_abs}
 use lib.IntN.{ℤ, pos}
 use lib.Signed.{◌≤ℤ◌, ◌<ℤ◌}
@@ -14,13 +14,7 @@ use Rattle.proof_checker.specs.Check.{move_fault}
 use Rattle.int_simplex.specs.State.{Standing}
 use Rattle.int_simplex.specs.Farkas.{weight, limits, Refutes}
 use Rattle.cnf_maker.specs.Plain.{IsPlain}
-use Rattle.line_laws.specs.Lines.{Part, IsPart, multipliers_of, bounds_of}
-
--- the clause `a -a` of a split's atom, whose two inequalities sum to 0 <= -1
-abbrev pub split_step : ℕ → Move
-split_step n =
-    theory (Atom n true ∷ Atom n false ∷ [])
-    (record { parts = (pos 1, s.Literal 1) ∷ (pos 1, s.Literal 2) ∷ []; divisor = pos 1 } ∷ [])
+use Rattle.line_laws.specs.Lines.{Part, IsPart, AreOnRowsOf, multipliers_of, bounds_of}
 
 -- the size of an atom's one coefficient, by which its inequality is divided
 abbrev pub divisor_of : List (ℕ × ℤ) → ℤ
@@ -49,16 +43,25 @@ denied p = opposite (Atom p.bound.literal p.sign)
 abbrev pub conflict_step : List Part → Move
 conflict_step parts = theory (map denied parts) (own_lines 1 parts ++ sum_of_lines 1 parts ∷ [])
 
--- bounds that refute each other give a step that the checker takes, unless a number of it is outside
--- 128 bits
+-- the step breaks no rule of the checker, or a number of it is outside 128 bits
+abbrev pub IsTakenOrPast : Form → List (List Literal) → List Part → Type 0
+IsTakenOrPast g known parts =
+    (move_fault g.shapes g.atoms known (conflict_step parts) ≡ None)
+    ⊎ (move_fault g.shapes g.atoms known (conflict_step parts) ≡ Some r.Past)
+
+-- multipliers 0 or more, with which the bounds sum to a whole combination of the rows, and the sum's
+-- right side is below 0
+pub record RefuteEachOther (g : Form) (parts : List Part) : Type 0 where
+  pub are_parts : All (IsPart g) parts
+  pub not_negative : All (λ (p : Part). pos 0 ≤ℤ p.multiplier) parts
+  pub on_rows : AreOnRowsOf g parts
+  pub absurd : limits (multipliers_of parts) (bounds_of parts) <ℤ pos 0
+
+-- whatever clauses are known
 abbrev pub RefutedBoundsGiveAStep : Type 0
 RefutedBoundsGiveAStep =
-    (g : Form) (known : List (List Literal)) (parts : List Part) (ms : List ℤ) → IsPlain g → All (IsPart g) parts
-    → All (λ (p : Part). pos 0 ≤ℤ p.multiplier) parts
-    → ((c : ℕ) → weight (multipliers_of parts) (bounds_of parts) c ≡ combined ms (rows_of g) c)
-    → limits (multipliers_of parts) (bounds_of parts) <ℤ pos 0
-    → (move_fault g.shapes g.atoms known (conflict_step parts) ≡ None)
-    ⊎ (move_fault g.shapes g.atoms known (conflict_step parts) ≡ Some r.Past)
+    (g : Form) (known : List (List Literal)) (parts : List Part) → IsPlain g → RefuteEachOther g parts
+    → IsTakenOrPast g known parts
 
 -- the bound is what one literal of the atom that its number names means
 abbrev pub IsOfLiteral : Form → Standing → Type 0
@@ -69,17 +72,15 @@ IsOfLiteral g b =
 abbrev pub numbered : Part → ℤ × ℕ
 numbered p = (p.multiplier, p.bound.literal)
 
--- a step whose clause is of the opposites of bounds' literals, and whose last line sums these with the
--- multipliers; the checker takes it, unless a number of it is outside 128 bits
+-- bounds that stand, with these multipliers and literals, refute each other, and so give a step
 pub record IsStepOf (g : Form) (known : List (List Literal)) (bounds : List Standing) (multipliers : List (ℤ × ℕ)) : Type 0 where
   pub parts : List Part
-  pub are_parts : All (IsPart g) parts
   pub stand : All (λ (p : Part). Contains bounds p.bound) parts
   pub same : map numbered parts ≡ multipliers
-  pub taken : (move_fault g.shapes g.atoms known (conflict_step parts) ≡ None)
-      ⊎ (move_fault g.shapes g.atoms known (conflict_step parts) ≡ Some r.Past)
+  pub refute : RefuteEachOther g parts
+  pub taken : IsTakenOrPast g known parts
 
--- what a tableau over a query's rows answers of bounds of its literals gives such a step
+-- what a tableau over a query's rows answers of bounds of its literals is such a refutation
 abbrev pub RefutationsGiveSteps : Type 0
 RefutationsGiveSteps =
     (g : Form) (known : List (List Literal)) (bounds : List Standing) (multipliers : List (ℤ × ℕ)) → IsPlain g
