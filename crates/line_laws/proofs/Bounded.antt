@@ -48,7 +48,7 @@ less_unit x c mu = go (x == c) where
   go true = times-less mu
   go false = *ℤ-zero mu
 
-entry-negated : (ts : List (ℕ × ℤ)) (c : ℕ) → entry (map negated_term ts) c ≡ neg_ℤ (entry ts c)
+pub entry-negated : (ts : List (ℕ × ℤ)) (c : ℕ) → entry (map negated_term ts) c ≡ neg_ℤ (entry ts c)
 entry-negated [] c = refl
 entry-negated ((x, a) ∷ rest) c = go (x == c) (entry-negated rest c) where
   go : (b : Bool) → entry (map negated_term rest) c ≡ neg_ℤ (entry rest c)

@@ -32,11 +32,11 @@ not-zeros : (shapes : List Shape) (terms : List (ℕ × ℤ)) → AllByRecursion
 not-zeros shapes [] a = tt
 not-zeros shapes (t ∷ rest) a = (a.0.not_zero, not-zeros shapes rest a.1)
 
-named-plain : (g : Form) → IsPlain g → (n : ℕ) (i : Inequality) → at g.atoms n ≡ Some i → IsPlainAtom g.shapes i
+pub named-plain : (g : Form) → IsPlain g → (n : ℕ) (i : Inequality) → at g.atoms n ≡ Some i → IsPlainAtom g.shapes i
 named-plain g plain zero i e = absurd cc
 named-plain g plain (suc j) i e = slice_get-all (IsPlainAtom g.shapes) g.atoms j i (recursion_from_All (IsPlainAtom g.shapes) g.atoms plain) e
 
-good : (g : Form) → IsPlain g → (parts : List Part) → AllByRecursion (IsPart g) parts → AllByRecursion (IsGood g) parts
+pub good : (g : Form) → IsPlain g → (parts : List Part) → AllByRecursion (IsPart g) parts → AllByRecursion (IsGood g) parts
 good g plain [] a = tt
 good g plain (p ∷ rest) a =
     let i = named-plain g plain p.bound.literal p.atom a.0.named in

@@ -1,5 +1,6 @@
 -- Sums in which each variable has one term.
 use Rattle.std.specs.Prelude.{ℕ, ◌≡◌, ◌==◌, Bool, true, false, cond, List, [], ◌∷◌, ◌++◌, refl}
+use Rattle.std.specs.Int.{int_div_euclid}
 use Rattle.std.proofs.Common.{sym, ◌∙◌, ap, subst, arith}
 use Rattle.std.proofs.lemmas.Bool.Decides.{nat_tests}
 use Rattle.std.proofs.lemmas.Int.{ints}
@@ -18,7 +19,7 @@ abbrev pub Differ : List (ℕ × ℤ) → Type 0
 Differ [] = Unit
 Differ ((x, a) ∷ rest) = HasNone x rest × Differ rest
 
-turned-test : (x y : ℕ) → (y == x) ≡ false → (x == y) ≡ false
+pub turned-test : (x y : ℕ) → (y == x) ≡ false → (x == y) ≡ false
 turned-test x y h = grind (arith, nat_tests)
 
 none-plus : (z : ℕ) (sum : List (ℕ × ℤ)) (x : ℕ) (p : ℤ) → (x == z) ≡ false → HasNone z sum → HasNone z (plus sum x p)
@@ -42,6 +43,20 @@ differ-added sum m (t ∷ rest) d =
     (gives-kept Differ (within (m *ℤ t.1)) _ (gives-kept Differ (within (coefficient sum t.0 +ℤ m *ℤ t.1)) _ (differ-plus sum t.0 (m *ℤ t.1) d)))
     (λ s q. differ-added s m rest q)
 
+none-divided : (z : ℕ) (d : ℤ) (ts : List (ℕ × ℤ)) → HasNone z ts → HasNone z (quotients d ts)
+none-divided z d [] n = tt
+none-divided z d ((x, a) ∷ rest) n = go (is_zero a) (none-divided z d rest n.1) where
+  go : (b : Bool) → HasNone z (quotients d rest) → HasNone z (cond b [] ((x, int_div_euclid a d) ∷ []) ++ quotients d rest)
+  go true m = m
+  go false m = (n.0, m)
+
+pub differ-divided : (d : ℤ) (ts : List (ℕ × ℤ)) → Differ ts → Differ (quotients d ts)
+differ-divided d [] n = tt
+differ-divided d ((x, a) ∷ rest) n = go (is_zero a) (differ-divided d rest n.1) (none-divided x d rest n.0) where
+  go : (b : Bool) → Differ (quotients d rest) → HasNone x (quotients d rest) → Differ (cond b [] ((x, int_div_euclid a d) ∷ []) ++ quotients d rest)
+  go true m w = m
+  go false m w = (w, m)
+
 -- 1 at that variable, 0 at all others
 abbrev pub alone : ℕ → ℕ → ℤ
 alone c k = cond (k == c) (pos 1) (pos 0)
@@ -58,11 +73,11 @@ sum-alone c ((x, a) ∷ rest) = go (x == c) (sum-alone c rest) where
   go true e = let o = times-one a in omega (arith, ints)
   go false e = let z = *ℤ-zero a in omega (arith, ints)
 
-none-entry : (x : ℕ) (ts : List (ℕ × ℤ)) → HasNone x ts → entry ts x ≡ pos 0
+pub none-entry : (x : ℕ) (ts : List (ℕ × ℤ)) → HasNone x ts → entry ts x ≡ pos 0
 none-entry x [] h = refl
 none-entry x ((y, q) ∷ rest) h = ap (λ b. cond b (q +ℤ entry rest x) (entry rest x)) h.0 ∙ none-entry x rest h.1
 
-same : (x : ℕ) → (x == x) ≡ true
+pub same : (x : ℕ) → (x == x) ≡ true
 same x = grind (arith, nat_tests)
 
 -- where each variable's coefficient is 0, nothing is left of the sum

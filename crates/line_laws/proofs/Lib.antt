@@ -10,3 +10,4 @@ pub mod OwnLines
 pub mod SumLines
 pub mod ConflictSteps
 pub mod Refutations
+pub mod Fitting

@@ -16,25 +16,21 @@ use Rattle.proof_steps.specs.Rows.{Form}
 use Rattle.proof_checker.specs.Theory.{Outcome, value, past, stopped, coefficient, plus, add_scaled, add_terms, bound_after, add_part, all_negatable, of_atom, of_literal, of_source, add_from, add_parts, divides, is_zero, quotients, divided, of_sum}
 use Rattle.proof_checker.proofs.TheorySound.{sum-add, sum-quotients}
 use Rattle.proof_checker.proofs.Quotients.{quotient_one, divides_one}
-use Rattle.line_laws.specs.Lines.{Part, IsPart, said, divided_by}
+use Rattle.line_laws.specs.Lines.{Part, IsPart, meant, said, divided_by}
 use Rattle.line_laws.specs.Steps.{divisor_of, denied}
 use Rattle.line_laws.proofs.Outcomes.{Gives, gives-then, gives-kept, gives-with}
-use Rattle.line_laws.proofs.Differing.{Differ, differ-added}
+use Rattle.line_laws.proofs.Differing.{Differ, differ-added, differ-divided}
 
--- what a literal of the atom means
-abbrev pub meant : Bool → Inequality → Inequality
-meant true i = i
-meant false i = opposite_inequality i
-
--- the same sum under all values, and the same bound
+-- the same sum under all values, with one term of each variable, and the same bound
 pub record IsSame (i r : Inequality) : Type 0 where
+  pub differ : Differ r.terms
   pub sums : (v : ℕ → ℤ) → sum_of v r.terms ≡ sum_of v i.terms
   pub bound : r.bound ≡ i.bound
 
 abbrev pub nothing : Inequality
 nothing = record { terms = []; bound = pos 0 }
 
-one-times : (x : ℤ) → pos 1 *ℤ x ≡ x
+pub one-times : (x : ℤ) → pos 1 *ℤ x ≡ x
 unfolding lib.IntN.one
 one-times x = *ℤ_comm (pos 1) x ∙ *ℤ-one x
 
@@ -112,19 +108,20 @@ down-divided x k z = sized (λ r. r ≡ divided_by x (negsuc k) z) k _ (went (λ
 abbrev DividesTo : ℤ → Inequality → Inequality → Type 0
 DividesTo d i t = Gives (IsSame i) (divided d t)
 
-is-same : (i r : Inequality) → r ≡ i → IsSame i r
-is-same i r e = record { sums = λ v. ap (λ y. sum_of v y.terms) e; bound = ap (λ y. y.bound) e }
+is-same : (i r : Inequality) → Differ i.terms → r ≡ i → IsSame i r
+is-same i r d e = record { differ = subst (λ y. Differ y.terms) (sym e) d; sums = λ v. ap (λ y. sum_of v y.terms) e; bound = ap (λ y. y.bound) e }
 
-single-line : (x : ℕ) (e z d : ℤ) (i : Inequality) → Gives (λ r. r ≡ i) (divided d record { terms = (x, e) ∷ []; bound = z })
+single-line : (x : ℕ) (e z d : ℤ) (i : Inequality) → Differ i.terms → Gives (λ r. r ≡ i) (divided d record { terms = (x, e) ∷ []; bound = z })
     → Gives (DividesTo d i) (add_part nothing (pos 1) record { terms = (x, e) ∷ []; bound = z })
-single-line x e z d i h =
+single-line x e z d i w h =
     gives-with (λ r. r ≡ record { terms = (x, e) ∷ []; bound = z }) (DividesTo d i) (add_part nothing (pos 1) record { terms = (x, e) ∷ []; bound = z }) (single-added x e z)
-    (λ t _ q. subst (DividesTo d i) (sym q) (gives-with (λ r. r ≡ i) (IsSame i) (divided d record { terms = (x, e) ∷ []; bound = z }) h (λ r _ w. is-same i r w)))
+    (λ t _ q. subst (DividesTo d i) (sym q) (gives-with (λ r. r ≡ i) (IsSame i) (divided d record { terms = (x, e) ∷ []; bound = z }) h (λ r _ y. is-same i r w y)))
 
 long-divided : (i t : Inequality) → IsSame i t → DividesTo (pos 1) i t
 long-divided i t h = went (IsSame i) (divides (pos 1) t.terms) record { terms = quotients (pos 1) t.terms; bound = int_div_euclid t.bound (pos 1) }
     (divides_one (pos 1) t.terms refl)
     record {
+      differ = differ-divided (pos 1) t.terms h.differ;
       sums = λ v. sym (one-times (sum_of v (quotients (pos 1) t.terms))) ∙ sum-quotients v 0 t.terms (divides_one (pos 1) t.terms refl) ∙ h.sums v;
       bound = quotient_one t.bound (pos 1) refl ∙ h.bound;
     }
@@ -132,6 +129,7 @@ long-divided i t h = went (IsSame i) (divides (pos 1) t.terms) record { terms = 
 long-line : (i : Inequality) → Gives (DividesTo (pos 1) i) (add_part nothing (pos 1) i)
 long-line i = gives-with (Adds nothing (pos 1) i) (DividesTo (pos 1) i) (add_part nothing (pos 1) i) (part-added nothing (pos 1) i tt)
     (λ t _ q. long-divided i t record {
+      differ = q.differ;
       sums = λ v. q.sums v ∙ +ℤ_idl (pos 1 *ℤ sum_of v i.terms) ∙ one-times (sum_of v i.terms);
       bound = q.bound ∙ +ℤ_idl (pos 1 *ℤ i.bound) ∙ one-times i.bound;
     })
@@ -140,14 +138,14 @@ line-of : (sign : Bool) (terms : List (ℕ × ℤ)) (z : ℤ) → AllByRecursion
     → Gives (DividesTo (divisor_of terms) (said sign record { terms = terms; bound = z })) (add_part nothing (pos 1) (meant sign record { terms = terms; bound = z }))
 line-of sign [] z a n = absurd (n refl)
 line-of sign ((x, pos zero) ∷ []) z a n = absurd (a.0 refl)
-line-of true ((x, pos (suc k)) ∷ []) z a n = single-line x (pos (suc k)) z (pos (suc k)) (divided_by x (pos (suc k)) z) (up-divided x k z)
-line-of true ((x, negsuc k) ∷ []) z a n = single-line x (negsuc k) z (pos (suc k)) (divided_by x (negsuc k) z) (down-divided x k z)
+line-of true ((x, pos (suc k)) ∷ []) z a n = single-line x (pos (suc k)) z (pos (suc k)) (divided_by x (pos (suc k)) z) (tt, tt) (up-divided x k z)
+line-of true ((x, negsuc k) ∷ []) z a n = single-line x (negsuc k) z (pos (suc k)) (divided_by x (negsuc k) z) (tt, tt) (down-divided x k z)
 line-of false ((x, pos (suc k)) ∷ []) z a n =
     subst (λ y. Gives (DividesTo (pos (suc k)) (divided_by x y (negsuc 0 -ℤ z))) (add_part nothing (pos 1) record { terms = (x, y) ∷ []; bound = negsuc 0 -ℤ z })) (sym (+ℤ_idl (negsuc k)))
-    (single-line x (negsuc k) (negsuc 0 -ℤ z) (pos (suc k)) (divided_by x (negsuc k) (negsuc 0 -ℤ z)) (down-divided x k (negsuc 0 -ℤ z)))
+    (single-line x (negsuc k) (negsuc 0 -ℤ z) (pos (suc k)) (divided_by x (negsuc k) (negsuc 0 -ℤ z)) (tt, tt) (down-divided x k (negsuc 0 -ℤ z)))
 line-of false ((x, negsuc k) ∷ []) z a n =
     subst (λ y. Gives (DividesTo (pos (suc k)) (divided_by x y (negsuc 0 -ℤ z))) (add_part nothing (pos 1) record { terms = (x, y) ∷ []; bound = negsuc 0 -ℤ z })) (sym (+ℤ_idl (pos (suc k))))
-    (single-line x (pos (suc k)) (negsuc 0 -ℤ z) (pos (suc k)) (divided_by x (pos (suc k)) (negsuc 0 -ℤ z)) (up-divided x k (negsuc 0 -ℤ z)))
+    (single-line x (pos (suc k)) (negsuc 0 -ℤ z) (pos (suc k)) (divided_by x (pos (suc k)) (negsuc 0 -ℤ z)) (tt, tt) (up-divided x k (negsuc 0 -ℤ z)))
 line-of true (t ∷ u ∷ ts) z a n = long-line record { terms = t ∷ u ∷ ts; bound = z }
 line-of false (t ∷ u ∷ ts) z a n = long-line (opposite_inequality record { terms = t ∷ u ∷ ts; bound = z })
 
@@ -156,7 +154,7 @@ by-sign true i = refl
 by-sign false i = gives-kept (λ j. j ≡ opposite_inequality i) (all_negatable i.terms) _ (gives-kept (λ j. j ≡ opposite_inequality i) (within (negsuc 0 -ℤ i.bound)) _ refl)
 
 module _ (g : Form) (clause : List Literal) (lines : List Inequality) where
-  source : (p : Part) (n : ℕ) → at g.atoms p.bound.literal ≡ Some p.atom → at clause n ≡ Some (denied p)
+  pub source : (p : Part) (n : ℕ) → at g.atoms p.bound.literal ≡ Some p.atom → at clause n ≡ Some (denied p)
       → Gives (λ j. j ≡ meant p.sign p.atom) (of_source g.atoms clause lines (s.Literal n))
   source p n e f =
       subst (λ o. Gives (λ j. j ≡ meant p.sign p.atom) (of_literal g.atoms o)) (sym f)

@@ -52,16 +52,16 @@ at-kept [] more k i e = absurd cc
 at-kept (l ∷ lines) more zero i e = e
 at-kept (l ∷ lines) more (suc k) i e = at-kept lines more k i e
 
-at-last : (lines : List Inequality) (i : Inequality) → slice_get (lines ++ i ∷ []) (length lines) ≡ Some i
+pub at-last : (lines : List Inequality) (i : Inequality) → slice_get (lines ++ i ∷ []) (length lines) ≡ Some i
 at-last [] i = refl
 at-last (l ∷ lines) i = at-last lines i
 
-lines-kept : (lines : List Inequality) (i : Inequality) (k : ℕ) (parts : List Part) → AreAt lines (suc k) parts → AreAt (lines ++ i ∷ []) (suc k) parts
+pub lines-kept : (lines : List Inequality) (i : Inequality) (k : ℕ) (parts : List Part) → AreAt lines (suc k) parts → AreAt (lines ++ i ∷ []) (suc k) parts
 lines-kept lines i k [] a = tt
 lines-kept lines i k (p ∷ rest) a =
     ((a.0.0, at-kept lines (i ∷ []) k a.0.0 a.0.1, a.0.2), lines-kept lines i (suc k) rest a.1)
 
-lines-more : (lines : List Inequality) (k n : ℕ) (done : List Part) (p : Part) (i : Inequality) → AreAt lines (suc k) done
+pub lines-more : (lines : List Inequality) (k n : ℕ) (done : List Part) (p : Part) (i : Inequality) → AreAt lines (suc k) done
     → n ≡ k + length done → slice_get lines n ≡ Some i → IsSame (said p.sign p.atom) i → AreAt lines (suc k) (done ++ p ∷ [])
 lines-more lines k n [] p i a e g h = ((i, subst (λ m. slice_get lines m ≡ Some i) (let w : n ≡ k = omega arith in w) g, h), tt)
 lines-more lines k n (q ∷ rest) p i a e g h = (a.0, lines-more lines (suc k) n rest p i a.1 (omega arith) g h)
@@ -83,7 +83,7 @@ record AddAll (sum : Inequality) (parts : List Part) (r : Inequality) : Type 0 w
   bound : r.bound ≡ sum.bound +ℤ right_side parts
 
 module _ (atoms : List Inequality) (clause : List Literal) (lines : List Inequality) where
-  line-source : (n : ℕ) (i : Inequality) → at lines n ≡ Some i → Gives (λ j. j ≡ i) (of_source atoms clause lines (s.Line n))
+  pub line-source : (n : ℕ) (i : Inequality) → at lines n ≡ Some i → Gives (λ j. j ≡ i) (of_source atoms clause lines (s.Line n))
   line-source n i e = subst (λ o. Gives (λ j. j ≡ i) (of_line o)) (sym e) refl
 
   all-added : (sum : Inequality) (n : ℕ) (parts : List Part) → Differ sum.terms → AreAt lines n parts
@@ -130,19 +130,19 @@ last-absurd [] i h = h
 last-absurd (l ∷ []) i h = h
 last-absurd (l ∷ k ∷ lines) i h = last-absurd (k ∷ lines) i h
 
-append-nil : (xs : List Part) → xs ++ [] ≡ xs
+pub append-nil : (xs : List Part) → xs ++ [] ≡ xs
 append-nil [] = refl
 append-nil (x ∷ xs) = ap (λ ys. x ∷ ys) (append-nil xs)
 
-length-more : (lines : List Inequality) (i : Inequality) → length (lines ++ i ∷ []) ≡ suc (length lines)
+pub length-more : (lines : List Inequality) (i : Inequality) → length (lines ++ i ∷ []) ≡ suc (length lines)
 length-more [] i = refl
 length-more (l ∷ lines) i = ap suc (length-more lines i)
 
-parts-more : (done : List Part) (p : Part) → length (done ++ p ∷ []) ≡ suc (length done)
+pub parts-more : (done : List Part) (p : Part) → length (done ++ p ∷ []) ≡ suc (length done)
 parts-more [] p = refl
 parts-more (q ∷ done) p = ap suc (parts-more done p)
 
-parts-joined : (done : List Part) (p : Part) (rest : List Part) → (done ++ p ∷ []) ++ rest ≡ done ++ p ∷ rest
+pub parts-joined : (done : List Part) (p : Part) (rest : List Part) → (done ++ p ∷ []) ++ rest ≡ done ++ p ∷ rest
 parts-joined [] p rest = refl
 parts-joined (q ∷ done) p rest = ap (λ xs. q ∷ xs) (parts-joined done p rest)
 

@@ -27,10 +27,14 @@ reduced_sum (t ∷ u ∷ rest) b = record { terms = t ∷ u ∷ rest; bound = b 
 abbrev pub reduced : Inequality → Inequality
 reduced i = reduced_sum i.terms i.bound
 
--- what a literal of the atom means, divided
+-- what a literal of the atom means
+abbrev pub meant : Bool → Inequality → Inequality
+meant true i = i
+meant false i = opposite_inequality i
+
+-- and divided
 abbrev pub said : Bool → Inequality → Inequality
-said true i = reduced i
-said false i = reduced (opposite_inequality i)
+said sign i = reduced (meant sign i)
 
 -- a bound that stands, with the atom that its literal names, the literal's sign and a multiplier
 pub record Part : Type 0 where

@@ -1,20 +1,21 @@
 -- The theory step that bounds give which refute each other.
-use Rattle.std.specs.Prelude.{ℕ, suc, ◌≡◌, ◌⊎◌, ◌++◌, Bool, true, false, List, [], ◌∷◌, map, All, Contains, Some, None, unsigned_abs}
-use lib.IntN.{ℤ, pos}
+use Rattle.std.specs.Prelude.{ℕ, suc, ◌≡◌, ◌⊎◌, ◌++◌, Bool, true, false, List, [], ◌∷◌, map, take, All, Contains, Some, None, unsigned_abs}
+use lib.IntN.{ℤ, pos, ◌*ℤ◌}
 use lib.Signed.{◌≤ℤ◌, ◌<ℤ◌}
+use Rattle.kind_num.specs.Exact.{within}
 use Rattle.proof_steps.specs.declared.Literal.{Literal}
 use Rattle.proof_steps.specs.declared.Literal.TheVariants.{Atom}
 use Rattle.proof_steps.specs.declared.Source.{Source}
 use Rattle.proof_steps.specs.declared.Source.TheVariants as s
 use Rattle.proof_steps.specs.View.{Inequality, Move, theory, Sum}
 use Rattle.proof_steps.specs.Meaning.{opposite}
-use Rattle.proof_steps.specs.Rows.{Form, rows_of, combined}
+use Rattle.proof_steps.specs.Rows.{Form, rows_of, combined, entry}
 use Rattle.proof_checker.specs.declared.rule.Rule.TheVariants as r
 use Rattle.proof_checker.specs.Check.{move_fault}
 use Rattle.int_simplex.specs.State.{Standing}
 use Rattle.int_simplex.specs.Farkas.{weight, limits, Refutes}
 use Rattle.cnf_maker.specs.Plain.{IsPlain}
-use Rattle.line_laws.specs.Lines.{Part, IsPart, AreOnRowsOf, multipliers_of, bounds_of}
+use Rattle.line_laws.specs.Lines.{Part, IsPart, AreOnRowsOf, meant, said, multipliers_of, bounds_of, coefficient_in, right_side}
 
 -- the size of an atom's one coefficient, by which its inequality is divided
 abbrev pub divisor_of : List (ℕ × ℤ) → ℤ
@@ -86,3 +87,23 @@ RefutationsGiveSteps =
     (g : Form) (known : List (List Literal)) (bounds : List Standing) (multipliers : List (ℤ × ℕ)) → IsPlain g
     → All (IsOfLiteral g) bounds
     → Refutes (rows_of g) bounds multipliers → IsStepOf g known bounds multipliers
+
+-- m times the numbers of the inequality are within 128 bits
+pub record HasProducts (m : ℤ) (i : Inequality) : Type 0 where
+  pub coefficients : (c : ℕ) → within (m *ℤ entry i.terms c) ≡ true
+  pub bound : within (m *ℤ i.bound) ≡ true
+
+-- the numbers that the step's lines compute are within 128 bits: what each literal means, the products
+-- of the last line, and its partial sums
+pub record OperationsFit (parts : List Part) : Type 0 where
+  pub meanings : All (λ (p : Part). HasProducts (pos 1) (meant p.sign p.atom)) parts
+  pub products : All (λ (p : Part). HasProducts p.multiplier (said p.sign p.atom)) parts
+  pub sums : (k c : ℕ) → within (coefficient_in (take k parts) c) ≡ true
+  pub right_sides : (k : ℕ) → within (right_side (take k parts)) ≡ true
+
+-- then the step breaks no rule
+abbrev pub FittingStepsAreTaken : Type 0
+FittingStepsAreTaken =
+    (g : Form) (known : List (List Literal)) (parts : List Part) → IsPlain g → RefuteEachOther g parts
+    → OperationsFit parts
+    → move_fault g.shapes g.atoms known (conflict_step parts) ≡ None
