@@ -11,3 +11,4 @@ pub mod SumLines
 pub mod ConflictSteps
 pub mod Refutations
 pub mod Fitting
+pub mod FittingSteps

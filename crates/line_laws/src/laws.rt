@@ -1,7 +1,7 @@
 //! Laws of lines over literals, over the definitions alone: each function is its contract.
 
 ghost use Rattle.line_laws.specs.Lines.{BoundsSayWhatLiteralsSay, CutLinesSumToTheirAtom, RefutedBoundsSumToNothing};
-ghost use Rattle.line_laws.specs.Steps.{RefutationsGiveSteps, RefutedBoundsGiveAStep};
+ghost use Rattle.line_laws.specs.Steps.{FittingStepsAreTaken, RefutationsGiveSteps, RefutedBoundsGiveAStep};
 
 /// Where bounds sum to a whole combination of the rows, what their literals mean sums to nothing, with the same right
 /// side.
@@ -28,4 +28,9 @@ pub fn refuted_bounds_give_a_step()
 /// its multipliers and literals.
 pub fn refutations_give_steps()
     ensures { RefutationsGiveSteps }
+{}
+
+/// Where the numbers of such a step are within 128 bits, it breaks no rule.
+pub fn fitting_steps_are_taken()
+    ensures { FittingStepsAreTaken }
 {}
