@@ -1,5 +1,5 @@
 -- Bounds that refute each other give a step that breaks no rule, unless a number is outside 128 bits.
-use Rattle.std.specs.Prelude.{ℕ, zero, suc, ◌≡◌, ◌≢◌, ◌⊎◌, ◌<◌, Bool, true, false, cond, List, [], ◌∷◌, ◌++◌, length, map, Option, Some, None, All, slice_get, nat_lt, refl}
+use Rattle.std.specs.Prelude.{ℕ, zero, suc, ◌≡◌, ◌≢◌, ◌⊎◌, ◌<◌, Bool, true, false, cond, List, [], ◌∷◌, ◌++◌, length, map, Some, None, slice_get, nat_lt, refl}
 use Rattle.std.specs.List.{AllByRecursion}
 use Rattle.std.proofs.Common.{sym, ◌∙◌, ap, subst, arith, inl, inr}
 use Rattle.std.proofs.lemmas.Bool.Decides.{nat_tests}
@@ -9,18 +9,16 @@ use lib.IntN.{ℤ, pos}
 use lib.Signed.{le_z, ◌≤ℤ◌, ◌<ℤ◌}
 use Rattle.kind_num.specs.declared.Shape.{Shape}
 use Rattle.proof_steps.specs.declared.Literal.{Literal}
-use Rattle.proof_steps.specs.View.{Inequality, Sum}
+use Rattle.proof_steps.specs.View.{Inequality}
 use Rattle.proof_steps.specs.Meaning.{at}
-use Rattle.proof_steps.specs.Rows.{Form, rows_of, combined}
-use Rattle.int_simplex.specs.Farkas.{weight, limits}
-use Rattle.proof_checker.specs.declared.rule.Rule.{Rule}
+use Rattle.proof_steps.specs.Rows.{Form}
 use Rattle.proof_checker.specs.declared.rule.Rule.TheVariants as r
-use Rattle.proof_checker.specs.Theory.{Outcome, value, past, stopped, of_lines, absurd_last, signs, is_sum, are_sums}
-use Rattle.proof_checker.specs.Check.{counted, atoms_fit, theory_fault, move_fault}
+use Rattle.proof_checker.specs.Theory.{Outcome, value, past, stopped, absurd_last, signs, is_sum, are_sums}
+use Rattle.proof_checker.specs.Check.{counted, atoms_fit, theory_fault}
 use Rattle.proof_checker.proofs.Sound.{slice_get-all}
 use Rattle.cnf_maker.specs.Plain.{IsPlain, IsPlainAtom, IsTermOf}
-use Rattle.line_laws.specs.Lines.{Part, IsPart, multipliers_of, bounds_of, coefficient_in, right_side}
-use Rattle.line_laws.specs.Steps.{own_lines, line_parts, sum_of_lines, denied, conflict_step, RefuteEachOther, IsTakenOrPast}
+use Rattle.line_laws.specs.Lines.{Part, IsPart, right_side}
+use Rattle.line_laws.specs.Steps.{own_lines, line_parts, sum_of_lines, denied, RefuteEachOther, IsTakenOrPast}
 use Rattle.line_laws.proofs.Outcomes.{Gives}
 use Rattle.line_laws.proofs.SumLines.{IsGood, all-denied, steps}
 use Rattle.line_laws.proofs.Summed.{nothing_left}

@@ -1,14 +1,14 @@
 -- Sums in which each variable has one term.
 use Rattle.std.specs.Prelude.{ℕ, ◌≡◌, ◌==◌, Bool, true, false, cond, List, [], ◌∷◌, ◌++◌, refl}
 use Rattle.std.specs.Int.{int_div_euclid}
-use Rattle.std.proofs.Common.{sym, ◌∙◌, ap, subst, arith}
+use Rattle.std.proofs.Common.{sym, ◌∙◌, ap, arith}
 use Rattle.std.proofs.lemmas.Bool.Decides.{nat_tests}
 use Rattle.std.proofs.lemmas.Int.{ints}
 use lib.IntN.{ℤ, pos, ◌+ℤ◌, ◌*ℤ◌, *ℤ-one, *ℤ-zero}
 use Rattle.kind_num.specs.Exact.{within}
 use Rattle.proof_steps.specs.Meaning.{sum_of}
 use Rattle.proof_steps.specs.Rows.{entry}
-use Rattle.proof_checker.specs.Theory.{coefficient, plus, add_scaled, add_term, add_terms, quotients, is_zero}
+use Rattle.proof_checker.specs.Theory.{coefficient, plus, add_scaled, add_terms, quotients, is_zero}
 use Rattle.line_laws.proofs.Outcomes.{Gives, gives-then, gives-kept}
 
 abbrev pub HasNone : ℕ → List (ℕ × ℤ) → Type 0

@@ -1,22 +1,20 @@
 -- A step whose numbers are within 128 bits breaks no rule.
-use Rattle.std.specs.Prelude.{ℕ, suc, ◌≡◌, ◌⊎◌, Bool, true, false, cond, List, [], ◌∷◌, ◌++◌, length, map, take, All, Some, None, refl}
+use Rattle.std.specs.Prelude.{ℕ, suc, ◌≡◌, ◌⊎◌, Bool, true, false, cond, List, [], ◌∷◌, ◌++◌, length, map, take, Some, None, refl}
 use Rattle.std.specs.List.{AllByRecursion}
 use Rattle.std.proofs.Common.{sym, ◌∙◌, ap, subst, arith, inl, inr}
 use Rattle.std.proofs.lemmas.Int.{ints}
 use Rattle.std.proofs.lemmas.List.Elements.{recursion_from_All}
-use lib.IntN.{ℤ, pos, negsuc, ◌+ℤ◌, ◌-ℤ◌, ◌*ℤ◌, neg_ℤ, +ℤ_idl}
-use lib.Signed.{◌<ℤ◌}
+use lib.IntN.{ℤ, pos, negsuc, ◌+ℤ◌, ◌-ℤ◌, ◌*ℤ◌, +ℤ_idl}
 use Rattle.kind_num.specs.Exact.{within}
 use Rattle.proof_steps.specs.declared.Literal.{Literal}
 use Rattle.proof_steps.specs.declared.Source.TheVariants as s
 use Rattle.proof_steps.specs.View.{Inequality}
 use Rattle.proof_steps.specs.Meaning.{at, negated, negated_term, sum_of}
 use Rattle.proof_steps.specs.Rows.{Form, entry}
-use Rattle.proof_checker.specs.declared.rule.Rule.{Rule}
 use Rattle.proof_checker.specs.declared.rule.Rule.TheVariants as r
 use Rattle.proof_checker.specs.Theory.{Outcome, value, past, stopped, add_part, add_from, add_parts, all_negatable, of_atom, of_literal, of_line, of_source, divided, of_sum, of_lines, absurd_last}
 use Rattle.proof_checker.specs.Check.{theory_fault, move_fault}
-use Rattle.cnf_maker.specs.Plain.{IsPlain, IsPlainAtom}
+use Rattle.cnf_maker.specs.Plain.{IsPlain}
 use Rattle.line_laws.specs.Lines.{Part, IsPart, meant, said, coefficient_in, right_side}
 use Rattle.line_laws.specs.Steps.{divisor_of, own_lines, line_parts, sum_of_lines, denied, conflict_step, RefuteEachOther, HasProducts, OperationsFit}
 use Rattle.line_laws.proofs.Outcomes.{Gives, gives-then}

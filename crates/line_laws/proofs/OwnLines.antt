@@ -1,5 +1,5 @@
 -- A literal's own line is what the literal means, divided.
-use Rattle.std.specs.Prelude.{ℕ, zero, suc, ◌≡◌, ◌≢◌, ◌/◌, ◌%◌, Bool, true, false, cond, List, [], ◌∷◌, ◌++◌, map, Some, refl, unsigned_abs}
+use Rattle.std.specs.Prelude.{ℕ, zero, suc, ◌≡◌, ◌≢◌, Bool, true, false, cond, List, [], ◌∷◌, ◌++◌, Some, refl}
 use Rattle.std.specs.Int.{int_div_euclid, int_rem_euclid}
 use Rattle.std.specs.List.{AllByRecursion}
 use Rattle.std.proofs.Common.{sym, ◌∙◌, ap, subst, arith}
@@ -11,12 +11,12 @@ use Rattle.kind_num.specs.Exact.{within}
 use Rattle.proof_steps.specs.declared.Literal.{Literal}
 use Rattle.proof_steps.specs.declared.Source.TheVariants as s
 use Rattle.proof_steps.specs.View.{Inequality}
-use Rattle.proof_steps.specs.Meaning.{at, negated, negated_term, opposite_inequality, sum_of}
+use Rattle.proof_steps.specs.Meaning.{at, negated, opposite_inequality, sum_of}
 use Rattle.proof_steps.specs.Rows.{Form}
-use Rattle.proof_checker.specs.Theory.{Outcome, value, past, stopped, coefficient, plus, add_scaled, add_terms, bound_after, add_part, all_negatable, of_atom, of_literal, of_source, add_from, add_parts, divides, is_zero, quotients, divided, of_sum}
+use Rattle.proof_checker.specs.Theory.{Outcome, value, stopped, add_scaled, add_terms, bound_after, add_part, all_negatable, of_atom, of_literal, of_source, add_from, add_parts, divides, is_zero, quotients, divided, of_sum}
 use Rattle.proof_checker.proofs.TheorySound.{sum-add, sum-quotients}
 use Rattle.proof_checker.proofs.Quotients.{quotient_one, divides_one}
-use Rattle.line_laws.specs.Lines.{Part, IsPart, meant, said, divided_by}
+use Rattle.line_laws.specs.Lines.{Part, meant, said, divided_by}
 use Rattle.line_laws.specs.Steps.{divisor_of, denied}
 use Rattle.line_laws.proofs.Outcomes.{Gives, gives-then, gives-kept, gives-with}
 use Rattle.line_laws.proofs.Differing.{Differ, differ-added, differ-divided}

@@ -6,7 +6,7 @@ use Rattle.std.proofs.lemmas.List.Elements.{All-contains, All-from_recursion, re
 use lib.IntN.{ℤ, pos}
 use lib.Signed.{◌≤ℤ◌, ◌<ℤ◌}
 use Rattle.proof_steps.specs.declared.Literal.{Literal}
-use Rattle.proof_steps.specs.Rows.{Form, rows_of, combined}
+use Rattle.proof_steps.specs.Rows.{Form, rows_of}
 use Rattle.int_simplex.specs.State.{Standing}
 use Rattle.int_simplex.specs.Farkas.{weight, limits, Refutes}
 use Rattle.cnf_maker.specs.Plain.{IsPlain}
@@ -59,8 +59,11 @@ module _ (g : Form) (bounds : List Standing) (means : All (IsOfLiteral g) bounds
       let refute : RefuteEachOther g w.parts = record {
         are_parts = All-from_recursion (IsPart g) w.parts w.are_parts;
         not_negative = All-from_recursion (λ (p : Part). pos 0 ≤ℤ p.multiplier) w.parts w.signed;
-        on_rows = (f.multipliers, λ c. ap (λ ms. weight ms (bounds_of w.parts) c) w.same_multipliers
-            ∙ ap (λ bs. weight (map (λ (p : ℤ × ℕ). p.0) pairs) bs c) w.same_bounds ∙ f.cancels c);
+        on_rows = (
+          f.multipliers,
+          λ c. ap (λ ms. weight ms (bounds_of w.parts) c) w.same_multipliers
+              ∙ ap (λ bs. weight (map (λ (p : ℤ × ℕ). p.0) pairs) bs c) w.same_bounds ∙ f.cancels c,
+        );
         absurd = subst (λ z. z <ℤ pos 0) (sym (ap (λ ms. limits ms (bounds_of w.parts)) w.same_multipliers
             ∙ ap (λ bs. limits (map (λ (p : ℤ × ℕ). p.0) pairs) bs) w.same_bounds)) f.absurd;
       } in

@@ -1,12 +1,12 @@
 -- A literal of an atom is true exactly where its bound is met.
-use Rattle.std.specs.Prelude.{ℕ, zero, suc, ◌≡◌, ◌+◌, ◌↔◌, Bool, true, false, cond, List, [], ◌∷◌, ◌++◌, length, Some, All, slice_get, refl}
+use Rattle.std.specs.Prelude.{ℕ, zero, suc, ◌≡◌, ◌+◌, ◌↔◌, Bool, true, false, cond, List, [], ◌∷◌, ◌++◌, length, Some, slice_get, refl}
 use Rattle.std.specs.Int.{int_div_euclid}
 use Rattle.std.specs.List.{AllByRecursion}
 use Rattle.std.proofs.Common.{sym, ◌∙◌, ap, subst, arith}
 use Rattle.std.proofs.lemmas.Int.{ints}
 use Rattle.std.proofs.lemmas.List.Elements.{recursion_from_All}
 use lib.IntN.{ℤ, pos, negsuc, ◌+ℤ◌, ◌-ℤ◌, ◌*ℤ◌, neg_ℤ, *ℤ-one, *ℤ_comm}
-use lib.Signed.{le_z, ◌≤ℤ◌, ◌<ℤ◌}
+use lib.Signed.{le_z, ◌≤ℤ◌}
 use Rattle.kind_num.proofs.Ring.{neg_times, times_neg, times_le, round_down}
 use Rattle.kind_num.proofs.Quotients.{floor_is}
 use Rattle.proof_steps.specs.declared.Literal.TheVariants.{Atom}
@@ -66,9 +66,9 @@ module _ (v : ℕ → ℤ) where
     λ e. let l = le-yes (pos (suc d) *ℤ w +ℤ pos 0) z e in
         round_down d w z (let k : (pos (suc d) *ℤ w) ≤ℤ z = omega (arith, ints) in k),
     λ l. yes-le (pos (suc d) *ℤ w +ℤ pos 0) z (
-      let t : (pos (suc d) *ℤ w) ≤ℤ (pos (suc d) *ℤ int_div_euclid z (pos (suc d))) = times_le (suc d) w (int_div_euclid z (pos (suc d))) l in
-      let f = (floor_is z (pos (suc d)) (omega (arith, ints))).at_most in omega (arith, ints)
-    ),
+        let t : (pos (suc d) *ℤ w) ≤ℤ (pos (suc d) *ℤ int_div_euclid z (pos (suc d))) = times_le (suc d) w (int_div_euclid z (pos (suc d))) l in
+        let f = (floor_is z (pos (suc d)) (omega (arith, ints))).at_most in omega (arith, ints)
+        ),
   )
 
   downwards : (d : ℕ) (w z : ℤ) → Same (le_z (negsuc d *ℤ w +ℤ pos 0) z) (neg_ℤ (int_div_euclid z (pos (suc d))) ≤ℤ w)
@@ -76,8 +76,7 @@ module _ (v : ℕ → ℤ) where
       let m : negsuc d *ℤ w ≡ neg_ℤ (pos (suc d) *ℤ w) = neg_times (pos (suc d)) w in
       let n : pos (suc d) *ℤ neg_ℤ w ≡ neg_ℤ (pos (suc d) *ℤ w) = times_neg (pos (suc d)) w in
       let u = upwards d (neg_ℤ w) z in
-      let e : negsuc d *ℤ w ≡ pos (suc d) *ℤ neg_ℤ w = m ∙ sym n in
-      (
+      let e : negsuc d *ℤ w ≡ pos (suc d) *ℤ neg_ℤ w = m ∙ sym n in (
         λ y. let l = u.0 (ap (λ t. le_z (t +ℤ pos 0) z) (sym e) ∙ y) in omega (arith, ints),
         λ l. ap (λ t. le_z (t +ℤ pos 0) z) e ∙ u.1 (omega (arith, ints)),
       )

@@ -1,30 +1,21 @@
 -- The lines of a step that bounds refuting each other give, one after the other.
-use Rattle.std.specs.Prelude.{ℕ, zero, suc, ◌≡◌, ◌≢◌, ◌+◌, ◌<◌, Bool, true, false, cond, List, [], ◌∷◌, ◌++◌, length, map, Option, Some, None, All, slice_get, refl}
+use Rattle.std.specs.Prelude.{ℕ, zero, suc, ◌≡◌, ◌≢◌, ◌+◌, Bool, true, false, cond, List, [], ◌∷◌, ◌++◌, length, map, Some, slice_get, refl}
 use Rattle.std.specs.Int.{int_div_euclid}
 use Rattle.std.specs.List.{AllByRecursion}
-use Rattle.std.proofs.Common.{sym, ◌∙◌, ap, subst, arith, append_assoc}
+use Rattle.std.proofs.Common.{sym, ◌∙◌, ap, subst, arith}
 use Rattle.std.proofs.lemmas.Int.{ints}
-use Rattle.std.proofs.lemmas.List.Elements.{recursion_from_All}
-use lib.IntN.{ℤ, pos, negsuc, ◌+ℤ◌, ◌*ℤ◌, +ℤ_idl}
-use lib.Signed.{le_z, lt_z, ◌≤ℤ◌, ◌<ℤ◌}
-use Rattle.kind_num.specs.declared.Shape.{Shape}
+use lib.IntN.{ℤ, pos, ◌+ℤ◌, ◌*ℤ◌, +ℤ_idl}
+use lib.Signed.{lt_z, ◌<ℤ◌}
 use Rattle.proof_steps.specs.declared.Literal.{Literal}
-use Rattle.proof_steps.specs.declared.Literal.TheVariants.{Atom}
-use Rattle.proof_steps.specs.declared.Source.{Source}
 use Rattle.proof_steps.specs.declared.Source.TheVariants as s
-use Rattle.proof_steps.specs.View.{Inequality, Sum}
-use Rattle.proof_steps.specs.Meaning.{at, negated, sum_of}
-use Rattle.proof_steps.specs.Rows.{Form, entry, rows_of, combined}
-use Rattle.int_simplex.specs.Farkas.{weight, limits}
-use Rattle.proof_checker.specs.declared.rule.Rule.{Rule}
-use Rattle.proof_checker.specs.declared.rule.Rule.TheVariants as r
-use Rattle.proof_checker.specs.Theory.{Outcome, value, past, stopped, add_part, add_from, add_parts, of_line, of_source, divides, quotients, divided, of_sum, of_lines, no_terms, is_absurd, absurd_last, signs, is_sum, are_sums}
-use Rattle.proof_checker.specs.Check.{counted, atom_fits, atoms_fit, theory_fault, move_fault}
+use Rattle.proof_steps.specs.View.{Inequality}
+use Rattle.proof_steps.specs.Meaning.{at, sum_of}
+use Rattle.proof_steps.specs.Rows.{Form, entry}
+use Rattle.proof_checker.specs.Theory.{value, stopped, add_part, add_from, add_parts, of_line, of_source, divides, quotients, divided, of_sum, of_lines, no_terms, is_absurd, absurd_last}
 use Rattle.proof_checker.proofs.Quotients.{quotient_one, divides_one}
-use Rattle.cnf_maker.specs.Plain.{IsPlain, IsPlainAtom, IsTermOf}
-use Rattle.line_laws.specs.Lines.{Part, IsPart, said, multipliers_of, bounds_of, coefficient_in, right_side}
-use Rattle.line_laws.specs.Steps.{divisor_of, own_lines, line_parts, sum_of_lines, denied, conflict_step}
-use Rattle.line_laws.proofs.Outcomes.{Gives, gives-then, gives-kept, gives-with}
+use Rattle.line_laws.specs.Lines.{Part, said, coefficient_in, right_side}
+use Rattle.line_laws.specs.Steps.{divisor_of, own_lines, line_parts, sum_of_lines, denied}
+use Rattle.line_laws.proofs.Outcomes.{Gives, gives-then, gives-with}
 use Rattle.line_laws.proofs.Differing.{Differ, alone, sum-alone, nothing-is-left}
 use Rattle.line_laws.proofs.OwnLines.{IsSame, Adds, nothing, part-added, own-line}
 

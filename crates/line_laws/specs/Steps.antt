@@ -1,5 +1,5 @@
 -- The theory step that bounds give which refute each other.
-use Rattle.std.specs.Prelude.{ℕ, suc, ◌≡◌, ◌⊎◌, ◌++◌, Bool, true, false, List, [], ◌∷◌, map, take, All, Contains, Some, None, unsigned_abs}
+use Rattle.std.specs.Prelude.{ℕ, suc, ◌≡◌, ◌⊎◌, ◌++◌, Bool, true, List, [], ◌∷◌, map, take, All, Contains, Some, None, unsigned_abs}
 use lib.IntN.{ℤ, pos, ◌*ℤ◌}
 use lib.Signed.{◌≤ℤ◌, ◌<ℤ◌}
 use Rattle.kind_num.specs.Exact.{within}
@@ -9,11 +9,11 @@ use Rattle.proof_steps.specs.declared.Source.{Source}
 use Rattle.proof_steps.specs.declared.Source.TheVariants as s
 use Rattle.proof_steps.specs.View.{Inequality, Move, theory, Sum}
 use Rattle.proof_steps.specs.Meaning.{opposite}
-use Rattle.proof_steps.specs.Rows.{Form, rows_of, combined, entry}
+use Rattle.proof_steps.specs.Rows.{Form, rows_of, entry}
 use Rattle.proof_checker.specs.declared.rule.Rule.TheVariants as r
 use Rattle.proof_checker.specs.Check.{move_fault}
 use Rattle.int_simplex.specs.State.{Standing}
-use Rattle.int_simplex.specs.Farkas.{weight, limits, Refutes}
+use Rattle.int_simplex.specs.Farkas.{limits, Refutes}
 use Rattle.cnf_maker.specs.Plain.{IsPlain}
 use Rattle.line_laws.specs.Lines.{Part, IsPart, AreOnRowsOf, meant, said, multipliers_of, bounds_of, coefficient_in, right_side}
 
