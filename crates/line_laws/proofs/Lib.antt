@@ -12,3 +12,4 @@ pub mod ConflictSteps
 pub mod Refutations
 pub mod Fitting
 pub mod FittingSteps
+pub mod Decided

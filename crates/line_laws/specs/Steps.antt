@@ -1,5 +1,5 @@
 -- The theory step that bounds give which refute each other.
-use Rattle.std.specs.Prelude.{ℕ, suc, ◌≡◌, ◌⊎◌, ◌++◌, Bool, true, List, [], ◌∷◌, map, take, All, Contains, Some, None, unsigned_abs}
+use Rattle.std.specs.Prelude.{ℕ, suc, ◌≡◌, ◌⊎◌, ◌++◌, Bool, true, false, List, [], ◌∷◌, map, take, All, Contains, Some, None, unsigned_abs}
 use lib.IntN.{ℤ, pos, ◌*ℤ◌}
 use lib.Signed.{◌≤ℤ◌, ◌<ℤ◌}
 use Rattle.kind_num.specs.Exact.{within}
@@ -8,8 +8,9 @@ use Rattle.proof_steps.specs.declared.Literal.TheVariants.{Atom}
 use Rattle.proof_steps.specs.declared.Source.{Source}
 use Rattle.proof_steps.specs.declared.Source.TheVariants as s
 use Rattle.proof_steps.specs.View.{Inequality, Move, theory, Sum}
-use Rattle.proof_steps.specs.Meaning.{opposite}
+use Rattle.proof_steps.specs.Meaning.{at, opposite}
 use Rattle.proof_steps.specs.Rows.{Form, rows_of, entry}
+use Rattle.proof_steps.specs.Bounds.{Bound, opposite_bound, bound_of_literal}
 use Rattle.proof_checker.specs.declared.rule.Rule.TheVariants as r
 use Rattle.proof_checker.specs.Check.{move_fault}
 use Rattle.int_simplex.specs.State.{Standing}
@@ -74,7 +75,8 @@ abbrev pub numbered : Part → ℤ × ℕ
 numbered p = (p.multiplier, p.bound.literal)
 
 -- bounds that stand, with these multipliers and literals, refute each other, and so give a step
-pub record IsStepOf (g : Form) (known : List (List Literal)) (bounds : List Standing) (multipliers : List (ℤ × ℕ)) : Type 0 where
+pub record IsStepOf (g : Form) (known : List (List Literal)) (bounds : List Standing) (multipliers : List (ℤ × ℕ))
+    : Type 0 where
   pub parts : List Part
   pub stand : All (λ (p : Part). Contains bounds p.bound) parts
   pub same : map numbered parts ≡ multipliers
@@ -107,3 +109,19 @@ FittingStepsAreTaken =
     (g : Form) (known : List (List Literal)) (parts : List Part) → IsPlain g → RefuteEachOther g parts
     → OperationsFit parts
     → move_fault g.shapes g.atoms known (conflict_step parts) ≡ None
+
+abbrev pub standing : ℕ → Bound → Standing
+standing n b = record { column = b.column; upper = b.upper; limit = b.limit; literal = n }
+
+-- both literals of an atom, the negative one first, with the bounds that they mean
+abbrev pub both_of : ℕ → Inequality → Bound → List Part
+both_of n i b =
+    record { bound = standing n (opposite_bound b); atom = i; sign = false; multiplier = pos 1 }
+    ∷ record { bound = standing n b; atom = i; sign = true; multiplier = pos 1 } ∷ []
+
+-- they refute each other, so the clause of both, `a -a`, is a step
+abbrev pub AtomsAreDecided : Type 0
+AtomsAreDecided =
+    (g : Form) (n : ℕ) (i : Inequality) (b : Bound) → at g.atoms n ≡ Some i
+    → bound_of_literal g [] (Atom n true) ≡ Some b
+    → RefuteEachOther g (both_of n i b)

@@ -1,7 +1,7 @@
 //! Laws of lines over literals, over the definitions alone: each function is its contract.
 
 ghost use Rattle.line_laws.specs.Lines.{BoundsSayWhatLiteralsSay, CutLinesSumToTheirAtom, RefutedBoundsSumToNothing};
-ghost use Rattle.line_laws.specs.Steps.{FittingStepsAreTaken, RefutationsGiveSteps, RefutedBoundsGiveAStep};
+ghost use Rattle.line_laws.specs.Steps.{AtomsAreDecided, FittingStepsAreTaken, RefutationsGiveSteps, RefutedBoundsGiveAStep};
 
 /// Where bounds sum to a whole combination of the rows, what their literals mean sums to nothing, with the same right
 /// side.
@@ -33,4 +33,9 @@ pub fn refutations_give_steps()
 /// Where the numbers of such a step are within 128 bits, it breaks no rule.
 pub fn fitting_steps_are_taken()
     ensures { FittingStepsAreTaken }
+{}
+
+/// The two literals of an atom refute each other, so a step's clause can have both, as that of a split does.
+pub fn atoms_are_decided()
+    ensures { AtomsAreDecided }
 {}
