@@ -20,7 +20,7 @@ use Rattle.cnf_maker.specs.Plain.{IsPlain, IsPlainAtom, IsTermOf}
 use Rattle.line_laws.specs.Lines.{Part, IsPart, right_side}
 use Rattle.line_laws.specs.Steps.{own_lines, line_parts, sum_of_lines, denied, RefuteEachOther, IsTakenOrPast}
 use Rattle.line_laws.proofs.Outcomes.{Gives}
-use Rattle.line_laws.proofs.SumLines.{IsGood, all-denied, steps}
+use Rattle.line_laws.proofs.SumLines.{IsGood, all-denied, steps, sum-ends}
 use Rattle.line_laws.proofs.Summed.{nothing_left}
 use Rattle.line_laws.proofs.Limited.{same_right_side}
 
@@ -47,7 +47,7 @@ there-below [] j i e = absurd cc
 there-below (k ∷ rest) zero i e = omega arith
 there-below (k ∷ rest) (suc j) i e = let h = there-below rest j i e in omega arith
 
-there : (atoms : List Inequality) (n : ℕ) (i : Inequality) → at atoms n ≡ Some i → counted (length atoms) n ≡ true
+pub there : (atoms : List Inequality) (n : ℕ) (i : Inequality) → at atoms n ≡ Some i → counted (length atoms) n ≡ true
 there atoms zero i e = absurd cc
 there atoms (suc j) i e = yes j (length atoms) (there-below atoms j i e) where
   yes : (j n : ℕ) → j < n → nat_lt j n ≡ true
@@ -60,10 +60,10 @@ denied-fit g (p ∷ rest) a =
 
 -- ---- the lines are sums
 
-yes-le : (a b : ℤ) → a ≤ℤ b → le_z a b ≡ true
+pub yes-le : (a b : ℤ) → a ≤ℤ b → le_z a b ≡ true
 yes-le a b h = grind (arith, ints)
 
-parts-signed : (n : ℕ) (parts : List Part) → AllByRecursion (λ (p : Part). pos 0 ≤ℤ p.multiplier) parts → signs (line_parts n parts) ≡ true
+pub parts-signed : (n : ℕ) (parts : List Part) → AllByRecursion (λ (p : Part). pos 0 ≤ℤ p.multiplier) parts → signs (line_parts n parts) ≡ true
 parts-signed n [] a = refl
 parts-signed n (p ∷ rest) a =
     ap (λ b. cond b (signs (line_parts (suc n) rest)) false) (yes-le (pos 0) p.multiplier a.0) ∙ parts-signed (suc n) rest a.1
@@ -78,7 +78,7 @@ are-sums n (p ∷ rest) all h = are-sums (suc n) rest all h
 
 -- ---- the step
 
-concluded : (fit sums : Bool) (o : Outcome (List Inequality)) → fit ≡ true → sums ≡ true → Gives (λ ls. absurd_last ls ≡ true) o
+pub concluded : (fit sums : Bool) (o : Outcome (List Inequality)) → fit ≡ true → sums ≡ true → Gives (λ ls. absurd_last ls ≡ true) o
     → (theory_fault fit sums o ≡ None) ⊎ (theory_fault fit sums o ≡ Some r.Past)
 concluded fit sums past e f h = inr refl
 concluded fit sums stopped e f h = absurd h
@@ -94,4 +94,5 @@ step_is_taken g known parts plain h =
     concluded (atoms_fit (length g.atoms) (map denied parts)) (are_sums (own_lines 1 parts ++ sum_of_lines 1 parts ∷ [])) _
     (denied-fit g parts all)
     (are-sums 1 parts parts (last-is-sum parts (recursion_from_All (λ (p : Part). pos 0 ≤ℤ p.multiplier) parts h.not_negative) right))
-    (steps g (map denied parts) parts (nothing_left g plain parts h.on_rows.0 h.are_parts h.on_rows.1) right 1 [] parts [] refl refl tt (all-denied parts) (good g plain parts all) refl)
+    (steps g (map denied parts) parts (sum_of_lines 1 parts ∷ []) 1 [] parts [] refl refl tt (all-denied parts) (good g plain parts all) refl
+    (λ ls _ a. sum-ends g.atoms (map denied parts) parts (nothing_left g plain parts h.on_rows.0 h.are_parts h.on_rows.1) right ls a))

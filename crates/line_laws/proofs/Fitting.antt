@@ -95,14 +95,14 @@ skipped x a rest [] n h = tt
 skipped x a rest ((y, b) ∷ scan) n h =
     (ap (λ w. cond w (a +ℤ entry rest y) (entry rest y)) (turned-test x y n.0) ∙ h.0, skipped x a rest scan n.1 h.1)
 
-listed : (ts : List (ℕ × ℤ)) → Differ ts → AllByRecursion (λ (t : ℕ × ℤ). entry ts t.0 ≡ t.1) ts
+pub listed : (ts : List (ℕ × ℤ)) → Differ ts → AllByRecursion (λ (t : ℕ × ℤ). entry ts t.0 ≡ t.1) ts
 listed [] d = tt
 listed ((x, a) ∷ rest) d = (
   ap (λ w. cond w (a +ℤ entry rest x) (entry rest x)) (same x) ∙ (let z = none-entry x rest d.0 in omega (arith, ints)),
   skipped x a rest rest d.0 (listed rest d.1),
 )
 
-each : (P : ℕ → ℤ → Type 0) (whole ts : List (ℕ × ℤ)) → ((c : ℕ) → P c (entry whole c))
+pub each : (P : ℕ → ℤ → Type 0) (whole ts : List (ℕ × ℤ)) → ((c : ℕ) → P c (entry whole c))
     → AllByRecursion (λ (t : ℕ × ℤ). entry whole t.0 ≡ t.1) ts → AllByRecursion (λ (t : ℕ × ℤ). P t.0 t.1) ts
 each P whole [] h a = tt
 each P whole ((x, b) ∷ rest) h a = (subst (P x) a.0 (h x), each P whole rest h a.1)

@@ -76,7 +76,7 @@ module _ (atoms : List Inequality) (clause : List Literal) (lines : List Inequal
   line-not-past : (n : ℕ) (i : Inequality) → at lines n ≡ Some i → NotPast (of_source atoms clause lines (s.Line n))
   line-not-past n i e = subst (λ o. NotPast (of_line o)) (sym e) tt
 
-  line-added : (sum : Inequality) (m : ℤ) (n : ℕ) (i : Inequality) → Differ sum.terms → at lines n ≡ Some i
+  pub line-added : (sum : Inequality) (m : ℤ) (n : ℕ) (i : Inequality) → Differ sum.terms → at lines n ≡ Some i
       → Gives (Adds sum m i) (add_from atoms clause lines sum (m, s.Line n))
   line-added sum m n i d e =
       gives-then (λ j. j ≡ i) (Adds sum m i) (of_source atoms clause lines (s.Line n)) (add_part sum m) (line-source atoms clause lines n i e)
@@ -85,7 +85,7 @@ module _ (atoms : List Inequality) (clause : List Literal) (lines : List Inequal
   entries-same : (i r : Inequality) → IsSame i r → (c : ℕ) → entry r.terms c ≡ entry i.terms c
   entries-same i r h c = sym (sum-alone c r.terms) ∙ h.sums (alone c) ∙ sum-alone c i.terms
 
-  entries-add : (sum : Inequality) (m : ℤ) (i t : Inequality) → Adds sum m i t → (c : ℕ) → entry t.terms c ≡ entry sum.terms c +ℤ m *ℤ entry i.terms c
+  pub entries-add : (sum : Inequality) (m : ℤ) (i t : Inequality) → Adds sum m i t → (c : ℕ) → entry t.terms c ≡ entry sum.terms c +ℤ m *ℤ entry i.terms c
   entries-add sum m i t h c =
       sym (sum-alone c t.terms) ∙ h.sums (alone c) ∙ ap (λ z. z +ℤ m *ℤ sum_of (alone c) i.terms) (sum-alone c sum.terms)
       ∙ ap (λ z. entry sum.terms c +ℤ m *ℤ z) (sum-alone c i.terms)

@@ -13,3 +13,4 @@ pub mod Refutations
 pub mod Fitting
 pub mod FittingSteps
 pub mod Decided
+pub mod CutSteps

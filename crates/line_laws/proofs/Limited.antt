@@ -22,7 +22,7 @@ unfolding lib.IntN.one
 times-one x = *ℤ-one x
 
 -- t times D lies between -D and D
-no-room : (d : ℕ) (t : ℤ) → (pos (suc d) *ℤ t) <ℤ pos (suc d) → negsuc d <ℤ (pos (suc d) *ℤ t) → t ≡ pos 0
+pub no-room : (d : ℕ) (t : ℤ) → (pos (suc d) *ℤ t) <ℤ pos (suc d) → negsuc d <ℤ (pos (suc d) *ℤ t) → t ≡ pos 0
 no-room d (pos zero) a b = refl
 no-room d (pos (suc k)) a b =
     let h : (pos (suc d) *ℤ pos 1) ≤ℤ (pos (suc d) *ℤ pos (suc k)) = times_le (suc d) (pos 1) (pos (suc k)) (omega (arith, ints)) in

@@ -75,7 +75,7 @@ up-quotient k = ap pos (div_self (omega arith))
 down-quotient : (k : ℕ) → int_div_euclid (negsuc k) (pos (suc k)) ≡ negsuc 0
 down-quotient k = ap negsuc (div-eq_of_lt (omega arith))
 
-went : (P : Inequality → Type 0) (b : Bool) (i : Inequality) → b ≡ true → P i → Gives P (cond b (value i) stopped)
+pub went : (P : Inequality → Type 0) (b : Bool) (i : Inequality) → b ≡ true → P i → Gives P (cond b (value i) stopped)
 went P true i e h = h
 went P false i e h = absurd cc
 
@@ -87,7 +87,7 @@ size-is-not-zero k = ap (λ b. cond b (le_z (pos 0) (pos (suc k))) false) (above
   above : (k : ℕ) → le_z (pos (suc k)) (pos 0) ≡ false
   above k = grind (arith, ints)
 
-sized : (P : Inequality → Type 0) (k : ℕ) (o : Outcome Inequality) → Gives P o → Gives P (cond (lt_z (pos 0) (pos (suc k))) o stopped)
+pub sized : (P : Inequality → Type 0) (k : ℕ) (o : Outcome Inequality) → Gives P o → Gives P (cond (lt_z (pos 0) (pos (suc k))) o stopped)
 sized P k o h = subst (λ b. Gives P (cond b o stopped)) (sym (size-is-positive k)) h
 
 up-divided : (x k : ℕ) (z : ℤ) → Gives (λ r. r ≡ divided_by x (pos (suc k)) z) (divided (pos (suc k)) record { terms = (x, pos (suc k)) ∷ []; bound = z })

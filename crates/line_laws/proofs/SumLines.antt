@@ -8,7 +8,7 @@ use lib.IntN.{ℤ, pos, ◌+ℤ◌, ◌*ℤ◌, +ℤ_idl}
 use lib.Signed.{lt_z, ◌<ℤ◌}
 use Rattle.proof_steps.specs.declared.Literal.{Literal}
 use Rattle.proof_steps.specs.declared.Source.TheVariants as s
-use Rattle.proof_steps.specs.View.{Inequality}
+use Rattle.proof_steps.specs.View.{Inequality, Sum}
 use Rattle.proof_steps.specs.Meaning.{at, sum_of}
 use Rattle.proof_steps.specs.Rows.{Form, entry}
 use Rattle.proof_checker.specs.Theory.{value, stopped, add_part, add_from, add_parts, of_line, of_source, divides, quotients, divided, of_sum, of_lines, no_terms, is_absurd, absurd_last}
@@ -38,7 +38,7 @@ all-denied [] = tt
 all-denied (p ∷ rest) = (refl, denied-later (denied p) (map denied rest) 0 rest (all-denied rest))
 
 -- a further line changes none before it
-at-kept : (lines more : List Inequality) (k : ℕ) (i : Inequality) → slice_get lines k ≡ Some i → slice_get (lines ++ more) k ≡ Some i
+pub at-kept : (lines more : List Inequality) (k : ℕ) (i : Inequality) → slice_get lines k ≡ Some i → slice_get (lines ++ more) k ≡ Some i
 at-kept [] more k i e = absurd cc
 at-kept (l ∷ lines) more zero i e = e
 at-kept (l ∷ lines) more (suc k) i e = at-kept lines more k i e
@@ -58,26 +58,26 @@ lines-more lines k n [] p i a e g h = ((i, subst (λ m. slice_get lines m ≡ So
 lines-more lines k n (q ∷ rest) p i a e g h = (a.0, lines-more lines (suc k) n rest p i a.1 (omega arith) g h)
 
 -- what the parts add, under values
-abbrev sums : (ℕ → ℤ) → List Part → ℤ
+abbrev pub sums : (ℕ → ℤ) → List Part → ℤ
 sums v [] = pos 0
 sums v (p ∷ rest) = (p.multiplier *ℤ sum_of v (said p.sign p.atom).terms) +ℤ sums v rest
 
-sums-alone : (c : ℕ) (parts : List Part) → sums (alone c) parts ≡ coefficient_in parts c
+pub sums-alone : (c : ℕ) (parts : List Part) → sums (alone c) parts ≡ coefficient_in parts c
 sums-alone c [] = refl
 sums-alone c (p ∷ rest) =
     ap (λ z. p.multiplier *ℤ z +ℤ sums (alone c) rest) (sum-alone c (said p.sign p.atom).terms)
     ∙ ap (λ z. p.multiplier *ℤ entry (said p.sign p.atom).terms c +ℤ z) (sums-alone c rest)
 
-record AddAll (sum : Inequality) (parts : List Part) (r : Inequality) : Type 0 where
-  differ : Differ r.terms
-  all : (v : ℕ → ℤ) → sum_of v r.terms ≡ sum_of v sum.terms +ℤ sums v parts
-  bound : r.bound ≡ sum.bound +ℤ right_side parts
+pub record AddAll (sum : Inequality) (parts : List Part) (r : Inequality) : Type 0 where
+  pub differ : Differ r.terms
+  pub all : (v : ℕ → ℤ) → sum_of v r.terms ≡ sum_of v sum.terms +ℤ sums v parts
+  pub bound : r.bound ≡ sum.bound +ℤ right_side parts
 
 module _ (atoms : List Inequality) (clause : List Literal) (lines : List Inequality) where
   pub line-source : (n : ℕ) (i : Inequality) → at lines n ≡ Some i → Gives (λ j. j ≡ i) (of_source atoms clause lines (s.Line n))
   line-source n i e = subst (λ o. Gives (λ j. j ≡ i) (of_line o)) (sym e) refl
 
-  all-added : (sum : Inequality) (n : ℕ) (parts : List Part) → Differ sum.terms → AreAt lines n parts
+  pub all-added : (sum : Inequality) (n : ℕ) (parts : List Part) → Differ sum.terms → AreAt lines n parts
       → Gives (AddAll sum parts) (add_parts atoms clause lines sum (line_parts n parts))
   all-added sum n [] d a = record { differ = d; all = λ v. omega (arith, ints); bound = omega (arith, ints) }
   all-added sum n (p ∷ rest) d a =
@@ -116,7 +116,7 @@ module _ (atoms : List Inequality) (clause : List Literal) (lines : List Inequal
         below-zero : (z : ℤ) → z <ℤ pos 0 → lt_z z (pos 0) ≡ true
         below-zero z l = grind (arith, ints)
 
-last-absurd : (lines : List Inequality) (i : Inequality) → is_absurd i ≡ true → absurd_last (lines ++ i ∷ []) ≡ true
+pub last-absurd : (lines : List Inequality) (i : Inequality) → is_absurd i ≡ true → absurd_last (lines ++ i ∷ []) ≡ true
 last-absurd [] i h = h
 last-absurd (l ∷ []) i h = h
 last-absurd (l ∷ k ∷ lines) i h = last-absurd (k ∷ lines) i h
@@ -142,19 +142,26 @@ pub record IsGood (g : Form) (p : Part) : Type 0 where
   pub not_zero : AllByRecursion (λ (t : ℕ × ℤ). t.1 ≢ pos 0) p.atom.terms
   pub some_term : p.atom.terms ≢ []
 
-module _ (g : Form) (clause : List Literal) (parts : List Part) (none : (c : ℕ) → coefficient_in parts c ≡ pos 0) (low : right_side parts <ℤ pos 0) where
+module _ (g : Form) (clause : List Literal) (parts : List Part) (tail : List Sum) where
+  -- the own lines, and after them the tail
   pub steps : (n : ℕ) (done rest : List Part) (lines : List Inequality) → n ≡ suc (length lines) → length lines ≡ length done → AreAt lines 1 done
       → AreDenied clause n rest → AllByRecursion (IsGood g) rest → done ++ rest ≡ parts
-      → Gives (λ ls. absurd_last ls ≡ true) (of_lines g.atoms clause lines (own_lines n rest ++ sum_of_lines 1 parts ∷ []))
-  steps n done [] lines m l a d w e =
-      gives-then (λ i. is_absurd i ≡ true) (λ ls. absurd_last ls ≡ true) (of_sum g.atoms clause lines (sum_of_lines 1 parts)) _
-      (sum-is-absurd g.atoms clause lines parts (subst (AreAt lines 1) (sym (append-nil done) ∙ e) a) none low)
-      (λ i h. last-absurd lines i h)
-  steps n done (p ∷ rest) lines m l a d w e =
+      → ((ls : List Inequality) → length ls ≡ length parts → AreAt ls 1 parts → Gives (λ r. absurd_last r ≡ true) (of_lines g.atoms clause ls tail))
+      → Gives (λ ls. absurd_last ls ≡ true) (of_lines g.atoms clause lines (own_lines n rest ++ tail))
+  steps n done [] lines m l a d w e k =
+      k lines (l ∙ ap length (sym (append-nil done) ∙ e)) (subst (AreAt lines 1) (sym (append-nil done) ∙ e) a)
+  steps n done (p ∷ rest) lines m l a d w e k =
       gives-then (IsSame (said p.sign p.atom)) (λ ls. absurd_last ls ≡ true)
       (of_sum g.atoms clause lines record { parts = (pos 1, s.Literal n) ∷ []; divisor = divisor_of p.atom.terms }) _
       (own-line g clause lines p n w.0.not_zero w.0.some_term w.0.named d.0)
       (λ i h. steps (suc n) (done ++ p ∷ []) rest (lines ++ i ∷ []) (ap suc m ∙ ap suc (sym (length-more lines i)))
       (length-more lines i ∙ ap suc l ∙ sym (parts-more done p))
       (lines-more (lines ++ i ∷ []) 0 (length lines) done p i (lines-kept lines i 0 done a) (omega arith) (at-last lines i) h)
-      d.1 w.1 (parts-joined done p rest ∙ e))
+      d.1 w.1 (parts-joined done p rest ∙ e) k)
+
+pub sum-ends : (atoms : List Inequality) (clause : List Literal) (parts : List Part) → ((c : ℕ) → coefficient_in parts c ≡ pos 0) → right_side parts <ℤ pos 0
+    → (lines : List Inequality) → AreAt lines 1 parts
+    → Gives (λ ls. absurd_last ls ≡ true) (of_lines atoms clause lines (sum_of_lines 1 parts ∷ []))
+sum-ends atoms clause parts none low lines a =
+    gives-then (λ i. is_absurd i ≡ true) (λ ls. absurd_last ls ≡ true) (of_sum atoms clause lines (sum_of_lines 1 parts)) _
+    (sum-is-absurd atoms clause lines parts a none low) (λ i h. last-absurd lines i h)

@@ -1,6 +1,7 @@
 //! Laws of lines over literals, over the definitions alone: each function is its contract.
 
 ghost use Rattle.line_laws.specs.Lines.{BoundsSayWhatLiteralsSay, CutLinesSumToTheirAtom, RefutedBoundsSumToNothing};
+ghost use Rattle.line_laws.specs.CutSteps.{CutsGiveSteps};
 ghost use Rattle.line_laws.specs.Steps.{AtomsAreDecided, FittingStepsAreTaken, RefutationsGiveSteps, RefutedBoundsGiveAStep};
 
 /// Where bounds sum to a whole combination of the rows, what their literals mean sums to nothing, with the same right
@@ -38,4 +39,10 @@ pub fn fitting_steps_are_taken()
 /// The two literals of an atom refute each other, so a step's clause can have both, as that of a split does.
 pub fn atoms_are_decided()
     ensures { AtomsAreDecided }
+{}
+
+/// A cut gives a theory step that breaks no rule where its atom stands behind the others, unless a number of it is
+/// outside 128 bits.
+pub fn cuts_give_steps()
+    ensures { CutsGiveSteps }
 {}

@@ -1,0 +1,44 @@
+-- The theory step that a cut gives.
+use Rattle.std.specs.Prelude.{ℕ, suc, ◌≡◌, ◌≢◌, ◌⊎◌, ◌++◌, true, List, [], ◌∷◌, length, map, All, Some, None}
+use Rattle.std.specs.Int.{int_div_euclid}
+use lib.IntN.{ℤ, pos}
+use lib.Signed.{◌≤ℤ◌, ◌<ℤ◌}
+use Rattle.proof_steps.specs.declared.Literal.{Literal}
+use Rattle.proof_steps.specs.declared.Literal.TheVariants.{Atom}
+use Rattle.proof_steps.specs.declared.Source.TheVariants as s
+use Rattle.proof_steps.specs.View.{Inequality, Move, theory}
+use Rattle.proof_steps.specs.Rows.{Form}
+use Rattle.proof_checker.specs.declared.rule.Rule.TheVariants as r
+use Rattle.proof_checker.specs.Check.{move_fault}
+use Rattle.int_simplex.specs.Farkas.{limits}
+use Rattle.cnf_maker.specs.Plain.{IsPlain}
+use Rattle.line_laws.specs.Lines.{Part, IsPart, IsVariable, SumTo, multipliers_of, bounds_of}
+use Rattle.line_laws.specs.Steps.{own_lines, line_parts, denied}
+
+-- the bounds, each times its multiplier, and rows sum to d times the atom, rounded down
+pub record IsCutBy (g : Form) (parts : List Part) (d : ℤ) (atom : Inequality) : Type 0 where
+  pub some_part : parts ≢ []
+  pub are_parts : All (IsPart g) parts
+  pub not_negative : All (λ (p : Part). pos 0 ≤ℤ p.multiplier) parts
+  pub positive : pos 0 <ℤ d
+  pub variables : All (λ (t : ℕ × ℤ). IsVariable g t.0) atom.terms
+  pub sums : SumTo g parts d atom.terms
+  pub rounded : atom.bound ≡ int_div_euclid (limits (multipliers_of parts) (bounds_of parts)) d
+
+-- some literal of the bounds is false, or the n-th atom is true: the cut's line, and its sum with the
+-- atom's opposite
+abbrev pub cut_step : ℕ → List Part → ℤ → Move
+cut_step n parts d =
+    theory (map denied parts ++ Atom n true ∷ [])
+    (own_lines 1 parts
+    ++ record { parts = line_parts 1 parts; divisor = d }
+    ∷ record { parts = (pos 1, s.Line (suc (length parts))) ∷ (pos 1, s.Literal (suc (length parts))) ∷ []; divisor = pos 1 }
+    ∷ [])
+
+-- with the cut's atom behind the others this step breaks no rule, unless a number is outside 128 bits
+abbrev pub CutsGiveSteps : Type 0
+CutsGiveSteps =
+    (g : Form) (known : List (List Literal)) (parts : List Part) (d : ℤ) (atom : Inequality) → IsPlain g
+    → IsCutBy g parts d atom
+    → (move_fault g.shapes (g.atoms ++ atom ∷ []) known (cut_step (suc (length g.atoms)) parts d) ≡ None)
+    ⊎ (move_fault g.shapes (g.atoms ++ atom ∷ []) known (cut_step (suc (length g.atoms)) parts d) ≡ Some r.Past)
