@@ -12,15 +12,18 @@ use Rattle.line_laws.specs.Lines.{Part, IsPart, IsVariable, multipliers_of, boun
 use Rattle.line_laws.proofs.Substituted.{put_in, put_in_same, no-multipliers, entry-beyond, combination_vanishes}
 use Rattle.line_laws.proofs.Summed.{below, put-both, summed, beyond}
 
-module _ (g : Form) (plain : IsPlain g) (parts : List Part) (ms : List ℤ) (d : ℤ) (terms : List (ℕ × ℤ)) (a : All (IsPart g) parts)
+module _ (g : Form) (plain : IsPlain g) (parts : List Part) (ms : List ℤ) (d : ℤ) (terms : List (ℕ × ℤ))
+    (a : All (IsPart g) parts)
     (v : All (λ (t : ℕ × ℤ). IsVariable g t.0) terms)
-    (h : (c : ℕ) → weight (multipliers_of parts) (bounds_of parts) c +ℤ combined ms (rows_of g) c ≡ d *ℤ entry terms c) where
+    (h : (c : ℕ) → weight (multipliers_of parts) (bounds_of parts) c +ℤ combined ms (rows_of g) c
+    ≡ d *ℤ entry terms c) where
   all : AllByRecursion (IsPart g) parts
   all = recursion_from_All (IsPart g) parts a
 
   far : (c : ℕ) → length g.shapes ≤ c → d *ℤ entry terms c ≡ pos 0
   far c l =
-      ap (λ z. d *ℤ z) (entry-beyond (length g.shapes) c terms (recursion_from_All (λ (t : ℕ × ℤ). IsVariable g t.0) terms v) l) ∙ *ℤ-zero d
+      ap (λ z. d *ℤ z) (entry-beyond (length g.shapes) c terms
+      (recursion_from_All (λ (t : ℕ × ℤ). IsVariable g t.0) terms v) l) ∙ *ℤ-zero d
 
   sums : ℕ → ℤ
   sums k = weight (multipliers_of parts) (bounds_of parts) k

@@ -32,7 +32,8 @@ none-plus z ((y, q) ∷ rest) x p h n = go (y == x) (none-plus z rest x p h n.1)
 differ-plus : (sum : List (ℕ × ℤ)) (x : ℕ) (p : ℤ) → Differ sum → Differ (plus sum x p)
 differ-plus [] x p d = (tt, tt)
 differ-plus ((y, q) ∷ rest) x p d = go (y == x) refl (differ-plus rest x p d.1) where
-  go : (b : Bool) → (y == x) ≡ b → Differ (plus rest x p) → Differ (cond b ((y, q +ℤ p) ∷ rest) ((y, q) ∷ plus rest x p))
+  go : (b : Bool) → (y == x) ≡ b → Differ (plus rest x p)
+      → Differ (cond b ((y, q +ℤ p) ∷ rest) ((y, q) ∷ plus rest x p))
   go true e m = d
   go false e m = (none-plus y rest x p (turned-test x y e) d.0, m)
 
@@ -40,20 +41,23 @@ pub differ-added : (sum : List (ℕ × ℤ)) (m : ℤ) (ts : List (ℕ × ℤ)) 
 differ-added sum m [] d = d
 differ-added sum m (t ∷ rest) d =
     gives-then Differ Differ (add_scaled sum m t) (λ s. add_terms s m rest)
-    (gives-kept Differ (within (m *ℤ t.1)) _ (gives-kept Differ (within (coefficient sum t.0 +ℤ m *ℤ t.1)) _ (differ-plus sum t.0 (m *ℤ t.1) d)))
+    (gives-kept Differ (within (m *ℤ t.1)) _ (gives-kept Differ (within (coefficient sum t.0 +ℤ m *ℤ t.1)) _
+    (differ-plus sum t.0 (m *ℤ t.1) d)))
     (λ s q. differ-added s m rest q)
 
 none-divided : (z : ℕ) (d : ℤ) (ts : List (ℕ × ℤ)) → HasNone z ts → HasNone z (quotients d ts)
 none-divided z d [] n = tt
 none-divided z d ((x, a) ∷ rest) n = go (is_zero a) (none-divided z d rest n.1) where
-  go : (b : Bool) → HasNone z (quotients d rest) → HasNone z (cond b [] ((x, int_div_euclid a d) ∷ []) ++ quotients d rest)
+  go : (b : Bool) → HasNone z (quotients d rest) → HasNone z (cond b []
+      ((x, int_div_euclid a d) ∷ []) ++ quotients d rest)
   go true m = m
   go false m = (n.0, m)
 
 pub differ-divided : (d : ℤ) (ts : List (ℕ × ℤ)) → Differ ts → Differ (quotients d ts)
 differ-divided d [] n = tt
 differ-divided d ((x, a) ∷ rest) n = go (is_zero a) (differ-divided d rest n.1) (none-divided x d rest n.0) where
-  go : (b : Bool) → Differ (quotients d rest) → HasNone x (quotients d rest) → Differ (cond b [] ((x, int_div_euclid a d) ∷ []) ++ quotients d rest)
+  go : (b : Bool) → Differ (quotients d rest) → HasNone x (quotients d rest)
+      → Differ (cond b [] ((x, int_div_euclid a d) ∷ []) ++ quotients d rest)
   go true m w = m
   go false m w = (w, m)
 

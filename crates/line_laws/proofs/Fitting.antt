@@ -22,7 +22,8 @@ NotPast (value x) = Unit
 NotPast past = ⊥
 NotPast stopped = Unit
 
-pub then-not-past : {X Y : Type 0} (o : Outcome X) (f : X → Outcome Y) → NotPast o → ((x : X) → o ≡ value x → NotPast (f x)) → NotPast (and_then o f)
+pub then-not-past : {X Y : Type 0} (o : Outcome X) (f : X → Outcome Y) → NotPast o
+    → ((x : X) → o ≡ value x → NotPast (f x)) → NotPast (and_then o f)
 then-not-past (value x) f h k = k x refl
 then-not-past past f h k = absurd h
 then-not-past stopped f h k = tt
@@ -47,12 +48,15 @@ same-is x y h = grind (arith, nat_tests)
 coefficient-entry : (sum : List (ℕ × ℤ)) (c : ℕ) → Differ sum → coefficient sum c ≡ entry sum c
 coefficient-entry [] c d = refl
 coefficient-entry ((y, q) ∷ rest) c d = go (y == c) refl (coefficient-entry rest c d.1) where
-  go : (b : Bool) → (y == c) ≡ b → coefficient rest c ≡ entry rest c → cond b q (coefficient rest c) ≡ cond b (q +ℤ entry rest c) (entry rest c)
+  go : (b : Bool) → (y == c) ≡ b → coefficient rest c ≡ entry rest c
+      → cond b q (coefficient rest c) ≡ cond b (q +ℤ entry rest c) (entry rest c)
   go true e i =
-      let z : entry rest c ≡ pos 0 = none-entry c rest (subst (λ w. HasNone w rest) (same-is y c e) d.0) in omega (arith, ints)
+      let z : entry rest c ≡ pos 0 = none-entry c rest (subst (λ w. HasNone w rest) (same-is y c e) d.0) in omega
+      (arith, ints)
   go false e i = i
 
-coefficient-plus : (sum : List (ℕ × ℤ)) (x : ℕ) (p : ℤ) (c : ℕ) → (x == c) ≡ false → coefficient (plus sum x p) c ≡ coefficient sum c
+coefficient-plus : (sum : List (ℕ × ℤ)) (x : ℕ) (p : ℤ) (c : ℕ) → (x == c) ≡ false
+    → coefficient (plus sum x p) c ≡ coefficient sum c
 coefficient-plus [] x p c h = ap (λ b. cond b p (pos 0)) h
 coefficient-plus ((y, q) ∷ rest) x p c h = go (y == x) refl (coefficient-plus rest x p c h) where
   other : (y x c : ℕ) → (y == x) ≡ true → (x == c) ≡ false → (y == c) ≡ false
@@ -83,13 +87,16 @@ terms-not-past sum m ((x, b) ∷ rest) d a h =
     then-not-past (add_scaled sum m (x, b)) (λ s. add_terms s m rest)
     (kept-not-past (within (m *ℤ b)) _ a.0 (kept-not-past (within (coefficient sum x +ℤ m *ℤ b)) _ h.0 tt))
     (λ s e. terms-not-past s m rest d.1 a.1
-    (subst (λ w. AllByRecursion (λ (t : ℕ × ℤ). within (coefficient w t.0 +ℤ m *ℤ t.1) ≡ true) rest) (sym (gives-value (λ w. w ≡ plus sum x (m *ℤ b)) (add_scaled sum m (x, b)) s
-    (gives-kept _ (within (m *ℤ b)) _ (gives-kept (λ w. w ≡ plus sum x (m *ℤ b)) (within (coefficient sum x +ℤ m *ℤ b)) _ refl)) e))
+    (subst (λ w. AllByRecursion (λ (t : ℕ × ℤ). within (coefficient w t.0 +ℤ m *ℤ t.1) ≡ true) rest)
+    (sym (gives-value (λ w. w ≡ plus sum x (m *ℤ b)) (add_scaled sum m (x, b)) s
+    (gives-kept _ (within (m *ℤ b)) _ (gives-kept (λ w. w ≡ plus sum x (m *ℤ b))
+    (within (coefficient sum x +ℤ m *ℤ b)) _ refl)) e))
     (later sum x (m *ℤ b) m rest d.0 h.1)))
 
 -- ---- a listed term is its variable's entry
 
-skipped : (x : ℕ) (a : ℤ) (rest scan : List (ℕ × ℤ)) → HasNone x scan → AllByRecursion (λ (t : ℕ × ℤ). entry rest t.0 ≡ t.1) scan
+skipped : (x : ℕ) (a : ℤ) (rest scan : List (ℕ × ℤ)) → HasNone x scan
+    → AllByRecursion (λ (t : ℕ × ℤ). entry rest t.0 ≡ t.1) scan
     → AllByRecursion (λ (t : ℕ × ℤ). entry ((x, a) ∷ rest) t.0 ≡ t.1) scan
 skipped x a rest [] n h = tt
 skipped x a rest ((y, b) ∷ scan) n h =
@@ -115,17 +122,21 @@ part-not-past sum m i d e f h b =
     (terms-not-past sum.terms m i.terms e
     (each (λ c z. within (m *ℤ z) ≡ true) i.terms i.terms f.coefficients (listed i.terms e))
     (each (λ c z. within (coefficient sum.terms c +ℤ m *ℤ z) ≡ true) i.terms i.terms
-    (λ c. subst (λ y. within (y +ℤ m *ℤ entry i.terms c) ≡ true) (sym (coefficient-entry sum.terms c d)) (h c)) (listed i.terms e)))
+    (λ c. subst (λ y. within (y +ℤ m *ℤ entry i.terms c) ≡ true) (sym (coefficient-entry sum.terms c d)) (h c))
+    (listed i.terms e)))
     (λ ts _. then-not-past (bound_after sum.bound m i.bound) _
-    (kept-not-past (within (m *ℤ i.bound)) _ f.bound (kept-not-past (within (sum.bound +ℤ m *ℤ i.bound)) _ b tt)) (λ w _. tt))
+    (kept-not-past (within (m *ℤ i.bound)) _ f.bound (kept-not-past (within (sum.bound +ℤ m *ℤ i.bound)) _ b tt))
+    (λ w _. tt))
 
 -- ---- opposites
 
-negatable : (ts : List (ℕ × ℤ)) → AllByRecursion (λ (t : ℕ × ℤ). within (pos 0 -ℤ t.1) ≡ true) ts → all_negatable ts ≡ true
+negatable : (ts : List (ℕ × ℤ)) → AllByRecursion (λ (t : ℕ × ℤ). within (pos 0 -ℤ t.1) ≡ true) ts
+    → all_negatable ts ≡ true
 negatable [] a = refl
 negatable ((x, b) ∷ rest) a = ap (λ w. cond w (all_negatable rest) false) a.0 ∙ negatable rest a.1
 
-pub all-negatable : (ts : List (ℕ × ℤ)) → Differ ts → ((c : ℕ) → within (pos 0 -ℤ entry ts c) ≡ true) → all_negatable ts ≡ true
+pub all-negatable : (ts : List (ℕ × ℤ)) → Differ ts → ((c : ℕ) → within (pos 0 -ℤ entry ts c) ≡ true)
+    → all_negatable ts ≡ true
 all-negatable ts d h = negatable ts (each (λ c z. within (pos 0 -ℤ z) ≡ true) ts ts h (listed ts d))
 
 none-negated : (x : ℕ) (ts : List (ℕ × ℤ)) → HasNone x ts → HasNone x (map negated_term ts)
@@ -150,7 +161,8 @@ none-of x ((y, b) ∷ rest) a = (apart x y a.0, none-of x rest a.1) where
 pairs-differ : (ts : List (ℕ × ℤ)) → AllPairs (λ x y. x < y) (map (λ (t : ℕ × ℤ). t.0) ts) → Differ ts
 pairs-differ [] h = tt
 pairs-differ ((x, b) ∷ rest) h = (
-  none-of x rest (recursion_from_All (λ y. x < y) (map (λ (t : ℕ × ℤ). t.0) rest) (λ k d l. h 0 (suc k) d (omega arith) (omega arith))),
+  none-of x rest (recursion_from_All (λ y. x < y) (map (λ (t : ℕ × ℤ). t.0) rest)
+      (λ k d l. h 0 (suc k) d (omega arith) (omega arith))),
   pairs-differ rest (λ i j d l w. h (suc i) (suc j) d (omega arith) (omega arith)),
 )
 

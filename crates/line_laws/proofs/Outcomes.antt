@@ -19,7 +19,8 @@ gives-kept P true o h = h
 gives-kept P false o h = tt
 
 -- with the value that it is
-pub gives-with : {X : Type 0} (P Q : X → Type 0) (o : Outcome X) → Gives P o → ((x : X) → o ≡ value x → P x → Q x) → Gives Q o
+pub gives-with : {X : Type 0} (P Q : X → Type 0) (o : Outcome X) → Gives P o → ((x : X) → o ≡ value x → P x → Q x)
+    → Gives Q o
 gives-with P Q (value x) h k = k x refl h
 gives-with P Q past h k = tt
 gives-with P Q stopped h k = absurd h

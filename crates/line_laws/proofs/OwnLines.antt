@@ -43,24 +43,32 @@ pub record Adds (sum : Inequality) (m : ℤ) (i r : Inequality) : Type 0 where
 abbrev AreTerms : List (ℕ × ℤ) → ℤ → List (ℕ × ℤ) → List (ℕ × ℤ) → Type 0
 AreTerms sum m ts r = Differ r × (add_terms sum m ts ≡ value r)
 
-pub part-added : (sum : Inequality) (m : ℤ) (i : Inequality) → Differ sum.terms → Gives (Adds sum m i) (add_part sum m i)
+pub part-added : (sum : Inequality) (m : ℤ) (i : Inequality) → Differ sum.terms
+    → Gives (Adds sum m i) (add_part sum m i)
 part-added sum m i d =
     gives-then (AreTerms sum.terms m i.terms) (Adds sum m i) (add_terms sum.terms m i.terms) _
-    (gives-with Differ (AreTerms sum.terms m i.terms) (add_terms sum.terms m i.terms) (differ-added sum.terms m i.terms d) (λ r e q. (q, e)))
+    (gives-with Differ (AreTerms sum.terms m i.terms) (add_terms sum.terms m i.terms)
+    (differ-added sum.terms m i.terms d) (λ r e q. (q, e)))
     (λ ts q. gives-then (λ b. b ≡ sum.bound +ℤ m *ℤ i.bound) (Adds sum m i) (bound_after sum.bound m i.bound) _
-    (gives-kept _ (within (m *ℤ i.bound)) _ (gives-kept (λ b. b ≡ sum.bound +ℤ m *ℤ i.bound) (within (sum.bound +ℤ m *ℤ i.bound)) _ refl))
+    (gives-kept _ (within (m *ℤ i.bound)) _ (gives-kept (λ b. b ≡ sum.bound +ℤ m *ℤ i.bound)
+    (within (sum.bound +ℤ m *ℤ i.bound)) _ refl))
     (λ b e. record { differ = q.0; sums = λ v. sum-add v sum.terms m i.terms ts q.1; bound = e }))
 
 -- ---- one variable
 
-single-added : (x : ℕ) (e z : ℤ) → Gives (λ r. r ≡ record { terms = (x, e) ∷ []; bound = z }) (add_part nothing (pos 1) record { terms = (x, e) ∷ []; bound = z })
+single-added : (x : ℕ) (e z : ℤ) → Gives (λ r. r ≡ record { terms = (x, e) ∷ []; bound = z })
+    (add_part nothing (pos 1) record { terms = (x, e) ∷ []; bound = z })
 single-added x e z =
-    gives-then (λ ts. ts ≡ (x, e) ∷ []) (λ r. r ≡ record { terms = (x, e) ∷ []; bound = z }) (add_terms [] (pos 1) ((x, e) ∷ [])) _
+    gives-then (λ ts. ts ≡ (x, e) ∷ []) (λ r. r ≡ record { terms = (x, e) ∷ []; bound = z })
+    (add_terms [] (pos 1) ((x, e) ∷ [])) _
     (gives-then (λ ts. ts ≡ (x, e) ∷ []) (λ ts. ts ≡ (x, e) ∷ []) (add_scaled [] (pos 1) (x, e)) _
-    (gives-kept _ (within (pos 1 *ℤ e)) _ (gives-kept (λ ts. ts ≡ (x, e) ∷ []) (within (pos 0 +ℤ pos 1 *ℤ e)) _ (ap (λ y. (x, y) ∷ []) (one-times e))))
+    (gives-kept _ (within (pos 1 *ℤ e)) _ (gives-kept (λ ts. ts ≡ (x, e) ∷ []) (within (pos 0 +ℤ pos 1 *ℤ e)) _
+    (ap (λ y. (x, y) ∷ []) (one-times e))))
     (λ ts q. q))
-    (λ ts q. gives-then (λ b. b ≡ z) (λ r. r ≡ record { terms = (x, e) ∷ []; bound = z }) (bound_after (pos 0) (pos 1) z) _
-    (gives-kept _ (within (pos 1 *ℤ z)) _ (gives-kept (λ b. b ≡ z) (within (pos 0 +ℤ pos 1 *ℤ z)) _ (+ℤ_idl (pos 1 *ℤ z) ∙ one-times z)))
+    (λ ts q. gives-then (λ b. b ≡ z) (λ r. r ≡ record { terms = (x, e) ∷ []; bound = z })
+    (bound_after (pos 0) (pos 1) z) _
+    (gives-kept _ (within (pos 1 *ℤ z)) _ (gives-kept (λ b. b ≡ z) (within (pos 0 +ℤ pos 1 *ℤ z)) _
+    (+ℤ_idl (pos 1 *ℤ z) ∙ one-times z)))
     (λ b w. ap (λ ys. record { terms = ys; bound = b }) q ∙ ap (λ y. record { terms = (x, e) ∷ []; bound = y }) w))
 
 up-rest : (k : ℕ) → int_rem_euclid (pos (suc k)) (pos (suc k)) ≡ pos 0
@@ -87,18 +95,30 @@ size-is-not-zero k = ap (λ b. cond b (le_z (pos 0) (pos (suc k))) false) (above
   above : (k : ℕ) → le_z (pos (suc k)) (pos 0) ≡ false
   above k = grind (arith, ints)
 
-pub sized : (P : Inequality → Type 0) (k : ℕ) (o : Outcome Inequality) → Gives P o → Gives P (cond (lt_z (pos 0) (pos (suc k))) o stopped)
+pub sized : (P : Inequality → Type 0) (k : ℕ) (o : Outcome Inequality) → Gives P o
+    → Gives P (cond (lt_z (pos 0) (pos (suc k))) o stopped)
 sized P k o h = subst (λ b. Gives P (cond b o stopped)) (sym (size-is-positive k)) h
 
-up-divided : (x k : ℕ) (z : ℤ) → Gives (λ r. r ≡ divided_by x (pos (suc k)) z) (divided (pos (suc k)) record { terms = (x, pos (suc k)) ∷ []; bound = z })
-up-divided x k z = sized (λ r. r ≡ divided_by x (pos (suc k)) z) k _ (went (λ r. r ≡ divided_by x (pos (suc k)) z) (divides (pos (suc k)) ((x, pos (suc k)) ∷ []))
+up-divided : (x k : ℕ) (z : ℤ) → Gives (λ r. r ≡ divided_by x (pos (suc k)) z)
+    (divided (pos (suc k)) record { terms = (x, pos (suc k)) ∷ []; bound = z })
+up-divided x k z = sized (λ r. r ≡ divided_by x (pos (suc k)) z) k _
+    (went (λ r. r ≡ divided_by x (pos (suc k)) z) (divides (pos (suc k)) ((x, pos (suc k)) ∷ []))
     record { terms = quotients (pos (suc k)) ((x, pos (suc k)) ∷ []); bound = int_div_euclid z (pos (suc k)) }
     (ap (λ y. cond (le_z y (pos 0)) true false) (up-rest k))
-    (ap (λ b. record { terms = cond b [] ((x, int_div_euclid (pos (suc k)) (pos (suc k))) ∷ []) ++ []; bound = int_div_euclid z (pos (suc k)) }) (size-is-not-zero k)
+    (ap (λ b. record {
+      terms = cond b [] ((
+        x,
+        int_div_euclid (pos (suc k))
+            (pos (suc k)),
+      ) ∷ []) ++ [];
+      bound = int_div_euclid z (pos (suc k));
+    }) (size-is-not-zero k)
     ∙ ap (λ y. record { terms = (x, y) ∷ []; bound = int_div_euclid z (pos (suc k)) }) (up-quotient k)))
 
-down-divided : (x k : ℕ) (z : ℤ) → Gives (λ r. r ≡ divided_by x (negsuc k) z) (divided (pos (suc k)) record { terms = (x, negsuc k) ∷ []; bound = z })
-down-divided x k z = sized (λ r. r ≡ divided_by x (negsuc k) z) k _ (went (λ r. r ≡ divided_by x (negsuc k) z) (divides (pos (suc k)) ((x, negsuc k) ∷ []))
+down-divided : (x k : ℕ) (z : ℤ) → Gives (λ r. r ≡ divided_by x (negsuc k) z)
+    (divided (pos (suc k)) record { terms = (x, negsuc k) ∷ []; bound = z })
+down-divided x k z = sized (λ r. r ≡ divided_by x (negsuc k) z) k _
+    (went (λ r. r ≡ divided_by x (negsuc k) z) (divides (pos (suc k)) ((x, negsuc k) ∷ []))
     record { terms = quotients (pos (suc k)) ((x, negsuc k) ∷ []); bound = int_div_euclid z (pos (suc k)) }
     (ap (λ y. cond (le_z y (pos 0)) true false) (down-rest k))
     (ap (λ y. record { terms = (x, y) ∷ []; bound = int_div_euclid z (pos (suc k)) }) (down-quotient k)))
@@ -109,25 +129,39 @@ abbrev DividesTo : ℤ → Inequality → Inequality → Type 0
 DividesTo d i t = Gives (IsSame i) (divided d t)
 
 is-same : (i r : Inequality) → Differ i.terms → r ≡ i → IsSame i r
-is-same i r d e = record { differ = subst (λ y. Differ y.terms) (sym e) d; sums = λ v. ap (λ y. sum_of v y.terms) e; bound = ap (λ y. y.bound) e }
+is-same i r d e = record {
+  differ = subst (λ y. Differ y.terms) (sym e) d;
+  sums = λ v. ap
+      (λ y. sum_of v y.terms) e;
+  bound = ap (λ y. y.bound) e;
+}
 
-single-line : (x : ℕ) (e z d : ℤ) (i : Inequality) → Differ i.terms → Gives (λ r. r ≡ i) (divided d record { terms = (x, e) ∷ []; bound = z })
+single-line : (x : ℕ) (e z d : ℤ) (i : Inequality) → Differ i.terms
+    → Gives (λ r. r ≡ i) (divided d record { terms = (x, e) ∷ []; bound = z })
     → Gives (DividesTo d i) (add_part nothing (pos 1) record { terms = (x, e) ∷ []; bound = z })
 single-line x e z d i w h =
-    gives-with (λ r. r ≡ record { terms = (x, e) ∷ []; bound = z }) (DividesTo d i) (add_part nothing (pos 1) record { terms = (x, e) ∷ []; bound = z }) (single-added x e z)
-    (λ t _ q. subst (DividesTo d i) (sym q) (gives-with (λ r. r ≡ i) (IsSame i) (divided d record { terms = (x, e) ∷ []; bound = z }) h (λ r _ y. is-same i r w y)))
+    gives-with (λ r. r ≡ record { terms = (x, e) ∷ []; bound = z }) (DividesTo d i)
+    (add_part nothing (pos 1) record { terms = (x, e) ∷ []; bound = z }) (single-added x e z)
+    (λ t _ q. subst (DividesTo d i) (sym q) (gives-with (λ r. r ≡ i) (IsSame i)
+    (divided d record { terms = (x, e) ∷ []; bound = z }) h (λ r _ y. is-same i r w y)))
 
 long-divided : (i t : Inequality) → IsSame i t → DividesTo (pos 1) i t
-long-divided i t h = went (IsSame i) (divides (pos 1) t.terms) record { terms = quotients (pos 1) t.terms; bound = int_div_euclid t.bound (pos 1) }
+long-divided i t h = went (IsSame i) (divides (pos 1) t.terms) record {
+  terms = quotients
+      (pos 1) t.terms;
+  bound = int_div_euclid t.bound (pos 1);
+}
     (divides_one (pos 1) t.terms refl)
     record {
       differ = differ-divided (pos 1) t.terms h.differ;
-      sums = λ v. sym (one-times (sum_of v (quotients (pos 1) t.terms))) ∙ sum-quotients v 0 t.terms (divides_one (pos 1) t.terms refl) ∙ h.sums v;
+      sums = λ v. sym (one-times (sum_of v (quotients (pos 1) t.terms)))
+          ∙ sum-quotients v 0 t.terms (divides_one (pos 1) t.terms refl) ∙ h.sums v;
       bound = quotient_one t.bound (pos 1) refl ∙ h.bound;
     }
 
 long-line : (i : Inequality) → Gives (DividesTo (pos 1) i) (add_part nothing (pos 1) i)
-long-line i = gives-with (Adds nothing (pos 1) i) (DividesTo (pos 1) i) (add_part nothing (pos 1) i) (part-added nothing (pos 1) i tt)
+long-line i = gives-with (Adds nothing (pos 1) i) (DividesTo (pos 1) i) (add_part nothing (pos 1) i)
+    (part-added nothing (pos 1) i tt)
     (λ t _ q. long-divided i t record {
       differ = q.differ;
       sums = λ v. q.sums v ∙ +ℤ_idl (pos 1 *ℤ sum_of v i.terms) ∙ one-times (sum_of v i.terms);
@@ -135,23 +169,31 @@ long-line i = gives-with (Adds nothing (pos 1) i) (DividesTo (pos 1) i) (add_par
     })
 
 line-of : (sign : Bool) (terms : List (ℕ × ℤ)) (z : ℤ) → AllByRecursion (λ (t : ℕ × ℤ). t.1 ≢ pos 0) terms → terms ≢ []
-    → Gives (DividesTo (divisor_of terms) (said sign record { terms = terms; bound = z })) (add_part nothing (pos 1) (meant sign record { terms = terms; bound = z }))
+    → Gives (DividesTo (divisor_of terms) (said sign record { terms = terms; bound = z }))
+    (add_part nothing (pos 1) (meant sign record { terms = terms; bound = z }))
 line-of sign [] z a n = absurd (n refl)
 line-of sign ((x, pos zero) ∷ []) z a n = absurd (a.0 refl)
-line-of true ((x, pos (suc k)) ∷ []) z a n = single-line x (pos (suc k)) z (pos (suc k)) (divided_by x (pos (suc k)) z) (tt, tt) (up-divided x k z)
-line-of true ((x, negsuc k) ∷ []) z a n = single-line x (negsuc k) z (pos (suc k)) (divided_by x (negsuc k) z) (tt, tt) (down-divided x k z)
+line-of true ((x, pos (suc k)) ∷ []) z a n = single-line x (pos (suc k)) z (pos (suc k))
+    (divided_by x (pos (suc k)) z) (tt, tt) (up-divided x k z)
+line-of true ((x, negsuc k) ∷ []) z a n = single-line x (negsuc k) z (pos (suc k)) (divided_by x (negsuc k) z)
+    (tt, tt) (down-divided x k z)
 line-of false ((x, pos (suc k)) ∷ []) z a n =
-    subst (λ y. Gives (DividesTo (pos (suc k)) (divided_by x y (negsuc 0 -ℤ z))) (add_part nothing (pos 1) record { terms = (x, y) ∷ []; bound = negsuc 0 -ℤ z })) (sym (+ℤ_idl (negsuc k)))
-    (single-line x (negsuc k) (negsuc 0 -ℤ z) (pos (suc k)) (divided_by x (negsuc k) (negsuc 0 -ℤ z)) (tt, tt) (down-divided x k (negsuc 0 -ℤ z)))
+    subst (λ y. Gives (DividesTo (pos (suc k)) (divided_by x y (negsuc 0 -ℤ z)))
+    (add_part nothing (pos 1) record { terms = (x, y) ∷ []; bound = negsuc 0 -ℤ z })) (sym (+ℤ_idl (negsuc k)))
+    (single-line x (negsuc k) (negsuc 0 -ℤ z) (pos (suc k)) (divided_by x (negsuc k) (negsuc 0 -ℤ z)) (tt, tt)
+    (down-divided x k (negsuc 0 -ℤ z)))
 line-of false ((x, negsuc k) ∷ []) z a n =
-    subst (λ y. Gives (DividesTo (pos (suc k)) (divided_by x y (negsuc 0 -ℤ z))) (add_part nothing (pos 1) record { terms = (x, y) ∷ []; bound = negsuc 0 -ℤ z })) (sym (+ℤ_idl (pos (suc k))))
-    (single-line x (pos (suc k)) (negsuc 0 -ℤ z) (pos (suc k)) (divided_by x (pos (suc k)) (negsuc 0 -ℤ z)) (tt, tt) (up-divided x k (negsuc 0 -ℤ z)))
+    subst (λ y. Gives (DividesTo (pos (suc k)) (divided_by x y (negsuc 0 -ℤ z)))
+    (add_part nothing (pos 1) record { terms = (x, y) ∷ []; bound = negsuc 0 -ℤ z })) (sym (+ℤ_idl (pos (suc k))))
+    (single-line x (pos (suc k)) (negsuc 0 -ℤ z) (pos (suc k)) (divided_by x (pos (suc k)) (negsuc 0 -ℤ z)) (tt, tt)
+    (up-divided x k (negsuc 0 -ℤ z)))
 line-of true (t ∷ u ∷ ts) z a n = long-line record { terms = t ∷ u ∷ ts; bound = z }
 line-of false (t ∷ u ∷ ts) z a n = long-line (opposite_inequality record { terms = t ∷ u ∷ ts; bound = z })
 
 by-sign : (sign : Bool) (i : Inequality) → Gives (λ j. j ≡ meant sign i) (of_atom (negated sign) (Some i))
 by-sign true i = refl
-by-sign false i = gives-kept (λ j. j ≡ opposite_inequality i) (all_negatable i.terms) _ (gives-kept (λ j. j ≡ opposite_inequality i) (within (negsuc 0 -ℤ i.bound)) _ refl)
+by-sign false i = gives-kept (λ j. j ≡ opposite_inequality i) (all_negatable i.terms) _
+    (gives-kept (λ j. j ≡ opposite_inequality i) (within (negsuc 0 -ℤ i.bound)) _ refl)
 
 module _ (g : Form) (clause : List Literal) (lines : List Inequality) where
   pub source : (p : Part) (n : ℕ) → at g.atoms p.bound.literal ≡ Some p.atom → at clause n ≡ Some (denied p)
@@ -162,15 +204,21 @@ module _ (g : Form) (clause : List Literal) (lines : List Inequality) where
 
   pub own-line : (p : Part) (n : ℕ) → AllByRecursion (λ (t : ℕ × ℤ). t.1 ≢ pos 0) p.atom.terms → p.atom.terms ≢ []
       → at g.atoms p.bound.literal ≡ Some p.atom → at clause n ≡ Some (denied p)
-      → Gives (IsSame (said p.sign p.atom)) (of_sum g.atoms clause lines record { parts = (pos 1, s.Literal n) ∷ []; divisor = divisor_of p.atom.terms })
+      → Gives (IsSame (said p.sign p.atom)) (of_sum g.atoms clause lines record {
+        parts =
+            (pos 1, s.Literal n) ∷ [];
+        divisor = divisor_of p.atom.terms;
+      })
   own-line p n a w e f =
       gives-then (DividesTo (divisor_of p.atom.terms) (said p.sign p.atom)) (IsSame (said p.sign p.atom))
       (add_parts g.atoms clause lines nothing ((pos 1, s.Literal n) ∷ [])) (divided (divisor_of p.atom.terms))
-      (gives-then (DividesTo (divisor_of p.atom.terms) (said p.sign p.atom)) (DividesTo (divisor_of p.atom.terms) (said p.sign p.atom))
+      (gives-then (DividesTo (divisor_of p.atom.terms) (said p.sign p.atom))
+      (DividesTo (divisor_of p.atom.terms) (said p.sign p.atom))
       (add_from g.atoms clause lines nothing (pos 1, s.Literal n)) _
       (gives-then (λ j. j ≡ meant p.sign p.atom) (DividesTo (divisor_of p.atom.terms) (said p.sign p.atom))
       (of_source g.atoms clause lines (s.Literal n)) (add_part nothing (pos 1)) (source p n e f)
-      (λ i q. subst (λ y. Gives (DividesTo (divisor_of p.atom.terms) (said p.sign p.atom)) (add_part nothing (pos 1) y)) (sym q)
+      (λ i q. subst (λ y. Gives (DividesTo (divisor_of p.atom.terms) (said p.sign p.atom))
+      (add_part nothing (pos 1) y)) (sym q)
       (line-of p.sign p.atom.terms p.atom.bound a w)))
       (λ t q. q))
       (λ t q. q)

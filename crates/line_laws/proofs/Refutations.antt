@@ -28,8 +28,10 @@ record AreJoined (g : Form) (bounds used : List Standing) (pairs : List (ℤ × 
   same_multipliers : multipliers_of parts ≡ map (λ (p : ℤ × ℕ). p.0) pairs
 
 module _ (g : Form) (bounds : List Standing) (means : All (IsOfLiteral g) bounds) where
-  joined : (used : List Standing) (pairs : List (ℤ × ℕ)) → map (λ (b : Standing). b.literal) used ≡ map (λ (p : ℤ × ℕ). p.1) pairs
-      → AllByRecursion (Contains bounds) used → AllByRecursion (λ (p : ℤ × ℕ). pos 0 ≤ℤ p.0) pairs → AreJoined g bounds used pairs
+  joined : (used : List Standing) (pairs : List (ℤ × ℕ))
+      → map (λ (b : Standing). b.literal) used ≡ map (λ (p : ℤ × ℕ). p.1) pairs
+      → AllByRecursion (Contains bounds) used → AllByRecursion (λ (p : ℤ × ℕ). pos 0 ≤ℤ p.0) pairs
+      → AreJoined g bounds used pairs
   joined [] [] e c s = record { parts = []; are_parts = tt; stand = tt; signed = tt; same = refl; same_bounds = refl; same_multipliers = refl }
   joined [] (p ∷ pairs) e c s = absurd cc
   joined (b ∷ used) [] e c s = absurd cc
@@ -52,7 +54,8 @@ module _ (g : Form) (bounds : List Standing) (means : All (IsOfLiteral g) bounds
         heads : b.literal ∷ map (λ (b : Standing). b.literal) used ≡ n ∷ map (λ (p : ℤ × ℕ). p.1) pairs → b.literal ≡ n
         heads e = cc
 
-  pub refutation_gives_step : (known : List (List Literal)) (pairs : List (ℤ × ℕ)) → IsPlain g → Refutes (rows_of g) bounds pairs → IsStepOf g known bounds pairs
+  pub refutation_gives_step : (known : List (List Literal)) (pairs : List (ℤ × ℕ)) → IsPlain g
+      → Refutes (rows_of g) bounds pairs → IsStepOf g known bounds pairs
   refutation_gives_step known pairs plain f =
       let w = joined f.used pairs f.literals (recursion_from_All (Contains bounds) f.used f.stand)
       (recursion_from_All (λ (p : ℤ × ℕ). pos 0 ≤ℤ p.0) pairs f.not_negative) in

@@ -33,7 +33,8 @@ below a b = (le-yes a b, yes-le a b)
 
 -- what is not met ends one further, on the other side
 past-it : (b : Bool) (x : ℕ) (side : Bool) (z limit : ℤ) → Same b (Inside side z limit)
-    → Same (as_said false b) (Inside (opposite_bound record { column = x; upper = side; limit = limit }).upper z (opposite_bound record { column = x; upper = side; limit = limit }).limit)
+    → Same (as_said false b) (Inside (opposite_bound record { column = x; upper = side; limit = limit }).upper z
+    (opposite_bound record { column = x; upper = side; limit = limit }).limit)
 past-it true x true z limit h = (λ e. absurd cc, λ l. let k = h.0 refl in absurd (omega (arith, ints)))
 past-it true x false z limit h = (λ e. absurd cc, λ l. let k = h.0 refl in absurd (omega (arith, ints)))
 past-it false x true z limit h = (λ _. over z limit (λ l. not-yes (h.1 l)), λ _. refl) where
@@ -58,7 +59,8 @@ module _ (v : ℕ → ℤ) where
       → Same (as_said sign b) (IsInside v y)
   signed true b x y h e = subst (λ w. Same b (IsInside v w)) (some-is x y e) h
   signed false b x y h e =
-      subst (λ w. Same (as_said false b) (IsInside v w)) (some-is (opposite_bound x) y e) (past-it b x.column x.upper (v x.column) x.limit h)
+      subst (λ w. Same (as_said false b) (IsInside v w)) (some-is (opposite_bound x) y e)
+      (past-it b x.column x.upper (v x.column) x.limit h)
 
   -- of one variable: divided and rounded down
   upwards : (d : ℕ) (w z : ℤ) → Same (le_z (pos (suc d) *ℤ w +ℤ pos 0) z) (w ≤ℤ int_div_euclid z (pos (suc d)))
@@ -66,7 +68,8 @@ module _ (v : ℕ → ℤ) where
     λ e. let l = le-yes (pos (suc d) *ℤ w +ℤ pos 0) z e in
         round_down d w z (let k : (pos (suc d) *ℤ w) ≤ℤ z = omega (arith, ints) in k),
     λ l. yes-le (pos (suc d) *ℤ w +ℤ pos 0) z (
-        let t : (pos (suc d) *ℤ w) ≤ℤ (pos (suc d) *ℤ int_div_euclid z (pos (suc d))) = times_le (suc d) w (int_div_euclid z (pos (suc d))) l in
+        let t : (pos (suc d) *ℤ w) ≤ℤ (pos (suc d) *ℤ int_div_euclid z (pos (suc d))) = times_le (suc d) w
+        (int_div_euclid z (pos (suc d))) l in
         let f = (floor_is z (pos (suc d)) (omega (arith, ints))).at_most in omega (arith, ints)
         ),
   )
@@ -86,12 +89,23 @@ module _ (v : ℕ → ℤ) where
   single x (pos zero) z true b e = absurd cc
   single x (pos zero) z false b e = absurd cc
   single x (pos (suc d)) z sign b e =
-      signed sign (le_z (pos (suc d) *ℤ v x +ℤ pos 0) z) record { column = x; upper = true; limit = int_div_euclid z (pos (suc d)) } b (upwards d (v x) z) e
+      signed sign (le_z (pos (suc d) *ℤ v x +ℤ pos 0) z) record {
+        column = x;
+        upper = true;
+        limit = int_div_euclid z
+            (pos (suc d));
+      } b (upwards d (v x) z) e
   single x (negsuc d) z sign b e =
-      signed sign (le_z (negsuc d *ℤ v x +ℤ pos 0) z) record { column = x; upper = false; limit = neg_ℤ (int_div_euclid z (pos (suc d))) } b (downwards d (v x) z) e
+      signed sign (le_z (negsuc d *ℤ v x +ℤ pos 0) z) record {
+        column = x;
+        upper = false;
+        limit = neg_ℤ
+            (int_div_euclid z (pos (suc d)));
+      } b (downwards d (v x) z) e
 
   -- of more than one: the column stands at the sum
-  first : (m : ℕ) (terms : List (ℕ × ℤ)) (z : ℤ) (sign : Bool) (b : Bound) → (is_long terms ≡ true → v m ≡ sum_of v terms)
+  first : (m : ℕ) (terms : List (ℕ × ℤ)) (z : ℤ) (sign : Bool) (b : Bound)
+      → (is_long terms ≡ true → v m ≡ sum_of v terms)
       → bound_if sign (Some (bound_of_sum m terms z)) ≡ Some b
       → Same (as_said sign (inequality_true v record { terms = terms; bound = z })) (IsInside v b)
   first m [] z true b s e = absurd cc
@@ -118,15 +132,20 @@ module _ (v : ℕ → ℤ) where
     nothing true e = absurd cc
     nothing false e = absurd cc
   walked m (k ∷ rest) zero sign b a e = first m k.terms k.bound sign b (own (is_long k.terms) a) e where
-    own : (w : Bool) → AreZero (cond w ((k.terms ++ (m, negsuc 0) ∷ []) ∷ defining_rows (m + 1) rest) (defining_rows m rest)) → w ≡ true → v m ≡ sum_of v k.terms
-    own true a e = let s = row-sum k.terms m in let z : sum_of v (k.terms ++ (m, negsuc 0) ∷ []) ≡ pos 0 = a.0 in omega (arith, ints)
+    own : (w : Bool) → AreZero (cond w ((k.terms ++ (m, negsuc 0) ∷ []) ∷ defining_rows (m + 1) rest)
+        (defining_rows m rest)) → w ≡ true → v m ≡ sum_of v k.terms
+    own true a e = let s = row-sum k.terms m in let z : sum_of v (k.terms ++ (m, negsuc 0) ∷ [])
+        ≡ pos 0 = a.0 in omega (arith, ints)
     own false a e = absurd cc
   walked m (k ∷ rest) (suc j) sign b a e =
       go (is_long k.terms) a e (λ r f. walked (m + 1) rest j sign b r f) (λ r f. walked m rest j sign b r f) where
-        go : (w : Bool) → AreZero (cond w ((k.terms ++ (m, negsuc 0) ∷ []) ∷ defining_rows (m + 1) rest) (defining_rows m rest))
+        go : (w : Bool) → AreZero (cond w ((k.terms ++ (m, negsuc 0) ∷ []) ∷ defining_rows (m + 1) rest)
+            (defining_rows m rest))
             → bound_if sign (slice_get (bounds_from (cond w (m + 1) m) rest) j) ≡ Some b
-            → (AreZero (defining_rows (m + 1) rest) → bound_if sign (slice_get (bounds_from (m + 1) rest) j) ≡ Some b → Same (atom_true sign v (slice_get rest j)) (IsInside v b))
-            → (AreZero (defining_rows m rest) → bound_if sign (slice_get (bounds_from m rest) j) ≡ Some b → Same (atom_true sign v (slice_get rest j)) (IsInside v b))
+            → (AreZero (defining_rows (m + 1) rest) → bound_if sign (slice_get (bounds_from (m + 1) rest) j)
+            ≡ Some b → Same (atom_true sign v (slice_get rest j)) (IsInside v b))
+            → (AreZero (defining_rows m rest) → bound_if sign (slice_get (bounds_from m rest) j) ≡ Some b
+            → Same (atom_true sign v (slice_get rest j)) (IsInside v b))
             → Same (atom_true sign v (slice_get rest j)) (IsInside v b)
         go true a e p q = p a.1 e
         go false a e p q = q a e
@@ -142,5 +161,6 @@ literal_said g v zero sign b a e = absurd (nothing sign e) where
   nothing true e = absurd cc
   nothing false e = absurd cc
 literal_said g v (suc j) sign b a e =
-    walked v.number (length g.shapes) g.atoms j sign b (recursion_from_All (λ row. sum_of v.number row ≡ pos 0) (rows_of g) a)
+    walked v.number (length g.shapes) g.atoms j sign b (recursion_from_All (λ row. sum_of v.number row ≡ pos 0)
+    (rows_of g) a)
     (ap (λ xs. bound_if sign (slice_get (bounds_from (length g.shapes) xs) j)) (sym (append-nil g.atoms)) ∙ e)
