@@ -45,7 +45,7 @@ less k a b =
     (neg_ℤ b) in
     s ∙ ap (λ z. pos (suc k) *ℤ a +ℤ z) (times_neg (pos (suc k)) b)
 
-cancelled : (k : ℕ) (a b : ℤ) → pos (suc k) *ℤ a ≡ pos (suc k) *ℤ b → a ≡ b
+pub cancelled : (k : ℕ) (a b : ℤ) → pos (suc k) *ℤ a ≡ pos (suc k) *ℤ b → a ≡ b
 cancelled k a b e =
     let l = less k a b in
     let z : a -ℤ b ≡ pos 0 = no-room k (a -ℤ b) (omega (arith, ints)) (omega (arith, ints)) in omega (arith, ints)

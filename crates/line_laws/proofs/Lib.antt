@@ -14,3 +14,4 @@ pub mod Fitting
 pub mod FittingSteps
 pub mod Decided
 pub mod CutSteps
+pub mod Followed

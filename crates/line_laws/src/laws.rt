@@ -1,7 +1,7 @@
 //! Laws of lines over literals, over the definitions alone: each function is its contract.
 
 ghost use Rattle.line_laws.specs.Lines.{BoundsSayWhatLiteralsSay, CutLinesSumToTheirAtom, RefutedBoundsSumToNothing};
-ghost use Rattle.line_laws.specs.CutSteps.{CutsGiveSteps};
+ghost use Rattle.line_laws.specs.CutSteps.{CutsGiveSteps, FollowingAtomsGiveSteps};
 ghost use Rattle.line_laws.specs.Steps.{AtomsAreDecided, FittingStepsAreTaken, RefutationsGiveSteps, RefutedBoundsGiveAStep};
 
 /// Where bounds sum to a whole combination of the rows, what their literals mean sums to nothing, with the same right
@@ -45,4 +45,10 @@ pub fn atoms_are_decided()
 /// outside 128 bits.
 pub fn cuts_give_steps()
     ensures { CutsGiveSteps }
+{}
+
+/// What follows by a line of a tableau's bounds, each of which is what a literal means, gives such a step, with the
+/// line's multipliers and literals.
+pub fn following_atoms_give_steps()
+    ensures { FollowingAtomsGiveSteps }
 {}
