@@ -43,13 +43,17 @@ cut_step n parts d =
     }
     ∷ [])
 
--- with the cut's atom behind the others this step breaks no rule, unless a number is outside 128 bits
+-- with the cut's atom behind the others this step breaks no rule, or a number of it is outside 128 bits
+abbrev pub IsCutTakenOrPast : Form → List (List Literal) → List Part → ℤ → Inequality → Type 0
+IsCutTakenOrPast g known parts d atom =
+    (move_fault g.shapes (g.atoms ++ atom ∷ []) known (cut_step (suc (length g.atoms)) parts d) ≡ None)
+    ⊎ (move_fault g.shapes (g.atoms ++ atom ∷ []) known (cut_step (suc (length g.atoms)) parts d) ≡ Some r.Past)
+
 abbrev pub CutsGiveSteps : Type 0
 CutsGiveSteps =
     (g : Form) (known : List (List Literal)) (parts : List Part) (d : ℤ) (atom : Inequality) → IsPlain g
     → IsCutBy g parts d atom
-    → (move_fault g.shapes (g.atoms ++ atom ∷ []) known (cut_step (suc (length g.atoms)) parts d) ≡ None)
-    ⊎ (move_fault g.shapes (g.atoms ++ atom ∷ []) known (cut_step (suc (length g.atoms)) parts d) ≡ Some r.Past)
+    → IsCutTakenOrPast g known parts d atom
 
 -- a tableau of the query's rows, each bound of which is what a literal means
 pub record IsTableauOf (g : Form) (t : State) : Type 0 where
@@ -68,10 +72,7 @@ pub record IsCutStepOf (g : Form) (known : List (List Literal)) (t : State) (lin
   pub stand : All (λ (p : Part). Contains t.bounds p.bound) parts
   pub same : map sourced parts ≡ line.parts
   pub cut : IsCutBy g parts line.divisor atom
-  pub taken : (move_fault g.shapes (g.atoms ++ atom ∷ []) known (cut_step (suc (length g.atoms)) parts line.divisor)
-      ≡ None)
-      ⊎ (move_fault g.shapes (g.atoms ++ atom ∷ []) known (cut_step (suc (length g.atoms)) parts line.divisor)
-      ≡ Some r.Past)
+  pub taken : IsCutTakenOrPast g known parts line.divisor atom
 
 -- what follows by a line of a tableau's bounds, as its cuts do, is such a cut
 abbrev pub FollowingAtomsGiveSteps : Type 0
