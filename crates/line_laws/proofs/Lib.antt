@@ -15,3 +15,4 @@ pub mod FittingSteps
 pub mod Decided
 pub mod CutSteps
 pub mod Followed
+pub mod SplitSteps

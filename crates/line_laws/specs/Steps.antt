@@ -1,6 +1,6 @@
 -- The theory step that bounds give which refute each other.
 use Rattle.std.specs.Prelude.{ℕ, suc, ◌≡◌, ◌⊎◌, ◌++◌, Bool, true, false, List, [], ◌∷◌, map, take, All, Contains, Some, None, unsigned_abs}
-use lib.IntN.{ℤ, pos, ◌*ℤ◌}
+use lib.IntN.{ℤ, pos, negsuc, ◌*ℤ◌, ◌-ℤ◌}
 use lib.Signed.{◌≤ℤ◌, ◌<ℤ◌}
 use Rattle.kind_num.specs.Exact.{within}
 use Rattle.proof_steps.specs.declared.Literal.{Literal}
@@ -10,7 +10,7 @@ use Rattle.proof_steps.specs.declared.Source.TheVariants as s
 use Rattle.proof_steps.specs.View.{Inequality, Move, theory, Sum}
 use Rattle.proof_steps.specs.Meaning.{at, opposite}
 use Rattle.proof_steps.specs.Rows.{Form, rows_of, entry}
-use Rattle.proof_steps.specs.Bounds.{Bound, opposite_bound, bound_of_literal}
+use Rattle.proof_steps.specs.Bounds.{Bound, opposite_bound, bound_of_literal, split_atom}
 use Rattle.proof_checker.specs.declared.rule.Rule.TheVariants as r
 use Rattle.proof_checker.specs.Check.{move_fault}
 use Rattle.int_simplex.specs.State.{Standing}
@@ -125,3 +125,9 @@ AtomsAreDecided =
     (g : Form) (n : ℕ) (i : Inequality) (b : Bound) → at g.atoms n ≡ Some i
     → bound_of_literal g [] (Atom n true) ≡ Some b
     → RefuteEachOther g (both_of n i b)
+
+-- the step of a split's atom `x <= c` fits where c and -c - 1 are within 128 bits
+abbrev pub SplitStepsFit : Type 0
+SplitStepsFit =
+    (n x : ℕ) (c : ℤ) → within c ≡ true → within (negsuc 0 -ℤ c) ≡ true
+    → OperationsFit (both_of n (split_atom (x, c)) record { column = x; upper = true; limit = c })

@@ -2,7 +2,7 @@
 
 ghost use Rattle.line_laws.specs.Lines.{BoundsSayWhatLiteralsSay, CutLinesSumToTheirAtom, RefutedBoundsSumToNothing};
 ghost use Rattle.line_laws.specs.CutSteps.{CutsGiveSteps, FollowingAtomsGiveSteps};
-ghost use Rattle.line_laws.specs.Steps.{AtomsAreDecided, FittingStepsAreTaken, RefutationsGiveSteps, RefutedBoundsGiveAStep};
+ghost use Rattle.line_laws.specs.Steps.{AtomsAreDecided, FittingStepsAreTaken, RefutationsGiveSteps, RefutedBoundsGiveAStep, SplitStepsFit};
 
 /// Where bounds sum to a whole combination of the rows, what their literals mean sums to nothing, with the same right
 /// side.
@@ -51,4 +51,9 @@ pub fn cuts_give_steps()
 /// line's multipliers and literals.
 pub fn following_atoms_give_steps()
     ensures { FollowingAtomsGiveSteps }
+{}
+
+/// The step of a split's atom `x <= c` has numbers within 128 bits where c and -c - 1 are.
+pub fn split_steps_fit()
+    ensures { SplitStepsFit }
 {}
