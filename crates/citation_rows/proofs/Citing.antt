@@ -28,5 +28,6 @@ another_term h =
     let n : 0 ≡ 1 = ap number_of e in
     absurd (omega (arith, n))
 
-pub nothing_to_cite : (m : Machine) (property k place : ℕ) (f : Formula) (proof : Refutation) (rest : List Fact) → ¬ AreFacts m (step_fact property k (cite place f) proof ∷ rest)
+pub nothing_to_cite : (m : Machine) (property k place : ℕ) (f : Formula) (proof : Refutation) (rest : List Fact) → ¬ AreFacts m
+    (step_fact property k (cite place f) proof ∷ rest)
 nothing_to_cite m property k place f proof rest h = (h 0 (step_fact property k (cite place f) proof) refl).1 0 record { place = place; term = f } (omega arith)

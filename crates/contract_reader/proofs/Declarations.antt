@@ -17,14 +17,17 @@ use Rattle.contract_reader.specs.Parts.{Leads, Adds}
 use Rattle.contract_reader.specs.Values.{node_class}
 use Rattle.contract_reader.proofs.Leads.{here, this_by, that_by}
 
-pub into_constant : (s : Stream) (i : ℕ) (n : Counts) → (s i).class ≡ Some (C.Keyword K.Const) → Leads s (body P.Declaration) i n (part P.Constant) i n (λ x. this x)
+pub into_constant : (s : Stream) (i : ℕ) (n : Counts) → (s i).class ≡ Some (C.Keyword K.Const) → Leads s (body P.Declaration) i n
+    (part P.Constant) i n (λ x. this x)
 into_constant s i n e = this_by here e refl
 
-pub into_node : (s : Stream) (i : ℕ) (n : Counts) (b : Bool) → (s i).class ≡ Some (node_class b) → Leads s (body P.Declaration) i n (part P.Node) i n (λ x. that (this x))
+pub into_node : (s : Stream) (i : ℕ) (n : Counts) (b : Bool) → (s i).class ≡ Some (node_class b) → Leads s (body P.Declaration) i n
+    (part P.Node) i n (λ x. that (this x))
 into_node s i n false e = this_by (that_by here e refl) e refl
 into_node s i n true e = this_by (that_by here e refl) e refl
 
-pub into_contract : (s : Stream) (i : ℕ) (n : Counts) → (s i).class ≡ Some (C.Keyword K.Contract) → Leads s (body P.Declaration) i n (part P.ContractNode) i n (λ x. that (that x))
+pub into_contract : (s : Stream) (i : ℕ) (n : Counts) → (s i).class ≡ Some (C.Keyword K.Contract) → Leads s (body P.Declaration) i n
+    (part P.ContractNode) i n (λ x. that (that x))
 into_contract s i n e = that_by (that_by here e refl) e refl
 
 -- numbered from 1
@@ -33,15 +36,34 @@ stops_anew (out_of_memory e) = out_of_memory e
 stops_anew (stopped q e w) = stopped (anew_stop q) e w
 
 module _ {s : Stream} {i : ℕ} {n : Counts} {j : ℕ} {m : Counts} where
-  pub adds_constant : {v : Constant} → (s i).class ≡ Some (C.Keyword K.Const) → Reads constants_of s (part P.Constant) i none_before j m (v ∷ []) → Adds declarations_of s (fresh P.Declaration) i n j n (declared_constant v ∷ [])
-  adds_constant e r = record { syntax = _; run = anew ((into_constant s i none_before e).reads _ _ _ r.run); is = λ rest. ap (λ z. map declared_constant z ++ declarations_of rest) (sym r.is) }
+  pub adds_constant : {v : Constant} → (s i).class ≡ Some (C.Keyword K.Const) → Reads constants_of s (part P.Constant) i none_before j m
+      (v ∷ []) → Adds declarations_of s (fresh P.Declaration) i n j n (declared_constant v ∷ [])
+  adds_constant e r = record {
+    syntax = _;
+    run = anew ((into_constant s i none_before e).reads _ _ _ r.run);
+    is = λ rest. ap
+        (λ z. map declared_constant z ++ declarations_of rest) (sym r.is);
+  }
 
-  pub adds_node : {vs : List Declaration} (b : Bool) → (s i).class ≡ Some (node_class b) → Reads nodes_of s (part P.Node) i none_before j m vs → Adds declarations_of s (fresh P.Declaration) i n j n vs
-  adds_node b e r = record { syntax = _; run = anew ((into_node s i none_before b e).reads _ _ _ r.run); is = λ rest. ap (λ z. z ++ declarations_of rest) (sym r.is) }
+  pub adds_node : {vs : List Declaration} (b : Bool) → (s i).class ≡ Some (node_class b) → Reads nodes_of s
+      (part P.Node) i none_before j m vs → Adds declarations_of s (fresh P.Declaration) i n j n vs
+  adds_node b e r = record {
+    syntax = _;
+    run = anew ((into_node s i none_before b e).reads _ _ _ r.run);
+    is = λ rest. ap
+        (λ z. z ++ declarations_of rest) (sym r.is);
+  }
 
-  pub adds_contract : {vs : List Declaration} → (s i).class ≡ Some (C.Keyword K.Contract) → Reads contract_nodes_of s (part P.ContractNode) i none_before j m vs → Adds declarations_of s (fresh P.Declaration) i n j n vs
-  adds_contract e r = record { syntax = _; run = anew ((into_contract s i none_before e).reads _ _ _ r.run); is = λ rest. ap (λ z. z ++ declarations_of rest) (sym r.is) }
+  pub adds_contract : {vs : List Declaration} → (s i).class ≡ Some (C.Keyword K.Contract) → Reads contract_nodes_of s
+      (part P.ContractNode) i none_before j m vs → Adds declarations_of s (fresh P.Declaration) i n j n vs
+  adds_contract e r = record {
+    syntax = _;
+    run = anew ((into_contract s i none_before e).reads _ _ _ r.run);
+    is = λ rest. ap
+        (λ z. z ++ declarations_of rest) (sym r.is);
+  }
 
 -- all declarations are a program
-pub all_declarations : {s : Stream} {i : ℕ} {n : Counts} {j : ℕ} {m : Counts} {vs : List Declaration} → Reads declarations_of s (body P.Program) i n j m vs → Reads program_of s program i n j m vs
+pub all_declarations : {s : Stream} {i : ℕ} {n : Counts} {j : ℕ} {m : Counts} {vs : List Declaration} → Reads declarations_of s
+    (body P.Program) i n j m vs → Reads program_of s program i n j m vs
 all_declarations r = record { syntax = _; run = line r.run; is = r.is }

@@ -53,7 +53,8 @@ agree f p o = agrees (f o) (listed (code o) (codes_of (first_classes p)))
 pub no_declaration : (o : Option Class) → declaration_start_of o ≡ None → listed (code o) (codes_of (first_classes Declaration)) ≡ false
 no_declaration o e = passed (declaration_start_of o) _ (every (agree declaration_start_of Declaration) refl o) e
 
-pub begins_declaration : (o : Option Class) (d : DeclarationStart) → declaration_start_of o ≡ Some d → listed (code o) (codes_of (first_classes Declaration)) ≡ true
+pub begins_declaration : (o : Option Class) (d : DeclarationStart) → declaration_start_of o ≡ Some d → listed (code o)
+    (codes_of (first_classes Declaration)) ≡ true
 begins_declaration o d e = found d (declaration_start_of o) _ (every (agree declaration_start_of Declaration) refl o) e
 
 pub is_declaration : (o : Option Class) (d : DeclarationStart) → declaration_start_of o ≡ Some d → o ≡ Some (declaration_class d)
@@ -71,7 +72,8 @@ is_locals o d e = named locals_class d (locals_start_of o) o (every (λ o. names
 pub no_contract_item : (o : Option Class) → contract_item_start_of o ≡ None → listed (code o) (codes_of (first_classes ContractItem)) ≡ false
 no_contract_item o e = passed (contract_item_start_of o) _ (every (agree contract_item_start_of ContractItem) refl o) e
 
-pub begins_contract_item : (o : Option Class) (d : ContractItemStart) → contract_item_start_of o ≡ Some d → listed (code o) (codes_of (first_classes ContractItem)) ≡ true
+pub begins_contract_item : (o : Option Class) (d : ContractItemStart) → contract_item_start_of o ≡ Some d → listed (code o)
+    (codes_of (first_classes ContractItem)) ≡ true
 begins_contract_item o d e = found d (contract_item_start_of o) _ (every (agree contract_item_start_of ContractItem) refl o) e
 
 pub is_contract_item : (o : Option Class) (d : ContractItemStart) → contract_item_start_of o ≡ Some d → o ≡ Some (contract_item_class d)

@@ -30,11 +30,13 @@ into = record { reads = λ k o x r. line r; stops = λ c k r. line_stop r }
 
 module _ {s : Stream} {g : Phrase} {i : ℕ} {n : Counts} {j : ℕ} {m : Counts} {f : Syntax → Syntax} where
   -- then as that leads on
-  pub then : {h h' : Phrase} {k : ℕ} {o : Counts} {f' : Syntax → Syntax} → Leads s g i n h j m f → Leads s h j m h' k o f' → Leads s g i n h' k o (λ x. f (f' x))
+  pub then : {h h' : Phrase} {k : ℕ} {o : Counts} {f' : Syntax → Syntax} → Leads s g i n h j m f → Leads s h j m h' k o f'
+      → Leads s g i n h' k o (λ x. f (f' x))
   then l l' = record { reads = λ k' o' x r. l.reads k' o' _ (l'.reads k' o' x r); stops = λ c k' r. l.stops c k' (l'.stops c k' r) }
 
   -- behind the first of two
-  pub behind : {a b : Phrase} {k : ℕ} {o : Counts} {x : Syntax} → Leads s g i n (a ⨾ b) j m f → Run limit s a j m (read k o x) → Leads s g i n b k o (λ y. f (x · y))
+  pub behind : {a b : Phrase} {k : ℕ} {o : Counts} {x : Syntax} → Leads s g i n (a ⨾ b) j m f → Run limit s a j m (read k o x)
+      → Leads s g i n b k o (λ y. f (x · y))
   behind l r = record { reads = λ k' o' y r'. l.reads k' o' _ (both r r'); stops = λ c k' r'. l.stops c k' (second_stop r r') }
 
   pub behind_token : {cs : List Class} {b : Phrase} → Leads s g i n (one_of cs ⨾ b) j m f → IsOneOf s j cs → Leads s g i n b (j + 1) m (λ y. f (leaf (s j) · y))
@@ -48,10 +50,12 @@ module _ {s : Stream} {g : Phrase} {i : ℕ} {n : Counts} {j : ℕ} {m : Counts}
   to_that l e = record { reads = λ k o x r. l.reads k o _ (that_one e r); stops = λ c k r. l.stops c k (that_stop e r) }
 
   -- as the token says
-  pub this_by : {a b : Phrase} {c : Class} → Leads s g i n (a ∣ b) j m f → (s j).class ≡ Some c → listed (class_code c) (starts a) ≡ true → Leads s g i n a j m (λ x. f (this x))
+  pub this_by : {a b : Phrase} {c : Class} → Leads s g i n (a ∣ b) j m f → (s j).class ≡ Some c → listed (class_code c) (starts a) ≡ true
+      → Leads s g i n a j m (λ x. f (this x))
   this_by l e h = to_this l (rw e h)
 
-  pub that_by : {a b : Phrase} {c : Class} → Leads s g i n (a ∣ b) j m f → (s j).class ≡ Some c → listed (class_code c) (starts a) ≡ false → Leads s g i n b j m (λ x. f (that x))
+  pub that_by : {a b : Phrase} {c : Class} → Leads s g i n (a ∣ b) j m f → (s j).class ≡ Some c → listed (class_code c) (starts a) ≡ false
+      → Leads s g i n b j m (λ x. f (that x))
   that_by l e h = to_that l (rw e h)
 
   -- what may stand there
@@ -59,7 +63,8 @@ module _ {s : Stream} {g : Phrase} {i : ℕ} {n : Counts} {j : ℕ} {m : Counts}
   to_once l e = record { reads = λ k o x r. l.reads k o _ (once e r); stops = λ c k r. l.stops c k (once_stop e r) }
 
   -- one more of many
-  pub once_more : {a : Phrase} {k : ℕ} {o : Counts} {x : Syntax} → Leads s g i n (repeated a) j m f → Enters s j a → Run limit s a j m (read k o x) → Leads s g i n (repeated a) k o (λ y. f (some x y))
+  pub once_more : {a : Phrase} {k : ℕ} {o : Counts} {x : Syntax} → Leads s g i n (repeated a) j m f → Enters s j a → Run limit s a j m
+      (read k o x) → Leads s g i n (repeated a) k o (λ y. f (some x y))
   once_more l e r = record { reads = λ k' o' y r'. l.reads k' o' _ (again e r r'); stops = λ c k' r'. l.stops c k' (later_stop e r r') }
 
   pub ends_many : {a : Phrase} → Leads s g i n (repeated a) j m f → Passes s j a → Run limit s g i n (read j m (f none))

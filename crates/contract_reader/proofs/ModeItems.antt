@@ -24,7 +24,8 @@ is_begun : (s : Stream) (i : ℕ) (d : ModeItemStart) → (s i).class ≡ Some (
 is_begun s i Require e = inl e
 is_begun s i Ensure e = inr (inl e)
 
-pub into_mode_item : (s : Stream) (i : ℕ) (n : Counts) (d : ModeItemStart) → (s i).class ≡ Some (mode_item_class d) → Leads s (part ModeItem) i n labelled (i + 1) n (λ x. node ModeItem (leaf (s i) · x))
+pub into_mode_item : (s : Stream) (i : ℕ) (n : Counts) (d : ModeItemStart) → (s i).class ≡ Some (mode_item_class d) → Leads s
+    (part ModeItem) i n labelled (i + 1) n (λ x. node ModeItem (leaf (s i) · x))
 into_mode_item s i n d e = behind_token into (is_begun s i d e)
 
 required : (o : Option Class) (ls : List Labelled) → o ≡ Some (C.Keyword K.Require) → if_required o ls ≡ ls
@@ -40,11 +41,14 @@ not_required : (o : Option Class) (ls : List Labelled) → o ≡ Some (C.Keyword
 not_required o ls e = rw e refl
 
 -- one more behind others
-more : (old new : List Named) (v : Named) (l : Labelled) (ls rest : List Labelled) → new ≡ old ++ v ∷ [] → named_view v ≡ l → ls ≡ l ∷ [] → map named_view old ++ (ls ++ rest) ≡ map named_view new ++ rest
+more : (old new : List Named) (v : Named) (l : Labelled) (ls rest : List Labelled) → new ≡ old ++ v ∷ [] → named_view v ≡ l → ls ≡ l ∷ []
+    → map named_view old ++ (ls ++ rest) ≡ map named_view new ++ rest
 more old new v l ls rest e h k = rw (e, k, map_push, ← h, append_assoc) refl
 
 module _ {s : Stream} {i : ℕ} {n : Counts} {j : ℕ} {m : Counts} where
-  pub adds_require : (v : Named) (old new others : List Named) → (s i).class ≡ Some (C.Keyword K.Require) → Reads (labelled_of (s i)) s labelled (i + 1) n j m (named_view v) → new ≡ old ++ v ∷ [] → GrowsBoth requires_of ensures_of s (part ModeItem) i n j m (map named_view old) (map named_view new) (map named_view others) (map named_view others)
+  pub adds_require : (v : Named) (old new others : List Named) → (s i).class ≡ Some (C.Keyword K.Require) → Reads
+      (labelled_of (s i)) s labelled (i + 1) n j m (named_view v) → new ≡ old ++ v ∷ [] → GrowsBoth requires_of ensures_of s
+      (part ModeItem) i n j m (map named_view old) (map named_view new) (map named_view others) (map named_view others)
   adds_require v old new others e r h = record {
     syntax = _;
     run = (into_mode_item s i n Require e).reads _ _ _ r.run;
@@ -52,7 +56,9 @@ module _ {s : Stream} {i : ℕ} {n : Counts} {j : ℕ} {m : Counts} where
     is_too = λ rest. ap (λ z. map named_view others ++ (z ++ ensures_of rest)) (not_ensured (s i).class _ e);
   }
 
-  pub adds_ensure : (v : Named) (old new others : List Named) → (s i).class ≡ Some (C.Keyword K.Ensure) → Reads (labelled_of (s i)) s labelled (i + 1) n j m (named_view v) → new ≡ old ++ v ∷ [] → GrowsBoth requires_of ensures_of s (part ModeItem) i n j m (map named_view others) (map named_view others) (map named_view old) (map named_view new)
+  pub adds_ensure : (v : Named) (old new others : List Named) → (s i).class ≡ Some (C.Keyword K.Ensure) → Reads
+      (labelled_of (s i)) s labelled (i + 1) n j m (named_view v) → new ≡ old ++ v ∷ [] → GrowsBoth requires_of ensures_of s
+      (part ModeItem) i n j m (map named_view others) (map named_view others) (map named_view old) (map named_view new)
   adds_ensure v old new others e r h = record {
     syntax = _;
     run = (into_mode_item s i n Ensure e).reads _ _ _ r.run;

@@ -16,7 +16,8 @@ use Rattle.lus_reader.proofs.Cuts.{end_at}
 abbrev AllText : List ℕ → List Tok → Counts → Syntax → Type 0
 AllText bytes ts m x = Text limit (length ts) (stream bytes ts) program 0 (length ts) none_before m x
 
-one_program : (bytes : List ℕ) (ts : List Tok) (m m' : Counts) (x x' : Syntax) (p q : Program) → AllText bytes ts m x → AllText bytes ts m' x' → p ≡ program_of x → q ≡ program_of x' → p ≡ q
+one_program : (bytes : List ℕ) (ts : List Tok) (m m' : Counts) (x x' : Syntax) (p q : Program) → AllText bytes ts m x
+    → AllText bytes ts m' x' → p ≡ program_of x → q ≡ program_of x' → p ≡ q
 one_program bytes ts m m' x x' p q d e f g =
     let end : (stream bytes ts (length ts)).class ≡ None = ap (λ z. z.class) (end_at bytes ts (length ts) (omega arith)) in
     let w = one_syntax d e refl end end in

@@ -19,11 +19,13 @@ use Rattle.lus_grammar.proofs.Readings.{whole, stopped as stops}
 use Rattle.lus_reader.specs.Marks.{RefusesMark}
 use Rattle.lus_reader.proofs.Cuts.{default, mark_at}
 
-all_read : (limit' j l : ℕ) (s : Stream) (m : Counts) (x : Syntax) → j ≡ l → Text limit' j s program 0 j none_before m x → Text limit' l s program 0 l none_before m x
+all_read : (limit' j l : ℕ) (s : Stream) (m : Counts) (x : Syntax) → j ≡ l → Text limit' j s program 0 j none_before m x
+    → Text limit' l s program 0 l none_before m x
 all_read limit' j l s m x e d = subst (λ (z : ℕ). Text limit' z s program 0 z none_before m x) e d
 
 -- all tokens are read
-pub is_source : (bytes : List ℕ) (ts : List Tok) (j : ℕ) (m : Counts) (p : Program) → AreTokens bytes ts → Reads program_of (stream bytes ts) program 0 none_before j m p → j ≡ length ts → IsSource bytes p
+pub is_source : (bytes : List ℕ) (ts : List Tok) (j : ℕ) (m : Counts) (p : Program) → AreTokens bytes ts → Reads program_of
+    (stream bytes ts) program 0 none_before j m p → j ≡ length ts → IsSource bytes p
 is_source bytes ts j m p cut r e = record {
   tokens = ts;
   cut = cut;
@@ -53,7 +55,8 @@ is_outside bytes ts r cut (stopped {c = c} {k = k} q e w) = inr (outside (record
 some_class : (bytes : List ℕ) (ts : List Tok) (j : ℕ) → j < length ts → (stream bytes ts j).class ≡ None → ⊥
 some_class bytes ts j lt e = let h = ap (λ z. z.class) (mark_at bytes ts j default lt) in cc
 
-first_read : (bytes : List ℕ) (ts : List Tok) (j : ℕ) (m : Counts) (x : Syntax) → j < length ts → Whole limit (stream bytes ts) program 0 none_before j m x → IsFirst (stream bytes ts) j unexpected
+first_read : (bytes : List ℕ) (ts : List Tok) (j : ℕ) (m : Counts) (x : Syntax) → j < length ts → Whole limit
+    (stream bytes ts) program 0 none_before j m x → IsFirst (stream bytes ts) j unexpected
 first_read bytes ts j m x lt w = (
   record { t = stream bytes ts; j = j; m = m; x = x; agree = λ k le. refl; past = omega arith; text = w.text },
   w.no_more,
@@ -61,7 +64,8 @@ first_read bytes ts j m x lt w = (
 )
 
 -- a token stands behind the declarations
-pub is_behind : (bytes : List ℕ) (ts : List Tok) (j : ℕ) (m : Counts) (p : Program) (r : Refused) → AreTokens bytes ts → Reads program_of (stream bytes ts) program 0 none_before j m p → j < length ts → RefusesMark (stream bytes ts) j r → IsRefusal bytes r
+pub is_behind : (bytes : List ℕ) (ts : List Tok) (j : ℕ) (m : Counts) (p : Program) (r : Refused) → AreTokens bytes ts → Reads program_of
+    (stream bytes ts) program 0 none_before j m p → j < length ts → RefusesMark (stream bytes ts) j r → IsRefusal bytes r
 is_behind bytes ts j m p r cut a lt (inl e) = inl e
 is_behind bytes ts j m p r cut a lt (inr h) = inr (outside (record {
   tokens = ts;

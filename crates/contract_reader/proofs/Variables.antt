@@ -22,10 +22,12 @@ use Rattle.contract_reader.proofs.Leads.{into, behind, behind_token, this_by, th
 abbrev pub group : Phrase
 group = part LocalGroup ⨾ semicolon
 
-pub into_variables : (s : Stream) (i : ℕ) (n : Counts) → (s i).class ≡ Some (C.Keyword K.Var) → Leads s (part Locals) i n (part LocalGroup ⨾ semicolon ⨾ repeated group) (i + 1) n (λ x. node Locals (this (leaf (s i) · x)))
+pub into_variables : (s : Stream) (i : ℕ) (n : Counts) → (s i).class ≡ Some (C.Keyword K.Var) → Leads s (part Locals) i n
+    (part LocalGroup ⨾ semicolon ⨾ repeated group) (i + 1) n (λ x. node Locals (this (leaf (s i) · x)))
 into_variables s i n e = behind_token (this_by into e refl) (inl e)
 
-pub into_constant : (s : Stream) (i : ℕ) (n : Counts) → (s i).class ≡ Some (C.Keyword K.Const) → Leads s (part Locals) i n (part P.Constant) i n (λ x. node Locals (that x))
+pub into_constant : (s : Stream) (i : ℕ) (n : Counts) → (s i).class ≡ Some (C.Keyword K.Const) → Leads s (part Locals) i n
+    (part P.Constant) i n (λ x. node Locals (that x))
 into_constant s i n e = that_by into e refl
 
 -- the streams stand behind `before`, and make `now` so far
@@ -50,7 +52,8 @@ module _ {s : Stream} {i : ℕ} {n : Counts} where
     is_too = λ x rest. refl;
   }
 
-  pub next_group : {j k : ℕ} {before now now' : List Variable} → SoFar s i n j before now → Enters s j group → IsGroup s j n k now now' → SoFar s i n k before now'
+  pub next_group : {j k : ℕ} {before now now' : List Variable} → SoFar s i n j before now → Enters s j group → IsGroup s j n k now now'
+      → SoFar s i n k before now'
   next_group {before = before} {now = now} {now' = now'} l e g = record {
     f = _;
     leads = once_more l.leads e (both g.run g.ends);
@@ -58,7 +61,8 @@ module _ {s : Stream} {i : ℕ} {n : Counts} where
     is_too = λ x rest. l.is_too _ rest;
   }
 
-  pub all_groups : {j : ℕ} {before now : List Variable} → SoFar s i n j before now → Passes s j group → (cs : List Constant) → GrowsBoth local_variables_of local_constants_of s (part Locals) i n j n before now cs cs
+  pub all_groups : {j : ℕ} {before now : List Variable} → SoFar s i n j before now → Passes s j group → (cs : List Constant)
+      → GrowsBoth local_variables_of local_constants_of s (part Locals) i n j n before now cs cs
   all_groups {now = now} l e cs = record {
     syntax = _;
     run = ends_many l.leads e;
@@ -67,10 +71,13 @@ module _ {s : Stream} {i : ℕ} {n : Counts} where
   }
 
 -- a constant behind others
-more : (old new : List Definition) (v : Definition) (cs rest : List Constant) → new ≡ old ++ v ∷ [] → definition_view v ∷ [] ≡ cs → map definition_view old ++ (cs ++ rest) ≡ map definition_view new ++ rest
+more : (old new : List Definition) (v : Definition) (cs rest : List Constant) → new ≡ old ++ v ∷ [] → definition_view v ∷ [] ≡ cs
+    → map definition_view old ++ (cs ++ rest) ≡ map definition_view new ++ rest
 more old new v cs rest e h = rw (e, map_push, ← h) (simp append_assoc)
 
-pub adds_constant : {s : Stream} {i : ℕ} {n : Counts} {j : ℕ} {m : Counts} (v : Definition) (old new : List Definition) (vs : List Variable) → (s i).class ≡ Some (C.Keyword K.Const) → Reads constants_of s (part P.Constant) i n j m (definition_view v ∷ []) → new ≡ old ++ v ∷ [] → GrowsBoth local_variables_of local_constants_of s (part Locals) i n j m vs vs (map definition_view old) (map definition_view new)
+pub adds_constant : {s : Stream} {i : ℕ} {n : Counts} {j : ℕ} {m : Counts} (v : Definition) (old new : List Definition) (vs : List Variable)
+    → (s i).class ≡ Some (C.Keyword K.Const) → Reads constants_of s (part P.Constant) i n j m (definition_view v ∷ []) → new ≡ old ++ v ∷ []
+    → GrowsBoth local_variables_of local_constants_of s (part Locals) i n j m vs vs (map definition_view old) (map definition_view new)
 adds_constant {s} {i} {n} v old new vs e r h = record {
   syntax = _;
   run = (into_constant s i n e).reads _ _ _ r.run;

@@ -24,13 +24,15 @@ pub record Adds {A : Type 0} (value : Syntax → List A) (s : Stream) (g : Phras
   pub is : (rest : Syntax) → value (some syntax rest) ≡ vs ++ value rest
 
 -- a reading of the phrase from i comes to j, and what it gives stands behind `before` and makes `after`
-pub record Grows {A : Type 0} (value : Syntax → List A) (s : Stream) (g : Phrase) (i : ℕ) (n : Counts) (j : ℕ) (m : Counts) (before after : List A) : Type 0 where
+pub record Grows {A : Type 0} (value : Syntax → List A) (s : Stream) (g : Phrase) (i : ℕ) (n : Counts) (j : ℕ) (m : Counts)
+    (before after : List A) : Type 0 where
   pub syntax : Syntax
   pub run : Run limit s g i n (read j m syntax)
   pub is : (rest : Syntax) → before ++ value (some syntax rest) ≡ after ++ value rest
 
 -- the same of two lists
-pub record GrowsBoth {A B : Type 0} (value : Syntax → List A) (other : Syntax → List B) (s : Stream) (g : Phrase) (i : ℕ) (n : Counts) (j : ℕ) (m : Counts) (before after : List A) (before' after' : List B) : Type 0 where
+pub record GrowsBoth {A B : Type 0} (value : Syntax → List A) (other : Syntax → List B) (s : Stream) (g : Phrase) (i : ℕ) (n : Counts)
+    (j : ℕ) (m : Counts) (before after : List A) (before' after' : List B) : Type 0 where
   pub syntax : Syntax
   pub run : Run limit s g i n (read j m syntax)
   pub is : (rest : Syntax) → before ++ value (some syntax rest) ≡ after ++ value rest

@@ -17,7 +17,7 @@ use Rattle.lus_grammar.specs.Syntax.{Counts, Syntax}
 use Rattle.lus_grammar.specs.Run.{Run, read}
 use Rattle.lus_grammar.specs.Source.{limit}
 use Rattle.lus_grammar.specs.Answers.{Refuses}
-use Rattle.lus_grammar.specs.Programs.{clauses_of, declarations_of, ensures_of, local_constants_of, local_variables_of, requires_of}
+use Rattle.lus_grammar.specs.Programs.{contract_statements_of, declarations_of, ensures_of, local_constants_of, local_variables_of, requires_of}
 use Rattle.lus_reader.specs.declared.counts.Counts.{Counts as CountsCode}
 use Rattle.lus_reader.specs.View.{counts_view}
 use Rattle.contract_reader.specs.declared.locals.Locals.{Locals}
@@ -28,7 +28,7 @@ use Rattle.contract_reader.specs.Parts.{Adds, GrowsBoth, IsGroup, IsHead, IsNode
 -- an item of a contract stands from i up to j
 abbrev pub ReadsContractItem : List ℕ → List Token → ℕ → CountsCode → ℕ → CountsCode → ContractItem → Type 0
 ReadsContractItem bytes tokens i n j m item =
-    Adds clauses_of (stream bytes tokens) (part P.ContractItem) i (counts_view n) j (counts_view m) (contract_item_view item ∷ [])
+    Adds contract_statements_of (stream bytes tokens) (part P.ContractItem) i (counts_view n) j (counts_view m) (contract_item_view item ∷ [])
 
 -- a declaration stands from i up to j
 abbrev pub ReadsDeclaration : List ℕ → List Token → ℕ → ℕ → Decl → Type 0

@@ -1,6 +1,6 @@
 -- What is made of parts of lines.
 use Rattle.std.specs.Prelude.{Bool, true, false, List, ◌++◌, Option}
-use Rattle.lus_tree.specs.Tree.{Variable, Constant, Labelled, Clause}
+use Rattle.lus_tree.specs.Tree.{Variable, Constant, Labelled, ContractStatement}
 use Rattle.lus_lexer.specs.declared.token.Class.{Class}
 use Rattle.lus_lexer.specs.declared.token.Class.TheVariants as C
 use Rattle.lus_lexer.specs.declared.token.Keyword.TheVariants as K
@@ -45,5 +45,5 @@ abbrev pub behind : {A : Type 0} → (Syntax → List A) → List A → Syntax �
 behind value xs x = xs ++ value x
 
 -- a contract that is there
-abbrev pub enclosed_of : Syntax → Option (List Clause)
+abbrev pub enclosed_of : Syntax → Option (List ContractStatement)
 enclosed_of x = contract_of (present x)

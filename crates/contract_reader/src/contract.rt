@@ -5,7 +5,7 @@ ghost use Rattle.lus_tree.specs.View.{contract_item_view, contract_view};
 ghost use Rattle.lus_grammar.specs.Stream.{stream};
 ghost use Rattle.lus_grammar.specs.Phrase as P;
 ghost use Rattle.lus_grammar.specs.Phrase.{part, optional, repeated};
-ghost use Rattle.lus_grammar.specs.Programs.{clauses_of, contract_of};
+ghost use Rattle.lus_grammar.specs.Programs.{contract_statements_of, contract_of};
 ghost use Rattle.lus_grammar.specs.Source.{AreTokens};
 ghost use Rattle.contract_reader.specs.Begin.{contract_item_class};
 ghost use Rattle.contract_reader.specs.Values.{closing_of, enclosed_of};
@@ -91,7 +91,7 @@ pub fn read_contract_items(
     requires small { length bytes.now ≤ 1048576 }
     requires few { length tokens.now ≤ 1048576 }
     requires inside { at ≤ length tokens.now }
-    ensures run { IfOk result (λ r. ReadsFrom clauses_of bytes.now tokens.now
+    ensures run { IfOk result (λ r. ReadsFrom contract_statements_of bytes.now tokens.now
         (repeated (part P.ContractItem)) at counts.old r.1 counts.new (map contract_item_view r.0.items)) }
     ensures stop { IfErr result (λ e. RefusesFrom bytes.now tokens.now
         (repeated (part P.ContractItem)) at counts.old e) }

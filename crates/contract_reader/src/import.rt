@@ -16,7 +16,7 @@ ghost use Rattle.contract_reader.specs.Told.{ReadsContractItem};
 use crate::begin::{begins_expression, is_comma, is_name};
 use lus_lexer::{Class, Keyword, Sign, Token};
 use lus_reader::{Counts, class_at, expect, identifier, names, out_of_memory, push, read_expr};
-use lus_tree::{ContractItem, Expr, Refusal, Word};
+use lus_tree::{ContractItem, Expr, PlacedName, Refusal};
 use std::alloc::Global;
 
 /// `"import" ID "(" [ exprs ] ")" "returns" "(" [ names ] ")" ";"`
@@ -115,7 +115,7 @@ fn read_outputs(
     tokens: &[Token],
     bytes: &[u8],
     at: u32,
-) -> Result<(Vec<Word>, u32), Refusal>
+) -> Result<(Vec<PlacedName>, u32), Refusal>
     requires cut { AreTokens bytes.now tokens.now }
     requires small { length bytes.now ≤ 1048576 }
     requires few { length tokens.now ≤ 1048576 }
@@ -138,7 +138,7 @@ fn read_optional_names(
     tokens: &[Token],
     bytes: &[u8],
     at: u32,
-) -> Result<(Vec<Word>, u32), Refusal>
+) -> Result<(Vec<PlacedName>, u32), Refusal>
     requires cut { AreTokens bytes.now tokens.now }
     requires small { length bytes.now ≤ 1048576 }
     requires few { length tokens.now ≤ 1048576 }

@@ -18,13 +18,13 @@ use crate::contract::{read_contract, read_contract_items};
 use crate::locals::{Locals, read_locals};
 use lus_lexer::{Class, Keyword, Sign, Token};
 use lus_reader::{Counts, class_at, expect, identifier, parameters, read_body};
-use lus_tree::{ContractNode, Item, Node, Param, Refusal, Word};
+use lus_tree::{ContractNode, Item, Node, Param, PlacedName, Refusal};
 use std::alloc::Global;
 
 /// What nodes and contract nodes begin with.
 #[derive(Drop)]
 pub struct Head {
-    pub name: Word,
+    pub name: PlacedName,
     pub inputs: Vec<Param>,
     pub outputs: Vec<Param>,
 }

@@ -23,7 +23,8 @@ pub fn at_instant(
 ) -> Result<Answer, DecideFault>
     requires ready { IsReady (system_view system.now) }
     requires named { property < length (system_view system.now).properties }
-    ensures answer { IfOk result (λ a. IsAnswered (system_view system.now) (base property instant) [] budgets (answer_view a)) }
+    ensures answer { IfOk result (λ a. IsAnswered (system_view system.now) (base property instant) [] budgets
+        (answer_view a)) }
     ensures stops { IfOk result (λ a. StopsByConflicts (answer_view a)) }
 {
     boolean_queries_have_no_atoms();
@@ -40,7 +41,8 @@ pub fn after_one(
 ) -> Result<Answer, DecideFault>
     requires ready { IsReady (system_view system.now) }
     requires named { property < length (system_view system.now).properties }
-    ensures answer { IfOk result (λ a. IsAnswered (system_view system.now) (step property 1) [] budgets (answer_view a)) }
+    ensures answer { IfOk result (λ a. IsAnswered (system_view system.now) (step property 1) [] budgets
+        (answer_view a)) }
     ensures stops { IfOk result (λ a. StopsByConflicts (answer_view a)) }
 {
     boolean_queries_have_no_atoms();

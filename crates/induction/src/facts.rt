@@ -88,7 +88,8 @@ pub fn held(
     requires step { IsStep (system_view system.now) property 1 [] (proof_view step.now) }
     ensures system { IfOk result (λ h. held_machine h ≡ system_view system.now) }
     ensures property { IfOk result (λ h. held_property h ≡ property) }
-    ensures holds { IfOk result (λ _. HoldsReachably (system_view system.now) (property_term (system_view system.now) property)) }
+    ensures holds { IfOk result (λ _. HoldsReachably (system_view system.now)
+        (property_term (system_view system.now) property)) }
 {
     facts_are_true();
     let proofs = vec![in alloc; first]?;

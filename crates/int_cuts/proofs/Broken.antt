@@ -141,8 +141,10 @@ module _ (s : State) (x n : ℕ) (row : List (ℕ × ℤ)) (parts : List Part) (
       let b = row-zero in
       let c : entry row x *ℤ p.tops x ≡ neg_ℤ (pos (suc n) *ℤ p.tops x) = ap (λ z. z *ℤ p.tops x) own ∙ neg_times (pos (suc n)) (p.tops x) in
       let o = r.1 in
-      let g : limits (multipliers_of parts) (bounds_of parts) *ℤ p.bottom ≡ pos (suc n) *ℤ (q *ℤ p.bottom) = ap (λ z. z *ℤ p.bottom) e ∙ times_times (pos (suc n)) q p.bottom in
-      let m : pos (suc n) *ℤ (q *ℤ p.bottom +ℤ p.tops x) ≡ pos (suc n) *ℤ (q *ℤ p.bottom) +ℤ pos (suc n) *ℤ p.tops x = sum_times (pos (suc n)) (q *ℤ p.bottom) (p.tops x) in
+      let g : limits (multipliers_of parts) (bounds_of parts) *ℤ p.bottom ≡ pos (suc n) *ℤ (q *ℤ p.bottom) = ap (λ z. z *ℤ p.bottom) e
+      ∙ times_times (pos (suc n)) q p.bottom in
+      let m : pos (suc n) *ℤ (q *ℤ p.bottom +ℤ p.tops x) ≡ pos (suc n) *ℤ (q *ℤ p.bottom) +ℤ pos (suc n) *ℤ p.tops x = sum_times
+      (pos (suc n)) (q *ℤ p.bottom) (p.tops x) in
       let w : q *ℤ p.bottom +ℤ p.tops x ≡ r.0 *ℤ p.bottom
       = same_multiple (pos (suc n)) (q *ℤ p.bottom +ℤ p.tops x) (r.0 *ℤ p.bottom) (λ z. absurd (omega (arith, ints))) (omega (arith, ints)) in
       let u : (r.0 +ℤ neg_ℤ q) *ℤ p.bottom ≡ r.0 *ℤ p.bottom +ℤ neg_ℤ q *ℤ p.bottom = times_sum r.0 (neg_ℤ q) p.bottom in
@@ -152,9 +154,11 @@ module _ (s : State) (x n : ℕ) (row : List (ℕ × ℤ)) (parts : List Part) (
       let i : p.bottom *ℤ broken.0.0 ≡ p.bottom *ℤ ((r.0 +ℤ neg_ℤ q) *ℤ broken.0.1) =
       *ℤ_comm p.bottom broken.0.0 ∙ sym (h.same x broken.0 broken.1) ∙ ap (λ z. z *ℤ broken.0.1) (y ∙ *ℤ_comm (r.0 +ℤ neg_ℤ q) p.bottom)
       ∙ times_times p.bottom (r.0 +ℤ neg_ℤ q) broken.0.1 in
-      let k : broken.0.0 ≡ (r.0 +ℤ neg_ℤ q) *ℤ broken.0.1 = same_multiple p.bottom broken.0.0 ((r.0 +ℤ neg_ℤ q) *ℤ broken.0.1) (not-zero p.bottom h.positive) i in
+      let k : broken.0.0 ≡ (r.0 +ℤ neg_ℤ q) *ℤ broken.0.1 = same_multiple p.bottom broken.0.0 ((r.0 +ℤ neg_ℤ q) *ℤ broken.0.1)
+      (not-zero p.bottom h.positive) i in
       let P : ℤ × ℤ → Type 0 = λ f. IsFraction f in
-      let f = subst P (get_or_from_slice_get s.values x broken.0 broken.0 broken.1) (sound.fractions x broken.0 (slice_get_within s.values x broken.0 broken.1)) in
+      let f = subst P (get_or_from_slice_get s.values x broken.0 broken.0 broken.1)
+      (sound.fractions x broken.0 (slice_get_within s.values x broken.0 broken.1)) in
       broken.2 (one-divisor (r.0 +ℤ neg_ℤ q) broken.0.0 broken.0.1 f k)
 
   -- the divisor times the sum of the terms is the right side
@@ -165,7 +169,8 @@ module _ (s : State) (x n : ℕ) (row : List (ℕ × ℤ)) (parts : List Part) (
   terms-sum rows terms wt wb at sums =
       let a = row_sum terms p.tops s.columns (row-below s.columns terms wt) in
       let b = summed-times (pos (suc n)) (entry terms) p.tops s.columns in
-      let c = summed_same (λ c. weight (multipliers_of parts) (bounds_of parts) c +ℤ combined rows s.given c) (λ c. pos (suc n) *ℤ entry terms c) p.tops sums s.columns in
+      let c = summed_same (λ c. weight (multipliers_of parts) (bounds_of parts) c +ℤ combined rows s.given c)
+      (λ c. pos (suc n) *ℤ entry terms c) p.tops sums s.columns in
       let d = summed-both (weight (multipliers_of parts) (bounds_of parts)) (combined rows s.given) p.tops s.columns in
       let e = weight-sum (multipliers_of parts) (bounds_of parts) p.tops s.columns (bounds-below s.columns (bounds_of parts) wb) in
       let f = left-sides (multipliers_of parts) (bounds_of parts) p.tops p.bottom (λ k y l. stands _ _ (at k y l)) in
@@ -191,7 +196,8 @@ module _ (s : State) (x n : ℕ) (row : List (ℕ × ℤ)) (parts : List Part) (
       ∙ times_times (pos (suc n)) (int_div_euclid (limits (multipliers_of parts) (bounds_of parts)) (pos (suc n))) p.bottom in
       let g : p.bottom *ℤ limits (multipliers_of parts) (bounds_of parts) ≡ limits (multipliers_of parts) (bounds_of parts) *ℤ p.bottom
       = *ℤ_comm p.bottom (limits (multipliers_of parts) (bounds_of parts)) in
-      less-times n (int_div_euclid (limits (multipliers_of parts) (bounds_of parts)) (pos (suc n)) *ℤ p.bottom) (sum_of p.tops terms) (omega (arith, ints)) where
+      less-times n (int_div_euclid (limits (multipliers_of parts) (bounds_of parts)) (pos (suc n)) *ℤ p.bottom) (sum_of p.tops terms)
+      (omega (arith, ints)) where
         above : (r : ℤ) → pos 0 ≤ℤ r → r ≢ pos 0 → pos 0 <ℤ r
         above (pos zero) l n = absurd (n refl)
         above (pos (suc k)) l n = omega (arith, ints)

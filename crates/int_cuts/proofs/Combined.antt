@@ -90,11 +90,13 @@ put-nothing x t (r ∷ rows) c h =
     = ap (λ z. z *ℤ entry r c) (only-there x (last_column r) t (λ e. h 0 r refl (sym e))) ∙ zero-*ℤ (entry r c) in
     omega (arith, ints)
 
-not-first : (r g : List (ℕ × ℤ)) (rows : List (List (ℕ × ℤ))) (k : ℕ) → AllDiffer (last_columns (r ∷ rows)) → slice_get rows k ≡ Some g → last_column g ≢ last_column r
+not-first : (r g : List (ℕ × ℤ)) (rows : List (List (ℕ × ℤ))) (k : ℕ) → AllDiffer (last_columns (r ∷ rows)) → slice_get rows k ≡ Some g
+    → last_column g ≢ last_column r
 not-first r g rows k d e q = d.0 (let P : ℕ → Type 0 = λ c. Contains (last_columns rows) c in
     subst P q (listed_at (last_columns rows) k (last_column g) (mapped_at last_column rows k g e)))
 
-put-row : (x : ℕ) (t : ℤ) (rows : List (List (ℕ × ℤ))) (c k : ℕ) (g : List (ℕ × ℤ)) → AllDiffer (last_columns rows) → slice_get rows k ≡ Some g → last_column g ≡ x
+put-row : (x : ℕ) (t : ℤ) (rows : List (List (ℕ × ℤ))) (c k : ℕ) (g : List (ℕ × ℤ)) → AllDiffer (last_columns rows)
+    → slice_get rows k ≡ Some g → last_column g ≡ x
     → put_in (only x t) rows c ≡ t *ℤ entry g c
 put-row x t [] c k g d e q = absurd cc
 put-row x t (r ∷ rows) c zero g d e q =
@@ -136,7 +138,8 @@ one-column given columns x c t (Some k) a (g, e, q) =
           omega (arith, ints)
       by (inr h) p =
           let m = only-there x c t (other_if x c h) in
-          let r : t *ℤ coefficient_by given x (Some k) c ≡ t *ℤ entry g c = ap (λ b. t *ℤ cond b (pos 0) (entry (row_of (slice_get given k)) c)) h ∙ ap (λ z. t *ℤ z) entry-is in
+          let r : t *ℤ coefficient_by given x (Some k) c ≡ t *ℤ entry g c = ap
+          (λ b. t *ℤ cond b (pos 0) (entry (row_of (slice_get given k)) c)) h ∙ ap (λ z. t *ℤ z) entry-is in
           omega (arith, ints)
 
 turned-product : (side : Bool) (m f : ℤ) → turned side (m *ℤ f) ≡ turned side m *ℤ f
@@ -176,7 +179,8 @@ sums_left given columns a (p ∷ parts) d c =
       join x y d s w t v u a b e f = omega (arith, ints)
 
 -- in the last column of a given row nothing is left
-pub none_left : (given : List (List (ℕ × ℤ))) (columns : ℕ) → AreGiven given columns → (f : ℕ → ℤ) (c : ℕ) → Contains (last_columns given) c → f c +ℤ put_in f given c ≡ pos 0
+pub none_left : (given : List (List (ℕ × ℤ))) (columns : ℕ) → AreGiven given columns → (f : ℕ → ℤ) (c : ℕ) → Contains (last_columns given) c
+    → f c +ℤ put_in f given c ≡ pos 0
 none_left given columns a f c i =
     let j = at_listed (last_columns given) c i in
     let s = place-of given j.0 c j.1 in

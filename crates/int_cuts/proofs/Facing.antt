@@ -105,7 +105,8 @@ none-facing : (s : State) (x : ℕ) (down : Bool) (row : List (ℕ × ℤ)) → 
 none-facing s x false row f c n h = f c n (λ z. h (ap (λ r. entry r c) (same-facing row) ∙ z))
 none-facing s x true row f c n h = f c n (λ z. h (entry-facing row c ∙ ap neg_ℤ z))
 
-own-facing : (x : ℕ) (row : List (ℕ × ℤ)) (down : Bool) (d : ℤ) → d ≡ pos (unsigned_abs (entry row x)) → (down ≡ true → pos 0 <ℤ entry row x) → (down ≡ false → entry row x ≤ℤ pos 0)
+own-facing : (x : ℕ) (row : List (ℕ × ℤ)) (down : Bool) (d : ℤ) → d ≡ pos (unsigned_abs (entry row x)) →
+    (down ≡ true → pos 0 <ℤ entry row x) → (down ≡ false → entry row x ≤ℤ pos 0)
     → entry (map (facing down) row) x ≡ neg_ℤ d
 own-facing x row true d e f g = entry-facing row x ∙ ap neg_ℤ (up (entry row x) (f refl) ∙ sym e) where
   up : (z : ℤ) → pos 0 <ℤ z → z ≡ pos (unsigned_abs z)
@@ -126,7 +127,8 @@ pub record IsFacing (s : State) (x n : ℕ) (row : List (ℕ × ℤ)) : Type 0 w
   pub stood : Stood s x row
   pub own : entry row x ≡ neg_ℤ (pos (suc n))
 
-pub is_facing : (s : State) (x n : ℕ) (row : List (ℕ × ℤ)) (down : Bool) → IsRowOf s x row → NoneLooseIn s row x → pos (suc n) ≡ pos (unsigned_abs (entry row x))
+pub is_facing : (s : State) (x n : ℕ) (row : List (ℕ × ℤ)) (down : Bool) → IsRowOf s x row → NoneLooseIn s row x → pos (suc n) ≡ pos
+    (unsigned_abs (entry row x))
     → (down ≡ true → pos 0 <ℤ entry row x) → (down ≡ false → entry row x ≤ℤ pos 0) → IsFacing s x n (map (facing down) row)
 is_facing s x n row down r f e g h = record {
   is_row = facing_row s.given s.basis x row down r.is_row;
@@ -137,11 +139,14 @@ is_facing s x n row down r f e g h = record {
   own = own-facing x row down (pos (suc n)) e g h;
 }
 
-pub cut_is : (s : State) (x : ℕ) (d : ℤ) (row : List (ℕ × ℤ)) (down : Bool) (parts : List Part) (line : Sum) (atom : Inequality) → pos 0 <ℤ d → IsSound s → AreOnRows s
+pub cut_is : (s : State) (x : ℕ) (d : ℤ) (row : List (ℕ × ℤ)) (down : Bool) (parts : List Part) (line : Sum) (atom : Inequality)
+    → pos 0 <ℤ d → IsSound s → AreOnRows s
     → IsRowOf s x row → NoneLooseIn s row x → IsBroken s.values x → d ≡ pos (unsigned_abs (entry row x))
-    → (down ≡ true → pos 0 <ℤ entry row x) → (down ≡ false → entry row x ≤ℤ pos 0) → AreParts s x d (map (facing down) row) parts → IsMadeOf s parts d line atom → IsCut s x line atom
+    → (down ≡ true → pos 0 <ℤ entry row x) → (down ≡ false → entry row x ≤ℤ pos 0) → AreParts s x d (map (facing down) row) parts
+    → IsMadeOf s parts d line atom → IsCut s x line atom
 cut_is s x (pos zero) row down parts line atom p sound on r f b e g h a m = absurd (omega (arith, ints))
 cut_is s x (negsuc n) row down parts line atom p sound on r f b e g h a m = absurd (omega (arith, ints))
 cut_is s x (pos (suc n)) row down parts line atom p sound on r f b e g h a m =
     let i = is_facing s x n row down r f e g h in
-    is_cut s x n (map (facing down) row) parts sound on i.is_row i.differ i.within i.none i.stood i.own b a atom.terms m.terms line atom m.line_parts m.divisor refl m.bound
+    is_cut s x n (map (facing down) row) parts sound on i.is_row i.differ i.within i.none i.stood i.own b a atom.terms m.terms line atom
+    m.line_parts m.divisor refl m.bound

@@ -126,7 +126,8 @@ all_multipliers s x d P f (t ∷ row) parts (inr (p, rest, e, i, a)) =
     subst Q (sym e) (All-cons P p.multiplier (multipliers_of rest) (f t p i) (all_multipliers s x d P f row rest a))
 
 -- a part's column is listed in the row
-part-listed : (s : State) (x : ℕ) (d : ℤ) (row : List (ℕ × ℤ)) (parts : List Part) (c : ℕ) → AreParts s x d row parts → Contains (map column_in (bounds_of parts)) c
+part-listed : (s : State) (x : ℕ) (d : ℤ) (row : List (ℕ × ℤ)) (parts : List Part) (c : ℕ) → AreParts s x d row parts → Contains
+    (map column_in (bounds_of parts)) c
     → Contains (map column_of row) c
 part-listed s x d [] parts c a i =
     let P : List Part → Type 0 = λ ps. Contains (map column_in (bounds_of ps)) c → ⊥ in
@@ -136,7 +137,8 @@ part-listed s x d (t ∷ row) parts c (inl (h, a)) i =
 part-listed s x d (t ∷ row) parts c (inr (p, rest, e, q, a)) i =
     let P : List Part → Type 0 = λ ps. Contains (map column_in (bounds_of ps)) c in
     by (part-listed s x d row rest c a) (at_listed (map column_in (bounds_of (p ∷ rest))) c (subst P e i)) where
-      by : (Contains (map column_in (bounds_of rest)) c → Contains (map column_of row) c) → (k : ℕ) × (slice_get (map column_in (bounds_of (p ∷ rest))) k ≡ Some c)
+      by : (Contains (map column_in (bounds_of rest)) c → Contains (map column_of row) c) → (k : ℕ) ×
+          (slice_get (map column_in (bounds_of (p ∷ rest))) k ≡ Some c)
           → Contains (map column_of (t ∷ row)) c
       by f (zero, w) =
           let z : p.column ≡ c = same_some p.column c w in

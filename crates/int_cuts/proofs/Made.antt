@@ -80,17 +80,20 @@ module _ (s : State) (x n : ℕ) (row : List (ℕ × ℤ)) (parts : List Part) (
       λ k. is_row.entries k ∙ c k ∙ ap (λ ms. combined ms s.given k) (reads (entry row) (combined is_row.multipliers s.given) is_row.entries s.given)
 
   -- what is left of the bounds is a multiple of the divisor
-  left : (c : ℕ) → Multiple (pos (suc n)) (weight (multipliers_of parts) (bounds_of parts) c +ℤ put_in (weight (multipliers_of parts) (bounds_of parts)) s.given c)
+  left : (c : ℕ) → Multiple (pos (suc n)) (weight (multipliers_of parts) (bounds_of parts) c +ℤ put_in
+      (weight (multipliers_of parts) (bounds_of parts)) s.given c)
   left = left_multiple s.given (pos (suc n)) (weight (multipliers_of parts) (bounds_of parts)) (entry row) combination
       (whole s x n row parts are owned stood)
 
   module _ (terms : List (ℕ × ℤ)) (made : IsMadeTo s.columns (λ c. int_div_euclid (sum_by s.given (Some c) parts) (pos (suc n))) terms) where
-    sums : (c : ℕ) → weight (multipliers_of parts) (bounds_of parts) c +ℤ put_in (weight (multipliers_of parts) (bounds_of parts)) s.given c ≡ pos (suc n) *ℤ entry terms c
+    sums : (c : ℕ) → weight (multipliers_of parts) (bounds_of parts) c +ℤ put_in
+        (weight (multipliers_of parts) (bounds_of parts)) s.given c ≡ pos (suc n) *ℤ entry terms c
     sums c = by (side c s.columns) where
       side : (a b : ℕ) → (a < b) ⊎ (b ≤ a)
       side a b = grind arith
 
-      by : (c < s.columns) ⊎ (s.columns ≤ c) → weight (multipliers_of parts) (bounds_of parts) c +ℤ put_in (weight (multipliers_of parts) (bounds_of parts)) s.given c ≡ pos (suc n) *ℤ entry terms c
+      by : (c < s.columns) ⊎ (s.columns ≤ c) → weight (multipliers_of parts) (bounds_of parts) c +ℤ put_in
+          (weight (multipliers_of parts) (bounds_of parts)) s.given c ≡ pos (suc n) *ℤ entry terms c
       by (inl l) =
           let e = sums_left s.given s.columns sound.given parts (defined_by s x (pos (suc n)) row parts are) c in
           sym (exact_quotient n (weight (multipliers_of parts) (bounds_of parts) c +ℤ put_in (weight (multipliers_of parts) (bounds_of parts)) s.given c)
@@ -131,7 +134,8 @@ module _ (s : State) (x n : ℕ) (row : List (ℕ × ℤ)) (parts : List Part) (
       zero-rest : int_rem_euclid (pos 0) (pos (suc n)) ≡ pos 0
       zero-rest = multiple_rest n (pos 0) (pos 0, sym (*ℤ-zero (pos (suc n))))
 
-    follows : (atom : Inequality) → atom.terms ≡ terms → atom.bound ≡ int_div_euclid (sum_by s.given None parts) (pos (suc n)) → FollowsBy s (bounds_of parts) line atom
+    follows : (atom : Inequality) → atom.terms ≡ terms → atom.bound ≡ int_div_euclid (sum_by s.given None parts) (pos (suc n)) → FollowsBy s
+        (bounds_of parts) line atom
     follows atom et eb =
         let P : List (ℕ × ℤ) → Type 0 = λ ts. FollowsBy s (bounds_of parts) line record { terms = ts; bound = atom.bound } in
         subst P (sym et) record {
@@ -144,8 +148,10 @@ module _ (s : State) (x n : ℕ) (row : List (ℕ × ℤ)) (parts : List Part) (
           in_order = sparse_in_order 0 s.columns terms made.sparse;
           entries = sparse_no_zero 0 s.columns terms made.sparse;
           undefined = undefined;
-          sums = λ c. ap (λ ms. weight ms (bounds_of parts) c +ℤ put_in (weight (multipliers_of parts) (bounds_of parts)) s.given c) (line_multipliers parts) ∙ sums c;
-          rounded = eb ∙ ap (λ z. int_div_euclid z (pos (suc n))) (right_sides s.given parts ∙ ap (λ ms. limits ms (bounds_of parts)) (sym (line_multipliers parts)));
+          sums = λ c. ap (λ ms. weight ms (bounds_of parts) c +ℤ put_in (weight (multipliers_of parts) (bounds_of parts)) s.given c)
+              (line_multipliers parts) ∙ sums c;
+          rounded = eb ∙ ap (λ z. int_div_euclid z (pos (suc n))) (right_sides s.given parts ∙ ap (λ ms. limits ms (bounds_of parts))
+              (sym (line_multipliers parts)));
         } where
           low : (p : Part) (t : ℕ × ℤ) → IsPart s x (pos (suc n)) t p → pos 0 ≤ℤ p.multiplier
           low p t i =
@@ -169,7 +175,8 @@ module _ (s : State) (x n : ℕ) (row : List (ℕ × ℤ)) (parts : List Part) (
           break : (atom : Inequality) → atom.terms ≡ terms → atom.bound ≡ int_div_euclid (sum_by s.given None parts) (pos (suc n)) → BreakAtom s.values atom
           break atom et eb p h =
               let e = terms-sum s x n row parts sound on_rows is_row within own broken are owned stood p h
-              (map (λ r. weight (multipliers_of parts) (bounds_of parts) (last_column r)) s.given) terms (sparse_within 0 s.columns terms made.sparse) bounds-below bounds-at sums in
+              (map (λ r. weight (multipliers_of parts) (bounds_of parts) (last_column r)) s.given) terms
+              (sparse_within 0 s.columns terms made.sparse) bounds-below bounds-at sums in
               let b = breaks s x n row parts sound on_rows is_row within own broken are owned stood p h terms e in
               let R : ℤ → Type 0 = λ z. (z *ℤ p.bottom) <ℤ sum_of p.tops terms in
               let S : List (ℕ × ℤ) → Type 0 = λ ts. (atom.bound *ℤ p.bottom) <ℤ sum_of p.tops ts in

@@ -87,7 +87,8 @@ whole s x n (t ∷ row) parts (inl (h, a)) f g c =
     (whole s x n row parts a (λ k u e. f (suc k) u e) (λ k u e. g (suc k) u e) c) (none-multiple s x n t (f 0 t refl) (g 0 t refl) h)
 whole s x n (t ∷ row) parts (inr (p, rest, e, i, a)) f g c =
     let P : List Part → Type 0 = λ ps. Multiple (pos (suc n)) (weight (multipliers_of ps) (bounds_of ps) c +ℤ entry (t ∷ row) c) in
-    let Q : ℕ → Type 0 = λ k. Multiple (pos (suc n)) (cond (k == c) (turned p.upper p.multiplier +ℤ weight (multipliers_of rest) (bounds_of rest) c) (weight (multipliers_of rest) (bounds_of rest) c)
+    let Q : ℕ → Type 0 = λ k. Multiple (pos (suc n)) (cond (k == c)
+    (turned p.upper p.multiplier +ℤ weight (multipliers_of rest) (bounds_of rest) c) (weight (multipliers_of rest) (bounds_of rest) c)
     +ℤ cond (t.0 == c) (t.1 +ℤ entry row c) (entry row c)) in
     subst P (sym e) (subst Q (sym i.column)
     (step-part (pos (suc n)) (weight (multipliers_of rest) (bounds_of rest) c) (entry row c) t.1 (turned p.upper p.multiplier) (t.0 == c)
@@ -132,7 +133,8 @@ scaled-part d b side m l t v h e =
 
 module _ (s : State) (x n : ℕ) (b : ℤ) (v : ℕ → ℤ) (at : Stands s b v) where
   own-term : (row : List (ℕ × ℤ)) (t : ℕ × ℤ) (l : ℤ) (c : Bool) → (c ≡ false → Scaled (pos (suc n)) b (t.1 *ℤ v t.0))
-      → ((c ≡ true) ⊎ (c ≡ false)) → Scaled (pos (suc n)) b (l +ℤ rest_in x v row) → Scaled (pos (suc n)) b (l +ℤ cond c (rest_in x v row) (t.1 *ℤ v t.0 +ℤ rest_in x v row))
+      → ((c ≡ true) ⊎ (c ≡ false)) → Scaled (pos (suc n)) b (l +ℤ rest_in x v row) → Scaled (pos (suc n)) b
+      (l +ℤ cond c (rest_in x v row) (t.1 *ℤ v t.0 +ℤ rest_in x v row))
   own-term row t l true f w h = h
   own-term row t l false f w h =
       let q : (l +ℤ rest_in x v row) +ℤ t.1 *ℤ v t.0 ≡ l +ℤ (t.1 *ℤ v t.0 +ℤ rest_in x v row) = omega (arith, ints) in
@@ -158,8 +160,10 @@ module _ (s : State) (x n : ℕ) (b : ℤ) (v : ℕ → ℤ) (at : Stands s b v)
       ≡ (p.multiplier *ℤ turned p.upper p.limit) *ℤ b +ℤ limits (multipliers_of rest) (bounds_of rest) *ℤ b
       = times_sum (p.multiplier *ℤ turned p.upper p.limit) (limits (multipliers_of rest) (bounds_of rest)) b in
       let y : (limits (multipliers_of rest) (bounds_of rest) *ℤ b +ℤ rest_in x v row) +ℤ ((p.multiplier *ℤ turned p.upper p.limit) *ℤ b +ℤ t.1 *ℤ v t.0)
-      ≡ (p.multiplier *ℤ turned p.upper p.limit +ℤ limits (multipliers_of rest) (bounds_of rest)) *ℤ b +ℤ (t.1 *ℤ v t.0 +ℤ rest_in x v row) = omega (arith, ints) in
-      subst P (sym e) (subst (λ (w : Bool). Scaled (pos (suc n)) b ((p.multiplier *ℤ turned p.upper p.limit +ℤ limits (multipliers_of rest) (bounds_of rest)) *ℤ b
+      ≡ (p.multiplier *ℤ turned p.upper p.limit +ℤ limits (multipliers_of rest) (bounds_of rest)) *ℤ b +ℤ
+      (t.1 *ℤ v t.0 +ℤ rest_in x v row) = omega (arith, ints) in
+      subst P (sym e) (subst (λ (w : Bool). Scaled (pos (suc n)) b ((p.multiplier *ℤ turned p.upper p.limit +ℤ limits (multipliers_of rest)
+      (bounds_of rest)) *ℤ b
       +ℤ cond w (rest_in x v row) (t.1 *ℤ v t.0 +ℤ rest_in x v row))) (sym (is_other t.0 x i.other))
       (subst (Scaled (pos (suc n)) b) y (scaled_sum (pos (suc n)) b (limits (multipliers_of rest) (bounds_of rest) *ℤ b +ℤ rest_in x v row)
       ((p.multiplier *ℤ turned p.upper p.limit) *ℤ b +ℤ t.1 *ℤ v t.0) r q)))

@@ -91,13 +91,16 @@ place-listed given of (p ∷ parts) c i = by (by-test (is_zero (factor_of given 
 
   by : ((is_zero (factor_of given of p) ≡ true) ⊎ (is_zero (factor_of given of p) ≡ false))
       → (Contains (map place_in (products given of parts)) c → Contains (map column_in (bounds_of parts)) c)
-      → Contains (map place_in (cond (is_zero (factor_of given of p)) (products given of parts) (product given of (lower p.upper) p ∷ products given of parts))) c
+      → Contains (map place_in (cond (is_zero (factor_of given of p)) (products given of parts)
+      (product given of (lower p.upper) p ∷ products given of parts))) c
       → Contains (map column_in (bounds_of (p ∷ parts))) c
   by (inl h) f w =
-      let P : Bool → Type 0 = λ b. Contains (map place_in (cond b (products given of parts) (product given of (lower p.upper) p ∷ products given of parts))) c in
+      let P : Bool → Type 0 = λ b. Contains (map place_in (cond b (products given of parts)
+      (product given of (lower p.upper) p ∷ products given of parts))) c in
       later (f (subst P h w))
   by (inr h) f w =
-      let P : Bool → Type 0 = λ b. Contains (map place_in (cond b (products given of parts) (product given of (lower p.upper) p ∷ products given of parts))) c in
+      let P : Bool → Type 0 = λ b. Contains (map place_in (cond b (products given of parts)
+      (product given of (lower p.upper) p ∷ products given of parts))) c in
       at (at_listed (p.column ∷ map place_in (products given of parts)) c (subst P h w)) where
         at : (k : ℕ) × (slice_get (p.column ∷ map place_in (products given of parts)) k ≡ Some c) → Contains (map column_in (bounds_of (p ∷ parts))) c
         at (zero, e) = listed_at (map column_in (bounds_of (p ∷ parts))) 0 c e
@@ -108,7 +111,8 @@ products-differ : (given : List (List (ℕ × ℤ))) (of : Option ℕ) (parts : 
 products-differ given of [] d = tt
 products-differ given of (p ∷ parts) d = by (by-test (is_zero (factor_of given of p))) (products-differ given of parts d.1) where
   by : ((is_zero (factor_of given of p) ≡ true) ⊎ (is_zero (factor_of given of p) ≡ false)) → AllDiffer (map place_in (products given of parts))
-      → AllDiffer (map place_in (cond (is_zero (factor_of given of p)) (products given of parts) (product given of (lower p.upper) p ∷ products given of parts)))
+      → AllDiffer (map place_in (cond (is_zero (factor_of given of p)) (products given of parts)
+      (product given of (lower p.upper) p ∷ products given of parts)))
   by (inl h) i =
       let P : Bool → Type 0 = λ b. AllDiffer (map place_in (cond b (products given of parts) (product given of (lower p.upper) p ∷ products given of parts))) in
       subst P (sym h) i
@@ -117,7 +121,8 @@ products-differ given of (p ∷ parts) d = by (by-test (is_zero (factor_of given
       subst P (sym h) ((λ w. d.0 (place-listed given of parts p.column w)), i)
 
 -- one product more
-differ-more : (xs : List Product) (y : Product) → AllDiffer (map place_in xs) → (Contains (map place_in xs) y.place → ⊥) → AllDiffer (map place_in (xs ++ y ∷ []))
+differ-more : (xs : List Product) (y : Product) → AllDiffer (map place_in xs) → (Contains (map place_in xs) y.place → ⊥) → AllDiffer
+    (map place_in (xs ++ y ∷ []))
 differ-more [] y d n = ((λ (k, h, e). absurd (omega arith)), tt)
 differ-more (x ∷ xs) y d n = (
   (λ w. split (at_listed (map place_in (xs ++ y ∷ [])) x.place w)),
@@ -144,7 +149,8 @@ not-before : (parts : List Part) (k : ℕ) (p : Part) → AllDiffer (map column_
 not-before [] k p d e i = absurd cc
 not-before (q ∷ parts) zero p d e (k, h, g) = absurd (omega arith)
 not-before (q ∷ parts) (suc k) p d e i = by (at_listed (map column_in (bounds_of (take (suc k) (q ∷ parts)))) p.column i) (not-before parts k p d.1 e) where
-  by : (j : ℕ) × (slice_get (q.column ∷ map column_in (bounds_of (take k parts))) j ≡ Some p.column) → (Contains (map column_in (bounds_of (take k parts))) p.column → ⊥) → ⊥
+  by : (j : ℕ) × (slice_get (q.column ∷ map column_in (bounds_of (take k parts))) j ≡ Some p.column) →
+      (Contains (map column_in (bounds_of (take k parts))) p.column → ⊥) → ⊥
   by (zero, g) f =
       let c : q.column ≡ p.column = same_some q.column p.column g in
       let P : ℕ → Type 0 = λ y. Contains (map column_in (bounds_of parts)) y in
@@ -160,19 +166,22 @@ take-differ (p ∷ parts) zero d = tt
 take-differ (p ∷ parts) (suc k) d = ((λ w. d.0 (more parts k w)), take-differ parts k d.1) where
   more : (ps : List Part) (k : ℕ) → Contains (map column_in (bounds_of (take k ps))) p.column → Contains (map column_in (bounds_of ps)) p.column
   more ps k w = go ps k (at_listed (map column_in (bounds_of (take k ps))) p.column w) where
-    go : (ps : List Part) (k : ℕ) → (j : ℕ) × (slice_get (map column_in (bounds_of (take k ps))) j ≡ Some p.column) → Contains (map column_in (bounds_of ps)) p.column
+    go : (ps : List Part) (k : ℕ) → (j : ℕ) × (slice_get (map column_in (bounds_of (take k ps))) j ≡ Some p.column) → Contains
+        (map column_in (bounds_of ps)) p.column
     go [] zero (j, e) = absurd cc
     go [] (suc k) (j, e) = absurd cc
     go (q ∷ ps) zero (j, e) = absurd cc
     go (q ∷ ps) (suc k) (zero, e) = listed_at (map column_in (bounds_of (q ∷ ps))) 0 p.column e
-    go (q ∷ ps) (suc k) (suc j, e) = let w = at_listed (map column_in (bounds_of ps)) p.column (go ps k (j, e)) in listed_at (map column_in (bounds_of (q ∷ ps))) (suc w.0) p.column w.1
+    go (q ∷ ps) (suc k) (suc j, e) = let w = at_listed (map column_in (bounds_of ps)) p.column (go ps k (j, e)) in listed_at
+        (map column_in (bounds_of (q ∷ ps))) (suc w.0) p.column w.1
 
 -- the parts are those of terms of the row
 abbrev pub AreOfRow : State → ℕ → ℤ → List (ℕ × ℤ) → List Part → Type 0
 AreOfRow s x d row [] = Unit
 AreOfRow s x d row (p ∷ parts) = ((k : ℕ) × (t : ℕ × ℤ) × (slice_get row k ≡ Some t) × IsPart s x d t p) × AreOfRow s x d row parts
 
-of-row : (s : State) (x : ℕ) (d : ℤ) (full row : List (ℕ × ℤ)) (parts : List Part) → ((k : ℕ) (t : ℕ × ℤ) → slice_get row k ≡ Some t → (j : ℕ) × (slice_get full j ≡ Some t))
+of-row : (s : State) (x : ℕ) (d : ℤ) (full row : List (ℕ × ℤ)) (parts : List Part) →
+    ((k : ℕ) (t : ℕ × ℤ) → slice_get row k ≡ Some t → (j : ℕ) × (slice_get full j ≡ Some t))
     → AreParts s x d row parts → AreOfRow s x d full parts
 of-row s x d full [] parts f a = let P : List Part → Type 0 = λ ps. AreOfRow s x d full ps in subst P (sym a) tt
 of-row s x d full (t ∷ row) parts f (inl (h, a)) = of-row s x d full row parts (λ k u e. f (suc k) u e) a
@@ -182,16 +191,19 @@ of-row s x d full (t ∷ row) parts f (inr (p, rest, e, i, a)) =
     subst P (sym e) ((j.0, t, j.1, i), of-row s x d full row rest (λ k u e. f (suc k) u e) a)
 
 module _ (s : State) (x n : ℕ) (row : List (ℕ × ℤ)) (i : IsFacing s x n row) (no_zero : (k : ℕ) (t : ℕ × ℤ) → slice_get row k ≡ Some t → t.1 ≢ pos 0) where
-  factor-is : (of : Option ℕ) (t : ℕ × ℤ) (p : Part) → IsPart s x (pos (suc n)) t p → factor_of s.given of p ≢ pos 0 → IsFactor s p.column (factor_of s.given of p)
+  factor-is : (of : Option ℕ) (t : ℕ × ℤ) (p : Part) → IsPart s x (pos (suc n)) t p → factor_of s.given of p ≢ pos 0 → IsFactor s p.column
+      (factor_of s.given of p)
   factor-is None t p w f = inl (part_bound p, part_stands s x (pos (suc n)) t p w, refl, refl)
   factor-is (Some v) t p w f = by p.row (let P : ℕ → Type 0 = λ c. IsDefinedBy s.given c p.row in subst P (sym w.column) w.row) f where
-    by : (o : Option ℕ) → IsDefinedBy s.given p.column o → coefficient_by s.given p.column o v ≢ pos 0 → IsFactor s p.column (coefficient_by s.given p.column o v)
+    by : (o : Option ℕ) → IsDefinedBy s.given p.column o → coefficient_by s.given p.column o v ≢ pos 0 → IsFactor s p.column
+        (coefficient_by s.given p.column o v)
     by None d f = one (p.column == v) f where
       one : (b : Bool) → cond b (pos 1) (pos 0) ≢ pos 0 → IsFactor s p.column (cond b (pos 1) (pos 0))
       one true f = inr (inl refl)
       one false f = absurd (f refl)
     by (Some k) (g, e, q) f = one (p.column == v) f where
-      one : (b : Bool) → cond b (pos 0) (entry (row_of (slice_get s.given k)) v) ≢ pos 0 → IsFactor s p.column (cond b (pos 0) (entry (row_of (slice_get s.given k)) v))
+      one : (b : Bool) → cond b (pos 0) (entry (row_of (slice_get s.given k)) v) ≢ pos 0 → IsFactor s p.column
+          (cond b (pos 0) (entry (row_of (slice_get s.given k)) v))
       one true f = absurd (f refl)
       one false f = inr (inr (g, v, listed_at s.given k g e, q, ap (λ o. entry (row_of o) v) e))
 
@@ -212,12 +224,15 @@ module _ (s : State) (x n : ℕ) (row : List (ℕ × ℤ)) (i : IsFacing s x n r
   products-are of [] a = All-nil (IsCutProduct s row x)
   products-are of (p ∷ parts) a = by (by-test (is_zero (factor_of s.given of p))) (products-are of parts a.1) where
     by : ((is_zero (factor_of s.given of p) ≡ true) ⊎ (is_zero (factor_of s.given of p) ≡ false)) → All (IsCutProduct s row x) (products s.given of parts)
-        → All (IsCutProduct s row x) (cond (is_zero (factor_of s.given of p)) (products s.given of parts) (product s.given of (lower p.upper) p ∷ products s.given of parts))
+        → All (IsCutProduct s row x) (cond (is_zero (factor_of s.given of p)) (products s.given of parts)
+        (product s.given of (lower p.upper) p ∷ products s.given of parts))
     by (inl h) w =
-        let P : Bool → Type 0 = λ b. All (IsCutProduct s row x) (cond b (products s.given of parts) (product s.given of (lower p.upper) p ∷ products s.given of parts)) in
+        let P : Bool → Type 0 = λ b. All (IsCutProduct s row x) (cond b (products s.given of parts)
+        (product s.given of (lower p.upper) p ∷ products s.given of parts)) in
         subst P (sym h) w
     by (inr h) w =
-        let P : Bool → Type 0 = λ b. All (IsCutProduct s row x) (cond b (products s.given of parts) (product s.given of (lower p.upper) p ∷ products s.given of parts)) in
+        let P : Bool → Type 0 = λ b. All (IsCutProduct s row x) (cond b (products s.given of parts)
+        (product s.given of (lower p.upper) p ∷ products s.given of parts)) in
         subst P (sym h) (All-cons (IsCutProduct s row x) (product s.given of (lower p.upper) p) (products s.given of parts)
         (product-is of (lower p.upper) p a.0 (zero-not (factor_of s.given of p) h)) w)
 
@@ -249,8 +264,10 @@ module _ (s : State) (x n : ℕ) (row : List (ℕ × ℤ)) (i : IsFacing s x n r
       products s.given of (take k parts),
       product s.given of false p ∷ [],
       (
-        All-append (IsCutProduct s row x) (products s.given of (take k parts)) (product s.given of false p ∷ []) (products-are of (take k parts) (taken-of parts k of-full))
-            (All-cons (IsCutProduct s row x) (product s.given of false p) [] (product-is of false p (at-of parts k p of-full e) f) (All-nil (IsCutProduct s row x))),
+        All-append (IsCutProduct s row x) (products s.given of (take k parts)) (product s.given of false p ∷ [])
+            (products-are of (take k parts) (taken-of parts k of-full))
+            (All-cons (IsCutProduct s row x) (product s.given of false p) [] (product-is of false p (at-of parts k p of-full e) f)
+            (All-nil (IsCutProduct s row x))),
         differ-more (products s.given of (take k parts)) (product s.given of false p) (products-differ s.given of (take k parts) (take-differ parts k differ))
             (λ w. not-before parts k p differ e (place-listed s.given of (take k parts) p.column w)),
       ),
@@ -316,7 +333,8 @@ no-zero (u ∷ row) down h (suc k) t e z = no-zero row down (λ j d l. h (suc j)
 
 pub past_is : (s : State) (x : ℕ) (d : ℤ) (row : List (ℕ × ℤ)) (down : Bool) (parts : List Part) (past : Past) → pos 0 <ℤ d
     → IsRowOf s x row → NoneLooseIn s row x → d ≡ pos (unsigned_abs (entry row x))
-    → (down ≡ true → pos 0 <ℤ entry row x) → (down ≡ false → entry row x ≤ℤ pos 0) → AreParts s x d (map (facing down) row) parts → AreSumsPast s.given parts past → IsCutPast s x past
+    → (down ≡ true → pos 0 <ℤ entry row x) → (down ≡ false → entry row x ≤ℤ pos 0) → AreParts s x d (map (facing down) row) parts
+    → AreSumsPast s.given parts past → IsCutPast s x past
 past_is s x (pos zero) row down parts past p r f e g h a m = absurd (omega (arith, ints))
 past_is s x (negsuc n) row down parts past p r f e g h a m = absurd (omega (arith, ints))
 past_is s x (pos (suc n)) row down parts past p r f e g h a m =

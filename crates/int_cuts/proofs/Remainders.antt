@@ -65,12 +65,15 @@ opposite_rest (pos (suc m)) e r p h n =
     let l : pos 0 ≤ℤ int_rem_euclid e (pos (suc m)) = d.low in
     let u : int_rem_euclid e (pos (suc m)) <ℤ pos (suc m) = d.high in
     let q = int_div_euclid e (pos (suc m)) in
-    let a : pos (suc m) *ℤ (neg_ℤ (int_div_euclid e (pos (suc m))) +ℤ negsuc 0) ≡ pos (suc m) *ℤ neg_ℤ (int_div_euclid e (pos (suc m))) +ℤ pos (suc m) *ℤ negsuc 0
+    let a : pos (suc m) *ℤ (neg_ℤ (int_div_euclid e (pos (suc m))) +ℤ negsuc 0) ≡ pos (suc m) *ℤ neg_ℤ
+    (int_div_euclid e (pos (suc m))) +ℤ pos (suc m) *ℤ negsuc 0
     = sum_times (pos (suc m)) (neg_ℤ (int_div_euclid e (pos (suc m)))) (negsuc 0) in
-    let b : pos (suc m) *ℤ neg_ℤ (int_div_euclid e (pos (suc m))) ≡ neg_ℤ (pos (suc m) *ℤ int_div_euclid e (pos (suc m))) = times_neg (pos (suc m)) (int_div_euclid e (pos (suc m))) in
+    let b : pos (suc m) *ℤ neg_ℤ (int_div_euclid e (pos (suc m))) ≡ neg_ℤ (pos (suc m) *ℤ int_div_euclid e (pos (suc m))) = times_neg
+    (pos (suc m)) (int_div_euclid e (pos (suc m))) in
     let c = times_less (pos (suc m)) in
     let z : pos 0 <ℤ r = above r (omega (arith, ints)) n in
-    rest_is m (neg_ℤ e) (neg_ℤ (int_div_euclid e (pos (suc m))) +ℤ negsuc 0) (pos (suc m) -ℤ r) (omega (arith, ints)) (omega (arith, ints)) (omega (arith, ints)) where
+    rest_is m (neg_ℤ e) (neg_ℤ (int_div_euclid e (pos (suc m))) +ℤ negsuc 0) (pos (suc m) -ℤ r) (omega (arith, ints)) (omega (arith, ints))
+    (omega (arith, ints)) where
       above : (r : ℤ) → pos 0 ≤ℤ r → r ≢ pos 0 → pos 0 <ℤ r
       above (pos zero) l n = absurd (n refl)
       above (pos (suc k)) l n = omega (arith, ints)

@@ -46,7 +46,8 @@ row_read given k v r ev l er =
     let a : slice_get given k ≡ Some v = slice_get-get_or given k v l ∙ ap (λ (u : Vec (ℕ × ℤ) Global). Some u) (sym ev) in
     mapped_at row_view given k v a ∙ ap (λ (u : List (ℕ × ℤ)). Some u) (sym er)
 
-pub given_differ : (given : List (List (ℕ × ℤ))) (k : ℕ) (r : List (ℕ × ℤ)) → All (λ (r : List (ℕ × ℤ)). AllDiffer (map column_of r)) given → slice_get given k ≡ Some r
+pub given_differ : (given : List (List (ℕ × ℤ))) (k : ℕ) (r : List (ℕ × ℤ)) → All (λ (r : List (ℕ × ℤ)). AllDiffer (map column_of r)) given
+    → slice_get given k ≡ Some r
     → AllDiffer (map column_of r)
 given_differ given k r a e =
     let P : List (ℕ × ℤ) → Type 0 = λ r. AllDiffer (map column_of r) in

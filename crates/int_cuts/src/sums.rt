@@ -100,7 +100,8 @@ pub(crate) fn terms_of(
     requires distinct { AreDistinct (map row_view given.now) }
     requires defined { AreDefined (length given.now) parts.now }
     requires divisor { pos 0 <ℤ d }
-    ensures terms { IfOk result (λ v. IsMadeTo columns (λ c. int_div_euclid (sum_by (map row_view given.now) (Some c) parts.now) d) v.items) }
+    ensures terms { IfOk result (λ v. IsMadeTo columns
+        (λ c. int_div_euclid (sum_by (map row_view given.now) (Some c) parts.now) d) v.items) }
     ensures past { IfErr result (AreTermsPast (map row_view given.now) parts.now) }
 {
     let mut terms = SmallVec::new(alloc);

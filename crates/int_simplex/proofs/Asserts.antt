@@ -42,15 +42,19 @@ both-one false = refl
 
 weight-two : (b d : Standing) (c : ℕ) → d.column ≡ b.column → d.upper ≡ as_said b.upper false → weight (pos 1 ∷ pos 1 ∷ []) (d ∷ b ∷ []) c ≡ pos 0
 weight-two b d c ec eu =
-    ap (λ k. cond (k == c) (turned d.upper (pos 1) +ℤ cond (b.column == c) (turned b.upper (pos 1) +ℤ pos 0) (pos 0)) (cond (b.column == c) (turned b.upper (pos 1) +ℤ pos 0) (pos 0))) ec
-    ∙ ap (λ u. cond (b.column == c) (turned u (pos 1) +ℤ cond (b.column == c) (turned b.upper (pos 1) +ℤ pos 0) (pos 0)) (cond (b.column == c) (turned b.upper (pos 1) +ℤ pos 0) (pos 0))) eu
+    ap (λ k. cond (k == c) (turned d.upper (pos 1) +ℤ cond (b.column == c) (turned b.upper (pos 1) +ℤ pos 0) (pos 0))
+    (cond (b.column == c) (turned b.upper (pos 1) +ℤ pos 0) (pos 0))) ec
+    ∙ ap (λ u. cond (b.column == c) (turned u (pos 1) +ℤ cond (b.column == c) (turned b.upper (pos 1) +ℤ pos 0) (pos 0))
+    (cond (b.column == c) (turned b.upper (pos 1) +ℤ pos 0) (pos 0))) eu
     ∙ by (b.column == c) b.upper where
-      by : (t u : Bool) → cond t (turned (as_said u false) (pos 1) +ℤ cond t (turned u (pos 1) +ℤ pos 0) (pos 0)) (cond t (turned u (pos 1) +ℤ pos 0) (pos 0)) ≡ pos 0
+      by : (t u : Bool) → cond t (turned (as_said u false) (pos 1) +ℤ cond t (turned u (pos 1) +ℤ pos 0) (pos 0))
+          (cond t (turned u (pos 1) +ℤ pos 0) (pos 0)) ≡ pos 0
       by true true = refl
       by true false = refl
       by false u = refl
 
-limits-two : (u v : Bool) (z w : ℤ) → v ≡ as_said u false → is_across u z (Some (w, 0)) ≡ true → ((pos 1 *ℤ turned v w) +ℤ ((pos 1 *ℤ turned u z) +ℤ pos 0)) <ℤ pos 0
+limits-two : (u v : Bool) (z w : ℤ) → v ≡ as_said u false → is_across u z (Some (w, 0)) ≡ true →
+    ((pos 1 *ℤ turned v w) +ℤ ((pos 1 *ℤ turned u z) +ℤ pos 0)) <ℤ pos 0
 limits-two true true z w e h = absurd cc
 limits-two true false z w e h = let l = is_below z w h in omega (arith, ints)
 limits-two false true z w e h = let l = is_below w z h in omega (arith, ints)
@@ -87,7 +91,8 @@ crossing_refutes given bounds b first h e = by (tightest bounds b.column (as_sai
         same-across false z w n h = h
 
 -- no bound on a side is past the tightest one
-pub tightest_all : (bounds : List Standing) (d : Standing) → Contains bounds d → (z : ℤ) × (bound_on d.upper (map plain bounds) d.column ≡ Some z) × (turned d.upper z ≤ℤ turned d.upper d.limit)
+pub tightest_all : (bounds : List Standing) (d : Standing) → Contains bounds d → (z : ℤ) ×
+    (bound_on d.upper (map plain bounds) d.column ≡ Some z) × (turned d.upper z ≤ℤ turned d.upper d.limit)
 tightest_all [] d (k, h, e) = absurd (omega arith)
 tightest_all (b ∷ bounds) d (zero, h, e) =
     let q : b ≡ d = e in
@@ -123,10 +128,12 @@ other-side : (bounds : List Standing) (b d : Standing) → crosses bounds b ≡ 
 other-side bounds b d h i ec eu =
     let w = tightest_all bounds d i in
     let q : bare (tightest bounds b.column (as_said b.upper false)) ≡ Some w.0 =
-    ap (λ c. bare (tightest bounds c (as_said b.upper false))) (sym ec) ∙ ap (λ u. bare (tightest bounds d.column u)) (sym eu) ∙ tightest_bare bounds d.column d.upper ∙ w.1 in
+    ap (λ c. bare (tightest bounds c (as_said b.upper false))) (sym ec) ∙ ap (λ u. bare (tightest bounds d.column u)) (sym eu)
+    ∙ tightest_bare bounds d.column d.upper ∙ w.1 in
     let o = w.2 in
     by b.upper d.upper b.limit d.limit w.0 (tightest bounds b.column (as_said b.upper false)) q h eu o where
-      by : (u v : Bool) (z y w : ℤ) (o : Option (ℤ × ℕ)) → bare o ≡ Some w → is_across u z o ≡ false → v ≡ as_said u false → turned v w ≤ℤ turned v y → turned u y ≤ℤ turned u z
+      by : (u v : Bool) (z y w : ℤ) (o : Option (ℤ × ℕ)) → bare o ≡ Some w → is_across u z o ≡ false → v ≡ as_said u false
+          → turned v w ≤ℤ turned v y → turned u y ≤ℤ turned u z
       by u v z y w None e h ev l = absurd cc
       by true true z y w (Some p) e h ev l = absurd cc
       by true false z y w (Some p) e h ev l = let n = not_below z p.0 h in let q : p.0 ≡ w = same_some p.0 w e in omega (arith, ints)

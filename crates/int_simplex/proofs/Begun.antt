@@ -63,7 +63,15 @@ module _ (given : List (List (ℕ × ℤ))) (columns : ℕ) (g : AreGiven given 
   start = record { given = given; columns = columns; basis = last_columns given; values = replicate columns (pos 0, pos 1); bounds = []; usable = true }
 
   first-value : (x : ℕ) (v : ℤ × ℤ) → Contains (last_columns given) x → slice_get (replicate columns (pos 0, pos 1)) x ≡ Some v
-      → IsValueOf record { given = given; columns = columns; basis = last_columns given; values = replicate columns (pos 0, pos 1); bounds = []; usable = true } x v
+      → IsValueOf record {
+        given = given;
+        columns = columns;
+        basis = last_columns given;
+        values = replicate columns
+            (pos 0, pos 1);
+        bounds = [];
+        usable = true;
+      } x v
   first-value x v i e =
       let k = at_listed (last_columns given) x i in
       let s = place-of given k.0 x k.1 in
@@ -84,7 +92,15 @@ module _ (given : List (List (ℕ × ℤ))) (columns : ℕ) (g : AreGiven given 
         same = let Q : ℤ × ℤ → Type 0 = λ w. pos 0 *ℤ w.1 ≡ w.0 *ℤ pos 1 in subst Q q refl;
       }
 
-  pub begun_sound : IsSound record { given = given; columns = columns; basis = last_columns given; values = replicate columns (pos 0, pos 1); bounds = []; usable = true }
+  pub begun_sound : IsSound record {
+    given = given;
+    columns = columns;
+    basis = last_columns given;
+    values = replicate columns
+        (pos 0, pos 1);
+    bounds = [];
+    usable = true;
+  }
   begun_sound = record {
     given = g;
     basis = first_basis given columns g;
@@ -121,7 +137,15 @@ pub sound_parts : (given given1 : List (List (ℕ × ℤ))) (columns : ℕ) (bas
     → IsSound record { given = given; columns = columns; basis = basis; values = values; bounds = bounds; usable = true }
     → IsSound record { given = given1; columns = columns; basis = basis1; values = values1; bounds = bounds1; usable = true }
 sound_parts given given1 columns basis basis1 values values1 bounds bounds1 a b c d h =
-    let A : List (List (ℕ × ℤ)) → Type 0 = λ x. IsSound record { given = x; columns = columns; basis = basis; values = values; bounds = bounds; usable = true } in
+    let A : List (List (ℕ × ℤ)) → Type 0 = λ x. IsSound record {
+      given = x;
+      columns = columns;
+      basis = basis;
+      values = values;
+      bounds =
+          bounds;
+      usable = true;
+    } in
     let B : List ℕ → Type 0 = λ x. IsSound record { given = given1; columns = columns; basis = x; values = values; bounds = bounds; usable = true } in
     let C : List (ℤ × ℤ) → Type 0 = λ x. IsSound record { given = given1; columns = columns; basis = basis1; values = x; bounds = bounds; usable = true } in
     let D : List Standing → Type 0 = λ x. IsSound record { given = given1; columns = columns; basis = basis1; values = values1; bounds = x; usable = true } in

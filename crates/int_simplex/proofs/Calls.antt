@@ -45,10 +45,12 @@ asserted-keeps history b old new (Ok u) (e, q) k =
         | inr w ↦ listed_at (b ∷ history) 0 x (ap Some w)
       ];
     }
-asserted-keeps history b old new (Err (f.Crosses y)) (e, r, q) k = let P : State → Type 0 = λ s. IsKept (b ∷ history) s in subst P (sym q) (kept-more history b old k)
+asserted-keeps history b old new (Err (f.Crosses y)) (e, r, q) k = let P : State → Type 0 = λ s. IsKept (b ∷ history) s in subst P (sym q)
+    (kept-more history b old k)
 asserted-keeps history b old new (Err (f.Memory y)) q k = let P : State → Type 0 = λ s. IsKept (b ∷ history) s in subst P (sym q) (kept-more history b old k)
 
-undone-keeps : (history : List Standing) (mark : ℕ) (old new : State) → new ≡ record old { bounds = take mark old.bounds } → IsKept history old → IsKept history new
+undone-keeps : (history : List Standing) (mark : ℕ) (old new : State) → new ≡ record old { bounds = take mark old.bounds }
+    → IsKept history old → IsKept history new
 undone-keeps history mark old new q k =
     let P : State → Type 0 = λ s. IsKept history s in
     subst P (sym q) record { stands = λ c l n. k.stands c l n; among = λ x i. k.among x (in_taken mark old.bounds x i) }

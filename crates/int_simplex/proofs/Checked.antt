@@ -28,7 +28,8 @@ pub pair_with : (v : ℤ × ℤ) (z : ℤ) → v.0 ≡ z → v.1 ≡ pos 1 → v
 pair_with (a, b) z e f = ap (λ (x : ℤ). (x, b)) e ∙ ap (λ (x : ℤ). (z, x)) f
 
 module _ (s : State) (basis : List ℕ) (rows : List (List (ℕ × ℤ))) (values : List (ℤ × ℤ)) (first places : List ℤ) (lowers uppers : List (Option (ℤ × ℕ))) (budget : ℕ)
-    (sound : IsSound s) (free : IsFree s.given s.basis) (tables : AreTables s.columns s.bounds lowers uppers) (begins : first_position (beginning s budget) ≡ at s.basis first)
+    (sound : IsSound s) (free : IsFree s.given s.basis) (tables : AreTables s.columns s.bounds lowers uppers)
+    (begins : first_position (beginning s budget) ≡ at s.basis first)
     (kept : IsKept s.given s.columns basis rows places values) (apart : AreApart s.given)
     (reached : IsReached s.given s.columns s.bounds budget (at s.basis first) basis places)
     (ends : (t : Position) → Pivots s.given s.columns (map plain s.bounds) (at basis places) t → ⊥) where
@@ -43,7 +44,8 @@ module _ (s : State) (basis : List ℕ) (rows : List (List (ℕ × ℤ))) (value
       (shorter s.given s.columns (map plain s.bounds) (suc reached.made) (suc budget) (first_position (beginning s budget)) (omega arith) l)
 
   bounded : AreAtBounds s.bounds s.basis (start_place s.basis s.values) (at basis places)
-  bounded = run_bounds s.given s.columns s.bounds lowers uppers tables s.basis (start_place s.basis s.values) reached.made (first_position (beginning s budget)) (at basis places) begun
+  bounded = run_bounds s.given s.columns s.bounds lowers uppers tables s.basis (start_place s.basis s.values) reached.made
+      (first_position (beginning s budget)) (at basis places) begun
       (first_bounds s.given s.columns s.bounds lowers uppers tables s.basis (start_place s.basis s.values) (first_position (beginning s budget)) refl
       (λ c. ap (λ z. lowered (bound_on true (map plain s.bounds) c) (raised (bound_on false (map plain s.bounds) c) z)) (listed_place s.values s.basis c)))
 
@@ -76,7 +78,8 @@ module _ (s : State) (basis : List ℕ) (rows : List (List (ℕ × ℤ))) (value
       basis = refl;
       outside = λ c h n. stands_at s.given s.columns basis rows places values kept c h n;
       inside = λ x v i e. (
-        subst IsFraction (get_or_from_slice_get values x v v e) (values_fractions s.given s.columns basis rows places values kept x v (slice_get_within values x v e)),
+        subst IsFraction (get_or_from_slice_get values x v v e) (values_fractions s.given s.columns basis rows places values kept x v
+            (slice_get_within values x v e)),
         value_kept s.given s.columns basis rows places values kept s.bounds s.usable x v i e,
       );
     };
@@ -84,7 +87,8 @@ module _ (s : State) (basis : List ℕ) (rows : List (List (ℕ × ℤ))) (value
     outside = λ c h n. stays-or c h n;
   }
 
-pub refuted_from : (s : State) (given : List (List (ℕ × ℤ))) (columns : ℕ) (basis : List ℕ) (rows : List (List (ℕ × ℤ))) (values : List (ℤ × ℤ)) (first places : List ℤ)
+pub refuted_from : (s : State) (given : List (List (ℕ × ℤ))) (columns : ℕ) (basis : List ℕ) (rows : List (List (ℕ × ℤ)))
+    (values : List (ℤ × ℤ)) (first places : List ℤ)
     (lowers uppers : List (Option (ℤ × ℕ))) (budget : ℕ) → IsSound s → IsFree s.given s.basis → AreTables s.columns s.bounds lowers uppers
     → first_position (beginning s budget) ≡ at s.basis first → given ≡ s.given → columns ≡ s.columns
     → IsKept given columns basis rows places values → (f : Farkas) → IsWalked given columns s.bounds budget (at s.basis first) basis places (w.Refuted f)
@@ -98,7 +102,8 @@ refuted_from s given columns basis rows values first places lowers uppers budget
     let g = subst D ec (subst C eg h) in
     (checked s basis rows values first places lowers uppers budget sound free tables begins k (apart s.given s.columns sound.given) g.0 g.1.1, g.1.0)
 
-pub fits_from : (s : State) (given : List (List (ℕ × ℤ))) (columns : ℕ) (basis : List ℕ) (rows : List (List (ℕ × ℤ))) (values : List (ℤ × ℤ)) (first places : List ℤ)
+pub fits_from : (s : State) (given : List (List (ℕ × ℤ))) (columns : ℕ) (basis : List ℕ) (rows : List (List (ℕ × ℤ)))
+    (values : List (ℤ × ℤ)) (first places : List ℤ)
     (lowers uppers : List (Option (ℤ × ℕ))) (budget : ℕ) → IsSound s → IsFree s.given s.basis → AreTables s.columns s.bounds lowers uppers
     → first_position (beginning s budget) ≡ at s.basis first → given ≡ s.given → columns ≡ s.columns
     → IsKept given columns basis rows places values → IsWalked given columns s.bounds budget (at s.basis first) basis places w.Fits
@@ -113,6 +118,7 @@ fits_from s given columns basis rows values first places lowers uppers budget so
     let g = subst D ec (subst C eg h) in (
       checked s basis rows values first places lowers uppers budget sound free tables begins k (apart s.given s.columns sound.given) g.0
           (λ t p. g.1 p.leaving p.side p.limit p.multipliers p.misses),
-      fit_after s.given s.columns s.bounds lowers uppers tables basis rows places values k g.0.made (first_position (beginning s budget)) (place_in (outside_from 0 s.values s.basis))
+      fit_after s.given s.columns s.bounds lowers uppers tables basis rows places values k g.0.made (first_position (beginning s budget))
+          (place_in (outside_from 0 s.values s.basis))
           (λ c. refl) (subst E (sym begins) g.0.leads) g.1,
     )

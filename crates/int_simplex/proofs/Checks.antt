@@ -88,7 +88,14 @@ module _ (given : List (List (ℕ × ℤ))) (columns : ℕ) (basis : List ℕ) (
       let P : ℤ → Type 0 = λ z. (z *ℤ w.0.1) +ℤ (entry r.0 x *ℤ w.0.0) ≡ pos 0 in
       let e : w.0 ≡ v = same_some w.0 v (sym w.1 ∙ ev) in
       let g = giving given columns basis (places_of values) x (entry r.0) w.0 i a (subst P s q) in
-      let R : ℤ × ℤ → Type 0 = λ y. IsValueOf record { given = given; columns = columns; basis = basis; values = values; bounds = bounds; usable = usable } x y in
+      let R : ℤ × ℤ → Type 0 = λ y. IsValueOf record {
+        given = given;
+        columns = columns;
+        basis = basis;
+        values = values;
+        bounds = bounds;
+        usable = usable;
+      } x y in
       subst R e record {
         multipliers = g.multipliers;
         top = g.top;
@@ -187,7 +194,8 @@ past_end (x ∷ xs) zero h = absurd (omega arith)
 past_end (x ∷ xs) (suc c) h = past_end xs c (omega arith)
 
 -- the first places are those of the first position
-pub first_is : (columns : ℕ) (basis : List ℕ) (values : List (ℤ × ℤ)) (bounds : List Standing) (lowers uppers : List (Option (ℤ × ℕ))) (places : List ℤ) (budget : ℕ)
+pub first_is : (columns : ℕ) (basis : List ℕ) (values : List (ℤ × ℤ)) (bounds : List Standing) (lowers uppers : List (Option (ℤ × ℕ)))
+    (places : List ℤ) (budget : ℕ)
     → AreTables columns bounds lowers uppers → length values ≡ columns → AreFirst basis values lowers uppers places
     → first_position record { basis = basis; bounds = map plain bounds; places = outside_from 0 values basis; pivots = budget } ≡ at basis places
 first_is columns basis values bounds lowers uppers places budget a n f =
@@ -196,16 +204,19 @@ first_is columns basis values bounds lowers uppers places budget a n f =
       less c n = grind arith
 
       by : (c : ℕ) → (c < columns) ⊎ (columns ≤ c)
-          → lowered (bound_on true (map plain bounds) c) (raised (bound_on false (map plain bounds) c) (place_in (outside_from 0 values basis) c)) ≡ place_at places c
+          → lowered (bound_on true (map plain bounds) c) (raised (bound_on false (map plain bounds) c)
+          (place_in (outside_from 0 values basis) c)) ≡ place_at places c
       by c (inl h) =
           ap (λ z. lowered (bound_on true (map plain bounds) c) (raised (bound_on false (map plain bounds) c) z)) (listed_place values basis c)
-          ∙ ap (λ o. lowered o (raised (bound_on false (map plain bounds) c) (start_place basis values c))) (sym (table_bound columns bounds lowers uppers a true c h))
+          ∙ ap (λ o. lowered o (raised (bound_on false (map plain bounds) c) (start_place basis values c)))
+          (sym (table_bound columns bounds lowers uppers a true c h))
           ∙ ap (λ o. lowered (bare (limit_at uppers c)) (raised o (start_place basis values c))) (sym (table_bound columns bounds lowers uppers a false c h))
           ∙ sym (f.each c (omega arith))
       by c (inr h) =
           let m = f.count in
           ap (λ z. lowered (bound_on true (map plain bounds) c) (raised (bound_on false (map plain bounds) c) z)) (listed_place values basis c)
-          ∙ ap (λ o. lowered o (raised (bound_on false (map plain bounds) c) (start_place basis values c))) (unbounded columns bounds lowers uppers a true c (λ l. omega arith))
+          ∙ ap (λ o. lowered o (raised (bound_on false (map plain bounds) c) (start_place basis values c)))
+          (unbounded columns bounds lowers uppers a true c (λ l. omega arith))
           ∙ ap (λ o. raised o (start_place basis values c)) (unbounded columns bounds lowers uppers a false c (λ l. omega arith))
           ∙ ap (λ (o : Option (ℤ × ℤ)). cond (is_in basis c) (pos 0) (top_of o)) (past_end values c (omega arith))
           ∙ sym (same-none (is_in basis c))
@@ -229,7 +240,8 @@ first_at basis basis1 values values1 lowers lowers1 uppers uppers1 places a b c 
     let D : List (Option (ℤ × ℕ)) → Type 0 = λ x. AreFirst basis values lowers x places in
     subst D d (subst C c (subst B b (subst A a h)))
 
-pub started : (basis basis1 : List ℕ) (trail trail1 : List Asserted) (values values1 : List (ℤ × ℤ)) (budget : ℕ) → basis1 ≡ basis → trail1 ≡ trail → values1 ≡ values
+pub started : (basis basis1 : List ℕ) (trail trail1 : List Asserted) (values values1 : List (ℤ × ℤ)) (budget : ℕ) → basis1 ≡ basis
+    → trail1 ≡ trail → values1 ≡ values
     → (let b : Beginning = record { basis = basis1; bounds = map plain (map standing trail1); places = outside_from 0 values1 basis1; pivots = budget } in b)
     ≡ record { basis = basis; bounds = map plain (map standing trail); places = outside_from 0 values basis; pivots = budget }
 started basis basis1 trail trail1 values values1 budget a b c =

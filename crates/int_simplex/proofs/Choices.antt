@@ -80,7 +80,8 @@ NoneEnter row x side places lowers uppers i =
     (k : ℕ) (u : ℕ × ℤ) → k < i → slice_get row k ≡ Some u → Enters row x side places lowers uppers u.0 → ⊥
 
 pub enters_next : (n i : ℕ) (row : List (ℕ × ℤ)) (x : ℕ) (side : Bool) (places : List ℤ) (lowers uppers : List (Option (ℤ × ℕ))) (z : ℕ × ℤ) → i < length row
-    → (Enters row x side places lowers uppers (get_or row i z).0 → ⊥) → NoneEnter row x side places lowers uppers i → NoneEnter row x side places lowers uppers (i + 1)
+    → (Enters row x side places lowers uppers (get_or row i z).0 → ⊥) → NoneEnter row x side places lowers uppers i
+    → NoneEnter row x side places lowers uppers (i + 1)
 enters_next n i row x side places lowers uppers z h m f = λ k u b e. elim (split k i b) [
   | inl c ↦ f k u c e
   | inr q ↦
@@ -116,7 +117,8 @@ enters_none n i row x side places lowers uppers s h f k e =
     let P : ℕ → Type 0 = λ c. Enters row x side places lowers uppers c in
     f w.0 w.1 (omega arith) w.2 (subst P (sym w.3) e)
 
-pub sooner_more : (basis : List ℕ) (values : List (ℤ × ℤ)) (lowers uppers : List (Option (ℤ × ℕ))) (i x : ℕ) (best new : Option Exit) (v : ℤ × ℤ) (low high : Option (ℤ × ℕ))
+pub sooner_more : (basis : List ℕ) (values : List (ℤ × ℤ)) (lowers uppers : List (Option (ℤ × ℕ))) (i x : ℕ) (best new : Option Exit)
+    (v : ℤ × ℤ) (low high : Option (ℤ × ℕ))
     → slice_get basis i ≡ Some x → slice_get values x ≡ Some v → low ≡ limit_at lowers x → high ≡ limit_at uppers x → IsSooner best i x v low high new
     → IsLeavingOf basis values lowers uppers i best → IsLeavingOf basis values lowers uppers (i + 1) new
 sooner_more basis values lowers uppers i x best new v low high ex ev el eh (inl (e, inl n)) f =
@@ -152,8 +154,10 @@ enters_if n i row x side falls places lowers uppers z place low high s h ef ep e
           let A : Bool → Type 0 = λ f. CanMove (is_same_side side (differs (lt_z (pos 0) (get_or row i z).1) f)) (bare low) (bare high) place in
           let B : ℤ → Type 0 = λ e. CanMove (is_same_side side (differs (lt_z (pos 0) e) (lt_z (pos 0) (entry row x)))) (bare low) (bare high) place in
           let C : ℤ → Type 0 = λ p. CanMove (is_same_side side (grows row x (entry row (get_or row i z).0))) (bare low) (bare high) p in
-          let D : Option (ℤ × ℕ) → Type 0 = λ o. CanMove (is_same_side side (grows row x (entry row (get_or row i z).0))) (bare o) (bare high) (place_at places (get_or row i z).0) in
-          let E : Option (ℤ × ℕ) → Type 0 = λ o. CanMove (is_same_side side (grows row x (entry row (get_or row i z).0))) (bare (limit_at lowers (get_or row i z).0)) (bare o)
+          let D : Option (ℤ × ℕ) → Type 0 = λ o. CanMove (is_same_side side (grows row x (entry row (get_or row i z).0))) (bare o)
+          (bare high) (place_at places (get_or row i z).0) in
+          let E : Option (ℤ × ℕ) → Type 0 = λ o. CanMove (is_same_side side (grows row x (entry row (get_or row i z).0)))
+          (bare (limit_at lowers (get_or row i z).0)) (bare o)
           (place_at places (get_or row i z).0) in
           subst E eh (subst D el (subst C ep (subst B (sym w.0) (subst A ef c.1))));
     }
@@ -168,8 +172,10 @@ enters_only n i row x side falls places lowers uppers z place low high s h ef ep
       (let A : Bool → Type 0 = λ f. CanMove (is_same_side side (differs (lt_z (pos 0) (get_or row i z).1) f)) (bare low) (bare high) place in
           let B : ℤ → Type 0 = λ e. CanMove (is_same_side side (differs (lt_z (pos 0) e) (lt_z (pos 0) (entry row x)))) (bare low) (bare high) place in
           let C : ℤ → Type 0 = λ p. CanMove (is_same_side side (grows row x (entry row (get_or row i z).0))) (bare low) (bare high) p in
-          let D : Option (ℤ × ℕ) → Type 0 = λ o. CanMove (is_same_side side (grows row x (entry row (get_or row i z).0))) (bare o) (bare high) (place_at places (get_or row i z).0) in
-          let E : Option (ℤ × ℕ) → Type 0 = λ o. CanMove (is_same_side side (grows row x (entry row (get_or row i z).0))) (bare (limit_at lowers (get_or row i z).0)) (bare o)
+          let D : Option (ℤ × ℕ) → Type 0 = λ o. CanMove (is_same_side side (grows row x (entry row (get_or row i z).0))) (bare o)
+          (bare high) (place_at places (get_or row i z).0) in
+          let E : Option (ℤ × ℕ) → Type 0 = λ o. CanMove (is_same_side side (grows row x (entry row (get_or row i z).0)))
+          (bare (limit_at lowers (get_or row i z).0)) (bare o)
           (place_at places (get_or row i z).0) in
           subst A (sym ef) (subst B w.0 (subst C (sym ep) (subst D (sym el) (subst E (sym eh) e.can))))),
     )

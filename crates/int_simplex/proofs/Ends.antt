@@ -51,10 +51,12 @@ module _ (given : List (List (ℕ × ℤ))) (columns : ℕ) (bounds : List Stand
   pub first_bounds : (s : Position) → s.basis ≡ old
       → ((c : ℕ) → s.places c ≡ lowered (bound_on true (map plain bounds) c) (raised (bound_on false (map plain bounds) c) (places c)))
       → AreAtBounds bounds old places s
-  first_bounds s eb ep = λ c n. moved c (s.places c) (lowered (bound_on true (map plain bounds) c) (raised (bound_on false (map plain bounds) c) (places c))) (ep c)
+  first_bounds s eb ep = λ c n. moved c (s.places c) (lowered (bound_on true (map plain bounds) c)
+      (raised (bound_on false (map plain bounds) c) (places c))) (ep c)
       (elim (lowered_cases (bound_on true (map plain bounds) c) (raised (bound_on false (map plain bounds) c) (places c))) [
         | inr e ↦ at-bound true c (lowered (bound_on true (map plain bounds) c) (raised (bound_on false (map plain bounds) c) (places c))) e
-        | inl e ↦ moved c (lowered (bound_on true (map plain bounds) c) (raised (bound_on false (map plain bounds) c) (places c))) (raised (bound_on false (map plain bounds) c) (places c)) e
+        | inl e ↦ moved c (lowered (bound_on true (map plain bounds) c) (raised (bound_on false (map plain bounds) c) (places c)))
+            (raised (bound_on false (map plain bounds) c) (places c)) e
             (elim (raised_cases (bound_on false (map plain bounds) c) (places c)) [
               | inr f ↦ at-bound false c (raised (bound_on false (map plain bounds) c) (places c)) f
               | inl f ↦ inl ((let P : List ℕ → Type 0 = λ b. Contains b c → ⊥ in subst P eb n), f)

@@ -169,7 +169,8 @@ module _ (given : List (List (ℕ × ℤ))) (columns : ℕ) (basis : List ℕ) (
       let q = w.2.quotient a.has_entry in
       let P : ℕ → Type 0 = λ n. (rest_below (entry r) (place_at places) x n *ℤ w.0.1) +ℤ (entry r x *ℤ w.0.0) ≡ pos 0 in
       split-on (entry r) (place_at places) (tops values) (whole values) x columns (in-columns k x ex) (λ c h d. one a c h d (by_test (is_in basis c)))
-      ∙ to-zero (rest_below (entry r) (place_at places) x columns) (entry r x) (whole values) (tops values x) w.0.0 w.0.1 (no-divisor w.0.1 w.2.fraction.positive)
+      ∙ to-zero (rest_below (entry r) (place_at places) x columns) (entry r x) (whole values) (tops values x) w.0.0 w.0.1
+      (no-divisor w.0.1 w.2.fraction.positive)
       (same-value values x w.0 w.1) (subst P kept.width q) where
         one : IsRowAt given basis x (entry r) → (c : ℕ) → c < columns → c ≢ x → ((is_in basis c ≡ true) ⊎ (is_in basis c ≡ false))
             → entry r c *ℤ tops values c ≡ (entry r c *ℤ place_at places c) *ℤ whole values
@@ -195,7 +196,8 @@ module _ (given : List (List (ℕ × ℤ))) (columns : ℕ) (basis : List ℕ) (
       let z : e (get_or basis k 0) *ℤ summed (entry r.0) (tops values) columns ≡ pos 0 =
       ap (λ z. e (get_or basis k 0) *ℤ z) (kept-sum k (get_or basis k 0) r.0 ex r.1) ∙ *ℤ-zero (e (get_or basis k 0)) in
       product_zero (entry r.0 (get_or basis k 0)) (summed e (tops values) columns) a.has_entry (omega (arith, ints)) where
-        vanishes : (k x : ℕ) (f e : ℕ → ℤ) → slice_get basis k ≡ Some x → IsRowAt given basis x f → ((j b : ℕ) → suc k ≤ j → slice_get basis j ≡ Some b → e b ≡ pos 0)
+        vanishes : (k x : ℕ) (f e : ℕ → ℤ) → slice_get basis k ≡ Some x → IsRowAt given basis x f →
+            ((j b : ℕ) → suc k ≤ j → slice_get basis j ≡ Some b → e b ≡ pos 0)
             → (j b : ℕ) → k ≤ j → slice_get basis j ≡ Some b → ((b == x) ≡ true) ⊎ ((b == x) ≡ false) → f x *ℤ e b -ℤ e x *ℤ f b ≡ pos 0
         vanishes k x f e ex a h j b m eb (inl t) = ap (λ c. f x *ℤ e c -ℤ e x *ℤ f c) (same_if b x t) ∙ difference_swapped (f x) (e x)
         vanishes k x f e ex a h j b m eb (inr t) =
@@ -329,7 +331,8 @@ module _ (given : List (List (ℕ × ℤ))) (columns : ℕ) (bounds : List Stand
       → IsInside record { tops = tops values; bottom = whole values } (get_or bounds k d).upper (get_or bounds k d).column (get_or bounds k d).limit
   in-bound k d h =
       let w = tightest_all bounds (get_or bounds k d) (listed_at bounds k (get_or bounds k d) (slice_get-get_or bounds k d h)) in
-      looser record { tops = tops values; bottom = whole values } (get_or bounds k d).upper (get_or bounds k d).column w.0 (get_or bounds k d).limit above-none w.2
+      looser record { tops = tops values; bottom = whole values } (get_or bounds k d).upper (get_or bounds k d).column w.0
+      (get_or bounds k d).limit above-none w.2
       (inside (get_or bounds k d).upper (get_or bounds k d).column w.0 (a.of_columns k d h) w.1)
 
   fit : Fit given bounds values
@@ -344,7 +347,8 @@ module _ (given : List (List (ℕ × ℤ))) (columns : ℕ) (bounds : List Stand
   )
 
 -- where no column of the basis misses a bound after a run, the values fit
-pub fit_after : (given : List (List (ℕ × ℤ))) (columns : ℕ) (bounds : List Standing) (lowers uppers : List (Option (ℤ × ℕ))) → AreTables columns bounds lowers uppers
+pub fit_after : (given : List (List (ℕ × ℤ))) (columns : ℕ) (bounds : List Standing) (lowers uppers : List (Option (ℤ × ℕ)))
+    → AreTables columns bounds lowers uppers
     → (basis : List ℕ) (rows : List (List (ℕ × ℤ))) (places : List ℤ) (values : List (ℤ × ℤ)) → IsKept given columns basis rows places values
     → (n : ℕ) (s : Position) (q : ℕ → ℤ)
     → ((c : ℕ) → s.places c ≡ lowered (bound_on true (map plain bounds) c) (raised (bound_on false (map plain bounds) c) (q c)))

@@ -46,7 +46,8 @@ abs-neg (pos zero) = refl
 abs-neg (pos (suc n)) = refl
 abs-neg (negsuc n) = refl
 
-pub signed_row : (given : List (List (ℕ × ℤ))) (basis : List ℕ) (x : ℕ) (e : ℕ → ℤ) (b : Bool) → IsRowAt given basis x e → IsRowAt given basis x (λ c. signed b (e c))
+pub signed_row : (given : List (List (ℕ × ℤ))) (basis : List ℕ) (x : ℕ) (e : ℕ → ℤ) (b : Bool) → IsRowAt given basis x e
+    → IsRowAt given basis x (λ c. signed b (e c))
 signed_row given basis x e false r = r
 signed_row given basis x e true r = record {
   combination = crossed-combination given (pos 0) (pos 1) e e (λ c. neg_ℤ (e c)) (λ c. minus-step (e c)) r.combination r.combination;
@@ -106,14 +107,17 @@ pub record IsGiving (given : List (List (ℕ × ℤ))) (columns : ℕ) (basis : 
   pub entries : (c : ℕ) → combined multipliers given c ≡ signed (falling e x) (e c)
   pub is_top : top ≡ rest_below (combined multipliers given) places x columns
 
-pub giving : (given : List (List (ℕ × ℤ))) (columns : ℕ) (basis : List ℕ) (places : ℕ → ℤ) (x : ℕ) (e : ℕ → ℤ) (v : ℤ × ℤ) → Contains basis x → IsRowAt given basis x e
+pub giving : (given : List (List (ℕ × ℤ))) (columns : ℕ) (basis : List ℕ) (places : ℕ → ℤ) (x : ℕ) (e : ℕ → ℤ) (v : ℤ × ℤ)
+    → Contains basis x → IsRowAt given basis x e
     → (rest_below e places x columns *ℤ v.1) +ℤ (e x *ℤ v.0) ≡ pos 0 → IsGiving given columns basis places x e v
 giving given columns basis places x e v i r q =
     let s = signed_row given basis x e (falling e x) r in
     let w : (c : ℕ) → combined (read_off (λ k. signed (falling e x) (e k)) given) given c ≡ signed (falling e x) (e c) = λ c. sym (s.combination c) in
     let b = own-below (e x) r.has_entry in
-    let t : rest_below (combined (read_off (λ k. signed (falling e x) (e k)) given) given) places x columns ≡ signed (falling e x) (rest_below e places x columns) =
-    rest_same (combined (read_off (λ k. signed (falling e x) (e k)) given) given) (λ c. signed (falling e x) (e c)) places x w columns ∙ signed-rest (falling e x) e places x columns in
+    let t : rest_below (combined (read_off (λ k. signed (falling e x) (e k)) given) given) places x columns ≡ signed (falling e x)
+    (rest_below e places x columns) =
+    rest_same (combined (read_off (λ k. signed (falling e x) (e k)) given) given) (λ c. signed (falling e x) (e c)) places x w columns
+    ∙ signed-rest (falling e x) e places x columns in
     record {
       multipliers = read_off (λ c. signed (falling e x) (e c)) given;
       top = signed (falling e x) (rest_below e places x columns);
@@ -191,14 +195,26 @@ sign-down e false h l = refl
 
 room-only : (bounds : List (ℕ × Bool × ℤ)) (s : Position) (side g : Bool) (e : ℤ) (c : ℕ) → lt_z (pos 0) e ≡ g
     → HasRoom bounds s side e c → (e ≢ pos 0) × CanMove (is_same_side side g) (lower bounds c) (upper bounds c) (s.places c)
-room-only bounds s true g e c h (inl (l, r)) =
-    ((λ z. absurd (omega (arith, ints))), (let P : Bool → Type 0 = λ b. CanMove (is_same_side true b) (lower bounds c) (upper bounds c) (s.places c) in subst P (sym (sign-up e g h l)) r))
-room-only bounds s true g e c h (inr (l, r)) =
-    ((λ z. absurd (omega (arith, ints))), (let P : Bool → Type 0 = λ b. CanMove (is_same_side true b) (lower bounds c) (upper bounds c) (s.places c) in subst P (sym (sign-down e g h l)) r))
-room-only bounds s false g e c h (inl (l, r)) =
-    ((λ z. absurd (omega (arith, ints))), (let P : Bool → Type 0 = λ b. CanMove (is_same_side false b) (lower bounds c) (upper bounds c) (s.places c) in subst P (sym (sign-up e g h l)) r))
-room-only bounds s false g e c h (inr (l, r)) =
-    ((λ z. absurd (omega (arith, ints))), (let P : Bool → Type 0 = λ b. CanMove (is_same_side false b) (lower bounds c) (upper bounds c) (s.places c) in subst P (sym (sign-down e g h l)) r))
+room-only bounds s true g e c h (inl (l, r)) = (
+  (λ z. absurd (omega (arith, ints))),
+  (let P : Bool → Type 0 = λ b. CanMove (is_same_side true b) (lower bounds c) (upper bounds c)
+      (s.places c) in subst P (sym (sign-up e g h l)) r),
+)
+room-only bounds s true g e c h (inr (l, r)) = (
+  (λ z. absurd (omega (arith, ints))),
+  (let P : Bool → Type 0 = λ b. CanMove (is_same_side true b) (lower bounds c) (upper bounds c)
+      (s.places c) in subst P (sym (sign-down e g h l)) r),
+)
+room-only bounds s false g e c h (inl (l, r)) = (
+  (λ z. absurd (omega (arith, ints))),
+  (let P : Bool → Type 0 = λ b. CanMove (is_same_side false b) (lower bounds c) (upper bounds c)
+      (s.places c) in subst P (sym (sign-up e g h l)) r),
+)
+room-only bounds s false g e c h (inr (l, r)) = (
+  (λ z. absurd (omega (arith, ints))),
+  (let P : Bool → Type 0 = λ b. CanMove (is_same_side false b) (lower bounds c) (upper bounds c)
+      (s.places c) in subst P (sym (sign-down e g h l)) r),
+)
 
 same-by : (m n : ℕ) → (m < n → ⊥) → (n < m → ⊥) → m ≡ n
 same-by zero zero l r = refl
@@ -257,10 +273,12 @@ module _ (given : List (List (ℕ × ℤ))) (columns : ℕ) (bounds : List Stand
       placed-at k.0 x r.0 k.1 r.1
 
   -- what misses its bound misses the table's limit
-  pub missed_if : (x : ℕ) (side : Bool) (limit : ℤ) (ms : List ℤ) → Misses given columns asserted here x side limit ms → IsMissedAt values lowers uppers x side limit
+  pub missed_if : (x : ℕ) (side : Bool) (limit : ℤ) (ms : List ℤ) → Misses given columns asserted here x side limit ms
+      → IsMissedAt values lowers uppers x side limit
   missed_if x side limit ms h =
       let i = h.value.row.in_basis in let p = placed x i in let g = p.gives in
-      let t : g.bottom *ℤ h.top ≡ h.bottom *ℤ g.top = tops given columns asserted here ap-rows kept.ready.free (bounds_order columns bounds lowers uppers tables)
+      let t : g.bottom *ℤ h.top ≡ h.bottom *ℤ g.top = tops given columns asserted here ap-rows kept.ready.free
+      (bounds_order columns bounds lowers uppers tables)
       x ms g.multipliers h.top h.bottom g.top g.bottom h.value g.value in (
         p.number,
         p.value_stands,
@@ -293,7 +311,8 @@ module _ (given : List (List (ℕ × ℤ))) (columns : ℕ) (bounds : List Stand
       f k.0 x side limit (slice_get_within basis k.0 x k.1) k.1 (missed_if x side limit ms h)
 
   -- what enters by the row can enter
-  can-enter : (x : ℕ) (side : Bool) (c : ℕ) (p : IsPlaced x) → Enters p.row x side places lowers uppers c → CanEnter given columns asserted here side p.gives.multipliers c
+  can-enter : (x : ℕ) (side : Bool) (c : ℕ) (p : IsPlaced x) → Enters p.row x side places lowers uppers c
+      → CanEnter given columns asserted here side p.gives.multipliers c
   can-enter x side c p e =
       let w = entry_listed p.row c e.has_entry in
       let l = listed_entry 0 columns p.row w.0 w.1 (kept.ready.are_rows.sparse p.at_place p.row p.row_stands) w.2 in
@@ -316,10 +335,12 @@ module _ (given : List (List (ℕ × ℤ))) (columns : ℕ) (bounds : List Stand
         not-zero true z n q = n (let r : neg_ℤ z ≡ pos 0 = q in omega (arith, ints))
         not-zero false z n q = n q
 
-  enters-only : (x : ℕ) (side : Bool) (c : ℕ) (p : IsPlaced x) → CanEnter given columns asserted here side p.gives.multipliers c → Enters p.row x side places lowers uppers c
+  enters-only : (x : ℕ) (side : Bool) (c : ℕ) (p : IsPlaced x) → CanEnter given columns asserted here side p.gives.multipliers c
+      → Enters p.row x side places lowers uppers c
   enters-only x side c p e =
       let Q : ℤ → Type 0 = λ z. HasRoom asserted here side z c in
-      let r = room-only asserted here side (lt_z (pos 0) (signed (falling (entry p.row) x) (entry p.row c))) (signed (falling (entry p.row) x) (entry p.row c)) c refl
+      let r = room-only asserted here side (lt_z (pos 0) (signed (falling (entry p.row) x) (entry p.row c)))
+      (signed (falling (entry p.row) x) (entry p.row c)) c refl
       (subst Q (p.gives.entries c) e.room) in
       let n : entry p.row c ≢ pos 0 = λ z. r.0 (ap (signed (falling (entry p.row) x)) z ∙ signed-zero (falling (entry p.row) x)) in
       record {
@@ -380,11 +401,13 @@ module _ (given : List (List (ℕ × ℤ))) (columns : ℕ) (bounds : List Stand
         let pn = subst Q s pm in
         let R : Bool → Type 0 = λ b. CanEnter given columns asserted here b p.multipliers p.entering in
         e p.entering (enters-only l.column l.side p.entering leaves
-        (same_entering given columns asserted here ap-rows kept.ready.free (bounds_order columns bounds lowers uppers tables) l.column p.entering l.side p.limit l.limit
+        (same_entering given columns asserted here ap-rows kept.ready.free
+        (bounds_order columns bounds lowers uppers tables) l.column p.entering l.side p.limit l.limit
         p.multipliers leaves.gives.multipliers pn own-misses (subst R s p.enters)))
 
 -- the entering column and the leaving row cross in an entry
-pub turn : (columns : ℕ) (basis : List ℕ) (rows : List (List (ℕ × ℤ))) (places : List ℤ) (values : List (ℤ × ℤ)) (lowers uppers : List (Option (ℤ × ℕ))) (l : Exit)
+pub turn : (columns : ℕ) (basis : List ℕ) (rows : List (List (ℕ × ℤ))) (places : List ℤ) (values : List (ℤ × ℤ))
+    (lowers uppers : List (Option (ℤ × ℕ))) (l : Exit)
     (r : List (ℕ × ℤ)) (c : ℕ) → IsSparse columns r → slice_get rows l.at ≡ Some r → IsLeavingOf basis values lowers uppers (length basis) (Some l)
     → IsEntering r l.column l.side places lowers uppers (Some c) → IsTurn basis rows lowers uppers columns l c
 turn columns basis rows places values lowers uppers l r c sr er f e = record {
@@ -470,7 +493,8 @@ stops-below false (pos n) z w h a b =
     let g : neg_ℤ (pos n) *ℤ w ≡ neg_ℤ (pos n *ℤ w) = neg_times (pos n) w in omega (arith, ints)
 
 -- the bound that stops a column of the row
-record StopOf (bounds : List Standing) (row : List (ℕ × ℤ)) (x : ℕ) (side : Bool) (limit : ℤ) (places : ℕ → ℤ) (lowers uppers : List (Option (ℤ × ℕ))) (t : ℕ × ℤ) : Type 0 where
+record StopOf (bounds : List Standing) (row : List (ℕ × ℤ)) (x : ℕ) (side : Bool) (limit : ℤ) (places : ℕ → ℤ)
+    (lowers uppers : List (Option (ℤ × ℕ))) (t : ℕ × ℤ) : Type 0 where
   bound : Standing
   stands : Contains bounds bound
   column : bound.column ≡ t.0
@@ -514,7 +538,8 @@ module _ (bounds : List Standing) (row : List (ℕ × ℤ)) (x : ℕ) (side : Bo
       ∙ ap (λ z. cond (y == c) (z +ℤ weight ms bs c) (weight ms bs c)) (turned-size side falls a n)
       ∙ ap (λ w. cond (y == c) (signed side (signed falls a) +ℤ w) w) h
       ∙ both (y == c) a (entry xs c) where
-        both : (b : Bool) (a s : ℤ) → cond b (signed side (signed falls a) +ℤ signed side (signed falls s)) (signed side (signed falls s)) ≡ signed side (signed falls (cond b (a +ℤ s) s))
+        both : (b : Bool) (a s : ℤ) → cond b (signed side (signed falls a) +ℤ signed side (signed falls s))
+            (signed side (signed falls s)) ≡ signed side (signed falls (cond b (a +ℤ s) s))
         both true a s = sym (ap (signed side) (signed-sum falls a s) ∙ signed-sum side (signed falls a) (signed falls s))
         both false a s = refl
 
@@ -523,9 +548,11 @@ module _ (bounds : List Standing) (row : List (ℕ × ℤ)) (x : ℕ) (side : Bo
       → ((pos (unsigned_abs t.1) *ℤ turned s.bound.upper s.bound.limit) +ℤ rest) ≤ℤ signed side (signed falls (sum_of (with-limit x limit places) (t ∷ xs)))
   limit-step (y, a) xs s rest n h =
       let up : Bool = stop_side row x side a in
-      let p : (pos (unsigned_abs a) *ℤ turned (stop_side row x side a) s.bound.limit) ≤ℤ (turned (stop_side row x side a) (pos (unsigned_abs a)) *ℤ with-limit x limit places y)
+      let p : (pos (unsigned_abs a) *ℤ turned (stop_side row x side a) s.bound.limit) ≤ℤ
+      (turned (stop_side row x side a) (pos (unsigned_abs a)) *ℤ with-limit x limit places y)
       = stops-below (stop_side row x side a) (pos (unsigned_abs a)) s.bound.limit (with-limit x limit places y) (omega (arith, ints)) s.high s.low in
-      let q : turned (stop_side row x side a) (pos (unsigned_abs a)) *ℤ with-limit x limit places y ≡ signed side (signed falls a) *ℤ with-limit x limit places y
+      let q : turned (stop_side row x side a) (pos (unsigned_abs a)) *ℤ with-limit x limit places y ≡ signed side
+      (signed falls a) *ℤ with-limit x limit places y
       = ap (λ z. z *ℤ with-limit x limit places y) (turned-size side falls a n) in
       let r : pos (unsigned_abs a) *ℤ turned s.bound.upper s.bound.limit ≡ pos (unsigned_abs a) *ℤ turned (stop_side row x side a) s.bound.limit
       = ap (λ u. pos (unsigned_abs a) *ℤ turned u s.bound.limit) s.upper in
@@ -537,7 +564,8 @@ module _ (bounds : List Standing) (row : List (ℕ × ℤ)) (x : ℕ) (side : Bo
       (ap (signed side) (signed-times falls a (with-limit x limit places y)) ∙ signed-times side (signed falls a) (with-limit x limit places y)) in
       omega (arith, ints)
 
-  chosen : (xs : List (ℕ × ℤ)) → ((k : ℕ) (t : ℕ × ℤ) → slice_get xs k ≡ Some t → (t.1 ≢ pos 0) × StopOf bounds row x side limit places lowers uppers t) → Chosen xs
+  chosen : (xs : List (ℕ × ℤ)) → ((k : ℕ) (t : ℕ × ℤ) → slice_get xs k ≡ Some t → (t.1 ≢ pos 0)
+      × StopOf bounds row x side limit places lowers uppers t) → Chosen xs
   chosen [] f = record {
     used = [];
     columns = refl;
@@ -594,7 +622,8 @@ at-high low high place f =
       no : true ≡ false → ⊥
       no e = absurd cc
 
-blocked : (side g : Bool) (low high : Option (ℤ × ℕ)) (place : ℤ) → (CanMove (is_same_side side g) (bare low) (bare high) place → ⊥) → IsBlocked (differs g side) low high place
+blocked : (side g : Bool) (low high : Option (ℤ × ℕ)) (place : ℤ) → (CanMove (is_same_side side g) (bare low) (bare high) place → ⊥)
+    → IsBlocked (differs g side) low high place
 blocked true true low high place f = at-low low high place f
 blocked true false low high place f = at-high low high place f
 blocked false true low high place f = at-high low high place f
@@ -614,13 +643,15 @@ module _ (given : List (List (ℕ × ℤ))) (columns : ℕ) (bounds : List Stand
   the-row = kept.ready.are_rows.sparse l.at r er
 
   x-below : l.column < columns
-  x-below = let P : ℕ → Type 0 = λ c. c < columns in subst P (same_some (get_or basis l.at 0) l.column (sym (slice_get-get_or basis l.at 0 (slice_get_within basis l.at l.column f.0)) ∙ f.0))
+  x-below = let P : ℕ → Type 0 = λ c. c < columns in subst P (same_some (get_or basis l.at 0) l.column
+      (sym (slice_get-get_or basis l.at 0 (slice_get_within basis l.at l.column f.0)) ∙ f.0))
       (kept.ready.in_range l.at 0 (slice_get_within basis l.at l.column f.0))
 
   own-stop : (t : ℕ × ℤ) → t.0 ≡ l.column → entry r t.0 ≡ t.1 → StopOf bounds r l.column l.side l.limit (place_at places) lowers uppers t
   own-stop t q et =
       let b : stop_side r l.column l.side t.1 ≡ l.side =
-      ap (λ z. differs (differs (lt_z (pos 0) z) (lt_z (pos 0) (entry r l.column))) l.side) (sym et ∙ ap (entry r) q) ∙ no-growth (lt_z (pos 0) (entry r l.column)) l.side in
+      ap (λ z. differs (differs (lt_z (pos 0) z) (lt_z (pos 0) (entry r l.column))) l.side) (sym et ∙ ap (entry r) q) ∙ no-growth
+      (lt_z (pos 0) (entry r l.column)) l.side in
       let w = bare-some (on_side l.side (limit_at lowers l.column) (limit_at uppers l.column)) l.limit f.1.2.0 in
       let s = tightest_stands bounds l.column l.side (l.limit, w.0) (sym (table_is columns bounds lowers uppers tables l.side l.column x-below) ∙ w.1) in
       let v : with-limit l.column l.limit (place_at places) t.0 ≡ l.limit = ap (λ c. with-limit l.column l.limit (place_at places) c) q
@@ -637,18 +668,21 @@ module _ (given : List (List (ℕ × ℤ))) (columns : ℕ) (bounds : List Stand
         low = λ g. omega (arith, ints);
       }
 
-  other-stop : (t : ℕ × ℤ) → t.0 ≢ l.column → entry r t.0 ≡ t.1 → t.1 ≢ pos 0 → t.0 < columns → StopOf bounds r l.column l.side l.limit (place_at places) lowers uppers t
+  other-stop : (t : ℕ × ℤ) → t.0 ≢ l.column → entry r t.0 ≡ t.1 → t.1 ≢ pos 0 → t.0 < columns → StopOf bounds r l.column l.side l.limit
+      (place_at places) lowers uppers t
   other-stop t q et nz h =
       let b = blocked l.side (grows r l.column t.1) (limit_at lowers t.0) (limit_at uppers t.0) (place_at places t.0)
       (λ m. e t.0 record {
         other = q;
         has_entry = λ z. nz (sym et ∙ z);
-        can = let P : ℤ → Type 0 = λ z. CanMove (is_same_side l.side (grows r l.column z)) (bare (limit_at lowers t.0)) (bare (limit_at uppers t.0)) (place_at places t.0) in
+        can = let P : ℤ → Type 0 = λ z. CanMove (is_same_side l.side (grows r l.column z)) (bare (limit_at lowers t.0))
+            (bare (limit_at uppers t.0)) (place_at places t.0) in
             subst P (sym et) m;
       }) in
       let s = tightest_stands bounds t.0 (stop_side r l.column l.side t.1) (b.number, b.literal)
       (sym (table_is columns bounds lowers uppers tables (stop_side r l.column l.side t.1) t.0 h) ∙ b.limit) in
-      let v : with-limit l.column l.limit (place_at places) t.0 ≡ place_at places t.0 = ap (λ w. cond w l.limit (place_at places t.0)) (is_other t.0 l.column q) in
+      let v : with-limit l.column l.limit (place_at places) t.0 ≡ place_at places t.0 = ap (λ w. cond w l.limit (place_at places t.0))
+      (is_other t.0 l.column q) in
       let y = s.limit in
       record {
         bound = s.bound;
@@ -697,7 +731,8 @@ module _ (given : List (List (ℕ × ℤ))) (columns : ℕ) (bounds : List Stand
       let v = subst P kept.width w.2 in
       let g = giving given columns basis (place_at places) l.column (entry r) w.0 (listed_at basis l.at l.column f.0) ra (v.quotient ra.has_entry) in
       let c = chosen bounds r l.column l.side l.limit (place_at places) lowers uppers columns r stops in
-      let s = signed_row given basis l.column (λ k. signed (falling (entry r) l.column) (entry r k)) l.side (signed_row given basis l.column (entry r) (falling (entry r) l.column) ra) in
+      let s = signed_row given basis l.column (λ k. signed (falling (entry r) l.column) (entry r k)) l.side
+      (signed_row given basis l.column (entry r) (falling (entry r) l.column) ra) in
       let m = f.1 in
       let q : m.0 ≡ w.0 = same_some m.0 w.0 (sym m.1 ∙ w.1) in
       let Q : ℤ × ℤ → Type 0 = λ z. IsPast l.side l.limit z.0 z.1 in
@@ -732,5 +767,6 @@ module _ (given : List (List (ℕ × ℤ))) (columns : ℕ) (bounds : List Stand
 
         sizes-positive : (xs : List (ℕ × ℤ)) → All (λ (p : ℤ × ℕ). pos 0 ≤ℤ p.0) (map (part_of r l.column l.side lowers uppers) xs)
         sizes-positive [] = λ k d h. absurd (omega arith)
-        sizes-positive (t ∷ xs) = All-cons (λ (p : ℤ × ℕ). pos 0 ≤ℤ p.0) (part_of r l.column l.side lowers uppers t) (map (part_of r l.column l.side lowers uppers) xs)
+        sizes-positive (t ∷ xs) = All-cons (λ (p : ℤ × ℕ). pos 0 ≤ℤ p.0) (part_of r l.column l.side lowers uppers t)
+            (map (part_of r l.column l.side lowers uppers) xs)
             (omega (arith, ints)) (sizes-positive xs)

@@ -122,7 +122,8 @@ turned_more n at entering other rows news next k a (inr (row, new, er, m, p, e))
     let P : List (List (ℕ × ℤ)) → Type 0 = λ x. AreNextTo n at entering other rows x (k + 1) in
     subst P (sym e) (next_set n at entering other row new rows news k er m p a)
 
-pub in_news : (k n len : ℕ) (rows news : List (Vec (ℕ × ℤ) Global)) → k < n → n ≡ len → len ≡ length rows → length (map row_view news) ≡ length (map row_view rows)
+pub in_news : (k n len : ℕ) (rows news : List (Vec (ℕ × ℤ) Global)) → k < n → n ≡ len → len ≡ length rows → length
+    (map row_view news) ≡ length (map row_view rows)
     → k < length news
 in_news k n len rows news h a b e =
     let l : length (map row_view news) ≡ length news = length-map news row_view in

@@ -80,7 +80,8 @@ module _ (s : State) (sound : IsSound s) (free : IsFree s.given s.basis) (p : Po
       ) where
         one : (x : ℕ) {v : ℤ × ℤ} (w : IsValueOf s x v) (c : ℕ) → c < s.columns → c ≢ x → ((is_in s.basis c ≡ true) ⊎ (is_in s.basis c ≡ false))
             → combined w.multipliers s.given c *ℤ p.tops c ≡ (combined w.multipliers s.given c *ℤ places_of s.values c) *ℤ p.bottom
-        one x w c k d (inl t) = both-none (combined w.multipliers s.given c) (p.tops c) (places_of s.values c) p.bottom (w.value.row.alone c (in_yes s.basis c t) d)
+        one x w c k d (inl t) = both-none (combined w.multipliers s.given c) (p.tops c) (places_of s.values c) p.bottom
+            (w.value.row.alone c (in_yes s.basis c t) d)
         one x w c k d (inr t) =
             ap (λ z. combined w.multipliers s.given c *ℤ z) (top-outside c k (in_no s.basis c t))
             ∙ sym (times_times (combined w.multipliers s.given c) (places_of s.values c) p.bottom)

@@ -166,7 +166,8 @@ limit-listed [] rest b (k, h, e) = absurd (omega arith)
 limit-listed (d ∷ bounds) rest b (zero, h, e) = (0, omega arith, ap (λ (x : Standing). x.limit) (first d b e)) where
   first : (d b : Standing) → d ≡ b → d ≡ b
   first d b e = e
-limit-listed (d ∷ bounds) rest b (suc k, h, e) = one-later d.limit (limits-then bounds rest) b.limit (limit-listed bounds rest b (k, (let l = h in omega arith), e))
+limit-listed (d ∷ bounds) rest b (suc k, h, e) = one-later d.limit (limits-then bounds rest) b.limit
+    (limit-listed bounds rest b (k, (let l = h in omega arith), e))
 
 rest-listed : (bounds : List Standing) (rest : List ℤ) (z : ℤ) → Contains rest z → Contains (limits-then bounds rest) z
 rest-listed [] rest z h = h
@@ -262,7 +263,8 @@ module _ (s : State) (first : List ℤ) (lowers uppers : List (Option (ℤ × �
 
 -- what stops a check has numbers of the tableau for factors
 pub past_from : (s : State) (given : List (List (ℕ × ℤ))) (columns : ℕ) (first : List ℤ) (lowers lowers1 uppers uppers1 : List (Option (ℤ × ℕ))) → IsSound s
-    → AreTables s.columns s.bounds lowers uppers → AreFirst s.basis s.values lowers uppers first → given ≡ s.given → columns ≡ s.columns → lowers1 ≡ lowers → uppers1 ≡ uppers
+    → AreTables s.columns s.bounds lowers uppers → AreFirst s.basis s.values lowers uppers first → given ≡ s.given → columns ≡ s.columns
+    → lowers1 ≡ lowers → uppers1 ≡ uppers
     → (step : PastStep) → ((ns : List ℤ) → ArePlacesOf ns first → AreLimitsOf ns lowers1 uppers1 → IsStopped given columns ns (p.Past step))
     → IsPastStep s.given s.columns (IsNumberOf s) (past_view step)
 past_from s given columns first lowers lowers1 uppers uppers1 sound tables f eg ec el eu step h =
@@ -271,6 +273,7 @@ past_from s given columns first lowers lowers1 uppers uppers1 sound tables f eg 
     let B : ℕ → Type 0 = λ x. IsPastStep s.given x (Contains (limits-then s.bounds (tops-from 0 s.values s.basis))) (past_view step) in
     let L : List (Option (ℤ × ℕ)) → Type 0 = λ x. AreLimitsOf (limits-then s.bounds (tops-from 0 s.values s.basis)) x uppers in
     let U : List (Option (ℤ × ℕ)) → Type 0 = λ x. AreLimitsOf (limits-then s.bounds (tops-from 0 s.values s.basis)) lowers1 x in
-    step_by (Contains (limits-then s.bounds (tops-from 0 s.values s.basis))) (IsNumberOf s) (are-numbers s first lowers uppers sound tables f) s.given s.columns (past_view step)
+    step_by (Contains (limits-then s.bounds (tops-from 0 s.values s.basis))) (IsNumberOf s)
+    (are-numbers s first lowers uppers sound tables f) s.given s.columns (past_view step)
     (subst B ec (subst A eg (h (limits-then s.bounds (tops-from 0 s.values s.basis)) (are-places s first lowers uppers sound tables f)
     (subst U (sym eu) (subst L (sym el) (are-limits s first lowers uppers sound tables f))))))

@@ -72,10 +72,12 @@ before-more trail a f e = λ k b eb.
           (sym (ap (λ (n : ℕ). take n (trail ++ a ∷ [])) q ∙ take-own trail (a ∷ []))))
     ]
 
-within-more : (columns : ℕ) (trail : List Asserted) (a : Asserted) → IsWithinColumns columns trail → a.column < columns → IsWithinColumns columns (trail ++ a ∷ [])
+within-more : (columns : ℕ) (trail : List Asserted) (a : Asserted) → IsWithinColumns columns trail → a.column < columns
+    → IsWithinColumns columns (trail ++ a ∷ [])
 within-more columns [] a w h = All-cons (λ (x : Asserted). x.column < columns) a [] h (All-nil (λ (x : Asserted). x.column < columns))
 within-more columns (b ∷ trail) a w h =
-    All-cons (λ (x : Asserted). x.column < columns) b (trail ++ a ∷ []) (w 0 b (omega arith)) (within-more columns trail a (λ j d i. w (suc j) d (omega arith)) h)
+    All-cons (λ (x : Asserted). x.column < columns) b (trail ++ a ∷ []) (w 0 b (omega arith))
+    (within-more columns trail a (λ j d i. w (suc j) d (omega arith)) h)
 
 -- on the bound's side the limit is written
 module _ (columns : ℕ) (trail : List Asserted) (a : Asserted) (lows highs : List (Option (ℤ × ℕ))) (h : IsAssertedTo columns trail lows highs) (i : a.column < columns)
@@ -113,7 +115,8 @@ module _ (columns : ℕ) (trail : List Asserted) (a : Asserted) (lows highs : Li
   }
 
 -- what a table's element is
-pub read_limit : (columns : ℕ) (side : Bool) (bounds : List Standing) (limits : List (Option (ℤ × ℕ))) (c : ℕ) (o : Option (ℤ × ℕ)) → AreLimits columns side bounds limits → c < columns
+pub read_limit : (columns : ℕ) (side : Bool) (bounds : List Standing) (limits : List (Option (ℤ × ℕ))) (c : ℕ) (o : Option (ℤ × ℕ))
+    → AreLimits columns side bounds limits → c < columns
     → o ≡ get_or limits c o → o ≡ tightest bounds c side
 read_limit columns side bounds limits c o a h e =
     let n = a.count in

@@ -47,7 +47,8 @@ outside_in n values basis out z h i =
     ap (λ w. out ++ w)
     (let e : n + 1 ≡ suc n = omega arith in
     ap (λ k. outside_from k (drop (n + 1) values) basis) e
-    ∙ ap (λ w. cond w (outside_from (suc n) (drop (n + 1) values) basis) ((n, (get_or values n z).0) ∷ outside_from (suc n) (drop (n + 1) values) basis)) (sym (is_in_yes basis n i))
+    ∙ ap (λ w. cond w (outside_from (suc n) (drop (n + 1) values) basis)
+    ((n, (get_or values n z).0) ∷ outside_from (suc n) (drop (n + 1) values) basis)) (sym (is_in_yes basis n i))
     ∙ ap (λ vs. outside_from n vs basis) (sym (drop_more values n z h)))
 
 pub outside_out : (n : ℕ) (values : List (ℤ × ℤ)) (basis : List ℕ) (out : List (ℕ × ℤ)) (z : ℤ × ℤ) (v : ℕ × ℤ) → n < length values → (Contains basis n → ⊥)
@@ -59,7 +60,8 @@ outside_out n values basis out z v h i ev =
     (let e : n + 1 ≡ suc n = omega arith in
     ap (λ k. v ∷ outside_from k (drop (n + 1) values) basis) e
     ∙ ap (λ w. w ∷ outside_from (suc n) (drop (n + 1) values) basis) ev
-    ∙ ap (λ w. cond w (outside_from (suc n) (drop (n + 1) values) basis) ((n, (get_or values n z).0) ∷ outside_from (suc n) (drop (n + 1) values) basis)) (sym (is_in_no basis n i))
+    ∙ ap (λ w. cond w (outside_from (suc n) (drop (n + 1) values) basis)
+    ((n, (get_or values n z).0) ∷ outside_from (suc n) (drop (n + 1) values) basis)) (sym (is_in_no basis n i))
     ∙ ap (λ vs. outside_from n vs basis) (sym (drop_more values n z h)))
 
 append-nil : {X : Type 0} (xs : List X) → xs ++ [] ≡ xs
@@ -83,7 +85,8 @@ length-snoc : {X : Type 0} (xs : List X) (x : X) → length (xs ++ x ∷ []) ≡
 length-snoc [] x = refl
 length-snoc (y ∷ xs) x = let e : length (xs ++ x ∷ []) ≡ length xs + 1 = length-snoc xs x in omega arith
 
-pub first_more : (basis : List ℕ) (values : List (ℤ × ℤ)) (lowers uppers : List (Option (ℤ × ℕ))) (places : List ℤ) (i : ℕ) (z w : ℤ) (low high : Option (ℤ × ℕ))
+pub first_more : (basis : List ℕ) (values : List (ℤ × ℤ)) (lowers uppers : List (Option (ℤ × ℕ))) (places : List ℤ) (i : ℕ) (z w : ℤ)
+    (low high : Option (ℤ × ℕ))
     → z ≡ start_place basis values i → low ≡ limit_at lowers i → high ≡ limit_at uppers i → w ≡ lowered (bare high) (raised (bare low) z)
     → AreFirstTo basis values lowers uppers places i → AreFirstTo basis values lowers uppers (places ++ w ∷ []) (i + 1)
 first_more basis values lowers uppers places i z w low high ez el eh ew a = record {
@@ -111,13 +114,15 @@ pub start_in : (basis : List ℕ) (values : List (ℤ × ℤ)) (i : ℕ) → Con
 start_in basis values i n = ap (λ b. cond b (pos 0) (top_of (slice_get values i))) (sym (is_in_yes basis i n))
 
 -- a place that was looked for
-pub found_in : (basis : List ℕ) (c : ℕ) (o : Option ℕ) → MatchOption o (Contains basis c → ⊥) (λ k. slice_get basis k ≡ Some c) → is_none o ≡ false → Contains basis c
+pub found_in : (basis : List ℕ) (c : ℕ) (o : Option ℕ) → MatchOption o (Contains basis c → ⊥) (λ k. slice_get basis k ≡ Some c)
+    → is_none o ≡ false → Contains basis c
 found_in basis c None h e = absurd (no e) where
   no : true ≡ false → ⊥
   no e = absurd cc
 found_in basis c (Some k) h e = listed_at basis k c h
 
-pub found_out : (basis : List ℕ) (c : ℕ) (o : Option ℕ) → MatchOption o (Contains basis c → ⊥) (λ k. slice_get basis k ≡ Some c) → is_none o ≡ true → Contains basis c → ⊥
+pub found_out : (basis : List ℕ) (c : ℕ) (o : Option ℕ) → MatchOption o (Contains basis c → ⊥) (λ k. slice_get basis k ≡ Some c)
+    → is_none o ≡ true → Contains basis c → ⊥
 found_out basis c None h e = h
 found_out basis c (Some k) h e = absurd (no e) where
   no : false ≡ true → ⊥

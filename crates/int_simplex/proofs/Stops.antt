@@ -85,7 +85,8 @@ module _ (given : List (List (ℕ × ℤ))) (columns : ℕ) (others : ℤ → Ty
           last_columns given,
           last_column g,
           first_basis given columns ready.given_rows,
-          row_at_is given (last_columns given) (last_column g) (entry g) (listed_at (last_columns given) 0 (last_column g) (mapped_at last_column given 0 g eg)) rg,
+          row_at_is given (last_columns given) (last_column g) (entry g)
+              (listed_at (last_columns given) 0 (last_column g) (mapped_at last_column given 0 g eg)) rg,
           rg.combination,
         ) (All-nil (IsRowOf given columns)))
 
@@ -111,7 +112,8 @@ module _ (given : List (List (ℕ × ℤ))) (columns : ℕ) (others : ℤ → Ty
         differ : AllDiffer (map place-of-product products)
         is_sum : total products ≡ rest_in x f xs
 
-      is-product : (j : ℕ) (t : ℕ × ℤ) → slice_get row j ≡ Some t → f t.0 ≢ pos 0 → IsProduct others both 0 first (record { place = j; number = t.1; factor = f t.0; negative = false })
+      is-product : (j : ℕ) (t : ℕ × ℤ) → slice_get row j ≡ Some t → f t.0 ≢ pos 0 → IsProduct others both 0 first
+          (record { place = j; number = t.1; factor = f t.0; negative = false })
       is-product j t e n = record { of_row = number-first j t e; by_factor = inr (allowed t.0 n) }
 
       sum-none : Sum [] 0
@@ -185,7 +187,8 @@ module _ (given : List (List (ℕ × ℤ))) (columns : ℕ) (others : ℤ → Ty
         m = sum-to j (let b : j < length row = slice_get_within row j t et in omega arith)
 
         by : (((past ≡ record { op = Mul; left = t.1; right = f t.0 }) × (within (t.1 *ℤ f t.0) ≡ false))
-            ⊎ ((past ≡ record { op = Add; left = t.1 *ℤ f t.0; right = rest_in x f (take j row) }) × (within (t.1 *ℤ f t.0 +ℤ rest_in x f (take j row)) ≡ false)))
+            ⊎ ((past ≡ record { op = Add; left = t.1 *ℤ f t.0; right = rest_in x f (take j row) }) ×
+            (within (t.1 *ℤ f t.0 +ℤ rest_in x f (take j row)) ≡ false)))
             → IsPastStep given columns others (Step row g past)
         by (inl (q, w)) =
             let P : Past → Type 0 = λ v. IsPastStep given columns others (Step row g v) in
@@ -214,7 +217,8 @@ module _ (given : List (List (ℕ × ℤ))) (columns : ℕ) (others : ℤ → Ty
           let P : Past → Type 0 = λ v. IsPastStep given columns others (Step row g v) in
           subst P (sym h.0) (step-of _ ([], m.products, m.are_products, m.differ, refl, e) h.1)
 
-  pub size_stop : (k x : ℕ) (row : List (ℕ × ℤ)) (step : Rattle.proof_steps.specs.declared.stops.PastStep.PastStep) → slice_get basis k ≡ Some x → slice_get rows k ≡ Some row
+  pub size_stop : (k x : ℕ) (row : List (ℕ × ℤ)) (step : Rattle.proof_steps.specs.declared.stops.PastStep.PastStep)
+      → slice_get basis k ≡ Some x → slice_get rows k ≡ Some row
       → IsSizePast row given (s.Past step) → IsPastStep given columns others (past_view step)
   size_stop k x row step ex er (j, t, g, past, et, eg, o, h) =
       let P : Rattle.proof_steps.specs.StopView.Operation → Type 0 = λ v. IsPastStep given columns others v in
@@ -226,7 +230,8 @@ module _ (given : List (List (ℕ × ℤ))) (columns : ℕ) (others : ℤ → Ty
       let P : Rattle.proof_steps.specs.StopView.Operation → Type 0 = λ v. IsPastStep given columns others v in
       subst P (sym o) (value-stop k x row g ex er eg f a past h)
 
-  pub turn_stop : (at c x : ℕ) (other : List (ℕ × ℤ)) (step : Rattle.proof_steps.specs.declared.stops.PastStep.PastStep) → slice_get basis at ≡ Some x → slice_get rows at ≡ Some other
+  pub turn_stop : (at c x : ℕ) (other : List (ℕ × ℤ)) (step : Rattle.proof_steps.specs.declared.stops.PastStep.PastStep)
+      → slice_get basis at ≡ Some x → slice_get rows at ≡ Some other
       → IsTurnPast at c rows (s.Past step) → IsPastStep given columns others (past_view step)
   turn_stop at c x other step ex eo h =
       let w = h other eo in
@@ -234,7 +239,8 @@ module _ (given : List (List (ℕ × ℤ))) (columns : ℕ) (others : ℤ → Ty
       let v = w.4 in
       let P : Rattle.proof_steps.specs.StopView.Operation → Type 0 = λ z. IsPastStep given columns others z in
       subst P (sym v.1) (cross_past given columns others basis x y.0 w.1 other is-basis (listed_at basis w.0 y.0 y.1) (listed_at basis at x ex)
-      (ready.are_rows.each w.0 y.0 w.1 y.1 w.3) (ready.are_rows.each at x other ex eo) columns (ready.are_rows.sparse w.0 w.1 w.3) (ready.are_rows.sparse at other eo) c v.2.0 v.0 v.2.1)
+      (ready.are_rows.each w.0 y.0 w.1 y.1 w.3) (ready.are_rows.each at x other ex eo) columns (ready.are_rows.sparse w.0 w.1 w.3)
+      (ready.are_rows.sparse at other eo) c v.2.0 v.0 v.2.1)
 
 -- for the numbers of a list
 pub stopped_by : (given : List (List (ℕ × ℤ))) (columns : ℕ) (numbers : List ℤ) (e : Stopped)
@@ -243,7 +249,8 @@ pub stopped_by : (given : List (List (ℕ × ℤ))) (columns : ℕ) (numbers : L
 stopped_by given columns numbers (s.Memory m) f = tt
 stopped_by given columns numbers (s.Past step) f = f step refl
 
-pub size_result : (given : List (List (ℕ × ℤ))) (columns : ℕ) (basis : List ℕ) (rows : List (List (ℕ × ℤ))) → IsReady given columns basis rows → (k x : ℕ) (row : List (ℕ × ℤ)) (e : Stopped)
+pub size_result : (given : List (List (ℕ × ℤ))) (columns : ℕ) (basis : List ℕ) (rows : List (List (ℕ × ℤ)))
+    → IsReady given columns basis rows → (k x : ℕ) (row : List (ℕ × ℤ)) (e : Stopped)
     {R : Type 0} (o : Result R Stopped) → slice_get basis k ≡ Some x → slice_get rows k ≡ Some row → IsSizePast row given e → IsErrAnd o (λ z. z ≡ e)
     → IfErr o (λ z. (numbers : List ℤ) → IsStopped given columns numbers z)
 size_result given columns basis rows ready k x row e (Ok v) ex er h q = tt
@@ -254,12 +261,16 @@ size_result given columns basis rows ready k x row e (Err z) ex er h q = λ numb
       by (s.Past step) h numbers = size_stop given columns (Contains numbers) basis rows ready k x row step ex er h
 
 -- what stops a turn
-pub turn_result : (given : List (List (ℕ × ℤ))) (columns : ℕ) (basis : List ℕ) (rows : List (List (ℕ × ℤ))) → IsReady given columns basis rows → (at c x : ℕ) (other : List (ℕ × ℤ)) (e : Stopped)
+pub turn_result : (given : List (List (ℕ × ℤ))) (columns : ℕ) (basis : List ℕ) (rows : List (List (ℕ × ℤ)))
+    → IsReady given columns basis rows → (at c x : ℕ) (other : List (ℕ × ℤ)) (e : Stopped)
     → slice_get basis at ≡ Some x → slice_get rows at ≡ Some other → IsTurnPast at c rows e → (numbers : List ℤ) → IsStopped given columns numbers e
 turn_result given columns basis rows ready at c x other (s.Memory m) ex eo h numbers = tt
-turn_result given columns basis rows ready at c x other (s.Past step) ex eo h numbers = turn_stop given columns (Contains numbers) basis rows ready at c x other step ex eo h
+turn_result given columns basis rows ready at c x other (s.Past step) ex eo h numbers = turn_stop given columns
+    (Contains numbers) basis rows ready at c x other step ex eo h
 
-pub values_result : (given : List (List (ℕ × ℤ))) (columns : ℕ) (basis : List ℕ) (rows : List (List (ℕ × ℤ))) (places : List ℤ) → IsReady given columns basis rows → (e : Stopped)
+pub values_result : (given : List (List (ℕ × ℤ))) (columns : ℕ) (basis : List ℕ) (rows : List (List (ℕ × ℤ))) (places : List ℤ)
+    → IsReady given columns basis rows → (e : Stopped)
     → IsValuesPast given basis rows (place_at places) e → (numbers : List ℤ) → ArePlacesOf numbers places → IsStopped given columns numbers e
 values_result given columns basis rows places ready (s.Memory m) h numbers a = tt
-values_result given columns basis rows places ready (s.Past step) h numbers a = values_stop given columns (Contains numbers) basis rows ready (place_at places) a step h
+values_result given columns basis rows places ready (s.Past step) h numbers a = values_stop given columns
+    (Contains numbers) basis rows ready (place_at places) a step h

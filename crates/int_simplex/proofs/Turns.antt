@@ -36,7 +36,8 @@ set_exchanged (b ∷ basis) zero x c d e =
     ∙ ap (λ z. z ∷ map (exchanged x c) basis) (sym (ap (exchanged x c) q ∙ goes x c))
 set_exchanged (b ∷ basis) (suc k) x c d e =
     ap (λ z. b ∷ z) (set_exchanged basis k x c d.1 e)
-    ∙ ap (λ z. z ∷ map (exchanged x c) basis) (sym (stays x c b (λ q. d.0 (let P : ℕ → Type 0 = λ z. Contains basis z in subst P (sym q) (listed_at basis k x e)))))
+    ∙ ap (λ z. z ∷ map (exchanged x c) basis) (sym (stays x c b (λ q. d.0
+    (let P : ℕ → Type 0 = λ z. Contains basis z in subst P (sym q) (listed_at basis k x e)))))
 
 differ-by : (xs : List ℕ) → ((i j a : ℕ) → slice_get xs i ≡ Some a → slice_get xs j ≡ Some a → i ≡ j) → AllDiffer xs
 differ-by [] f = tt
@@ -100,7 +101,8 @@ module _ (given : List (List (ℕ × ℤ))) (columns : ℕ) (basis : List ℕ) (
   }
 
 -- places after the leaving column went to its limit
-pub places_after : (numbers places : List ℤ) (x : ℕ) (z : ℤ) → x < length places → ArePlacesOf numbers places → Contains numbers z → ArePlacesOf numbers (slice_set places x z)
+pub places_after : (numbers places : List ℤ) (x : ℕ) (z : ℤ) → x < length places → ArePlacesOf numbers places → Contains numbers z
+    → ArePlacesOf numbers (slice_set places x z)
 places_after numbers places x z h a i = λ c n. elim (by_test (c == x)) [
   | inl q ↦
       let e : place_at (slice_set places x z) c ≡ z = ap (place_at (slice_set places x z)) (same_if c x q) ∙ ap place_of (set_same places x z h) in
@@ -117,15 +119,18 @@ pub set_place_other : (places : List ℤ) (x k : ℕ) (z : ℤ) → k ≢ x → 
 set_place_other places x k z n = ap place_of (set_other places x k z n)
 
 -- what stops a turn stands for the result's error
-pub turn_stopped : (given : List (List (ℕ × ℤ))) (columns : ℕ) (basis : List ℕ) (rows : List (List (ℕ × ℤ))) → IsReady given columns basis rows → (at c x : ℕ) (other : List (ℕ × ℤ))
-    (places : List ℤ) (limit : ℤ) (e : Stopped) {R : Type 0} (o : Result R Stopped) → slice_get basis at ≡ Some x → slice_get rows at ≡ Some other → IsTurnPast at c rows e → IsErrAnd o (λ z. z ≡ e)
+pub turn_stopped : (given : List (List (ℕ × ℤ))) (columns : ℕ) (basis : List ℕ) (rows : List (List (ℕ × ℤ)))
+    → IsReady given columns basis rows → (at c x : ℕ) (other : List (ℕ × ℤ))
+    (places : List ℤ) (limit : ℤ) (e : Stopped) {R : Type 0} (o : Result R Stopped) → slice_get basis at ≡ Some x
+    → slice_get rows at ≡ Some other → IsTurnPast at c rows e → IsErrAnd o (λ z. z ≡ e)
     → IfErr o (λ z. (numbers : List ℤ) → ArePlacesOf numbers places → Contains numbers limit → IsStopped given columns numbers z)
 turn_stopped given columns basis rows ready at c x other places limit e (Ok v) ex eo h q = tt
 turn_stopped given columns basis rows ready at c x other places limit e (Err z) ex eo h q = λ numbers a i.
     subst (λ (w : Stopped). IsStopped given columns numbers w) (sym q) (turn_result given columns basis rows ready at c x other e ex eo h numbers)
 
 pub values_stopped : (given : List (List (ℕ × ℤ))) (columns : ℕ) (basis : List ℕ) (rows : List (List (ℕ × ℤ))) → IsReady given columns basis rows
-    → (places : List ℤ) (x : ℕ) (limit : ℤ) (e : Stopped) {R : Type 0} (o : Result R Stopped) → x < length places → IsValuesPast given basis rows (place_at (slice_set places x limit)) e → IsErrAnd o (λ z. z ≡ e)
+    → (places : List ℤ) (x : ℕ) (limit : ℤ) (e : Stopped) {R : Type 0} (o : Result R Stopped) → x < length places
+    → IsValuesPast given basis rows (place_at (slice_set places x limit)) e → IsErrAnd o (λ z. z ≡ e)
     → IfErr o (λ z. (numbers : List ℤ) → ArePlacesOf numbers places → Contains numbers limit → IsStopped given columns numbers z)
 values_stopped given columns basis rows ready places x limit e (Ok v) h p q = tt
 values_stopped given columns basis rows ready places x limit e (Err z) h p q = λ numbers a i.

@@ -64,7 +64,8 @@ values_all basis rows places values i h a = record {
   inside = λ k x r e f. a.inside k x r (let b : k < length basis = slice_get_within basis k x e in omega arith) e f;
 }
 
-pub values_past : (given : List (List (ℕ × ℤ))) (basis : List ℕ) (rows : List (List (ℕ × ℤ))) (f : ℕ → ℤ) (k x : ℕ) (row g r1 g1 : List (ℕ × ℤ)) (past : Past) (e : Stopped)
+pub values_past : (given : List (List (ℕ × ℤ))) (basis : List ℕ) (rows : List (List (ℕ × ℤ))) (f : ℕ → ℤ) (k x : ℕ)
+    (row g r1 g1 : List (ℕ × ℤ)) (past : Past) (e : Stopped)
     → slice_get basis k ≡ Some x → slice_get rows k ≡ Some row → slice_get given 0 ≡ Some g → r1 ≡ row → g1 ≡ g
     → IsOver r1 g1 past e → IsValuePast x f row past → IsValuesPast given basis rows f e
 values_past given basis rows f k x row g r1 g1 past (s.Memory m) ex er eg a b o v = tt

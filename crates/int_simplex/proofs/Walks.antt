@@ -66,7 +66,8 @@ module _ (given : List (List (ℕ × ℤ))) (columns : ℕ) (bounds : List (ℕ 
         has_entry = r.has_entry;
         alone = r.alone;
         coprime = λ d h. r.coprime d
-            (let Q : List ℤ → Type 0 = λ xs. All (λ m. d ∣ unsigned_abs m) xs in subst Q (read_off_is ms given a r.multipliers) (divides-all d (combined ms given) given h)) h;
+            (let Q : List ℤ → Type 0 = λ xs. All (λ m. d ∣ unsigned_abs m) xs in subst Q (read_off_is ms given a r.multipliers)
+            (divides-all d (combined ms given) given h)) h;
       } (room-entry s p.side (combined ms given p.entering) p.entering p.enters.room))
 
   -- where no pivot is made at the end of a run, no run from its start is longer
@@ -102,9 +103,11 @@ long_at given n bounds budget left start s l c z w h =
     let P : ℕ → Type 0 = λ k. CanPivot given n (map plain bounds) (suc k) start in
     subst P (let e : w.made ≡ budget = omega arith in e) (then_pivot given n (map plain bounds) w.made start s t w.leads p)
 
-pub step_at : (given : List (List (ℕ × ℤ))) (n : ℕ) (bounds : List Standing) (budget left : ℕ) (start : Position) (b b1 : List ℕ) (ps ps1 : List ℤ) (l : Exit) (c : ℕ) → (left ≡ 0 → ⊥)
+pub step_at : (given : List (List (ℕ × ℤ))) (n : ℕ) (bounds : List Standing) (budget left : ℕ) (start : Position) (b b1 : List ℕ)
+    (ps ps1 : List ℤ) (l : Exit) (c : ℕ) → (left ≡ 0 → ⊥)
     → b1 ≡ map (exchanged l.column c) b → ps1 ≡ slice_set ps l.column l.limit → l.column < length ps
-    → IsOnWay given n bounds budget left start (at b ps) → IsMove given n bounds (at b ps) (m.Pivot l c) → IsOnWay given n bounds budget (left - 1) start (at b1 ps1)
+    → IsOnWay given n bounds budget left start (at b ps) → IsMove given n bounds (at b ps) (m.Pivot l c) → IsOnWay given n bounds budget
+    (left - 1) start (at b1 ps1)
 step_at given n bounds budget left start b b1 ps ps1 l c z eb ep h w v =
     let p = v (at b1 ps1) eb (ap (λ (x : List ℤ). place_at x l.column) ep ∙ set_place_same ps l.column l.limit h)
     (λ k d. ap (λ (x : List ℤ). place_at x k) ep ∙ set_place_other ps l.column k l.limit d) in
@@ -120,7 +123,8 @@ step_at given n bounds budget left start b b1 ps ps1 l c z eb ep h w v =
       positive (suc k) f = omega arith
 
 -- what stops a run
-pub free_error : (given : List (List (ℕ × ℤ))) (n : ℕ) (places : List ℤ) (lowers uppers : List (Option (ℤ × ℕ))) (e : Stopped) {R : Type 0} (o : Result R Stopped)
+pub free_error : (given : List (List (ℕ × ℤ))) (n : ℕ) (places : List ℤ) (lowers uppers : List (Option (ℤ × ℕ))) (e : Stopped) {R : Type 0}
+    (o : Result R Stopped)
     → ((numbers : List ℤ) → ArePlacesOf numbers places → AreLimitsOf numbers lowers uppers → IsStopped given n numbers e) → IsErrAnd o (λ z. z ≡ e)
     → IfErr o (λ z. (numbers : List ℤ) → ArePlacesOf numbers places → AreLimitsOf numbers lowers uppers → IsStopped given n numbers z)
 free_error given n places lowers uppers e (Ok v) f q = tt

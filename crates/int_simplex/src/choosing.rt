@@ -41,7 +41,8 @@ fn missed(
     high: Option<(i128, u32)>,
 ) -> Option<(bool, i128)>
     requires { IsFraction v }
-    ensures { MatchOption result ((side : Bool) (limit : ℤ) → IsMissed low high v side limit → ⊥) (λ r. IsMissed low high v r.0 r.1) }
+    ensures { MatchOption result ((side : Bool) (limit : ℤ) → IsMissed low high v side limit → ⊥)
+        (λ r. IsMissed low high v r.0 r.1) }
 {
     if let Some((u, _)) = high
         && is_above(v, u)

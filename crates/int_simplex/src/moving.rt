@@ -35,11 +35,15 @@ pub(crate) fn next_move(
     values: &[(i128, i128)],
     places: &[i128],
 ) -> Result<Move, Stopped>
-    requires kept { IsKept (map row_view given.now) (length lowers.now) basis.now (map row_view rows.now) places.now values.now }
+    requires kept { IsKept (map row_view given.now) (length lowers.now) basis.now
+        (map row_view rows.now) places.now values.now }
     requires uppers { length uppers.now ≡ length lowers.now }
-    ensures found { IfOk result (λ m. (bounds : List Standing) → AreTables (length lowers.now) bounds lowers.now uppers.now → IsMove (map row_view given.now) (length lowers.now) bounds (at_place basis.now places.now) m) }
+    ensures found { IfOk result (λ m. (bounds : List Standing) → AreTables
+        (length lowers.now) bounds lowers.now uppers.now → IsMove (map row_view given.now)
+        (length lowers.now) bounds (at_place basis.now places.now) m) }
     ensures turn { IfOk result (IsTurnOf basis.now (map row_view rows.now) lowers.now uppers.now (length lowers.now)) }
-    ensures past { IfErr result (λ e. (numbers : List ℤ) → IsStopped (map row_view given.now) (length lowers.now) numbers e) }
+    ensures past { IfErr result (λ e. (numbers : List ℤ) → IsStopped (map row_view given.now)
+        (length lowers.now) numbers e) }
 {
     let Some(out) = leaving(basis, values, lowers, uppers) else {
         return Ok(Move::Fits);
@@ -66,13 +70,16 @@ pub(crate) fn turn(
     out: Exit,
     column: u32,
 ) -> Result<(), Stopped>
-    requires ready { IsReady (map row_view given.now) (length places.old.items) basis.old.items (map row_view rows.old.items) }
+    requires ready { IsReady (map row_view given.now) (length places.old.items) basis.old.items
+        (map row_view rows.old.items) }
     requires turn { IsCrossing basis.old.items (map row_view rows.old.items) (length places.old.items) out column }
     requires columns { columns ≡ length places.old.items }
-    ensures kept { IfOk result (λ _. IsKept (map row_view given.now) (length places.old.items) basis.new.items (map row_view rows.new.items) places.new.items values.new.items) }
+    ensures kept { IfOk result (λ _. IsKept (map row_view given.now) (length places.old.items) basis.new.items
+        (map row_view rows.new.items) places.new.items values.new.items) }
     ensures basis { IfOk result (λ _. basis.new.items ≡ map (exchanged out.column column) basis.old.items) }
     ensures places { IfOk result (λ _. places.new.items ≡ slice_set places.old.items out.column out.limit) }
-    ensures past { IfErr result (λ e. (numbers : List ℤ) → ArePlacesOf numbers places.old.items → Contains numbers out.limit → IsStopped (map row_view given.now) (length places.old.items) numbers e) }
+    ensures past { IfErr result (λ e. (numbers : List ℤ) → ArePlacesOf numbers places.old.items
+        → Contains numbers out.limit → IsStopped (map row_view given.now) (length places.old.items) numbers e) }
 {
     turn_rows(alloc, columns, rows, out.at, column)?;
     basis[out.at] = column;

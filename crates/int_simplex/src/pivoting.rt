@@ -22,7 +22,8 @@ fn next_row(
 ) -> Result<Option<Vec<(u32, i128)>>, Stopped>
     requires row { IsSparse columns row.now }
     requires other { IsSparse columns other.now }
-    ensures made { IfOk result (λ o. MatchOption o (entry row.now entering ≡ pos 0) (λ v. IsPivoted columns entering row.now other.now v.items)) }
+    ensures made { IfOk result (λ o. MatchOption o (entry row.now entering ≡ pos 0)
+        (λ v. IsPivoted columns entering row.now other.now v.items)) }
     ensures past { IfErr result (IsNextPast entering other.now row.now) }
 {
     if entry_in(row, entering) == 0 {
@@ -48,7 +49,8 @@ fn turn_row(
     requires in_range { k < length rows.old.items }
     requires row { (r : List (ℕ × ℤ)) → slice_get (map row_view rows.old.items) k ≡ Some r → IsSparse columns r }
     requires other { IsSparse columns other.now }
-    ensures made { IfOk result (λ _. IsTurned columns at entering other.now k (map row_view rows.old.items) (map row_view rows.new.items)) }
+    ensures made { IfOk result (λ _. IsTurned columns at entering other.now k (map row_view rows.old.items)
+        (map row_view rows.new.items)) }
     ensures past { IfErr result (IsTurnedPast at entering other.now k (map row_view rows.old.items)) }
 {
     if k == at {
@@ -72,8 +74,11 @@ pub(crate) fn turn_rows(
     entering: u32,
 ) -> Result<(), Stopped>
     requires at { at < length rows.old.items }
-    requires sparse { (k : ℕ) (r : List (ℕ × ℤ)) → slice_get (map row_view rows.old.items) k ≡ Some r → IsSparse columns r }
-    ensures made { IfOk result (λ _. (other : List (ℕ × ℤ)) → slice_get (map row_view rows.old.items) at ≡ Some other → AreNext columns at entering other (map row_view rows.old.items) (map row_view rows.new.items)) }
+    requires sparse { (k : ℕ) (r : List (ℕ × ℤ)) → slice_get (map row_view rows.old.items) k ≡ Some r
+        → IsSparse columns r }
+    ensures made { IfOk result (λ _. (other : List (ℕ × ℤ)) → slice_get
+        (map row_view rows.old.items) at ≡ Some other → AreNext columns at entering other
+        (map row_view rows.old.items) (map row_view rows.new.items)) }
     ensures past { IfErr result (IsTurnPast at entering (map row_view rows.old.items)) }
 {
     let other = Vec::from_slice(alloc, &rows[at])?;

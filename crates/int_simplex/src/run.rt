@@ -63,7 +63,13 @@ pub(crate) fn start_of(
     pivots: u64,
 ) -> Result<Start, AllocError>
     requires { length values.now ≤ 4294967295 }
-    ensures { IfOk result (λ s. start_view s ≡ record { basis = basis.now; bounds = map plain (map standing trail.now); places = outside_from 0 values.now basis.now; pivots = pivots }) }
+    ensures { IfOk result (λ s. start_view s ≡ record {
+      basis = basis.now;
+      bounds = map plain (map standing trail.now);
+      places = outside_from 0 values.now
+          basis.now;
+      pivots = pivots;
+    }) }
 {
     let bounds = plain_bounds(alloc, trail)?;
     let places = outside_places(alloc, basis, values)?;
@@ -127,13 +133,20 @@ pub(crate) fn walk(
     places: &mut Vec<i128>,
     pivots: u64,
 ) -> Result<Walked, Stopped>
-    requires ready { IsReady (map row_view given.now) (length lowers.now) basis.old.items (map row_view rows.old.items) }
+    requires ready { IsReady (map row_view given.now) (length lowers.now) basis.old.items
+        (map row_view rows.old.items) }
     requires places { length places.old.items ≡ length lowers.now }
     requires uppers { length uppers.now ≡ length lowers.now }
     requires columns { columns ≡ length lowers.now }
-    ensures found { IfOk result (λ w. (bounds : List Standing) → AreTables (length lowers.now) bounds lowers.now uppers.now → IsWalked (map row_view given.now) (length lowers.now) bounds pivots (at_place basis.old.items places.old.items) basis.new.items places.new.items w) }
-    ensures kept { IfOk result (λ w. IsAnswer w → IsKept (map row_view given.now) (length lowers.now) basis.new.items (map row_view rows.new.items) places.new.items values.new.items) }
-    ensures past { IfErr result (λ e. (numbers : List ℤ) → ArePlacesOf numbers places.old.items → AreLimitsOf numbers lowers.now uppers.now → IsStopped (map row_view given.now) (length lowers.now) numbers e) }
+    ensures found { IfOk result (λ w. (bounds : List Standing) → AreTables
+        (length lowers.now) bounds lowers.now uppers.now → IsWalked (map row_view given.now)
+        (length lowers.now) bounds pivots (at_place basis.old.items places.old.items) basis.new.items
+        places.new.items w) }
+    ensures kept { IfOk result (λ w. IsAnswer w → IsKept (map row_view given.now)
+        (length lowers.now) basis.new.items (map row_view rows.new.items) places.new.items values.new.items) }
+    ensures past { IfErr result (λ e. (numbers : List ℤ) → ArePlacesOf numbers places.old.items
+        → AreLimitsOf numbers lowers.now uppers.now → IsStopped (map row_view given.now)
+        (length lowers.now) numbers e) }
 {
     *values = values_of(alloc, given, basis, rows, places)?;
     let mut left = pivots;

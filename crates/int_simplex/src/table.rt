@@ -133,7 +133,8 @@ impl Tableau {
     /// The row of a column of the basis, a whole combination of the given rows.
     pub fn row(&self, column: u32) -> Option<&[(u32, i128)]>
         requires { self.now.usable ≡ true }
-        ensures row { MatchOption result (Contains self.now.basis column → ⊥) (λ r. IsRowIn self.now.given self.now.basis column r.now) }
+        ensures row { MatchOption result (Contains self.now.basis column → ⊥)
+            (λ r. IsRowIn self.now.given self.now.basis column r.now) }
         ensures in_order { IfSome result (λ r. IsInOrder r.now) }
         ensures in_range { IfSome result (λ r. IsWithin self.now.columns r.now) }
         ensures entries { IfSome result (λ r. HasNoZero r.now) }

@@ -88,9 +88,11 @@ pub(crate) fn values_of(
     requires given { length given.now ≡ length basis.now }
     requires different { AllDiffer basis.now }
     requires in_range { All (λ c. c < length places.now) basis.now }
-    requires sparse { (k : ℕ) (r : List (ℕ × ℤ)) → slice_get (map row_view rows.now) k ≡ Some r → IsSparse (length places.now) r }
+    requires sparse { (k : ℕ) (r : List (ℕ × ℤ)) → slice_get (map row_view rows.now) k ≡ Some r → IsSparse
+        (length places.now) r }
     ensures values { IfOk result (λ v. AreValues basis.now (map row_view rows.now) places.now v.items) }
-    ensures past { IfErr result (IsValuesPast (map row_view given.now) basis.now (map row_view rows.now) (place_at places.now)) }
+    ensures past { IfErr result (IsValuesPast (map row_view given.now) basis.now (map row_view rows.now)
+        (place_at places.now)) }
 {
     let mut values = Vec::new(alloc);
     for z in places {

@@ -39,12 +39,14 @@ ended_as P Q f (Ok r) h = f _ h
 ended_as P Q f (Err s) h = stop_as P Q f s h
 
 -- what is read is refused at the reader's place
-pub misread_ends : (bytes : List ℕ) (r : Reasoned) → (r.reason ≡ memory) ⊎ IsMisread bytes r → (e : Ending) → (e ≡ refused (refused_line r)) × (r.reason ≢ memory) → EndsAtSource bytes e
+pub misread_ends : (bytes : List ℕ) (r : Reasoned) → (r.reason ≡ memory) ⊎ IsMisread bytes r → (e : Ending) → (e ≡ refused (refused_line r))
+    × (r.reason ≢ memory) → EndsAtSource bytes e
 misread_ends bytes r (inl m) e h = absurd (h.1 m)
 misread_ends bytes r (inr m) e h = subst (EndsAtSource bytes) (sym h.0) (S.misread r m refl)
 
 -- what follows no rule is not built
-pub unbuilt_ends : (bytes : List ℕ) (p : Program) (r : Reasoned) → IsSource bytes p → IsRefusal p r → (e : Ending) → (e ≡ refused (refused_line r)) × (r.reason ≢ memory) → EndsAtSource bytes e
+pub unbuilt_ends : (bytes : List ℕ) (p : Program) (r : Reasoned) → IsSource bytes p → IsRefusal p r → (e : Ending) →
+    (e ≡ refused (refused_line r)) × (r.reason ≢ memory) → EndsAtSource bytes e
 unbuilt_ends bytes p r s (inl m) e h = absurd (h.1 m)
 unbuilt_ends bytes p r s (inr m) e h =
     subst (EndsAtSource bytes) (sym h.0) (S.unbuilt record { tree = p; source = s; because = m.1 } (ap refused_line m.0))
@@ -54,7 +56,8 @@ pub formless_ends : (bytes : List ℕ) (p : Program) (f : TraceFault) → Refuse
 formless_ends bytes p (Form at) h e d = subst (EndsAtTrace bytes p) (sym d) (at, R.formless h, refl)
 formless_ends bytes p M.Memory h e d = absurd d
 
-pub misfit_ends : (bytes : List ℕ) (p : Program) (t : Listing) (f : TraceFault) → IsTraceText bytes t → IsMisfit p t f → (e : Ending) → EndsAt f e → EndsAtTrace bytes p e
+pub misfit_ends : (bytes : List ℕ) (p : Program) (t : Listing) (f : TraceFault) → IsTraceText bytes t → IsMisfit p t f → (e : Ending)
+    → EndsAt f e → EndsAtTrace bytes p e
 misfit_ends bytes p t (Form at) text h e d = subst (EndsAtTrace bytes p) (sym d) (at, R.unfit t text h, refl)
 misfit_ends bytes p t M.Memory text h e d = absurd d
 
@@ -65,7 +68,8 @@ handed_on P r s h p =
     subst (IfEnded P) (sym (u ∙ ap Err w)) p
 
 -- a source that is read and follows the rules
-pub held_source : (told : Told) (p : Program) (bytes : List ℕ) → MayHold told bytes → length bytes ≤ limit → IsSource bytes p → BreaksNoBooleanRule p → HoldsSource told p
+pub held_source : (told : Told) (p : Program) (bytes : List ℕ) → MayHold told bytes → length bytes ≤ limit → IsSource bytes p
+    → BreaksNoBooleanRule p → HoldsSource told p
 held_source told p bytes m le s f = record { bytes = bytes; held = m; short = le; source = s; follows = f }
 
 module _ (told : Tells) (before now : ℕ) (file trace : List ℕ) where
@@ -77,7 +81,8 @@ module _ (told : Tells) (before now : ℕ) (file trace : List ℕ) where
   no_source (done lines code) h = absurd h
 
   -- its bytes are refused
-  pub bad_source : (bytes : List ℕ) → MayHold (told file) bytes → length bytes ≤ limit → (e : Ending) → EndsAtSource bytes e → EndsReplay told before now file trace e
+  pub bad_source : (bytes : List ℕ) → MayHold (told file) bytes → length bytes ≤ limit → (e : Ending) → EndsAtSource bytes e
+      → EndsReplay told before now file trace e
   bad_source bytes m le usage h = absurd h
   bad_source bytes m le (unread name) h = absurd h
   bad_source bytes m le (refused line) h = R.refused_source (S.refused_bytes bytes m le h)
@@ -85,21 +90,24 @@ module _ (told : Tells) (before now : ℕ) (file trace : List ℕ) where
 
   module _ (p : Program) (source : HoldsSource (told file) p) where
     -- the trace gives no bytes
-    pub no_trace : (mid : ℕ) → before ≤ mid → (tells : Told) → tells ≡ told trace → (e : Ending) → IsUnfetched tells mid now trace e → EndsReplay told before now file trace e
+    pub no_trace : (mid : ℕ) → before ≤ mid → (tells : Told) → tells ≡ told trace → (e : Ending) → IsUnfetched tells mid now trace e
+        → EndsReplay told before now file trace e
     no_trace mid le tells same usage h = absurd h
     no_trace mid le tells same (unread name) h = (rose-later before mid now le h.0, R.unread_trace p source h.1)
     no_trace mid le tells same (refused line) h = R.refused_trace p source (R.too_long (subst (λ w. MayExceed w limit) same h.0) h.1)
     no_trace mid le tells same (done lines code) h = absurd h
 
     -- its bytes are refused
-    pub bad_trace : (tells : Told) → tells ≡ told trace → (bytes : List ℕ) → MayHold tells bytes → length bytes ≤ limit → (e : Ending) → EndsAtTrace bytes p e → EndsReplay told before now file trace e
+    pub bad_trace : (tells : Told) → tells ≡ told trace → (bytes : List ℕ) → MayHold tells bytes → length bytes ≤ limit → (e : Ending)
+        → EndsAtTrace bytes p e → EndsReplay told before now file trace e
     bad_trace tells same bytes m le usage h = absurd h
     bad_trace tells same bytes m le (unread name) h = absurd h
     bad_trace tells same bytes m le (refused line) h = R.refused_trace p source (R.misfit_at bytes h.0 (subst (λ w. MayHold w bytes) same m) le h.1 h.2)
     bad_trace tells same bytes m le (done lines code) h = absurd h
 
     -- the trace is replayed
-    pub traced : (tells : Told) → tells ≡ told trace → (bytes : List ℕ) → MayHold tells bytes → length bytes ≤ limit → (t : Listing) → IsTraceText bytes t → FitsProgram p t
+    pub traced : (tells : Told) → tells ≡ told trace → (bytes : List ℕ) → MayHold tells bytes → length bytes ≤ limit → (t : Listing)
+        → IsTraceText bytes t → FitsProgram p t
         → (lines : List Line) (code : ℕ) → IsReplay p t lines code → IsReplayed told file trace lines code
     traced tells same bytes m le t text fits lines code r = record {
       program = p;

@@ -8,7 +8,7 @@ use Rattle.lus_meaning.specs.Program.{instance_of}
 use Rattle.lus_meaning.specs.Contract.{Property}
 use Rattle.lus_meaning.specs.Property.{properties}
 use Rattle.lus_meaning.specs.Verdict.{Breaks}
-use Rattle.lus_meaning.specs.Trace.{IsFrameOf, Line as TraceLine}
+use Rattle.lus_meaning.specs.Trace.{IsFrameOf, BareLine as TraceLine}
 use Rattle.lus_meaning.specs.TraceView.{Listing, lines_of}
 use Rattle.lus_meaning.specs.Fits.{FitsProgram, FitsNode, first_named}
 use Rattle.lus_meaning.specs.Replay.{Shown, Replays, ReplaysTrace}

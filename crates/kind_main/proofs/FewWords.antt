@@ -8,7 +8,8 @@ three (x ∷ y ∷ []) a b c low high p q r = absurd (omega arith)
 three (x ∷ y ∷ z ∷ []) a b c low high p q r = cc
 three (x ∷ y ∷ z ∷ w ∷ ws) a b c low high p q r = absurd (omega arith)
 
-pub three_words : {Z : Type 0} (bytes : Z → List ℕ) (xs : List Z) (a b c : Z) (word : List ℕ) → 3 ≤ length xs → length xs < 4 → a ≡ get_or xs 0 a → b ≡ get_or xs 1 b → c ≡ get_or xs 2 c → bytes a ≡ word
+pub three_words : {Z : Type 0} (bytes : Z → List ℕ) (xs : List Z) (a b c : Z) (word : List ℕ) → 3 ≤ length xs → length xs < 4
+    → a ≡ get_or xs 0 a → b ≡ get_or xs 1 b → c ≡ get_or xs 2 c → bytes a ≡ word
     → map bytes xs ≡ word ∷ bytes b ∷ bytes c ∷ []
 three_words bytes xs a b c word low high p q r is =
     ap (map bytes) (three xs a b c low high p q r) ∙ ap (λ (w : List ℕ). w ∷ bytes b ∷ bytes c ∷ []) is
@@ -28,6 +29,7 @@ two (x ∷ []) a b low high p q = absurd (omega arith)
 two (x ∷ y ∷ []) a b low high p q = cc
 two (x ∷ y ∷ z ∷ zs) a b low high p q = absurd (omega arith)
 
-pub two_words : {Z : Type 0} (bytes : Z → List ℕ) (xs : List Z) (a b : Z) (word : List ℕ) → 2 ≤ length xs → length xs < 3 → a ≡ get_or xs 0 a → b ≡ get_or xs 1 b → bytes a ≡ word
+pub two_words : {Z : Type 0} (bytes : Z → List ℕ) (xs : List Z) (a b : Z) (word : List ℕ) → 2 ≤ length xs → length xs < 3
+    → a ≡ get_or xs 0 a → b ≡ get_or xs 1 b → bytes a ≡ word
     → map bytes xs ≡ word ∷ bytes b ∷ []
 two_words bytes xs a b word low high p q is = ap (map bytes) (two xs a b low high p q) ∙ ap (λ (w : List ℕ). w ∷ bytes b ∷ []) is

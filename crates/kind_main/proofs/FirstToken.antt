@@ -26,7 +26,8 @@ step_token (ModeName c m) s = refl
 
 form_token : (x : Form) (s : Place) → first_token (form_view x s) ≡ s.from
 form_token x s =
-    let opened : form_view x ≡ form_step (map-Form Form Expr (Place → Expression) Expression form_view expr_view (out-Form x)) = fold_out-Form (Place → Expression) Expression form_step expr_step x in
+    let opened : form_view x ≡ form_step (map-Form Form Expr (Place → Expression) Expression form_view expr_view (out-Form x)) =
+    fold_out-Form (Place → Expression) Expression form_step expr_step x in
     ap (λ (f : Place → Expression). first_token (f s)) opened ∙ step_token _ s
 
 pub expr_token : (e : Expr) → first_token (expr_view e) ≡ e.from

@@ -67,15 +67,18 @@ not_other code k d e o = elim d [
 ]
 
 module _ (told : Tells) (before now : ℕ) (words : List (List ℕ)) (puts_before puts_now : ℕ) (old new : Written) where
-  first_of : (lines first rest : List Line) (status : ℕ) → IsAnswer told before now words lines status → lines ≡ first ++ rest → AreFirst told before now words first
+  first_of : (lines first rest : List Line) (status : ℕ) → IsAnswer told before now words lines status → lines ≡ first ++ rest
+      → AreFirst told before now words first
   first_of lines first rest status a e = L.some rest status (subst (λ ls. IsAnswer told before now words ls status) e a)
 
   -- an answer that was printed
-  pub leaves_printed : (lines : List Line) (status code : ℕ) → IsAnswer told before now words lines status → Printed lines status puts_before puts_now old new code → Leaves told before now words puts_before puts_now old new code
+  pub leaves_printed : (lines : List Line) (status code : ℕ) → IsAnswer told before now words lines status
+      → Printed lines status puts_before puts_now old new code → Leaves told before now words puts_before puts_now old new code
   leaves_printed lines status code a (P.whole e w) = L.answer lines (subst (IsAnswer told before now words lines) (sym e) a) w
   leaves_printed lines status code a (P.broken e r w) = L.failed (text_of lines) e r (L.answered lines status a refl) w
   leaves_printed lines status code a (P.stopped first rest s e w) = L.no_memory first e (first_of lines first rest status a s) w
-  leaves_printed lines status code a (P.lost first rest s e r w) = L.failed (text_of first ++ memory_line) e r (L.short first (first_of lines first rest status a s) refl) w
+  leaves_printed lines status code a (P.lost first rest s e r w) = L.failed (text_of first ++ memory_line) e r
+      (L.short first (first_of lines first rest status a s) refl) w
 
   -- no answer for want of memory
   pub leaves_without : (code : ℕ) → IsSaid puts_before puts_now old new code → Leaves told before now words puts_before puts_now old new code
@@ -122,7 +125,8 @@ module _ (told : Tells) (before now : ℕ) (words : List (List ℕ)) (puts_befor
     printed = w;
   }
 
-  usage_by : (lines : List Line) (code : ℕ) (e : Ending) → EndsSo told before now words e → Shows lines code e → Appends old new (text_of lines) → code ≡ 2 → IsUsage words old new
+  usage_by : (lines : List Line) (code : ℕ) (e : Ending) → EndsSo told before now words e → Shows lines code e → Appends old new
+      (text_of lines) → code ≡ 2 → IsUsage words old new
   usage_by lines code usage (A.no_command o e) h w c = record { other = o; printed = line_alone lines usage_line h.printed w }
   usage_by lines code usage (A.prove file m r) h w c = absurd r
   usage_by lines code usage (A.replay file trace m r) h w c = absurd r
@@ -130,15 +134,19 @@ module _ (told : Tells) (before now : ℕ) (words : List (List ℕ)) (puts_befor
   usage_by lines code (refused line) s h w c = let k : code ≡ 3 = h.status in absurd (omega arith)
   usage_by lines code (done ls j) s h w c = absurd (not_other j 2 (done_code ls j s) (sym h.status ∙ c) (inl refl))
 
-  refusal_by : (lines : List Line) (code : ℕ) (e : Ending) → EndsSo told before now words e → Shows lines code e → Appends old new (text_of lines) → code ≡ 3 → IsRefusal told words old new
+  refusal_by : (lines : List Line) (code : ℕ) (e : Ending) → EndsSo told before now words e → Shows lines code e → Appends old new
+      (text_of lines) → code ≡ 3 → IsRefusal told words old new
   refusal_by lines code (refused line) (A.no_command o e) h w c = cc
-  refusal_by lines code (refused line) (A.prove file m r) h w c = record { line = line; cause = L.in_proof file m r; printed = line_alone lines line h.printed w }
-  refusal_by lines code (refused line) (A.replay file trace m r) h w c = record { line = line; cause = L.in_replay file trace m r; printed = line_alone lines line h.printed w }
+  refusal_by lines code (refused line) (A.prove file m r) h w c = record
+      { line = line; cause = L.in_proof file m r; printed = line_alone lines line h.printed w }
+  refusal_by lines code (refused line) (A.replay file trace m r) h w c = record
+      { line = line; cause = L.in_replay file trace m r; printed = line_alone lines line h.printed w }
   refusal_by lines code usage s h w c = let k : code ≡ 2 = h.status in absurd (omega arith)
   refusal_by lines code (unread name) s h w c = let k : code ≡ 5 = h.status in absurd (omega arith)
   refusal_by lines code (done ls j) s h w c = absurd (not_other j 3 (done_code ls j s) (sym h.status ∙ c) (inr (inl refl)))
 
-  unread_by : (lines : List Line) (code : ℕ) (e : Ending) → EndsSo told before now words e → Shows lines code e → Appends old new (text_of lines) → code ≡ 5 → IsUnread told before now words old new
+  unread_by : (lines : List Line) (code : ℕ) (e : Ending) → EndsSo told before now words e → Shows lines code e → Appends old new
+      (text_of lines) → code ≡ 5 → IsUnread told before now words old new
   unread_by lines code (unread name) (A.no_command o e) h w c = cc
   unread_by lines code (unread name) (A.prove file m r) h w c =
       record { rose = r.0; name = name; which = L.in_proof file m r.1; printed = line_alone lines (read_fault_line name) h.printed w }
@@ -166,12 +174,14 @@ module _ (told : Tells) (before now : ℕ) (words : List (List ℕ)) (puts_befor
   not_by lines code k (done ls j) s h c d =
       not_other j k (done_code ls j s) (sym h.status ∙ c) (elim d [ inl e ↦ inr (inr (inr (inl e))) | inr e ↦ inr (inr (inr (inr e))) ])
 
-  pub proof_of : (code : ℕ) → Leaves told before now words puts_before puts_now old new code → (file : List ℕ) → AreProve words file → IsProofCode code → IsProofDone (told file) old new code
+  pub proof_of : (code : ℕ) → Leaves told before now words puts_before puts_now old new code → (file : List ℕ) → AreProve words file
+      → IsProofCode code → IsProofDone (told file) old new code
   proof_of code (L.answer lines a w) file m h = proof_by lines code a.ending a.ends a.shown w file m (inl h)
   proof_of code (L.failed text c r t w) file m h = absurd (not_other code 6 (inl h) c (inr (inr (inr (inl refl)))))
   proof_of code (L.no_memory lines c f w) file m h = absurd (not_other code 7 (inl h) c (inr (inr (inr (inr refl)))))
 
-  pub replay_of : (code : ℕ) → Leaves told before now words puts_before puts_now old new code → (file trace : List ℕ) → AreReplay words file trace → IsReplayCode code → IsReplayDone told file trace old new code
+  pub replay_of : (code : ℕ) → Leaves told before now words puts_before puts_now old new code → (file trace : List ℕ)
+      → AreReplay words file trace → IsReplayCode code → IsReplayDone told file trace old new code
   replay_of code (L.answer lines a w) file trace m h = replay_by lines code a.ending a.ends a.shown w file trace m (inr h)
   replay_of code (L.failed text c r t w) file trace m h = absurd (not_other code 6 (inr h) c (inr (inr (inr (inl refl)))))
   replay_of code (L.no_memory lines c f w) file trace m h = absurd (not_other code 7 (inr h) c (inr (inr (inr (inr refl)))))
@@ -191,7 +201,8 @@ module _ (told : Tells) (before now : ℕ) (words : List (List ℕ)) (puts_befor
   unread_of code (L.failed text c r t w) h = absurd (omega arith)
   unread_of code (L.no_memory lines c f w) h = absurd (omega arith)
 
-  pub broken_of : (code : ℕ) → Leaves told before now words puts_before puts_now old new code → code ≡ 6 → IsBroken told before now words puts_before puts_now old new
+  pub broken_of : (code : ℕ) → Leaves told before now words puts_before puts_now old new code → code ≡ 6
+      → IsBroken told before now words puts_before puts_now old new
   broken_of code (L.answer lines a w) h = absurd (not_by lines code 6 a.ending a.ends a.shown h (inl refl))
   broken_of code (L.failed text c r t w) h = record { rose = r; text = text; whole = t; printed = w }
   broken_of code (L.no_memory lines c f w) h = absurd (omega arith)

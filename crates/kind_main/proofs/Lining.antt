@@ -20,7 +20,8 @@ nothing_more : {X : Type 0} (old all : List X) → old ++ [] ≡ all → old ≡
 nothing_more old all e = sym (append-nil old) ∙ e
 
 -- a line and then others
-pub line_and_more : (old mid new : List Line) (line text : Line) (more : List Line) → mid ≡ old ++ line ∷ [] → line ≡ text → new ≡ mid ++ more → new ≡ old ++ text ∷ more
+pub line_and_more : (old mid new : List Line) (line text : Line) (more : List Line) → mid ≡ old ++ line ∷ [] → line ≡ text → new ≡ mid
+    ++ more → new ≡ old ++ text ∷ more
 line_and_more old mid new line text more e f g =
     g ∙ (ap (λ l. l ++ more) e ∙ (append_assoc old (line ∷ []) more ∙ ap (λ (l : Line). old ++ l ∷ more) f))
 

@@ -17,11 +17,13 @@ pub rose-later : (a b c : ℕ) → a ≤ b → Rose b c → Rose a c
 rose-later a b c le r = omega arith
 
 -- what is written behind other bytes
-pub front-behind : (old mid new : Option (List ℕ)) (text more all : List ℕ) → (rest : List ℕ) → all ≡ text ++ (more ++ rest) → Appends old mid text → AppendsFront mid new more → AppendsFront old new all
+pub front-behind : (old mid new : Option (List ℕ)) (text more all : List ℕ) → (rest : List ℕ) → all ≡ text ++ (more ++ rest)
+    → Appends old mid text → AppendsFront mid new more → AppendsFront old new all
 front-behind old mid new text more all rest shape a (front, left, split, b) = (
   text ++ front,
   left ++ rest,
-  shape ∙ ap (λ (t : List ℕ). text ++ (t ++ rest)) split ∙ ap (λ (t : List ℕ). text ++ t) (append_assoc front left rest) ∙ sym (append_assoc text front (left ++ rest)),
+  shape ∙ ap (λ (t : List ℕ). text ++ (t ++ rest)) split ∙ ap (λ (t : List ℕ). text ++ t) (append_assoc front left rest) ∙ sym
+      (append_assoc text front (left ++ rest)),
   Appends-trans old mid new text front a b,
 )
 
@@ -38,7 +40,8 @@ module _ {Z : Type 0} (bytes : Z → Line) (items : List Z) (i : ℕ) (item : Z)
   pub lines-split : map bytes items ≡ map bytes (take i items) ++ bytes item ∷ map bytes (drop (suc i) items)
   lines-split =
       let cons : drop i items ≡ item ∷ drop (suc i) items = drop-cons items i item inside ∙ ap (λ x. x ∷ drop (suc i) items) (sym is) in
-      ap (map bytes) (sym (take-append-drop i items)) ∙ map-append bytes (take i items) (drop i items) ∙ ap (λ (l : List Z). map bytes (take i items) ++ map bytes l) cons
+      ap (map bytes) (sym (take-append-drop i items)) ∙ map-append bytes (take i items) (drop i items) ∙ ap
+      (λ (l : List Z). map bytes (take i items) ++ map bytes l) cons
 
   pub text-split : text_of (map bytes items) ≡ text_of (map bytes (take i items)) ++ (bytes item ++ text_of (map bytes (drop (suc i) items)))
   text-split = ap text_of lines-split ∙ text-append (map bytes (take i items)) (bytes item ∷ map bytes (drop (suc i) items))
@@ -46,34 +49,49 @@ module _ {Z : Type 0} (bytes : Z → Line) (items : List Z) (i : ℕ) (item : Z)
   pub text-next : text_of (map bytes (take (i + 1) items)) ≡ text_of (map bytes (take i items)) ++ bytes item
   text-next =
       let more : take (suc i) items ≡ take i items ++ item ∷ [] = take-suc items i item inside ∙ ap (λ x. take i items ++ x ∷ []) (sym is) in
-      rw add-one (ap (λ (l : List Z). text_of (map bytes l)) more ∙ ap text_of (map-append bytes (take i items) (item ∷ [])) ∙ text-append (map bytes (take i items)) (bytes item ∷ []) ∙ ap (λ (t : List ℕ). text_of (map bytes (take i items)) ++ t) (append-nil (bytes item)))
+      rw add-one (ap (λ (l : List Z). text_of (map bytes l)) more ∙ ap text_of (map-append bytes (take i items) (item ∷ [])) ∙ text-append
+      (map bytes (take i items)) (bytes item ∷ []) ∙ ap (λ (t : List ℕ). text_of (map bytes (take i items)) ++ t)
+      (append-nil (bytes item)))
 
-  pub writing-next : (before mid now : ℕ) (old half new : Option (List ℕ)) → Writing bytes items i before mid old half → mid ≤ now → Appends half new (bytes item) → Writing bytes items (i + 1) before now old new
+  pub writing-next : (before mid now : ℕ) (old half new : Option (List ℕ)) → Writing bytes items i before mid old half → mid ≤ now
+      → Appends half new (bytes item) → Writing bytes items (i + 1) before now old new
   writing-next before mid now old half new w le a = record {
     later = let l : before ≤ mid = w.later in omega arith;
     written = subst (Appends old new) (sym text-next) (Appends-trans old half new (text_of (map bytes (take i items))) (bytes item) w.written a);
   }
 
-  pub writing-failed : (status before mid now : ℕ) (old half new : Option (List ℕ)) → Writing bytes items i before mid old half → Rose mid now → AppendsFront half new (bytes item)
+  pub writing-failed : (status before mid now : ℕ) (old half new : Option (List ℕ)) → Writing bytes items i before mid old half
+      → Rose mid now → AppendsFront half new (bytes item)
       → Printed (map bytes items) status before now old new 6
   writing-failed status before mid now old half new w r a = broken refl (rose-later before mid now w.later r)
-      (front-behind old half new (text_of (map bytes (take i items))) (bytes item) (text_of (map bytes items)) (text_of (map bytes (drop (suc i) items))) text-split w.written a)
+      (front-behind old half new (text_of (map bytes (take i items))) (bytes item) (text_of (map bytes items))
+      (text_of (map bytes (drop (suc i) items))) text-split w.written a)
 
-  pub writing-stays : (before mid now : ℕ) (old half new : Option (List ℕ)) → Writing bytes items i before mid old half → mid ≤ now → new ≡ half → Writing bytes items i before now old new
-  writing-stays before mid now old half new w le e = record { later = let l : before ≤ mid = w.later in omega arith; written = subst (λ o. Appends old o (text_of (map bytes (take i items)))) (sym e) w.written }
+  pub writing-stays : (before mid now : ℕ) (old half new : Option (List ℕ)) → Writing bytes items i before mid old half → mid ≤ now
+      → new ≡ half → Writing bytes items i before now old new
+  writing-stays before mid now old half new w le e = record {
+    later = let l : before ≤ mid = w.later in omega arith;
+    written = subst
+        (λ o. Appends old o (text_of (map bytes (take i items)))) (sym e) w.written;
+  }
 
-  pub writing-stopped : (status before mid now : ℕ) (old half new : Option (List ℕ)) (code : ℕ) → Writing bytes items i before mid old half → IsSaid mid now half new code → Printed (map bytes items) status before now old new code
+  pub writing-stopped : (status before mid now : ℕ) (old half new : Option (List ℕ)) (code : ℕ) → Writing bytes items i before mid old half
+      → IsSaid mid now half new code → Printed (map bytes items) status before now old new code
   writing-stopped status before mid now old half new code w (said e (inl a)) =
-      stopped (map bytes (take i items)) (bytes item ∷ map bytes (drop (suc i) items)) lines-split e (inl (Appends-trans old half new (text_of (map bytes (take i items))) memory_line w.written a))
+      stopped (map bytes (take i items)) (bytes item ∷ map bytes (drop (suc i) items)) lines-split e
+      (inl (Appends-trans old half new (text_of (map bytes (take i items))) memory_line w.written a))
   writing-stopped status before mid now old half new code w (said e (inr a)) =
       stopped (map bytes (take i items)) (bytes item ∷ map bytes (drop (suc i) items)) lines-split e
-      (inr (subst (Appends old new) (append-nil (text_of (map bytes (take i items)))) (Appends-trans old half new (text_of (map bytes (take i items))) [] w.written a)))
+      (inr (subst (Appends old new) (append-nil (text_of (map bytes (take i items))))
+      (Appends-trans old half new (text_of (map bytes (take i items))) [] w.written a)))
   writing-stopped status before mid now old half new code w (unsaid e r a) =
       lost (map bytes (take i items)) (bytes item ∷ map bytes (drop (suc i) items)) lines-split e (rose-later before mid now w.later r)
-      (front-behind old half new (text_of (map bytes (take i items))) memory_line (text_of (map bytes (take i items)) ++ memory_line) [] (ap (λ (t : List ℕ). text_of (map bytes (take i items)) ++ t) (sym (append-nil memory_line))) w.written a)
+      (front-behind old half new (text_of (map bytes (take i items))) memory_line (text_of (map bytes (take i items)) ++ memory_line) []
+      (ap (λ (t : List ℕ). text_of (map bytes (take i items)) ++ t) (sym (append-nil memory_line))) w.written a)
 
 -- the last line is written
-pub writing-end : {Z : Type 0} (bytes : Z → Line) (items : List Z) (i : ℕ) (status before now : ℕ) (old new : Option (List ℕ)) → length items ≤ i → Writing bytes items i before now old new
+pub writing-end : {Z : Type 0} (bytes : Z → Line) (items : List Z) (i : ℕ) (status before now : ℕ) (old new : Option (List ℕ))
+    → length items ≤ i → Writing bytes items i before now old new
     → Printed (map bytes items) status before now old new status
 writing-end bytes items i status before now old new le w =
     whole refl (subst (λ l. Appends old new (text_of (map bytes l))) (take_all i items le) w.written)

@@ -19,7 +19,8 @@ use Rattle.kind_main.proofs.Replayed.{body_only}
 
 pub proof_made : (p : Program) (d : Component) (checked : IsBooleanChecked p d) (vs : List Verdict) → AreTrueVerdicts p d 0 (properties (instance_of p d)) vs
     → (report lines : List Line) → report ≡ verdict_report (map property_label (labelled_in d.body)) vs
-    → (t : Tally) → t ≡ tally_of vs → (summary : Line) → summary ≡ summary_line t → lines ≡ report ++ summary ∷ [] → (code : ℕ) → code ≡ tally_code t → IsProof p lines code
+    → (t : Tally) → t ≡ tally_of vs → (summary : Line) → summary ≡ summary_line t → lines ≡ report ++ summary ∷ [] → (code : ℕ)
+    → code ≡ tally_code t → IsProof p lines code
 proof_made p d checked vs right report lines shape t counts summary text printed code status =
     let labels : map property_label (labelled_in d.body) ≡ map label_of (properties (instance_of p d)) =
     labels_of (instance_of p d) d.body ∙ ap (map label_of) (sym (body_only p d checked)) in
@@ -40,11 +41,13 @@ module _ (told : Tells) (before now : ℕ) (file : List ℕ) where
   proof_without_source (refused line) h = S.too_long h.0 h.1
   proof_without_source (done lines code) h = absurd h
 
-  pub proof_of_bad_source : (bytes : List ℕ) → MayHold (told file) bytes → length bytes ≤ limit → (e : Ending) → EndsAtSource bytes e → EndsProof told before now file e
+  pub proof_of_bad_source : (bytes : List ℕ) → MayHold (told file) bytes → length bytes ≤ limit → (e : Ending) → EndsAtSource bytes e
+      → EndsProof told before now file e
   proof_of_bad_source bytes m le usage h = absurd h
   proof_of_bad_source bytes m le (unread name) h = absurd h
   proof_of_bad_source bytes m le (refused line) h = S.refused_bytes bytes m le h
   proof_of_bad_source bytes m le (done lines code) h = absurd h
 
-  pub proof_done : (p : Program) → HoldsSource (told file) p → (lines : List Line) (code : ℕ) → IsProof p lines code → EndsProof told before now file (done lines code)
+  pub proof_done : (p : Program) → HoldsSource (told file) p → (lines : List Line) (code : ℕ) → IsProof p lines code
+      → EndsProof told before now file (done lines code)
   proof_done p source lines code proof = record { program = p; source = source; proof = proof }

@@ -27,7 +27,8 @@ one_node p d e x only named = by_name (bytes_eq x d.name.text) (subst (λ q. fir
 
 module _ (p : Program) (d : Component) (checked : IsBooleanChecked p d) where
   pub body_only : properties (instance_of p d) ≡ body_properties (instance_of p d) d.body
-  body_only = subst (λ (i : Instance). properties i ≡ body_properties i d.body) (sym (boolean_checked_instance p d checked)) (properties_are d checked.rules.shape)
+  body_only = subst (λ (i : Instance). properties i ≡ body_properties i d.body) (sym (boolean_checked_instance p d checked))
+      (properties_are d checked.rules.shape)
 
   pub labelled_many : length (labelled_in d.body) ≡ length (properties (instance_of p d))
   labelled_many = as_many (instance_of p d) d.body ∙ ap length (sym body_only)

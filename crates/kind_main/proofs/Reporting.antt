@@ -24,7 +24,8 @@ said_line i ms l None = refl
 said_line i ms l (Some t) = ap (λ x. x ∷ []) (sym (one_line i ms l t))
 
 -- the lines of a body's properties are those of its texts
-pub report_of : (i : Instance) (k : ℕ) (ss : List Statement) (hits : ℕ → Option ℕ) → body_report k (labelled_in ss) hits ≡ report_from k (body_properties i ss) hits
+pub report_of : (i : Instance) (k : ℕ) (ss : List Statement) (hits : ℕ → Option ℕ) → body_report k (labelled_in ss) hits ≡ report_from k
+    (body_properties i ss) hits
 report_of i k [] hits = refl
 report_of i k (property l ∷ ss) hits = rw (said_line i (terms i).modes l (hits k), report_of i (suc k) ss hits) refl
 report_of i k (equation xs e ∷ ss) hits = report_of i k ss hits
@@ -48,7 +49,8 @@ pub record Reporting (all : List Statement) (hits : ℕ → Option ℕ) (lines :
 pub report-start : (all : List Statement) (hits : ℕ → Option ℕ) → length (labelled_in all) ≤ 500 → Reporting all hits [] 0 all
 report-start all hits le = record { go = refl; few = omega (arith, le) }
 
-next_item : (items : List Item) (i : ℕ) (x : Item) → i < length items → x ≡ get_or items i x → map item_view (drop i items) ≡ item_view x ∷ map item_view (drop (i + 1) items)
+next_item : (items : List Item) (i : ℕ) (x : Item) → i < length items → x ≡ get_or items i x → map item_view
+    (drop i items) ≡ item_view x ∷ map item_view (drop (i + 1) items)
 next_item items i x lt is =
     let cons : drop i items ≡ x ∷ drop (suc i) items = drop-cons items i x lt ∙ ap (λ (y : Item). y ∷ drop (suc i) items) (sym is) in
     rw add-one (ap (map item_view) cons)
@@ -65,20 +67,26 @@ goes_on all hits lines grown count after (equation xs e) ss g r = record { go = 
 goes_on all hits lines grown count after (assertion e) ss g r = record { go = rw (g.0, g.1) r.go; few = rw g.0 r.few }
 goes_on all hits lines grown count after (main_mark p) ss g r = record { go = rw (g.0, g.1) r.go; few = rw g.0 r.few }
 
-pub report-next : (all : List Statement) (hits : ℕ → Option ℕ) (lines grown : List Line) (count after : ℕ) (items : List Item) (i : ℕ) (x : Item) → i < length items → x ≡ get_or items i x
-    → GoesOn (item_view x) hits count after lines grown → Reporting all hits lines count (map item_view (drop i items)) → Reporting all hits grown after (map item_view (drop (i + 1) items))
+pub report-next : (all : List Statement) (hits : ℕ → Option ℕ) (lines grown : List Line) (count after : ℕ) (items : List Item) (i : ℕ)
+    (x : Item) → i < length items → x ≡ get_or items i x
+    → GoesOn (item_view x) hits count after lines grown → Reporting all hits lines count (map item_view (drop i items))
+    → Reporting all hits grown after (map item_view (drop (i + 1) items))
 report-next all hits lines grown count after items i x lt is g r =
-    goes_on all hits lines grown count after (item_view x) (map item_view (drop (i + 1) items)) g (subst (Reporting all hits lines count) (next_item items i x lt is) r)
+    goes_on all hits lines grown count after (item_view x) (map item_view (drop (i + 1) items)) g
+    (subst (Reporting all hits lines count) (next_item items i x lt is) r)
 
-pub report-few : (all : List Statement) (hits : ℕ → Option ℕ) (lines : List Line) (count : ℕ) (left : List Statement) → Reporting all hits lines count left → count ≤ 500
+pub report-few : (all : List Statement) (hits : ℕ → Option ℕ) (lines : List Line) (count : ℕ) (left : List Statement)
+    → Reporting all hits lines count left → count ≤ 500
 report-few all hits lines count left r = let f = r.few in omega (arith, f)
 
-pub report-end : (all : List Statement) (hits : ℕ → Option ℕ) (lines : List Line) (count : ℕ) (items : List Item) (i : ℕ) → length items ≤ i → Reporting all hits lines count (map item_view (drop i items)) → lines ≡ body_report 0 (labelled_in all) hits
+pub report-end : (all : List Statement) (hits : ℕ → Option ℕ) (lines : List Line) (count : ℕ) (items : List Item) (i : ℕ) → length items ≤ i
+    → Reporting all hits lines count (map item_view (drop i items)) → lines ≡ body_report 0 (labelled_in all) hits
 report-end all hits lines count items i le r =
     let none : drop i items ≡ [] = drop_all i items le in
     let done : Reporting all hits lines count [] = subst (λ (l : List Item). Reporting all hits lines count (map item_view l)) none r in
     sym (append-nil lines) ∙ done.go
 
 -- a line that was pushed
-pub pushed-line : {Z : Type 0} (bytes : Z → Line) (before now : List Z) (line : Z) (text : Line) → now ≡ before ++ line ∷ [] → bytes line ≡ text → map bytes now ≡ map bytes before ++ text ∷ []
+pub pushed-line : {Z : Type 0} (bytes : Z → Line) (before now : List Z) (line : Z) (text : Line) → now ≡ before ++ line ∷ []
+    → bytes line ≡ text → map bytes now ≡ map bytes before ++ text ∷ []
 pushed-line bytes before now line text e is = ap (map bytes) e ∙ map-append bytes before (line ∷ []) ∙ ap (λ (t : Line). map bytes before ++ t ∷ []) is

@@ -28,9 +28,12 @@ pub data IsWhole (told : Tells) (before now : ℕ) (words : List (List ℕ)) (te
 
 -- How a call ends: with its answer written, with a put that failed, or without memory.
 pub data Leaves (told : Tells) (before now : ℕ) (words : List (List ℕ)) (puts_before puts_now : ℕ) (old new : Written) (code : ℕ) : Type 0 where
-  answer : (lines : List Line) → IsAnswer told before now words lines code → Appends old new (text_of lines) → Leaves told before now words puts_before puts_now old new code
-  failed : (text : List ℕ) → code ≡ 6 → Rose puts_before puts_now → IsWhole told before now words text → AppendsFront old new text → Leaves told before now words puts_before puts_now old new code
-  no_memory : (lines : List Line) → code ≡ 7 → AreFirst told before now words lines → Appends old new (text_of lines ++ memory_line) ⊎ Appends old new (text_of lines) → Leaves told before now words puts_before puts_now old new code
+  answer : (lines : List Line) → IsAnswer told before now words lines code → Appends old new (text_of lines)
+      → Leaves told before now words puts_before puts_now old new code
+  failed : (text : List ℕ) → code ≡ 6 → Rose puts_before puts_now → IsWhole told before now words text → AppendsFront old new text
+      → Leaves told before now words puts_before puts_now old new code
+  no_memory : (lines : List Line) → code ≡ 7 → AreFirst told before now words lines → Appends old new (text_of lines ++ memory_line)
+      ⊎ Appends old new (text_of lines) → Leaves told before now words puts_before puts_now old new code
 
 -- ---- commands that were carried out
 

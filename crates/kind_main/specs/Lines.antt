@@ -61,7 +61,8 @@ rule_more _ = []
 
 -- `refused L:C NAME`
 abbrev pub refused_line : Refused → Line
-refused_line r = codes "refused " ++ (decimal r.at.line ++ (codes ":" ++ (decimal r.at.column ++ (codes " " ++ (rule_name r.reason ++ (rule_more r.reason ++ codes "\n"))))))
+refused_line r = codes "refused " ++ (decimal r.at.line ++ (codes ":" ++
+    (decimal r.at.column ++ (codes " " ++ (rule_name r.reason ++ (rule_more r.reason ++ codes "\n"))))))
 
 -- what is read and not built is refused at the start
 abbrev pub not_built_line : Line

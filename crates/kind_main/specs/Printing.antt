@@ -14,5 +14,7 @@ pub data IsSaid (puts_before puts_now : ℕ) (old new : Option (List ℕ)) (code
 pub data Printed (lines : List Line) (status : ℕ) (puts_before puts_now : ℕ) (old new : Option (List ℕ)) (code : ℕ) : Type 0 where
   whole : code ≡ status → Appends old new (text_of lines) → Printed lines status puts_before puts_now old new code
   broken : code ≡ 6 → Rose puts_before puts_now → AppendsFront old new (text_of lines) → Printed lines status puts_before puts_now old new code
-  stopped : (first rest : List Line) → lines ≡ first ++ rest → code ≡ 7 → Appends old new (text_of first ++ memory_line) ⊎ Appends old new (text_of first) → Printed lines status puts_before puts_now old new code
-  lost : (first rest : List Line) → lines ≡ first ++ rest → code ≡ 6 → Rose puts_before puts_now → AppendsFront old new (text_of first ++ memory_line) → Printed lines status puts_before puts_now old new code
+  stopped : (first rest : List Line) → lines ≡ first ++ rest → code ≡ 7 → Appends old new (text_of first ++ memory_line) ⊎ Appends old new
+      (text_of first) → Printed lines status puts_before puts_now old new code
+  lost : (first rest : List Line) → lines ≡ first ++ rest → code ≡ 6 → Rose puts_before puts_now → AppendsFront old new
+      (text_of first ++ memory_line) → Printed lines status puts_before puts_now old new code

@@ -43,7 +43,8 @@ pub record HoldsTrace (told : Told) (p : Program) (t : Listing) : Type 0 where
 -- why a file is refused as a trace of the program, and the line that says so
 pub data IsRefusedTrace (told : Told) (p : Program) (line : Line) : Type 0 where
   too_long : MayExceed told limit → line ≡ too_long_line → IsRefusedTrace told p line
-  misfit_at : (bytes : List ℕ) (at : Pos) → MayHold told bytes → length bytes ≤ limit → IsMisfitTrace bytes p at → line ≡ formless_line at → IsRefusedTrace told p line
+  misfit_at : (bytes : List ℕ) (at : Pos) → MayHold told bytes → length bytes ≤ limit → IsMisfitTrace bytes p at → line ≡ formless_line at
+      → IsRefusedTrace told p line
 
 -- the files hold a source and a trace, and the lines say what the trace's one frame breaks
 pub record IsReplayed (told : Tells) (file trace : List ℕ) (lines : List Line) (code : ℕ) : Type 0 where

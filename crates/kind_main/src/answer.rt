@@ -15,7 +15,8 @@ use std::alloc::{AllocError, Global};
 
 /// Carries out the command of the words. The shelf is left as the calls on it left it.
 fn carried_out<H: Shelf>(alloc: Global, words: &[String], shelf: &mut H) -> Result<Report, Stopped>
-    ensures { IfEnded (EndsSo (H.told shelf.old) (H.faults shelf.old) (H.faults shelf.new) (map string_bytes words.now)) result }
+    ensures { IfEnded (EndsSo (H.told shelf.old) (H.faults shelf.old) (H.faults shelf.new)
+        (map string_bytes words.now)) result }
 {
     match read_words(words) {
         None => Err(Stopped::Usage),

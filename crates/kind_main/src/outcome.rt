@@ -47,11 +47,13 @@ fn broken(
     path: &[State],
     property: u32,
 ) -> Result<Outcome, AllocError>
-    requires breaks { (d : Component) → IsBooleanChecked (program_view checked.now) d → PathBreaks (system_of (instance_of (program_view checked.now) d)) property (states_view path.now) }
+    requires breaks { (d : Component) → IsBooleanChecked (program_view checked.now) d → PathBreaks
+        (system_of (instance_of (program_view checked.now) d)) property (states_view path.now) }
     requires short { length path.now ≤ 2 }
     requires some { 0 < length path.now }
     requires readable { IsReadable (program_view checked.now) }
-    ensures { IfOk result (λ o. (d : Component) → IsBooleanChecked (program_view checked.now) d → IsTrueOfNumber (program_view checked.now) d property (outcome_view o)) }
+    ensures { IfOk result (λ o. (d : Component) → IsBooleanChecked (program_view checked.now) d → IsTrueOfNumber
+        (program_view checked.now) d property (outcome_view o)) }
 {
     checked_traces();
     checked_breaks();
@@ -77,11 +79,13 @@ fn said_of(
     system: &System,
     property: u32,
 ) -> Result<Outcome, AllocError>
-    requires system { (d : Component) → IsBooleanChecked (program_view checked.now) d → system_view system.now ≡ system_of (instance_of (program_view checked.now) d) }
+    requires system { (d : Component) → IsBooleanChecked (program_view checked.now) d
+        → system_view system.now ≡ system_of (instance_of (program_view checked.now) d) }
     requires ready { IsReady (system_view system.now) }
     requires named { property < length (system_view system.now).properties }
     requires readable { IsReadable (program_view checked.now) }
-    ensures { IfOk result (λ o. (d : Component) → IsBooleanChecked (program_view checked.now) d → IsTrueOfNumber (program_view checked.now) d property (outcome_view o)) }
+    ensures { IfOk result (λ o. (d : Component) → IsBooleanChecked (program_view checked.now) d → IsTrueOfNumber
+        (program_view checked.now) d property (outcome_view o)) }
 {
     checked_verdicts();
     match decide(alloc, system, property, BUDGETS) {
@@ -98,11 +102,14 @@ pub fn outcomes(
     checked: &Checked,
     system: &System,
 ) -> Result<Vec<Outcome>, AllocError>
-    requires system { (d : Component) → IsBooleanChecked (program_view checked.now) d → system_view system.now ≡ system_of (instance_of (program_view checked.now) d) }
+    requires system { (d : Component) → IsBooleanChecked (program_view checked.now) d
+        → system_view system.now ≡ system_of (instance_of (program_view checked.now) d) }
     requires ready { IsReady (system_view system.now) }
     requires few { length (system_view system.now).properties < 2 ^ 32 }
     requires readable { IsReadable (program_view checked.now) }
-    ensures { IfOk result (λ v. (d : Component) → IsBooleanChecked (program_view checked.now) d → AreTrueVerdicts (program_view checked.now) d 0 (properties (instance_of (program_view checked.now) d)) (outcomes_view v.items)) }
+    ensures { IfOk result (λ v. (d : Component) → IsBooleanChecked (program_view checked.now) d
+        → AreTrueVerdicts (program_view checked.now) d 0 (properties (instance_of (program_view checked.now) d))
+        (outcomes_view v.items)) }
 {
     checked_verdicts();
     let mut outcomes = Vec::new(alloc);

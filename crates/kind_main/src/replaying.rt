@@ -82,7 +82,8 @@ fn replay_report(
     replay: &Replay,
 ) -> Result<Report, AllocError>
     requires { ReplaysTrace (program_view checked.now) (trace_view trace.now) (replay_view replay.now) }
-    ensures { IfOk result (λ r. IsReplay (program_view checked.now) (trace_view trace.now) (lines_view r.lines.items) r.status.code) }
+    ensures { IfOk result (λ r. IsReplay (program_view checked.now) (trace_view trace.now)
+        (lines_view r.lines.items) r.status.code) }
 {
     let mut lines = break_lines(alloc, &checked.node().items, replay)?;
     let status = break_status(&lines);
@@ -98,7 +99,8 @@ pub fn replay_files<H: Shelf>(
     trace: &str,
     shelf: &mut H,
 ) -> Result<Report, Stopped>
-    ensures { IfEnded (EndsReplay (H.told shelf.old) (H.faults shelf.old) (H.faults shelf.new) source.now trace.now) result }
+    ensures { IfEnded (EndsReplay (H.told shelf.old) (H.faults shelf.old)
+        (H.faults shelf.new) source.now trace.now) result }
 {
     let bytes = fetch(alloc, source, shelf)?;
     let checked = read_source(alloc, &bytes)?;

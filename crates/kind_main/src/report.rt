@@ -18,7 +18,8 @@ fn push_break(
     instant: Option<u32>,
     lines: &mut Vec<Vec<u8>>,
 ) -> Result<(), AllocError>
-    ensures { OnOk result (lines_view lines.new.items ≡ lines_view lines.old.items ++ property_line (named_view property.now) instant) }
+    ensures { OnOk result (lines_view lines.new.items ≡ lines_view lines.old.items ++ property_line
+        (named_view property.now) instant) }
 {
     if let Some(t) = instant {
         let line = breaks_text(alloc, property, t)?;
@@ -37,7 +38,8 @@ fn push_item(
     lines: &mut Vec<Vec<u8>>,
 ) -> Result<u32, AllocError>
     requires { count ≤ 500 }
-    ensures { IfOk result (λ after. GoesOn (item_view item.now) (replay_view replay.now).breaks count after (lines_view lines.old.items) (lines_view lines.new.items)) }
+    ensures { IfOk result (λ after. GoesOn (item_view item.now) (replay_view replay.now).breaks count after
+        (lines_view lines.old.items) (lines_view lines.new.items)) }
 {
     let Item::Property(property) = item else {
         return Ok(count);
@@ -53,7 +55,8 @@ pub fn break_lines(
     replay: &Replay,
 ) -> Result<Vec<Vec<u8>>, AllocError>
     requires { length (labelled_in (map item_view items.now)) ≤ 500 }
-    ensures { IfOk result (λ lines. lines_view lines.items ≡ body_report 0 (labelled_in (map item_view items.now)) (replay_view replay.now).breaks) }
+    ensures { IfOk result (λ lines. lines_view lines.items ≡ body_report 0
+        (labelled_in (map item_view items.now)) (replay_view replay.now).breaks) }
 {
     let mut lines = Vec::new(alloc);
     let mut count = 0;

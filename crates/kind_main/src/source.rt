@@ -17,7 +17,8 @@ use std::alloc::Global;
 
 /// The end of a command whose source is refused.
 fn refused(alloc: Global, refusal: &Refusal) -> Stopped
-    ensures { IfStopped (λ e. (e ≡ ends_refused (refused_line (refusal_view refusal.now))) × ((refusal_view refusal.now).reason ≢ memory)) result }
+    ensures { IfStopped (λ e. (e ≡ ends_refused (refused_line (refusal_view refusal.now))) ×
+        ((refusal_view refusal.now).reason ≢ memory)) result }
 {
     match &refusal.what {
         What::Memory => Stopped::Memory,
@@ -31,7 +32,8 @@ fn refused(alloc: Global, refusal: &Refusal) -> Stopped
 /// The program of a source, which breaks no rule.
 pub fn read_source(alloc: Global, bytes: &[u8]) -> Result<Checked, Stopped>
     requires { length bytes.now ≤ 1048576 }
-    ensures { MatchResult result (λ c. IsSource bytes.now (program_view c) × BreaksNoBooleanRule (program_view c)) (IfStopped (EndsAtSource bytes.now)) }
+    ensures { MatchResult result (λ c. IsSource bytes.now (program_view c) × BreaksNoBooleanRule
+        (program_view c)) (IfStopped (EndsAtSource bytes.now)) }
 {
     let program = match read_program(alloc, bytes) {
         Ok(program) => program,

@@ -10,7 +10,8 @@ use std::alloc::{AllocError, Global};
 
 /// `breaks property "LABEL" at T`, or `breaks property @L:C at T` where the property has no text.
 pub fn breaks_text(alloc: Global, property: &Named, t: u32) -> Result<String, AllocError>
-    ensures { IfOk result (λ text. string_bytes text ≡ property_breaks (named_view property.now).label property.now.value.from t) }
+    ensures { IfOk result (λ text. string_bytes text ≡ property_breaks
+        (named_view property.now).label property.now.value.from t) }
 {
     match &property.label {
         Some(label) => format!(in alloc; "breaks property \"{label}\" at {t}\n"),

@@ -15,7 +15,8 @@ fn cut(
     line: &mut Vec<u8>,
     byte: u8,
 ) -> Result<(), AllocError>
-    ensures { OnOk result (Cuts byte (lines_view lines.old.items) line.old.items (lines_view lines.new.items) line.new.items) }
+    ensures { OnOk result (Cuts byte (lines_view lines.old.items) line.old.items
+        (lines_view lines.new.items) line.new.items) }
 {
     line.push(byte)?;
     if byte != b'\n' {

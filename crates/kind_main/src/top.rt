@@ -37,21 +37,29 @@ pub fn kind_top<H: Shelf, K: Sink>(
 ) -> Status
     // A proof, 0, 1 and 4: the file holds a source, and the lines say what is so of each of its properties: that it
     // holds, by which trace it breaks, or why neither was found.
-    ensures proved { (file : List ℕ) → AreProve (map string_bytes words.now) file → IsProofCode result.code → IsProofDone (H.told shelf.old file) (K.written out.old) (K.written out.new) result.code }
+    ensures proved { (file : List ℕ) → AreProve (map string_bytes words.now) file → IsProofCode result.code
+        → IsProofDone (H.told shelf.old file) (K.written out.old) (K.written out.new) result.code }
     // A replay, 1 and 10: the files hold a source and a trace, and the lines say what the trace's one frame breaks.
-    ensures replayed { (file trace : List ℕ) → AreReplay (map string_bytes words.now) file trace → IsReplayCode result.code → IsReplayDone (H.told shelf.old) file trace (K.written out.old) (K.written out.new) result.code }
+    ensures replayed { (file trace : List ℕ) → AreReplay (map string_bytes words.now) file trace
+        → IsReplayCode result.code → IsReplayDone (H.told shelf.old) file trace (K.written out.old)
+        (K.written out.new) result.code }
     // 2: the words are of no form that is built.
     ensures usage { result.code ≡ 2 → IsUsage (map string_bytes words.now) (K.written out.old) (K.written out.new) }
     // Where they are of a form that is built, 2 never comes.
     ensures words { result.code ≡ 2 → AreNoCommand (map string_bytes words.now) }
     // 3: a file of the command is outside, and the line says which.
-    ensures refused { result.code ≡ 3 → IsRefusal (H.told shelf.old) (map string_bytes words.now) (K.written out.old) (K.written out.new) }
+    ensures refused { result.code ≡ 3 → IsRefusal (H.told shelf.old) (map string_bytes words.now)
+        (K.written out.old) (K.written out.new) }
     // 5: the shelf's count of faults rose, and the line names the file.
-    ensures unread { result.code ≡ 5 → IsUnread (H.told shelf.old) (H.faults shelf.old) (H.faults shelf.new) (map string_bytes words.now) (K.written out.old) (K.written out.new) }
+    ensures unread { result.code ≡ 5 → IsUnread (H.told shelf.old) (H.faults shelf.old) (H.faults shelf.new)
+        (map string_bytes words.now) (K.written out.old) (K.written out.new) }
     // 6: the sink's count of faults rose, and a front of what the call would have written is written.
-    ensures broken { result.code ≡ 6 → IsBroken (H.told shelf.old) (H.faults shelf.old) (H.faults shelf.new) (map string_bytes words.now) (K.faults out.old) (K.faults out.new) (K.written out.old) (K.written out.new) }
+    ensures broken { result.code ≡ 6 → IsBroken (H.told shelf.old) (H.faults shelf.old) (H.faults shelf.new)
+        (map string_bytes words.now) (K.faults out.old) (K.faults out.new) (K.written out.old)
+        (K.written out.new) }
     // 7: whole first lines of the answer are written, and then, where that was possible, that memory ran out.
-    ensures short { result.code ≡ 7 → IsShort (H.told shelf.old) (H.faults shelf.old) (H.faults shelf.new) (map string_bytes words.now) (K.written out.old) (K.written out.new) }
+    ensures short { result.code ≡ 7 → IsShort (H.told shelf.old) (H.faults shelf.old) (H.faults shelf.new)
+        (map string_bytes words.now) (K.written out.old) (K.written out.new) }
     // There is no other status, and those of a proof or of a replay come for it alone.
     ensures known { IsKnown (map string_bytes words.now) result.code }
 {

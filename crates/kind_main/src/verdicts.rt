@@ -93,7 +93,8 @@ fn push_indented(alloc: Global, line: &[u8], lines: &mut Vec<Vec<u8>>) -> Result
 
 /// Adds the lines of a trace, each behind two spaces.
 fn push_trace(alloc: Global, trace: &[Vec<u8>], lines: &mut Vec<Vec<u8>>) -> Result<(), AllocError>
-    ensures { OnOk result (lines_view lines.new.items ≡ lines_view lines.old.items ++ map (λ l. codes "  " ++ l) (lines_view trace.now)) }
+    ensures { OnOk result (lines_view lines.new.items ≡ lines_view lines.old.items ++ map (λ l. codes "  " ++ l)
+        (lines_view trace.now)) }
 {
     for line in trace {
         push_indented(alloc, line, lines)?;
@@ -117,7 +118,8 @@ fn push_falsifiable(
     trace: &[Vec<u8>],
     lines: &mut Vec<Vec<u8>>,
 ) -> Result<(), AllocError>
-    ensures { OnOk result (lines_view lines.new.items ≡ lines_view lines.old.items ++ verdict_lines label.now (falsifiable last (lines_view trace.now))) }
+    ensures { OnOk result (lines_view lines.new.items ≡ lines_view lines.old.items ++ verdict_lines label.now
+        (falsifiable last (lines_view trace.now))) }
 {
     let line = format!(in alloc; "falsifiable {label} at {last}\n")?;
     push_line(lines, line)?;
@@ -133,7 +135,8 @@ fn push_unknown(
     step: &Cause,
     lines: &mut Vec<Vec<u8>>,
 ) -> Result<(), AllocError>
-    ensures { OnOk result (lines_view lines.new.items ≡ lines_view lines.old.items ++ verdict_lines label.now (unknown (why_view bounded.now) (why_view step.now))) }
+    ensures { OnOk result (lines_view lines.new.items ≡ lines_view lines.old.items ++ verdict_lines label.now
+        (unknown (why_view bounded.now) (why_view step.now))) }
 {
     let bounded = cause_text(alloc, bounded)?;
     let step = cause_text(alloc, step)?;
@@ -148,7 +151,8 @@ fn push_outcome(
     outcome: &Outcome,
     lines: &mut Vec<Vec<u8>>,
 ) -> Result<(), AllocError>
-    ensures { OnOk result (lines_view lines.new.items ≡ lines_view lines.old.items ++ verdict_lines label.now (outcome_view outcome.now)) }
+    ensures { OnOk result (lines_view lines.new.items ≡ lines_view lines.old.items ++ verdict_lines label.now
+        (outcome_view outcome.now)) }
 {
     match outcome {
         Outcome::Valid => push_line(lines, format!(in alloc; "valid {label}\n")?),
@@ -164,7 +168,8 @@ fn push_verdict(
     outcome: &Outcome,
     lines: &mut Vec<Vec<u8>>,
 ) -> Result<(), AllocError>
-    ensures { OnOk result (lines_view lines.new.items ≡ lines_view lines.old.items ++ verdict_lines (property_label (named_view property.now)) (outcome_view outcome.now)) }
+    ensures { OnOk result (lines_view lines.new.items ≡ lines_view lines.old.items ++ verdict_lines
+        (property_label (named_view property.now)) (outcome_view outcome.now)) }
 {
     let label = label_text(alloc, property)?;
     push_outcome(alloc, label.as_str(), outcome, lines)
@@ -172,7 +177,8 @@ fn push_verdict(
 
 /// Adds an item that is a property.
 fn push_property<'a>(properties: &mut Vec<&'a Named>, item: &'a Item) -> Result<(), AllocError>
-    ensures { OnOk result (map (λ r. named_view r.now) properties.new.items ≡ map (λ r. named_view r.now) properties.old.items ++ labelled_in (item_view item.now ∷ [])) }
+    ensures { OnOk result (map (λ r. named_view r.now) properties.new.items ≡ map
+        (λ r. named_view r.now) properties.old.items ++ labelled_in (item_view item.now ∷ [])) }
 {
     if let Item::Property(property) = item {
         properties.push(property)?;
@@ -198,7 +204,8 @@ pub fn verdict_report(
     outcomes: &[Outcome],
 ) -> Result<Vec<Vec<u8>>, AllocError>
     requires { length (labelled_in (map item_view items.now)) ≡ length outcomes.now }
-    ensures { IfOk result (λ v. lines_view v.items ≡ report_of_verdicts (map property_label (labelled_in (map item_view items.now))) (outcomes_view outcomes.now)) }
+    ensures { IfOk result (λ v. lines_view v.items ≡ report_of_verdicts
+        (map property_label (labelled_in (map item_view items.now))) (outcomes_view outcomes.now)) }
 {
     let properties = properties_of(alloc, items)?;
     let mut lines = Vec::new(alloc);

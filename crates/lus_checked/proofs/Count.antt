@@ -16,7 +16,8 @@ use Rattle.name_table.specs.Names.{number_of}
 use Rattle.name_table.proofs.Numbers.{number_below, name_of_number}
 
 module _ (ys : List Name) where
-  apart : (x : Name) → named_in x ys ≡ true → (xs : List Name) → named_in x xs ≡ false → AllAmong ys xs → AllByRecursion (λ k. eqb (number_of ys x) k ≡ false) (map (number_of ys) xs)
+  apart : (x : Name) → named_in x ys ≡ true → (xs : List Name) → named_in x xs ≡ false → AllAmong ys xs → AllByRecursion
+      (λ k. eqb (number_of ys x) k ≡ false) (map (number_of ys) xs)
   apart x h [] e a = tt
   apart x h (z ∷ xs) e a = go (cases_Bool (bytes_eq x z)) (λ f. apart x h xs f a.1)
     where
@@ -25,7 +26,8 @@ module _ (ys : List Name) where
           let same : x ≡ z = sym (name_of_number ys x h) ∙ (ap (λ k. get_or ys k []) q ∙ name_of_number ys z a.0) in
           true≢false (sym ((bytes_eq-Decides x z).1 same) ∙ f)
 
-      go : (bytes_eq x z ≡ true) ⊎ (bytes_eq x z ≡ false) → (named_in x xs ≡ false → AllByRecursion (λ k. eqb (number_of ys x) k ≡ false) (map (number_of ys) xs)) → AllByRecursion (λ k. eqb (number_of ys x) k ≡ false) (map (number_of ys) (z ∷ xs))
+      go : (bytes_eq x z ≡ true) ⊎ (bytes_eq x z ≡ false) → (named_in x xs ≡ false → AllByRecursion (λ k. eqb (number_of ys x) k ≡ false)
+          (map (number_of ys) xs)) → AllByRecursion (λ k. eqb (number_of ys x) k ≡ false) (map (number_of ys) (z ∷ xs))
       go (inl t) r = absurd (true≢false (rw t at e))
       go (inr f) r = (ne_eqb (number_of ys x) (number_of ys z) (differ f), r (rw f at e))
 
@@ -44,6 +46,7 @@ module _ (ys : List Name) where
 
   pub names_fit : (xs : List Name) → AreDistinct xs → AllAmong ys xs → length xs ≤ length ys
   names_fit xs d a =
-      let h : length (map (number_of ys) xs) ≤ length ys = length-le_from_distinct_below (map (number_of ys) xs) (length ys) (numbers_apart xs d a) (all_below (length ys) (map (number_of ys) xs) (numbers_below xs a)) in
+      let h : length (map (number_of ys) xs) ≤ length ys = length-le_from_distinct_below (map (number_of ys) xs) (length ys)
+      (numbers_apart xs d a) (all_below (length ys) (map (number_of ys) xs) (numbers_below xs a)) in
       let e : length (map (number_of ys) xs) ≡ length xs = numbers_length xs in
       omega arith

@@ -77,7 +77,8 @@ module _ (rows : List (List ℕ)) (n : ℕ) (done : List Bool) (ks : List ℕ) (
         least = λ j h e r. true≢false (sym (open_of_ready j (omega arith) e r) ∙ first j h);
       }
 
-  pub open_next : (k : ℕ) → AreNext n (Passes (row_needs rows)) [] ks → k < n → is_open rows done k ≡ true → ((j : ℕ) → j < k → is_open rows done j ≡ false) → AreNext n (Passes (row_needs rows)) [] (ks ++ k ∷ [])
+  pub open_next : (k : ℕ) → AreNext n (Passes (row_needs rows)) [] ks → k < n → is_open rows done k ≡ true →
+      ((j : ℕ) → j < k → is_open rows done j ≡ false) → AreNext n (Passes (row_needs rows)) [] (ks ++ k ∷ [])
   open_next k a l o first = next-snoc n (row_needs rows) [] ks k a (open_is_next k l o first)
 
   pub none_open : length ks < n → ((k : ℕ) → k < n → is_open rows done k ≡ false) → IsStuck n (Passes (row_needs rows)) ks
@@ -103,8 +104,11 @@ module _ (rows : List (List ℕ)) (n : ℕ) (done : List Bool) (ks : List ℕ) (
       go (inl t) =
           let e : j ≡ k = eqb-true j k t in
           let m : get_or (set done k true) k true ≡ true = get_or-set_same done k true true (omega arith) in
-          subst (λ i. get_or (set done k true) i true ≡ true) (sym e) m ∙ (or_true (is_listed ks j) ∙ sym (subst (λ b. is_listed (ks ++ k ∷ []) j ≡ (is_listed ks j || (b || false))) t listed))
-      go (inr f) = get_or-set_other done k j true true (eqb-false j k f) ∙ (marks j h ∙ (or_false (is_listed ks j) ∙ sym (subst (λ b. is_listed (ks ++ k ∷ []) j ≡ (is_listed ks j || (b || false))) f listed)))
+          subst (λ i. get_or (set done k true) i true ≡ true) (sym e) m ∙
+          (or_true (is_listed ks j) ∙ sym (subst (λ b. is_listed (ks ++ k ∷ []) j ≡ (is_listed ks j || (b || false))) t listed))
+      go (inr f) = get_or-set_other done k j true true (eqb-false j k f) ∙
+          (marks j h ∙ (or_false (is_listed ks j) ∙ sym (subst (λ b. is_listed (ks ++ k ∷ []) j ≡ (is_listed ks j || (b || false))) f
+          listed)))
 
 pub marks_start : (n : ℕ) (done : List Bool) → ((j : ℕ) → j < n → is_marked done j ≡ false) → AreMarks n done []
 marks_start n done h = h

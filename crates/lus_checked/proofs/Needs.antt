@@ -59,7 +59,9 @@ module _ (xs : List Name) (distinct : AreDistinct xs) (j : ℕ) (below : j < len
       other : named_in z xs ≡ true → bytes_eq here z ≡ false → j ≡ number_of xs z → ⊥
       other h f e = true≢false (sym ((bytes_eq-Decides here z).1 (ap (λ k. get_or xs k []) e ∙ name_of_number xs z h)) ∙ f)
 
-      go : (named_in z xs ≡ true) ⊎ (named_in z xs ≡ false) → (bytes_eq here z ≡ true) ⊎ (bytes_eq here z ≡ false) → is_listed (numbers_of xs zs) j ≡ named_in here zs → is_listed (cond (named_in z xs) (number_of xs z ∷ numbers_of xs zs) (numbers_of xs zs)) j ≡ (bytes_eq here z || named_in here zs)
+      go : (named_in z xs ≡ true) ⊎ (named_in z xs ≡ false) → (bytes_eq here z ≡ true) ⊎ (bytes_eq here z ≡ false) → is_listed
+          (numbers_of xs zs) j ≡ named_in here zs → is_listed (cond (named_in z xs) (number_of xs z ∷ numbers_of xs zs) (numbers_of xs zs))
+          j ≡ (bytes_eq here z || named_in here zs)
       go (inl h) (inl t) r = rw (h, t, eq-eqb j (number_of xs z) (sym (found t))) refl
       go (inl h) (inr f) r = rw (h, f, ne_eqb j (number_of xs z) (other h f)) r
       go (inr n) (inl t) r = absurd (true≢false (sym (subst (λ w. named_in w xs ≡ true) (same_bytes here z t) (in_list xs j below)) ∙ n))
@@ -71,7 +73,9 @@ pub left_is : (es : List Equation) → AllByRecursion IsBooleanEquation es → (
 left_is [] a j l = absurd (omega arith)
 left_is (e ∷ es) a j l = go e.names a.0.one_name j l (left_is es a.1)
   where
-    go : (xs : List Name) → length xs ≡ 1 → (j : ℕ) → j < suc (length es) → ((j : ℕ) → j < length es → left_at es j ≡ get_or (lefts es) j [] ∷ []) → get_or (xs ∷ map (λ e. e.names) es) j [] ≡ get_or (xs ++ lefts es) j [] ∷ []
+    go : (xs : List Name) → length xs ≡ 1 → (j : ℕ) → j < suc (length es) →
+        ((j : ℕ) → j < length es → left_at es j ≡ get_or (lefts es) j [] ∷ []) → get_or (xs ∷ map (λ e. e.names) es) j [] ≡ get_or
+        (xs ++ lefts es) j [] ∷ []
     go [] q j l r = absurd (omega arith)
     go (x ∷ []) q zero l r = refl
     go (x ∷ []) q (suc j) l r = r j (omega arith)
@@ -109,7 +113,8 @@ row_is xs (e ∷ es) zero l = refl
 row_is xs (e ∷ es) (suc k) l = row_is xs es k (omega arith)
 
 -- a row says what its equation needs
-pub rows_need : (es : List Equation) → AllByRecursion IsBooleanEquation es → AreDistinct (lefts es) → (k j : ℕ) → k < length es → j < length es → row_needs (rows_of (lefts es) es) k j ≡ needs_equation es k j
+pub rows_need : (es : List Equation) → AllByRecursion IsBooleanEquation es → AreDistinct (lefts es) → (k j : ℕ) → k < length es
+    → j < length es → row_needs (rows_of (lefts es) es) k j ≡ needs_equation es k j
 rows_need es a d k j l h =
     let n : length (lefts es) ≡ length es = lefts_length es a in
     ap (λ r. is_listed r j) (row_is (lefts es) es k l)

@@ -63,16 +63,22 @@ module _ (d : Component) (node : IsBooleanNode d) where
 
     order_found : (ks : List ℕ) → AreNext (length vs) (Passes (row_needs rows)) [] ks → length ks ≡ length vs → HasNoCycle d × IsOrderOf d ks
     order_found ks a e =
-        let next : AreNext (length (equations d)) (Passes (needs_equation (equations d))) [] ks = other_next (length (equations d)) (row_needs rows) (needs_equation (equations d)) same_needs [] ks (subst (λ n. AreNext n (Passes (row_needs rows)) [] ks) rows_count a) in
+        let next : AreNext (length (equations d)) (Passes (needs_equation (equations d))) [] ks = other_next (length (equations d))
+        (row_needs rows) (needs_equation (equations d)) same_needs [] ks
+        (subst (λ n. AreNext n (Passes (row_needs rows)) [] ks) rows_count a) in
         let whole : length ks ≡ length (equations d) = e ∙ rows_count in (
           listed_no_cycle d node ks next whole,
-          subst (λ i. IsLeastEquationOrder i (equations d) ks) (sym (boolean_instance d node)) (least_needed d node names.one_equation ks (whole_order (length (equations d)) (needs_equation (equations d)) ks next whole)),
+          subst (λ i. IsLeastEquationOrder i (equations d) ks) (sym (boolean_instance d node))
+              (least_needed d node names.one_equation ks (whole_order (length (equations d)) (needs_equation (equations d)) ks next whole)),
         )
 
     cycle_found : (ks : List ℕ) → IsStuck (length vs) (Passes (row_needs rows)) ks → HasNoCycle d → ⊥
-    cycle_found ks s = stuck_has_cycle d node ks (other_stuck (length (equations d)) (row_needs rows) (needs_equation (equations d)) same_needs ks (subst (λ n. IsStuck n (Passes (row_needs rows)) ks) rows_count s))
+    cycle_found ks s = stuck_has_cycle d node ks (other_stuck (length (equations d)) (row_needs rows)
+        (needs_equation (equations d)) same_needs ks (subst (λ n. IsStuck n (Passes (row_needs rows)) ks) rows_count s))
 
-    pub order_answers : (r : Answer) → IfOk r (λ o. MatchOption o ((ks : List ℕ) × IsStuck (length vs) (Passes (row_needs rows)) ks) (λ v. AreNext (length vs) (Passes (row_needs rows)) [] v.items × (length v.items ≡ length vs))) → IfOk r (λ o. MatchOption o (HasNoCycle d → ⊥) (λ v. HasNoCycle d × IsOrderOf d v.items))
+    pub order_answers : (r : Answer) → IfOk r (λ o. MatchOption o ((ks : List ℕ) × IsStuck (length vs) (Passes (row_needs rows)) ks)
+        (λ v. AreNext (length vs) (Passes (row_needs rows)) [] v.items × (length v.items ≡ length vs))) → IfOk r
+        (λ o. MatchOption o (HasNoCycle d → ⊥) (λ v. HasNoCycle d × IsOrderOf d v.items))
     order_answers (Ok (Some v)) h = order_found v.items h.0 h.1
     order_answers (Ok None) h = cycle_found h.0 h.1
     order_answers (Err e) h = tt
@@ -91,7 +97,8 @@ module _ (p : Program) (d : Component) (checked : IsBooleanChecked p d) where
   within_counts w =
       let a : length (body_properties (instance d [] no_instances) d.body) ≡ property_count d.body = as_many_properties (instance d [] no_instances) d.body in
       let b : property_count d.body ≤ 500 = w.properties in
-      counts_few p d checked.rules.shape checked.numbered (boolean_checked_instance p d checked) (record { names = w.names; properties = omega arith; variables = w.variables })
+      counts_few p d checked.rules.shape checked.numbered (boolean_checked_instance p d checked)
+      (record { names = w.names; properties = omega arith; variables = w.variables })
 
   few_parts : IsWithinCounts p d → HasFewParts d
   few_parts w =
@@ -102,23 +109,28 @@ module _ (p : Program) (d : Component) (checked : IsBooleanChecked p d) where
 
   -- one order of the node is one of the program
   program_order : (ks : List ℕ) → IsOrderOf d ks → IsLeastEquationOrder (instance_of p d) (equations d) ks
-  program_order ks o = subst (λ i. IsLeastEquationOrder i (equations d) ks) (boolean_instance d checked.rules.shape ∙ sym (boolean_checked_instance p d checked)) o
+  program_order ks o = subst (λ i. IsLeastEquationOrder i (equations d) ks)
+      (boolean_instance d checked.rules.shape ∙ sym (boolean_checked_instance p d checked)) o
 
 abbrev pub FoundAnswer : Type 0
 FoundAnswer = Result (Option Found) AllocError
 
-pub program_answers : (p : Program) (d : Component) → p ≡ declared_node d ∷ [] → AreNumbered p → (r : FoundAnswer) → IfOk r (λ o. MatchOption o (IsTaken d → ⊥) (λ f. IsTaken d × IsFoundOf d f)) → IfOk r (λ o. MatchOption o (BreaksNoBooleanRule p → ⊥) (λ f. BreaksNoBooleanRule p × AreFound p f))
+pub program_answers : (p : Program) (d : Component) → p ≡ declared_node d ∷ [] → AreNumbered p → (r : FoundAnswer) → IfOk r
+    (λ o. MatchOption o (IsTaken d → ⊥) (λ f. IsTaken d × IsFoundOf d f)) → IfOk r
+    (λ o. MatchOption o (BreaksNoBooleanRule p → ⊥) (λ f. BreaksNoBooleanRule p × AreFound p f))
 program_answers p d e numbered r h = go r h
   where
     same : (d' : Component) → p ≡ declared_node d' ∷ [] → d' ≡ d
     same d' q = let other : declared_node d' ∷ [] ≡ declared_node d ∷ [] = sym q ∙ e in cc
 
-    go : (r : FoundAnswer) → IfOk r (λ o. MatchOption o (IsTaken d → ⊥) (λ f. IsTaken d × IsFoundOf d f)) → IfOk r (λ o. MatchOption o (BreaksNoBooleanRule p → ⊥) (λ f. BreaksNoBooleanRule p × AreFound p f))
+    go : (r : FoundAnswer) → IfOk r (λ o. MatchOption o (IsTaken d → ⊥) (λ f. IsTaken d × IsFoundOf d f)) → IfOk r
+        (λ o. MatchOption o (BreaksNoBooleanRule p → ⊥) (λ f. BreaksNoBooleanRule p × AreFound p f))
     go (Ok (Some f)) h =
         let checked : IsBooleanChecked p d = record { one_node = e; rules = h.0.0; numbered = (subst AreNumbered e numbered).0 } in (
           record { node = d; checked = checked; limits = within_counts p d checked h.0.1 },
           (
-            λ d' k. subst (λ c. IsLeastEquationOrder (instance_of p c) (equations c) f.order.items) (sym (same d' k.one_node)) (program_order p d checked f.order.items h.1.0),
+            λ d' k. subst (λ c. IsLeastEquationOrder (instance_of p c) (equations c) f.order.items) (sym (same d' k.one_node))
+                (program_order p d checked f.order.items h.1.0),
             λ d' k. subst (λ c. AreTablesOf c f.tables.declared f.tables.lefts) (sym (same d' k.one_node)) h.1.1,
           ),
         )

@@ -10,7 +10,7 @@ ghost use Rattle.lus_meaning.specs.Rules.{declared_names, lefts, names_of};
 ghost use Rattle.lus_meaning.specs.BooleanRules.{IsBooleanNode, label_texts, used_names};
 ghost use Rattle.lus_checked.specs.Texts.{Gathers, texts};
 
-use lus_tree::{Expr, Form, Item, Node, Param, Word};
+use lus_tree::{Expr, Form, Item, Node, Param, PlacedName};
 use std::alloc::{AllocError, Global};
 
 /// The names, and behind them those of the streams.
@@ -45,7 +45,7 @@ pub(crate) fn declared_of(alloc: Global, node: &Node) -> Result<Vec<&str>, Alloc
 }
 
 /// The names, and behind them these words.
-fn push_words<'a>(names: &mut Vec<&'a str>, words: &'a [Word]) -> Result<(), AllocError>
+fn push_words<'a>(names: &mut Vec<&'a str>, words: &'a [PlacedName]) -> Result<(), AllocError>
     ensures { IfOk result (λ _. Gathers names.old.items names.new.items (map text_of (map word_view words.now))) }
 {
     for word in words {
@@ -56,7 +56,8 @@ fn push_words<'a>(names: &mut Vec<&'a str>, words: &'a [Word]) -> Result<(), All
 
 /// The names, and behind them the left names of an item.
 fn push_left<'a>(names: &mut Vec<&'a str>, item: &'a Item) -> Result<(), AllocError>
-    ensures { IfOk result (λ _. Gathers names.old.items names.new.items (lefts (body_equations (item_view item.now ∷ [])))) }
+    ensures { IfOk result (λ _. Gathers names.old.items names.new.items
+        (lefts (body_equations (item_view item.now ∷ [])))) }
 {
     match item {
         Item::Equation(words, _) => push_words(names, words),
@@ -108,7 +109,8 @@ fn push_used<'a>(names: &mut Vec<&'a str>, e: &'a Expr) -> Result<(), AllocError
 
 /// The names, and behind them those that an item uses.
 fn push_used_of<'a>(names: &mut Vec<&'a str>, item: &'a Item) -> Result<(), AllocError>
-    ensures { IfOk result (λ _. Gathers names.old.items names.new.items (flat_map used_names (body_expressions (item_view item.now ∷ [])))) }
+    ensures { IfOk result (λ _. Gathers names.old.items names.new.items
+        (flat_map used_names (body_expressions (item_view item.now ∷ [])))) }
 {
     match item {
         Item::Equation(_, e) | Item::Assert(e) => push_used(names, e),

@@ -30,7 +30,8 @@ fn push_row(
     lefts: &NameTable,
     item: &Item,
 ) -> Result<(), AllocError>
-    ensures { IfOk result (λ _. map (λ v. v.items) rows.new.items ≡ map (λ v. v.items) rows.old.items ++ rows_of lefts.now (body_equations (item_view item.now ∷ []))) }
+    ensures { IfOk result (λ _. map (λ v. v.items) rows.new.items ≡ map (λ v. v.items) rows.old.items
+        ++ rows_of lefts.now (body_equations (item_view item.now ∷ []))) }
 {
     if let Item::Equation(_, e) = item {
         let mut needed = Vec::new(alloc);
@@ -47,7 +48,8 @@ pub(crate) fn rows_of(
     lefts: &NameTable,
     items: &[Item],
 ) -> Result<Vec<Vec<usize>>, AllocError>
-    ensures { IfOk result (λ v. map (λ r. r.items) v.items ≡ rows_of lefts.now (body_equations (map item_view items.now))) }
+    ensures { IfOk result (λ v. map (λ r. r.items) v.items ≡ rows_of lefts.now
+        (body_equations (map item_view items.now))) }
 {
     let mut rows = Vec::new(alloc);
     for item in items {

@@ -17,7 +17,28 @@ use Rattle.lus_grammar.specs.Starts.{class_code, code, listed, codes_of}
 
 -- the end, and each class that the grammar has at its code; then those that it leaves out
 abbrev pub every_class : List (Option Class)
-every_class = None ∷ None ∷ Some C.Ident ∷ Some C.Number ∷ Some C.Text ∷ None ∷ None ∷ None ∷ None ∷ None ∷ Some (C.Sign S.Open) ∷ Some (C.Sign S.Close) ∷ Some (C.Sign S.Comma) ∷ Some (C.Sign S.Semicolon) ∷ Some (C.Sign S.Colon) ∷ Some (C.Sign S.DoubleColon) ∷ Some (C.Sign S.Equals) ∷ Some (C.Sign S.Less) ∷ Some (C.Sign S.AtMost) ∷ Some (C.Sign S.More) ∷ Some (C.Sign S.AtLeast) ∷ Some (C.Sign S.Differs) ∷ Some (C.Sign S.Plus) ∷ Some (C.Sign S.Minus) ∷ Some (C.Sign S.Times) ∷ Some (C.Sign S.Arrow) ∷ Some (C.Sign S.Implies) ∷ None ∷ None ∷ None ∷ Some (C.ContractOpen O.Round) ∷ Some (C.ContractOpen O.Slash) ∷ Some (C.ContractClose E.Round) ∷ Some (C.ContractClose E.Slash) ∷ Some (C.Annotation A.Main) ∷ Some (C.Annotation A.Property) ∷ None ∷ None ∷ None ∷ None ∷ Some (C.Keyword K.Node) ∷ Some (C.Keyword K.Function) ∷ Some (C.Keyword K.Contract) ∷ Some (C.Keyword K.Returns) ∷ Some (C.Keyword K.Var) ∷ Some (C.Keyword K.Const) ∷ Some (C.Keyword K.Let) ∷ Some (C.Keyword K.Tel) ∷ Some (C.Keyword K.Import) ∷ Some (C.Keyword K.Mode) ∷ Some (C.Keyword K.Assume) ∷ Some (C.Keyword K.Guarantee) ∷ Some (C.Keyword K.Require) ∷ Some (C.Keyword K.Ensure) ∷ Some (C.Keyword K.Assert) ∷ Some (C.Keyword K.Check) ∷ Some (C.Keyword K.If) ∷ Some (C.Keyword K.Then) ∷ Some (C.Keyword K.Else) ∷ Some (C.Keyword K.When) ∷ Some (C.Keyword K.Merge) ∷ Some (C.Keyword K.Condact) ∷ Some (C.Keyword K.Activate) ∷ Some (C.Keyword K.Every) ∷ Some (C.Keyword K.Initial) ∷ Some (C.Keyword K.Default) ∷ Some (C.Keyword K.Pre) ∷ Some (C.Keyword K.And) ∷ Some (C.Keyword K.Or) ∷ Some (C.Keyword K.Xor) ∷ Some (C.Keyword K.Not) ∷ Some (C.Keyword K.Div) ∷ Some (C.Keyword K.Mod) ∷ Some (C.Keyword K.True) ∷ Some (C.Keyword K.False) ∷ Some (C.Keyword K.Bool) ∷ Some (C.Keyword K.Int) ∷ Some (C.LeftOut L.TypeWord) ∷ Some (C.LeftOut L.Struct) ∷ Some (C.LeftOut L.Enum) ∷ Some (C.LeftOut L.Subrange) ∷ Some (C.LeftOut L.Real) ∷ Some (C.LeftOut L.Imported) ∷ Some (C.LeftOut L.Automaton) ∷ Some (C.LeftOut L.Restart) ∷ Some (C.LeftOut L.Current) ∷ Some (C.LeftOut L.Fby) ∷ Some (C.LeftOut L.Forall) ∷ Some (C.LeftOut L.Exists) ∷ Some (C.LeftOut L.Weakly) ∷ Some (C.LeftOut L.Array) ∷ Some (C.LeftOut L.Int8) ∷ Some (C.LeftOut L.Int16) ∷ Some (C.LeftOut L.Int32) ∷ Some (C.LeftOut L.Int64) ∷ Some (C.LeftOut L.Uint8) ∷ Some (C.LeftOut L.Uint16) ∷ Some (C.LeftOut L.Uint32) ∷ Some (C.LeftOut L.Uint64) ∷ Some (C.LeftOut L.Caret) ∷ Some (C.LeftOut L.OpenBracket) ∷ Some (C.LeftOut L.CloseBracket) ∷ Some (C.LeftOut L.OpenBrace) ∷ Some (C.LeftOut L.CloseBrace) ∷ Some (C.LeftOut L.Dot) ∷ Some (C.LeftOut L.Slash) ∷ Some (C.LeftOut L.Hash) ∷ Some (C.LeftOut L.Bar) ∷ Some (C.LeftOut L.Main) ∷ Some (C.LeftOut L.Property) ∷ []
+every_class = None ∷ None ∷ Some C.Ident ∷ Some C.Number ∷ Some C.Text ∷ None ∷ None ∷ None ∷ None ∷ None ∷ Some (C.Sign S.Open) ∷ Some
+    (C.Sign S.Close) ∷ Some (C.Sign S.Comma) ∷ Some (C.Sign S.Semicolon) ∷ Some (C.Sign S.Colon) ∷ Some (C.Sign S.DoubleColon) ∷ Some
+    (C.Sign S.Equals) ∷ Some (C.Sign S.Less) ∷ Some (C.Sign S.AtMost) ∷ Some (C.Sign S.More) ∷ Some (C.Sign S.AtLeast) ∷ Some
+    (C.Sign S.Differs) ∷ Some (C.Sign S.Plus) ∷ Some (C.Sign S.Minus) ∷ Some (C.Sign S.Times) ∷ Some (C.Sign S.Arrow) ∷ Some
+    (C.Sign S.Implies) ∷ None ∷ None ∷ None ∷ Some (C.ContractOpen O.Round) ∷ Some (C.ContractOpen O.Slash) ∷ Some
+    (C.ContractClose E.Round) ∷ Some (C.ContractClose E.Slash) ∷ Some (C.Annotation A.Main) ∷ Some
+    (C.Annotation A.Property) ∷ None ∷ None ∷ None ∷ None ∷ Some (C.Keyword K.Node) ∷ Some (C.Keyword K.Function) ∷ Some
+    (C.Keyword K.Contract) ∷ Some (C.Keyword K.Returns) ∷ Some (C.Keyword K.Var) ∷ Some (C.Keyword K.Const) ∷ Some (C.Keyword K.Let) ∷ Some
+    (C.Keyword K.Tel) ∷ Some (C.Keyword K.Import) ∷ Some (C.Keyword K.Mode) ∷ Some (C.Keyword K.Assume) ∷ Some
+    (C.Keyword K.Guarantee) ∷ Some (C.Keyword K.Require) ∷ Some (C.Keyword K.Ensure) ∷ Some (C.Keyword K.Assert) ∷ Some
+    (C.Keyword K.Check) ∷ Some (C.Keyword K.If) ∷ Some (C.Keyword K.Then) ∷ Some (C.Keyword K.Else) ∷ Some (C.Keyword K.When) ∷ Some
+    (C.Keyword K.Merge) ∷ Some (C.Keyword K.Condact) ∷ Some (C.Keyword K.Activate) ∷ Some (C.Keyword K.Every) ∷ Some
+    (C.Keyword K.Initial) ∷ Some (C.Keyword K.Default) ∷ Some (C.Keyword K.Pre) ∷ Some (C.Keyword K.And) ∷ Some (C.Keyword K.Or) ∷ Some
+    (C.Keyword K.Xor) ∷ Some (C.Keyword K.Not) ∷ Some (C.Keyword K.Div) ∷ Some (C.Keyword K.Mod) ∷ Some (C.Keyword K.True) ∷ Some
+    (C.Keyword K.False) ∷ Some (C.Keyword K.Bool) ∷ Some (C.Keyword K.Int) ∷ Some (C.LeftOut L.TypeWord) ∷ Some (C.LeftOut L.Struct) ∷ Some
+    (C.LeftOut L.Enum) ∷ Some (C.LeftOut L.Subrange) ∷ Some (C.LeftOut L.Real) ∷ Some (C.LeftOut L.Imported) ∷ Some
+    (C.LeftOut L.Automaton) ∷ Some (C.LeftOut L.Restart) ∷ Some (C.LeftOut L.Current) ∷ Some (C.LeftOut L.Fby) ∷ Some
+    (C.LeftOut L.Forall) ∷ Some (C.LeftOut L.Exists) ∷ Some (C.LeftOut L.Weakly) ∷ Some (C.LeftOut L.Array) ∷ Some (C.LeftOut L.Int8) ∷ Some
+    (C.LeftOut L.Int16) ∷ Some (C.LeftOut L.Int32) ∷ Some (C.LeftOut L.Int64) ∷ Some (C.LeftOut L.Uint8) ∷ Some (C.LeftOut L.Uint16) ∷ Some
+    (C.LeftOut L.Uint32) ∷ Some (C.LeftOut L.Uint64) ∷ Some (C.LeftOut L.Caret) ∷ Some (C.LeftOut L.OpenBracket) ∷ Some
+    (C.LeftOut L.CloseBracket) ∷ Some (C.LeftOut L.OpenBrace) ∷ Some (C.LeftOut L.CloseBrace) ∷ Some (C.LeftOut L.Dot) ∷ Some
+    (C.LeftOut L.Slash) ∷ Some (C.LeftOut L.Hash) ∷ Some (C.LeftOut L.Bar) ∷ Some (C.LeftOut L.Main) ∷ Some (C.LeftOut L.Property) ∷ []
 
 abbrev left_place : LeftOut → ℕ
 left_place L.TypeWord = 77

@@ -127,7 +127,8 @@ both_on w a b c x y p q =
     let mid : b ≡ a + p.many = p.end in
     let last : c ≡ b + q.many = q.end in
     let e : a + 1 + p.many ≡ b + 1 = omega arith in
-    let s : weigh w (counting (a + 1) (p.many + q.many)) ≡ weigh w (counting (a + 1) p.many) + weigh w (counting (a + 1 + p.many) q.many) = weigh_counting w (a + 1) p.many q.many in
+    let s : weigh w (counting (a + 1) (p.many + q.many)) ≡ weigh w (counting (a + 1) p.many) + weigh w
+    (counting (a + 1 + p.many) q.many) = weigh_counting w (a + 1) p.many q.many in
     let t : weigh w (counting (a + 1 + p.many) q.many) ≡ weigh w (counting (b + 1) q.many) = ap (λ m. weigh w (counting m q.many)) e in
     let x' : x ≡ weigh w (counting (a + 1) p.many) = p.numbers in
     let y' : y ≡ weigh w (counting (b + 1) q.many) = q.numbers in
@@ -145,27 +146,42 @@ not_true : (a : Bool) → not a ≡ true → a ≡ false
 not_true true e = absurd (false≢true e)
 not_true false e = refl
 
-occurrence_on : (c : Counted) (w : ℕ → ℕ) (k : Counter) (n : Counts) (o : Option Class) → is_counter k o ≡ true → GoesOn w (count_of c n) (count_of c (counted_on k n)) (cond (is_of c o) (w (number_of k n)) 0)
+occurrence_on : (c : Counted) (w : ℕ → ℕ) (k : Counter) (n : Counts) (o : Option Class) → is_counter k o ≡ true → GoesOn w (count_of c n)
+    (count_of c (counted_on k n)) (cond (is_of c o) (w (number_of k n)) 0)
 occurrence_on a_pre w P.pres n o e = rw (left_true (is_of a_pre o) (not (is_of an_arrow o) && not (is_of a_call o)) e) (one_on w n.pres)
-occurrence_on an_arrow w P.pres n o e = rw (not_true (is_of an_arrow o) (left_true (not (is_of an_arrow o)) (not (is_of a_call o)) (right_true (is_of a_pre o) (not (is_of an_arrow o) && not (is_of a_call o)) e))) (none_on w n.arrows)
-occurrence_on a_call w P.pres n o e = rw (not_true (is_of a_call o) (right_true (not (is_of an_arrow o)) (not (is_of a_call o)) (right_true (is_of a_pre o) (not (is_of an_arrow o) && not (is_of a_call o)) e))) (none_on w n.calls)
+occurrence_on an_arrow w P.pres n o e = rw (not_true (is_of an_arrow o)
+    (left_true (not (is_of an_arrow o)) (not (is_of a_call o)) (right_true (is_of a_pre o)
+    (not (is_of an_arrow o) && not (is_of a_call o)) e))) (none_on w n.arrows)
+occurrence_on a_call w P.pres n o e = rw (not_true (is_of a_call o)
+    (right_true (not (is_of an_arrow o)) (not (is_of a_call o)) (right_true (is_of a_pre o)
+    (not (is_of an_arrow o) && not (is_of a_call o)) e))) (none_on w n.calls)
 occurrence_on an_arrow w P.arrows n o e = rw (left_true (is_of an_arrow o) (not (is_of a_pre o) && not (is_of a_call o)) e) (one_on w n.arrows)
-occurrence_on a_pre w P.arrows n o e = rw (not_true (is_of a_pre o) (left_true (not (is_of a_pre o)) (not (is_of a_call o)) (right_true (is_of an_arrow o) (not (is_of a_pre o) && not (is_of a_call o)) e))) (none_on w n.pres)
-occurrence_on a_call w P.arrows n o e = rw (not_true (is_of a_call o) (right_true (not (is_of a_pre o)) (not (is_of a_call o)) (right_true (is_of an_arrow o) (not (is_of a_pre o) && not (is_of a_call o)) e))) (none_on w n.calls)
+occurrence_on a_pre w P.arrows n o e = rw (not_true (is_of a_pre o)
+    (left_true (not (is_of a_pre o)) (not (is_of a_call o)) (right_true (is_of an_arrow o)
+    (not (is_of a_pre o) && not (is_of a_call o)) e))) (none_on w n.pres)
+occurrence_on a_call w P.arrows n o e = rw (not_true (is_of a_call o)
+    (right_true (not (is_of a_pre o)) (not (is_of a_call o)) (right_true (is_of an_arrow o)
+    (not (is_of a_pre o) && not (is_of a_call o)) e))) (none_on w n.calls)
 occurrence_on a_call w P.calls n o e = rw (left_true (is_of a_call o) (not (is_of a_pre o) && not (is_of an_arrow o)) e) (one_on w n.calls)
-occurrence_on a_pre w P.calls n o e = rw (not_true (is_of a_pre o) (left_true (not (is_of a_pre o)) (not (is_of an_arrow o)) (right_true (is_of a_call o) (not (is_of a_pre o) && not (is_of an_arrow o)) e))) (none_on w n.pres)
-occurrence_on an_arrow w P.calls n o e = rw (not_true (is_of an_arrow o) (right_true (not (is_of a_pre o)) (not (is_of an_arrow o)) (right_true (is_of a_call o) (not (is_of a_pre o) && not (is_of an_arrow o)) e))) (none_on w n.arrows)
+occurrence_on a_pre w P.calls n o e = rw (not_true (is_of a_pre o)
+    (left_true (not (is_of a_pre o)) (not (is_of an_arrow o)) (right_true (is_of a_call o)
+    (not (is_of a_pre o) && not (is_of an_arrow o)) e))) (none_on w n.pres)
+occurrence_on an_arrow w P.calls n o e = rw (not_true (is_of an_arrow o)
+    (right_true (not (is_of a_pre o)) (not (is_of an_arrow o)) (right_true (is_of a_call o)
+    (not (is_of a_pre o) && not (is_of an_arrow o)) e))) (none_on w n.arrows)
 
 -- the numbers of every text that numbers no declaration anew
 module _ {limit end : ℕ} {s : Stream} (c : Counted) (w : ℕ → ℕ) where
-  pub numbers_go_on : {g : Phrase} {i j : ℕ} {n m : Counts} {x : Syntax} → Text limit end s g i j n m x → goes_on g ≡ true → GoesOn w (count_of c n) (count_of c m) (weight c w x)
+  pub numbers_go_on : {g : Phrase} {i j : ℕ} {n m : Counts} {x : Syntax} → Text limit end s g i j n m x → goes_on g ≡ true → GoesOn w
+      (count_of c n) (count_of c m) (weight c w x)
   numbers_go_on {n = n} (G.token t) e = none_on w (count_of c n)
   numbers_go_on {n = n} (G.occurrence {k = k} {c = d} {i = i} t) e = occurrence_on c w k n (s i).class (subst (λ o. is_counter k o ≡ true) (sym t) e)
   numbers_go_on (G.line {p = p} a) e = numbers_go_on a (body_goes_on p e)
   numbers_go_on (G.line_within {p = p} a l) e = numbers_go_on a (body_goes_on p e)
   numbers_go_on (G.line_anew a) e = absurd (false≢true e)
   numbers_go_on {n = n} (G.both {a = a} {b = b} {m = m} {o = o} {x = x} {y = y} u v) e =
-      both_on w (count_of c n) (count_of c m) (count_of c o) (weight c w x) (weight c w y) (numbers_go_on u (left_true (goes_on a) (goes_on b) e)) (numbers_go_on v (right_true (goes_on a) (goes_on b) e))
+      both_on w (count_of c n) (count_of c m) (count_of c o) (weight c w x) (weight c w y)
+      (numbers_go_on u (left_true (goes_on a) (goes_on b) e)) (numbers_go_on v (right_true (goes_on a) (goes_on b) e))
   numbers_go_on (G.this_one {a = a} {b = b} u) e = numbers_go_on u (left_true (goes_on a) (goes_on b) e)
   numbers_go_on (G.that_one {a = a} {b = b} u) e = numbers_go_on u (right_true (goes_on a) (goes_on b) e)
   numbers_go_on {n = n} G.not_once e = none_on w (count_of c n)

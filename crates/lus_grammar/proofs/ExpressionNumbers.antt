@@ -102,13 +102,15 @@ is_import a_call = refl
 -- ---- lines of expressions
 
 abbrev merging : Phrase
-merging = P.word K.Merge ⨾ P.identifier ⨾ P.sign S.Open ⨾ P.word K.True ⨾ P.sign S.Arrow ⨾ part P.Expression ⨾ P.sign S.Close ⨾ P.sign S.Open ⨾ P.word K.False ⨾ P.sign S.Arrow ⨾ part P.Expression ⨾ P.sign S.Close
+merging = P.word K.Merge ⨾ P.identifier ⨾ P.sign S.Open ⨾ P.word K.True ⨾ P.sign S.Arrow ⨾ part P.Expression ⨾ P.sign S.Close
+    ⨾ P.sign S.Open ⨾ P.word K.False ⨾ P.sign S.Arrow ⨾ part P.Expression ⨾ P.sign S.Close
 
 abbrev behind_condition : Phrase
 behind_condition = P.sign S.Comma ⨾ P.identifier ⨾ bracketed ⨾ repeated (P.sign S.Comma ⨾ part P.Expression) ⨾ P.sign S.Close
 
 abbrev activation : Phrase
-activation = P.counted P.calls (C.Keyword K.Activate) ⨾ P.identifier ⨾ P.word K.Every ⨾ part P.Expression ⨾ P.word K.Initial ⨾ P.word K.Default ⨾ bracketed ⨾ P.sign S.Close ⨾ bracketed
+activation = P.counted P.calls (C.Keyword K.Activate) ⨾ P.identifier ⨾ P.word K.Every ⨾ part P.Expression ⨾ P.word K.Initial
+    ⨾ P.word K.Default ⨾ bracketed ⨾ P.sign S.Close ⨾ bracketed
 
 -- ---- what numbers weigh in a tree and in a text
 
@@ -134,7 +136,8 @@ module _ (c : Counted) (w : ℕ → ℕ) where
   same_weight a_call an_arrow k b e = rw e refl
   same_weight a_call a_call k b e = rw e (omega arith)
 
-  pub own_weight : (d : Counted) (k : ℕ) (t : Mark) (o : Class) → t.class ≡ Some o → is_of c (Some o) ≡ same c d → weigh w (if_same c d k) ≡ cond (is_of c t.class) (w k) 0
+  pub own_weight : (d : Counted) (k : ℕ) (t : Mark) (o : Class) → t.class ≡ Some o → is_of c (Some o) ≡ same c d → weigh w
+      (if_same c d k) ≡ cond (is_of c t.class) (w k) 0
   own_weight d k t o e h = same_weight c d k (is_of c t.class) (ap (is_of c) e ∙ h)
 
   two : (ks js : List ℕ) → weigh w (ks ++ js) ≡ weigh w ks + weigh w js
@@ -182,7 +185,8 @@ module _ (c : Counted) (w : ℕ → ℕ) where
     quiet (G.line {p = p} a) e = quiet a (silent_body p e)
     quiet (G.line_within a l) e = absurd (false≢true e)
     quiet (G.line_anew a) e = absurd (false≢true e)
-    quiet (G.both {a = a} {b = b} u v) e = let p = quiet u (left_true (silent a) (silent b) e) in let q = quiet v (right_true (silent a) (silent b) e) in omega arith
+    quiet (G.both {a = a} {b = b} u v) e = let p = quiet u (left_true (silent a) (silent b) e) in let q = quiet v
+        (right_true (silent a) (silent b) e) in omega arith
     quiet (G.this_one {a = a} {b = b} u) e = quiet u (left_true (silent a) (silent b) e)
     quiet (G.that_one {a = a} {b = b} u) e = quiet u (right_true (silent a) (silent b) e)
     quiet G.not_once e = refl
@@ -191,7 +195,8 @@ module _ (c : Counted) (w : ℕ → ℕ) where
     quiet (G.again u v) e = let p = quiet u e in let q = quiet v e in omega arith
 
     -- clocks behind an expression
-    in_clocks : {i j : ℕ} {n m : Counts} {x : Syntax} → Text limit end s (repeated when) i j n m x → (a : Expression) (q : ℕ) → seen a ≡ q → seen (sampled_by a x) ≡ q + in_text x
+    in_clocks : {i j : ℕ} {n m : Counts} {x : Syntax} → Text limit end s (repeated when) i j n m x → (a : Expression) (q : ℕ) → seen a ≡ q
+        → seen (sampled_by a x) ≡ q + in_text x
     in_clocks G.no_more a q e = omega arith
     in_clocks (G.again (G.both (G.token {i = i} t) (G.both G.not_once (G.token {i = k} u))) r) a q e =
         let f = two (numbers (own_number c) a) [] in
@@ -203,7 +208,8 @@ module _ (c : Counted) (w : ℕ → ℕ) where
         omega arith
 
     -- operators behind an operand
-    in_rest : {cs : List Class} {p : Part} (z : ℕ) → SameUpTo limit end s z p → {i j : ℕ} {n m : Counts} {x : Syntax} → Text limit end s (repeated (one_of cs ⨾ part p)) i j n m x → j ≤ i + z → (a : Expression) (q : ℕ) → seen a ≡ q → seen (grouped a x) ≡ q + in_text x
+    in_rest : {cs : List Class} {p : Part} (z : ℕ) → SameUpTo limit end s z p → {i j : ℕ} {n m : Counts} {x : Syntax} → Text limit end s
+        (repeated (one_of cs ⨾ part p)) i j n m x → j ≤ i + z → (a : Expression) (q : ℕ) → seen a ≡ q → seen (grouped a x) ≡ q + in_text x
     in_rest z k G.no_more le a q e = omega arith
     in_rest z k (G.again (G.both {y = b} (G.token {i = i} t) u) r) le a q e =
         let l = ordered u in
@@ -213,13 +219,15 @@ module _ (c : Counted) (w : ℕ → ℕ) where
         let g = in_rest z k r (omega arith) (joined a (s i) (expression_of b)) (q + in_text b) (omega arith) in
         omega arith
 
-    in_mode : {i j : ℕ} {n m : Counts} {x : Syntax} → Text limit end s (P.sign S.DoubleColon ⨾ P.identifier ⨾ optional (P.sign S.DoubleColon ⨾ P.identifier)) i j n m x →
+    in_mode : {i j : ℕ} {n m : Counts} {x : Syntax} → Text limit end s
+        (P.sign S.DoubleColon ⨾ P.identifier ⨾ optional (P.sign S.DoubleColon ⨾ P.identifier)) i j n m x →
         seen (expression_of (node P.Primary (that (that (that (this x)))))) ≡ in_text x
     in_mode (G.both (G.token t) (G.both (G.token u) G.not_once)) = omega arith
     in_mode (G.both (G.token t) (G.both (G.token u) (G.once (G.both (G.token v) (G.token z))))) = omega arith
 
     module _ (z : ℕ) (shorter : Shorter limit end s z) where
-      in_listed : {i j : ℕ} {n m : Counts} {x : Syntax} → j < i + z → Text limit end s (repeated (P.sign S.Comma ⨾ part P.Expression)) i j n m x → seen_among (listed_of x) ≡ in_text x
+      in_listed : {i j : ℕ} {n m : Counts} {x : Syntax} → j < i + z → Text limit end s
+          (repeated (P.sign S.Comma ⨾ part P.Expression)) i j n m x → seen_among (listed_of x) ≡ in_text x
       in_listed lt G.no_more = refl
       in_listed lt (G.again {y = as_} (G.both {y = a} t u) r) =
           let o1 = ordered t in
@@ -231,7 +239,8 @@ module _ (c : Counted) (w : ℕ → ℕ) where
           let q = in_listed (omega arith) r in
           omega arith
 
-      in_arguments : {i j : ℕ} {n m : Counts} {x : Syntax} → j < i + z → Text limit end s (optional (part P.Expressions)) i j n m x → seen_among (arguments_of x) ≡ in_text x
+      in_arguments : {i j : ℕ} {n m : Counts} {x : Syntax} → j < i + z → Text limit end s (optional (part P.Expressions)) i j n m x
+          → seen_among (arguments_of x) ≡ in_text x
       in_arguments lt G.not_once = refl
       in_arguments lt (G.once (G.line (G.both {x = a} {y = as_} u r))) =
           let o1 = ordered u in
@@ -242,7 +251,8 @@ module _ (c : Counted) (w : ℕ → ℕ) where
           omega arith
 
       -- a name or a call
-      in_name : {i j : ℕ} {n m : Counts} {x : Syntax} → j ≤ i + z → Text limit end s (P.identifier ⨾ optional (P.counted P.calls (C.Sign S.Open) ⨾ optional (part P.Expressions) ⨾ P.sign S.Close)) i j n m x →
+      in_name : {i j : ℕ} {n m : Counts} {x : Syntax} → j ≤ i + z → Text limit end s
+          (P.identifier ⨾ optional (P.counted P.calls (C.Sign S.Open) ⨾ optional (part P.Expressions) ⨾ P.sign S.Close)) i j n m x →
           seen (expression_of (node P.Primary (that (that (this x))))) ≡ in_text x
       in_name le (G.both (G.token t) G.not_once) = omega arith
       in_name {n = n} le (G.both (G.token t) (G.once (G.both (G.occurrence {i = i} e) (G.both {x = xs} u v)))) =
@@ -253,8 +263,10 @@ module _ (c : Counted) (w : ℕ → ℕ) where
           let q = quiet v refl in
           omega arith
 
-      in_merge : {i j : ℕ} {n m : Counts} {x : Syntax} → j ≤ i + z → Text limit end s merging i j n m x → seen (expression_of (node P.Primary (that (that (that (that (this x))))))) ≡ in_text x
-      in_merge le (G.both (G.token t1) (G.both (G.token t2) (G.both t3 (G.both t4 (G.both t5 (G.both {x = a} u (G.both t6 (G.both t7 (G.both t8 (G.both t9 (G.both {x = b} v t10))))))))))) =
+      in_merge : {i j : ℕ} {n m : Counts} {x : Syntax} → j ≤ i + z → Text limit end s merging i j n m x → seen
+          (expression_of (node P.Primary (that (that (that (that (this x))))))) ≡ in_text x
+      in_merge le (G.both (G.token t1) (G.both (G.token t2) (G.both t3
+          (G.both t4 (G.both t5 (G.both {x = a} u (G.both t6 (G.both t7 (G.both t8 (G.both t9 (G.both {x = b} v t10))))))))))) =
           let e = two (numbers (own_number c) (expression_of a)) (numbers (own_number c) (expression_of b)) in
           let o3 = ordered t3 in
           let o4 = ordered t4 in
@@ -279,11 +291,16 @@ module _ (c : Counted) (w : ℕ → ℕ) where
           omega arith
 
       -- a condact behind its condition
-      in_condact : {i j : ℕ} {n m : Counts} {y : Syntax} → j < i + z → Text limit end s behind_condition i j n m y → (t : Mark) (k : ℕ) (o a : Syntax) → seen (expression_of a) ≡ in_text a → in_text o ≡ 0 → weigh w (if_same c a_call k) ≡ cond (is_of c t.class) (w k) 0 →
-          seen (expression_of (node P.Primary (that (that (that (that (that (this (numbered t k · o · a · y))))))))) ≡ cond (is_of c t.class) (w k) 0 + (in_text o + (in_text a + in_text y))
+      in_condact : {i j : ℕ} {n m : Counts} {y : Syntax} → j < i + z → Text limit end s behind_condition i j n m y → (t : Mark) (k : ℕ)
+          (o a : Syntax) → seen (expression_of a) ≡ in_text a → in_text o ≡ 0 → weigh w (if_same c a_call k) ≡ cond (is_of c t.class)
+          (w k) 0 →
+          seen (expression_of (node P.Primary (that (that (that (that (that (this (numbered t k · o · a · y))))))))) ≡ cond
+          (is_of c t.class) (w k) 0 + (in_text o + (in_text a + in_text y))
       in_condact lt (G.both (G.token t2) (G.both (G.token t3) (G.both (G.both t4 (G.both {x = xs} v t5)) (G.both {x = ds} u t6)))) t k o a p q e =
-          let f = two (if_same c a_call k) ((numbers (own_number c) (expression_of a) ++ numbers_among (own_number c) (arguments_of xs)) ++ numbers_among (own_number c) (listed_of ds)) in
-          let g = three_left (numbers (own_number c) (expression_of a)) (numbers_among (own_number c) (arguments_of xs)) (numbers_among (own_number c) (listed_of ds)) in
+          let f = two (if_same c a_call k) ((numbers (own_number c) (expression_of a) ++ numbers_among (own_number c) (arguments_of xs))
+          ++ numbers_among (own_number c) (listed_of ds)) in
+          let g = three_left (numbers (own_number c) (expression_of a)) (numbers_among (own_number c) (arguments_of xs))
+          (numbers_among (own_number c) (listed_of ds)) in
           let o4 = ordered t4 in
           let o1 = ordered v in
           let o5 = ordered t5 in
@@ -297,10 +314,16 @@ module _ (c : Counted) (w : ℕ → ℕ) where
           omega arith
 
       -- an activation, or an expression in parentheses
-      in_round : {i j : ℕ} {n m : Counts} {x : Syntax} → j < i + z → Text limit end s (activation ∣ (part P.Expression ⨾ P.sign S.Close)) i j n m x → (t : Mark) → seen (expression_of (node P.Primary (that (that (that (that (that (that (leaf t · x))))))))) ≡ in_text x
-      in_round {n = n} lt (G.this_one (G.both (G.occurrence {i = i} e) (G.both (G.token t1) (G.both t2 (G.both {x = a} u (G.both t3 (G.both t4 (G.both (G.both t5 (G.both {x = ds} y t6)) (G.both t7 (G.both t8 (G.both {x = xs} v t9))))))))))) t =
-          let f = two (if_same c a_call (n.calls + 1)) ((numbers (own_number c) (expression_of a) ++ numbers_among (own_number c) (arguments_of xs)) ++ numbers_among (own_number c) (arguments_of ds)) in
-          let g = three_left (numbers (own_number c) (expression_of a)) (numbers_among (own_number c) (arguments_of xs)) (numbers_among (own_number c) (arguments_of ds)) in
+      in_round : {i j : ℕ} {n m : Counts} {x : Syntax} → j < i + z → Text limit end s
+          (activation ∣ (part P.Expression ⨾ P.sign S.Close)) i j n m x → (t : Mark) → seen
+          (expression_of (node P.Primary (that (that (that (that (that (that (leaf t · x))))))))) ≡ in_text x
+      in_round {n = n} lt (G.this_one (G.both (G.occurrence {i = i} e)
+          (G.both (G.token t1) (G.both t2 (G.both {x = a} u (G.both t3
+          (G.both t4 (G.both (G.both t5 (G.both {x = ds} y t6)) (G.both t7 (G.both t8 (G.both {x = xs} v t9))))))))))) t =
+          let f = two (if_same c a_call (n.calls + 1)) ((numbers (own_number c) (expression_of a) ++ numbers_among (own_number c)
+          (arguments_of xs)) ++ numbers_among (own_number c) (arguments_of ds)) in
+          let g = three_left (numbers (own_number c) (expression_of a)) (numbers_among (own_number c) (arguments_of xs))
+          (numbers_among (own_number c) (arguments_of ds)) in
           let o = own_weight a_call (n.calls + 1) (s i) (C.Keyword K.Activate) e (is_activate c) in
           let o2 = ordered t2 in
           let ou = ordered u in
@@ -338,14 +361,16 @@ module _ (c : Counted) (w : ℕ → ℕ) where
       in_primary le (G.line (G.that_one (G.that_one (G.this_one a)))) = in_name le a
       in_primary le (G.line (G.that_one (G.that_one (G.that_one (G.this_one a))))) = in_mode a
       in_primary le (G.line (G.that_one (G.that_one (G.that_one (G.that_one (G.this_one a)))))) = in_merge le a
-      in_primary {n = n} le (G.line (G.that_one (G.that_one (G.that_one (G.that_one (G.that_one (G.this_one (G.both (G.occurrence {i = i} e) (G.both {x = o} t1 (G.both {x = a} u r)))))))))) =
+      in_primary {n = n} le (G.line (G.that_one (G.that_one (G.that_one
+          (G.that_one (G.that_one (G.this_one (G.both (G.occurrence {i = i} e) (G.both {x = o} t1 (G.both {x = a} u r)))))))))) =
           let o1 = ordered t1 in
           let ou = ordered u in
           let ol = ordered r in
           let p = shorter.expression (omega arith) u in
           let q = quiet t1 refl in
           in_condact (omega arith) r (s i) (n.calls + 1) o a p q (own_weight a_call (n.calls + 1) (s i) (C.Keyword K.Condact) e (is_condact c))
-      in_primary le (G.line (G.that_one (G.that_one (G.that_one (G.that_one (G.that_one (G.that_one (G.both (G.token {i = i} t) a)))))))) = let p = in_round (omega arith) a (s i) in omega arith
+      in_primary le (G.line (G.that_one (G.that_one (G.that_one (G.that_one (G.that_one (G.that_one (G.both (G.token {i = i} t) a)))))))) =
+          let p = in_round (omega arith) a (s i) in omega arith
 
       in_unary : {i j : ℕ} {n m : Counts} {x : Syntax} → j ≤ i + z → Text limit end s (part P.Unary) i j n m x → seen (expression_of x) ≡ in_text x
       in_unary le (G.line (G.this_one (G.both (G.token t) a))) = let p = shorter.unary (omega arith) a in omega arith
@@ -357,7 +382,8 @@ module _ (c : Counted) (w : ℕ → ℕ) where
           omega arith
       in_unary le (G.line (G.that_one (G.that_one (G.that_one a)))) = in_primary le a
 
-      in_products : {i j : ℕ} {n m : Counts} {x : Syntax} → j ≤ i + z → Text limit end s (part (P.Chain P.Products)) i j n m x → seen (expression_of x) ≡ in_text x
+      in_products : {i j : ℕ} {n m : Counts} {x : Syntax} → j ≤ i + z → Text limit end s (part (P.Chain P.Products)) i j n m x → seen
+          (expression_of x) ≡ in_text x
       in_products le (G.line (G.both {x = x} a r)) =
           let u = ordered a in
           let v = ordered r in
@@ -369,7 +395,9 @@ module _ (c : Counted) (w : ℕ → ℕ) where
           let v = ordered r in
           in_rest z (record { same = λ le a. in_products le a }) r (omega arith) (expression_of x) (in_text x) (in_products (omega arith) a)
 
-      in_compared : {i j : ℕ} {n m : Counts} {y : Syntax} → j ≤ i + z → Text limit end s (optional (one_of relations ⨾ part (P.Chain P.Sums))) i j n m y → (x : Syntax) → seen (expression_of x) ≡ in_text x → seen (expression_of (node P.Relation (x · y))) ≡ in_text x + in_text y
+      in_compared : {i j : ℕ} {n m : Counts} {y : Syntax} → j ≤ i + z → Text limit end s
+          (optional (one_of relations ⨾ part (P.Chain P.Sums))) i j n m y → (x : Syntax) → seen (expression_of x) ≡ in_text x → seen
+          (expression_of (node P.Relation (x · y))) ≡ in_text x + in_text y
       in_compared le G.not_once x e = omega arith
       in_compared le (G.once (G.both {y = b} (G.token t) v)) x e =
           let f = two (numbers (own_number c) (expression_of x)) (numbers (own_number c) (expression_of b)) in
@@ -382,19 +410,23 @@ module _ (c : Counted) (w : ℕ → ℕ) where
           let v = ordered r in
           in_compared (omega arith) r x (in_sums (omega arith) a)
 
-      in_conjunctions : {i j : ℕ} {n m : Counts} {x : Syntax} → j ≤ i + z → Text limit end s (part (P.Chain P.Conjunctions)) i j n m x → seen (expression_of x) ≡ in_text x
+      in_conjunctions : {i j : ℕ} {n m : Counts} {x : Syntax} → j ≤ i + z → Text limit end s (part (P.Chain P.Conjunctions)) i j n m x
+          → seen (expression_of x) ≡ in_text x
       in_conjunctions le (G.line (G.both {x = x} a r)) =
           let u = ordered a in
           let v = ordered r in
           in_rest z (record { same = λ le a. in_relation le a }) r (omega arith) (expression_of x) (in_text x) (in_relation (omega arith) a)
 
-      in_disjunctions : {i j : ℕ} {n m : Counts} {x : Syntax} → j ≤ i + z → Text limit end s (part (P.Chain P.Disjunctions)) i j n m x → seen (expression_of x) ≡ in_text x
+      in_disjunctions : {i j : ℕ} {n m : Counts} {x : Syntax} → j ≤ i + z → Text limit end s (part (P.Chain P.Disjunctions)) i j n m x
+          → seen (expression_of x) ≡ in_text x
       in_disjunctions le (G.line (G.both {x = x} a r)) =
           let u = ordered a in
           let v = ordered r in
           in_rest z (record { same = λ le a. in_conjunctions le a }) r (omega arith) (expression_of x) (in_text x) (in_conjunctions (omega arith) a)
 
-      in_implied : {i j : ℕ} {n m : Counts} {y : Syntax} → j ≤ i + z → Text limit end s (optional (P.sign S.Implies ⨾ part P.Implication)) i j n m y → (x : Syntax) → seen (expression_of x) ≡ in_text x → seen (expression_of (node P.Implication (x · y))) ≡ in_text x + in_text y
+      in_implied : {i j : ℕ} {n m : Counts} {y : Syntax} → j ≤ i + z → Text limit end s
+          (optional (P.sign S.Implies ⨾ part P.Implication)) i j n m y → (x : Syntax) → seen (expression_of x) ≡ in_text x → seen
+          (expression_of (node P.Implication (x · y))) ≡ in_text x + in_text y
       in_implied le G.not_once x e = omega arith
       in_implied le (G.once (G.both {y = b} (G.token t) v)) x e =
           let f = two (numbers (own_number c) (expression_of x)) (numbers (own_number c) (expression_of b)) in
@@ -408,7 +440,9 @@ module _ (c : Counted) (w : ℕ → ℕ) where
           in_implied (omega arith) r x (in_disjunctions (omega arith) a)
 
       -- an arrow behind its left operand
-      in_arrow_behind : {i j : ℕ} {n m : Counts} {y : Syntax} → j ≤ i + z → Text limit end s (optional (P.counted P.arrows (C.Sign S.Arrow) ⨾ part P.Condition)) i j n m y → (x : Syntax) → seen (expression_of x) ≡ in_text x → seen (expression_of (node P.Arrow (x · y))) ≡ in_text x + in_text y
+      in_arrow_behind : {i j : ℕ} {n m : Counts} {y : Syntax} → j ≤ i + z → Text limit end s
+          (optional (P.counted P.arrows (C.Sign S.Arrow) ⨾ part P.Condition)) i j n m y → (x : Syntax) → seen (expression_of x) ≡ in_text x
+          → seen (expression_of (node P.Arrow (x · y))) ≡ in_text x + in_text y
       in_arrow_behind le G.not_once x e = omega arith
       in_arrow_behind {n = n} le (G.once (G.both {y = b} (G.occurrence {i = i} t) v)) x e =
           let f = three (numbers (own_number c) (expression_of x)) (if_same c an_arrow (n.arrows + 1)) (numbers (own_number c) (expression_of b)) in

@@ -69,8 +69,10 @@ pub in_if_right : (b : Bool) (xs ys : List ℕ) (c : ℕ) → b ≡ true → lis
 in_if_right true xs ys c e h = in_right xs ys c h
 in_if_right false xs ys c e h = absurd (cc)
 
-pub in_if_cases : (b : Bool) (xs ys : List ℕ) (c : ℕ) → listed c (if b then xs ++ ys else xs) ≡ true → (listed c xs ≡ true) ⊎ ((b ≡ true) × (listed c ys ≡ true))
-in_if_cases true xs ys c h = elim (in_cases xs ys c h) as (λ _. (listed c xs ≡ true) ⊎ ((true ≡ true) × (listed c ys ≡ true))) [ inl u ↦ inl u | inr u ↦ inr (refl, u) ]
+pub in_if_cases : (b : Bool) (xs ys : List ℕ) (c : ℕ) → listed c (if b then xs ++ ys else xs) ≡ true → (listed c xs ≡ true) ⊎
+    ((b ≡ true) × (listed c ys ≡ true))
+in_if_cases true xs ys c h = elim (in_cases xs ys c h) as (λ _. (listed c xs ≡ true) ⊎ ((true ≡ true) × (listed c ys ≡ true)))
+    [ inl u ↦ inl u | inr u ↦ inr (refl, u) ]
 in_if_cases false xs ys c h = inl h
 
 pub out_if_left : (b : Bool) (xs ys : List ℕ) (c : ℕ) → listed c (if b then xs ++ ys else xs) ≡ false → listed c xs ≡ false

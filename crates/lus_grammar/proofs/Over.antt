@@ -38,7 +38,9 @@ module _ {limit : ℕ} {s c : Stream} {p : Part} {i : ℕ} {n : Counts} (h : Agr
         agree = h;
         past = omega arith;
         text = r.text (i + limit);
-        none = λ j' m' x' le e v. not_earlier (r.only c 0 j' m' x' (λ y q. refl) (moved c e (agree_back s c (i + limit + 1) j' h (omega arith))) (ends_there s c p (i + limit + 1) j' h (omega arith) v)) (omega arith);
+        none = λ j' m' x' le e v. not_earlier (r.only c 0 j' m' x' (λ y q. refl)
+            (moved c e (agree_back s c (i + limit + 1) j' h (omega arith))) (ends_there s c p (i + limit + 1) j' h (omega arith) v))
+            (omega arith);
       }
 
   -- it stops
@@ -57,6 +59,8 @@ module _ {limit : ℕ} {s c : Stream} {p : Part} {i : ℕ} {n : Counts} (h : Agr
         text = weaker (i + limit) (omega arith) b.text;
         none = λ j' m' x' le e v.
             let o = ordered e in
-            let q : Parts c c k j' = r.none c (least w k) j' m' x' (omega arith) (λ y q. refl) (short_within limit (least w k) i (omega arith) le (moved c e (agree_back s c (i + limit + 1) j' h (omega arith)))) (ends_there s c p (i + limit + 1) j' h (omega arith) v) in
+            let q : Parts c c k j' = r.none c (least w k) j' m' x' (omega arith) (λ y q. refl)
+            (short_within limit (least w k) i (omega arith) le (moved c e (agree_back s c (i + limit + 1) j' h (omega arith))))
+            (ends_there s c p (i + limit + 1) j' h (omega arith) v) in
             q.other refl;
       }

@@ -29,16 +29,44 @@ pub record Possible (limit : ℕ) (g : Phrase) : Type 0 where
 
 module _ {limit : ℕ} where
   token_at : {c : Class} {cs : List Class} → Possible limit (one_of (c ∷ cs))
-  token_at {c = c} = record { at = λ s k n bound. record { t = put s k (Some c); j = k + 1; m = n; x = _; agree = put_before s k (Some c); past = omega arith; text = token (inl (put_here s k (Some c))) } }
+  token_at {c = c} = record {
+    at = λ s k n bound. record {
+      t = put s k (Some c);
+      j = k + 1;
+      m = n;
+      x = _;
+      agree = put_before s k
+          (Some c);
+      past = omega arith;
+      text = token (inl (put_here s k (Some c)));
+    };
+  }
 
   counted_at : {o : Counter} {c : Class} → Possible limit (counted o c)
-  counted_at {c = c} = record { at = λ s k n bound. record { t = put s k (Some c); j = k + 1; m = _; x = _; agree = put_before s k (Some c); past = omega arith; text = occurrence (put_here s k (Some c)) } }
+  counted_at {c = c} = record {
+    at = λ s k n bound. record {
+      t = put s k (Some c);
+      j = k + 1;
+      m = _;
+      x = _;
+      agree = put_before s k
+          (Some c);
+      past = omega arith;
+      text = occurrence (put_here s k (Some c));
+    };
+  }
 
   line_at : {p : Part} → Possible limit (body p) → Possible limit (part p)
-  line_at a = record { at = λ s k n bound. (let b = a.at s k n bound in record { t = b.t; j = b.j; m = b.m; x = _; agree = b.agree; past = b.past; text = line b.text }) }
+  line_at a = record {
+    at = λ s k n bound. (let b = a.at s k n bound
+        in record { t = b.t; j = b.j; m = b.m; x = _; agree = b.agree; past = b.past; text = line b.text });
+  }
 
   anew_at : {p : Part} → Possible limit (body p) → Possible limit (fresh p)
-  anew_at a = record { at = λ s k n bound. (let b = a.at s k none_before bound in record { t = b.t; j = b.j; m = n; x = _; agree = b.agree; past = b.past; text = line_anew b.text }) }
+  anew_at a = record {
+    at = λ s k n bound. (let b = a.at s k none_before bound
+        in record { t = b.t; j = b.j; m = n; x = _; agree = b.agree; past = b.past; text = line_anew b.text });
+  }
 
   both_at : {a b : Phrase} → Possible limit a → Possible limit b → Possible limit (a ⨾ b)
   both_at a b = record {
@@ -46,14 +74,29 @@ module _ {limit : ℕ} where
         let u = a.at s k n bound in
         let v = b.at u.t u.j u.m bound in
         let le = u.past in
-        record { t = v.t; j = v.j; m = v.m; x = _; agree = λ x lt. v.agree x (omega arith) ∙ u.agree x lt; past = omega (arith, v.past); text = both (moved v.t u.text v.agree) v.text };
+        record {
+          t = v.t;
+          j = v.j;
+          m = v.m;
+          x = _;
+          agree = λ x lt. v.agree x (omega arith) ∙ u.agree x lt;
+          past = omega
+              (arith, v.past);
+          text = both (moved v.t u.text v.agree) v.text;
+        };
   }
 
   this_at : {a b : Phrase} → Possible limit a → Possible limit (a ∣ b)
-  this_at a = record { at = λ s k n bound. (let b = a.at s k n bound in record { t = b.t; j = b.j; m = b.m; x = _; agree = b.agree; past = b.past; text = this_one b.text }) }
+  this_at a = record {
+    at = λ s k n bound. (let b = a.at s k n bound
+        in record { t = b.t; j = b.j; m = b.m; x = _; agree = b.agree; past = b.past; text = this_one b.text });
+  }
 
   that_at : {a b : Phrase} → Possible limit b → Possible limit (a ∣ b)
-  that_at a = record { at = λ s k n bound. (let b = a.at s k n bound in record { t = b.t; j = b.j; m = b.m; x = _; agree = b.agree; past = b.past; text = that_one b.text }) }
+  that_at a = record {
+    at = λ s k n bound. (let b = a.at s k n bound
+        in record { t = b.t; j = b.j; m = b.m; x = _; agree = b.agree; past = b.past; text = that_one b.text });
+  }
 
   absent_at : {a : Phrase} → Possible limit (optional a)
   absent_at = record { at = λ s k n bound. record { t = s; j = k; m = n; x = _; agree = λ x lt. refl; past = omega arith; text = not_once } }
@@ -101,7 +144,8 @@ module _ (limit bound : ℕ) (t : Stream) (k : ℕ) (n : Counts) (a : (t k).clas
   short_expression : Short limit bound t Expression k n
   short_expression = record { m = _; x = _; text = both (line short_condition.text) no_more }
 
-number_at : {limit : ℕ} (p : Part) → ((bound : ℕ) (t : Stream) (k : ℕ) (n : Counts) → (t k).class ≡ Some C.Number → Short limit bound t p k n) → Possible limit (part p)
+number_at : {limit : ℕ} (p : Part) → ((bound : ℕ) (t : Stream) (k : ℕ) (n : Counts) → (t k).class ≡ Some C.Number
+    → Short limit bound t p k n) → Possible limit (part p)
 number_at p f = record {
   at = λ s k n bound.
       let t = put s k (Some C.Number) in
@@ -115,7 +159,16 @@ module _ (limit : ℕ) (l : 1 ≤ limit) where
     at = λ s k n bound.
         let t = put s k (Some C.Number) in
         let d = short_expression limit bound t k n (put_here s k (Some C.Number)) in
-        record { t = t; j = k + 1; m = d.m; x = _; agree = put_before s k (Some C.Number); past = omega arith; text = line_within d.text (inl (omega (arith, l))) };
+        record {
+          t = t;
+          j = k + 1;
+          m = d.m;
+          x = _;
+          agree = put_before s k (Some C.Number);
+          past = omega arith;
+          text = line_within d.text
+              (inl (omega (arith, l)));
+        };
   }
   limited_at _ h = absurd (cc)
 
@@ -138,8 +191,12 @@ module _ (limit : ℕ) (l : 1 ≤ limit) where
   part_at Program = line_at none_at
   part_at Declaration = line_at (this_at constant_at)
   part_at Constant = constant_at
-  part_at Node = line_at (both_at token_at (both_at token_at (both_at parameters_at (both_at token_at (both_at parameters_at (both_at absent_at (both_at absent_at (both_at none_at (both_at token_at (both_at none_at (both_at token_at absent_at)))))))))))
-  part_at ContractNode = line_at (both_at token_at (both_at token_at (both_at parameters_at (both_at token_at (both_at parameters_at (both_at token_at (both_at token_at (both_at none_at (both_at token_at absent_at)))))))))
+  part_at Node = line_at (both_at token_at (both_at token_at (both_at parameters_at
+      (both_at token_at (both_at parameters_at (both_at absent_at (both_at absent_at
+      (both_at none_at (both_at token_at (both_at none_at (both_at token_at absent_at)))))))))))
+  part_at ContractNode = line_at (both_at token_at (both_at token_at
+      (both_at parameters_at (both_at token_at (both_at parameters_at
+      (both_at token_at (both_at token_at (both_at none_at (both_at token_at absent_at)))))))))
   part_at Parameters = parameters_at
   part_at Groups = line_at (both_at group_at absent_at)
   part_at Group = group_at
@@ -167,7 +224,8 @@ module _ (limit : ℕ) (l : 1 ≤ limit) where
   part_at (Chain Disjunctions) = number_at (Chain Disjunctions) (λ bound t k n a. short_disjunctions limit bound t k n a)
 
   -- what is no more than its line
-  of_line : (p : Part) (s : Stream) (k : ℕ) (n : Counts) (bound : ℕ) (t : Stream) (j : ℕ) (m : Counts) (x : Syntax) → Agree s t k → k ≤ j → Text limit bound t (part p) k j n m x → Begins limit bound s (body p) k n k
+  of_line : (p : Part) (s : Stream) (k : ℕ) (n : Counts) (bound : ℕ) (t : Stream) (j : ℕ) (m : Counts) (x : Syntax) → Agree s t k → k ≤ j
+      → Text limit bound t (part p) k j n m x → Begins limit bound s (body p) k n k
   of_line p s k n bound t j m x h le (line {x = y} d) = record { t = t; j = j; m = m; x = y; agree = h; past = le; text = d }
 
   pub body_at : (p : Part) → Possible limit (body p)

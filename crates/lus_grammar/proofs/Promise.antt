@@ -40,7 +40,8 @@ least too_large k = k + 1
 pub record Sticks (limit : ℕ) (s : Stream) (g : Phrase) (i : ℕ) (n : Counts) (c : Cause) (k : ℕ) : Type 0 where
   pub since : i ≤ k
   pub begins : Begins limit k s g i n (reach c k)
-  pub none : (t : Stream) (bound j : ℕ) (m : Counts) (x : Syntax) → least c k ≤ bound → Agree s t (reach c k) → Text limit bound t g i j n m x → Ends t g j → Parts s t k j
+  pub none : (t : Stream) (bound j : ℕ) (m : Counts) (x : Syntax) → least c k ≤ bound → Agree s t (reach c k)
+      → Text limit bound t g i j n m x → Ends t g j → Parts s t k j
 
 pub reaches : (c : Cause) (k : ℕ) → k ≤ reach c k
 reaches unexpected k = omega arith
@@ -64,7 +65,10 @@ module _ (a b : Phrase) (f : FitBoth a b) where
       elim (before_or_not k j (ordered d)) as (λ _. Ends t a k) [
         | inl u ↦ record { over = apart_left (extends a) (starts b) (code (t k).class) f.parted (begins_with d u) }
         | inr u ↦ elim (cases_Bool (may_be_nothing b)) as (λ _. Ends t a k) [
-          | inl v ↦ record { over = subst (λ (z : ℕ). listed (code (t z).class) (extends a) ≡ false) u (at (may_be_nothing b) (extends a) (extends b) (code (t j).class) v h.over) }
+          | inl v ↦ record {
+            over = subst (λ (z : ℕ). listed (code (t z).class) (extends a) ≡ false) u
+                (at (may_be_nothing b) (extends a) (extends b) (code (t j).class) v h.over);
+          }
           | inr v ↦ absurd (omega (arith, forward d v))
         ]
       ]
@@ -96,11 +100,15 @@ optional_passes a t j h = out_left (starts a) (extends a) (code (t j).class) h.o
 pub repeated_passes : (a : Phrase) (t : Stream) (j : ℕ) → Ends t (repeated a) j → Passes t j a
 repeated_passes a t j h = out_left (starts a) (extends a) (code (t j).class) h.over
 
-pub next_ends : (a : Phrase) → FitRepeated a → {limit end : ℕ} (t : Stream) (k j : ℕ) {m o : Counts} {y : Syntax} → Text limit end t (repeated a) k j m o y → Ends t (repeated a) j → Ends t a k
+pub next_ends : (a : Phrase) → FitRepeated a → {limit end : ℕ} (t : Stream) (k j : ℕ) {m o : Counts} {y : Syntax} → Text limit end t
+    (repeated a) k j m o y → Ends t (repeated a) j → Ends t a k
 next_ends a f t k j d h =
     elim (before_or_not k j (ordered d)) as (λ _. Ends t a k) [
       | inl u ↦ record { over = apart_left (extends a) (starts a) (code (t k).class) f.parted (begins_with d u) }
-      | inr u ↦ record { over = subst (λ (z : ℕ). listed (code (t z).class) (extends a) ≡ false) u (out_right (starts a) (extends a) (code (t j).class) h.over) }
+      | inr u ↦ record {
+        over = subst (λ (z : ℕ). listed (code (t z).class) (extends a) ≡ false) u
+            (out_right (starts a) (extends a) (code (t j).class) h.over);
+      }
     ]
 
 -- a mark that both enters and passes

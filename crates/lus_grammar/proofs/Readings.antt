@@ -21,14 +21,16 @@ module _ {limit : ℕ} {s : Stream} {g : Phrase} {i : ℕ} {n : Counts} where
   of_reads : {j : ℕ} {m : Counts} {x : Syntax} → Reads limit s g i n j m x → Whole limit s g i n j m x
   of_reads {j = j} r = record {
     text = r.text j;
-    no_more = λ b. not_after (r.only (ended b) 0 b.j b.m b.x (agree_to j (ended_agree b) (omega arith)) (ended_text b) (ended_ends b)) (omega (arith, b.past)) (ended_agree b j (omega arith));
+    no_more = λ b. not_after (r.only (ended b) 0 b.j b.m b.x (agree_to j (ended_agree b) (omega arith)) (ended_text b) (ended_ends b))
+        (omega (arith, b.past)) (ended_agree b j (omega arith));
   }
 
   module _ (k : ℕ) where
     stuck : Sticks limit s g i n unexpected k → Stuck limit s g i n k
     stuck r = record {
       can = r.begins;
-      cannot = λ b. (r.none (ended b) 0 b.j b.m b.x (omega arith) (agree_to k (ended_agree b) (omega arith)) (ended_text b) (ended_ends b)).other (ended_agree b k (omega arith));
+      cannot = λ b. (r.none (ended b) 0 b.j b.m b.x (omega arith) (agree_to k (ended_agree b) (omega arith)) (ended_text b)
+          (ended_ends b)).other (ended_agree b k (omega arith));
       unfinished = λ m x d.
           let t = put s k None in
           let p : Parts s t k k = r.none t 0 k m x (omega arith) (put_before s k None) (moved t d (put_before s k None)) (end_ends t g k (put_here s k None)) in
@@ -41,7 +43,8 @@ module _ {limit : ℕ} {s : Stream} {g : Phrase} {i : ℕ} {n : Counts} where
         record {
           can = record { t = b.t; j = b.j; m = b.m; x = b.x; agree = agree_to k b.agree (omega arith); past = omega (arith, b.past); text = b.text };
           could = record { t = b.t; j = b.j; m = b.m; x = b.x; agree = b.agree; past = b.past; text = weaker 0 (omega arith) b.text };
-          cannot = λ b. (r.none (ended b) (k + 1) b.j b.m b.x (omega arith) (ended_agree b) (ended_text b) (ended_ends b)).other (ended_agree b k (omega arith));
+          cannot = λ b. (r.none (ended b) (k + 1) b.j b.m b.x (omega arith) (ended_agree b) (ended_text b) (ended_ends b)).other
+              (ended_agree b k (omega arith));
         }
 
     of_sticks : (c : Cause) → Sticks limit s g i n c k → Stops limit s g i n c k

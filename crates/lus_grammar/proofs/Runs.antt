@@ -42,7 +42,8 @@ run_since (once_stop h d) = run_since d
 run_since (next_stop h d) = run_since d
 run_since (later_stop h d e) = omega (arith, run_ordered d, run_since e)
 
-pub run_forward : {limit : ℕ} {s : Stream} {g : Phrase} {i j : ℕ} {n m : Counts} {x : Syntax} → Run limit s g i n (read j m x) → may_be_nothing g ≡ false → i < j
+pub run_forward : {limit : ℕ} {s : Stream} {g : Phrase} {i j : ℕ} {n m : Counts} {x : Syntax} → Run limit s g i n (read j m x)
+    → may_be_nothing g ≡ false → i < j
 run_forward (token h) e = omega arith
 run_forward (occurrence h) e = omega arith
 run_forward (line {p = p} d) e = run_forward d (body_nothing p ∙ e)
@@ -59,12 +60,16 @@ run_forward (no_more h) e = absurd (cc)
 run_forward (again h d f) e = absurd (cc)
 
 -- what is read from a first token of the phrase on has a token
-pub run_entered : {limit : ℕ} {s : Stream} {g : Phrase} {i j : ℕ} {n m : Counts} {x : Syntax} → Run limit s g i n (read j m x) → fits g ≡ true → Enters s i g → i < j
+pub run_entered : {limit : ℕ} {s : Stream} {g : Phrase} {i j : ℕ} {n m : Counts} {x : Syntax} → Run limit s g i n (read j m x)
+    → fits g ≡ true → Enters s i g → i < j
 run_entered (token h) f e = omega arith
 run_entered (occurrence h) f e = omega arith
-run_entered {s = s} {i = i} (line {p = p} d) f e = run_entered d (body_fits p) (in_subset (codes_of (first_classes p)) (starts (body p)) (code (s i).class) (starts_body p) e)
-run_entered {s = s} {i = i} (within {p = p} d w) f e = run_entered d (body_fits p) (in_subset (codes_of (first_classes p)) (starts (body p)) (code (s i).class) (starts_body p) e)
-run_entered {s = s} {i = i} (anew {p = p} d) f e = run_entered d (body_fits p) (in_subset (codes_of (first_classes p)) (starts (body p)) (code (s i).class) (starts_body p) e)
+run_entered {s = s} {i = i} (line {p = p} d) f e = run_entered d (body_fits p)
+    (in_subset (codes_of (first_classes p)) (starts (body p)) (code (s i).class) (starts_body p) e)
+run_entered {s = s} {i = i} (within {p = p} d w) f e = run_entered d (body_fits p)
+    (in_subset (codes_of (first_classes p)) (starts (body p)) (code (s i).class) (starts_body p) e)
+run_entered {s = s} {i = i} (anew {p = p} d) f e = run_entered d (body_fits p)
+    (in_subset (codes_of (first_classes p)) (starts (body p)) (code (s i).class) (starts_body p) e)
 run_entered {s = s} {i = i} {j = j} (both {a = a} {b = b} {k = k} d q) f e =
     let w = fit_both a b f in
     let o = run_ordered d in let p = run_ordered q in
@@ -102,16 +107,19 @@ known_of [] h = refl
 known_of (c ∷ cs) h = h
 
 first_entered : (s : Stream) (i : ℕ) (a b : Phrase) → Entered s i (a ⨾ b) → Entered s i a
-first_entered s i a b (inl e) = elim (in_if_cases (may_be_nothing a) (starts a) (starts b) (code (s i).class) e) as (λ _. Entered s i a) [ inl u ↦ inl u | inr u ↦ inr u.0 ]
+first_entered s i a b (inl e) = elim (in_if_cases (may_be_nothing a) (starts a) (starts b) (code (s i).class) e) as
+    (λ _. Entered s i a) [ inl u ↦ inl u | inr u ↦ inr u.0 ]
 first_entered s i a b (inr e) = inr (and_parts (may_be_nothing a) (may_be_nothing b) e).0
 
 -- behind an empty first
 second_entered : (s : Stream) (i : ℕ) (a b : Phrase) → Entered s i (a ⨾ b) → Enters s i a ⊎ Entered s i b
-second_entered s i a b (inl e) = elim (in_if_cases (may_be_nothing a) (starts a) (starts b) (code (s i).class) e) as (λ _. Enters s i a ⊎ Entered s i b) [ inl u ↦ inl u | inr u ↦ inr (inl u.1) ]
+second_entered s i a b (inl e) = elim (in_if_cases (may_be_nothing a) (starts a) (starts b) (code (s i).class) e) as
+    (λ _. Enters s i a ⊎ Entered s i b) [ inl u ↦ inl u | inr u ↦ inr (inl u.1) ]
 second_entered s i a b (inr e) = inr (inr (and_parts (may_be_nothing a) (may_be_nothing b) e).1)
 
 other_entered : (s : Stream) (i : ℕ) (a b : Phrase) → fits (a ∣ b) ≡ true → Passes s i a → Entered s i (a ∣ b) → Entered s i b
-other_entered s i a b f h (inl e) = elim (in_cases (starts a) (starts b) (code (s i).class) e) as (λ _. Entered s i b) [ inl u ↦ absurd (both_ways _ h u) | inr u ↦ inl u ]
+other_entered s i a b f h (inl e) = elim (in_cases (starts a) (starts b) (code (s i).class) e) as
+    (λ _. Entered s i b) [ inl u ↦ absurd (both_ways _ h u) | inr u ↦ inl u ]
 other_entered s i a b f h (inr e) =
     let w = fit_either a b f in
     elim (or_cases (may_be_nothing a) (may_be_nothing b) e) as (λ _. Entered s i b) [ inl u ↦ absurd (both_ways _ w.one_some u) | inr u ↦ inr u ]
@@ -120,7 +128,8 @@ not_nothing : (P : Type 0) → P ⊎ (false ≡ true) → P
 not_nothing P (inl e) = e
 not_nothing P (inr e) = absurd (cc)
 
-pub run_stops_later : {limit : ℕ} {s : Stream} {g : Phrase} {i k : ℕ} {n : Counts} {c : Cause} → Run limit s g i n (stop c k) → 1 ≤ limit → fits g ≡ true → Entered s i g → i < k
+pub run_stops_later : {limit : ℕ} {s : Stream} {g : Phrase} {i k : ℕ} {n : Counts} {c : Cause} → Run limit s g i n (stop c k) → 1 ≤ limit
+    → fits g ≡ true → Entered s i g → i < k
 run_stops_later {s = s} {i = i} (no_token {cs = cs} h) l f e = absurd (h (one_if s i cs (known_of cs f) (not_nothing _ e)))
 run_stops_later {s = s} {i = i} (no_occurrence {c = c} h) l f e = absurd (no_first s i c f h (not_nothing _ e))
 run_stops_later {s = s} {i = i} (line_stop {p = p} d) l f e = run_stops_later d l (body_fits p) (of_body s i p e)

@@ -51,8 +51,10 @@ pub begins_with : {limit end : ℕ} {s : Stream} {g : Phrase} {i j : ℕ} {n m :
 begins_with {s = s} {i = i} (token {cs = cs} h) lt = enters_if s i cs h
 begins_with (occurrence h) lt = or_left _ _ (eq-eqb _ _ (ap code h))
 begins_with {s = s} {i = i} (line {p = p} d) lt = in_subset (starts (body p)) (codes_of (first_classes p)) (code (s i).class) (body_starts p) (begins_with d lt)
-begins_with {s = s} {i = i} (line_within {p = p} d w) lt = in_subset (starts (body p)) (codes_of (first_classes p)) (code (s i).class) (body_starts p) (begins_with d lt)
-begins_with {s = s} {i = i} (line_anew {p = p} d) lt = in_subset (starts (body p)) (codes_of (first_classes p)) (code (s i).class) (body_starts p) (begins_with d lt)
+begins_with {s = s} {i = i} (line_within {p = p} d w) lt = in_subset (starts (body p)) (codes_of (first_classes p)) (code (s i).class)
+    (body_starts p) (begins_with d lt)
+begins_with {s = s} {i = i} (line_anew {p = p} d) lt = in_subset (starts (body p)) (codes_of (first_classes p)) (code (s i).class)
+    (body_starts p) (begins_with d lt)
 begins_with {s = s} {i = i} {j = j} (both {a = a} {b = b} {k = k} d e) lt =
     elim (before_or_not i k (ordered d)) as (λ _. Enters s i (a ⨾ b)) [
       | inl u ↦ in_if_left (may_be_nothing a) (starts a) (starts b) (code (s i).class) (begins_with d u)
@@ -82,7 +84,8 @@ is_one u v (c ∷ cs) s t i e (inl h) = inl (ap (λ z. z.class) e ∙ h)
 is_one u v (c ∷ cs) s t i e (inr h) = inr (is_one u v cs s t i e h)
 
 -- a text is a text of any stream that has its marks
-pub moved : {limit end : ℕ} {s : Stream} (t : Stream) {g : Phrase} {i j : ℕ} {n m : Counts} {x : Syntax} → Text limit end s g i j n m x → Agree s t j → Text limit end t g i j n m x
+pub moved : {limit end : ℕ} {s : Stream} (t : Stream) {g : Phrase} {i j : ℕ} {n m : Counts} {x : Syntax} → Text limit end s g i j n m x
+    → Agree s t j → Text limit end t g i j n m x
 moved {limit} {end} {s} t {i = i} (token {cs = cs} {n = n} h) f =
     let e : t i ≡ s i = f i (omega arith) in
     subst (λ (z : Mark). Text limit end t (one_of cs) i (i + 1) n n (leaf z)) e (token (is_one (s i) (t i) cs s t i e h))
@@ -105,7 +108,8 @@ less_within limit end end' i j le (inl h) = inl h
 less_within limit end end' i j le (inr h) = inr (omega arith)
 
 -- the limit holds of fewer tokens too
-pub weaker : {limit end : ℕ} (end' : ℕ) {s : Stream} {g : Phrase} {i j : ℕ} {n m : Counts} {x : Syntax} → end' ≤ end → Text limit end s g i j n m x → Text limit end' s g i j n m x
+pub weaker : {limit end : ℕ} (end' : ℕ) {s : Stream} {g : Phrase} {i j : ℕ} {n m : Counts} {x : Syntax} → end' ≤ end
+    → Text limit end s g i j n m x → Text limit end' s g i j n m x
 weaker end' le (token h) = token h
 weaker end' le (occurrence h) = occurrence h
 weaker end' le (line d) = line (weaker end' le d)
@@ -124,7 +128,8 @@ all_within limit end end' i j le (inl h) = inl h
 all_within limit end end' i j le (inr h) = inl (omega arith)
 
 -- where it holds of all tokens of the text, it holds up to any end
-pub within_all : {limit end : ℕ} (end' : ℕ) {s : Stream} {g : Phrase} {i j : ℕ} {n m : Counts} {x : Syntax} → j ≤ end → Text limit end s g i j n m x → Text limit end' s g i j n m x
+pub within_all : {limit end : ℕ} (end' : ℕ) {s : Stream} {g : Phrase} {i j : ℕ} {n m : Counts} {x : Syntax} → j ≤ end
+    → Text limit end s g i j n m x → Text limit end' s g i j n m x
 within_all end' le (token h) = token h
 within_all end' le (occurrence h) = occurrence h
 within_all end' le (line d) = line (within_all end' le d)
@@ -177,16 +182,19 @@ clean no_more = empty_clean
 clean (again d e) = both_clean (clean d) (clean e)
 
 -- what is no longer than a limit is within that limit, up to any end
-pub short_within : {limit end : ℕ} (limit' end' from : ℕ) {s : Stream} {g : Phrase} {i j : ℕ} {n m : Counts} {x : Syntax} → from ≤ i → j ≤ from + limit' → Text limit end s g i j n m x → Text limit' end' s g i j n m x
+pub short_within : {limit end : ℕ} (limit' end' from : ℕ) {s : Stream} {g : Phrase} {i j : ℕ} {n m : Counts} {x : Syntax} → from ≤ i
+    → j ≤ from + limit' → Text limit end s g i j n m x → Text limit' end' s g i j n m x
 short_within limit' end' from le h (token a) = token a
 short_within limit' end' from le h (occurrence a) = occurrence a
 short_within limit' end' from le h (line d) = line (short_within limit' end' from le h d)
 short_within limit' end' from le h (line_within d w) = line_within (short_within limit' end' from le h d) (inl (omega arith))
 short_within limit' end' from le h (line_anew d) = line_anew (short_within limit' end' from le h d)
-short_within limit' end' from le h (both d e) = both (short_within limit' end' from le (omega (arith, ordered e)) d) (short_within limit' end' from (omega (arith, ordered d)) h e)
+short_within limit' end' from le h (both d e) = both (short_within limit' end' from le (omega (arith, ordered e)) d)
+    (short_within limit' end' from (omega (arith, ordered d)) h e)
 short_within limit' end' from le h (this_one d) = this_one (short_within limit' end' from le h d)
 short_within limit' end' from le h (that_one d) = that_one (short_within limit' end' from le h d)
 short_within limit' end' from le h not_once = not_once
 short_within limit' end' from le h (once d) = once (short_within limit' end' from le h d)
 short_within limit' end' from le h no_more = no_more
-short_within limit' end' from le h (again d e) = again (short_within limit' end' from le (omega (arith, ordered e)) d) (short_within limit' end' from (omega (arith, ordered d)) h e)
+short_within limit' end' from le h (again d e) = again (short_within limit' end' from le (omega (arith, ordered e)) d)
+    (short_within limit' end' from (omega (arith, ordered d)) h e)

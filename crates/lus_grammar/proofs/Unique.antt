@@ -17,11 +17,13 @@ length_within : (limit end i j : ℕ) → j ≤ end → IsWithin limit end i j �
 length_within limit end i j le (inl h) = h
 length_within limit end i j le (inr h) = omega arith
 
-pub run_of : {limit end : ℕ} {s : Stream} {g : Phrase} {i j : ℕ} {n m : Counts} {x : Syntax} → Text limit end s g i j n m x → j ≤ end → fits g ≡ true → Ends s g j → Run limit s g i n (read j m x)
+pub run_of : {limit end : ℕ} {s : Stream} {g : Phrase} {i j : ℕ} {n m : Counts} {x : Syntax} → Text limit end s g i j n m x → j ≤ end
+    → fits g ≡ true → Ends s g j → Run limit s g i n (read j m x)
 run_of (token h) le f st = token h
 run_of (occurrence h) le f st = occurrence h
 run_of {s = s} {j = j} (line {p = p} d) le f st = line (run_of d le (body_fits p) (body_ends s p j st.over))
-run_of {limit} {end} {s = s} {i = i} {j = j} (line_within {p = p} d w) le f st = within (run_of d le (body_fits p) (body_ends s p j st.over)) (length_within limit end i j le w)
+run_of {limit} {end} {s = s} {i = i} {j = j} (line_within {p = p} d w) le f st = within
+    (run_of d le (body_fits p) (body_ends s p j st.over)) (length_within limit end i j le w)
 run_of {s = s} {j = j} (line_anew {p = p} d) le f st = anew (run_of d le (body_fits p) (body_ends s p j st.over))
 run_of {s = s} {j = j} (both {a = a} {b = b} {k = k} d e) le f st =
     let w = fit_both a b f in
@@ -31,7 +33,8 @@ run_of {s = s} {j = j} (this_one {a = a} {b = b} d) le f st =
     this_one (begins_with d (forward d w.one_some)) (run_of d le w.one (one_ends a b s j st))
 run_of {s = s} {i = i} {j = j} (that_one {a = a} {b = b} d) le f st =
     let w = fit_either a b f in
-    that_one (apart_left (starts a) (starts b) (code (s i).class) w.parted (begins_with d (forward d w.other_some))) (run_of d le w.other (other_ends a b s j st))
+    that_one (apart_left (starts a) (starts b) (code (s i).class) w.parted (begins_with d (forward d w.other_some)))
+    (run_of d le w.other (other_ends a b s j st))
 run_of {s = s} {i = i} (not_once {a = a}) le f st = not_once (optional_passes a s i st)
 run_of {s = s} {j = j} (once {a = a} d) le f st =
     let w = fit_optional a f in
@@ -52,14 +55,18 @@ same_after same = record { place = refl; counts = refl; syntax = refl }
 same_after (parts p) = absurd (p.other refl)
 
 -- a reading is of the only text of its stream
-pub only_text : {limit bound : ℕ} {s : Stream} {g : Phrase} {i j : ℕ} {n m : Counts} {x : Syntax} {j' : ℕ} {m' : Counts} {x' : Syntax} → Run limit s g i n (read j m x) → fits g ≡ true → Text limit bound s g i j' n m' x' → Ends s g j' → Same j m x j' m' x'
+pub only_text : {limit bound : ℕ} {s : Stream} {g : Phrase} {i j : ℕ} {n m : Counts} {x : Syntax} {j' : ℕ} {m' : Counts} {x' : Syntax}
+    → Run limit s g i n (read j m x) → fits g ≡ true → Text limit bound s g i j' n m' x' → Ends s g j' → Same j m x j' m' x'
 only_text {bound = bound} {s = s} {j' = j'} {m' = m'} {x' = x'} d f e st = same_after ((reads d f).only s bound j' m' x' (λ y lt. refl) e st)
 
 -- whatever limits hold of the two
-pub one_text : {limit end limit' end' : ℕ} {s : Stream} {g : Phrase} {i j j' : ℕ} {n m m' : Counts} {x x' : Syntax} → Text limit end s g i j n m x → Text limit' end' s g i j' n m' x' → fits g ≡ true → Ends s g j → Ends s g j' → Same j m x j' m' x'
+pub one_text : {limit end limit' end' : ℕ} {s : Stream} {g : Phrase} {i j j' : ℕ} {n m m' : Counts} {x x' : Syntax}
+    → Text limit end s g i j n m x → Text limit' end' s g i j' n m' x' → fits g ≡ true → Ends s g j → Ends s g j' → Same j m x j' m' x'
 one_text {i = i} {j = j} {j' = j'} d e f st st' =
     let most = j + j' in
     only_text (run_of (short_within most j i (omega arith) (omega arith) d) (omega arith) f st) f (short_within most 0 i (omega arith) (omega arith) e) st'
 
-pub one_syntax : {limit end limit' end' : ℕ} {s : Stream} {g : Phrase} {i j j' : ℕ} {n m m' : Counts} {x x' : Syntax} → Text limit end s g i j n m x → Text limit' end' s g i j' n m' x' → fits g ≡ true → (s j).class ≡ None → (s j').class ≡ None → Same j m x j' m' x'
+pub one_syntax : {limit end limit' end' : ℕ} {s : Stream} {g : Phrase} {i j j' : ℕ} {n m m' : Counts} {x x' : Syntax}
+    → Text limit end s g i j n m x → Text limit' end' s g i j' n m' x' → fits g ≡ true → (s j).class ≡ None → (s j').class ≡ None
+    → Same j m x j' m' x'
 one_syntax {s = s} {g = g} {j = j} {j' = j'} d e f h h' = one_text d e f (end_ends s g j h) (end_ends s g j' h')

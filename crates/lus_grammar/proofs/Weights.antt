@@ -52,7 +52,8 @@ once_counted : (a n j : ℕ) → a ≤ j → j < a + n → times j (counting a n
 once_counted a zero j l h = absurd (omega arith)
 once_counted a (suc n) j l h = go (cases_Bool (eqb j a)) (once_counted (suc a) n j)
   where
-    go : (eqb j a ≡ true) ⊎ (eqb j a ≡ false) → (suc a ≤ j → j < suc a + n → times j (counting (suc a) n) ≡ 1) → cond (eqb j a) (suc (times j (counting (suc a) n))) (times j (counting (suc a) n)) ≡ 1
+    go : (eqb j a ≡ true) ⊎ (eqb j a ≡ false) → (suc a ≤ j → j < suc a + n → times j (counting (suc a) n) ≡ 1) → cond (eqb j a)
+        (suc (times j (counting (suc a) n))) (times j (counting (suc a) n)) ≡ 1
     go (inl t) r = let e : j ≡ a = eqb-true j a t in let z : times j (counting (suc a) n) ≡ 0 = none_before (suc a) n j (omega arith) in rw (t, z) refl
     go (inr f) r = rw f (r (apart (cases_order j a)) (omega arith))
       where
@@ -73,4 +74,6 @@ counted_from n ks same = all_pass (λ j. times j ks == 1) 1 (length ks) each
     many = sym (length_weighed ks) ∙ (same (λ k. 1) ∙ (length_weighed (counting 1 n) ∙ length_counting 1 n))
 
     each : (j : ℕ) → 1 ≤ j → j < 1 + length ks → (times j ks == 1) ≡ true
-    each j l h = eq-eqb (times j ks) 1 (sym (times_weighed j ks) ∙ (same (λ k. cond (eqb j k) 1 0) ∙ (times_weighed j (counting 1 n) ∙ once_counted 1 n j l (let e : length ks ≡ n = many in omega arith))))
+    each j l h = eq-eqb (times j ks) 1 (sym (times_weighed j ks) ∙
+        (same (λ k. cond (eqb j k) 1 0) ∙ (times_weighed j (counting 1 n) ∙ once_counted 1 n j l
+        (let e : length ks ≡ n = many in omega arith))))

@@ -77,4 +77,5 @@ pub record Over (limit : ℕ) (s : Stream) (p : Part) (i : ℕ) (n : Counts) : T
   pub agree : Agree s t (i + limit + 1)
   pub past : i + limit + 1 ≤ j
   pub text : Text limit (i + limit) t (body p) i j n m x
-  pub none : (j' : ℕ) (m' : Counts) (x' : Syntax) → j' ≤ i + limit → Text limit 0 s (body p) i j' n m' x' → listed (code (s j').class) (extends (body p)) ≡ false → Prim.⊥
+  pub none : (j' : ℕ) (m' : Counts) (x' : Syntax) → j' ≤ i + limit → Text limit 0 s (body p) i j' n m' x' → listed (code (s j').class)
+      (extends (body p)) ≡ false → Prim.⊥

@@ -120,5 +120,6 @@ body Primary = one_of (C.Number ∷ [])
     ∣ (counted calls (C.Keyword K.Condact) ⨾ sign S.Open ⨾ part Expression ⨾ sign S.Comma ⨾ identifier ⨾ bracketed
     ⨾ repeated (sign S.Comma ⨾ part Expression) ⨾ sign S.Close)
     ∣ (sign S.Open ⨾ (
-    (counted calls (C.Keyword K.Activate) ⨾ identifier ⨾ word K.Every ⨾ part Expression ⨾ word K.Initial ⨾ word K.Default ⨾ bracketed ⨾ sign S.Close ⨾ bracketed)
+    (counted calls (C.Keyword K.Activate) ⨾ identifier ⨾ word K.Every ⨾ part Expression ⨾ word K.Initial ⨾ word K.Default ⨾ bracketed
+    ⨾ sign S.Close ⨾ bracketed)
     ∣ (part Expression ⨾ sign S.Close)))

@@ -2,7 +2,7 @@
 use Rattle.std.specs.Prelude.{◌-◌, Bool, true, false, List, [], ◌∷◌, ◌++◌, Option, Some, None, map, length, take, drop}
 use Rattle.lus_tree.specs.declared.place.Sort.{Sort}
 use Rattle.lus_tree.specs.declared.place.Sort.TheVariants as Q
-use Rattle.lus_tree.specs.Tree.{Name, Spelled, Expression, Variable, Constant, Labelled, Statement, equation, assertion, property, main_mark, Clause, assume, guarantee, ghost_variable, constant, mode, «import», Declaration, declared_constant, declared_node, declared_contract, Program}
+use Rattle.lus_tree.specs.Tree.{Name, Spelled, Expression, Variable, Constant, Labelled, Statement, equation, assertion, property, main_mark, ContractStatement, assume, guarantee, ghost_variable, constant, mode, «import», Declaration, declared_constant, declared_node, declared_contract, Program}
 use Rattle.lus_lexer.specs.declared.token.Class.{Class}
 use Rattle.lus_lexer.specs.declared.token.Class.TheVariants as C
 use Rattle.lus_lexer.specs.declared.token.Keyword.TheVariants as K
@@ -138,7 +138,7 @@ abbrev pub ensures_of : Syntax → List Labelled
 ensures_of (some (node P.ModeItem (leaf t · l)) is) = if_ensured t.class (labelled_of t l ∷ []) ++ ensures_of is
 ensures_of _ = []
 
-abbrev pub assumption_or_guarantee : Option Class → Labelled → Clause
+abbrev pub assumption_or_guarantee : Option Class → Labelled → ContractStatement
 assumption_or_guarantee (Some (C.Keyword K.Assume)) l = assume l
 assumption_or_guarantee _ l = guarantee l
 
@@ -153,18 +153,21 @@ import_arguments_of (present (node P.Arguments (a · as_))) = expression_of a �
 import_arguments_of _ = []
 
 -- citem = ("assume" | "guarantee") [ TEXT ] expr ";" | "var" ID ":" sort "=" expr ";" | const | "mode" ID "(" .. ")" ";" | "import" ID "(" [ exprs ] ")" "returns" "(" [ names ] ")" ";"
-abbrev pub clauses_of : Syntax → List Clause
-clauses_of (some (node P.ContractItem (this (leaf t · l))) is) = assumption_or_guarantee t.class (labelled_of t l) ∷ clauses_of is
-clauses_of (some (node P.ContractItem (that (this (_ · leaf x · _ · q · _ · a · _)))) is) = ghost_variable (variable_of (sort_of q) None (spelled x)) (expression_of a) ∷ clauses_of is
-clauses_of (some (node P.ContractItem (that (that (this c)))) is) = map constant (constants_of c) ++ clauses_of is
-clauses_of (some (node P.ContractItem (that (that (that (this (_ · leaf m · _ · rs · _ · _)))))) is) = mode (spelled m) (requires_of rs) (ensures_of rs) ∷ clauses_of is
-clauses_of (some (node P.ContractItem (that (that (that (that (numbered t k · leaf c · _ · as_ · _ · _ · _ · xs · _ · _)))))) is) = «import» k (spelled c) (import_arguments_of as_) (optional_names_of xs) ∷ clauses_of is
-clauses_of _ = []
+abbrev pub contract_statements_of : Syntax → List ContractStatement
+contract_statements_of (some (node P.ContractItem (this (leaf t · l))) is) = assumption_or_guarantee t.class (labelled_of t l) ∷ contract_statements_of is
+contract_statements_of (some (node P.ContractItem (that (this (_ · leaf x · _ · q · _ · a · _)))) is) = ghost_variable
+    (variable_of (sort_of q) None (spelled x)) (expression_of a) ∷ contract_statements_of is
+contract_statements_of (some (node P.ContractItem (that (that (this c)))) is) = map constant (constants_of c) ++ contract_statements_of is
+contract_statements_of (some (node P.ContractItem (that (that (that (this (_ · leaf m · _ · rs · _ · _)))))) is) = mode (spelled m)
+    (requires_of rs) (ensures_of rs) ∷ contract_statements_of is
+contract_statements_of (some (node P.ContractItem (that (that (that (that (numbered t k · leaf c · _ · as_ · _ · _ · _ · xs · _ · _))))))
+    is) = «import» k (spelled c) (import_arguments_of as_) (optional_names_of xs) ∷ contract_statements_of is
+contract_statements_of _ = []
 
 -- [ contract ], with contract = "(*@contract" { citem } "*)" | "/*@contract" { citem } "*/"
-abbrev pub contract_of : Syntax → Option (List Clause)
-contract_of (present (node P.Contract (this (_ · is · _)))) = Some (clauses_of is)
-contract_of (present (node P.Contract (that (_ · is · _)))) = Some (clauses_of is)
+abbrev pub contract_of : Syntax → Option (List ContractStatement)
+contract_of (present (node P.Contract (this (_ · is · _)))) = Some (contract_statements_of is)
+contract_of (present (node P.Contract (that (_ · is · _)))) = Some (contract_statements_of is)
 contract_of _ = None
 
 abbrev pub is_function : Option Class → Bool
@@ -194,7 +197,7 @@ contract_nodes_of (node P.ContractNode (_ · leaf x · ps · _ · qs · _ · _ �
   outputs = parameters_of qs;
   locals = [];
   constants = [];
-  contract = Some (clauses_of is);
+  contract = Some (contract_statements_of is);
   body = [];
 }) ∷ []
 contract_nodes_of _ = []

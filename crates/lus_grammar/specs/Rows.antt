@@ -15,29 +15,29 @@ use Rattle.lus_grammar.specs.Trees.{expression_of}
 use Rattle.lus_grammar.specs.Source.{limit}
 
 -- a token of a row; the k-th of a row stands at the column k of line 1
-pub record Word : Type 0 where
+pub record RowToken : Type 0 where
   pub class : Class
   pub text : Name
 
 abbrev pub column : ℕ → Pos
 column k = record { line = 1; column = k }
 
-abbrev pub row_from : ℕ → List Word → Stream
+abbrev pub row_from : ℕ → List RowToken → Stream
 row_from k [] i = record { class = None; at = column k; text = [] }
 row_from k (w ∷ ws) zero = record { class = Some w.class; at = column k; text = w.text }
 row_from k (w ∷ ws) (suc i) = row_from (k + 1) ws i
 
-abbrev pub ident : Name → Word
+abbrev pub ident : Name → RowToken
 ident x = record { class = C.Ident; text = x }
 
-abbrev pub minus_sign : Word
+abbrev pub minus_sign : RowToken
 minus_sign = record { class = C.Sign S.Minus; text = codes "-" }
 
-abbrev pub arrow_sign : Word
+abbrev pub arrow_sign : RowToken
 arrow_sign = record { class = C.Sign S.Arrow; text = codes "->" }
 
 -- the expression's line has these words as a text, and this is its tree
-pub record IsTree (words : List Word) (size : ℕ) (e : Expression) : Type 0 where
+pub record IsTree (words : List RowToken) (size : ℕ) (e : Expression) : Type 0 where
   pub counts : Counts
   pub syntax : Syntax
   pub text : Text limit size (row_from 1 words) (part ExpressionPart) 0 size none_before counts syntax
@@ -61,5 +61,6 @@ ArrowsToTheRight = IsTree (ident (codes "a") ∷ arrow_sign ∷ ident (codes "b"
 
 -- a -> b when c is (a -> b) when c
 abbrev pub ClockOfTheWhole : Type 0
-ClockOfTheWhole = IsTree (ident (codes "a") ∷ arrow_sign ∷ ident (codes "b") ∷ record { class = C.Keyword K.When; text = codes "when" } ∷ ident (codes "c") ∷ []) 5
+ClockOfTheWhole = IsTree (ident (codes "a") ∷ arrow_sign ∷ ident
+    (codes "b") ∷ record { class = C.Keyword K.When; text = codes "when" } ∷ ident (codes "c") ∷ []) 5
     (sampled (place 1 4) (arrow (place 1 2) 1 (named 1 (codes "a")) (named 3 (codes "b"))) true (record { text = codes "c"; at = column 5 }))

@@ -44,8 +44,10 @@ pub data IsReason (m : Mark) : Cause → Reason → Type 0 where
 
 -- The tokens before k can begin a program, and with the mark at k, the end included, they can't be or begin one: not whatever the limit, or only because one expression would have a token too many.
 abbrev pub IsFirst : Stream → ℕ → Cause → Type 0
-IsFirst s k unexpected = CanBegin limit s program 0 none_before k × (CouldBegin limit s program 0 none_before (k + 1) → Prim.⊥) × ((m : Counts) (x : Syntax) → (s k).class ≡ None → Text limit 0 s program 0 k none_before m x → Prim.⊥)
-IsFirst s k too_large = CanBegin limit s program 0 none_before k × CouldBegin limit s program 0 none_before (k + 1) × (CanBegin limit s program 0 none_before (k + 1) → Prim.⊥)
+IsFirst s k unexpected = CanBegin limit s program 0 none_before k × (CouldBegin limit s program 0 none_before (k + 1) → Prim.⊥) ×
+    ((m : Counts) (x : Syntax) → (s k).class ≡ None → Text limit 0 s program 0 k none_before m x → Prim.⊥)
+IsFirst s k too_large = CanBegin limit s program 0 none_before k × CouldBegin limit s program 0 none_before (k + 1) ×
+    (CanBegin limit s program 0 none_before (k + 1) → Prim.⊥)
 
 -- the first mark with which the tokens of the bytes are no program, and why
 pub record IsOutside (bytes : List ℕ) (r : Refused) : Type 0 where

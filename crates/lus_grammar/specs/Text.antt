@@ -19,14 +19,18 @@ IsWithin limit end i j = (j ≤ i + limit) ⊎ (end ≤ i + limit)
 -- Each expression that the grammar limits has at most `limit` tokens before `end`.
 pub data Text (limit end : ℕ) (s : Stream) : Phrase → (i j : ℕ) (n m : Counts) → Syntax → Type 0 where
   token : {cs : List Class} {i : ℕ} {n : Counts} → IsOneOf s i cs → Text limit end s (one_of cs) i (i + 1) n n (leaf (s i))
-  occurrence : {k : Counter} {c : Class} {i : ℕ} {n : Counts} → (s i).class ≡ Some c → Text limit end s (counted k c) i (i + 1) n (counted_on k n) (numbered (s i) (number_of k n))
+  occurrence : {k : Counter} {c : Class} {i : ℕ} {n : Counts} → (s i).class ≡ Some c → Text limit end s (counted k c) i (i + 1) n
+      (counted_on k n) (numbered (s i) (number_of k n))
   line : {p : Part} {i j : ℕ} {n m : Counts} {x : Syntax} → Text limit end s (body p) i j n m x → Text limit end s (part p) i j n m (node p x)
-  line_within : {p : Part} {i j : ℕ} {n m : Counts} {x : Syntax} → Text limit end s (body p) i j n m x → IsWithin limit end i j → Text limit end s (limited p) i j n m (node p x)
+  line_within : {p : Part} {i j : ℕ} {n m : Counts} {x : Syntax} → Text limit end s (body p) i j n m x → IsWithin limit end i j
+      → Text limit end s (limited p) i j n m (node p x)
   line_anew : {p : Part} {i j : ℕ} {n m : Counts} {x : Syntax} → Text limit end s (body p) i j none_before m x → Text limit end s (fresh p) i j n n (node p x)
-  both : {a b : Phrase} {i k j : ℕ} {n m o : Counts} {x y : Syntax} → Text limit end s a i k n m x → Text limit end s b k j m o y → Text limit end s (a ⨾ b) i j n o (x · y)
+  both : {a b : Phrase} {i k j : ℕ} {n m o : Counts} {x y : Syntax} → Text limit end s a i k n m x → Text limit end s b k j m o y
+      → Text limit end s (a ⨾ b) i j n o (x · y)
   this_one : {a b : Phrase} {i j : ℕ} {n m : Counts} {x : Syntax} → Text limit end s a i j n m x → Text limit end s (a ∣ b) i j n m (this x)
   that_one : {a b : Phrase} {i j : ℕ} {n m : Counts} {x : Syntax} → Text limit end s b i j n m x → Text limit end s (a ∣ b) i j n m (that x)
   not_once : {a : Phrase} {i : ℕ} {n : Counts} → Text limit end s (optional a) i i n n absent
   once : {a : Phrase} {i j : ℕ} {n m : Counts} {x : Syntax} → Text limit end s a i j n m x → Text limit end s (optional a) i j n m (present x)
   no_more : {a : Phrase} {i : ℕ} {n : Counts} → Text limit end s (repeated a) i i n n none
-  again : {a : Phrase} {i k j : ℕ} {n m o : Counts} {x y : Syntax} → Text limit end s a i k n m x → Text limit end s (repeated a) k j m o y → Text limit end s (repeated a) i j n o (some x y)
+  again : {a : Phrase} {i k j : ℕ} {n m o : Counts} {x y : Syntax} → Text limit end s a i k n m x → Text limit end s (repeated a) k j m o y
+      → Text limit end s (repeated a) i j n o (some x y)

@@ -121,9 +121,12 @@ abbrev mutual
   expression_of (node P.Primary (that (that (this (leaf t · present (numbered _ k · xs · _)))))) = call (here t) k (spelled t) (arguments_of xs)
   expression_of (node P.Primary (that (that (that (this (leaf t · leaf m · absent)))))) = mode_name (here t) None (spelled m)
   expression_of (node P.Primary (that (that (that (this (leaf t · leaf c · present (_ · leaf m))))))) = mode_name (here t) (Some (spelled c)) (spelled m)
-  expression_of (node P.Primary (that (that (that (that (this (leaf t · leaf c · _ · _ · _ · a · _ · _ · _ · _ · b · _))))))) = merged (here t) (spelled c) (expression_of a) (expression_of b)
-  expression_of (node P.Primary (that (that (that (that (that (this (numbered t k · _ · a · _ · leaf f · (_ · xs · _) · ds · _)))))))) = condact (here t) k (expression_of a) (spelled f) (arguments_of xs) (listed_of ds)
-  expression_of (node P.Primary (that (that (that (that (that (that (leaf o · this (numbered t k · leaf f · _ · a · _ · _ · (_ · ds · _) · _ · (_ · xs · _))))))))))
+  expression_of (node P.Primary (that (that (that (that (this (leaf t · leaf c · _ · _ · _ · a · _ · _ · _ · _ · b · _))))))) = merged
+      (here t) (spelled c) (expression_of a) (expression_of b)
+  expression_of (node P.Primary (that (that (that (that (that (this (numbered t k · _ · a · _ · leaf f · (_ · xs · _) · ds · _)))))))) =
+      condact (here t) k (expression_of a) (spelled f) (arguments_of xs) (listed_of ds)
+  expression_of (node P.Primary (that (that (that (that (that (that
+      (leaf o · this (numbered t k · leaf f · _ · a · _ · _ · (_ · ds · _) · _ · (_ · xs · _))))))))))
       = condact (record { from = o.at; at = t.at }) k (expression_of a) (spelled f) (arguments_of xs) (arguments_of ds)
   expression_of (node P.Primary (that (that (that (that (that (that (leaf o · that (a · _))))))))) = begun o.at (expression_of a)
   expression_of _ = truth (record { from = record { line = 0; column = 0 }; at = record { line = 0; column = 0 } }) false

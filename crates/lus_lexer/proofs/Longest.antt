@@ -91,7 +91,15 @@ pub longest_word : (s : ℕ → ℕ) (i j : ℕ) (x : Lexeme) → i ≤ j → is
 longest_word s i j x o l e h = record { spells = h; longest = λ j' x' k. word_over s i j j' x' o l e k }
 
 pub some_word : (s : ℕ → ℕ) (i j : ℕ) → i ≤ j → is_letter (s i) ≡ true → is_word (s j) ≡ false → i < j
-some_word s i j o l e = elim (split_at j i) [ inl g ↦ (let d : j ≡ i = omega arith in let k : is_word (s i) ≡ false = subst (λ (x : ℕ). is_word (s x) ≡ false) d e in Prim.absurd (both_ways (is_word (s i)) (letter_word (s i) l) k)) | inr g ↦ g ]
+some_word s i j o l e = elim (split_at j i) [
+  | inl g ↦ (let d : j ≡ i = omega arith in let k : is_word (s i) ≡ false = subst
+      (λ (x : ℕ). is_word (s x) ≡ false) d e in Prim.absurd (both_ways (is_word (s i)) (letter_word (s i) l) k))
+  | inr g ↦ g
+]
 
 pub some_digit : (s : ℕ → ℕ) (i j : ℕ) → i ≤ j → is_ascii_digit (s i) ≡ true → is_ascii_digit (s j) ≡ false → i < j
-some_digit s i j o l e = elim (split_at j i) [ inl g ↦ (let d : j ≡ i = omega arith in let k : is_ascii_digit (s i) ≡ false = subst (λ (x : ℕ). is_ascii_digit (s x) ≡ false) d e in Prim.absurd (both_ways (is_ascii_digit (s i)) l k)) | inr g ↦ g ]
+some_digit s i j o l e = elim (split_at j i) [
+  | inl g ↦ (let d : j ≡ i = omega arith in let k : is_ascii_digit (s i) ≡ false = subst
+      (λ (x : ℕ). is_ascii_digit (s x) ≡ false) d e in Prim.absurd (both_ways (is_ascii_digit (s i)) l k))
+  | inr g ↦ g
+]

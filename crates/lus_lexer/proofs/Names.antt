@@ -50,7 +50,8 @@ unfolding table
 words_reserved = refl
 
 row_reserved : (r : Row) → In r table → is_letter (get_or r.text 0 0) ≡ true → list_any (bytes_eq r.text) reserved ≡ true
-row_reserved r i h = at_true (is_letter (get_or r.text 0 0)) _ _ h (in_all (λ r. cond (is_letter (get_or r.text 0 0)) (list_any (bytes_eq r.text) reserved) true) r table words_reserved i)
+row_reserved r i h = at_true (is_letter (get_or r.text 0 0)) _ _ h
+    (in_all (λ r. cond (is_letter (get_or r.text 0 0)) (list_any (bytes_eq r.text) reserved) true) r table words_reserved i)
 
 reserved_found : map (λ r. found r.text table) (keywords ++ left_out_words) ≡ map (λ r. Some r) (keywords ++ left_out_words)
 unfolding table
@@ -62,7 +63,9 @@ not_alone = refl
 abbrev OneOf : List ℕ → List Row → Type 0
 OneOf w rs = (r : Row) × In r rs × (w ≡ r.text)
 
-one_of_step : (w : List ℕ) (r : Row) (rs : List Row) (b : Bool) → bytes_eq w r.text ≡ b → (list_any (bytes_eq w) (map (λ r. r.text) rs) ≡ true → OneOf w rs) → (b || list_any (bytes_eq w) (map (λ r. r.text) rs)) ≡ true → OneOf w (r ∷ rs)
+one_of_step : (w : List ℕ) (r : Row) (rs : List Row) (b : Bool) → bytes_eq w r.text ≡ b →
+    (list_any (bytes_eq w) (map (λ r. r.text) rs) ≡ true → OneOf w rs) → (b || list_any (bytes_eq w) (map (λ r. r.text) rs)) ≡ true
+    → OneOf w (r ∷ rs)
 one_of_step w r rs true e f h = (r, inl refl, (bytes_eq-Decides w r.text).0 e)
 one_of_step w r rs false e f h = let o = f h in (o.0, inr o.1, o.2)
 
@@ -115,7 +118,8 @@ none_reserved w h = go (list_any (bytes_eq w) reserved) refl
 
 pub test_of_name : (w : List ℕ) → IsName (byte w) 0 (length w) → is_name w ≡ true
 unfolding is_name
-test_of_name w h = both (is_letter (byte w 0)) _ h.letter (both (list_all is_word w) _ (each_all (byte w) is_word 0 w (length w) (whole_stands w) h.word) (none_reserved w h.no_row))
+test_of_name w h = both (is_letter (byte w 0)) _ h.letter (both (list_all is_word w) _
+    (each_all (byte w) is_word 0 w (length w) (whole_stands w) h.word) (none_reserved w h.no_row))
 
 -- ---- what the code finds
 
@@ -126,7 +130,8 @@ not_fixed w c e i =
     both_ways (is_fixed (Token c)) a b
 
 abbrev Found : List ℕ → Class → Type 0
-Found w c = In (record { text = w; is = Token c; alone = false }) (words_at (byte w 0)) ⊎ ((c ≡ C.Ident) × ((r : Row) → In r (words_at (byte w 0)) → r.text ≡ w → Prim.⊥))
+Found w c = In (record { text = w; is = Token c; alone = false }) (words_at (byte w 0)) ⊎
+    ((c ≡ C.Ident) × ((r : Row) → In r (words_at (byte w 0)) → r.text ≡ w → Prim.⊥))
 
 named : (w : List ℕ) (c : Class) → is_letter (byte w 0) ≡ true → Each (byte w) is_word 0 (length w) → Found w c → c ≡ C.Ident → IsName (byte w) 0 (length w)
 named w c l e (inl k) i = Prim.absurd (not_fixed w c i (word_listed (byte w 0) _ k))
@@ -145,7 +150,8 @@ ident w c (inl k) h = Prim.absurd (h.no_row _ (record { listed = word_listed (by
 ident w c (inr k) h = k.0
 
 -- its class by the code's words is that of a name exactly where no row has this text
-pub word_name : (w : List ℕ) (c : Class) → is_letter (byte w 0) ≡ true → Each (byte w) is_word 0 (length w) → c ≡ word_in (looked_up (byte w 0) word_groups) w → (c ≡ C.Ident) ↔ IsName (byte w) 0 (length w)
+pub word_name : (w : List ℕ) (c : Class) → is_letter (byte w 0) ≡ true → Each (byte w) is_word 0 (length w) → c ≡ word_in
+    (looked_up (byte w 0) word_groups) w → (c ≡ C.Ident) ↔ IsName (byte w) 0 (length w)
 word_name w c l e h = (λ i. named w c l e (word_found (byte w 0) w c h) i, λ n. ident w c (word_found (byte w 0) w c h) n)
 
 -- ---- the answers

@@ -33,8 +33,10 @@ in_order b i ts e (token {j = j} {c = c} {ts = us} h m r) =
     let q = span_within b i j (Token c) h.spells in
     (omega arith, p.some, q, in_order b j us e r)
 in_order b i ts e (bad l d u) = omega (arith, l)
-in_order b i ts e (open_end {j = j} {c = c} h m) = let p = span (byte b) i j (Opens c) h.spells in let q = span_within b i j (Opens c) h.spells in omega (arith, p.some, q)
-in_order b i ts e (wide {j = j} h w) = let p = span (byte b) i j (Token Number) h.spells in let q = span_within b i j (Token Number) h.spells in omega (arith, p.some, q)
+in_order b i ts e (open_end {j = j} {c = c} h m) = let p = span (byte b) i j (Opens c) h.spells in let q = span_within b i j
+    (Opens c) h.spells in omega (arith, p.some, q)
+in_order b i ts e (wide {j = j} h w) = let p = span (byte b) i j (Token Number) h.spells in let q = span_within b i j
+    (Token Number) h.spells in omega (arith, p.some, q)
 
 -- what the rule for a token asks of it
 pub record IsTaken (b : List ℕ) (t : Tok) : Type 0 where
@@ -53,7 +55,8 @@ pub taken : (b : List ℕ) (i : ℕ) (ts : List Tok) (e : Ending) → Lexes (byt
 taken b i ts e (finish z) = λ t k. Prim.absurd k
 taken b i ts e (blank l k r) = taken b (i + 1) ts e r
 taken b i ts e (comment {k = k} h m r) = taken b k ts e r
-taken b i ts e (token {j = j} {c = c} {ts = us} h m r) = taken_first b (record { from = i; to = j; at = place (byte b) i; class = c }) us (record { at = refl; longest = h; fits = m }) (taken b j us e r)
+taken b i ts e (token {j = j} {c = c} {ts = us} h m r) = taken_first b (record { from = i; to = j; at = place (byte b) i; class = c }) us
+    (record { at = refl; longest = h; fits = m }) (taken b j us e r)
 taken b i ts e (bad l d u) = λ t k. Prim.absurd k
 taken b i ts e (open_end h m) = λ t k. Prim.absurd k
 taken b i ts e (wide h w) = λ t k. Prim.absurd k

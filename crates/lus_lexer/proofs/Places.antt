@@ -8,7 +8,8 @@ pub record IsSmall (i : ℕ) (p : Pos) : Type 0 where
   pub line : p.line ≤ i + 1
   pub column : p.column ≤ i + 1
 
-small_next : (i : ℕ) (b : Bool) (p : Pos) → IsSmall i p → IsSmall (suc i) (cond b (record { line = p.line + 1; column = 1 }) (record { line = p.line; column = p.column + 1 }))
+small_next : (i : ℕ) (b : Bool) (p : Pos) → IsSmall i p → IsSmall (suc i)
+    (cond b (record { line = p.line + 1; column = 1 }) (record { line = p.line; column = p.column + 1 }))
 small_next i true p h = record { line = omega (arith, h.line); column = omega arith }
 small_next i false p h = record { line = omega (arith, h.line); column = omega (arith, h.column) }
 
@@ -20,7 +21,8 @@ pub record IsAlong (p q : Pos) (d : ℕ) : Type 0 where
   pub line : q.line ≡ p.line
   pub column : q.column ≡ p.column + d
 
-along_next : (p q : Pos) (d b : ℕ) → nat_le 32 b ≡ true → IsAlong p q d → IsAlong p (cond (b == 10) (record { line = q.line + 1; column = 1 }) (record { line = q.line; column = q.column + 1 })) (suc d)
+along_next : (p q : Pos) (d b : ℕ) → nat_le 32 b ≡ true → IsAlong p q d → IsAlong p
+    (cond (b == 10) (record { line = q.line + 1; column = 1 }) (record { line = q.line; column = q.column + 1 })) (suc d)
 along_next p q d b h k =
     let e : (b == 10) ≡ false = grind arith in
     rw e (record { line = k.line; column = omega (arith, k.column) })
@@ -39,7 +41,8 @@ same_pos p l c e f = rw (← e, ← f) refl
 pub small_at : (s : ℕ → ℕ) (i : ℕ) (p : Pos) → p ≡ place s i → IsSmall i p
 small_at s i p e = rw e (small s i)
 
-pub along_to : (s : ℕ → ℕ) (i j : ℕ) (p : Pos) → p ≡ place s i → i ≤ j → Each s (nat_le 32) i j → (record { line = p.line; column = p.column + (j - i) }) ≡ place s j
+pub along_to : (s : ℕ → ℕ) (i j : ℕ) (p : Pos) → p ≡ place s i → i ≤ j → Each s (nat_le 32) i j →
+    (record { line = p.line; column = p.column + (j - i) }) ≡ place s j
 along_to s i j p e l h =
     let d : i + (j - i) ≡ j = omega arith in
     let k : IsAlong (place s i) (place s (i + (j - i))) (j - i) = along s i (j - i) (λ k a b. h k a (omega arith)) in

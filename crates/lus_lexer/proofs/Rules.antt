@@ -21,19 +21,24 @@ fault_at s n i p q w v e f g h = rw (f, e, g) h
 pub blank_at : (s : ℕ → ℕ) (n i j : ℕ) (ts : List Tok) (e : Ending) → i < n → is_blank (s i) ≡ true → j ≡ i + 1 → Lexes s n j ts e → Lexes s n i ts e
 blank_at s n i j ts e l b f h = blank l b (subst (λ (x : ℕ). Lexes s n x ts e) f h)
 
-pub bad_at : (s : ℕ → ℕ) (n i : ℕ) (p q : Pos) (w : What) → p ≡ place s i → q ≡ p → w ≡ BadByte → i < n → is_blank (s i) ≡ false → NoneAt s i → Lexes s n i [] (fault q w)
+pub bad_at : (s : ℕ → ℕ) (n i : ℕ) (p q : Pos) (w : What) → p ≡ place s i → q ≡ p → w ≡ BadByte → i < n → is_blank (s i) ≡ false
+    → NoneAt s i → Lexes s n i [] (fault q w)
 bad_at s n i p q w e f g l b h = fault_at s n i p q w BadByte e f g (bad l b h)
 
-pub open_at : (s : ℕ → ℕ) (n i j k : ℕ) (c : Comment) (p q : Pos) (w : What) → p ≡ place s i → q ≡ p → w ≡ UnclosedComment → Longest s i j (Opens c) → k ≡ j → ((m : ℕ) → Closes s n c k m → Prim.⊥) → Lexes s n i [] (fault q w)
+pub open_at : (s : ℕ → ℕ) (n i j k : ℕ) (c : Comment) (p q : Pos) (w : What) → p ≡ place s i → q ≡ p → w ≡ UnclosedComment → Longest s i j
+    (Opens c) → k ≡ j → ((m : ℕ) → Closes s n c k m → Prim.⊥) → Lexes s n i [] (fault q w)
 open_at s n i j k c p q w e f g l d h = fault_at s n i p q w UnclosedComment e f g (open_end l (subst (λ (x : ℕ). (m : ℕ) → Closes s n c x m → Prim.⊥) d h))
 
-pub wide_at : (s : ℕ → ℕ) (n i j : ℕ) (p q : Pos) (w : What) → p ≡ place s i → q ≡ p → w ≡ WideLiteral → Longest s i j (Token Number) → IsWide s i j → Lexes s n i [] (fault q w)
+pub wide_at : (s : ℕ → ℕ) (n i j : ℕ) (p q : Pos) (w : What) → p ≡ place s i → q ≡ p → w ≡ WideLiteral → Longest s i j (Token Number)
+    → IsWide s i j → Lexes s n i [] (fault q w)
 wide_at s n i j p q w e f g l h = fault_at s n i p q w WideLiteral e f g (wide l h)
 
-pub comment_at : (s : ℕ → ℕ) (n i j j' k : ℕ) (c : Comment) (ts : List Tok) (e : Ending) → Longest s i j (Opens c) → j' ≡ j → Closes s n c j' k → Lexes s n k ts e → Lexes s n i ts e
+pub comment_at : (s : ℕ → ℕ) (n i j j' k : ℕ) (c : Comment) (ts : List Tok) (e : Ending) → Longest s i j (Opens c) → j' ≡ j
+    → Closes s n c j' k → Lexes s n k ts e → Lexes s n i ts e
 comment_at s n i j j' k c ts e l d h r = comment l (subst (λ (x : ℕ). Closes s n c x k) d h) r
 
-pub token_at : (s : ℕ → ℕ) (n i j j' : ℕ) (c : Class) (p : Pos) (ts : List Tok) (e : Ending) → p ≡ place s i → Longest s i j (Token c) → (c ≡ Number → IsWide s i j → Prim.⊥) → j' ≡ j → Lexes s n j' ts e → Lexes s n i (record { from = i; to = j; at = p; class = c } ∷ ts) e
+pub token_at : (s : ℕ → ℕ) (n i j j' : ℕ) (c : Class) (p : Pos) (ts : List Tok) (e : Ending) → p ≡ place s i → Longest s i j (Token c) →
+    (c ≡ Number → IsWide s i j → Prim.⊥) → j' ≡ j → Lexes s n j' ts e → Lexes s n i (record { from = i; to = j; at = p; class = c } ∷ ts) e
 token_at s n i j j' c p ts e f l w d h = rw f (token l w (subst (λ (x : ℕ). Lexes s n x ts e) d h))
 
 -- is it of the table, and no name, number or text?

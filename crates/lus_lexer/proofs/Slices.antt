@@ -35,14 +35,16 @@ first_of_slice bytes i j l h =
     let e : suc (j - i - 1) ≡ j - i = omega (arith, l) in
     subst (λ (x : ℕ). get_or (take x (drop i bytes)) 0 0 ≡ byte bytes i) e (slice_first bytes i (j - i - 1) (omega (arith, l, h)))
 
-letter_first : (bytes : List ℕ) (i j : ℕ) → i < j → j ≤ length bytes → is_letter (byte bytes i) ≡ true → is_letter (get_or (take (j - i) (drop i bytes)) 0 0) ≡ true
+letter_first : (bytes : List ℕ) (i j : ℕ) → i < j → j ≤ length bytes → is_letter (byte bytes i) ≡ true → is_letter
+    (get_or (take (j - i) (drop i bytes)) 0 0) ≡ true
 letter_first bytes i j l h g = subst (λ (x : ℕ). is_letter x ≡ true) (sym (first_of_slice bytes i j l h)) g
 
 stands_append : (s : ℕ → ℕ) (i k j : ℕ) (v w : List ℕ) → Stands s i v k → Stands s k w j → Stands s i (v ++ w) j
 stands_append s i k j [] w h g = subst (λ (x : ℕ). Stands s x w j) h g
 stands_append s i k j (c ∷ v) w h g = (h.0, stands_append s (i + 1) k j v w h.1 g)
 
-stands_row : (bytes : List ℕ) (i j : ℕ) (r : Row) → i < j → j ≤ length bytes → is_letter (byte bytes i) ≡ true → In r table → take (j - i) (drop i bytes) ≡ r.text → IsRow (byte bytes) i j r
+stands_row : (bytes : List ℕ) (i j : ℕ) (r : Row) → i < j → j ≤ length bytes → is_letter (byte bytes i) ≡ true → In r table → take (j - i)
+    (drop i bytes) ≡ r.text → IsRow (byte bytes) i j r
 stands_row bytes i j r l h g k e = record {
   listed = k;
   stands = subst (λ (x : List ℕ). Stands (byte bytes) i x j) e (slice_stands bytes i (j - i) j (omega (arith, l)) h);
@@ -55,7 +57,8 @@ some_slice bytes i j o l = grind (arith, common_steps)
 token_is : (c d : Class) → Token c ≡ Token d → c ≡ d
 token_is c d e = cc
 
-text_slice : (bytes : List ℕ) (i j : ℕ) (h : IsText (byte bytes) i j) → j ≤ length bytes → take (j - i) (drop i bytes) ≡ 34 ∷ (take (h.last - (i + 1)) (drop (i + 1) bytes) ++ 34 ∷ [])
+text_slice : (bytes : List ℕ) (i j : ℕ) (h : IsText (byte bytes) i j) → j ≤ length bytes → take (j - i) (drop i bytes) ≡ 34 ∷
+    (take (h.last - (i + 1)) (drop (i + 1) bytes) ++ 34 ∷ [])
 text_slice bytes i j h l =
     let v : List ℕ = take (h.last - (i + 1)) (drop (i + 1) bytes) in
     let a : Stands (byte bytes) (i + 1) v h.last = slice_stands bytes (i + 1) (h.last - (i + 1)) h.last (omega (arith, h.some)) (omega (arith, l, h.past)) in

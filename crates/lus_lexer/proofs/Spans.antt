@@ -38,7 +38,10 @@ stands_here s f i c k a e d = rw (d, e) a
 
 pub stands_each : (s : ℕ → ℕ) (f : ℕ → Bool) (i : ℕ) (w : List ℕ) (j : ℕ) → list_all f w ≡ true → Stands s i w j → Each s f i j
 stands_each s f i [] j a h k p q = Prim.absurd (omega (arith, h))
-stands_each s f i (c ∷ w) j a h k p q = elim (split i k p) [ inl e ↦ stands_here s f i c k (and_left (f c) _ a) h.0 e | inr l ↦ stands_each s f (i + 1) w j (and_right (f c) _ a) h.1 k l q ]
+stands_each s f i (c ∷ w) j a h k p q = elim (split i k p) [
+  | inl e ↦ stands_here s f i c k (and_left (f c) _ a) h.0 e
+  | inr l ↦ stands_each s f (i + 1) w j (and_right (f c) _ a) h.1 k l q
+]
 
 -- each text of the table is some printable bytes
 pub printable_row : Row → Bool

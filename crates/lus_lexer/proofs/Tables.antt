@@ -178,7 +178,8 @@ pub record SignHead (s : ℕ → ℕ) (i : ℕ) (r : Row) : Type 0 where
   pub no_quote : (s i == 34) ≡ false
   pub listed : In r (signs_at (s i))
 
-word_head : (s : ℕ → ℕ) (i j : ℕ) (r : Row) → IsRow s i j r → is_letter (get_or r.text 0 0) ≡ true → found r.text (words_at (get_or r.text 0 0)) ≡ Some r → WordHead s i j r
+word_head : (s : ℕ → ℕ) (i j : ℕ) (r : Row) → IsRow s i j r → is_letter (get_or r.text 0 0) ≡ true → found r.text
+    (words_at (get_or r.text 0 0)) ≡ Some r → WordHead s i j r
 word_head s i j r h e l =
     let a : word_ok r ≡ true = at_true (is_letter (get_or r.text 0 0)) _ _ e (ok_row r h.listed) in
     let n = and_left (nat_le 1 (length r.text)) _ a in
@@ -190,7 +191,8 @@ word_head s i j r h e l =
       word = stands_each s is_word i r.text j (and_left (list_all is_word r.text) _ b) h.stands;
     }
 
-sign_head : (s : ℕ → ℕ) (i j : ℕ) (r : Row) → IsRow s i j r → is_letter (get_or r.text 0 0) ≡ false → found r.text (signs_at (get_or r.text 0 0)) ≡ Some r → SignHead s i r
+sign_head : (s : ℕ → ℕ) (i j : ℕ) (r : Row) → IsRow s i j r → is_letter (get_or r.text 0 0) ≡ false → found r.text
+    (signs_at (get_or r.text 0 0)) ≡ Some r → SignHead s i r
 sign_head s i j r h e l =
     let a : sign_ok r ≡ true = at_false (is_letter (get_or r.text 0 0)) _ _ e (ok_row r h.listed) in
     let n = and_left (nat_le 1 (length r.text)) _ a in

@@ -106,7 +106,11 @@ line_over : (s : ℕ → ℕ) (n j k k' : ℕ) → EndsLine s n j k → EndsLine
 line_over s n j k k' h g = elim (split_at k' k) [ inl l ↦ l | inr l ↦ Prim.absurd (not_lf (s k) (h.last (omega (arith, l, g.within))) (g.inside k h.since l)) ]
 
 pair_over : (s : ℕ → ℕ) (a b j k k' : ℕ) → EndsWith s a b j k → EndsWith s a b j k' → k' ≤ k
-pair_over s a b j k k' h g = elim (split_at g.last h.last) [ inl l ↦ omega (arith, l, h.past, g.past) | inr l ↦ Prim.absurd (g.first h.last h.since l h.one h.other) ]
+pair_over s a b j k k' h g = elim (split_at g.last h.last) [
+  | inl l ↦ omega (arith, l, h.past, g.past)
+  | inr l ↦ Prim.absurd
+      (g.first h.last h.since l h.one h.other)
+]
 
 closes_over : (s : ℕ → ℕ) (n : ℕ) (c : Comment) (j k k' : ℕ) → Closes s n c j k → Closes s n c j k' → k' ≤ k
 closes_over s n Line j k k' h g = line_over s n j k k' h g
@@ -162,7 +166,8 @@ at_blank b i ts e l k (bad _ d _) = Prim.absurd (both_ways (is_blank (byte b i))
 at_blank b i ts e l k (open_end {j = j} {c = c} h _) = Prim.absurd (no_blank b i j (Opens c) h k)
 at_blank b i ts e l k (wide {j = j} h _) = Prim.absurd (no_blank b i j (Token C.Number) h k)
 
-at_bad : (b : List ℕ) (i : ℕ) (ts : List Tok) (e : Ending) → i < length b → is_blank (byte b i) ≡ false → NoneAt (byte b) i → L b i ts e → Same [] ts (fault (place (byte b) i) BadByte) e
+at_bad : (b : List ℕ) (i : ℕ) (ts : List Tok) (e : Ending) → i < length b → is_blank (byte b i) ≡ false → NoneAt (byte b) i → L b i ts e
+    → Same [] ts (fault (place (byte b) i) BadByte) e
 at_bad b i ts e l d u (finish z) = Prim.absurd (omega (arith, z, l))
 at_bad b i ts e l d u (blank _ k _) = Prim.absurd (both_ways (is_blank (byte b i)) k d)
 at_bad b i ts e l d u (comment {j = j} {c = c} h _ _) = Prim.absurd (u j (Opens c) h.spells)
@@ -187,7 +192,8 @@ at_comment b i j c ts e g (token {j = j'} {c = d} h _ _) = let a = alike (byte b
 at_comment b i j c ts e g (bad _ _ u) = Prim.absurd (u j (Opens c) g.spells)
 at_comment b i j c ts e g (open_end {j = j'} {c = d} h m) =
     let a = alike (byte b) i j j' (Opens c) (Opens d) g h in
-    unclosed (λ k q. m k (subst (λ (x : Comment). Closes (byte b) (length b) x j' k) (opens_comment c d a.is) (subst (λ (x : ℕ). Closes (byte b) (length b) c x k) a.end q))) (record { tokens = refl; ending = refl })
+    unclosed (λ k q. m k (subst (λ (x : Comment). Closes (byte b) (length b) x j' k) (opens_comment c d a.is)
+    (subst (λ (x : ℕ). Closes (byte b) (length b) c x k) a.end q))) (record { tokens = refl; ending = refl })
 at_comment b i j c ts e g (wide {j = j'} h _) = let a = alike (byte b) i j' j (Token C.Number) (Opens c) h g in Prim.absurd (apart C.Number c a.is)
 
 -- at a token

@@ -66,7 +66,8 @@ Spelled = (bytes : List ℕ) (ts : List Tok) (e : Ending) → Reads bytes ts e �
 pub data Between (bytes : List ℕ) : ℕ → ℕ → Type 0 where
   nothing : {i : ℕ} → Between bytes i i
   blank_then : {i j : ℕ} → is_blank (byte bytes i) ≡ true → Between bytes (i + 1) j → Between bytes i j
-  comment_then : {i j k m : ℕ} {c : Comment} → Longest (byte bytes) i j (Opens c) → Closes (byte bytes) (length bytes) c j k → Between bytes k m → Between bytes i m
+  comment_then : {i j k m : ℕ} {c : Comment} → Longest (byte bytes) i j (Opens c) → Closes (byte bytes) (length bytes) c j k
+      → Between bytes k m → Between bytes i m
 
 -- such gaps before each token, and behind the last one
 abbrev pub Apart : List ℕ → ℕ → List Tok → Type 0
@@ -77,4 +78,5 @@ abbrev pub OnlyBlanks : Type 0
 OnlyBlanks = (bytes : List ℕ) (ts : List Tok) → Reads bytes ts whole → Apart bytes 0 ts
 
 abbrev pub Fits : Type 0
-Fits = (bytes : List ℕ) (ts : List Tok) (e : Ending) → Reads bytes ts e → (t : Tok) → In t ts → t.class ≡ Number → value (byte bytes) t.from (t.to - t.from) ≤ 9223372036854775807
+Fits = (bytes : List ℕ) (ts : List Tok) (e : Ending) → Reads bytes ts e → (t : Tok) → In t ts → t.class ≡ Number → value (byte bytes) t.from
+    (t.to - t.from) ≤ 9223372036854775807

@@ -14,7 +14,8 @@ Refused bytes at what = (ts : List Tok) × Lexes (byte bytes) (length bytes) 0 t
 
 -- One rule: the tokens that it gives, and where it goes on; or the fault
 abbrev pub Steps : List ℕ → ℕ → Result (Option Tok × Cursor) Refusal → Type 0
-Steps bytes i (Ok x) = (ts : List Tok) (e : Ending) → Lexes (byte bytes) (length bytes) x.1.at ts e → Lexes (byte bytes) (length bytes) i (option_to_list x.0 ++ ts) e
+Steps bytes i (Ok x) = (ts : List Tok) (e : Ending) → Lexes (byte bytes) (length bytes) x.1.at ts e → Lexes (byte bytes) (length bytes) i
+    (option_to_list x.0 ++ ts) e
 Steps bytes i (Err e) = Lexes (byte bytes) (length bytes) i [] (fault e.at e.what)
 
 -- the reading up to its end, or up to its first fault

@@ -47,7 +47,8 @@ word_groups = (97, map constant_word WORDS_A) ∷ (98, map constant_word WORDS_B
 
 abbrev pub sign_in : List Row → List ℕ → ℕ → Option (Lexeme × ℕ)
 sign_in [] bytes at = None
-sign_in (r ∷ rs) bytes at = if starts_with eqb (drop at bytes) r.text && (not r.alone || not (is_word (byte bytes (at + length r.text)))) then Some (r.is, at + length r.text) else sign_in rs bytes at
+sign_in (r ∷ rs) bytes at = if starts_with eqb (drop at bytes) r.text &&
+    (not r.alone || not (is_word (byte bytes (at + length r.text)))) then Some (r.is, at + length r.text) else sign_in rs bytes at
 
 abbrev pub word_in : List (List ℕ × Class) → List ℕ → Class
 word_in [] word = Ident

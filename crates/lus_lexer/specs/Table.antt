@@ -58,7 +58,8 @@ keywords = keyword (codes "node") K.Node ∷ keyword (codes "function") K.Functi
     ∷ keyword (codes "int") K.Int ∷ []
 
 abbrev pub left_out_words : List Row
-left_out_words = left_out (codes "type") L.TypeWord ∷ left_out (codes "struct") L.Struct ∷ left_out (codes "enum") L.Enum ∷ left_out (codes "subrange") L.Subrange
+left_out_words = left_out (codes "type") L.TypeWord ∷ left_out (codes "struct") L.Struct ∷ left_out (codes "enum") L.Enum ∷ left_out
+    (codes "subrange") L.Subrange
     ∷ left_out (codes "real") L.Real ∷ left_out (codes "imported") L.Imported ∷ left_out (codes "automaton") L.Automaton ∷ left_out (codes "restart") L.Restart
     ∷ left_out (codes "current") L.Current ∷ left_out (codes "fby") L.Fby ∷ left_out (codes "forall") L.Forall ∷ left_out (codes "exists") L.Exists
     ∷ left_out (codes "weakly") L.Weakly ∷ left_out (codes "array") L.Array ∷ left_out (codes "int8") L.Int8 ∷ left_out (codes "int16") L.Int16

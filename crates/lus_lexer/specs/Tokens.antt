@@ -128,7 +128,8 @@ pub data Lexes (s : ℕ → ℕ) (n : ℕ) : ℕ → List Tok → Ending → Typ
   finish : {i : ℕ} → i ≡ n → Lexes s n i [] whole
   blank : {i : ℕ} {ts : List Tok} {e : Ending} → i < n → is_blank (s i) ≡ true → Lexes s n (i + 1) ts e → Lexes s n i ts e
   comment : {i j k : ℕ} {c : Comment} {ts : List Tok} {e : Ending} → Longest s i j (Opens c) → Closes s n c j k → Lexes s n k ts e → Lexes s n i ts e
-  token : {i j : ℕ} {c : Class} {ts : List Tok} {e : Ending} → Longest s i j (Token c) → (c ≡ Number → IsWide s i j → Prim.⊥) → Lexes s n j ts e → Lexes s n i (record { from = i; to = j; at = place s i; class = c } ∷ ts) e
+  token : {i j : ℕ} {c : Class} {ts : List Tok} {e : Ending} → Longest s i j (Token c) → (c ≡ Number → IsWide s i j → Prim.⊥)
+      → Lexes s n j ts e → Lexes s n i (record { from = i; to = j; at = place s i; class = c } ∷ ts) e
   -- BadByte: nothing is spelled here
   bad : {i : ℕ} → i < n → is_blank (s i) ≡ false → NoneAt s i → Lexes s n i [] (fault (place s i) BadByte)
   -- UnclosedComment

@@ -34,7 +34,8 @@ apart x (y ∷ xs) ys d e f = go (cases_Bool (bytes_eq x y)) (apart x xs ys d.1)
     or_right false b e = e
 
     go : (bytes_eq x y ≡ true) ⊎ (bytes_eq x y ≡ false) → (named_in x xs ≡ true → named_in x ys ≡ true → ⊥) → ⊥
-    go (inl t) r = true≢false (sym (or_right (named_in y xs) (named_in y ys) (subst (λ z. named_in z ys ≡ true) (same_bytes x y t) f)) ∙ (sym (named_append y xs ys) ∙ d.0))
+    go (inl t) r = true≢false (sym (or_right (named_in y xs) (named_in y ys) (subst (λ z. named_in z ys ≡ true) (same_bytes x y t) f)) ∙
+        (sym (named_append y xs ys) ∙ d.0))
     go (inr g) r = r (rw g at e) f
 
 distinct_rest : (xs ys : List Name) → AreDistinct (xs ++ ys) → AreDistinct ys
@@ -51,7 +52,8 @@ named_left x (q ∷ es) (suc k) e = named_append x q.names (lefts es) ∙ or_rig
     or_right false b e = e
 
 -- where no name has two equations, each has one
-pub same_equation : (es : List Equation) → AreDistinct (lefts es) → (x : Name) (k j : ℕ) → named_in x (left_at es k) ≡ true → named_in x (left_at es j) ≡ true → k ≡ j
+pub same_equation : (es : List Equation) → AreDistinct (lefts es) → (x : Name) (k j : ℕ) → named_in x (left_at es k) ≡ true → named_in x
+    (left_at es j) ≡ true → k ≡ j
 same_equation [] d x k j e f = absurd (false≢true e)
 same_equation (q ∷ es) d x zero zero e f = refl
 same_equation (q ∷ es) d x zero (suc j) e f = absurd (apart x q.names (lefts es) d e (named_left x es j f))
@@ -78,7 +80,8 @@ module _ (d : Component) (node : IsBooleanNode d) where
   near_is_far k j l h n =
       let y : Name = first_name (left_at es k) in
       let e : named_in y (left_at es k) ≡ true = first_is_named (left_at es k) (one_left es k (each_boolean d node) l) in
-      let q : (x : Name) × (named_in x (needed_at es k) ≡ true) × (named_in x (left_at es j) ≡ true) = any_found (λ x. named_in x (left_at es j)) (needed_at es k) n in
+      let q : (x : Name) × (named_in x (needed_at es k) ≡ true) × (named_in x (left_at es j) ≡ true) = any_found
+      (λ x. named_in x (left_at es j)) (needed_at es k) n in
       let s : (m : ℕ) × IsAt m ([], Some q.0) (next_places i [] (Some y)) = one_step d node y q.0 k e q.1 in
       record { start = y; starts = e; first = (s.0, ([], Some q.0)); rest = []; way = (s.1, tt); finish = q.0; finishes = q.2; last = refl }
 
@@ -92,7 +95,8 @@ module _ (d : Component) (node : IsBooleanNode d) where
     pub place : p ≡ ([], Some name)
 
   pub step_of : (y : Name) (p : Place) (m : ℕ) → IsAt m p (next_places i [] (Some y)) → (p ≡ ([], None)) ⊎ IsNamed y p
-  step_of y p m a = each_need d node y (λ p. (p ≡ ([], None)) ⊎ IsNamed y p) (inl refl) (λ k l e z f. inr (record { equation = k; below = l; left = e; name = z; needed = f; place = refl })) p m a
+  step_of y p m a = each_need d node y (λ p. (p ≡ ([], None)) ⊎ IsNamed y p) (inl refl)
+      (λ k l e z f. inr (record { equation = k; below = l; left = e; name = z; needed = f; place = refl })) p m a
 
   is_some : Place → Bool
   is_some (ks, None) = false
@@ -109,7 +113,8 @@ module _ (d : Component) (node : IsBooleanNode d) where
     pub left : named_in y (left_at es equation) ≡ true
     pub steps : NeedsBySteps (length es) Near equation j
 
-  pub path_of : (y : Name) (q : ℕ × Place) (qs : List (ℕ × Place)) → IsWay i ([], Some y) (q ∷ qs) → (z : Name) → last_place q.1 qs ≡ ([], Some z) → (j : ℕ) → j < length es → named_in z (left_at es j) ≡ true → IsPath y j
+  pub path_of : (y : Name) (q : ℕ × Place) (qs : List (ℕ × Place)) → IsWay i ([], Some y) (q ∷ qs) → (z : Name) → last_place q.1 qs ≡
+      ([], Some z) → (j : ℕ) → j < length es → named_in z (left_at es j) ≡ true → IsPath y j
   unfolding is_some name_of
   path_of y q [] w z e j l f = go (step_of y q.1 q.0 w.0)
     where
@@ -117,7 +122,8 @@ module _ (d : Component) (node : IsBooleanNode d) where
       go (inl g) = absurd (true≢false (ap is_some (sym e ∙ g)))
       go (inr s) =
           let same : s.name ≡ z = ap name_of (sym s.place ∙ e) in
-          let step : Near s.equation j = any_named (λ x. named_in x (left_at es j)) z (needed_at es s.equation) (subst (λ x. named_in x (needed_at es s.equation) ≡ true) same s.needed) f in
+          let step : Near s.equation j = any_named (λ x. named_in x (left_at es j)) z (needed_at es s.equation)
+          (subst (λ x. named_in x (needed_at es s.equation) ≡ true) same s.needed) f in
           record { equation = s.equation; below = s.below; left = s.left; steps = record { first = j; rest = []; steps = (l, step, tt); last = refl } }
   path_of y q (r ∷ rs) w z e j l f = go (step_of y q.1 q.0 w.0) (λ x h. path_of x r rs h z e j l f)
     where
@@ -126,7 +132,13 @@ module _ (d : Component) (node : IsBooleanNode d) where
       go (inr s) rec =
           let p : IsPath s.name j = rec s.name (subst (λ p. IsWay i p (r ∷ rs)) s.place w.1) in
           let step : Near s.equation p.equation = any_named (λ x. named_in x (left_at es p.equation)) s.name (needed_at es s.equation) s.needed p.left in
-          record { equation = s.equation; below = s.below; left = s.left; steps = record { first = p.equation; rest = p.steps.first ∷ p.steps.rest; steps = (p.below, step, p.steps.steps); last = p.steps.last } }
+          record {
+            equation = s.equation;
+            below = s.below;
+            left = s.left;
+            steps = record
+                { first = p.equation; rest = p.steps.first ∷ p.steps.rest; steps = (p.below, step, p.steps.steps); last = p.steps.last };
+          }
 
   -- what an equation needs it needs by steps
   pub far_by_steps : AreDistinct (left_names d) → (k j : ℕ) → k < length es → j < length es → Far k j → NeedsBySteps (length es) Near k j
@@ -159,8 +171,10 @@ module _ (d : Component) (node : IsBooleanNode d) where
     lowers : (k j : ℕ) → k < length es → j < length es → Far k j → lower (length es) rank k j ≡ true
     lowers k j l h n =
         let a : place_rank n.first.1 < place_rank ([], Some n.start) = order_lowers d node ks direct ([], Some n.start) n.first.1 n.first.0 n.way.0 in
-        let b : place_rank (last_place n.first.1 n.rest) ≤ place_rank n.first.1 = way_lowers i place_rank (order_lowers d node ks direct) n.first.1 n.rest n.way.1 in
-        let c : place_rank (last_place n.first.1 n.rest) ≡ rank j = ap place_rank (n.last ∙ ap (λ (x : Name). let p : Place = ([], Some x) in p) (only j h n.finish n.finishes)) in
+        let b : place_rank (last_place n.first.1 n.rest) ≤ place_rank n.first.1 = way_lowers i place_rank
+        (order_lowers d node ks direct) n.first.1 n.rest n.way.1 in
+        let c : place_rank (last_place n.first.1 n.rest) ≡ rank j = ap place_rank
+        (n.last ∙ ap (λ (x : Name). let p : Place = ([], Some x) in p) (only j h n.finish n.finishes)) in
         let e : place_rank ([], Some n.start) ≡ rank k = ap (λ (x : Name). place_rank ([], Some x)) (only k l n.start n.starts) in
         lt-ltb (rank j) (rank k) (omega arith)
 
@@ -174,8 +188,10 @@ module _ (d : Component) (node : IsBooleanNode d) where
 
 pub order_or_cycle : OrderOrCycle
 order_or_cycle d node = (
-  (λ o. subst NoCycle (sym (boolean_instance d node)) (ordered_no_cycle d node o.0 (subst (λ i. IsEquationOrder i (equations d) o.0) (boolean_instance d node) o.1))),
-  (λ never. let r : (ks : List ℕ) × IsEquationOrder (instance d [] no_instances) (equations d) ks = no_cycle_ordered d node (subst NoCycle (boolean_instance d node) never) in
+  (λ o. subst NoCycle (sym (boolean_instance d node)) (ordered_no_cycle d node o.0
+      (subst (λ i. IsEquationOrder i (equations d) o.0) (boolean_instance d node) o.1))),
+  (λ never. let r : (ks : List ℕ) × IsEquationOrder (instance d [] no_instances) (equations d) ks = no_cycle_ordered d node
+      (subst NoCycle (boolean_instance d node) never) in
       (r.0, subst (λ i. IsEquationOrder i (equations d) r.0) (sym (boolean_instance d node)) r.1)),
 )
 
@@ -187,5 +203,6 @@ one_order p d h =
     let r : (ks : List ℕ) × IsLeastDirectOrder (equations d) ks = order_of d s (subst NoCycle (boolean_instance d s) h.rules.no_cycle) in (
       r.0,
       subst (λ i. IsLeastEquationOrder i (equations d) r.0) (sym e) (least_needed d s distinct r.0 r.1),
-      λ js a. same_least (length (equations d)) (needs_equation (equations d)) js r.0 (least_direct d s distinct js (subst (λ i. IsLeastEquationOrder i (equations d) js) e a)) r.1,
+      λ js a. same_least (length (equations d)) (needs_equation (equations d)) js r.0
+          (least_direct d s distinct js (subst (λ i. IsLeastEquationOrder i (equations d) js) e a)) r.1,
     )

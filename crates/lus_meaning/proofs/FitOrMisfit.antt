@@ -11,7 +11,7 @@ use Rattle.lus_tree.specs.Tree.{Component, Program}
 use Rattle.lus_tree.specs.Lookup.{nodes_of}
 use Rattle.lus_meaning.specs.Scene.{Instance, component_of}
 use Rattle.lus_meaning.specs.Program.{instance_of}
-use Rattle.lus_meaning.specs.Trace.{Subject, of_name, of_first, Line, same_numbers, same_subject}
+use Rattle.lus_meaning.specs.Trace.{Subject, of_name, of_first, BareLine, same_numbers, same_subject}
 use Rattle.lus_meaning.specs.TraceView.{PlacedValue, PlacedLine, Listing, bare_values, bare_line, lines_of}
 use Rattle.lus_meaning.specs.Fits.{Listable, listable, same_place, listable_at, is_listed, takes_value, IsTaken, AreTaken, AreDifferent, is_given, FitsInstance, first_named, FitsProgram, Test, first_failed, value_tests, taken_tests, line_tests, lines_tests, instance_tests, node_tests, misfit, FitOrMisfit}
 
@@ -95,11 +95,12 @@ true_not : (b : Bool) → b ≡ false → not b ≡ true
 true_not b h = ap not h
 
 -- none of the lines lists what one before it does, or these do
-abbrev AreNew : List Line → List Line → Type 0
+abbrev AreNew : List BareLine → List BareLine → Type 0
 AreNew before [] = Unit {0}
 AreNew before (l ∷ ls) = (is_listed before l.path l.subject ≡ false) × AreNew (before ++ l ∷ []) ls
 
-lines_pass : (ss : List Listable) (before : List Line) (ls : List PlacedLine) → first_failed (lines_tests ss before ls) ≡ None → AreTaken ss (map bare_line ls) × AreNew before (map bare_line ls)
+lines_pass : (ss : List Listable) (before : List BareLine) (ls : List PlacedLine) → first_failed (lines_tests ss before ls) ≡ None
+    → AreTaken ss (map bare_line ls) × AreNew before (map bare_line ls)
 lines_pass ss before [] h = (tt, tt)
 lines_pass ss before (l ∷ ls) h =
     let a = both_pass (line_tests ss before l) (lines_tests ss (before ++ bare_line l ∷ []) ls) h in
@@ -107,10 +108,12 @@ lines_pass ss before (l ∷ ls) h =
     let c = lines_pass ss (before ++ bare_line l ∷ []) ls a.1 in
     ((taken_pass (listable_at ss l.path l.subject) l b.1, c.0), (not_true (is_listed before l.path l.subject) b.0, c.1))
 
-pass_lines : (ss : List Listable) (before : List Line) (ls : List PlacedLine) → AreTaken ss (map bare_line ls) → AreNew before (map bare_line ls) → first_failed (lines_tests ss before ls) ≡ None
+pass_lines : (ss : List Listable) (before : List BareLine) (ls : List PlacedLine) → AreTaken ss (map bare_line ls) → AreNew before
+    (map bare_line ls) → first_failed (lines_tests ss before ls) ≡ None
 pass_lines ss before [] h k = refl
 pass_lines ss before (l ∷ ls) h k = pass_both (line_tests ss before l) (lines_tests ss (before ++ bare_line l ∷ []) ls)
-    (passes_one (l.at, not (is_listed before l.path l.subject)) (taken_tests (listable_at ss l.path l.subject) l) (true_not (is_listed before l.path l.subject) k.0) (pass_taken (listable_at ss l.path l.subject) l h.0))
+    (passes_one (l.at, not (is_listed before l.path l.subject)) (taken_tests (listable_at ss l.path l.subject) l)
+    (true_not (is_listed before l.path l.subject) k.0) (pass_taken (listable_at ss l.path l.subject) l h.0))
     (pass_lines ss (before ++ bare_line l ∷ []) ls h.1 k.1)
 
 -- ---- no two lines list the same
@@ -125,7 +128,8 @@ numbers_back (k ∷ ks) [] = refl
 numbers_back (k ∷ ks) (j ∷ js) = rw (numbers_back ks js) (ap (λ b. b && same_numbers js ks) (number_back k j))
 
 bytes_back : (xs ys : List ℕ) → bytes_eq xs ys ≡ bytes_eq ys xs
-bytes_back xs ys = same_from_decides (bytes_eq xs ys) (bytes_eq ys xs) (bytes_eq-Decides xs ys) (λ h. sym ((bytes_eq-Decides ys xs).0 h), λ e. (bytes_eq-Decides ys xs).1 (sym e))
+bytes_back xs ys = same_from_decides (bytes_eq xs ys) (bytes_eq ys xs) (bytes_eq-Decides xs ys)
+    (λ h. sym ((bytes_eq-Decides ys xs).0 h), λ e. (bytes_eq-Decides ys xs).1 (sym e))
 
 subject_back : (s t : Subject) → same_subject s t ≡ same_subject t s
 subject_back (of_name x) (of_name y) = bytes_back x y
@@ -133,7 +137,7 @@ subject_back (of_name x) (of_first j) = refl
 subject_back (of_first k) (of_name y) = refl
 subject_back (of_first k) (of_first j) = number_back k j
 
-place_back : (l m : Line) → same_place l.path l.subject m.path m.subject ≡ same_place m.path m.subject l.path l.subject
+place_back : (l m : BareLine) → same_place l.path l.subject m.path m.subject ≡ same_place m.path m.subject l.path l.subject
 place_back l m = rw (numbers_back l.path m.path, subject_back l.subject m.subject) refl
 
 both_false : (a b : Bool) → (a || b) ≡ false → (a ≡ false) × (b ≡ false)
@@ -143,10 +147,11 @@ both_false false b h = (refl, h)
 false_both : (a b : Bool) → a ≡ false → b ≡ false → (a || b) ≡ false
 false_both a b h k = rw (h, k) refl
 
-abbrev same_line : Line → Line → Bool
+abbrev same_line : BareLine → BareLine → Bool
 same_line m l = same_place m.path m.subject l.path l.subject
 
-listed_append : (before ms : List Line) (l : Line) → is_listed (before ++ ms) l.path l.subject ≡ (is_listed before l.path l.subject || is_listed ms l.path l.subject)
+listed_append : (before ms : List BareLine) (l : BareLine) → is_listed (before ++ ms) l.path l.subject ≡
+    (is_listed before l.path l.subject || is_listed ms l.path l.subject)
 listed_append [] ms l = refl
 listed_append (b ∷ before) ms l = go (same_line b l) (listed_append before ms l)
   where
@@ -155,46 +160,46 @@ listed_append (b ∷ before) ms l = go (same_line b l) (listed_append before ms 
     go true h = refl
     go false h = h
 
-abbrev Apart : List Line → List Line → Type 0
+abbrev Apart : List BareLine → List BareLine → Type 0
 Apart before ls = AllByRecursion (λ l. is_listed before l.path l.subject ≡ false) ls
 
-apart_both : (before ms ls : List Line) → Apart (before ++ ms) ls → Apart before ls × Apart ms ls
+apart_both : (before ms ls : List BareLine) → Apart (before ++ ms) ls → Apart before ls × Apart ms ls
 apart_both before ms [] h = (tt, tt)
 apart_both before ms (l ∷ ls) h =
     let a = both_false (is_listed before l.path l.subject) (is_listed ms l.path l.subject) (sym (listed_append before ms l) ∙ h.0) in
     let b = apart_both before ms ls h.1 in
     ((a.0, b.0), (a.1, b.1))
 
-both_apart : (before ms ls : List Line) → Apart before ls → Apart ms ls → Apart (before ++ ms) ls
+both_apart : (before ms ls : List BareLine) → Apart before ls → Apart ms ls → Apart (before ++ ms) ls
 both_apart before ms [] h k = tt
 both_apart before ms (l ∷ ls) h k = (
   listed_append before ms l ∙ false_both (is_listed before l.path l.subject) (is_listed ms l.path l.subject) h.0 k.0,
   both_apart before ms ls h.1 k.1,
 )
 
-apart_one : (m : Line) (ls : List Line) → Apart (m ∷ []) ls → is_listed ls m.path m.subject ≡ false
+apart_one : (m : BareLine) (ls : List BareLine) → Apart (m ∷ []) ls → is_listed ls m.path m.subject ≡ false
 apart_one m [] h = refl
 apart_one m (l ∷ ls) h = false_both (same_line l m) (is_listed ls m.path m.subject)
     (place_back l m ∙ (both_false (same_line m l) false h.0).0) (apart_one m ls h.1)
 
-one_apart : (m : Line) (ls : List Line) → is_listed ls m.path m.subject ≡ false → Apart (m ∷ []) ls
+one_apart : (m : BareLine) (ls : List BareLine) → is_listed ls m.path m.subject ≡ false → Apart (m ∷ []) ls
 one_apart m [] h = tt
 one_apart m (l ∷ ls) h =
     let a = both_false (same_line l m) (is_listed ls m.path m.subject) h in
     (false_both (same_line m l) false (place_back m l ∙ a.0) refl, one_apart m ls a.1)
 
-new_different : (before ls : List Line) → AreNew before ls → Apart before ls × AreDifferent ls
+new_different : (before ls : List BareLine) → AreNew before ls → Apart before ls × AreDifferent ls
 new_different before [] h = (tt, tt)
 new_different before (l ∷ ls) h =
     let a = new_different (before ++ l ∷ []) ls h.1 in
     let b = apart_both before (l ∷ []) ls a.0 in
     ((h.0, b.0), (apart_one l ls b.1, a.1))
 
-different_new : (before ls : List Line) → Apart before ls → AreDifferent ls → AreNew before ls
+different_new : (before ls : List BareLine) → Apart before ls → AreDifferent ls → AreNew before ls
 different_new before [] h k = tt
 different_new before (l ∷ ls) h k = (h.0, different_new (before ++ l ∷ []) ls (both_apart before (l ∷ []) ls h.1 (one_apart l ls k.0)) k.1)
 
-none_apart : (ls : List Line) → Apart [] ls
+none_apart : (ls : List BareLine) → Apart [] ls
 none_apart [] = tt
 none_apart (l ∷ ls) = (refl, none_apart ls)
 
@@ -243,7 +248,8 @@ passes_instance i t h =
     (pass_lines (listable t.length i) [] t.lines h.2.taken (different_new [] (lines_of t) (none_apart (lines_of t)) h.2.once))
     (passes_one inputs [] (true_all (is_given (lines_of t)) (component_of i).inputs h.2.given) refl))
 
-node_passes : (p : Program) (o : Option Component) (t : Listing) → first_named t.node (nodes_of p) ≡ o → first_failed (node_tests p o t) ≡ None → FitsProgram p t
+node_passes : (p : Program) (o : Option Component) (t : Listing) → first_named t.node (nodes_of p) ≡ o → first_failed
+    (node_tests p o t) ≡ None → FitsProgram p t
 node_passes p None t e h = absurd (failed t.node_at h)
 node_passes p (Some d) t e h =
     let a = instance_passes (instance_of p d) t h in

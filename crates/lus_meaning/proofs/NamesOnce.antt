@@ -7,8 +7,8 @@ use Rattle.std.proofs.lemmas.Bool.{false≢true}
 use Rattle.lus_tree.specs.declared.place.Pos.{Pos}
 use Rattle.lus_tree.specs.Tree.{Name, text_of, Spelled, Variable, Component, declared_constant, declared_node, declared_contract, Program}
 use Rattle.lus_tree.specs.Reason.{Reason, name_twice}
-use Rattle.lus_meaning.specs.Scene.{Site, Instance, variables, clauses, no_component}
-use Rattle.lus_meaning.specs.Program.{component_named, first_of_two, instance_within, instances_with, all_sites, clause_constants}
+use Rattle.lus_meaning.specs.Scene.{Site, Instance, variables, contract_statements, no_component}
+use Rattle.lus_meaning.specs.Program.{component_named, first_of_two, instance_within, instances_with, all_sites, contract_statement_constants}
 use Rattle.lus_meaning.specs.Depends.{named_in}
 use Rattle.lus_meaning.specs.WellMade.{AreDistinct}
 use Rattle.lus_meaning.specs.Faults.{if_so, meets, same_word, words_twice, later}
@@ -48,7 +48,8 @@ neither_is a b e f = rw (e, f) refl
 meets_none : (r : Reason) (x : Spelled) (ws : List Spelled) → meets same_word (λ w. w.at) r x ws ≡ [] → named_in x.text (map text_of ws) ≡ false
 meets_none r x [] e = refl
 meets_none r x (w ∷ ws) e =
-    let h : (if_so (same_word x w) r (later x.at w.at) ≡ []) × (meets same_word (λ w. w.at) r x ws ≡ []) = no_parts (if_so (same_word x w) r (later x.at w.at)) (meets same_word (λ w. w.at) r x ws) e in
+    let h : (if_so (same_word x w) r (later x.at w.at) ≡ []) × (meets same_word (λ w. w.at) r x ws ≡ []) = no_parts
+    (if_so (same_word x w) r (later x.at w.at)) (meets same_word (λ w. w.at) r x ws) e in
     neither_is (bytes_eq x.text w.text) (named_in x.text (map text_of ws)) (not_so (same_word x w) r (later x.at w.at) h.0) (meets_none r x ws h.1)
 
 pub none_twice : (r : Reason) (ws : List Spelled) → words_twice r ws ≡ [] → AreDistinct (map text_of ws)
@@ -78,8 +79,24 @@ Clean p n = (k : ℕ) × (component_faults (home p k n) (constant_words p) ≡ [
 pub each_clean : (p : Program) (k : ℕ) (ds : Program) → declaration_faults p k ds ≡ [] → AllByRecursion (Clean p) (components ds)
 each_clean p k [] e = tt
 each_clean p k (declared_constant c ∷ ds) e = each_clean p (suc k) ds (no_parts _ _ e).1
-each_clean p k (declared_node n ∷ ds) e = ((k, (no_parts (component_faults (home p k n) (constant_words p)) (declaration_faults p k ds) e).0), each_clean p k ds (no_parts (component_faults (home p k n) (constant_words p)) (declaration_faults p k ds) e).1)
-each_clean p k (declared_contract n ∷ ds) e = ((k, (no_parts (component_faults (home p k n) (constant_words p)) (declaration_faults p k ds) e).0), each_clean p k ds (no_parts (component_faults (home p k n) (constant_words p)) (declaration_faults p k ds) e).1)
+each_clean p k (declared_node n ∷ ds) e = (
+  (
+    k,
+    (no_parts (component_faults (home p k n) (constant_words p))
+        (declaration_faults p k ds) e).0,
+  ),
+  each_clean p k ds (no_parts (component_faults (home p k n) (constant_words p))
+      (declaration_faults p k ds) e).1,
+)
+each_clean p k (declared_contract n ∷ ds) e = (
+  (
+    k,
+    (no_parts (component_faults (home p k n) (constant_words p))
+        (declaration_faults p k ds) e).0,
+  ),
+  each_clean p k ds (no_parts (component_faults (home p k n) (constant_words p))
+      (declaration_faults p k ds) e).1,
+)
 
 pub all_clean : (p : Program) → IsTyped p → AllByRecursion (Clean p) (components p)
 all_clean p t = each_clean p 0 p (no_parts _ (declaration_faults p 0 p) (no_parts _ _ (empty_of (typing_faults p) t)).1).1
@@ -90,9 +107,12 @@ HasNamesOnce n = AreDistinct (map (λ v. v.name.text) (variables n))
 clean_names : (p : Program) (n : Component) → Clean p n → HasNamesOnce n
 clean_names p n (k, e) =
     let words : AreDistinct (map text_of (own_words n)) = none_twice name_twice (own_words n) (no_parts (words_twice name_twice (own_words n)) _ e).0 in
-    let split : AreDistinct (map text_of (map (λ v. v.name) (variables n)) ++ map text_of (map (λ c. c.name) (clause_constants (clauses n)) ++ map (λ c. c.name) n.constants)) =
-    subst AreDistinct (map_append text_of (map (λ v. v.name) (variables n)) (map (λ c. c.name) (clause_constants (clauses n)) ++ map (λ c. c.name) n.constants)) words in
-    subst AreDistinct (texts_of (variables n)) (distinct_left (map text_of (map (λ v. v.name) (variables n))) (map text_of (map (λ c. c.name) (clause_constants (clauses n)) ++ map (λ c. c.name) n.constants)) split)
+    let split : AreDistinct (map text_of (map (λ v. v.name) (variables n)) ++ map text_of
+    (map (λ c. c.name) (contract_statement_constants (contract_statements n)) ++ map (λ c. c.name) n.constants)) =
+    subst AreDistinct (map_append text_of (map (λ v. v.name) (variables n))
+    (map (λ c. c.name) (contract_statement_constants (contract_statements n)) ++ map (λ c. c.name) n.constants)) words in
+    subst AreDistinct (texts_of (variables n)) (distinct_left (map text_of (map (λ v. v.name) (variables n)))
+    (map text_of (map (λ c. c.name) (contract_statement_constants (contract_statements n)) ++ map (λ c. c.name) n.constants)) split)
 
 all_names_once : (p : Program) (ns : List Component) → AllByRecursion (Clean p) ns → AllByRecursion HasNamesOnce ns
 all_names_once p [] a = tt
@@ -111,13 +131,15 @@ names_once p c n i = at_one HasNamesOnce (components p) n (all_names_once p (com
 
 -- ---- instances
 
-found : (P : Component → Type 0) (b : Bool) (n : Component) (o : Option Component) → P n → P (unwrap_or o no_component) → P (unwrap_or (first_of_two (cond b (Some n) None) o) no_component)
+found : (P : Component → Type 0) (b : Bool) (n : Component) (o : Option Component) → P n → P (unwrap_or o no_component) → P
+    (unwrap_or (first_of_two (cond b (Some n) None) o) no_component)
 found P true n None h g = h
 found P true n (Some m) h g = h
 found P false n o h g = g
 
 -- what holds of each declaration, and of none, holds of a callee
-pub of_callee : (P : Component → Type 0) (ds : Program) → AllByRecursion P (components ds) → P no_component → (x : Name) → P (unwrap_or (component_named ds x) no_component)
+pub of_callee : (P : Component → Type 0) (ds : Program) → AllByRecursion P (components ds) → P no_component → (x : Name) → P
+    (unwrap_or (component_named ds x) no_component)
 of_callee P [] a h x = h
 of_callee P (declared_constant c ∷ ds) a h x = of_callee P ds a h x
 of_callee P (declared_node n ∷ ds) a h x = found P (bytes_eq x n.name.text) n (component_named ds x) a.0 (of_callee P ds a.1 h x)
@@ -137,4 +159,5 @@ named_within p a (suc d) n h = (
 
 -- so each name of the instance of a declaration stands once
 pub instance_named : (p : Program) → IsTyped p → (n : Component) → Contains (components p) n → (d : ℕ) → AreNamed (instance_within d p n)
-instance_named p t n i d = let a : AllByRecursion HasNamesOnce (components p) = all_names_once p (components p) (all_clean p t) in named_within p a d n (at_one HasNamesOnce (components p) n a i)
+instance_named p t n i d = let a : AllByRecursion HasNamesOnce (components p) = all_names_once p (components p) (all_clean p t)
+    in named_within p a d n (at_one HasNamesOnce (components p) n a i)

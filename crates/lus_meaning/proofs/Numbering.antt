@@ -1,10 +1,10 @@
 -- The numbers of a declaration's occurrences are those that its tree has.
 use Rattle.std.proofs.Common.{◌≡◌, ℕ, true, false, List, [], ◌∷◌, ◌++◌, map, flat_map, refl, ap, ◌∙◌, sym, append_assoc}
 use Rattle.std.proofs.lemmas.Grind.{flat_map-append}
-use Rattle.lus_tree.specs.Tree.{Expression, Expressions, truth, number, name, negation, minus, pre, arrow, binary, choice, sampled, merged, call, condact, mode_name, no_more, more, Labelled, Constant, Statement, equation, assertion, property, main_mark, Clause, assume, guarantee, ghost_variable, constant, mode, «import», Component}
-use Rattle.lus_tree.specs.Numbers.{numbers, numbers_among, pre_number, arrow_number, statement_expressions, body_expressions, clause_expressions, all_expressions, all_numbers}
-use Rattle.lus_meaning.specs.Scene.{base, sampled_by, clock_of, clauses}
-use Rattle.lus_meaning.specs.Occurrences.{Standing, within, before, moved, on_clock, occurs, Occurrence, occurrences, occurrences_among, Text, on_base, clause_texts, statement_texts, constant_texts, texts, gathered, memory_in, Memory, memories, start_in, Start, starts}
+use Rattle.lus_tree.specs.Tree.{Expression, Expressions, truth, number, name, negation, minus, pre, arrow, binary, choice, sampled, merged, call, condact, mode_name, no_more, more, Labelled, Constant, Statement, equation, assertion, property, main_mark, ContractStatement, assume, guarantee, ghost_variable, constant, mode, «import», Component}
+use Rattle.lus_tree.specs.Numbers.{numbers, numbers_among, pre_number, arrow_number, statement_expressions, body_expressions, contract_statement_expressions, all_expressions, all_numbers}
+use Rattle.lus_meaning.specs.Scene.{base, sampled_by, clock_of, contract_statements}
+use Rattle.lus_meaning.specs.Occurrences.{Standing, within, before, moved, on_clock, occurs, Occurrence, occurrences, occurrences_among, Text, on_base, contract_statement_texts, statement_texts, constant_texts, texts, gathered, memory_in, Memory, memories, start_in, Start, starts}
 use Rattle.lus_meaning.proofs.Lists.{map_append}
 use Rattle.lus_meaning.proofs.BooleanNode.{read_in, read_texts, read_first}
 
@@ -27,7 +27,8 @@ module _ {A : Type 0} (f : Standing → Expression → List A) (at : A → ℕ) 
       no_rest [] = refl
       no_rest (k ∷ ks) = ap (λ l. k ∷ l) (no_rest ks)
 
-  read_around : (xs ys : List Occurrence) (s : Standing) (e : Expression) → map at (read (xs ++ occurs s e ∷ ys)) ≡ map at (read xs) ++ (own e ++ map at (read ys))
+  read_around : (xs ys : List Occurrence) (s : Standing) (e : Expression) → map at (read (xs ++ occurs s e ∷ ys)) ≡ map at (read xs) ++
+      (own e ++ map at (read ys))
   read_around xs ys s e = read_both xs (occurs s e ∷ ys) ∙ ap (λ l. map at (read xs) ++ l) (read_one s e ys)
 
   mutual
@@ -38,24 +39,40 @@ module _ {A : Type 0} (f : Standing → Expression → List A) (at : A → ℕ) 
     numbers_read s (negation p a) = read_one s (negation p a) (occurrences n (within s) a) ∙ rw (numbers_read (within s) a) refl
     numbers_read s (minus p a) = read_one s (minus p a) (occurrences n (within s) a) ∙ rw (numbers_read (within s) a) refl
     numbers_read s (pre p k a) = read_one s (pre p k a) (occurrences n (before s) a) ∙ rw (numbers_read (before s) a) refl
-    numbers_read s (arrow p k a b) = read_around (occurrences n (within s) a) (occurrences n (within s) b) s (arrow p k a b) ∙ rw (numbers_read (within s) a, numbers_read (within s) b) refl
-    numbers_read s (binary p o a b) = read_around (occurrences n (within s) a) (occurrences n (within s) b) s (binary p o a b) ∙ rw (numbers_read (within s) a, numbers_read (within s) b) refl
+    numbers_read s (arrow p k a b) = read_around (occurrences n (within s) a) (occurrences n (within s) b) s (arrow p k a b) ∙ rw
+        (numbers_read (within s) a, numbers_read (within s) b) refl
+    numbers_read s (binary p o a b) = read_around (occurrences n (within s) a) (occurrences n (within s) b) s (binary p o a b) ∙ rw
+        (numbers_read (within s) a, numbers_read (within s) b) refl
     numbers_read s (choice p a b d) =
         read_one s (choice p a b d) (occurrences n (within s) a ++ (occurrences n (within s) b ++ occurrences n (within s) d))
         ∙ ap (λ l. own (choice p a b d) ++ l) (read_both (occurrences n (within s) a) (occurrences n (within s) b ++ occurrences n (within s) d)
-        ∙ rw (read_both (occurrences n (within s) b) (occurrences n (within s) d), numbers_read (within s) a, numbers_read (within s) b, numbers_read (within s) d) (sym (append_assoc (numbers own a) (numbers own b) (numbers own d))))
+        ∙ rw (
+          read_both (occurrences n (within s) b) (occurrences n (within s) d),
+          numbers_read (within s) a,
+          numbers_read
+              (within s) b,
+          numbers_read (within s) d,
+        ) (sym (append_assoc (numbers own a) (numbers own b) (numbers own d))))
     numbers_read s (sampled p a b x) =
         read_both (occurrences n (moved (clock_of n x.text) s) a) (occurs s (sampled p a b x) ∷ [])
         ∙ rw (numbers_read (moved (clock_of n x.text) s) a, read_none s (sampled p a b x)) refl
     numbers_read s (merged p x a b) =
         read_one s (merged p x a b) (occurrences n (moved (sampled_by true x.text) s) a ++ occurrences n (moved (sampled_by false x.text) s) b)
-        ∙ ap (λ l. own (merged p x a b) ++ l) (read_both (occurrences n (moved (sampled_by true x.text) s) a) (occurrences n (moved (sampled_by false x.text) s) b)
+        ∙ ap (λ l. own (merged p x a b) ++ l) (read_both (occurrences n (moved (sampled_by true x.text) s) a)
+        (occurrences n (moved (sampled_by false x.text) s) b)
         ∙ rw (numbers_read (moved (sampled_by true x.text) s) a, numbers_read (moved (sampled_by false x.text) s) b) refl)
     numbers_read s (call p k f as_) = read_one s (call p k f as_) (occurrences_among n (within s) as_) ∙ rw (numbers_among_read (within s) as_) refl
     numbers_read s (condact p k a f as_ ds) =
         read_one s (condact p k a f as_ ds) (occurrences n (within s) a ++ (occurrences_among n (within s) as_ ++ occurrences_among n (within s) ds))
-        ∙ ap (λ l. own (condact p k a f as_ ds) ++ l) (read_both (occurrences n (within s) a) (occurrences_among n (within s) as_ ++ occurrences_among n (within s) ds)
-        ∙ rw (read_both (occurrences_among n (within s) as_) (occurrences_among n (within s) ds), numbers_read (within s) a, numbers_among_read (within s) as_, numbers_among_read (within s) ds)
+        ∙ ap (λ l. own (condact p k a f as_ ds) ++ l) (read_both (occurrences n (within s) a)
+        (occurrences_among n (within s) as_ ++ occurrences_among n (within s) ds)
+        ∙ rw (
+          read_both (occurrences_among n (within s) as_) (occurrences_among n (within s) ds),
+          numbers_read
+              (within s) a,
+          numbers_among_read (within s) as_,
+          numbers_among_read (within s) ds,
+        )
         (sym (append_assoc (numbers own a) (numbers_among own as_) (numbers_among own ds))))
     numbers_read s (mode_name p d m) = read_none s (mode_name p d m)
 
@@ -65,7 +82,8 @@ module _ {A : Type 0} (f : Standing → Expression → List A) (at : A → ℕ) 
 
   pub numbers_of_texts : (xs : List Text) → map at (read_texts f n xs) ≡ flat_map (numbers own) (map (λ x. x.1) xs)
   numbers_of_texts [] = refl
-  numbers_of_texts (x ∷ xs) = ap (map at) (read_first f n x xs) ∙ map_append at (read_in f n x.0 x.1) (read_texts f n xs) ∙ rw (numbers_read x.0 x.1, numbers_of_texts xs) refl
+  numbers_of_texts (x ∷ xs) = ap (map at) (read_first f n x xs) ∙ map_append at (read_in f n x.0 x.1) (read_texts f n xs) ∙ rw
+      (numbers_read x.0 x.1, numbers_of_texts xs) refl
 
 -- ---- the texts of a declaration
 
@@ -77,17 +95,19 @@ arguments_are : (as_ : List Expression) → map (λ (x : Text). x.1) (map (λ a.
 arguments_are [] = refl
 arguments_are (a ∷ as_) = rw (arguments_are as_) refl
 
-clause_is : (c : Clause) → map (λ (x : Text). x.1) (clause_texts c) ≡ clause_expressions c
-clause_is (assume l) = refl
-clause_is (guarantee l) = refl
-clause_is (ghost_variable x e) = refl
-clause_is (constant c) = refl
-clause_is (mode m rs es) = map_append (λ (x : Text). x.1) (on_base rs) (on_base es) ∙ rw (based rs, based es) refl
-clause_is («import» k c as_ xs) = arguments_are as_
+contract_statement_is : (c : ContractStatement) → map (λ (x : Text). x.1) (contract_statement_texts c) ≡ contract_statement_expressions c
+contract_statement_is (assume l) = refl
+contract_statement_is (guarantee l) = refl
+contract_statement_is (ghost_variable x e) = refl
+contract_statement_is (constant c) = refl
+contract_statement_is (mode m rs es) = map_append (λ (x : Text). x.1) (on_base rs) (on_base es) ∙ rw (based rs, based es) refl
+contract_statement_is («import» k c as_ xs) = arguments_are as_
 
-clauses_are : (cs : List Clause) → map (λ (x : Text). x.1) (flat_map clause_texts cs) ≡ flat_map clause_expressions cs
-clauses_are [] = refl
-clauses_are (c ∷ cs) = map_append (λ (x : Text). x.1) (clause_texts c) (flat_map clause_texts cs) ∙ rw (clause_is c, clauses_are cs) refl
+contract_statements_are : (cs : List ContractStatement) → map (λ (x : Text). x.1)
+    (flat_map contract_statement_texts cs) ≡ flat_map contract_statement_expressions cs
+contract_statements_are [] = refl
+contract_statements_are (c ∷ cs) = map_append (λ (x : Text). x.1) (contract_statement_texts c) (flat_map contract_statement_texts cs) ∙ rw
+    (contract_statement_is c, contract_statements_are cs) refl
 
 constants_are : (cs : List Constant) → map (λ (x : Text). x.1) (constant_texts cs) ≡ map (λ c. c.value) cs
 constants_are [] = refl
@@ -106,10 +126,18 @@ body_is n (s ∷ ss) = map_append (λ (x : Text). x.1) (statement_texts n s) (fl
 -- they are the expressions of its tree
 pub texts_are : (n : Component) → map (λ (x : Text). x.1) (texts n) ≡ all_expressions n
 texts_are n =
-    map_append (λ (x : Text). x.1) (flat_map clause_texts (clauses n)) (constant_texts n.constants ++ flat_map (statement_texts n) n.body)
-    ∙ rw (clauses_are (clauses n), map_append (λ (x : Text). x.1) (constant_texts n.constants) (flat_map (statement_texts n) n.body), constants_are n.constants, body_is n n.body) refl
+    map_append (λ (x : Text). x.1) (flat_map contract_statement_texts (contract_statements n))
+    (constant_texts n.constants ++ flat_map (statement_texts n) n.body)
+    ∙ rw (
+      contract_statements_are (contract_statements n),
+      map_append (λ (x : Text). x.1) (constant_texts n.constants)
+          (flat_map (statement_texts n) n.body),
+      constants_are n.constants,
+      body_is n n.body,
+    ) refl
 
-pub numbers_gathered : {A : Type 0} (f : Standing → Expression → List A) (at : A → ℕ) (own : Expression → List ℕ) → ((s : Standing) (e : Expression) → map at (f s e) ≡ own e) → (n : Component) → map at (gathered f n) ≡ all_numbers own n
+pub numbers_gathered : {A : Type 0} (f : Standing → Expression → List A) (at : A → ℕ) (own : Expression → List ℕ) →
+    ((s : Standing) (e : Expression) → map at (f s e) ≡ own e) → (n : Component) → map at (gathered f n) ≡ all_numbers own n
 numbers_gathered f at own same n = numbers_of_texts f at own same n (texts n) ∙ ap (flat_map (numbers own)) (texts_are n)
 
 -- ---- `pre` and `->`

@@ -76,7 +76,8 @@ is_that : (c d : Clock) → is_other c (Some d) ≡ false → c ≡ d
 is_that c d e = same_clocks c d (not_false (same_clock c d) e)
 
 -- an operand of what stands on a clock stands on it
-operand : (c : Clock) (o k : Option Clock) → is_other c o ≡ false → ((d : Clock) → o ≡ Some d → is_other d k ≡ false) → (o ≡ None → k ≡ None) → is_other c k ≡ false
+operand : (c : Clock) (o k : Option Clock) → is_other c o ≡ false → ((d : Clock) → o ≡ Some d → is_other d k ≡ false) →
+    (o ≡ None → k ≡ None) → is_other c k ≡ false
 operand c None k e h g = rw (g refl) refl
 operand c (Some d) k e h g = rw (is_that c d e) (h d refl)
 
@@ -102,7 +103,8 @@ no_clash : (s : Scope) (q r : Sort) (e : Expression) → needs_sort s q e ≡ []
 no_clash s q r e h t = sym (same_sorts q r (subst (λ k. differ (Some q) k ≡ false) t (not_so (differ (Some q) (type_of s e)) type_clash (begin e) h)))
 
 no_dispute : (s : Scope) (q r : Sort) (a b : Expression) → agree s a b ≡ [] → type_of s a ≡ Some q → type_of s b ≡ Some r → r ≡ q
-no_dispute s q r a b h t u = sym (same_sorts q r (subst (λ k. differ (Some q) k ≡ false) u (subst (λ k. differ k (type_of s b) ≡ false) t (not_so (differ (type_of s a) (type_of s b)) type_clash (begin b) h))))
+no_dispute s q r a b h t u = sym (same_sorts q r (subst (λ k. differ (Some q) k ≡ false) u
+    (subst (λ k. differ k (type_of s b) ≡ false) t (not_so (differ (type_of s a) (type_of s b)) type_clash (begin b) h))))
 
 is_known_here : (s : Scope) (x : Name) (at : Pos) → used s x at ≡ [] → is_known s x ≡ true
 is_known_here s x at e = not_false (is_known s x) (not_so (not (is_known s x)) name_unknown at e)
@@ -111,7 +113,8 @@ stands_there : (n : Component) (c : Clock) (e : Expression) → stands_on n c e 
 stands_there n c e h = not_so (is_other c (clock_in n e)) clock_clash (begin e) h
 
 -- operands of one clock
-first_on : (n : Component) (o : Option Clock) (a : Expression) (as_ : List Expression) → all_on n o (a ∷ as_) ≡ [] → (d : Clock) → o ≡ Some d → is_other d (clock_in n a) ≡ false
+first_on : (n : Component) (o : Option Clock) (a : Expression) (as_ : List Expression) → all_on n o (a ∷ as_) ≡ [] → (d : Clock)
+    → o ≡ Some d → is_other d (clock_in n a) ≡ false
 first_on n None a as_ h d e = absurd (false≢true (ap is_some_clock e))
   where
     is_some_clock : Option Clock → Bool
@@ -134,13 +137,18 @@ rest_on n (Some c) a as_ h = (no_parts (stands_on n c a) _ h).1
 abbrev Asked : Operator → Sort → Sort → Type 0
 Asked o q r = Takes o q × (r ≡ q)
 
-sum_asks : (s : Scope) (a b : Expression) (q r : Sort) → needs_sort s Numbers a ++ needs_sort s Numbers b ≡ [] → type_of s a ≡ Some q → type_of s b ≡ Some r → (q ≡ Numbers) × (r ≡ q)
-sum_asks s a b q r h t u = let e : q ≡ Numbers = no_clash s Numbers q a (no_parts (needs_sort s Numbers a) _ h).0 t in (e, no_clash s Numbers r b (no_parts (needs_sort s Numbers a) _ h).1 u ∙ sym e)
+sum_asks : (s : Scope) (a b : Expression) (q r : Sort) → needs_sort s Numbers a ++ needs_sort s Numbers b ≡ [] → type_of s a ≡ Some q
+    → type_of s b ≡ Some r → (q ≡ Numbers) × (r ≡ q)
+sum_asks s a b q r h t u = let e : q ≡ Numbers = no_clash s Numbers q a (no_parts (needs_sort s Numbers a) _ h).0 t in
+    (e, no_clash s Numbers r b (no_parts (needs_sort s Numbers a) _ h).1 u ∙ sym e)
 
-flag_asks : (s : Scope) (a b : Expression) (q r : Sort) → needs_sort s Flags a ++ needs_sort s Flags b ≡ [] → type_of s a ≡ Some q → type_of s b ≡ Some r → (q ≡ Flags) × (r ≡ q)
-flag_asks s a b q r h t u = let e : q ≡ Flags = no_clash s Flags q a (no_parts (needs_sort s Flags a) _ h).0 t in (e, no_clash s Flags r b (no_parts (needs_sort s Flags a) _ h).1 u ∙ sym e)
+flag_asks : (s : Scope) (a b : Expression) (q r : Sort) → needs_sort s Flags a ++ needs_sort s Flags b ≡ [] → type_of s a ≡ Some q
+    → type_of s b ≡ Some r → (q ≡ Flags) × (r ≡ q)
+flag_asks s a b q r h t u = let e : q ≡ Flags = no_clash s Flags q a (no_parts (needs_sort s Flags a) _ h).0 t in
+    (e, no_clash s Flags r b (no_parts (needs_sort s Flags a) _ h).1 u ∙ sym e)
 
-operator_asks : (s : Scope) (at : Pos) (o : Operator) (a b : Expression) (q r : Sort) → operator_faults s at o a b ≡ [] → type_of s a ≡ Some q → type_of s b ≡ Some r → Asked o q r
+operator_asks : (s : Scope) (at : Pos) (o : Operator) (a b : Expression) (q r : Sort) → operator_faults s at o a b ≡ []
+    → type_of s a ≡ Some q → type_of s b ≡ Some r → Asked o q r
 operator_asks s at Implies a b q r h t u = flag_asks s a b q r h t u
 operator_asks s at Or a b q r h t u = flag_asks s a b q r h t u
 operator_asks s at Xor a b q r h t u = flag_asks s a b q r h t u
@@ -161,12 +169,15 @@ operator_asks s at Mod a b q r h t u = sum_asks s a b q r (no_parts _ _ (no_part
 
 -- in a scene that agrees with a scope, a name that may be used there is a constant of its type, or a stream on its clock
 pub data KnownName (sc : Scope) (s : Scene) (x : Name) : Type 0 where
-  fixed_name : (v : Value) → lookup (bytes_eq x) (constants_of s.place) ≡ Some v → has_sort (sort_of_name s.place x) v ≡ true → is_constant_name sc x ≡ true → KnownName sc s x
-  stream_name : lookup (bytes_eq x) (constants_of s.place) ≡ None → name_clock (component_of s.place) x ≡ Some (clock_of (component_of s.place) x) → KnownName sc s x
+  fixed_name : (v : Value) → lookup (bytes_eq x) (constants_of s.place) ≡ Some v → has_sort (sort_of_name s.place x) v ≡ true
+      → is_constant_name sc x ≡ true → KnownName sc s x
+  stream_name : lookup (bytes_eq x) (constants_of s.place) ≡ None → name_clock (component_of s.place) x ≡ Some
+      (clock_of (component_of s.place) x) → KnownName sc s x
 
 -- the callee that the rules see is the one of the instance
 abbrev pub CalleeFits : Scope → Scene → Name → Type 0
-CalleeFits sc s f = (m : Component) → node_named sc.program f ≡ Some m → (v : Variable) × (vs : List Variable) × (m.outputs ≡ v ∷ vs) × (output_sort (instance_called s.place f) ≡ v.sort)
+CalleeFits sc s f = (m : Component) → node_named sc.program f ≡ Some m → (v : Variable) × (vs : List Variable) × (m.outputs ≡ v ∷ vs) ×
+    (output_sort (instance_called s.place f) ≡ v.sort)
 
 module _ (sc : Scope) (s : Scene) (CallAt : Clock → ℕ → Name → Type 0) (agrees : (x : Name) → is_known sc x ≡ true → (sort_of_entry sc x ≡ Some (sort_of_name s.place x)) × KnownName sc s x) where
   abbrev here : Component
@@ -202,7 +213,9 @@ module _ (sc : Scope) (s : Scene) (CallAt : Clock → ℕ → Name → Type 0) (
       not_one : (k : ℕ) → suc (suc k) ≡ 1 → ⊥
       not_one k i = omega arith
 
-  called_type : (f : Spelled) (as_ : List Expression) (k : ℕ) (o : Option Component) → node_named sc.program f.text ≡ o → call_faults sc false f as_ o ≡ [] → CalleeFits sc s f.text → option_and_then (λ n. only_sort n.outputs) o ≡ Some (output_sort (instance_called s.place f.text))
+  called_type : (f : Spelled) (as_ : List Expression) (k : ℕ) (o : Option Component) → node_named sc.program f.text ≡ o
+      → call_faults sc false f as_ o ≡ [] → CalleeFits sc s f.text → option_and_then (λ n. only_sort n.outputs) o ≡ Some
+      (output_sort (instance_called s.place f.text))
   called_type f as_ k None e h c = not_nil _ _ h
   called_type f as_ k (Some m) e h c =
       let one : has_one m.outputs ≡ true = not_false (has_one m.outputs) (not_so (not (has_one m.outputs)) arity_clash f.at (no_parts _ _ h).1) in
@@ -211,9 +224,12 @@ module _ (sc : Scope) (s : Scene) (CallAt : Clock → ℕ → Name → Type 0) (
 
   -- the parts of a condact's faults: its condition, its call, and its defaults
   called_right : (t : Standing) (a : Expression) (f : Spelled) (as_ ds : Expressions) (p : Place) (k : ℕ) → GoodPart (occurs t (condact p k a f as_ ds)) →
-      (needs_sort sc Flags a ≡ []) × (call_faults sc t.whole_side f (listed as_) (node_named sc.program f.text) ≡ []) × (default_faults sc f (listed ds) (node_named sc.program f.text) ≡ [])
+      (needs_sort sc Flags a ≡ []) × (call_faults sc t.whole_side f (listed as_) (node_named sc.program f.text) ≡ []) ×
+      (default_faults sc f (listed ds) (node_named sc.program f.text) ≡ [])
   called_right t a f as_ ds p k g =
-      let three : (needs_sort sc Flags a ++ call_faults sc t.whole_side f (listed as_) (node_named sc.program f.text)) ++ default_faults sc f (listed ds) (node_named sc.program f.text) ≡ [] = (no_parts _ _ (form_right (occurs t (condact p k a f as_ ds)) g)).0 in
+      let three : (needs_sort sc Flags a ++ call_faults sc t.whole_side f (listed as_) (node_named sc.program f.text))
+      ++ default_faults sc f (listed ds) (node_named sc.program f.text) ≡ [] =
+      (no_parts _ _ (form_right (occurs t (condact p k a f as_ ds)) g)).0 in
       let two : needs_sort sc Flags a ++ call_faults sc t.whole_side f (listed as_) (node_named sc.program f.text) ≡ [] = (no_parts _ _ three).0 in
       ((no_parts (needs_sort sc Flags a) _ two).0, (no_parts (needs_sort sc Flags a) _ two).1, (no_parts _ _ three).1)
 
@@ -230,7 +246,9 @@ module _ (sc : Scope) (s : Scene) (CallAt : Clock → ℕ → Name → Type 0) (
   typed (choice p a b d) t w g = typed b (within t) refl g.2
   typed (sampled p a b x) t w g = typed a (moved (clock_of here x.text) t) refl g.1
   typed (merged p x a b) t w g = typed a (moved (sampled_by true x.text) t) refl g.1
-  typed (call p k f as_) t w g = called_type f (listed as_) k (node_named sc.program f.text) refl (subst (λ u. call_faults sc u f (listed as_) (node_named sc.program f.text) ≡ []) w (form_right (occurs t (call p k f as_)) g.0)) g.0.site.1
+  typed (call p k f as_) t w g = called_type f (listed as_) k (node_named sc.program f.text) refl
+      (subst (λ u. call_faults sc u f (listed as_) (node_named sc.program f.text) ≡ []) w (form_right (occurs t (call p k f as_)) g.0))
+      g.0.site.1
   typed (condact p k a f as_ ds) t w g = called_type f (listed as_) k (node_named sc.program f.text) refl
       (subst (λ u. call_faults sc u f (listed as_) (node_named sc.program f.text) ≡ []) w (called_right t a f as_ ds p k g.0).1) g.0.site.1
   typed (mode_name p c m) t w g = refl
@@ -240,27 +258,38 @@ module _ (sc : Scope) (s : Scene) (CallAt : Clock → ℕ → Name → Type 0) (
   abbrev Stands : Clock → Expression → Type 0
   Stands c e = is_other c (clock_in here e) ≡ false
 
-  on_first : (c : Clock) (o : Option Clock) (a : Expression) (as_ : List Expression) → is_other c o ≡ false → all_on here o (a ∷ as_) ≡ [] → (o ≡ None → clock_in here a ≡ None) → Stands c a
+  on_first : (c : Clock) (o : Option Clock) (a : Expression) (as_ : List Expression) → is_other c o ≡ false → all_on here o (a ∷ as_) ≡ [] →
+      (o ≡ None → clock_in here a ≡ None) → Stands c a
   on_first c o a as_ e h g = operand c o (clock_in here a) e (first_on here o a as_ h) g
 
-  on_two : (c : Clock) (a b : Expression) → is_other c (or_else (clock_in here a) (clock_in here b)) ≡ false → all_on here (or_else (clock_in here a) (clock_in here b)) (a ∷ b ∷ []) ≡ [] → Stands c a × Stands c b
+  on_two : (c : Clock) (a b : Expression) → is_other c (or_else (clock_in here a) (clock_in here b)) ≡ false → all_on here
+      (or_else (clock_in here a) (clock_in here b)) (a ∷ b ∷ []) ≡ [] → Stands c a × Stands c b
   on_two c a b e h =
-      let o : Option Clock = or_else (clock_in here a) (clock_in here b) in
-      (on_first c o a (b ∷ []) e h (first_none (clock_in here a) (clock_in here b)), on_first c o b [] e (rest_on here o a (b ∷ []) h) (second_none (clock_in here a) (clock_in here b)))
+      let o : Option Clock = or_else (clock_in here a) (clock_in here b) in (
+        on_first c o a (b ∷ []) e h (first_none (clock_in here a) (clock_in here b)),
+        on_first c o b [] e (rest_on here o a (b ∷ []) h)
+            (second_none (clock_in here a) (clock_in here b)),
+      )
 
   abbrev of_three : Expression → Expression → Expression → Option Clock
   of_three a b d = or_else (clock_in here a) (or_else (clock_in here b) (clock_in here d))
 
-  on_three : (c : Clock) (a b d : Expression) → is_other c (of_three a b d) ≡ false → all_on here (of_three a b d) (a ∷ b ∷ d ∷ []) ≡ [] → Stands c a × Stands c b × Stands c d
+  on_three : (c : Clock) (a b d : Expression) → is_other c (of_three a b d) ≡ false → all_on here (of_three a b d) (a ∷ b ∷ d ∷ []) ≡ []
+      → Stands c a × Stands c b × Stands c d
   on_three c a b d e h = (
     on_first c (of_three a b d) a (b ∷ d ∷ []) e h (first_none (clock_in here a) (or_else (clock_in here b) (clock_in here d))),
-    on_first c (of_three a b d) b (d ∷ []) e (rest_on here (of_three a b d) a (b ∷ d ∷ []) h) (λ i. first_none (clock_in here b) (clock_in here d) (second_none (clock_in here a) (or_else (clock_in here b) (clock_in here d)) i)),
-    on_first c (of_three a b d) d [] e (rest_on here (of_three a b d) b (d ∷ []) (rest_on here (of_three a b d) a (b ∷ d ∷ []) h)) (λ i. second_none (clock_in here b) (clock_in here d) (second_none (clock_in here a) (or_else (clock_in here b) (clock_in here d)) i)),
+    on_first c (of_three a b d) b (d ∷ []) e (rest_on here (of_three a b d) a (b ∷ d ∷ []) h)
+        (λ i. first_none (clock_in here b) (clock_in here d) (second_none (clock_in here a)
+        (or_else (clock_in here b) (clock_in here d)) i)),
+    on_first c (of_three a b d) d [] e (rest_on here (of_three a b d) b (d ∷ []) (rest_on here (of_three a b d) a (b ∷ d ∷ []) h))
+        (λ i. second_none (clock_in here b) (clock_in here d) (second_none (clock_in here a)
+        (or_else (clock_in here b) (clock_in here d)) i)),
   )
 
   -- ---- names
 
-  name_fits : (c : Clock) (x : Name) → KnownName sc s x → is_other c (name_clock here x) ≡ false → FitsName (lookup (bytes_eq x) (constants_of s.place)) s.place c x
+  name_fits : (c : Clock) (x : Name) → KnownName sc s x → is_other c (name_clock here x) ≡ false → FitsName
+      (lookup (bytes_eq x) (constants_of s.place)) s.place c x
   name_fits c x (fixed_name v e h k) o = subst (λ l. FitsName l s.place c x) (sym e) h
   name_fits c x (stream_name e k) o = subst (λ l. FitsName l s.place c x) (sym e) (sym (is_that c (clock_of here x) (subst (λ l. is_other c l ≡ false) k o)))
 
@@ -271,24 +300,30 @@ module _ (sc : Scope) (s : Scene) (CallAt : Clock → ℕ → Name → Type 0) (
   -- a word behind `when` or of a merge is a stream of truth values
   clock_word : (x : Spelled) → used_as_clock sc x ≡ [] → (lookup (bytes_eq x.text) (constants_of s.place) ≡ None) × (sort_of_name s.place x.text ≡ Flags)
   clock_word x h =
-      let u : (not (is_known sc x.text) || is_constant_name sc x.text) ≡ false = not_so (not (is_known sc x.text) || is_constant_name sc x.text) name_unknown x.at (no_parts _ _ h).0 in
-      let k : (sort_of_entry sc x.text ≡ Some (sort_of_name s.place x.text)) × KnownName sc s x.text = agrees x.text (not_false (is_known sc x.text) (first_false (not (is_known sc x.text)) (is_constant_name sc x.text) u)) in (
+      let u : (not (is_known sc x.text) || is_constant_name sc x.text) ≡ false = not_so
+      (not (is_known sc x.text) || is_constant_name sc x.text) name_unknown x.at (no_parts _ _ h).0 in
+      let k : (sort_of_entry sc x.text ≡ Some (sort_of_name s.place x.text)) × KnownName sc s x.text = agrees x.text
+      (not_false (is_known sc x.text) (first_false (not (is_known sc x.text)) (is_constant_name sc x.text) u)) in (
         not_constant_name x.text k.1 (second_false (not (is_known sc x.text)) (is_constant_name sc x.text) u),
-        sym (same_sorts Flags (sort_of_name s.place x.text) (subst (λ q. differ (Some Flags) q ≡ false) k.0 (not_so (differ (Some Flags) (sort_of_entry sc x.text)) type_clash x.at (no_parts _ _ h).1))),
+        sym (same_sorts Flags (sort_of_name s.place x.text) (subst (λ q. differ (Some Flags) q ≡ false) k.0
+            (not_so (differ (Some Flags) (sort_of_entry sc x.text)) type_clash x.at (no_parts _ _ h).1))),
       )
 
   -- the operand's clock is the one that a place has, by the clock of the whole
   needed : (e : Expression) (t : Standing) (q : Sort) → t.whole_side ≡ false → Good t e → needs_sort sc q e ≡ [] → sort_of s.place e ≡ q
   needed e t q w g h = no_clash sc q (sort_of s.place e) e h (typed e t w g)
 
-  one_sort : (a b : Expression) (t u : Standing) → t.whole_side ≡ false → u.whole_side ≡ false → Good t a → Good u b → agree sc a b ≡ [] → sort_of s.place b ≡ sort_of s.place a
+  one_sort : (a b : Expression) (t u : Standing) → t.whole_side ≡ false → u.whole_side ≡ false → Good t a → Good u b → agree sc a b ≡ []
+      → sort_of s.place b ≡ sort_of s.place a
   one_sort a b t u w z g i h = no_dispute sc (sort_of s.place a) (sort_of s.place b) a b h (typed a t w g) (typed b u z i)
 
   -- ---- defaults
 
-  sorts_of_first : (outs : List Variable) (d : Expression) (ds : List Expression) (v : Variable) (vs : List Variable) → (length outs == length (d ∷ ds)) ≡ true → arguments_fit sc outs (d ∷ ds) ≡ [] → outs ≡ v ∷ vs → needs_sort sc v.sort d ≡ []
+  sorts_of_first : (outs : List Variable) (d : Expression) (ds : List Expression) (v : Variable) (vs : List Variable) →
+      (length outs == length (d ∷ ds)) ≡ true → arguments_fit sc outs (d ∷ ds) ≡ [] → outs ≡ v ∷ vs → needs_sort sc v.sort d ≡ []
   sorts_of_first outs d ds v vs e h i =
-      (no_parts (needs_sort sc v.sort d) (sorts_fit sc vs ds) (subst (λ ws. sorts_fit sc ws (d ∷ ds) ≡ []) i (subst (λ b. cond b (sorts_fit sc outs (d ∷ ds)) [] ≡ []) e h))).0
+      (no_parts (needs_sort sc v.sort d) (sorts_fit sc vs ds) (subst (λ ws. sorts_fit sc ws (d ∷ ds) ≡ []) i
+      (subst (λ b. cond b (sorts_fit sc outs (d ∷ ds)) [] ≡ []) e h))).0
 
   none_for_some : (outs vs : List Variable) (v : Variable) → (length outs == 0) ≡ true → outs ≡ v ∷ vs → ⊥
   none_for_some outs vs v e i = zero_of (length vs) (sym (ap length i) ∙ eqb-true (length outs) 0 e)
@@ -300,15 +335,20 @@ module _ (sc : Scope) (s : Scene) (CallAt : Clock → ℕ → Name → Type 0) (
   DefaultIs q [] = ⊥
   DefaultIs q (d ∷ ds) = needs_sort sc q d ≡ []
 
-  first_default : (f : Spelled) (k : ℕ) (ds : List Expression) (m : Component) → node_named sc.program f.text ≡ Some m → default_faults sc f ds (Some m) ≡ [] → CalleeFits sc s f.text → DefaultIs (output_sort (instance_called s.place f.text)) ds
+  first_default : (f : Spelled) (k : ℕ) (ds : List Expression) (m : Component) → node_named sc.program f.text ≡ Some m
+      → default_faults sc f ds (Some m) ≡ [] → CalleeFits sc s f.text → DefaultIs (output_sort (instance_called s.place f.text)) ds
   first_default f k [] m e h c =
       let q : (v : Variable) × (vs : List Variable) × (m.outputs ≡ v ∷ vs) × (output_sort (instance_called s.place f.text) ≡ v.sort) = c m e in
       none_for_some m.outputs q.1 q.0 (not_false (length m.outputs == 0) (not_so (not (length m.outputs == 0)) arity_clash f.at (no_parts _ _ h).0)) q.2
   first_default f k (d ∷ ds) m e h c =
       let q : (v : Variable) × (vs : List Variable) × (m.outputs ≡ v ∷ vs) × (output_sort (instance_called s.place f.text) ≡ v.sort) = c m e in
-      subst (λ r. needs_sort sc r d ≡ []) (sym q.3) (sorts_of_first m.outputs d ds q.0 q.1 (not_false (length m.outputs == length (d ∷ ds)) (not_so (not (length m.outputs == length (d ∷ ds))) arity_clash f.at (no_parts _ _ h).0)) (no_parts _ _ h).1 q.2)
+      subst (λ r. needs_sort sc r d ≡ []) (sym q.3) (sorts_of_first m.outputs d ds q.0 q.1
+      (not_false (length m.outputs == length (d ∷ ds)) (not_so (not (length m.outputs == length (d ∷ ds))) arity_clash f.at
+      (no_parts _ _ h).0)) (no_parts _ _ h).1 q.2)
 
-  defaults_right : (f : Spelled) (w : Bool) (k : ℕ) (as_ ds : List Expression) (o : Option Component) → node_named sc.program f.text ≡ o → call_faults sc w f as_ o ≡ [] → default_faults sc f ds o ≡ [] → CalleeFits sc s f.text → DefaultIs (output_sort (instance_called s.place f.text)) ds
+  defaults_right : (f : Spelled) (w : Bool) (k : ℕ) (as_ ds : List Expression) (o : Option Component) → node_named sc.program f.text ≡ o
+      → call_faults sc w f as_ o ≡ [] → default_faults sc f ds o ≡ [] → CalleeFits sc s f.text → DefaultIs
+      (output_sort (instance_called s.place f.text)) ds
   defaults_right f w k as_ ds None e h i c = not_nil _ _ h
   defaults_right f w k as_ ds (Some m) e h i c = first_default f k ds m e i c
 
@@ -327,12 +367,20 @@ module _ (sc : Scope) (s : Scene) (CallAt : Clock → ℕ → Name → Type 0) (
       (one_sort a b (within t) (within t) refl refl g.1 g.2 (form_right (occurs t (arrow p k a b)) g.0), fits a (within t) g.1 o.0, fits b (within t) g.2 o.1)
   fits (binary p x a b) t g h =
       let o : Stands t.clock a × Stands t.clock b = on_two t.clock a b h g.0.clocks in
-      let q : Asked x (sort_of s.place a) (sort_of s.place b) = operator_asks sc p.at x a b (sort_of s.place a) (sort_of s.place b) (form_right (occurs t (binary p x a b)) g.0) (typed a (within t) refl g.1) (typed b (within t) refl g.2) in
+      let q : Asked x (sort_of s.place a) (sort_of s.place b) = operator_asks sc p.at x a b (sort_of s.place a) (sort_of s.place b)
+      (form_right (occurs t (binary p x a b)) g.0) (typed a (within t) refl g.1) (typed b (within t) refl g.2) in
       (q.0, q.1, fits a (within t) g.1 o.0, fits b (within t) g.2 o.1)
   fits (choice p a b d) t g h =
       let o : Stands t.clock a × Stands t.clock b × Stands t.clock d = on_three t.clock a b d h g.0.clocks in
-      let f : (needs_sort sc Flags a ≡ []) × (agree sc b d ≡ []) = no_parts (needs_sort sc Flags a) (agree sc b d) (form_right (occurs t (choice p a b d)) g.0) in
-      (needed a (within t) Flags refl g.1 f.0, one_sort b d (within t) (within t) refl refl g.2 g.3 f.1, fits a (within t) g.1 o.0, fits b (within t) g.2 o.1, fits d (within t) g.3 o.2)
+      let f : (needs_sort sc Flags a ≡ []) × (agree sc b d ≡ []) = no_parts (needs_sort sc Flags a) (agree sc b d)
+      (form_right (occurs t (choice p a b d)) g.0) in (
+        needed a (within t) Flags refl g.1 f.0,
+        one_sort b d (within t) (within t) refl refl g.2 g.3 f.1,
+        fits a (within t) g.1 o.0,
+        fits b
+            (within t) g.2 o.1,
+        fits d (within t) g.3 o.2,
+      )
   fits (sampled p a b x) t g h = (
     is_that t.clock (sampled_by b x.text) h,
     (clock_word x (form_right (occurs t (sampled p a b x)) g.0)).0,
@@ -340,7 +388,8 @@ module _ (sc : Scope) (s : Scene) (CallAt : Clock → ℕ → Name → Type 0) (
   )
   fits (merged p x a b) t g h =
       let f : (used_as_clock sc x ≡ []) × (agree sc a b ≡ []) = no_parts (used_as_clock sc x) (agree sc a b) (form_right (occurs t (merged p x a b)) g.0) in
-      let o : (stands_on here (sampled_by true x.text) a ≡ []) × (stands_on here (sampled_by false x.text) b ≡ []) = no_parts (stands_on here (sampled_by true x.text) a) (stands_on here (sampled_by false x.text) b) g.0.clocks in (
+      let o : (stands_on here (sampled_by true x.text) a ≡ []) × (stands_on here (sampled_by false x.text) b ≡ []) = no_parts
+      (stands_on here (sampled_by true x.text) a) (stands_on here (sampled_by false x.text) b) g.0.clocks in (
         sym (is_that t.clock (clock_of here x.text) h),
         (clock_word x f.0).0,
         (clock_word x f.0).1,
@@ -350,16 +399,21 @@ module _ (sc : Scope) (s : Scene) (CallAt : Clock → ℕ → Name → Type 0) (
       )
   fits (call p k f as_) t g h = g.0.site.0
   fits (condact p k a f as_ no_more) t g h =
-      let r : (needs_sort sc Flags a ≡ []) × (call_faults sc t.whole_side f (listed as_) (node_named sc.program f.text) ≡ []) × (default_faults sc f [] (node_named sc.program f.text) ≡ []) = called_right t a f as_ no_more p k g.0 in
+      let r : (needs_sort sc Flags a ≡ []) × (call_faults sc t.whole_side f (listed as_) (node_named sc.program f.text) ≡ []) ×
+      (default_faults sc f [] (node_named sc.program f.text) ≡ []) = called_right t a f as_ no_more p k g.0 in
       absurd (defaults_right f t.whole_side k (listed as_) [] (node_named sc.program f.text) refl r.1 r.2 g.0.site.1)
   fits (condact p k a f as_ (more d ds)) t g h =
-      let r : (needs_sort sc Flags a ≡ []) × (call_faults sc t.whole_side f (listed as_) (node_named sc.program f.text) ≡ []) × (default_faults sc f (listed (more d ds)) (node_named sc.program f.text) ≡ []) = called_right t a f as_ (more d ds) p k g.0 in
+      let r : (needs_sort sc Flags a ≡ []) × (call_faults sc t.whole_side f (listed as_) (node_named sc.program f.text) ≡ []) ×
+      (default_faults sc f (listed (more d ds)) (node_named sc.program f.text) ≡ []) = called_right t a f as_ (more d ds) p k g.0 in
       let c : t.clock ≡ unwrap_or (clock_among here as_) base = is_that t.clock (unwrap_or (clock_among here as_) base) h in (
         g.0.site.0,
         needed a (within t) Flags refl g.1 r.0,
-        fits a (within t) g.1 (subst (λ k. is_other k (clock_in here a) ≡ false) (sym c) (stands_there here (unwrap_or (clock_among here as_) base) a (no_parts (all_on here (clock_among here as_) (listed as_)) _ g.0.clocks).1)),
+        fits a (within t) g.1 (subst (λ k. is_other k (clock_in here a) ≡ false) (sym c)
+            (stands_there here (unwrap_or (clock_among here as_) base) a
+            (no_parts (all_on here (clock_among here as_) (listed as_)) _ g.0.clocks).1)),
         (
-          needed d (within t) (output_sort (instance_called s.place f.text)) refl g.3.0 (defaults_right f t.whole_side k (listed as_) (listed (more d ds)) (node_named sc.program f.text) refl r.1 r.2 g.0.site.1),
+          needed d (within t) (output_sort (instance_called s.place f.text)) refl g.3.0
+              (defaults_right f t.whole_side k (listed as_) (listed (more d ds)) (node_named sc.program f.text) refl r.1 r.2 g.0.site.1),
           fits d (within t) g.3.0 (subst (λ k. is_other t.clock k ≡ false) (sym g.0.site.2.0) refl),
         ),
       )
@@ -382,20 +436,31 @@ module _ (sc : Scope) (s : Scene) (CallAt : Clock → ℕ → Name → Type 0) (
   NoClockFault e = clock_form_faults (component_of s.place) e ≡ []
 
   -- an expression of an item, whose lists of faults are empty, is good throughout
-  pub good_text : (t : Standing) (e : Expression) → expression_faults sc t e ≡ [] → clock_faults_of (component_of s.place) t.clock e ≡ [] → Each SiteOf (component_of s.place) t e → Good sc s CallAt agrees t e
+  pub good_text : (t : Standing) (e : Expression) → expression_faults sc t e ≡ [] → clock_faults_of (component_of s.place) t.clock e ≡ []
+      → Each SiteOf (component_of s.place) t e → Good sc s CallAt agrees t e
   good_text t e h g site =
       let n : Component = component_of s.place in
-      let types : Each NoPartFault n t e = each_part NoPartFault n t e (none_mapped (part_faults sc) (occurrences n t e) (subst (λ m. flat_map (part_faults sc) (occurrences m t e) ≡ []) owner h)) in
-      let here : Each (λ o. NoClockFault o.expression) n (on_clock t.clock) e = each_part (λ o. NoClockFault o.expression) n (on_clock t.clock) e (none_mapped (λ o. clock_form_faults n o.expression) (occurrences n (on_clock t.clock) e) (no_parts (stands_on n t.clock e) _ g).1) in
+      let types : Each NoPartFault n t e = each_part NoPartFault n t e
+      (none_mapped (part_faults sc) (occurrences n t e) (subst (λ m. flat_map (part_faults sc) (occurrences m t e) ≡ []) owner h)) in
+      let here : Each (λ o. NoClockFault o.expression) n (on_clock t.clock) e = each_part (λ o. NoClockFault o.expression) n
+      (on_clock t.clock) e (none_mapped (λ o. clock_form_faults n o.expression) (occurrences n (on_clock t.clock) e)
+      (no_parts (stands_on n t.clock e) _ g).1) in
       let clocks : Each (λ o. NoClockFault o.expression) n t e = each_elsewhere NoClockFault n (on_clock t.clock) t e here in
-      let both : Each (λ o. (part_faults sc o ≡ []) × (clock_form_faults n o.expression ≡ [])) n t e = each_of_both NoPartFault (λ o. NoClockFault o.expression) (λ o. (part_faults sc o ≡ []) × (clock_form_faults n o.expression ≡ [])) (λ o a b. (a, b)) n t e types clocks in
-      each_of_both (λ o. (part_faults sc o ≡ []) × (clock_form_faults n o.expression ≡ [])) SiteOf (GoodPart sc s CallAt agrees) (λ o a b. record { types = a.0; clocks = a.1; site = b }) n t e both site
+      let both : Each (λ o. (part_faults sc o ≡ []) × (clock_form_faults n o.expression ≡ [])) n t e = each_of_both NoPartFault
+      (λ o. NoClockFault o.expression) (λ o. (part_faults sc o ≡ []) × (clock_form_faults n o.expression ≡ []))
+      (λ o a b. (a, b)) n t e types clocks in
+      each_of_both (λ o. (part_faults sc o ≡ []) × (clock_form_faults n o.expression ≡ [])) SiteOf (GoodPart sc s CallAt agrees)
+      (λ o a b. record { types = a.0; clocks = a.1; site = b }) n t e both site
 
   -- so it meets what the typing of its value asks
-  pub text_fits : (t : Standing) (e : Expression) → expression_faults sc t e ≡ [] → clock_faults_of (component_of s.place) t.clock e ≡ [] → Each SiteOf (component_of s.place) t e → Fits s CallAt t.clock e
-  text_fits t e h g site = fits sc s CallAt agrees e t (good_text t e h g site) (stands_there (component_of s.place) t.clock e (no_parts (stands_on (component_of s.place) t.clock e) _ g).0)
+  pub text_fits : (t : Standing) (e : Expression) → expression_faults sc t e ≡ [] → clock_faults_of (component_of s.place) t.clock e ≡ []
+      → Each SiteOf (component_of s.place) t e → Fits s CallAt t.clock e
+  text_fits t e h g site = fits sc s CallAt agrees e t (good_text t e h g site)
+      (stands_there (component_of s.place) t.clock e (no_parts (stands_on (component_of s.place) t.clock e) _ g).0)
 
   -- and its value has its type exactly where the clock of its place is on, where names, calls and modes have theirs
-  pub text_typed : (t : Standing) (e : Expression) → expression_faults sc t e ≡ [] → clock_faults_of (component_of s.place) t.clock e ≡ [] → Each SiteOf (component_of s.place) t e →
-      (u : ℕ) → ((v : ℕ) → v ≤ u → NamesTyped s CallAt v) → ((v : ℕ) → v < u → TypedAt s CallAt v) → is_typed (sort_of s.place e) (is_on s t.clock u) (value s t.clock e u) ≡ true
+  pub text_typed : (t : Standing) (e : Expression) → expression_faults sc t e ≡ [] → clock_faults_of (component_of s.place) t.clock e ≡ []
+      → Each SiteOf (component_of s.place) t e →
+      (u : ℕ) → ((v : ℕ) → v ≤ u → NamesTyped s CallAt v) → ((v : ℕ) → v < u → TypedAt s CallAt v) → is_typed (sort_of s.place e)
+      (is_on s t.clock u) (value s t.clock e u) ≡ true
   text_typed t e h g site u now earlier = value_typed s CallAt u now earlier e t.clock (text_fits t e h g site)

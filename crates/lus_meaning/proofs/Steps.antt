@@ -41,7 +41,8 @@ module _ (count : ℕ) (Step Far : ℕ → ℕ → Type 0) (near : (k j : ℕ) �
   abbrev IsClosed : List ℕ → Type 0
   IsClosed done = (k : ℕ) → k < count → is_listed done k ≡ true → IsReady count Step done k
 
-  follow : (done : List ℕ) → IsClosed done → (k : ℕ) (js : List ℕ) → k < count → is_listed done k ≡ true → AreSteps count Step k js → is_listed done (last_step count Step k js) ≡ true
+  follow : (done : List ℕ) → IsClosed done → (k : ℕ) (js : List ℕ) → k < count → is_listed done k ≡ true → AreSteps count Step k js
+      → is_listed done (last_step count Step k js) ≡ true
   follow done c k [] l e s = e
   follow done c k (j ∷ js) l e s = follow done c j js s.0 (c k l e j s.0 s.1) s.2
 

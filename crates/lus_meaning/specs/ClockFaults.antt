@@ -3,9 +3,9 @@ use Rattle.std.specs.Prelude.{Bool, true, false, not, ◌&&◌, List, [], ◌∷
 use Rattle.std.specs.List.{list_any}
 use Rattle.std.specs.Bool.{beq}
 use Rattle.std.specs.Str.{bytes_eq}
-use Rattle.lus_tree.specs.Tree.{Name, text_of, Expression, Expressions, truth, number, name, negation, minus, pre, arrow, binary, choice, sampled, merged, call, condact, mode_name, no_more, more, Labelled, Statement, equation, assertion, property, main_mark, Clause, assume, guarantee, ghost_variable, constant, mode, «import», Component, declared_constant, declared_node, declared_contract, Program}
+use Rattle.lus_tree.specs.Tree.{Name, text_of, Expression, Expressions, truth, number, name, negation, minus, pre, arrow, binary, choice, sampled, merged, call, condact, mode_name, no_more, more, Labelled, Statement, equation, assertion, property, main_mark, ContractStatement, assume, guarantee, ghost_variable, constant, mode, «import», Component, declared_constant, declared_node, declared_contract, Program}
 use Rattle.lus_tree.specs.Reason.{Refused, clock_clash}
-use Rattle.lus_meaning.specs.Scene.{Clock, base, sampled_by, clock_from, clock_of, clauses, variables, clock_of_names}
+use Rattle.lus_meaning.specs.Scene.{Clock, base, sampled_by, clock_from, clock_of, contract_statements, variables, clock_of_names}
 use Rattle.lus_meaning.specs.Program.{listed}
 use Rattle.lus_meaning.specs.Occurrences.{on_clock, occurrences, begin}
 use Rattle.lus_meaning.specs.Faults.{if_so}
@@ -88,13 +88,13 @@ side_faults n xs e =
 abbrev pub all_on_base : Component → List Labelled → List Refused
 all_on_base n ls = flat_map (λ l. clock_faults_of n base l.value) ls
 
-abbrev pub clause_clock_faults : Component → Clause → List Refused
-clause_clock_faults n (assume l) = clock_faults_of n base l.value
-clause_clock_faults n (guarantee l) = clock_faults_of n base l.value
-clause_clock_faults n (ghost_variable v e) = clock_faults_of n base e
-clause_clock_faults n (constant c) = []
-clause_clock_faults n (mode m rs es) = all_on_base n rs ++ all_on_base n es
-clause_clock_faults n («import» k c as_ xs) = flat_map (clock_faults_of n base) as_
+abbrev pub contract_statement_clock_faults : Component → ContractStatement → List Refused
+contract_statement_clock_faults n (assume l) = clock_faults_of n base l.value
+contract_statement_clock_faults n (guarantee l) = clock_faults_of n base l.value
+contract_statement_clock_faults n (ghost_variable v e) = clock_faults_of n base e
+contract_statement_clock_faults n (constant c) = []
+contract_statement_clock_faults n (mode m rs es) = all_on_base n rs ++ all_on_base n es
+contract_statement_clock_faults n («import» k c as_ xs) = flat_map (clock_faults_of n base) as_
 
 abbrev pub statement_clock_faults : Component → Statement → List Refused
 statement_clock_faults n (equation xs e) = side_faults n (map text_of xs) e
@@ -104,7 +104,7 @@ statement_clock_faults n (main_mark p) = []
 
 abbrev pub component_clock_faults : Component → List Refused
 component_clock_faults n =
-    flat_map (clause_clock_faults n) (clauses n) ++ flat_map (statement_clock_faults n) n.body
+    flat_map (contract_statement_clock_faults n) (contract_statements n) ++ flat_map (statement_clock_faults n) n.body
 
 -- the nodes, functions and contract nodes, in text order
 abbrev pub components : Program → List Component

@@ -8,7 +8,7 @@ use Rattle.lus_tree.specs.declared.expression.Operator.{Operator}
 use Rattle.lus_tree.specs.declared.expression.Operator.TheVariants.{Implies, Or, Xor, And, Equal, Differs, Mul, Div, Mod}
 use Rattle.lus_tree.specs.Tree.{Name, Spelled, Expression, name, negation, minus, pre, arrow, binary, choice, sampled, merged, call, condact, mode_name, Variable, Component}
 use Rattle.lus_tree.specs.Reason.{Refused, name_unknown, type_clash, arity_clash, not_linear, zero_divisor, not_constant, heavy, mode_unknown}
-use Rattle.lus_meaning.specs.Scene.{Clock, base, clauses}
+use Rattle.lus_meaning.specs.Scene.{Clock, base, contract_statements}
 use Rattle.lus_meaning.specs.Program.{listed}
 use Rattle.lus_meaning.specs.Depends.{named_in}
 use Rattle.lus_meaning.specs.Occurrences.{Standing, on_clock, as_side, Occurrence, occurrences, begin}
@@ -102,7 +102,7 @@ default_faults s f ds (Some n) =
 
 abbrev pub has_mode : Name → Option Component → Bool
 has_mode m None = false
-has_mode m (Some n) = named_in m (mode_names (clauses n))
+has_mode m (Some n) = named_in m (mode_names (contract_statements n))
 
 -- the contract is imported exactly once before, and has the mode
 abbrev pub is_imported_mode : Scope → Name → Name → Bool

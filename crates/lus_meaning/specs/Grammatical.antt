@@ -1,9 +1,9 @@
 -- What the grammar gives of a tree, its places aside, and the laws of programs rest on.
 use Rattle.std.specs.Prelude.{◌≡◌, ℕ, ◌^◌, nat_le, nat_lt, Bool, true, false, not, ◌&&◌, ◌||◌, List, [], ◌∷◌, ◌++◌, flat_map, codes, Some, None, is_none, option_map, unwrap_or}
 use Rattle.std.specs.List.{AllByRecursion, list_all}
-use Rattle.lus_tree.specs.Tree.{Name, Spelled, Expression, number, name, sampled, merged, call, condact, mode_name, Variable, Constant, Labelled, Statement, equation, property, Clause, assume, guarantee, ghost_variable, mode, Component, Declaration, declared_constant, declared_node, declared_contract, Program}
+use Rattle.lus_tree.specs.Tree.{Name, Spelled, Expression, number, name, sampled, merged, call, condact, mode_name, Variable, Constant, Labelled, Statement, equation, property, ContractStatement, assume, guarantee, ghost_variable, mode, Component, Declaration, declared_constant, declared_node, declared_contract, Program}
 use Rattle.lus_tree.specs.Numbers.{IsNumbered}
-use Rattle.lus_meaning.specs.Scene.{base, clauses, no_component}
+use Rattle.lus_meaning.specs.Scene.{base, contract_statements, no_component}
 use Rattle.lus_meaning.specs.Depends.{named_in}
 use Rattle.lus_meaning.specs.Occurrences.{on_clock, Occurrence, occurrences, all_occurrences}
 use Rattle.lus_meaning.specs.NameFaults.{own_words, mode_words}
@@ -83,7 +83,7 @@ abbrev pub has_left_name : Statement → Bool
 has_left_name (equation [] e) = false
 has_left_name _ = true
 
-abbrev pub labelled_in : Clause → List Labelled
+abbrev pub labelled_in : ContractStatement → List Labelled
 labelled_in (assume l) = l ∷ []
 labelled_in (guarantee l) = l ∷ []
 labelled_in (mode m rs es) = rs ++ es
@@ -94,22 +94,22 @@ labelled_item (property l) = l ∷ []
 labelled_item _ = []
 
 abbrev pub all_labelled : Component → List Labelled
-all_labelled n = flat_map labelled_in (clauses n) ++ flat_map labelled_item n.body
+all_labelled n = flat_map labelled_in (contract_statements n) ++ flat_map labelled_item n.body
 
 -- ---- declarations
 
-abbrev pub ghost_names : Clause → List Variable
+abbrev pub ghost_names : ContractStatement → List Variable
 ghost_names (ghost_variable v e) = v ∷ []
 ghost_names _ = []
 
 -- only locals have a clock
 abbrev pub have_no_clock : Component → Bool
-have_no_clock n = list_all (λ v. is_none v.clock) (n.inputs ++ (n.outputs ++ flat_map ghost_names (clauses n)))
+have_no_clock n = list_all (λ v. is_none v.clock) (n.inputs ++ (n.outputs ++ flat_map ghost_names (contract_statements n)))
 
 pub record IsGrammaticalComponent (n : Component) : Type 0 where
   pub name : is_identifier n.name.text ≡ true
   pub names : are_identifiers (own_words n) ≡ true
-  pub modes : are_identifiers (mode_words (clauses n)) ≡ true
+  pub modes : are_identifiers (mode_words (contract_statements n)) ≡ true
   pub clocks : have_no_clock n ≡ true
   pub forms : are_plain (all_occurrences n) ≡ true
   pub lefts : list_all has_left_name n.body ≡ true

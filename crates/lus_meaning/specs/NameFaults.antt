@@ -3,14 +3,14 @@ use Rattle.std.specs.Prelude.{ℕ, zero, suc, Bool, true, false, cond, not, ◌&
 use Rattle.std.specs.List.{list_any}
 use Rattle.std.specs.Str.{bytes_eq}
 use Rattle.lus_tree.specs.declared.place.Pos.{Pos}
-use Rattle.lus_tree.specs.Tree.{Name, text_of, Spelled, Expression, name, pre, arrow, sampled, merged, call, condact, Variable, Constant, Labelled, Statement, equation, assertion, property, main_mark, Clause, assume, guarantee, ghost_variable, constant, mode, «import», Component, Declaration, declared_constant, declared_node, declared_contract, Program}
+use Rattle.lus_tree.specs.Tree.{Name, text_of, Spelled, Expression, name, pre, arrow, sampled, merged, call, condact, Variable, Constant, Labelled, Statement, equation, assertion, property, main_mark, ContractStatement, assume, guarantee, ghost_variable, constant, mode, «import», Component, Declaration, declared_constant, declared_node, declared_contract, Program}
 use Rattle.lus_tree.specs.Lookup.{nodes_of}
 use Rattle.lus_tree.specs.Reason.{Refused, name_twice, name_unknown, type_clash, arity_clash, node_recursion, not_stateless, assume_reads_output, no_node}
-use Rattle.lus_meaning.specs.Scene.{base, clauses, variables, no_component, clock_of_names}
-use Rattle.lus_meaning.specs.Program.{clause_constants}
+use Rattle.lus_meaning.specs.Scene.{base, contract_statements, variables, no_component, clock_of_names}
+use Rattle.lus_meaning.specs.Program.{contract_statement_constants}
 use Rattle.lus_meaning.specs.Depends.{named_in}
 use Rattle.lus_meaning.specs.Occurrences.{Standing, on_clock, occurrences, gathered, begin}
-use Rattle.lus_meaning.specs.Scope.{is_output_role, is_ghost_role, Scope, holds_of, sort_of_entry, node_named, contract_named, Home, clause_scope, constant_scope, body_scope, outer_names}
+use Rattle.lus_meaning.specs.Scope.{is_output_role, is_ghost_role, Scope, holds_of, sort_of_entry, node_named, contract_named, Home, contract_statement_scope, constant_scope, body_scope, outer_names}
 use Rattle.lus_meaning.specs.Faults.{fault, faults_at, if_so, differ, meets, twice, same_word, words_twice}
 use Rattle.lus_meaning.specs.ExpressionFaults.{used_as_clock, arguments_fit, expression_faults, flag_faults, equation_faults, definition_faults}
 
@@ -19,13 +19,13 @@ use Rattle.lus_meaning.specs.ExpressionFaults.{used_as_clock, arguments_fit, exp
 -- inputs, outputs, ghost variables, locals and constants
 abbrev pub own_words : Component → List Spelled
 own_words n =
-    map (λ v. v.name) (variables n) ++ (map (λ c. c.name) (clause_constants (clauses n)) ++ map (λ c. c.name) n.constants)
+    map (λ v. v.name) (variables n) ++ (map (λ c. c.name) (contract_statement_constants (contract_statements n)) ++ map (λ c. c.name) n.constants)
 
 -- a name that is a program constant
 abbrev pub outer_twice : List Spelled → List Spelled → List Refused
 outer_twice outer ws = flat_map (λ w. meets same_word (λ w. w.at) name_twice w outer) ws
 
-abbrev pub mode_words : List Clause → List Spelled
+abbrev pub mode_words : List ContractStatement → List Spelled
 mode_words [] = []
 mode_words (mode m rs es ∷ cs) = m ∷ mode_words cs
 mode_words (_ ∷ cs) = mode_words cs
@@ -45,15 +45,15 @@ same_tag a b = bytes_eq a.0 b.0 && bytes_eq a.1 b.1
 abbrev pub tags_twice : List Tag → List Refused
 tags_twice ts = twice same_tag (λ t. t.2) name_twice ts
 
-abbrev pub assume_tags : Clause → List Tag
+abbrev pub assume_tags : ContractStatement → List Tag
 assume_tags (assume l) = tag [] l
 assume_tags _ = []
 
-abbrev pub guarantee_tags : Clause → List Tag
+abbrev pub guarantee_tags : ContractStatement → List Tag
 guarantee_tags (guarantee l) = tag [] l
 guarantee_tags _ = []
 
-abbrev pub ensure_tags : Clause → List Tag
+abbrev pub ensure_tags : ContractStatement → List Tag
 ensure_tags (mode m rs es) = flat_map (tag m.text) es
 ensure_tags _ = []
 
@@ -63,9 +63,9 @@ property_tags _ = []
 
 abbrev pub labels_twice : Component → List Refused
 labels_twice n =
-    tags_twice (flat_map assume_tags (clauses n))
-    ++ (tags_twice (flat_map guarantee_tags (clauses n))
-    ++ (tags_twice (flat_map ensure_tags (clauses n))
+    tags_twice (flat_map assume_tags (contract_statements n))
+    ++ (tags_twice (flat_map guarantee_tags (contract_statements n))
+    ++ (tags_twice (flat_map ensure_tags (contract_statements n))
     ++ tags_twice (flat_map property_tags n.body)))
 
 -- ---- contracts
@@ -89,21 +89,21 @@ import_fits s c as_ ws (Some n) =
     ++ (arguments_fit s n.inputs as_
     ++ cond (length n.outputs == length ws) (output_sorts s n.outputs ws) [])
 
-abbrev pub clause_faults : Scope → Clause → List Refused
-clause_faults s (assume l) = flag_faults s l.value
-clause_faults s (guarantee l) = flag_faults s l.value
-clause_faults s (ghost_variable v e) = equation_faults s base (v.name ∷ []) e
-clause_faults s (constant c) = definition_faults s c.sort c.value
-clause_faults s (mode m rs es) = flags_of s rs ++ flags_of s es
-clause_faults s («import» k c as_ ws) =
+abbrev pub contract_statement_faults : Scope → ContractStatement → List Refused
+contract_statement_faults s (assume l) = flag_faults s l.value
+contract_statement_faults s (guarantee l) = flag_faults s l.value
+contract_statement_faults s (ghost_variable v e) = equation_faults s base (v.name ∷ []) e
+contract_statement_faults s (constant c) = definition_faults s c.sort c.value
+contract_statement_faults s (mode m rs es) = flags_of s rs ++ flags_of s es
+contract_statement_faults s («import» k c as_ ws) =
     flat_map (expression_faults s (on_clock base)) as_
     ++ (flat_map (output_known s) ws
     ++ import_fits s c as_ ws (contract_named s.program c.text))
 
-abbrev pub contract_faults : Home → List Clause → List Clause → List Refused
+abbrev pub contract_faults : Home → List ContractStatement → List ContractStatement → List Refused
 contract_faults h before [] = []
 contract_faults h before (c ∷ cs) =
-    clause_faults (clause_scope h before) c ++ contract_faults h (before ++ c ∷ []) cs
+    contract_statement_faults (contract_statement_scope h before) c ++ contract_faults h (before ++ c ∷ []) cs
 
 -- ---- bodies
 
@@ -151,7 +151,7 @@ callee_in s (call p k f as_) = f ∷ []
 callee_in s (condact p k a f as_ ds) = f ∷ []
 callee_in s _ = []
 
-abbrev pub import_words : Clause → List Spelled
+abbrev pub import_words : ContractStatement → List Spelled
 import_words («import» k c as_ ws) = c ∷ []
 import_words _ = []
 
@@ -163,7 +163,7 @@ is_declared (Some n) = true
 abbrev pub callees : Program → Component → List Spelled
 callees p n =
     filter (λ f. is_declared (node_named p f.text)) (gathered callee_in n)
-    ++ filter (λ c. is_declared (contract_named p c.text)) (flat_map import_words (clauses n))
+    ++ filter (λ c. is_declared (contract_named p c.text)) (flat_map import_words (contract_statements n))
 
 abbrev pub Graph : Type 0
 Graph = List (Name × List Name)
@@ -209,7 +209,7 @@ names_now n e = flat_map (λ o. read_now o.standing o.expression) (occurrences n
 abbrev pub reads_some : Component → List Name → Expression → Bool
 reads_some n xs e = list_any (λ w. named_in w.text xs) (names_now n e)
 
-abbrev pub ghost_reading : Scope → List Name → Clause → List Name
+abbrev pub ghost_reading : Scope → List Name → ContractStatement → List Name
 ghost_reading s xs (ghost_variable v e) =
     cond (holds_of (λ e. is_ghost_role e.role) s v.name.text && reads_some s.owner xs e) (v.name.text ∷ []) []
 ghost_reading s xs _ = []
@@ -218,18 +218,18 @@ ghost_reading s xs _ = []
 abbrev pub given_now : ℕ → Scope → List Name
 given_now zero s = map (λ v. v.name.text) s.owner.outputs
 given_now (suc k) s =
-    let xs : List Name = given_now k s in xs ++ new_among xs (flat_map (ghost_reading s xs) (clauses s.owner))
+    let xs : List Name = given_now k s in xs ++ new_among xs (flat_map (ghost_reading s xs) (contract_statements s.owner))
 
-abbrev pub restricted : Clause → List Expression
+abbrev pub restricted : ContractStatement → List Expression
 restricted (assume l) = l.value ∷ []
 restricted («import» k c as_ ws) = as_
 restricted _ = []
 
 abbrev pub assumption_faults : Scope → List Refused
 assumption_faults s =
-    let xs : List Name = given_now (length (clauses s.owner)) s in
+    let xs : List Name = given_now (length (contract_statements s.owner)) s in
     flat_map (λ w. if_so (named_in w.text xs) assume_reads_output w.at)
-    (flat_map (names_now s.owner) (flat_map restricted (clauses s.owner)))
+    (flat_map (names_now s.owner) (flat_map restricted (contract_statements s.owner)))
 
 -- ---- declarations
 
@@ -237,9 +237,9 @@ abbrev pub component_faults : Home → List Spelled → List Refused
 component_faults h outer =
     words_twice name_twice (own_words h.owner)
     ++ (outer_twice outer (own_words h.owner)
-    ++ (words_twice name_twice (mode_words (clauses h.owner))
+    ++ (words_twice name_twice (mode_words (contract_statements h.owner))
     ++ (labels_twice h.owner
-    ++ (contract_faults h [] (clauses h.owner)
+    ++ (contract_faults h [] (contract_statements h.owner)
     ++ (body_faults h
     ++ (state_faults h.program h.owner
     ++ (recursion_faults h.program h.owner

@@ -1,8 +1,8 @@
 -- Every expression that stands in an expression, in text order of their own tokens, and where it stands.
 use Rattle.std.specs.Prelude.{ℕ, Bool, true, false, List, [], ◌∷◌, ◌++◌, map, flat_map}
 use Rattle.lus_tree.specs.declared.place.Pos.{Pos}
-use Rattle.lus_tree.specs.Tree.{Place, text_of, Expression, Expressions, truth, number, name, negation, minus, pre, arrow, binary, choice, sampled, merged, call, condact, mode_name, no_more, more, Constant, Labelled, Statement, equation, assertion, property, main_mark, Clause, assume, guarantee, ghost_variable, constant, mode, «import», Component}
-use Rattle.lus_meaning.specs.Scene.{Clock, base, sampled_by, clock_of, clauses, clock_of_names}
+use Rattle.lus_tree.specs.Tree.{Place, text_of, Expression, Expressions, truth, number, name, negation, minus, pre, arrow, binary, choice, sampled, merged, call, condact, mode_name, no_more, more, Constant, Labelled, Statement, equation, assertion, property, main_mark, ContractStatement, assume, guarantee, ghost_variable, constant, mode, «import», Component}
+use Rattle.lus_meaning.specs.Scene.{Clock, base, sampled_by, clock_of, contract_statements, clock_of_names}
 
 -- the clock of a place, whether what stands there is read under `pre`, and whether it is the whole right side of an equation
 pub record Standing : Type 0 where
@@ -71,13 +71,13 @@ Text = Standing × Expression
 abbrev pub on_base : List Labelled → List Text
 on_base ls = map (λ l. (on_clock base, l.value)) ls
 
-abbrev pub clause_texts : Clause → List Text
-clause_texts (assume l) = (on_clock base, l.value) ∷ []
-clause_texts (guarantee l) = (on_clock base, l.value) ∷ []
-clause_texts (ghost_variable x e) = (as_side base, e) ∷ []
-clause_texts (constant c) = (on_clock base, c.value) ∷ []
-clause_texts (mode m rs es) = on_base rs ++ on_base es
-clause_texts («import» k c as_ xs) = map (λ a. (on_clock base, a)) as_
+abbrev pub contract_statement_texts : ContractStatement → List Text
+contract_statement_texts (assume l) = (on_clock base, l.value) ∷ []
+contract_statement_texts (guarantee l) = (on_clock base, l.value) ∷ []
+contract_statement_texts (ghost_variable x e) = (as_side base, e) ∷ []
+contract_statement_texts (constant c) = (on_clock base, c.value) ∷ []
+contract_statement_texts (mode m rs es) = on_base rs ++ on_base es
+contract_statement_texts («import» k c as_ xs) = map (λ a. (on_clock base, a)) as_
 
 abbrev pub statement_texts : Component → Statement → List Text
 statement_texts n (equation xs e) = (as_side (clock_of_names n (map text_of xs)), e) ∷ []
@@ -91,7 +91,7 @@ constant_texts cs = map (λ c. (on_clock base, c.value)) cs
 -- every expression of a declaration's items and constants
 abbrev pub texts : Component → List Text
 texts n =
-    flat_map clause_texts (clauses n) ++ (constant_texts n.constants ++ flat_map (statement_texts n) n.body)
+    flat_map contract_statement_texts (contract_statements n) ++ (constant_texts n.constants ++ flat_map (statement_texts n) n.body)
 
 abbrev pub all_occurrences : Component → List Occurrence
 all_occurrences n = flat_map (λ x. occurrences n x.0 x.1) (texts n)

@@ -1,11 +1,11 @@
 -- A program's declarations, the call occurrences of one by number, and its instance.
 use Rattle.std.specs.Prelude.{ℕ, zero, suc, true, List, [], ◌∷◌, ◌++◌, map, flat_map, Option, Some, None, length, find, unwrap_or, cond, option_to_list, ◌==◌}
 use Rattle.std.specs.Str.{bytes_eq}
-use Rattle.lus_tree.specs.Tree.{Name, text_of, Expression, Expressions, call, condact, no_more, more, Constant, Clause, constant, «import», Component, Declaration, declared_constant, declared_node, declared_contract, Program}
+use Rattle.lus_tree.specs.Tree.{Name, text_of, Expression, Expressions, call, condact, no_more, more, Constant, ContractStatement, constant, «import», Component, Declaration, declared_constant, declared_node, declared_contract, Program}
 use Rattle.lus_tree.specs.Numbers.{counting}
 use Rattle.lus_meaning.specs.Value.{Value}
 use Rattle.lus_meaning.specs.Frame.{empty_frame}
-use Rattle.lus_meaning.specs.Scene.{base, plain, while_true, as_import, Site, Instance, Instances, instance, no_component, no_instances, with_instance, clauses}
+use Rattle.lus_meaning.specs.Scene.{base, plain, while_true, as_import, Site, Instance, Instances, instance, no_component, no_instances, with_instance, contract_statements}
 use Rattle.lus_meaning.specs.Meaning.{value}
 use Rattle.lus_meaning.specs.Occurrences.{Standing, gathered}
 
@@ -23,7 +23,7 @@ site_in s (condact p k a f as_ ds) =
 site_in s _ = []
 
 -- an import runs on the base clock
-abbrev pub import_site : Clause → List Site
+abbrev pub import_site : ContractStatement → List Site
 import_site («import» k c as_ xs) =
     record { number = k; callee = c.text; clock = base; arguments = as_; defaults = []; manner = as_import (map text_of xs) } ∷ []
 import_site _ = []
@@ -34,7 +34,7 @@ in_order at xs = flat_map (λ k. option_to_list (find (λ x. at x == k) xs)) (co
 
 -- the call occurrences of a declaration, imports included, by number
 abbrev pub all_sites : Component → List Site
-all_sites n = in_order (λ s. s.number) (gathered site_in n ++ flat_map import_site (clauses n))
+all_sites n = in_order (λ s. s.number) (gathered site_in n ++ flat_map import_site (contract_statements n))
 
 -- ---- declarations and constants
 
@@ -69,13 +69,13 @@ program_constants [] = []
 program_constants (declared_constant c ∷ ds) = c ∷ program_constants ds
 program_constants (_ ∷ ds) = program_constants ds
 
-abbrev pub clause_constants : List Clause → List Constant
-clause_constants [] = []
-clause_constants (constant c ∷ cs) = c ∷ clause_constants cs
-clause_constants (_ ∷ cs) = clause_constants cs
+abbrev pub contract_statement_constants : List ContractStatement → List Constant
+contract_statement_constants [] = []
+contract_statement_constants (constant c ∷ cs) = c ∷ contract_statement_constants cs
+contract_statement_constants (_ ∷ cs) = contract_statement_constants cs
 
 abbrev pub constants_in : Program → Component → List (Name × Value)
-constants_in p n = constant_values [] (program_constants p ++ clause_constants (clauses n) ++ n.constants)
+constants_in p n = constant_values [] (program_constants p ++ contract_statement_constants (contract_statements n) ++ n.constants)
 
 -- ---- instances
 

@@ -6,7 +6,7 @@ use Rattle.lus_meaning.specs.Value.{Stream}
 use Rattle.lus_meaning.specs.Frame.{Frame, empty_frame, calls_in, frame_at, entry}
 use Rattle.lus_meaning.specs.Scene.{Instance}
 use Rattle.lus_meaning.specs.Program.{instance_of}
-use Rattle.lus_meaning.specs.Trace.{Line, IsFrameOf}
+use Rattle.lus_meaning.specs.Trace.{BareLine, IsFrameOf}
 use Rattle.lus_meaning.specs.TraceView.{Listing, lines_of}
 use Rattle.lus_meaning.specs.Fits.{first_named}
 use Rattle.lus_meaning.specs.FirstBreak.{AreBreaks, AreLawful}
@@ -24,7 +24,7 @@ pub record Shown : Type 0 where
   pub value : List ℕ → Name → Stream
 
 -- the lines have one frame of n instants, and this is what it shows
-pub record Replays (i : Instance) (ls : List Line) (n : ℕ) (s : Shown) : Type 0 where
+pub record Replays (i : Instance) (ls : List BareLine) (n : ℕ) (s : Shown) : Type 0 where
   pub frame : Frame
   pub is_frame : IsFrameOf ls i n frame
   pub only : (other : Frame) → IsFrameOf ls i n other → other ≡ frame

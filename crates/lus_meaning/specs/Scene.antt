@@ -1,7 +1,7 @@
 -- Where an expression stands: an instance of a declaration, its frame, and the instants at which it is active.
 use Rattle.std.specs.Prelude.{ℕ, zero, suc, Bool, false, cond, List, [], ◌∷◌, ◌++◌, map, Option, Some, None, find, option_map, unwrap_or}
 use Rattle.std.specs.Str.{bytes_eq}
-use Rattle.lus_tree.specs.Tree.{Name, Spelled, Expression, Variable, Clause, ghost_variable, Component}
+use Rattle.lus_tree.specs.Tree.{Name, Spelled, Expression, Variable, ContractStatement, ghost_variable, Component}
 use Rattle.lus_meaning.specs.Value.{Value, Stream, Instants, is}
 use Rattle.lus_meaning.specs.Frame.{Frame, entry}
 
@@ -92,17 +92,17 @@ pub record Scene : Type 0 where
   pub beat : Instants
   pub modes : ModeStreams
 
-abbrev pub ghosts : List Clause → List Variable
+abbrev pub ghosts : List ContractStatement → List Variable
 ghosts [] = []
 ghosts (ghost_variable x e ∷ cs) = x ∷ ghosts cs
 ghosts (_ ∷ cs) = ghosts cs
 
-abbrev pub clauses : Component → List Clause
-clauses n = unwrap_or n.contract []
+abbrev pub contract_statements : Component → List ContractStatement
+contract_statements n = unwrap_or n.contract []
 
 -- the streams of a declaration: inputs, outputs, locals and ghost variables
 abbrev pub variables : Component → List Variable
-variables n = n.inputs ++ n.outputs ++ n.locals ++ ghosts (clauses n)
+variables n = n.inputs ++ n.outputs ++ n.locals ++ ghosts (contract_statements n)
 
 abbrev pub clock_from : Option (Bool × Spelled) → Clock
 clock_from None = base

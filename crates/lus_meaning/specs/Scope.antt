@@ -7,10 +7,10 @@ use Rattle.lus_tree.specs.declared.place.Sort.{Sort}
 use Rattle.lus_tree.specs.declared.place.Sort.TheVariants.{Bool as Flags, Int as Numbers}
 use Rattle.lus_tree.specs.declared.expression.Operator.{Operator}
 use Rattle.lus_tree.specs.declared.expression.Operator.TheVariants.{Add, Sub, Mul, Div, Mod}
-use Rattle.lus_tree.specs.Tree.{Name, Spelled, Expression, truth, number, name, negation, minus, pre, arrow, binary, choice, sampled, merged, call, condact, mode_name, Variable, Constant, Clause, ghost_variable, constant, mode, «import», Component, declared_constant, declared_node, declared_contract, Program}
+use Rattle.lus_tree.specs.Tree.{Name, Spelled, Expression, truth, number, name, negation, minus, pre, arrow, binary, choice, sampled, merged, call, condact, mode_name, Variable, Constant, ContractStatement, ghost_variable, constant, mode, «import», Component, declared_constant, declared_node, declared_contract, Program}
 use Rattle.lus_meaning.specs.Value.{Value, absent, flag, whole, not_value, minus_value, apply, choose}
-use Rattle.lus_meaning.specs.Scene.{Clock, base, clock_from, clauses, no_component}
-use Rattle.lus_meaning.specs.Program.{clause_constants}
+use Rattle.lus_meaning.specs.Scene.{Clock, base, clock_from, contract_statements, no_component}
+use Rattle.lus_meaning.specs.Program.{contract_statement_constants}
 use Rattle.lus_meaning.specs.Run.{sort_of_operator}
 
 -- ---- declarations by name
@@ -233,10 +233,10 @@ pub data Declared : Type 0 where
   a_stream : Role → Variable → Declared
   a_fixed : Constant → Declared
 
-abbrev pub clause_names : Clause → List Declared
-clause_names (ghost_variable v e) = a_stream a_ghost v ∷ []
-clause_names (constant c) = a_fixed c ∷ []
-clause_names _ = []
+abbrev pub contract_statement_names : ContractStatement → List Declared
+contract_statement_names (ghost_variable v e) = a_stream a_ghost v ∷ []
+contract_statement_names (constant c) = a_fixed c ∷ []
+contract_statement_names _ = []
 
 abbrev pub is_before : Pos → Pos → Bool
 is_before a b = nat_lt a.line b.line || ((a.line == b.line) && nat_lt a.column b.column)
@@ -259,7 +259,7 @@ local_names n = interleaved (map a_fixed n.constants) (map (a_stream a_local) n.
 abbrev pub declared_in : Component → List Declared
 declared_in n =
     map (a_stream an_input) n.inputs
-    ++ (map (a_stream an_output) n.outputs ++ (flat_map clause_names (clauses n) ++ local_names n))
+    ++ (map (a_stream an_output) n.outputs ++ (flat_map contract_statement_names (contract_statements n) ++ local_names n))
 
 -- ---- what they mean
 
@@ -324,18 +324,18 @@ pub record Home : Type 0 where
 abbrev pub own_names : Home → List Entry
 own_names h = entries_from h.program h.outer [] (declared_in h.owner)
 
-abbrev pub mode_names : List Clause → List Name
+abbrev pub mode_names : List ContractStatement → List Name
 mode_names [] = []
 mode_names (mode m rs es ∷ cs) = m.text ∷ mode_names cs
 mode_names (_ ∷ cs) = mode_names cs
 
-abbrev pub import_names : List Clause → List Name
+abbrev pub import_names : List ContractStatement → List Name
 import_names [] = []
 import_names («import» k c as_ xs ∷ cs) = c.text ∷ import_names cs
 import_names (_ ∷ cs) = import_names cs
 
 -- behind these clauses, with so many constants known
-abbrev pub scope_with : Home → ℕ → List Clause → Scope
+abbrev pub scope_with : Home → ℕ → List ContractStatement → Scope
 scope_with h k cs =
     record {
       program = h.program;
@@ -346,13 +346,13 @@ scope_with h k cs =
       imports = import_names cs;
     }
 
-abbrev pub clause_scope : Home → List Clause → Scope
-clause_scope h cs =
-    let s : Scope = scope_with h (length (clause_constants cs)) cs in record s { names = map hide_local s.names }
+abbrev pub contract_statement_scope : Home → List ContractStatement → Scope
+contract_statement_scope h cs =
+    let s : Scope = scope_with h (length (contract_statement_constants cs)) cs in record s { names = map hide_local s.names }
 
 -- where the constant of that number stands, behind the contract
 abbrev pub constant_scope : Home → ℕ → Scope
-constant_scope h k = scope_with h (length (clause_constants (clauses h.owner)) + k) (clauses h.owner)
+constant_scope h k = scope_with h (length (contract_statement_constants (contract_statements h.owner)) + k) (contract_statements h.owner)
 
 abbrev pub body_scope : Home → Scope
 body_scope h = constant_scope h (length h.owner.constants)

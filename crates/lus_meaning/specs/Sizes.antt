@@ -4,8 +4,8 @@ use Rattle.std.specs.Map.{lookup}
 use Rattle.std.specs.List.{fold}
 use Rattle.lus_tree.specs.declared.expression.Operator.{Operator}
 use Rattle.lus_tree.specs.declared.expression.Operator.TheVariants.{Implies, Or, And, AtMost, Equal, AtLeast, Add, Sub, Mul, Div, Mod}
-use Rattle.lus_tree.specs.Tree.{Name, text_of, Expression, truth, number, name, negation, minus, arrow, binary, choice, sampled, merged, condact, mode_name, Labelled, Statement, assertion, property, Clause, assume, guarantee, ghost_variable, constant, mode, «import», Component}
-use Rattle.lus_meaning.specs.Scene.{Clock, base, sampled_by, clock_from, clock_of, clauses, variables, Manner, plain, while_true, as_import, Site, Instance, Instances, instance, no_instances, with_instance, component_of, clock_of_names}
+use Rattle.lus_tree.specs.Tree.{Name, text_of, Expression, truth, number, name, negation, minus, arrow, binary, choice, sampled, merged, condact, mode_name, Labelled, Statement, assertion, property, ContractStatement, assume, guarantee, ghost_variable, constant, mode, «import», Component}
+use Rattle.lus_meaning.specs.Scene.{Clock, base, sampled_by, clock_from, clock_of, contract_statements, variables, Manner, plain, while_true, as_import, Site, Instance, Instances, instance, no_instances, with_instance, component_of, clock_of_names}
 use Rattle.lus_meaning.specs.Meaning.{mode_key}
 use Rattle.lus_meaning.specs.Depends.{named_in, left_names, from_caller}
 use Rattle.lus_meaning.specs.Run.{Equation, equations}
@@ -117,7 +117,7 @@ no_sizes = record { assumes = []; promises = []; modes = [] }
 abbrev pub asked_size : Size → Size → Size
 asked_size r e = one (two r (one e))
 
-abbrev pub sizes_after : Component → (ℕ → ContractSizes) → ContractSizes → List Clause → ContractSizes
+abbrev pub sizes_after : Component → (ℕ → ContractSizes) → ContractSizes → List ContractStatement → ContractSizes
 sizes_after n sub r [] = r
 sizes_after n sub r (assume l ∷ cs) =
     sizes_after n sub (record r { assumes = r.assumes ++ size_in n r.modes l.value ∷ [] }) cs
@@ -143,7 +143,7 @@ sizes_after n sub r (constant c ∷ cs) = sizes_after n sub r cs
 abbrev mutual
   pub contract_sizes : Instance → ContractSizes
   contract_sizes (instance n cs is) =
-      sizes_after n (λ k. slice_index_or (contract_sizes_each is) (pred k) no_sizes) no_sizes (clauses n)
+      sizes_after n (λ k. slice_index_or (contract_sizes_each is) (pred k) no_sizes) no_sizes (contract_statements n)
 
   pub contract_sizes_each : Instances → List ContractSizes
   contract_sizes_each no_instances = []
@@ -190,7 +190,7 @@ abbrev pub start_size : Component → Start → Size
 start_size n s = two leaf (two leaf (one (presence n s.clock)))
 
 -- sofar' = And(sofar, Not(And(beat, Not A)))
-abbrev pub sofar_sizes : Option (List Clause) → List Size → List Size
+abbrev pub sofar_sizes : Option (List ContractStatement) → List Size → List Size
 sofar_sizes None as_ = []
 sofar_sizes (Some cs) as_ = two leaf (two leaf (one (two leaf (one (all_of as_))))) ∷ []
 

@@ -9,7 +9,8 @@ use Rattle.lus_grammar.specs.Answers as A
 use Rattle.lus_grammar.proofs.Fits.{fits}
 use Rattle.lus_grammar.proofs.Readings.{whole, stopped}
 
-pub is_text : {V : Type 0} {value : Syntax → V} {s : Stream} {g : Phrase} {i j : ℕ} {n m : Counts} {v : V} → fits g ≡ true → Reads value s g i n j m v → IsText value s g i n j m v
+pub is_text : {V : Type 0} {value : Syntax → V} {s : Stream} {g : Phrase} {i j : ℕ} {n m : Counts} {v : V} → fits g ≡ true
+    → Reads value s g i n j m v → IsText value s g i n j m v
 is_text e r = record { syntax = r.syntax; whole = whole r.run e; is = r.is }
 
 pub is_no_text : {s : Stream} {g : Phrase} {i : ℕ} {n : Counts} {r : Refused} → fits g ≡ true → Refuses s g i n r → IsNoText s g i n r

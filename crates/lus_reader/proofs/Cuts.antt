@@ -32,12 +32,14 @@ default = record { from = 0; to = 0; at = record { line = 0; column = 0 }; class
 pub tokens_small : (b : List ℕ) (ts : List Tok) → AreTokens b ts → length ts ≤ length b
 tokens_small b ts h = let r = lie_count b 0 ts (in_order b 0 ts whole h) in omega (arith, r)
 
-lie_at : (b : List ℕ) (i : ℕ) (ts : List Tok) (k : ℕ) (d : Tok) → Lie b i ts → k < length ts → ((get_or ts k d).from < (get_or ts k d).to) × ((get_or ts k d).to ≤ length b)
+lie_at : (b : List ℕ) (i : ℕ) (ts : List Tok) (k : ℕ) (d : Tok) → Lie b i ts → k < length ts → ((get_or ts k d).from < (get_or ts k d).to) ×
+    ((get_or ts k d).to ≤ length b)
 lie_at b i [] k d h l = absurd (omega (arith, l))
 lie_at b i (t ∷ ts) zero d h l = (h.1, h.2)
 lie_at b i (t ∷ ts) (suc k) d h l = lie_at b t.to ts k d h.3 (omega (arith, l))
 
-pub span_at : (b : List ℕ) (ts : List Tok) (k : ℕ) (d : Tok) → AreTokens b ts → k < length ts → ((get_or ts k d).from < (get_or ts k d).to) × ((get_or ts k d).to ≤ length b)
+pub span_at : (b : List ℕ) (ts : List Tok) (k : ℕ) (d : Tok) → AreTokens b ts → k < length ts → ((get_or ts k d).from < (get_or ts k d).to)
+    × ((get_or ts k d).to ≤ length b)
 span_at b ts k d h l = lie_at b 0 ts k d (in_order b 0 ts whole h) l
 
 in_at : (ts : List Tok) (k : ℕ) (d : Tok) → k < length ts → In (get_or ts k d) ts
@@ -101,25 +103,32 @@ table_ascii = refl
 
 has_ascii : (c : Class) (w : List ℕ) → HasText c w → IsAscii w
 has_ascii c w (fixed r i e k) =
-    let a : (list_all (λ c. nat_lt c 128) r.text && is_other r.is) ≡ true = in_all (λ r. list_all (λ c. nat_lt c 128) r.text && is_other r.is) r table table_ascii i in
+    let a : (list_all (λ c. nat_lt c 128) r.text && is_other r.is) ≡ true = in_all
+    (λ r. list_all (λ c. nat_lt c 128) r.text && is_other r.is) r table table_ascii i in
     rw e (all_ascii (λ c. nat_lt c 128) r.text small_ascii (and_left _ (is_other r.is) a))
 has_ascii c w (name l a out k) = all_ascii is_word w word_ascii a
 has_ascii c w (number l a k) = all_ascii is_ascii_digit w digit_ascii a
-has_ascii c w (text v e a k) = rw e (IsAscii-cons 34 _ (omega arith) (all_ascii (λ c. nat_lt c 128) (v ++ 34 ∷ []) small_ascii (all_append (λ c. nat_lt c 128) v (34 ∷ []) (all_weaker is_plain (λ c. nat_lt c 128) v plain_small a) refl)))
+has_ascii c w (text v e a k) = rw e (IsAscii-cons 34 _ (omega arith)
+    (all_ascii (λ c. nat_lt c 128) (v ++ 34 ∷ []) small_ascii (all_append (λ c. nat_lt c 128) v (34 ∷ [])
+    (all_weaker is_plain (λ c. nat_lt c 128) v plain_small a) refl)))
 
 has_quotes : (c : Class) (w : List ℕ) → c ≡ Text → HasText c w → 2 ≤ length w
 has_quotes c w t (fixed r i e k) =
-    let a : (list_all (λ c. nat_lt c 128) r.text && is_other r.is) ≡ true = in_all (λ r. list_all (λ c. nat_lt c 128) r.text && is_other r.is) r table table_ascii i in
+    let a : (list_all (λ c. nat_lt c 128) r.text && is_other r.is) ≡ true = in_all
+    (λ r. list_all (λ c. nat_lt c 128) r.text && is_other r.is) r table table_ascii i in
     let b : is_other r.is ≡ false = rw (k, t) refl in
     absurd (both_ways (is_other r.is) (and_right (list_all (λ c. nat_lt c 128) r.text) _ a) b)
 has_quotes c w t (name l a out k) = absurd (ident_text (sym k ∙ t))
 has_quotes c w t (number l a k) = absurd (number_text (sym k ∙ t))
 has_quotes c w t (text v e a k) = rw e (simp length-append (omega arith))
 
-has_at : (b : List ℕ) (ts : List Tok) (k : ℕ) (d : Tok) → AreTokens b ts → k < length ts → HasText (get_or ts k d).class (take ((get_or ts k d).to - (get_or ts k d).from) (drop (get_or ts k d).from b))
-has_at b ts k d h l = let t = taken b 0 ts whole h (get_or ts k d) (in_at ts k d l) in text_of b (get_or ts k d).from (get_or ts k d).to (get_or ts k d).class t.longest.spells
+has_at : (b : List ℕ) (ts : List Tok) (k : ℕ) (d : Tok) → AreTokens b ts → k < length ts → HasText (get_or ts k d).class
+    (take ((get_or ts k d).to - (get_or ts k d).from) (drop (get_or ts k d).from b))
+has_at b ts k d h l = let t = taken b 0 ts whole h (get_or ts k d) (in_at ts k d l) in text_of b (get_or ts k d).from (get_or ts k d).to
+    (get_or ts k d).class t.longest.spells
 
-pub ascii_at : (b : List ℕ) (ts : List Tok) (k : ℕ) (d : Tok) → AreTokens b ts → k < length ts → IsAscii (take ((get_or ts k d).to - (get_or ts k d).from) (drop (get_or ts k d).from b))
+pub ascii_at : (b : List ℕ) (ts : List Tok) (k : ℕ) (d : Tok) → AreTokens b ts → k < length ts → IsAscii
+    (take ((get_or ts k d).to - (get_or ts k d).from) (drop (get_or ts k d).from b))
 ascii_at b ts k d h l = has_ascii _ _ (has_at b ts k d h l)
 
 pub quotes_at : (b : List ℕ) (ts : List Tok) (k : ℕ) → AreTokens b ts → k < length ts → (stream b ts k).class ≡ Some Text → 2 ≤ length (stream b ts k).text

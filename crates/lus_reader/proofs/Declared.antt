@@ -26,7 +26,8 @@ neither s i b d f g (inl e) = f e
 neither s i b d f g (inr h) = g h
 
 -- no token of one class, and none of the other
-pub no_token_too : (s : Stream) (i k : ℕ) (n : Counts) (c : Cause) (b d : Class) → ((s i).class ≡ Some b → ⊥) → Run limit s (one_of (d ∷ [])) i n (stop c k) → Run limit s (one_of (b ∷ d ∷ [])) i n (stop c k)
+pub no_token_too : (s : Stream) (i k : ℕ) (n : Counts) (c : Cause) (b d : Class) → ((s i).class ≡ Some b → ⊥) → Run limit s
+    (one_of (d ∷ [])) i n (stop c k) → Run limit s (one_of (b ∷ d ∷ [])) i n (stop c k)
 no_token_too s i k n c b d f (no_token g) = no_token (neither s i b d f g)
 
 -- ---- groups
@@ -40,14 +41,17 @@ groups_none s i n front e = record {
   refuses = λ r h. h;
 }
 
-pub groups_stuck : (s : Stream) (i k : ℕ) (n : Counts) (front : List Variable) (r : Refused) → GroupsLead s i n front k → Refuses s (part P.Group) k n r → Refuses s (part P.Groups) i n r
+pub groups_stuck : (s : Stream) (i k : ℕ) (n : Counts) (front : List Variable) (r : Refused) → GroupsLead s i n front k → Refuses s
+    (part P.Group) k n r → Refuses s (part P.Groups) i n r
 groups_stuck s i k n front r h st = h.refuses r (refuses_by (λ d l u. line_stop (first_stop u)) st)
 
 abbrev GroupRead : Stream → ℕ → Counts → List Variable → ℕ → List Variable → Type 0
 GroupRead s k n front j next = Reads (more_of front (group_of None)) s (part P.Group) k n j n next
 
-pub groups_last : (s : Stream) (i k j : ℕ) (n : Counts) (front next : List Variable) → GroupsLead s i n front k → GroupRead s k n front j next → Passes s j semicolon → Reads groups_of s (part P.Groups) i n j n next
-groups_last s i k j n front next h g p = rw g.is (h.reads j n (group_of None g.syntax) (record { syntax = node P.Groups (g.syntax · absent); run = line (both g.run (not_once p)); is = refl }))
+pub groups_last : (s : Stream) (i k j : ℕ) (n : Counts) (front next : List Variable) → GroupsLead s i n front k
+    → GroupRead s k n front j next → Passes s j semicolon → Reads groups_of s (part P.Groups) i n j n next
+groups_last s i k j n front next h g p = rw g.is (h.reads j n (group_of None g.syntax)
+    (record { syntax = node P.Groups (g.syntax · absent); run = line (both g.run (not_once p)); is = refl }))
 
 semicolon_enters : (s : Stream) (k : ℕ) → (s k).class ≡ Some (C.Sign S.Semicolon) → (b : Phrase) → Enters s k (semicolon ⨾ b)
 semicolon_enters s k e b = enters_by s k (C.Sign S.Semicolon) (class_code (C.Sign S.Semicolon) ∷ []) refl e
@@ -68,5 +72,6 @@ groups_next s i k j n front next h g e p = record {
     run = line (both g.run (once (semicolon_enters s j e (optional (part P.Groups))) (both (token (inl e)) (once p r.run))));
     is = rw r.is refl;
   }));
-  refuses = λ r st. h.refuses r (refuses_by (λ d l u. line_stop (second_stop g.run (once_stop (semicolon_enters s j e (optional (part P.Groups))) (second_stop (token (inl e)) (once_stop p u))))) st);
+  refuses = λ r st. h.refuses r (refuses_by (λ d l u. line_stop (second_stop g.run
+      (once_stop (semicolon_enters s j e (optional (part P.Groups))) (second_stop (token (inl e)) (once_stop p u))))) st);
 }

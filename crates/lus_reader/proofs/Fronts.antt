@@ -66,7 +66,8 @@ moved {l} {s} {t} z a (token {cs = cs} {i = i} {n = n} o) h =
 moved {l} {s} {t} z a (no_token {cs = cs} {i = i} o) h = no_token (λ w. o (is_one t s i cs (sym (a i h)) w))
 moved {l} {s} {t} z a (occurrence {k = k} {c = c} {i = i} {n = n} o) h =
     let e : t i ≡ s i = a i (omega arith) in
-    subst (λ (y : Mark). Run l t (counted k c) i n (read (i + 1) (counted_on k n) (numbered y (number_of k n)))) e (occurrence (ap (λ (m : Mark). m.class) e ∙ o))
+    subst (λ (y : Mark). Run l t (counted k c) i n (read (i + 1) (counted_on k n) (numbered y (number_of k n)))) e
+    (occurrence (ap (λ (m : Mark). m.class) e ∙ o))
 moved {l} {s} {t} z a (no_occurrence {i = i} o) h = no_occurrence (λ w. o (sym (ap (λ (m : Mark). m.class) (a i h)) ∙ w))
 moved z a (line r) h = line (moved z a r h)
 moved z a (line_stop r) h = line_stop (moved z a r h)
@@ -86,9 +87,11 @@ moved {l} {s} {t} z a (not_once {a = g} {i = i} w) h = not_once (passes_at s t i
 moved {l} {s} {t} z a (once {a = g} {i = i} w r) h = let y = run_ordered r in once (enters_at s t i g (a i (omega arith)) w) (moved z a r h)
 moved {l} {s} {t} z a (once_stop {a = g} {i = i} w r) h = let y = run_since r in once_stop (enters_at s t i g (a i (omega arith)) w) (moved z a r h)
 moved {l} {s} {t} z a (no_more {a = g} {i = i} w) h = no_more (passes_at s t i g (a i h) w)
-moved {l} {s} {t} z a (again {a = g} {i = i} w r q) h = let y = run_ordered q in let x = run_ordered r in again (enters_at s t i g (a i (omega arith)) w) (moved z a r (omega arith)) (moved z a q h)
+moved {l} {s} {t} z a (again {a = g} {i = i} w r q) h = let y = run_ordered q in let x = run_ordered r in again
+    (enters_at s t i g (a i (omega arith)) w) (moved z a r (omega arith)) (moved z a q h)
 moved {l} {s} {t} z a (next_stop {a = g} {i = i} w r) h = let y = run_since r in next_stop (enters_at s t i g (a i (omega arith)) w) (moved z a r h)
-moved {l} {s} {t} z a (later_stop {a = g} {i = i} w r q) h = let y = run_since q in let x = run_ordered r in later_stop (enters_at s t i g (a i (omega arith)) w) (moved z a r (omega arith)) (moved z a q h)
+moved {l} {s} {t} z a (later_stop {a = g} {i = i} w r q) h = let y = run_since q in let x = run_ordered r in later_stop
+    (enters_at s t i g (a i (omega arith)) w) (moved z a r (omega arith)) (moved z a q h)
 
 inside_or : (n k : ℕ) → (k < n) ⊎ (n ≤ k)
 inside_or n k = grind arith

@@ -23,7 +23,8 @@ inner_text x w e = rw e (ap (λ k. take k (drop 1 w)) (omega arith))
 -- a list ends where nothing goes on
 pub leads_end : {V : Type 0} (w v : Syntax → List V) (s : Stream) (g a : Phrase) (i : ℕ) (n : Counts) (front : List V) (k : ℕ) (m : Counts)
     → Leads w v s g (repeated a) i n front k m → v none ≡ [] → Passes s k a → Reads w s g i n k m front
-leads_end w v s g a i n front k m h e p = subst (λ (x : List _). Reads w s g i n k m x) (append-nil front) (h.reads k m [] (record { syntax = none; run = no_more p; is = sym e }))
+leads_end w v s g a i n front k m h e p = subst (λ (x : List _). Reads w s g i n k m x) (append-nil front)
+    (h.reads k m [] (record { syntax = none; run = no_more p; is = sym e }))
 
 -- ---- names
 
@@ -41,7 +42,8 @@ names_first s i j n front run e = record {
 comma_enters : (s : Stream) (k : ℕ) → (s k).class ≡ Some (C.Sign S.Comma) → Enters s k comma_name
 comma_enters s k e = enters_by s k (C.Sign S.Comma) (class_code (C.Sign S.Comma) ∷ []) refl e
 
-pub names_next : (s : Stream) (i k j : ℕ) (n : Counts) (front next : List Spelled) → Leads names_of more_names_of s (part Names) (repeated comma_name) i n front k n
+pub names_next : (s : Stream) (i k j : ℕ) (n : Counts) (front next : List Spelled) → Leads names_of more_names_of s (part Names)
+    (repeated comma_name) i n front k n
     → (s k).class ≡ Some (C.Sign S.Comma) → Run limit s identifier (k + 1) n (read j n (leaf (s (k + 1)))) → next ≡ front ++ spelled (s (k + 1)) ∷ []
     → Leads names_of more_names_of s (part Names) (repeated comma_name) i n next j n
 names_next s i k j n front next h c run e = record {
@@ -53,6 +55,7 @@ names_next s i k j n front next h c run e = record {
   refuses = λ r st. h.refuses r (refuses_by (λ d l u. later_stop (comma_enters s k c) (both (token (inl c)) run) u) st);
 }
 
-pub names_stuck : (s : Stream) (i k : ℕ) (n : Counts) (front : List Spelled) (r : Refused) → Leads names_of more_names_of s (part Names) (repeated comma_name) i n front k n
+pub names_stuck : (s : Stream) (i k : ℕ) (n : Counts) (front : List Spelled) (r : Refused) → Leads names_of more_names_of s (part Names)
+    (repeated comma_name) i n front k n
     → (s k).class ≡ Some (C.Sign S.Comma) → Refuses s identifier (k + 1) n r → Refuses s (part Names) i n r
 names_stuck s i k n front r h c st = h.refuses r (refuses_by (λ d l u. next_stop (comma_enters s k c) (second_stop (token (inl c)) u)) st)

@@ -40,7 +40,9 @@ few_tokens bytes tokens h = let r = lie_length bytes 0 tokens (in_order bytes 0 
 same_back : (bytes : List ℕ) (tokens : List Token) (z : ℕ) → Agree (stream bytes tokens) (stream bytes (take z tokens)) z
 same_back bytes tokens z = λ k q. sym (front_agrees bytes tokens z k q)
 
-pub read_within : (bytes : List ℕ) (tokens : List Token) (i : ℕ) (n : Counts) (f : Found) → IsRead (stream bytes (front i tokens)) Expression i n f → f.next ≤ i + 1000 → Reads expression_of (stream bytes tokens) (limited Expression) i n f.next (counts_view f.counts) (tree_of f)
+pub read_within : (bytes : List ℕ) (tokens : List Token) (i : ℕ) (n : Counts) (f : Found) → IsRead
+    (stream bytes (front i tokens)) Expression i n f → f.next ≤ i + 1000 → Reads expression_of (stream bytes tokens)
+    (limited Expression) i n f.next (counts_view f.counts) (tree_of f)
 read_within bytes tokens i n f x h =
     let o = opened x.run in
     record {
@@ -49,25 +51,33 @@ read_within bytes tokens i n f x h =
       is = x.is ∙ ap expression_of o.is;
     }
 
-pub read_past : (bytes : List ℕ) (tokens : List Token) (i : ℕ) (n : Counts) (f : Found) → IsRead (stream bytes (front i tokens)) Expression i n f → i + 1000 < f.next → Run limit (stream bytes tokens) (limited Expression) i n (stop too_large (i + 1000))
+pub read_past : (bytes : List ℕ) (tokens : List Token) (i : ℕ) (n : Counts) (f : Found) → IsRead
+    (stream bytes (front i tokens)) Expression i n f → i + 1000 < f.next → Run limit (stream bytes tokens) (limited Expression) i n
+    (stop too_large (i + 1000))
 read_past bytes tokens i n f x h = past (over_read (same_back bytes tokens (i + 1000 + 1)) (opened x.run).run h)
 
-pub stop_within : (bytes : List ℕ) (tokens : List Token) (i : ℕ) (n : Counts) (k : ℕ) → Run limit (stream bytes (front i tokens)) (part Expression) i n (stop unexpected k) → k ≤ i + 1000 → Run limit (stream bytes tokens) (limited Expression) i n (stop unexpected k)
+pub stop_within : (bytes : List ℕ) (tokens : List Token) (i : ℕ) (n : Counts) (k : ℕ) → Run limit (stream bytes (front i tokens))
+    (part Expression) i n (stop unexpected k) → k ≤ i + 1000 → Run limit (stream bytes tokens) (limited Expression) i n (stop unexpected k)
 stop_within bytes tokens i n k r h = within_stop (moved (i + 1000 + 1) (front_agrees bytes tokens (i + 1000 + 1)) (opened_stop r) (omega arith)) h
 
-pub stop_past : (bytes : List ℕ) (tokens : List Token) (i : ℕ) (n : Counts) (k : ℕ) → Run limit (stream bytes (front i tokens)) (part Expression) i n (stop unexpected k) → i + 1000 < k → Run limit (stream bytes tokens) (limited Expression) i n (stop too_large (i + 1000))
+pub stop_past : (bytes : List ℕ) (tokens : List Token) (i : ℕ) (n : Counts) (k : ℕ) → Run limit (stream bytes (front i tokens))
+    (part Expression) i n (stop unexpected k) → i + 1000 < k → Run limit (stream bytes tokens) (limited Expression) i n
+    (stop too_large (i + 1000))
 stop_past bytes tokens i n k r h = past (over_stop (same_back bytes tokens (i + 1000 + 1)) (omega arith) (opened_stop r) h)
 
 -- what is refused, by the place and the reason that are told
-pub refused_large : (s : Stream) (i : ℕ) (n : Counts) (k : ℕ) (r : Refused) → Run limit s (limited Expression) i n (stop too_large k) → r.at ≡ (s k).at → r.reason ≡ too_large_reason → Refuses s (limited Expression) i n r
+pub refused_large : (s : Stream) (i : ℕ) (n : Counts) (k : ℕ) (r : Refused) → Run limit s (limited Expression) i n (stop too_large k)
+    → r.at ≡ (s k).at → r.reason ≡ too_large_reason → Refuses s (limited Expression) i n r
 refused_large s i n k r d a e = stopped d a (rw e past_limit)
 
-pub refused_token : (s : Stream) (i : ℕ) (n : Counts) (k : ℕ) (r : Refused) → Run limit s (limited Expression) i n (stop unexpected k) → r.at ≡ (s k).at → (r.reason ≡ memory) ⊎ IsReason (s k) unexpected r.reason → Refuses s (limited Expression) i n r
+pub refused_token : (s : Stream) (i : ℕ) (n : Counts) (k : ℕ) (r : Refused) → Run limit s (limited Expression) i n (stop unexpected k)
+    → r.at ≡ (s k).at → (r.reason ≡ memory) ⊎ IsReason (s k) unexpected r.reason → Refuses s (limited Expression) i n r
 refused_token s i n k r d a (inl e) = out_of_memory e
 refused_token s i n k r d a (inr e) = stopped d a e
 
 -- what readings are by the grammar's texts alone
-pub is_text : {s : Stream} {i j : ℕ} {n m : Counts} {v : Tree} → Reads expression_of s (limited Expression) i n j m v → IsText expression_of s (limited Expression) i n j m v
+pub is_text : {s : Stream} {i j : ℕ} {n m : Counts} {v : Tree} → Reads expression_of s (limited Expression) i n j m v
+    → IsText expression_of s (limited Expression) i n j m v
 is_text x = record { syntax = x.syntax; whole = whole x.run refl; is = x.is }
 
 pub is_no_text : {s : Stream} {i : ℕ} {n : Counts} {r : Refused} → Refuses s (limited Expression) i n r → IsNoText s (limited Expression) i n r

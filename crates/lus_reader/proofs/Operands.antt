@@ -53,7 +53,8 @@ abbrev Look : Type 0
 Look = Option Class → Option Operator
 
 -- what a look finds at each of some classes it finds at a mark of one of them
-at_one : (f g : Look) (s : Stream) (i : ℕ) (cs : List Class) → map (λ c. f (Some c)) cs ≡ map (λ c. g (Some c)) cs → IsOneOf s i cs → f (s i).class ≡ g (s i).class
+at_one : (f g : Look) (s : Stream) (i : ℕ) (cs : List Class) → map (λ c. f (Some c)) cs ≡ map (λ c. g (Some c)) cs → IsOneOf s i cs → f
+    (s i).class ≡ g (s i).class
 at_one f g s i [] h k = absurd k
 at_one f g s i (c ∷ cs) h (inl e) = rw e (cons_head (f (Some c)) (g (Some c)) _ _ h)
 at_one f g s i (c ∷ cs) h (inr k) = at_one f g s i cs (cons_tail (f (Some c)) (g (Some c)) _ _ h) k
@@ -70,7 +71,8 @@ record Finds (f : Look) (cs : List Class) : Type 0 where
 passes : (f : Look) (cs : List Class) → Finds f cs → (s : Stream) (i : ℕ) → f (s i).class ≡ None → listed (code (s i).class) (codes_of cs) ≡ false
 passes f cs h s i e = passed (f (s i).class) _ (every (λ o. agrees (f o) (listed (code o) (codes_of cs))) h.all (s i).class) e
 
-enters : (f : Look) (cs : List Class) → Finds f cs → (s : Stream) (i : ℕ) (x : Operator) → f (s i).class ≡ Some x → listed (code (s i).class) (codes_of cs) ≡ true
+enters : (f : Look) (cs : List Class) → Finds f cs → (s : Stream) (i : ℕ) (x : Operator) → f (s i).class ≡ Some x → listed
+    (code (s i).class) (codes_of cs) ≡ true
 enters f cs h s i x e = found x (f (s i).class) _ (every (λ o. agrees (f o) (listed (code o) (codes_of cs))) h.all (s i).class) e
 
 one : (f : Look) (cs : List Class) → Finds f cs → (s : Stream) (i : ℕ) (x : Operator) → f (s i).class ≡ Some x → IsOneOf s i cs

@@ -23,7 +23,8 @@ refused (inl e) run = out_of_memory e
 refused (inr h) run = stopped run h.0 h.1
 
 -- what is refused in a part is refused in the whole
-pub refuses_by : {s : Stream} {g h : Phrase} {i j : ℕ} {n m : Counts} {r : Refused} → ((c : Cause) (k : ℕ) → Run limit s g i n (stop c k) → Run limit s h j m (stop c k)) → Refuses s g i n r → Refuses s h j m r
+pub refuses_by : {s : Stream} {g h : Phrase} {i j : ℕ} {n m : Counts} {r : Refused} →
+    ((c : Cause) (k : ℕ) → Run limit s g i n (stop c k) → Run limit s h j m (stop c k)) → Refuses s g i n r → Refuses s h j m r
 refuses_by f (out_of_memory e) = out_of_memory e
 refuses_by f (stopped run at is) = stopped (f _ _ run) at is
 

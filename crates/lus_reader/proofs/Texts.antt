@@ -24,7 +24,8 @@ use Rattle.lus_grammar.specs.Trees.{digits_value}
 use Rattle.lus_reader.specs.Look.{AreFirst}
 use Rattle.lus_reader.proofs.Streams.{stream_inside}
 
-lies_at : (b : List ℕ) (i : ℕ) (ts rest : List Tok) (k : ℕ) (d : Tok) → Lie b i (ts ++ rest) → k < length ts → ((get_or ts k d).from < (get_or ts k d).to) × ((get_or ts k d).to ≤ length b)
+lies_at : (b : List ℕ) (i : ℕ) (ts rest : List Tok) (k : ℕ) (d : Tok) → Lie b i (ts ++ rest) → k < length ts →
+    ((get_or ts k d).from < (get_or ts k d).to) × ((get_or ts k d).to ≤ length b)
 lies_at b i [] rest k d h l = absurd (omega (arith, l))
 lies_at b i (t ∷ ts) rest zero d h l = (h.1, h.2)
 lies_at b i (t ∷ ts) rest (suc k) d h l = lies_at b t.to ts rest k d h.3 (omega (arith, l))
@@ -39,7 +40,8 @@ abbrev pub no_token : Tok
 no_token = record { from = 0; to = 0; at = record { line = 0; column = 0 }; class = Ident }
 
 -- a token lies inside the bytes
-pub lies : (b : List ℕ) (ts : List Tok) (k : ℕ) (d : Tok) → AreFirst b ts → k < length ts → ((get_or ts k d).from < (get_or ts k d).to) × ((get_or ts k d).to ≤ length b)
+pub lies : (b : List ℕ) (ts : List Tok) (k : ℕ) (d : Tok) → AreFirst b ts → k < length ts → ((get_or ts k d).from < (get_or ts k d).to) ×
+    ((get_or ts k d).to ≤ length b)
 lies b ts k d h l = lies_at b 0 ts h.rest k d (in_order b 0 (ts ++ h.rest) whole h.cut) l
 
 is_taken : (b : List ℕ) (ts : List Tok) (k : ℕ) (d : Tok) → AreFirst b ts → k < length ts → IsTaken b (get_or ts k d)
@@ -96,7 +98,8 @@ pub text_is : (b : List ℕ) (ts : List Tok) (k : ℕ) (d : Tok) → k < length 
 text_is b ts k d l = ap (λ (m : Mark). m.text) (stream_inside b ts k d l)
 
 pub utf8 : (b : List ℕ) (ts : List Tok) (k : ℕ) (d : Tok) → AreFirst b ts → k < length ts → IsUtf8 (stream b ts k).text
-utf8 b ts k d h l = rw (text_is b ts k d l) (IsUtf8-from_ascii (slice b (get_or ts k d)) (ascii (slice b (get_or ts k d)) (text_low (get_or ts k d).class (slice b (get_or ts k d)) (has_text b ts k d h l))))
+utf8 b ts k d h l = rw (text_is b ts k d l) (IsUtf8-from_ascii (slice b (get_or ts k d))
+    (ascii (slice b (get_or ts k d)) (text_low (get_or ts k d).class (slice b (get_or ts k d)) (has_text b ts k d h l))))
 
 -- the value of digits is that of their slice
 same_value : (b : List ℕ) (i n k : ℕ) → k ≤ n → value (byte (take n (drop i b))) 0 k ≡ value (byte b) i k
@@ -104,18 +107,21 @@ same_value b i n zero l = refl
 same_value b i n (suc k) l =
     let r = same_value b i n k (omega (arith, l)) in
     let z : 0 + k ≡ k = omega arith in
-    let e : byte (take n (drop i b)) (0 + k) ≡ byte b (i + k) = ap (byte (take n (drop i b))) z ∙ get_or-take n (drop i b) k 0 (omega (arith, l)) ∙ get_or-drop i b k 0 in
+    let e : byte (take n (drop i b)) (0 + k) ≡ byte b (i + k) = ap (byte (take n (drop i b))) z ∙ get_or-take n (drop i b) k 0
+    (omega (arith, l)) ∙ get_or-drop i b k 0 in
     ap (λ (x : ℕ). 10 * x + (byte (take n (drop i b)) (0 + k) - 48)) r ∙ ap (λ (x : ℕ). 10 * value (byte b) i k + (x - 48)) e
 
 slice_length : (b : List ℕ) (t : Tok) → t.from < t.to → t.to ≤ length b → length (slice b t) ≡ t.to - t.from
 slice_length b t l h = length-take-le (t.to - t.from) (drop t.from b) (omega (arith, length-drop t.from b, l, h))
 
-pub fits : (b : List ℕ) (ts : List Tok) (k : ℕ) (d : Tok) → AreFirst b ts → k < length ts → (get_or ts k d).class ≡ Number → digits_value (stream b ts k).text ≤ 9223372036854775807
+pub fits : (b : List ℕ) (ts : List Tok) (k : ℕ) (d : Tok) → AreFirst b ts → k < length ts → (get_or ts k d).class ≡ Number → digits_value
+    (stream b ts k).text ≤ 9223372036854775807
 fits b ts k d h l e =
     let t : Tok = get_or ts k d in
     let m = lies b ts k d h l in
     let v : value (byte b) t.from (t.to - t.from) ≤ 9223372036854775807 = small_value (byte b) t.from t.to ((is_taken b ts k d h l).fits e) in
-    let w : value (byte (slice b t)) 0 (length (slice b t)) ≡ value (byte b) t.from (t.to - t.from) = rw (slice_length b t m.0 m.1) (same_value b t.from (t.to - t.from) (t.to - t.from) (omega arith)) in
+    let w : value (byte (slice b t)) 0 (length (slice b t)) ≡ value (byte b) t.from (t.to - t.from) = rw (slice_length b t m.0 m.1)
+    (same_value b t.from (t.to - t.from) (t.to - t.from) (omega arith)) in
     rw (text_is b ts k d l, w) v
 
 value_grows : (s : ℕ → ℕ) (i k d : ℕ) → value s i k ≤ value s i (k + d)

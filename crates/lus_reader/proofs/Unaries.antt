@@ -21,7 +21,9 @@ use Rattle.lus_reader.proofs.Exits.{Lead}
 pub not_off : {s : Stream} {i : ℕ} {n : Counts} → (s i).class ≡ Some (C.Keyword K.Not) → Lead s (part Unary) i n (part Unary) (i + 1) n
 not_off e = λ k r. line_stop (this_stop (rw e refl) (second_stop (token (inl e)) r))
 
-pub not_read : {s : Stream} {i j : ℕ} {n m : Counts} {a v : Tree} {p : Pos} → (s i).class ≡ Some (C.Keyword K.Not) → Reads expression_of s (part Unary) (i + 1) n j m a → (s i).at ≡ p → v ≡ negation (record { from = p; at = p }) a → Reads expression_of s (part Unary) i n j m v
+pub not_read : {s : Stream} {i j : ℕ} {n m : Counts} {a v : Tree} {p : Pos} → (s i).class ≡ Some (C.Keyword K.Not) → Reads expression_of s
+    (part Unary) (i + 1) n j m a → (s i).at ≡ p → v ≡ negation (record { from = p; at = p }) a → Reads expression_of s
+    (part Unary) i n j m v
 not_read {s} {i} e x p h = record {
   syntax = node Unary (this (leaf (s i) · x.syntax));
   run = line (this_one (rw e refl) (both (token (inl e)) x.run));
@@ -31,17 +33,21 @@ not_read {s} {i} e x p h = record {
 pub minus_off : {s : Stream} {i : ℕ} {n : Counts} → (s i).class ≡ Some (C.Sign S.Minus) → Lead s (part Unary) i n (part Unary) (i + 1) n
 minus_off e = λ k r. line_stop (that_stop (rw e refl) (this_stop (rw e refl) (second_stop (token (inl e)) r)))
 
-pub minus_read : {s : Stream} {i j : ℕ} {n m : Counts} {a v : Tree} {p : Pos} → (s i).class ≡ Some (C.Sign S.Minus) → Reads expression_of s (part Unary) (i + 1) n j m a → (s i).at ≡ p → v ≡ minus (record { from = p; at = p }) a → Reads expression_of s (part Unary) i n j m v
+pub minus_read : {s : Stream} {i j : ℕ} {n m : Counts} {a v : Tree} {p : Pos} → (s i).class ≡ Some (C.Sign S.Minus) → Reads expression_of s
+    (part Unary) (i + 1) n j m a → (s i).at ≡ p → v ≡ minus (record { from = p; at = p }) a → Reads expression_of s (part Unary) i n j m v
 minus_read {s} {i} e x p h = record {
   syntax = node Unary (that (this (leaf (s i) · x.syntax)));
   run = line (that_one (rw e refl) (this_one (rw e refl) (both (token (inl e)) x.run)));
   is = let z = x.is in cc;
 }
 
-pub pre_off : {s : Stream} {i : ℕ} {n o : Counts} → (s i).class ≡ Some (C.Keyword K.Pre) → o ≡ counted_on pres n → Lead s (part Unary) i n (part Unary) (i + 1) o
+pub pre_off : {s : Stream} {i : ℕ} {n o : Counts} → (s i).class ≡ Some (C.Keyword K.Pre) → o ≡ counted_on pres n → Lead s (part Unary) i n
+    (part Unary) (i + 1) o
 pre_off e q = λ k r. line_stop (that_stop (rw e refl) (that_stop (rw e refl) (this_stop (rw e refl) (second_stop (occurrence e) (rw q at r)))))
 
-pub pre_read : {s : Stream} {i j : ℕ} {n m o : Counts} {a v : Tree} {p : Pos} → (s i).class ≡ Some (C.Keyword K.Pre) → o ≡ counted_on pres n → Reads expression_of s (part Unary) (i + 1) o j m a → (s i).at ≡ p → v ≡ pre (record { from = p; at = p }) o.pres a → Reads expression_of s (part Unary) i n j m v
+pub pre_read : {s : Stream} {i j : ℕ} {n m o : Counts} {a v : Tree} {p : Pos} → (s i).class ≡ Some (C.Keyword K.Pre) → o ≡ counted_on pres n
+    → Reads expression_of s (part Unary) (i + 1) o j m a → (s i).at ≡ p → v ≡ pre (record { from = p; at = p }) o.pres a
+    → Reads expression_of s (part Unary) i n j m v
 pre_read {s} {i} {j} {n} {m} {o} e q x p h =
     let r : Run limit s (part Unary) (i + 1) (counted_on pres n) (read j m x.syntax) = rw (← q) x.run in
     record {
@@ -50,20 +56,29 @@ pre_read {s} {i} {j} {n} {m} {o} e q x p h =
       is = let z = x.is in let f = ap (λ (k : Counts). k.pres) q in cc;
     }
 
-pub plain_off : {s : Stream} {i : ℕ} {n : Counts} → Differs s i (C.Keyword K.Not) → Differs s i (C.Sign S.Minus) → Differs s i (C.Keyword K.Pre) → Lead s (part Unary) i n (part Primary) i n
+pub plain_off : {s : Stream} {i : ℕ} {n : Counts} → Differs s i (C.Keyword K.Not) → Differs s i (C.Sign S.Minus) → Differs s i
+    (C.Keyword K.Pre) → Lead s (part Unary) i n (part Primary) i n
 plain_off a b d = λ k r. line_stop (that_stop a.passes (that_stop b.passes (that_stop d.passes r)))
 
-pub plain_read : {s : Stream} {i j : ℕ} {n m : Counts} {v : Tree} → Differs s i (C.Keyword K.Not) → Differs s i (C.Sign S.Minus) → Differs s i (C.Keyword K.Pre) → Reads expression_of s (part Primary) i n j m v → Reads expression_of s (part Unary) i n j m v
-plain_read a b d x = record { syntax = node Unary (that (that (that x.syntax))); run = line (that_one a.passes (that_one b.passes (that_one d.passes x.run))); is = x.is }
+pub plain_read : {s : Stream} {i j : ℕ} {n m : Counts} {v : Tree} → Differs s i (C.Keyword K.Not) → Differs s i (C.Sign S.Minus)
+    → Differs s i (C.Keyword K.Pre) → Reads expression_of s (part Primary) i n j m v → Reads expression_of s (part Unary) i n j m v
+plain_read a b d x = record {
+  syntax = node Unary (that (that (that x.syntax)));
+  run = line
+      (that_one a.passes (that_one b.passes (that_one d.passes x.run)));
+  is = x.is;
+}
 
-pub number_read : {s : Stream} {i w : ℕ} {n : Counts} {v : Tree} {p : Pos} → (s i).class ≡ Some C.Number → (s i).at ≡ p → w ≡ digits_value (s i).text → v ≡ number (record { from = p; at = p }) w → Reads expression_of s (part Primary) i n (i + 1) n v
+pub number_read : {s : Stream} {i w : ℕ} {n : Counts} {v : Tree} {p : Pos} → (s i).class ≡ Some C.Number → (s i).at ≡ p → w ≡ digits_value
+    (s i).text → v ≡ number (record { from = p; at = p }) w → Reads expression_of s (part Primary) i n (i + 1) n v
 number_read {s} {i} e p w h = record {
   syntax = node Primary (this (leaf (s i)));
   run = line (this_one (rw e refl) (token (inl e)));
   is = cc;
 }
 
-pub truth_read : {s : Stream} {i : ℕ} {n : Counts} {v : Tree} {p : Pos} (b : Bool) → IsTruth s i b → (s i).at ≡ p → v ≡ truth (record { from = p; at = p }) b → Reads expression_of s (part Primary) i n (i + 1) n v
+pub truth_read : {s : Stream} {i : ℕ} {n : Counts} {v : Tree} {p : Pos} (b : Bool) → IsTruth s i b → (s i).at ≡ p → v ≡ truth
+    (record { from = p; at = p }) b → Reads expression_of s (part Primary) i n (i + 1) n v
 truth_read {s} {i} true e p h = record {
   syntax = node Primary (that (this (leaf (s i))));
   run = line (that_one (rw e refl) (this_one (rw e refl) (token (inl e))));
@@ -103,6 +118,10 @@ none_off {s} {i} h =
     let h5 : listed k (60 ∷ 61 ∷ 10 ∷ []) ≡ false = rest_passes k 15 (60 ∷ 61 ∷ 10 ∷ []) h4 in
     let h6 : listed k (61 ∷ 10 ∷ []) ≡ false = rest_passes k 60 (61 ∷ 10 ∷ []) h5 in
     let h7 : listed k (10 ∷ []) ≡ false = rest_passes k 61 (10 ∷ []) h6 in
-    let b : listed k (73 ∷ 74 ∷ []) ≡ false = two_pass k 73 74 (first_passes k 73 (74 ∷ 2 ∷ 15 ∷ 60 ∷ 61 ∷ 10 ∷ []) h1) (first_passes k 74 (2 ∷ 15 ∷ 60 ∷ 61 ∷ 10 ∷ []) h2) in
-    line_stop (that_stop (first_passes k 3 (73 ∷ 74 ∷ 2 ∷ 15 ∷ 60 ∷ 61 ∷ 10 ∷ []) h) (that_stop b (that_stop (first_passes k 2 (15 ∷ 60 ∷ 61 ∷ 10 ∷ []) h3) (that_stop (first_passes k 15 (60 ∷ 61 ∷ 10 ∷ []) h4) (that_stop (first_passes k 60 (61 ∷ 10 ∷ []) h5) (that_stop (first_passes k 61 (10 ∷ []) h6)
+    let b : listed k (73 ∷ 74 ∷ []) ≡ false = two_pass k 73 74 (first_passes k 73 (74 ∷ 2 ∷ 15 ∷ 60 ∷ 61 ∷ 10 ∷ []) h1)
+    (first_passes k 74 (2 ∷ 15 ∷ 60 ∷ 61 ∷ 10 ∷ []) h2) in
+    line_stop (that_stop (first_passes k 3 (73 ∷ 74 ∷ 2 ∷ 15 ∷ 60 ∷ 61 ∷ 10 ∷ []) h)
+    (that_stop b (that_stop (first_passes k 2 (15 ∷ 60 ∷ 61 ∷ 10 ∷ []) h3)
+    (that_stop (first_passes k 15 (60 ∷ 61 ∷ 10 ∷ []) h4) (that_stop (first_passes k 60 (61 ∷ 10 ∷ []) h5)
+    (that_stop (first_passes k 61 (10 ∷ []) h6)
     (first_stop (no_token (λ w. elim w [ inl e ↦ false≢true (sym (subst (λ (o : Option Class). listed (code o) (10 ∷ []) ≡ false) e h7)) | inr z ↦ z ])))))))))

@@ -73,7 +73,8 @@ more_expressions = repeated (sign S.Comma ⨾ part Expression)
 -- the list goes on with { "," expr }
 abbrev pub More : List ℕ → List Token → Exprs → Result Exprs Stop → Type 0
 More bytes tokens of r = MatchResult r
-    (λ l. Reads (λ x. onto (trees_of of) (listed_of x)) (stream bytes tokens) more_expressions of.next (counts_view of.counts) l.next (counts_view l.counts) (joined (trees_of l)))
+    (λ l. Reads (λ x. onto (trees_of of) (listed_of x)) (stream bytes tokens) more_expressions of.next (counts_view of.counts) l.next
+    (counts_view l.counts) (joined (trees_of l)))
     (λ e. Stopped (stream bytes tokens) more_expressions of.next (counts_view of.counts) e)
 
 -- [ exprs ]
@@ -91,7 +92,8 @@ pub record IsBracketed (s : Stream) (i : ℕ) (n : Counts) (l : Exprs) : Type 0 
   pub is : joined (trees_of l) ≡ arguments_of inner
 
 abbrev pub Bracketed : List ℕ → List Token → ℕ → CountsCode → Result Exprs Stop → Type 0
-Bracketed bytes tokens i n r = MatchResult r (λ l. IsBracketed (stream bytes tokens) i (counts_view n) l) (λ e. Stopped (stream bytes tokens) bracketed i (counts_view n) e)
+Bracketed bytes tokens i n r = MatchResult r (λ l. IsBracketed (stream bytes tokens) i (counts_view n) l)
+    (λ e. Stopped (stream bytes tokens) bracketed i (counts_view n) e)
 
 -- tokens were taken, and no more than there are
 abbrev pub Onward : List Token → ℕ → Result Found Stop → Type 0

@@ -7,7 +7,7 @@ ghost use Rattle.lus_grammar.specs.Trees.{begun, place_of};
 
 use crate::counts::Counts;
 use crate::stop::{Found, List};
-use lus_tree::{Expr, Form, Operator, Pos, Word};
+use lus_tree::{Expr, Form, Operator, PlacedName, Pos};
 use std::alloc::{AllocError, Global};
 
 /// An expression, with what stands behind it.
@@ -112,7 +112,7 @@ pub(crate) fn sampled(
     a: Found,
     at: Pos,
     on: bool,
-    clock: Word,
+    clock: PlacedName,
     next: usize,
 ) -> Result<Found, AllocError>
     ensures tree { IfOk result (λ f. expr_view f.expr.value
@@ -129,7 +129,7 @@ pub(crate) fn sampled(
 pub(crate) fn merged(
     alloc: Global,
     at: Pos,
-    clock: Word,
+    clock: PlacedName,
     a: Found,
     b: Found,
 ) -> Result<Found, AllocError>
@@ -147,7 +147,7 @@ pub(crate) fn merged(
 pub(crate) fn called(
     alloc: Global,
     number: u32,
-    callee: Word,
+    callee: PlacedName,
     arguments: List,
 ) -> Result<Found, AllocError>
     requires { arguments.next < usize.MAX }
@@ -174,7 +174,7 @@ pub(crate) fn condact(
     alloc: Global,
     head: Head,
     condition: Found,
-    callee: Word,
+    callee: PlacedName,
     arguments: Vec<Expr>,
     defaults: Vec<Expr>,
     next: usize,

@@ -22,7 +22,7 @@ use crate::list::push;
 use crate::look::{class_at, expect, is_at, optional_token, place_at};
 use crate::words::names;
 use lus_lexer::{Annotation, Class, Keyword, Sign, Token};
-use lus_tree::{Item, Refusal, Word};
+use lus_tree::{Item, PlacedName, Refusal};
 use std::alloc::Global;
 
 /// The longest list of items from a token on, which may be empty, and the place behind it, where
@@ -204,7 +204,7 @@ pub fn read_left(
     tokens: &[Token],
     bytes: &[u8],
     at: u32,
-) -> Result<(Vec<Word>, u32), Refusal>
+) -> Result<(Vec<PlacedName>, u32), Refusal>
     requires cut { AreTokens bytes.now tokens.now }
     requires small { length bytes.now ≤ 1048576 }
     ensures run { IfOk result (λ r. ReadsAt left_of bytes.now tokens.now (part P.Left) at r.1

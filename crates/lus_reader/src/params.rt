@@ -15,7 +15,7 @@ use crate::list::push;
 use crate::look::{expect, is_at, out_of_memory};
 use crate::words::{identifier, names};
 use lus_lexer::{Class, Keyword, Sign, Token};
-use lus_tree::{Param, Refusal, Sort, Word};
+use lus_tree::{Param, PlacedName, Refusal, Sort};
 use std::alloc::Global;
 
 /// `bool` or `int`, and the place behind it.
@@ -39,7 +39,7 @@ pub fn when_clock(
     tokens: &[Token],
     bytes: &[u8],
     at: u32,
-) -> Result<(Option<(bool, Word)>, u32), Refusal>
+) -> Result<(Option<(bool, PlacedName)>, u32), Refusal>
     requires cut { AreTokens bytes.now tokens.now }
     requires small { length bytes.now ≤ 1048576 }
     requires inside { at ≤ length tokens.now }
@@ -65,7 +65,7 @@ fn typed_names(
     tokens: &[Token],
     bytes: &[u8],
     at: u32,
-) -> Result<((Vec<Word>, Sort), u32), Refusal>
+) -> Result<((Vec<PlacedName>, Sort), u32), Refusal>
     requires cut { AreTokens bytes.now tokens.now }
     requires small { length bytes.now ≤ 1048576 }
     ensures run { IfOk result (λ r. ReadsAt typed_of bytes.now tokens.now (part P.Group) at r.1
@@ -83,9 +83,9 @@ fn typed_names(
 fn add_params(
     alloc: Global,
     params: &mut Vec<Param>,
-    names: Vec<Word>,
+    names: Vec<PlacedName>,
     sort: Sort,
-    clock: &Option<(bool, Word)>,
+    clock: &Option<(bool, PlacedName)>,
 ) -> Result<(), Refusal>
     ensures params { IfOk result (λ u. map param_view params.new.items ≡ map param_view params.old.items ++ map
         (variable_of sort (clock_view clock.now)) (map word_view names.items)) }
@@ -101,8 +101,8 @@ fn add_params(
 /// An equal clock.
 fn copied_clock(
     alloc: Global,
-    clock: &Option<(bool, Word)>,
-) -> Result<Option<(bool, Word)>, Refusal>
+    clock: &Option<(bool, PlacedName)>,
+) -> Result<Option<(bool, PlacedName)>, Refusal>
     ensures clock { IfOk result (λ c. clock_view c ≡ clock_view clock.now) }
     ensures memory { IfErr result (λ e. (refusal_view e).reason ≡ memory) }
 {

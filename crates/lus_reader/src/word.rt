@@ -10,7 +10,7 @@ ghost use Rattle.lus_grammar.specs.Trees.{spelled, digits_value};
 ghost use Rattle.lus_reader.specs.Look.{AreFirst};
 
 use lus_lexer::Token;
-use lus_tree::Word;
+use lus_tree::PlacedName;
 use std::alloc::{AllocError, Global};
 
 /// The bytes of a token.
@@ -46,13 +46,13 @@ pub(crate) fn word_at(
     tokens: &[Token],
     bytes: &[u8],
     at: usize,
-) -> Result<Word, AllocError>
+) -> Result<PlacedName, AllocError>
     requires first { AreFirst bytes.now tokens.now }
     requires inside { at < length tokens.now }
     ensures { IfOk result (λ w. word_view w ≡ spelled (stream bytes.now tokens.now at)) }
 {
     let text = string_at(alloc, tokens, bytes, at)?;
-    Ok(Word {
+    Ok(PlacedName {
         text,
         at: tokens[at].at,
     })

@@ -15,7 +15,7 @@ ghost use Rattle.lus_reader.specs.Told.{ReadsAt, RefusesAt, Takes};
 use crate::list::push;
 use crate::look::{copied, expect, is_at, place_at, slice_at};
 use lus_lexer::{Class, Sign, Token};
-use lus_tree::{Refusal, Word};
+use lus_tree::{PlacedName, Refusal};
 use std::alloc::Global;
 
 /// A name, and the place behind it.
@@ -24,7 +24,7 @@ pub fn identifier(
     tokens: &[Token],
     bytes: &[u8],
     at: u32,
-) -> Result<(Word, u32), Refusal>
+) -> Result<(PlacedName, u32), Refusal>
     requires cut { AreTokens bytes.now tokens.now }
     requires small { length bytes.now ≤ 1048576 }
     ensures run { IfOk result (λ r. Takes bytes.now tokens.now P.identifier at r.1) }
@@ -36,7 +36,7 @@ pub fn identifier(
     let next = expect(alloc, tokens, bytes, at, Class::Ident)?;
     let text = copied(alloc, slice_at(tokens, bytes, at))?;
     let at = place_at(tokens, bytes, at);
-    Ok((Word { text, at }, next))
+    Ok((PlacedName { text, at }, next))
 }
 
 /// Names with commas between them, and the place behind the last one.
@@ -45,7 +45,7 @@ pub fn names(
     tokens: &[Token],
     bytes: &[u8],
     at: u32,
-) -> Result<(Vec<Word>, u32), Refusal>
+) -> Result<(Vec<PlacedName>, u32), Refusal>
     requires cut { AreTokens bytes.now tokens.now }
     requires small { length bytes.now ≤ 1048576 }
     ensures run { IfOk result (λ r. ReadsAt names_of bytes.now tokens.now (part Names) at r.1
@@ -67,7 +67,7 @@ fn add_name(
     tokens: &[Token],
     bytes: &[u8],
     at: u32,
-    words: &mut Vec<Word>,
+    words: &mut Vec<PlacedName>,
 ) -> Result<u32, Refusal>
     requires cut { AreTokens bytes.now tokens.now }
     requires small { length bytes.now ≤ 1048576 }

@@ -1,7 +1,7 @@
 -- The numbers of the occurrences of `pre`, of `->` and of calls.
 use Rattle.std.specs.Prelude.{◌≡◌, ℕ, zero, suc, Bool, true, cond, eqb, ◌==◌, List, [], ◌∷◌, ◌++◌, map, flat_map, length, unwrap_or}
 use Rattle.std.specs.List.{AllByRecursion, list_all}
-use Rattle.lus_tree.specs.Tree.{Expression, Expressions, truth, number, name, negation, minus, pre, arrow, binary, choice, sampled, merged, call, condact, mode_name, no_more, more, Labelled, Constant, Statement, equation, assertion, property, main_mark, Clause, assume, guarantee, ghost_variable, constant, mode, «import», Component, Declaration, declared_constant, declared_node, declared_contract, Program}
+use Rattle.lus_tree.specs.Tree.{Expression, Expressions, truth, number, name, negation, minus, pre, arrow, binary, choice, sampled, merged, call, condact, mode_name, no_more, more, Labelled, Constant, Statement, equation, assertion, property, main_mark, ContractStatement, assume, guarantee, ghost_variable, constant, mode, «import», Component, Declaration, declared_constant, declared_node, declared_contract, Program}
 
 -- the numbers from k on, as many as said
 abbrev pub counting : ℕ → ℕ → List ℕ
@@ -100,16 +100,16 @@ body_arrows ss = flat_map arrows (body_expressions ss)
 
 -- ---- in a declaration
 
-abbrev pub clause_expressions : Clause → List Expression
-clause_expressions (assume l) = l.value ∷ []
-clause_expressions (guarantee l) = l.value ∷ []
-clause_expressions (ghost_variable x e) = e ∷ []
-clause_expressions (constant c) = c.value ∷ []
-clause_expressions (mode m rs es) = map (λ l. l.value) rs ++ map (λ l. l.value) es
-clause_expressions («import» k c as_ xs) = as_
+abbrev pub contract_statement_expressions : ContractStatement → List Expression
+contract_statement_expressions (assume l) = l.value ∷ []
+contract_statement_expressions (guarantee l) = l.value ∷ []
+contract_statement_expressions (ghost_variable x e) = e ∷ []
+contract_statement_expressions (constant c) = c.value ∷ []
+contract_statement_expressions (mode m rs es) = map (λ l. l.value) rs ++ map (λ l. l.value) es
+contract_statement_expressions («import» k c as_ xs) = as_
 
 -- an import is numbered among the calls
-abbrev pub import_number : Counted → Clause → List ℕ
+abbrev pub import_number : Counted → ContractStatement → List ℕ
 import_number c («import» k f as_ xs) = if_same c a_call k
 import_number c (assume l) = []
 import_number c (guarantee l) = []
@@ -117,12 +117,12 @@ import_number c (ghost_variable x e) = []
 import_number c (constant d) = []
 import_number c (mode m rs es) = []
 
-abbrev pub contract_of : Component → List Clause
+abbrev pub contract_of : Component → List ContractStatement
 contract_of n = unwrap_or n.contract []
 
 -- the expressions of its contract, its constants and its body
 abbrev pub all_expressions : Component → List Expression
-all_expressions n = flat_map clause_expressions (contract_of n) ++ (map (λ c. c.value) n.constants ++ body_expressions n.body)
+all_expressions n = flat_map contract_statement_expressions (contract_of n) ++ (map (λ c. c.value) n.constants ++ body_expressions n.body)
 
 abbrev pub all_numbers : (Expression → List ℕ) → Component → List ℕ
 all_numbers own n = flat_map (numbers own) (all_expressions n)

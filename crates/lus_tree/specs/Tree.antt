@@ -63,13 +63,13 @@ pub data Statement : Type 0 where
   property : Labelled → Statement
   main_mark : Pos → Statement
 
-pub data Clause : Type 0 where
-  assume : Labelled → Clause
-  guarantee : Labelled → Clause
-  ghost_variable : Variable → Expression → Clause
-  constant : Constant → Clause
-  mode : Spelled → List Labelled → List Labelled → Clause
-  «import» : ℕ → Spelled → List Expression → List Spelled → Clause
+pub data ContractStatement : Type 0 where
+  assume : Labelled → ContractStatement
+  guarantee : Labelled → ContractStatement
+  ghost_variable : Variable → Expression → ContractStatement
+  constant : Constant → ContractStatement
+  mode : Spelled → List Labelled → List Labelled → ContractStatement
+  «import» : ℕ → Spelled → List Expression → List Spelled → ContractStatement
 
 -- A node, a function or a contract node. A contract node is no function and has no body and no locals.
 pub record Component : Type 0 where
@@ -79,7 +79,7 @@ pub record Component : Type 0 where
   pub outputs : List Variable
   pub locals : List Variable
   pub constants : List Constant
-  pub contract : Option (List Clause)
+  pub contract : Option (List ContractStatement)
   pub body : List Statement
 
 pub data Declaration : Type 0 where

@@ -3,7 +3,7 @@ use Rattle.std.specs.Prelude.{Bool, false, List, [], ◌∷◌, Option, Some, ma
 use Rattle.std.specs.String.{string_bytes}
 use Rattle.std.specs.declared.alloc.Global.{Global}
 use Rattle.std.specs.declared.vec.Vec.{Vec}
-use Rattle.lus_tree.specs.declared.place.Word.{Word}
+use Rattle.lus_tree.specs.declared.place.PlacedName.{PlacedName}
 use Rattle.lus_tree.specs.declared.place.Param.{Param}
 use Rattle.lus_tree.specs.declared.expression.Expr.{Expr, Expr-F, fold-Expr}
 use Rattle.lus_tree.specs.declared.expression.Form.{Form, Form-F, fold-Form}
@@ -19,9 +19,9 @@ use Rattle.lus_tree.specs.declared.declaration.ContractNode.{ContractNode}
 use Rattle.lus_tree.specs.declared.declaration.Decl.{Decl}
 use Rattle.lus_tree.specs.declared.declaration.Decl.TheVariants.{Constant as ConstantDecl, Node as NodeDecl, Contract}
 use Rattle.lus_tree.specs.declared.declaration.Program.{Program as ProgramCode}
-use Rattle.lus_tree.specs.Tree.{Place, Expression, Expressions, truth, number, name, negation, minus, pre, arrow, binary, choice, sampled, merged, call, condact, mode_name, no_more, more, Spelled, Variable, Constant, Labelled, Statement, equation, assertion, property, main_mark, Clause, assume, guarantee, ghost_variable, constant, mode, «import», Component, Declaration, declared_constant, declared_node, declared_contract, Program}
+use Rattle.lus_tree.specs.Tree.{Place, Expression, Expressions, truth, number, name, negation, minus, pre, arrow, binary, choice, sampled, merged, call, condact, mode_name, no_more, more, Spelled, Variable, Constant, Labelled, Statement, equation, assertion, property, main_mark, ContractStatement, assume, guarantee, ghost_variable, constant, mode, «import», Component, Declaration, declared_constant, declared_node, declared_contract, Program}
 
-abbrev pub word_view : Word → Spelled
+abbrev pub word_view : PlacedName → Spelled
 word_view w = record { text = string_bytes w.text; at = w.at }
 
 -- a list of expressions as the tree has it
@@ -58,7 +58,7 @@ form_view = fold-Form (Place → Expression) Expression form_step expr_step
 abbrev pub exprs_view : List Expr → List Expression
 exprs_view = map expr_view
 
-abbrev pub clock_view : Option (Bool × Word) → Option (Bool × Spelled)
+abbrev pub clock_view : Option (Bool × PlacedName) → Option (Bool × Spelled)
 clock_view = option_map (λ c. (c.0, word_view c.1))
 
 abbrev pub param_view : Param → Variable
@@ -76,7 +76,7 @@ item_view (Assert e) = assertion (expr_view e)
 item_view (Property n) = property (named_view n)
 item_view (Main p) = main_mark p
 
-abbrev pub contract_item_view : ContractItem → Clause
+abbrev pub contract_item_view : ContractItem → ContractStatement
 contract_item_view (Assume n) = assume (named_view n)
 contract_item_view (Guarantee n) = guarantee (named_view n)
 contract_item_view (Ghost p e) = ghost_variable (param_view p) (expr_view e)
@@ -85,7 +85,7 @@ contract_item_view (Mode w rs es) = mode (word_view w) (map named_view rs.items)
 contract_item_view (Import k c as_ outs) = «import» k (word_view c) (map expr_view as_.items) (map word_view outs.items)
 
 -- the contract of a node, where it has one
-abbrev pub contract_view : Option (Vec ContractItem Global) → Option (List Clause)
+abbrev pub contract_view : Option (Vec ContractItem Global) → Option (List ContractStatement)
 contract_view = option_map (λ v. map contract_item_view v.items)
 
 abbrev pub node_view : Node → Component

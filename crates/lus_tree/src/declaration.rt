@@ -5,13 +5,13 @@ ghost use Rattle.std.specs.String.{string_bytes};
 ghost use Rattle.lus_tree.specs.View.{contract_item_view, contract_node_view, contract_view, decl_view, definition_view, item_view, named_view, node_view, program_view};
 
 use crate::expression::{Expr, copied_exprs};
-use crate::place::{Param, Pos, Sort, Word, copied_params, copied_words};
+use crate::place::{Param, PlacedName, Pos, Sort, copied_params, copied_words};
 use std::alloc::{AllocError, Global};
 
 /// A constant's definition, `const NAME [: sort] = value;`.
 #[derive(Drop)]
 pub struct Definition {
-    pub name: Word,
+    pub name: PlacedName,
     pub sort: Option<Sort>,
     pub value: Expr,
 }
@@ -28,7 +28,7 @@ pub struct Named {
 #[derive(Drop)]
 pub enum Item {
     /// `left = right;`, with one left name or several.
-    Equation(Vec<Word>, Expr),
+    Equation(Vec<PlacedName>, Expr),
     /// `assert e;`
     Assert(Expr),
     /// `--%PROPERTY ["label"] e;` or `check ["label"] e;`.
@@ -49,15 +49,15 @@ pub enum ContractItem {
     /// `const ..;`
     Constant(Definition),
     /// `mode NAME (..);`: its requires and its ensures, each kind in text order.
-    Mode(Word, Vec<Named>, Vec<Named>),
+    Mode(PlacedName, Vec<Named>, Vec<Named>),
     /// `import NAME (arguments) returns (outputs);`. Its number counts among the calls.
-    Import(u32, Word, Vec<Expr>, Vec<Word>),
+    Import(u32, PlacedName, Vec<Expr>, Vec<PlacedName>),
 }
 
 /// A node, or a function, which is a node without state.
 #[derive(Drop)]
 pub struct Node {
-    pub name: Word,
+    pub name: PlacedName,
     pub function: bool,
     pub inputs: Vec<Param>,
     pub outputs: Vec<Param>,
@@ -70,7 +70,7 @@ pub struct Node {
 /// A contract node.
 #[derive(Drop)]
 pub struct ContractNode {
-    pub name: Word,
+    pub name: PlacedName,
     pub inputs: Vec<Param>,
     pub outputs: Vec<Param>,
     pub items: Vec<ContractItem>,

@@ -4,7 +4,7 @@ ghost use Rattle.std.specs.Prelude.{◌≡◌, IfOk, map};
 ghost use Rattle.lus_tree.specs.Tree.{Place};
 ghost use Rattle.lus_tree.specs.View.{expr_view, exprs_view, form_view};
 
-use crate::place::{Pos, Word, copied_word_or_none};
+use crate::place::{PlacedName, Pos, copied_word_or_none};
 use std::alloc::{AllocError, Global};
 
 /// An operator between two operands: `=>`, `or`, `xor`, `and`, `<`, `<=`, `=`, `<>`, `>=`, `>`,
@@ -63,16 +63,16 @@ pub enum Form {
     /// `if a then b else c`
     If(Box<Expr>, Box<Expr>, Box<Expr>),
     /// `a when c`, or with false `a when not c`.
-    When(Box<Expr>, bool, Word),
+    When(Box<Expr>, bool, PlacedName),
     /// `merge c (true -> a) (false -> b)`
-    Merge(Word, Box<Expr>, Box<Expr>),
+    Merge(PlacedName, Box<Expr>, Box<Expr>),
     /// `callee(arguments)`
-    Call(u32, Word, Vec<Expr>),
+    Call(u32, PlacedName, Vec<Expr>),
     /// `condact(condition, callee(arguments), defaults)`, also as
     /// `(activate callee every condition initial default (defaults))(arguments)`.
-    Condact(u32, Box<Expr>, Word, Vec<Expr>, Vec<Expr>),
+    Condact(u32, Box<Expr>, PlacedName, Vec<Expr>, Vec<Expr>),
     /// `::mode`, or `::contract::mode`.
-    ModeName(Option<Word>, Word),
+    ModeName(Option<PlacedName>, PlacedName),
 }
 
 impl Expr {

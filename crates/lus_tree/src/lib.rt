@@ -9,5 +9,5 @@ mod refusal;
 
 pub use declaration::{ContractItem, ContractNode, Decl, Definition, Item, Named, Node, Program};
 pub use expression::{Expr, Form, Operator};
-pub use place::{Param, Pos, Sort, Word};
+pub use place::{Param, PlacedName, Pos, Sort};
 pub use refusal::{Refusal, What};

@@ -21,7 +21,7 @@ pub enum Sort {
 
 /// A name and the place of its first byte.
 #[derive(Drop)]
-pub struct Word {
+pub struct PlacedName {
     pub text: String,
     pub at: Pos,
 }
@@ -30,25 +30,25 @@ pub struct Word {
 /// `(true, c)` is on where `c` is true, and `(false, c)` where `c` is false.
 #[derive(Drop)]
 pub struct Param {
-    pub name: Word,
+    pub name: PlacedName,
     pub sort: Sort,
-    pub clock: Option<(bool, Word)>,
+    pub clock: Option<(bool, PlacedName)>,
 }
 
-impl Word {
+impl PlacedName {
     /// An equal word.
-    pub fn copied(&self, alloc: Global) -> Result<Word, AllocError>
+    pub fn copied(&self, alloc: Global) -> Result<PlacedName, AllocError>
         ensures { IfOk result (λ w. word_view w ≡ word_view self.now) }
     {
         let text = String::from_str(alloc, &self.text)?;
-        Ok(Word { text, at: self.at })
+        Ok(PlacedName { text, at: self.at })
     }
 }
 
 pub(crate) fn copied_word_or_none(
-    word: &Option<Word>,
+    word: &Option<PlacedName>,
     alloc: Global,
-) -> Result<Option<Word>, AllocError>
+) -> Result<Option<PlacedName>, AllocError>
     ensures { IfOk result (λ o. option_map word_view o ≡ option_map word_view word.now) }
 {
     match word {
@@ -57,7 +57,10 @@ pub(crate) fn copied_word_or_none(
     }
 }
 
-pub(crate) fn copied_words(words: &[Word], alloc: Global) -> Result<Vec<Word>, AllocError>
+pub(crate) fn copied_words(
+    words: &[PlacedName],
+    alloc: Global,
+) -> Result<Vec<PlacedName>, AllocError>
     ensures { IfOk result (λ v. map word_view v.items ≡ map word_view words.now) }
 {
     let mut copies = Vec::with_capacity(alloc, words.len())?;
@@ -81,9 +84,9 @@ impl Param {
 }
 
 fn copied_clock(
-    clock: &Option<(bool, Word)>,
+    clock: &Option<(bool, PlacedName)>,
     alloc: Global,
-) -> Result<Option<(bool, Word)>, AllocError>
+) -> Result<Option<(bool, PlacedName)>, AllocError>
     ensures { IfOk result (λ c. clock_view c ≡ clock_view clock.now) }
 {
     match clock {

@@ -25,7 +25,9 @@ limit_in _ = 0
 abbrev reason_of : ℕ → Name → ℕ → Reason
 reason_of k w n =
     get_or
-    (memory ∷ too_long ∷ bad_byte ∷ unclosed_comment ∷ wide_literal ∷ unexpected ∷ too_large ∷ left_out w ∷ name_twice ∷ name_unknown ∷ type_clash ∷ arity_clash ∷ not_linear ∷ zero_divisor ∷ not_constant ∷ heavy ∷ clock_clash ∷ equation_twice ∷ input_defined ∷ cycle ∷ node_recursion ∷ not_stateless ∷ assume_reads_output ∷ no_node ∷ main_unknown ∷ mode_unknown ∷ too_many n ∷ not_built ∷ memory ∷ [])
+    (memory ∷ too_long ∷ bad_byte ∷ unclosed_comment ∷ wide_literal ∷ unexpected ∷ too_large ∷ left_out w ∷ name_twice ∷ name_unknown ∷
+    type_clash ∷ arity_clash ∷ not_linear ∷ zero_divisor ∷ not_constant ∷ heavy ∷ clock_clash ∷ equation_twice ∷ input_defined ∷ cycle ∷
+    node_recursion ∷ not_stateless ∷ assume_reads_output ∷ no_node ∷ main_unknown ∷ mode_unknown ∷ too_many n ∷ not_built ∷ memory ∷ [])
     k memory
 
 reason_is : (r : Reason) → reason_of (number_of r) (word_in r) (limit_in r) ≡ r
@@ -59,17 +61,23 @@ reason_is not_built = refl
 reason_is memory = refl
 
 same_reason : (a b : Reason) → number_of a ≡ number_of b → word_in a ≡ word_in b → limit_in a ≡ limit_in b → a ≡ b
-same_reason a b e f g = sym (reason_is a) ∙ ap (λ k. reason_of k (word_in a) (limit_in a)) e ∙ ap (λ w. reason_of (number_of b) w (limit_in a)) f ∙ ap (λ n. reason_of (number_of b) (word_in b) n) g ∙ reason_is b
+same_reason a b e f g = sym (reason_is a) ∙ ap (λ k. reason_of k (word_in a) (limit_in a)) e ∙ ap
+    (λ w. reason_of (number_of b) w (limit_in a)) f ∙ ap (λ n. reason_of (number_of b) (word_in b) n) g ∙ reason_is b
 
 abbrev is_one : Refused → Refused → Bool
 is_one a b =
-    (a.at.line == b.at.line) && ((a.at.column == b.at.column) && ((number_of a.reason == number_of b.reason) && (bytes_eq (word_in a.reason) (word_in b.reason) && (limit_in a.reason == limit_in b.reason))))
+    (a.at.line == b.at.line) && ((a.at.column == b.at.column) && ((number_of a.reason == number_of b.reason) &&
+    (bytes_eq (word_in a.reason) (word_in b.reason) && (limit_in a.reason == limit_in b.reason))))
 
 one_is : (a b : Refused) → is_one a b ≡ true → a ≡ b
 one_is a b e =
-    let l : ((a.at.line == b.at.line) ≡ true) × (((a.at.column == b.at.column) && ((number_of a.reason == number_of b.reason) && (bytes_eq (word_in a.reason) (word_in b.reason) && (limit_in a.reason == limit_in b.reason)))) ≡ true) = and_parts _ _ e in
-    let c : ((a.at.column == b.at.column) ≡ true) × (((number_of a.reason == number_of b.reason) && (bytes_eq (word_in a.reason) (word_in b.reason) && (limit_in a.reason == limit_in b.reason))) ≡ true) = and_parts _ _ l.1 in
-    let n : ((number_of a.reason == number_of b.reason) ≡ true) × ((bytes_eq (word_in a.reason) (word_in b.reason) && (limit_in a.reason == limit_in b.reason)) ≡ true) = and_parts _ _ c.1 in
+    let l : ((a.at.line == b.at.line) ≡ true) × (((a.at.column == b.at.column) &&
+    ((number_of a.reason == number_of b.reason) && (bytes_eq (word_in a.reason) (word_in b.reason) &&
+    (limit_in a.reason == limit_in b.reason)))) ≡ true) = and_parts _ _ e in
+    let c : ((a.at.column == b.at.column) ≡ true) × (((number_of a.reason == number_of b.reason) &&
+    (bytes_eq (word_in a.reason) (word_in b.reason) && (limit_in a.reason == limit_in b.reason))) ≡ true) = and_parts _ _ l.1 in
+    let n : ((number_of a.reason == number_of b.reason) ≡ true) × ((bytes_eq (word_in a.reason) (word_in b.reason) &&
+    (limit_in a.reason == limit_in b.reason)) ≡ true) = and_parts _ _ c.1 in
     let w : (bytes_eq (word_in a.reason) (word_in b.reason) ≡ true) × ((limit_in a.reason == limit_in b.reason) ≡ true) = and_parts _ _ n.1 in
     let r : a.reason ≡ b.reason = same_reason a.reason b.reason (eqb-true _ _ n.0) (same_bytes (word_in a.reason) (word_in b.reason) w.0) (eqb-true _ _ w.1) in
     ap (λ (k : ℕ). let z : Refused = record { at = record { line = k; column = a.at.column }; reason = a.reason } in z) (eqb-true _ _ l.0)
@@ -81,7 +89,14 @@ bytes_same [] = refl
 bytes_same (c ∷ cs) = rw (eq-eqb c c refl) (bytes_same cs)
 
 is_itself : (a : Refused) → is_one a a ≡ true
-is_itself a = rw (eq-eqb a.at.line a.at.line refl, eq-eqb a.at.column a.at.column refl, eq-eqb (number_of a.reason) (number_of a.reason) refl, bytes_same (word_in a.reason), eq-eqb (limit_in a.reason) (limit_in a.reason) refl) refl
+is_itself a = rw (
+  eq-eqb a.at.line a.at.line refl,
+  eq-eqb a.at.column a.at.column refl,
+  eq-eqb (number_of a.reason)
+      (number_of a.reason) refl,
+  bytes_same (word_in a.reason),
+  eq-eqb (limit_in a.reason) (limit_in a.reason) refl,
+) refl
 
 -- ---- what passes a test
 
@@ -124,7 +139,8 @@ AreSame fs gs = (p : Refused → Bool) → Both (failing p fs) (failing p gs)
 first_same : (r : Refused) (fs gs : List Refused) → AreSame fs gs → IsFirst (Contains fs) r → IsFirst (Contains gs) r
 first_same r fs gs a i = record {
   broken = found r gs (λ z. false≢true (sym (ap not (is_itself r)) ∙ passed (λ s. not (is_one s r)) fs r ((a (λ s. not (is_one s r))).back z) i.broken));
-  first = λ s c. not_true (comes_before s r) (passed (λ s. not (comes_before s r)) gs s ((a (λ s. not (comes_before s r))).there (all_passed (λ s. not (comes_before s r)) fs (λ q d. ap not (i.first q d)))) c);
+  first = λ s c. not_true (comes_before s r) (passed (λ s. not (comes_before s r)) gs s
+      ((a (λ s. not (comes_before s r))).there (all_passed (λ s. not (comes_before s r)) fs (λ q d. ap not (i.first q d)))) c);
 }
   where
     not_true : (b : Bool) → not b ≡ true → b ≡ false

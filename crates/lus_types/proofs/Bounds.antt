@@ -85,7 +85,8 @@ differ_bounded (whole n) absent m = refl
 differ_bounded (whole n) (flag b) m = refl
 differ_bounded (whole n) (whole k) m = refl
 
-numbers_bounded : (f : ℤ → ℤ → ℤ) → ((a b : ℤ) → unsigned_abs (f a b) ≤ unsigned_abs a + unsigned_abs b) → (x y : Value) (v w : Option ℕ) → is_bounded x v ≡ true → is_bounded y w ≡ true →
+numbers_bounded : (f : ℤ → ℤ → ℤ) → ((a b : ℤ) → unsigned_abs (f a b) ≤ unsigned_abs a + unsigned_abs b) → (x y : Value) (v w : Option ℕ)
+    → is_bounded x v ≡ true → is_bounded y w ≡ true →
     is_heavy (cut (both_weights (λ v w. v + w) v w)) ≡ false → is_bounded (on_numbers f x y) (cut (both_weights (λ v w. v + w) v w)) ≡ true
 numbers_bounded f l absent y v w p q e = refl
 numbers_bounded f l (flag a) y v w p q e = refl
@@ -93,10 +94,12 @@ numbers_bounded f l (whole a) absent v w p q e = refl
 numbers_bounded f l (whole a) (flag b) v w p q e = refl
 numbers_bounded f l (whole a) (whole b) None w p q e = absurd (false≢true p)
 numbers_bounded f l (whole a) (whole b) (Some v) None p q e = absurd (false≢true q)
-numbers_bounded f l (whole a) (whole b) (Some v) (Some w) p q e = fits (f a b) (v + w) (omega (arith, l a b, at_most (unsigned_abs a) v heaviest p, at_most (unsigned_abs b) w heaviest q)) e
+numbers_bounded f l (whole a) (whole b) (Some v) (Some w) p q e = fits (f a b) (v + w)
+    (omega (arith, l a b, at_most (unsigned_abs a) v heaviest p, at_most (unsigned_abs b) w heaviest q)) e
 
 first_factor : (a b : ℤ) (w : ℕ) → unsigned_abs b ≤ w → unsigned_abs (a *ℤ b) ≤ unsigned_abs a * w
-first_factor a b w h = let m : unsigned_abs a * unsigned_abs b ≤ unsigned_abs a * w = mul-le-mul_left (unsigned_abs a) h in omega (arith, unsigned_abs-mul a b, m)
+first_factor a b w h = let m : unsigned_abs a * unsigned_abs b ≤ unsigned_abs a * w = mul-le-mul_left (unsigned_abs a) h in omega
+    (arith, unsigned_abs-mul a b, m)
 
 second_factor : (a b : ℤ) (v : ℕ) → unsigned_abs a ≤ v → unsigned_abs (a *ℤ b) ≤ unsigned_abs b * v
 second_factor a b v h =
@@ -104,23 +107,30 @@ second_factor a b v h =
     omega (arith, unsigned_abs-mul a b, mul_comm (unsigned_abs a) (unsigned_abs b), m)
 
 product_bounded : (c : Bool) (x y : Value) (v w : Option ℕ) → is_bounded x v ≡ true → is_bounded y w ≡ true →
-    is_heavy (cut (operator_weight Mul c record { value = x; weight = v } record { value = y; weight = w })) ≡ false → is_bounded (on_numbers (λ a b. a *ℤ b) x y) (cut (operator_weight Mul c record { value = x; weight = v } record { value = y; weight = w })) ≡ true
+    is_heavy (cut (operator_weight Mul c record { value = x; weight = v } record { value = y; weight = w })) ≡ false → is_bounded
+    (on_numbers (λ a b. a *ℤ b) x y) (cut (operator_weight Mul c record { value = x; weight = v } record { value = y; weight = w })) ≡
+    true
 product_bounded c absent y v w p q e = refl
 product_bounded c (flag a) y v w p q e = refl
 product_bounded c (whole a) absent v w p q e = refl
 product_bounded c (whole a) (flag b) v w p q e = refl
 product_bounded c (whole a) (whole b) None w p q e = absurd (false≢true p)
 product_bounded c (whole a) (whole b) (Some v) None p q e = absurd (false≢true q)
-product_bounded true (whole a) (whole b) (Some v) (Some w) p q e = fits (a *ℤ b) (unsigned_abs a * w) (first_factor a b w (at_most (unsigned_abs b) w heaviest q)) e
-product_bounded false (whole a) (whole b) (Some v) (Some w) p q e = fits (a *ℤ b) (unsigned_abs b * v) (second_factor a b v (at_most (unsigned_abs a) v heaviest p)) e
+product_bounded true (whole a) (whole b) (Some v) (Some w) p q e = fits (a *ℤ b) (unsigned_abs a * w)
+    (first_factor a b w (at_most (unsigned_abs b) w heaviest q)) e
+product_bounded false (whole a) (whole b) (Some v) (Some w) p q e = fits (a *ℤ b) (unsigned_abs b * v)
+    (second_factor a b v (at_most (unsigned_abs a) v heaviest p)) e
 
-quotient_bounded : (x y : Value) (v : Option ℕ) → is_bounded x v ≡ true → is_heavy (cut (option_map (max 1) v)) ≡ false → is_bounded (apply_total Div x y) (cut (option_map (max 1) v)) ≡ true
+quotient_bounded : (x y : Value) (v : Option ℕ) → is_bounded x v ≡ true → is_heavy (cut (option_map (max 1) v)) ≡ false → is_bounded
+    (apply_total Div x y) (cut (option_map (max 1) v)) ≡ true
 quotient_bounded absent absent v p e = refl
 quotient_bounded absent (flag b) v p e = refl
-quotient_bounded absent (whole b) v p e = elim (int_eq b (pos 0)) as (λ z. is_bounded (cond z absent absent) (cut (option_map (max 1) v)) ≡ true) [ true ↦ refl | false ↦ refl ]
+quotient_bounded absent (whole b) v p e = elim (int_eq b (pos 0)) as
+    (λ z. is_bounded (cond z absent absent) (cut (option_map (max 1) v)) ≡ true) [ true ↦ refl | false ↦ refl ]
 quotient_bounded (flag a) absent v p e = refl
 quotient_bounded (flag a) (flag b) v p e = refl
-quotient_bounded (flag a) (whole b) v p e = elim (int_eq b (pos 0)) as (λ z. is_bounded (cond z absent absent) (cut (option_map (max 1) v)) ≡ true) [ true ↦ refl | false ↦ refl ]
+quotient_bounded (flag a) (whole b) v p e = elim (int_eq b (pos 0)) as
+    (λ z. is_bounded (cond z absent absent) (cut (option_map (max 1) v)) ≡ true) [ true ↦ refl | false ↦ refl ]
 quotient_bounded (whole a) absent v p e = refl
 quotient_bounded (whole a) (flag b) v p e = refl
 quotient_bounded (whole a) (whole b) None p e = absurd (false≢true p)
@@ -130,22 +140,26 @@ quotient_bounded (whole a) (whole b) (Some v) p e =
       | false ↦ fits (int_div_euclid a b) (max 1 v) (omega (arith, quotient_size a b, at_most (unsigned_abs a) v heaviest p)) e
     ]
 
-rest_if : (a b : ℤ) (z : Bool) → int_eq b (pos 0) ≡ z → is_heavy (cut (Some (unsigned_abs b))) ≡ false → is_bounded (cond z absent (whole (int_rem_euclid a b))) (cut (Some (unsigned_abs b))) ≡ true
+rest_if : (a b : ℤ) (z : Bool) → int_eq b (pos 0) ≡ z → is_heavy (cut (Some (unsigned_abs b))) ≡ false → is_bounded
+    (cond z absent (whole (int_rem_euclid a b))) (cut (Some (unsigned_abs b))) ≡ true
 rest_if a b true i e = refl
 rest_if a b false i e = fits (int_rem_euclid a b) (unsigned_abs b) (remainder_size a b i) e
 
 remainder_bounded : (x y : Value) → is_heavy (cut (size_of y)) ≡ false → is_bounded (apply_total Mod x y) (cut (size_of y)) ≡ true
 remainder_bounded absent absent e = refl
 remainder_bounded absent (flag b) e = refl
-remainder_bounded absent (whole b) e = elim (int_eq b (pos 0)) as (λ z. is_bounded (cond z absent absent) (cut (size_of (whole b))) ≡ true) [ true ↦ refl | false ↦ refl ]
+remainder_bounded absent (whole b) e = elim (int_eq b (pos 0)) as
+    (λ z. is_bounded (cond z absent absent) (cut (size_of (whole b))) ≡ true) [ true ↦ refl | false ↦ refl ]
 remainder_bounded (flag a) absent e = refl
 remainder_bounded (flag a) (flag b) e = refl
-remainder_bounded (flag a) (whole b) e = elim (int_eq b (pos 0)) as (λ z. is_bounded (cond z absent absent) (cut (size_of (whole b))) ≡ true) [ true ↦ refl | false ↦ refl ]
+remainder_bounded (flag a) (whole b) e = elim (int_eq b (pos 0)) as
+    (λ z. is_bounded (cond z absent absent) (cut (size_of (whole b))) ≡ true) [ true ↦ refl | false ↦ refl ]
 remainder_bounded (whole a) absent e = refl
 remainder_bounded (whole a) (flag b) e = refl
 remainder_bounded (whole a) (whole b) e = rest_if a b (int_eq b (pos 0)) refl e
 
-pub operator_bounded : (o : Operator) (c : Bool) (a b : Worth) → is_bounded a.value a.weight ≡ true → is_bounded b.value b.weight ≡ true → is_heavy (cut (operator_weight o c a b)) ≡ false →
+pub operator_bounded : (o : Operator) (c : Bool) (a b : Worth) → is_bounded a.value a.weight ≡ true → is_bounded b.value b.weight ≡ true
+    → is_heavy (cut (operator_weight o c a b)) ≡ false →
     is_bounded (apply_total o a.value b.value) (cut (operator_weight o c a b)) ≡ true
 operator_bounded Implies c a b p q e = flags_bounded (λ x y. not x || y) a.value b.value None
 operator_bounded Or c a b p q e = flags_bounded (λ x y. x || y) a.value b.value None

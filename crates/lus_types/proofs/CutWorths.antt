@@ -26,7 +26,8 @@ same_heavy : (v w : Option ℕ) → cut v ≡ cut w → is_heavy v ≡ is_heavy 
 same_heavy v w e = sym (heavy_of_cut v) ∙ ap is_heavy e ∙ heavy_of_cut w
 
 same_worth : (x : Value) (v w : Option ℕ) → cut v ≡ cut w → cut_worth (worth x v) ≡ cut_worth (worth x w)
-same_worth x v w e = ap (λ h. let z : Worth = record { value = cond h absent x; weight = cut v } in z) (same_heavy v w e) ∙ ap (λ c. let z : Worth = record { value = cond (is_heavy w) absent x; weight = c } in z) e
+same_worth x v w e = ap (λ h. let z : Worth = record { value = cond h absent x; weight = cut v } in z) (same_heavy v w e) ∙ ap
+    (λ c. let z : Worth = record { value = cond (is_heavy w) absent x; weight = c } in z) e
 
 sum_weight : (v w : Option ℕ) → cut (both_weights (λ v w. v + w) (cut v) (cut w)) ≡ cut (both_weights (λ v w. v + w) v w)
 sum_weight None w = refl
@@ -66,10 +67,12 @@ weight_of_cut Div c a b = one_weight a.weight
 weight_of_cut Mod c a b = refl
 
 pub operator_of_cut : (o : Operator) (c : Bool) (a b : Worth) → cut_worth (operator_worth o c (cut_worth a) (cut_worth b)) ≡ cut_worth (operator_worth o c a b)
-operator_of_cut o c a b = same_worth (apply_total o a.value b.value) (operator_weight o c (cut_worth a) (cut_worth b)) (operator_weight o c a b) (weight_of_cut o c a b)
+operator_of_cut o c a b = same_worth (apply_total o a.value b.value) (operator_weight o c (cut_worth a) (cut_worth b))
+    (operator_weight o c a b) (weight_of_cut o c a b)
 
 pub choice_of_cut : (a b d : Worth) → cut_worth (choice_worth (cut_worth a) (cut_worth b) (cut_worth d)) ≡ cut_worth (choice_worth a b d)
-choice_of_cut a b d = same_worth (choose_total a.value b.value d.value) (greater (cut b.weight) (cut d.weight)) (greater b.weight d.weight) (greater_weight b.weight d.weight)
+choice_of_cut a b d = same_worth (choose_total a.value b.value d.value) (greater (cut b.weight) (cut d.weight)) (greater b.weight d.weight)
+    (greater_weight b.weight d.weight)
 
 -- both sides of a stream that has two
 pub either_of_cut : (a b : Worth) → cut_worth (weighing (greater (cut_worth a).weight (cut_worth b).weight)) ≡ cut_worth (weighing (greater a.weight b.weight))

@@ -2,7 +2,7 @@
 use Rattle.std.proofs.Common.{◌≡◌, ◌≤◌, true, false, List, [], ◌∷◌, ◌++◌, map, flat_map, length, refl, ap, sym, ◌∙◌, arith, Option, Some, None}
 use Rattle.lus_tree.specs.declared.place.Pos.{Pos}
 use Rattle.lus_tree.specs.declared.place.Sort.{Sort}
-use Rattle.lus_tree.specs.declared.place.Word.{Word}
+use Rattle.lus_tree.specs.declared.place.PlacedName.{PlacedName}
 use Rattle.lus_tree.specs.View.{word_view}
 use Rattle.lus_tree.specs.Tree.{Spelled, Expression, truth, number, name, negation, minus, pre, arrow, binary, choice, sampled, merged, call, condact, mode_name, Component}
 use Rattle.lus_tree.specs.Reason.{Refused, arity_clash}
@@ -50,13 +50,18 @@ module _ (s : Scope) where
   names_used xs = flat_map (λ x. used s x.text x.at) xs
 
   -- the names, the right side, and what is between them
-  pub equation_chain : (xs : List Spelled) (e : Expression) (p : Part) (o o1 o2 q : Option Refused) → IsPart s e p → o1 ≡ noted_all o (names_used xs) → o2 ≡ noted_all o1 (whole_walk s true false e) → q ≡ noted_all o2 (sides_notes s xs e p.sort p.from) →
+  pub equation_chain : (xs : List Spelled) (e : Expression) (p : Part) (o o1 o2 q : Option Refused) → IsPart s e p → o1 ≡ noted_all o
+      (names_used xs) → o2 ≡ noted_all o1 (whole_walk s true false e) → q ≡ noted_all o2 (sides_notes s xs e p.sort p.from) →
       q ≡ noted_all o (names_used xs ++ (whole_walk s true false e ++ sides_fit s xs e))
   equation_chain xs e p o o1 o2 q i d g h =
-      h ∙ ap (λ z. noted_all o2 (sides_notes s xs e z p.from)) i.sort ∙ ap (λ z. noted_all o2 (sides_notes s xs e (type_of s e) z)) i.from ∙ ap (noted_all o2) (sides_are xs e) ∙ ap (λ z. noted_all z (sides_fit s xs e)) g
-      ∙ sym (noted_append o1 (whole_walk s true false e) (sides_fit s xs e)) ∙ ap (λ z. noted_all z (whole_walk s true false e ++ sides_fit s xs e)) d ∙ sym (noted_append o (names_used xs) (whole_walk s true false e ++ sides_fit s xs e))
+      h ∙ ap (λ z. noted_all o2 (sides_notes s xs e z p.from)) i.sort ∙ ap (λ z. noted_all o2 (sides_notes s xs e (type_of s e) z)) i.from
+      ∙ ap (noted_all o2) (sides_are xs e) ∙ ap (λ z. noted_all z (sides_fit s xs e)) g
+      ∙ sym (noted_append o1 (whole_walk s true false e) (sides_fit s xs e)) ∙ ap
+      (λ z. noted_all z (whole_walk s true false e ++ sides_fit s xs e)) d ∙ sym
+      (noted_append o (names_used xs) (whole_walk s true false e ++ sides_fit s xs e))
 
-  pub equation_same : (c : Clock) (xs : List Spelled) (e : Expression) → AreSame (names_used xs ++ (whole_walk s true false e ++ sides_fit s xs e)) (equation_faults s c xs e)
+  pub equation_same : (c : Clock) (xs : List Spelled) (e : Expression) → AreSame
+      (names_used xs ++ (whole_walk s true false e ++ sides_fit s xs e)) (equation_faults s c xs e)
   equation_same c xs e p =
       let i : Both (failing p (whole_walk s true false e)) (failing p (expression_faults s (as_side c) e)) = expression_noted p s (as_side c) e in
       let a = failing_append p (names_used xs) (whole_walk s true false e ++ sides_fit s xs e) in
@@ -66,7 +71,7 @@ module _ (s : Scope) where
       record { there = λ z. omega (arith, a, b, d, f, i.there); back = λ z. omega (arith, a, b, d, f, i.back) }
 
   -- several left names of one value
-  pub several : (xs : List Word) (q : Option Sort) (from : Pos) → 2 ≤ length xs → value_notes s (map word_view xs) q from ≡ fault arity_clash from ∷ []
+  pub several : (xs : List PlacedName) (q : Option Sort) (from : Pos) → 2 ≤ length xs → value_notes s (map word_view xs) q from ≡ fault arity_clash from ∷ []
   several [] q from h = absurd (omega arith)
   several (x ∷ []) q from h = absurd (omega arith)
   several (x ∷ y ∷ xs) q from h = refl

@@ -32,7 +32,8 @@ module _ (s : Scope) where
   product_noted : (at : Pos) (a b : Expression) (p q : Part) → IsPart s a p → IsPart s b q → operator_notes at Mul p q ≡ operator_own s at Mul a b
   product_noted at a b p q i j = rw (i.sort, i.from, i.constant, j.sort, j.from, j.constant) refl
 
-  pub operator_noted : (at : Pos) (o : Operator) (a b : Expression) (p q : Part) → IsPart s a p → IsPart s b q → operator_notes at o p q ≡ operator_own s at o a b
+  pub operator_noted : (at : Pos) (o : Operator) (a b : Expression) (p q : Part) → IsPart s a p → IsPart s b q
+      → operator_notes at o p q ≡ operator_own s at o a b
   operator_noted at Implies a b p q i j = both_noted Flags a b p q i j
   operator_noted at Or a b p q i j = both_noted Flags a b p q i j
   operator_noted at Xor a b p q i j = both_noted Flags a b p q i j

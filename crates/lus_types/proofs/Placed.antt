@@ -33,7 +33,8 @@ step_stands (Condact k a w xs ds) s = refl
 step_stands (ModeName c m) s = refl
 
 pub form_stands : (f : Form) (s : Place) → stands_at (form_view f s) ≡ s
-form_stands f s = rw (fold_out-Form (Place → Expression) Expression form_step expr_step f) (step_stands (map-Form Form Expr (Place → Expression) Expression form_view expr_view (out-Form f)) s)
+form_stands f s = rw (fold_out-Form (Place → Expression) Expression form_step expr_step f)
+    (step_stands (map-Form Form Expr (Place → Expression) Expression form_view expr_view (out-Form f)) s)
 
 expr_stands : (e : Expr) → stands_at (expr_view e) ≡ record { from = e.from; at = e.at }
 expr_stands e = rw (fold_out-Expr (Place → Expression) Expression form_step expr_step e) (form_stands e.form record { from = e.from; at = e.at })
@@ -57,7 +58,8 @@ of_name true true at = refl
 of_name true false at = refl
 of_name false c at = refl
 
-pub hindered : (s : Scope) (k : Bool) (e : Expression) → cond k (faults_at not_constant (hinders_constant s e)) [] ≡ if_so (k && hinders e (is_constant s e)) not_constant (own e)
+pub hindered : (s : Scope) (k : Bool) (e : Expression) → cond k (faults_at not_constant (hinders_constant s e)) [] ≡ if_so
+    (k && hinders e (is_constant s e)) not_constant (own e)
 hindered s k (truth p b) = no_name k (truth p b)
 hindered s k (number p n) = no_name k (number p n)
 hindered s k (name p x) = of_name k (is_constant_name s x) p.at
@@ -76,13 +78,17 @@ hindered s k (mode_name p c m) = some_form k p.at
 weighed : (s : Scope) (e : Expression) (p : Part) → IsPart s e p → if_so (is_integer p.sort && is_heavy p.worth.weight) heavy (begin e) ≡ weight_faults s e
 weighed s e p i = rw (i.sort, ap (λ (w : Worth). w.weight) i.worth, heavy_of_cut (weight_of s e)) refl
 
-always_at : (k : Bool) (from from' at at' : Pos) (h h' : Bool) (p : Part) → from ≡ from' → at ≡ at' → h ≡ h' → always_notes k from at h p ≡ always_notes k from' at' h' p
+always_at : (k : Bool) (from from' at at' : Pos) (h h' : Bool) (p : Part) → from ≡ from' → at ≡ at' → h ≡ h'
+    → always_notes k from at h p ≡ always_notes k from' at' h' p
 always_at k from from' at at' h h' p e f g = rw (e, f, g) refl
 
 always_is : (s : Scope) (k : Bool) (e : Expression) (p : Part) → IsPart s e p → always_notes k (begin e) (own e) (hinders e (is_constant s e)) p ≡ always s k e
-always_is s k e p i = ap (λ fs. fs ++ if_so (k && hinders e (is_constant s e)) not_constant (own e)) (weighed s e p i) ∙ ap (λ fs. weight_faults s e ++ fs) (sym (hindered s k e))
+always_is s k e p i = ap (λ fs. fs ++ if_so (k && hinders e (is_constant s e)) not_constant (own e)) (weighed s e p i) ∙ ap
+    (λ fs. weight_faults s e ++ fs) (sym (hindered s k e))
 
-pub always_noted : (s : Scope) (k : Bool) (e : Expr) (p : Part) → IsPart s (expr_view e) p → always_notes k e.from e.at (hinders (expr_view e) p.constant) p ≡ always s k (expr_view e)
+pub always_noted : (s : Scope) (k : Bool) (e : Expr) (p : Part) → IsPart s (expr_view e) p → always_notes k e.from e.at
+    (hinders (expr_view e) p.constant) p ≡ always s k (expr_view e)
 always_noted s k e p i =
-    always_at k e.from (begin (expr_view e)) e.at (own (expr_view e)) (hinders (expr_view e) p.constant) (hinders (expr_view e) (is_constant s (expr_view e))) p (sym (begin_of e)) (sym (own_of e)) (ap (hinders (expr_view e)) i.constant)
+    always_at k e.from (begin (expr_view e)) e.at (own (expr_view e)) (hinders (expr_view e) p.constant)
+    (hinders (expr_view e) (is_constant s (expr_view e))) p (sym (begin_of e)) (sym (own_of e)) (ap (hinders (expr_view e)) i.constant)
     ∙ always_is s k (expr_view e) p i

@@ -7,7 +7,7 @@ ghost use Rattle.lus_types.specs.Least.{least_view, noted_all};
 ghost use Rattle.lus_types.specs.Walk.{as_many, call_own, default_own, inputs_for, outputs_for};
 
 use crate::least::Least;
-use lus_tree::{Node, Param, Sort, What, Word};
+use lus_tree::{Node, Param, PlacedName, Sort, What};
 
 /// The streams that values go to, where there are as many.
 fn as_many(streams: &[Param], count: usize) -> &[Param]
@@ -52,7 +52,7 @@ pub(crate) fn call_sort(callee: Option<&Node>) -> Option<Sort>
 pub(crate) fn note_call(
     least: &mut Least,
     whole_side: bool,
-    word: &Word,
+    word: &PlacedName,
     count: usize,
     callee: Option<&Node>,
 )
@@ -70,7 +70,12 @@ pub(crate) fn note_call(
 }
 
 /// Notes a callee with another number of outputs than there are defaults.
-pub(crate) fn note_defaults(least: &mut Least, word: &Word, count: usize, callee: Option<&Node>)
+pub(crate) fn note_defaults(
+    least: &mut Least,
+    word: &PlacedName,
+    count: usize,
+    callee: Option<&Node>,
+)
     ensures { least_view least.new ≡ noted_all (least_view least.old)
         (default_own (word_view word.now) count (option_map (λ n. node_view n.now) callee.entry)) }
 {

@@ -20,11 +20,11 @@ use crate::lookup::{looked_up, node};
 use crate::notes::differ;
 use crate::part::{Manner, part};
 use crate::scope::Scope;
-use lus_tree::{Expr, Form, Node, Param, Pos, Sort, What, Word};
+use lus_tree::{Expr, Form, Node, Param, PlacedName, Pos, Sort, What};
 
 /// Notes the left names that are not known.
 #[tactic(auto, using(crate::proofs::Leasts::noted_append))]
-fn note_names(scope: &Scope<'_>, least: &mut Least, words: &[Word])
+fn note_names(scope: &Scope<'_>, least: &mut Least, words: &[PlacedName])
     ensures { least_view least.new ≡ noted_all (least_view least.old)
         (flat_map (λ x. used (scope_view scope.now) x.text x.at) (map word_view words.now)) }
 {
@@ -34,7 +34,7 @@ fn note_names(scope: &Scope<'_>, least: &mut Least, words: &[Word])
 }
 
 /// Notes a name that is not known.
-fn note_name(scope: &Scope<'_>, least: &mut Least, word: &Word)
+fn note_name(scope: &Scope<'_>, least: &mut Least, word: &PlacedName)
     ensures { least_view least.new ≡ noted_all (least_view least.old)
         (used (scope_view scope.now) (word_view word.now).text (word_view word.now).at) }
 {
@@ -43,14 +43,14 @@ fn note_name(scope: &Scope<'_>, least: &mut Least, word: &Word)
 }
 
 /// Whether a name is of another type than is needed.
-fn differs_from(scope: &Scope<'_>, word: &Word, sort: Option<Sort>) -> bool
+fn differs_from(scope: &Scope<'_>, word: &PlacedName, sort: Option<Sort>) -> bool
     ensures { result ≡ differs_from (scope_view scope.now) (word_view word.now) sort }
 {
     differ(looked_up(scope, &word.text).sort, sort)
 }
 
 /// Whether one of these names is of another type than the stream in its place.
-fn some_differ(scope: &Scope<'_>, words: &[Word], streams: &[Param]) -> bool
+fn some_differ(scope: &Scope<'_>, words: &[PlacedName], streams: &[Param]) -> bool
     ensures { result ≡ some_differ (scope_view scope.now) (map word_view words.now) (map param_view streams.now) }
 {
     match words {
@@ -68,9 +68,9 @@ fn some_differ(scope: &Scope<'_>, words: &[Word], streams: &[Param]) -> bool
 fn note_outputs(
     scope: &Scope<'_>,
     least: &mut Least,
-    words: &[Word],
+    words: &[PlacedName],
     from: Pos,
-    callee: &Word,
+    callee: &PlacedName,
     node: Option<&Node>,
 )
     ensures { least_view least.new ≡ noted_all (least_view least.old)
@@ -87,7 +87,7 @@ fn note_outputs(
 }
 
 /// Notes several left names of one value, or one of another type.
-fn note_value(scope: &Scope<'_>, least: &mut Least, words: &[Word], found: &Part)
+fn note_value(scope: &Scope<'_>, least: &mut Least, words: &[PlacedName], found: &Part)
     ensures { least_view least.new ≡ noted_all (least_view least.old)
         (value_notes (scope_view scope.now) (map word_view words.now) found.now.sort found.now.from) }
 {
@@ -103,7 +103,7 @@ fn note_value(scope: &Scope<'_>, least: &mut Least, words: &[Word], found: &Part
 
 /// Notes what is wrong between left names and their right side.
 #[tactic(auto, using(lus_tree::proofs::Views::form_views))]
-fn note_sides(scope: &Scope<'_>, least: &mut Least, words: &[Word], e: &Expr, found: &Part)
+fn note_sides(scope: &Scope<'_>, least: &mut Least, words: &[PlacedName], e: &Expr, found: &Part)
     ensures { least_view least.new ≡ noted_all (least_view least.old)
         (sides_notes (scope_view scope.now) (map word_view words.now) (expr_view e.now) found.now.sort found.now.from) }
 {
@@ -128,7 +128,7 @@ fn note_sides(scope: &Scope<'_>, least: &mut Least, words: &[Word], e: &Expr, fo
 }
 
 /// Notes the faults of an equation of these left names.
-pub(crate) fn equation(scope: &Scope<'_>, least: &mut Least, words: &[Word], e: &Expr)
+pub(crate) fn equation(scope: &Scope<'_>, least: &mut Least, words: &[PlacedName], e: &Expr)
     ensures { (fs : List Refused) (c : Clock) → IsLeast (least_view least.old) fs
         → IsLeast (least_view least.new) (fs ++ equation_faults (scope_view scope.now) c (map word_view words.now) (expr_view e.now)) }
 {

@@ -24,7 +24,7 @@ use crate::lookup::{is_mode, looked_up};
 use crate::notes::{agree, needs_sort, note_operator, used_as_clock};
 use crate::scope::Scope;
 use crate::worths::{chosen, either, minus, not, operated, weighing};
-use lus_tree::{Node, Operator, Pos, Sort, What, Word};
+use lus_tree::{Node, Operator, PlacedName, Pos, Sort, What};
 
 /// A name.
 pub(crate) fn name_part(scope: &Scope<'_>, least: &mut Least, from: Pos, at: Pos, x: &str) -> Part
@@ -129,7 +129,8 @@ pub(crate) fn operator_part(
 ) -> Part
     ensures part { IsMade from (Some (sort_of_operator operator)) (left.now.constant && right.now.constant)
         (cut_worth (operator_worth operator left.now.constant (worth_view left.now.worth) (worth_view right.now.worth))) result }
-    ensures least { least_view least.new ≡ noted_all (least_view least.old) (operator_notes at operator left.now right.now) }
+    ensures least { least_view least.new ≡ noted_all (least_view least.old)
+        (operator_notes at operator left.now right.now) }
 {
     note_operator(least, at, operator, left, right);
     Part {
@@ -151,7 +152,8 @@ pub(crate) fn choice_part(
 ) -> Part
     ensures part { IsMade from first.now.sort (condition.now.constant && (first.now.constant && second.now.constant))
         (cut_worth (choice_worth (worth_view condition.now.worth) (worth_view first.now.worth) (worth_view second.now.worth))) result }
-    ensures least { least_view least.new ≡ noted_all (least_view least.old) (sort_notes Flags condition.now ++ agree_notes first.now second.now) }
+    ensures least { least_view least.new ≡ noted_all (least_view least.old)
+        (sort_notes Flags condition.now ++ agree_notes first.now second.now) }
 {
     needs_sort(least, Sort::Bool, condition);
     agree(least, first, second);
@@ -169,10 +171,11 @@ pub(crate) fn sampled_part(
     least: &mut Least,
     from: Pos,
     operand: &Part,
-    clock: &Word,
+    clock: &PlacedName,
 ) -> Part
     ensures part { IsMade from operand.now.sort false (weighing (worth_view operand.now.worth).weight) result }
-    ensures least { least_view least.new ≡ noted_all (least_view least.old) (used_as_clock (scope_view scope.now) (word_view clock.now)) }
+    ensures least { least_view least.new ≡ noted_all (least_view least.old)
+        (used_as_clock (scope_view scope.now) (word_view clock.now)) }
 {
     used_as_clock(scope, least, clock);
     Part {
@@ -189,7 +192,7 @@ pub(crate) fn merged_part(
     scope: &Scope<'_>,
     least: &mut Least,
     from: Pos,
-    clock: &Word,
+    clock: &PlacedName,
     first: &Part,
     second: &Part,
 ) -> Part
@@ -213,7 +216,7 @@ pub(crate) fn call_part(
     least: &mut Least,
     whole_side: bool,
     from: Pos,
-    callee: &Word,
+    callee: &PlacedName,
     count: usize,
     node: Option<&Node>,
 ) -> Part
@@ -236,8 +239,8 @@ pub(crate) fn mode_part(
     scope: &Scope<'_>,
     least: &mut Least,
     from: Pos,
-    contract: &Option<Word>,
-    mode: &Word,
+    contract: &Option<PlacedName>,
+    mode: &PlacedName,
 ) -> Part
     ensures part { IsMade from (Some Flags) false (weighing None) result }
     ensures least { least_view least.new ≡ noted_all (least_view least.old)
@@ -258,7 +261,7 @@ pub(crate) fn condact_part(
     least: &mut Least,
     whole_side: bool,
     from: Pos,
-    callee: &Word,
+    callee: &PlacedName,
     arguments: usize,
     defaults: usize,
     node: Option<&Node>,

@@ -13,7 +13,7 @@ ghost use Rattle.lus_types.specs.Worth.{worth_view};
 use crate::scope::{Entry, Meaning, Scope};
 use crate::worth::Worth;
 use crate::worths::{of_constant, weighing};
-use lus_tree::{ContractItem, ContractNode, Decl, Node, Program, Sort, Word};
+use lus_tree::{ContractItem, ContractNode, Decl, Node, PlacedName, Program, Sort};
 
 /// What the rules ask of a name.
 #[derive(Clone, Copy)]
@@ -26,7 +26,7 @@ pub(crate) struct Known {
 }
 
 /// The word of a name.
-fn word<'a>(meaning: &Meaning<'a>) -> &'a Word
+fn word<'a>(meaning: &Meaning<'a>) -> &'a PlacedName
     ensures { word_view result.now ≡ (meaning_view meaning.now false).word }
 {
     match meaning {
@@ -176,7 +176,7 @@ fn is_imported_mode(scope: &Scope<'_>, contract_name: &str, mode: &str) -> bool
 }
 
 /// Whether a mode may be used.
-pub(crate) fn is_mode(scope: &Scope<'_>, contract: &Option<Word>, mode: &Word) -> bool
+pub(crate) fn is_mode(scope: &Scope<'_>, contract: &Option<PlacedName>, mode: &PlacedName) -> bool
     ensures { result ≡ mode_is_known (scope_view scope.now) (option_map word_view contract.now) (word_view mode.now) }
 {
     match contract {

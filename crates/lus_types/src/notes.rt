@@ -16,7 +16,7 @@ use crate::least::Least;
 use crate::lookup::looked_up;
 use crate::scope::Scope;
 use lus_meaning::Value;
-use lus_tree::{Operator, Pos, Sort, What, Word};
+use lus_tree::{Operator, PlacedName, Pos, Sort, What};
 
 /// Whether two types are there and differ.
 pub(crate) fn differ(first: Option<Sort>, second: Option<Sort>) -> bool
@@ -50,7 +50,7 @@ pub(crate) fn agree(least: &mut Least, first: &Part, second: &Part)
 
 /// Notes a name that is no clock: not known, a constant, or no stream of truth values.
 #[tactic(auto, using(crate::proofs::Leasts::noted_append))]
-pub(crate) fn used_as_clock(scope: &Scope<'_>, least: &mut Least, word: &Word)
+pub(crate) fn used_as_clock(scope: &Scope<'_>, least: &mut Least, word: &PlacedName)
     ensures { least_view least.new ≡ noted_all (least_view least.old)
         (used_as_clock (scope_view scope.now) (word_view word.now)) }
 {

@@ -25,7 +25,7 @@ use crate::notes::needs_sort;
 use crate::scope::Scope;
 use crate::weights::is_heavy;
 use crate::worths::{of_number, of_truth};
-use lus_tree::{Expr, Form, Node, Operator, Param, Pos, Sort, What, Word};
+use lus_tree::{Expr, Form, Node, Operator, Param, PlacedName, Pos, Sort, What};
 
 /// How an expression stands: whether it is the whole right side of an equation, and whether it is
 /// to be constant.
@@ -95,7 +95,8 @@ fn note_by(least: &mut Least, constant: bool, from: Pos, at: Pos, hinders: bool,
 #[tactic(auto, using(lus_tree::proofs::Views::form_views, crate::proofs::Placed::always_noted))]
 fn note_always(scope: &Scope<'_>, least: &mut Least, constant: bool, e: &Expr, part: &Part)
     requires { IsPart (scope_view scope.now) (expr_view e.now) part.now }
-    ensures { least_view least.new ≡ noted_all (least_view least.old) (always (scope_view scope.now) constant (expr_view e.now)) }
+    ensures { least_view least.new ≡ noted_all (least_view least.old)
+        (always (scope_view scope.now) constant (expr_view e.now)) }
 {
     let hinders = hinders(&e.form, part.constant);
     note_by(least, constant, e.from, e.at, hinders, part);

@@ -106,7 +106,8 @@ pub(crate) fn operated(operator: Operator, constant: bool, left: Worth, right: W
 
 /// What is known of `if`.
 pub(crate) fn chosen(condition: Worth, first: Worth, second: Worth) -> Worth
-    ensures { worth_view result ≡ cut_worth (choice_worth (worth_view condition) (worth_view first) (worth_view second)) }
+    ensures { worth_view result ≡ cut_worth (choice_worth (worth_view condition) (worth_view first)
+        (worth_view second)) }
 {
     of(
         choice(condition.value, first.value, second.value),

@@ -7,7 +7,7 @@ use Rattle.lus_meaning.specs.Value.{Value, flag}
 use Rattle.lus_meaning.specs.Frame.{Frame, frame, no_frames}
 use Rattle.lus_meaning.specs.Scene.{Instance}
 use Rattle.lus_meaning.specs.Program.{instance_of}
-use Rattle.lus_meaning.specs.Trace.{Line}
+use Rattle.lus_meaning.specs.Trace.{BareLine}
 use Rattle.meaning_rows.specs.RowParts.{here, called, flags, numbers, defines, checks, unlabelled, declares, natural, lists, lists_first}
 use Rattle.meaning_rows.specs.Written.{stream}
 
@@ -31,7 +31,7 @@ alternating = flag true ∷ flag false ∷ flag true ∷ []
 abbrev pub toggle_frame : Bool → Bool → Frame
 toggle_frame v w = frame ((codes "x", alternating) ∷ []) (flag v ∷ flag w ∷ []) no_frames
 
-abbrev pub toggle_lines : Bool → Bool → List Line
+abbrev pub toggle_lines : Bool → Bool → List BareLine
 toggle_lines v w = lists_first [] 1 (flag v) ∷ lists_first [] 2 (flag w) ∷ []
 
 -- ---- the same with `--%PROPERTY x;` in line 4
@@ -69,7 +69,7 @@ asserting = instance_of (declared_node asserting_node ∷ []) asserting_node
 abbrev pub asserting_frame : Frame
 asserting_frame = frame ((codes "a", natural 5 ∷ []) ∷ (codes "b", natural 5 ∷ []) ∷ []) [] no_frames
 
-abbrev pub asserting_lines : List Line
+abbrev pub asserting_lines : List BareLine
 asserting_lines = lists [] (codes "a") (natural 5 ∷ []) ∷ []
 
 -- ---- a free name
@@ -88,5 +88,5 @@ free_frame v w =
     frame ((stream "x" (flag v ∷ flag w ∷ [])) ∷ (stream "y" (flag (not v) ∷ flag (not w) ∷ [])) ∷ []) []
     no_frames
 
-abbrev pub free_lines : Bool → Bool → List Line
+abbrev pub free_lines : Bool → Bool → List BareLine
 free_lines v w = lists [] (codes "x") (flag v ∷ flag w ∷ []) ∷ []

@@ -6,7 +6,7 @@ use Rattle.lus_meaning.specs.Value.{absent, flag}
 use Rattle.lus_meaning.specs.Frame.{Frame, frame, no_frames}
 use Rattle.lus_meaning.specs.Scene.{Instance}
 use Rattle.lus_meaning.specs.Program.{instance_of}
-use Rattle.lus_meaning.specs.Trace.{Line}
+use Rattle.lus_meaning.specs.Trace.{BareLine}
 use Rattle.meaning_rows.specs.RowParts.{here, spelled, called, flags, numbers, numbers_when, defines, checks, declares, natural, lists, lists_first}
 use Rattle.meaning_rows.specs.Written.{framed, stream}
 
@@ -53,7 +53,7 @@ merging_frame =
     ∷ []) (natural 0 ∷ []) no_frames
     ∷ []))
 
-abbrev pub merging_lines : List Line
+abbrev pub merging_lines : List BareLine
 merging_lines = lists [] (codes "c") (flag true ∷ flag false ∷ flag true ∷ []) ∷ []
 
 -- ---- a call that runs while a condition is true
@@ -93,7 +93,7 @@ holding_frame =
     ∷ []) [] no_frames
     ∷ []))
 
-abbrev pub holding_lines : List Line
+abbrev pub holding_lines : List BareLine
 holding_lines =
     lists [] (codes "c") (flag false ∷ flag true ∷ flag false ∷ [])
     ∷ lists [] (codes "a") (natural 1 ∷ natural 3 ∷ natural 9 ∷ [])
@@ -128,7 +128,7 @@ slow_frame = frame
     (natural 9 ∷ [])
     no_frames
 
-abbrev pub slow_lines : List Line
+abbrev pub slow_lines : List BareLine
 slow_lines =
     lists [] (codes "c") (flag false ∷ flag true ∷ flag false ∷ flag true ∷ [])
     ∷ lists [] (codes "a") (natural 1 ∷ natural 2 ∷ natural 3 ∷ natural 4 ∷ [])

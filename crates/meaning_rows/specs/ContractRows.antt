@@ -6,7 +6,7 @@ use Rattle.lus_meaning.specs.Value.{Value, absent, flag, whole}
 use Rattle.lus_meaning.specs.Frame.{Frame, frame, no_frames}
 use Rattle.lus_meaning.specs.Scene.{Instance}
 use Rattle.lus_meaning.specs.Program.{instance_of}
-use Rattle.lus_meaning.specs.Trace.{Line}
+use Rattle.lus_meaning.specs.Trace.{BareLine}
 use Rattle.meaning_rows.specs.RowParts.{here, spelled, called, flags, numbers, defines, checks, labelled, unlabelled, declares, natural, lists, lists_first}
 use Rattle.meaning_rows.specs.Written.{framed, stream}
 
@@ -64,7 +64,7 @@ importing_frame =
     ∷ []) (natural 6 ∷ []) no_frames
     ∷ []))
 
-abbrev pub importing_lines : List Line
+abbrev pub importing_lines : List BareLine
 importing_lines =
     lists [] (codes "x") (natural 2 ∷ natural 0 ∷ natural 9 ∷ []) ∷ lists_first (1 ∷ []) 1 (natural 6) ∷ []
 
@@ -110,7 +110,7 @@ guarding_frame =
     ∷ []) [] no_frames
     ∷ []))
 
-abbrev pub guarding_lines : List Line
+abbrev pub guarding_lines : List BareLine
 guarding_lines =
     lists [] (codes "c") (flag false ∷ flag true ∷ flag true ∷ [])
     ∷ lists [] (codes "a") (minus_three ∷ minus_three ∷ natural 5 ∷ [])

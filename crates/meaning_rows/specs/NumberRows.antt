@@ -57,7 +57,8 @@ contract_and_body j k = declares (codes "main") (number_named "x" ∷ []) (numbe
 -- A default has to be constant, but its arrow is counted.
 abbrev pub default_and_body : ℕ → ℕ → Component
 default_and_body j k = declares (codes "main") (flag_named "c" ∷ number_named "x" ∷ []) (number_named "y" ∷ []) [] None
-    (sets "y" (combined Add (calling_while 1 (the "c") "next" (the "x" ∷ []) (followed j (literal 1) (literal 2) ∷ [])) (followed k (literal 3) (the "x"))) ∷ [])
+    (sets "y" (combined Add (calling_while 1 (the "c") "next" (the "x" ∷ []) (followed j (literal 1) (literal 2) ∷ []))
+    (followed k (literal 3) (the "x"))) ∷ [])
 
 -- node main(x : int) returns (y : int); const N = 1 -> 2; let y = 3 -> x; tel
 abbrev pub constant_and_body : ℕ → ℕ → Component

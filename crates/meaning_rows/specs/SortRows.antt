@@ -104,7 +104,8 @@ sorted_node = declares (codes "main") (flag_named "c" ∷ number_named "x" ∷ [
 
 abbrev pub sorted : Instance
 sorted = instance_of
-    (declared_constant (defined "K" (literal 3)) ∷ declared_constant (defined "T" (truth_of true)) ∷ declared_node next ∷ declared_node sign ∷ declared_node sorted_node ∷ [])
+    (declared_constant (defined "K" (literal 3)) ∷ declared_constant
+    (defined "T" (truth_of true)) ∷ declared_node next ∷ declared_node sign ∷ declared_node sorted_node ∷ [])
     sorted_node
 
 -- the types in the order of the checks, and at the end those of `pre x = 0` and of x

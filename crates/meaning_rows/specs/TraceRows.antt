@@ -8,7 +8,7 @@ use Rattle.lus_meaning.specs.Scene.{Instance}
 use Rattle.lus_meaning.specs.Program.{instance_of}
 use Rattle.lus_meaning.specs.Run.{IsRun}
 use Rattle.lus_meaning.specs.Verdict.{throughout}
-use Rattle.lus_meaning.specs.Trace.{Line, IsFrameOf}
+use Rattle.lus_meaning.specs.Trace.{BareLine, IsFrameOf}
 use Rattle.meaning_rows.specs.RowParts.{declares, natural, lists_first}
 use Rattle.meaning_rows.specs.Written.{the, literal, previous, followed, combined, when_true, calling, calling_while, flag_named, number_named, on, sets, sets_all, saying, importing, naturals, flags_of, stream, line, framed}
 
@@ -57,7 +57,7 @@ listing = instance_of listing_program listing_node
 -- f in 2          |     -    60     0      the frame is not active at 0, and at 2 the trace lists no value
 -- f in 3          |     -    80    90
 -- The first values are 7 in 1.1, 3 in 1.2, and 0 in 2 and in 3, where the trace lists none.
-abbrev pub lines_with : List Value → List Line
+abbrev pub lines_with : List Value → List BareLine
 lines_with xs =
     line [] "c" (flags_of (false ∷ true ∷ true ∷ []))
     ∷ line [] "x" xs
@@ -69,7 +69,7 @@ lines_with xs =
     ∷ line (3 ∷ []) "f" (naturals (70 ∷ 80 ∷ 90 ∷ []))
     ∷ []
 
-abbrev pub listing_lines : List Line
+abbrev pub listing_lines : List BareLine
 listing_lines = lines_with (naturals (1 ∷ 2 ∷ 3 ∷ []))
 
 -- g in 1, the first value in 1.1, f and the first value in 1.2, both in 2, and f in 3
@@ -126,7 +126,7 @@ abbrev pub listed_frame : Frame
 listed_frame = listing_frame g_values (natural 7) f_values (natural 3) k_values (natural 0) h_values
 
 -- the output of the import, and an argument of a call
-abbrev pub lines_of_no_matter : List Line
+abbrev pub lines_of_no_matter : List BareLine
 lines_of_no_matter =
     line (1 ∷ 1 ∷ []) "r" (naturals (9 ∷ 9 ∷ 9 ∷ []))
     ∷ line (2 ∷ []) "a" (naturals (9 ∷ 9 ∷ 9 ∷ []))

@@ -3,10 +3,10 @@ use Prim.Native.String.{String}
 use Rattle.std.specs.Prelude.{ℕ, Bool, true, false, List, [], ◌∷◌, map, Some, None, codes, pos, neg_ℤ}
 use Rattle.lus_tree.specs.declared.place.Sort.TheVariants.{Bool as Flags, Int as Numbers}
 use Rattle.lus_tree.specs.declared.expression.Operator.{Operator}
-use Rattle.lus_tree.specs.Tree.{Name, Expression, Expressions, truth, number, name, negation, minus, pre, arrow, binary, choice, sampled, merged, call, condact, mode_name, no_more, more, Variable, Constant, Labelled, Statement, equation, property, Clause, mode, «import», Component}
+use Rattle.lus_tree.specs.Tree.{Name, Expression, Expressions, truth, number, name, negation, minus, pre, arrow, binary, choice, sampled, merged, call, condact, mode_name, no_more, more, Variable, Constant, Labelled, Statement, equation, property, ContractStatement, mode, «import», Component}
 use Rattle.lus_meaning.specs.Value.{Value, flag, whole}
 use Rattle.lus_meaning.specs.Frame.{Frame, Frames, no_frames, with_frame}
-use Rattle.lus_meaning.specs.Trace.{Line}
+use Rattle.lus_meaning.specs.Trace.{BareLine}
 use Rattle.meaning_rows.specs.RowParts.{here, spelled, start, lists, natural}
 
 -- ---- expressions
@@ -104,11 +104,11 @@ saying x e = record { label = Some (codes x); at = start; value = e }
 abbrev pub checked : String → Expression → Statement
 checked x e = property (saying x e)
 
-abbrev pub mode_named : String → List Labelled → List Labelled → Clause
+abbrev pub mode_named : String → List Labelled → List Labelled → ContractStatement
 mode_named m rs es = mode (spelled (codes m)) rs es
 
 -- `import c(as) returns (xs);` with its number
-abbrev pub importing : ℕ → String → List Expression → List String → Clause
+abbrev pub importing : ℕ → String → List Expression → List String → ContractStatement
 importing k c as_ xs = «import» k (spelled (codes c)) as_ (map (λ x. spelled (codes x)) xs)
 
 -- ---- values
@@ -134,5 +134,5 @@ framed (f ∷ fs) = with_frame f (framed fs)
 -- ---- traces
 
 -- the values of a name, and a first value, in the frame at the end of this way of calls
-abbrev pub line : List ℕ → String → List Value → Line
+abbrev pub line : List ℕ → String → List Value → BareLine
 line path x vs = lists path (codes x) vs

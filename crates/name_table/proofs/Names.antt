@@ -71,7 +71,9 @@ module _ {K : Type 0} (text : K → List ℕ) where
     seen [] = refl
     seen (k ∷ ks) = rw (seen ks) refl
 
-    pub numbered : (ks : List K) (r : Option ℕ) → r ≡ position (λ k. bytes_eq x (text k)) ks → is_some r ≡ list_any (λ k. bytes_eq x (text k)) ks → MatchOption r (named_in x (map text ks) ≡ false) (λ i. (named_in x (map text ks) ≡ true) × (i ≡ number_of (map text ks) x))
+    pub numbered : (ks : List K) (r : Option ℕ) → r ≡ position (λ k. bytes_eq x (text k)) ks → is_some r ≡ list_any
+        (λ k. bytes_eq x (text k)) ks → MatchOption r (named_in x (map text ks) ≡ false)
+        (λ i. (named_in x (map text ks) ≡ true) × (i ≡ number_of (map text ks) x))
     numbered ks None e f = sym (f ∙ seen ks)
     numbered ks (Some i) e f = (sym (f ∙ seen ks), go (nat_lt (position_or_len test ks) (length ks)) e ∙ sym same)
       where
@@ -92,7 +94,8 @@ module _ {K : Type 0} (text : K → List ℕ) where
   pub inserted : (ks : List K) (k : K) → map text (insert_key (λ a b. bytes_eq (text a) (text b)) ks k) ≡ add (map text ks) (text k)
   inserted ks k = go (cases_Bool (named_in (text k) (map text ks)))
     where
-      go : (named_in (text k) (map text ks) ≡ true) ⊎ (named_in (text k) (map text ks) ≡ false) → map text (insert_key (λ a b. bytes_eq (text a) (text b)) ks k) ≡ add (map text ks) (text k)
+      go : (named_in (text k) (map text ks) ≡ true) ⊎ (named_in (text k) (map text ks) ≡ false) → map text
+          (insert_key (λ a b. bytes_eq (text a) (text b)) ks k) ≡ add (map text ks) (text k)
       go (inl t) = rw (seen (text k) ks, t) refl
       go (inr f) = rw (seen (text k) ks, f) (joined ks k)
 
@@ -115,7 +118,8 @@ module _ (ks : List Name) (names : List (Bor (List ℕ))) (i : ℕ) (x : Bor (Li
   pub repeated : (b : Bool) → b ≡ not (named_in this ks) → b ≡ false → AreDistinct (map (λ k. k.now) names) → ⊥
   repeated b n f d = not_distinct ks rest this ((new_is b (named_in this ks) n).1 f) (subst AreDistinct (sym all_names) d)
 
-  pub one_more : (b : Bool) → b ≡ not (named_in this ks) → b ≡ true → AreDistinct ks → (add ks this ++ map (λ k. k.now) (drop (i + 1) names) ≡ map (λ k. k.now) names) × AreDistinct (add ks this)
+  pub one_more : (b : Bool) → b ≡ not (named_in this ks) → b ≡ true → AreDistinct ks →
+      (add ks this ++ map (λ k. k.now) (drop (i + 1) names) ≡ map (λ k. k.now) names) × AreDistinct (add ks this)
   one_more b n t d =
       let f : named_in this ks ≡ false = (new_is b (named_in this ks) n).0 t in
       rw (f, add-one) (append_assoc ks (this ∷ []) rest ∙ all_names, distinct_one_more ks this d f)

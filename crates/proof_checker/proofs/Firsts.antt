@@ -84,11 +84,13 @@ module _ (shapes : List Shape) where
 
     right-step : (known : List (List Literal)) (n : ℕ) (m : Move) (ms : List Move) → move_fault shapes atoms known m ≡ None
         → first_fault shapes atoms known n (m ∷ ms) ≡ first_fault shapes atoms (known ++ added m ∷ []) (n + 1) ms
-    right-step known n m ms h = ap (λ o. elim o as (λ _. Option (ℕ × Rule)) [ None ↦ first_fault shapes atoms (known ++ added m ∷ []) (n + 1) ms | Some x ↦ Some (n, x) ]) h
+    right-step known n m ms h = ap (λ o. elim o as (λ _. Option (ℕ × Rule))
+        [ None ↦ first_fault shapes atoms (known ++ added m ∷ []) (n + 1) ms | Some x ↦ Some (n, x) ]) h
 
     fault-step : (known : List (List Literal)) (n : ℕ) (m : Move) (ms : List Move) (x : Rule) → move_fault shapes atoms known m ≡ Some x
         → first_fault shapes atoms known n (m ∷ ms) ≡ Some (n, x)
-    fault-step known n m ms x h = ap (λ o. elim o as (λ _. Option (ℕ × Rule)) [ None ↦ first_fault shapes atoms (known ++ added m ∷ []) (n + 1) ms | Some x ↦ Some (n, x) ]) h
+    fault-step known n m ms x h = ap (λ o. elim o as (λ _. Option (ℕ × Rule))
+        [ None ↦ first_fault shapes atoms (known ++ added m ∷ []) (n + 1) ms | Some x ↦ Some (n, x) ]) h
 
     by-fault : {P : Type 0} (o : Option Rule) → (o ≡ None → P) → ((x : Rule) → o ≡ Some x → P) → P
     by-fault None p q = p refl
@@ -141,7 +143,13 @@ module _ (shapes : List Shape) where
         let w : (n, x) ≡ p = cc in (
           0,
           ap (λ z. z.0) (sym w) ∙ omega arith,
-          record { step = m; is_step = refl; breaks = at-first known (m ∷ ms) m (Some p.1) (t ∙ ap (λ (z : ℕ × Rule). Some z.1) w); none_before = λ k y l g. absurd (omega arith) },
+          record {
+            step = m;
+            is_step = refl;
+            breaks = at-first known (m ∷ ms) m (Some p.1)
+                (t ∙ ap (λ (z : ℕ × Rule). Some z.1) w);
+            none_before = λ k y l g. absurd (omega arith);
+          },
         ))
 
     pub put-fault : (known : List (List Literal)) (n : ℕ) (ms : List Move) (k : ℕ) (rule : Rule) → IsFirstFault shapes atoms known ms k rule
@@ -149,7 +157,8 @@ module _ (shapes : List Shape) where
     put-fault known n [] k rule f = let e = f.is_step in absurd cc
     put-fault known n (m ∷ ms) zero rule f =
         let e = f.is_step in let q : m ≡ f.step = cc in
-        fault-step known n m ms rule (from-first known (m ∷ ms) m (Some rule) (subst (λ z. move_fault shapes atoms (known_at known (m ∷ ms) 0) z ≡ Some rule) (sym q) f.breaks))
+        fault-step known n m ms rule (from-first known (m ∷ ms) m (Some rule)
+        (subst (λ z. move_fault shapes atoms (known_at known (m ∷ ms) 0) z ≡ Some rule) (sym q) f.breaks))
         ∙ ap (λ z. Some (z, rule)) (omega arith)
     put-fault known n (m ∷ ms) (suc k) rule f =
         right-step known n m ms (from-first known (m ∷ ms) m None (f.none_before 0 m (omega arith) refl))
@@ -181,7 +190,8 @@ module _ (shapes : List Shape) (atoms : List Inequality) (clauses : List (List L
   as-atom : (n : ℕ) → first_misfit shapes 0 more ≡ Some n → verdict shapes atoms clauses more moves ≡ broken n r.Atom
   as-atom n e = ap (of_atoms (of_steps (concludes moves) (first_fault shapes (atoms ++ more) clauses 0 moves))) e
 
-  as-steps : first_misfit shapes 0 more ≡ None → verdict shapes atoms clauses more moves ≡ of_steps (concludes moves) (first_fault shapes (atoms ++ more) clauses 0 moves)
+  as-steps : first_misfit shapes 0 more ≡ None → verdict shapes atoms clauses more moves ≡ of_steps (concludes moves)
+      (first_fault shapes (atoms ++ more) clauses 0 moves)
   as-steps e = ap (of_atoms (of_steps (concludes moves) (first_fault shapes (atoms ++ more) clauses 0 moves))) e
 
   steps-broken : (b : Bool) (n : ℕ) (rule : Rule) → of_steps b (Some (n, rule)) ≡ broken n rule

@@ -101,7 +101,11 @@ module _ (set : List Literal) where
   from-one l x [] e = record { is = cc; rest = λ m h g. absurd cc }
   from-one l x (y ∷ ls) e = either (has set y)
       (λ h. let r = from-one l x ls (sym (inside-step (One l) y ls h) ∙ e) in
-      record { is = r.is; rest = λ m g f. has-cases y m ls g (λ q. let t : has set m ≡ true = subst (λ z. has set z ≡ true) q h in absurd cc) (λ g2. r.rest m g2 f) })
+      record {
+        is = r.is;
+        rest = λ m g f. has-cases y m ls g (λ q. let t : has set m ≡ true = subst (λ z. has set z ≡ true) q h
+            in absurd cc) (λ g2. r.rest m g2 f);
+      })
       (λ h. either (same l y)
       (λ s. let r = from-one l x ls (sym (outside-step (One l) y ls h ∙ same-step l y ls s) ∙ e) in
       record { is = r.is; rest = λ m g f. has-cases y m ls g (λ q. sym (same-is l y s ∙ q)) (λ g2. r.rest m g2 f) })

@@ -22,7 +22,8 @@ get-set [] n v x h = absurd (omega arith)
 get-set (s ∷ ss) zero v zero h = refl
 get-set (s ∷ ss) zero v (suc x) h = subst (λ b. get_or ss x 0 ≡ cond b v (get_or ss x 0)) (sym (zero-is-suc x)) refl
 get-set (s ∷ ss) (suc n) v zero h = subst (λ b. s ≡ cond b v s) (sym (suc-is-zero n)) refl
-get-set (s ∷ ss) (suc n) v (suc x) h = subst (λ b. get_or (slice_set ss n v) x 0 ≡ cond b v (get_or ss x 0)) (sym (suc-is-suc n x)) (get-set ss n v x (omega arith))
+get-set (s ∷ ss) (suc n) v (suc x) h = subst (λ b. get_or (slice_set ss n v) x 0 ≡ cond b v (get_or ss x 0)) (sym (suc-is-suc n x))
+    (get-set ss n v x (omega arith))
 
 none-before : (y x : ℕ) (rest : List (ℕ × ℤ)) (q : ℤ) → slot ((y, q) ∷ rest) x ≡ 0 → ((y == x) ≡ false) × (slot rest x ≡ 0)
 none-before y x rest q h = go (y == x) (slot rest x) h where
@@ -75,15 +76,19 @@ differ y n x h g = let e : n ≡ x = number-is n x g in subst (λ z. (y == z) �
 slot-plus : (ts : List (ℕ × ℤ)) (n : ℕ) (p : ℤ) (x : ℕ) → slot (plus ts n p) x ≡ cond (n == x) (suc (place ts n)) (slot ts x)
 slot-plus [] n p x = refl
 slot-plus ((y, q) ∷ rest) n p x = either (y == n)
-    (λ h. subst (λ b. slot (cond b ((y, q +ℤ p) ∷ rest) ((y, q) ∷ plus rest n p)) x ≡ cond (n == x) (suc (cond b 0 (suc (place rest n)))) (slot ((y, q) ∷ rest) x)) (sym h)
+    (λ h. subst (λ b. slot (cond b ((y, q +ℤ p) ∷ rest) ((y, q) ∷ plus rest n p)) x ≡ cond (n == x) (suc (cond b 0 (suc (place rest n))))
+    (slot ((y, q) ∷ rest) x)) (sym h)
     (let e : y ≡ n = number-is y n h in
     subst (λ z. cond (y == x) 1 (later (slot rest x)) ≡ cond (z == x) 1 (cond (y == x) 1 (later (slot rest x)))) e (same (y == x) (later (slot rest x)))))
-    (λ h. subst (λ b. slot (cond b ((y, q +ℤ p) ∷ rest) ((y, q) ∷ plus rest n p)) x ≡ cond (n == x) (suc (cond b 0 (suc (place rest n)))) (slot ((y, q) ∷ rest) x)) (sym h)
+    (λ h. subst (λ b. slot (cond b ((y, q +ℤ p) ∷ rest) ((y, q) ∷ plus rest n p)) x ≡ cond (n == x) (suc (cond b 0 (suc (place rest n))))
+    (slot ((y, q) ∷ rest) x)) (sym h)
     (ap (λ s. cond (y == x) 1 (later s)) (slot-plus rest n p x)
     ∙ either (n == x)
-    (λ g. subst (λ b. cond (y == x) 1 (later (cond b (suc (place rest n)) (slot rest x))) ≡ cond b (suc (suc (place rest n))) (cond (y == x) 1 (later (slot rest x)))) (sym g)
+    (λ g. subst (λ b. cond (y == x) 1 (later (cond b (suc (place rest n)) (slot rest x))) ≡ cond b (suc (suc (place rest n)))
+    (cond (y == x) 1 (later (slot rest x)))) (sym g)
     (ap (λ b. cond b 1 (suc (suc (place rest n)))) (differ y n x h g)))
-    (λ g. subst (λ b. cond (y == x) 1 (later (cond b (suc (place rest n)) (slot rest x))) ≡ cond b (suc (suc (place rest n))) (cond (y == x) 1 (later (slot rest x)))) (sym g) refl)))
+    (λ g. subst (λ b. cond (y == x) 1 (later (cond b (suc (place rest n)) (slot rest x))) ≡ cond b (suc (suc (place rest n)))
+    (cond (y == x) 1 (later (slot rest x)))) (sym g) refl)))
   where
     same : (b : Bool) (s : ℕ) → cond b 1 s ≡ cond b 1 (cond b 1 s)
     same true s = refl

@@ -17,13 +17,15 @@ ghost use Rattle.proof_checker.specs.Check.{verdict, refuted, broken, unfinished
 /// What the checker finds outside a set of literals: that exactly one literal of the clause is
 /// outside, and that none is.
 pub fn what_is_outside()
-    ensures one { (set clause : List SignedLiteral) (l : SignedLiteral) → (outside set clause ≡ One l) ↔ IsOnlyOutside set clause l }
+    ensures one { (set clause : List SignedLiteral) (l : SignedLiteral) →
+        (outside set clause ≡ One l) ↔ IsOnlyOutside set clause l }
     ensures nothing { (set clause : List SignedLiteral) → (outside set clause ≡ Nothing) ↔ All (Contains set) clause }
 {}
 
 /// The test of hints is the rule: each but the last has exactly one literal outside.
 pub fn hints_that_are_met()
-    ensures { (known : List (List SignedLiteral)) (set : List SignedLiteral) (hints : List ℕ) → (meets known set hints ≡ true) ↔ AreMet known set hints }
+    ensures { (known : List (List SignedLiteral)) (set : List SignedLiteral) (hints : List ℕ) →
+        (meets known set hints ≡ true) ↔ AreMet known set hints }
 {}
 
 /// A line is the sum of its parts' inequalities, each times its multiplier: the divisor times the
@@ -39,24 +41,37 @@ pub fn lines_are_combinations()
 /// the first of its rules in their order; where none breaks one it says whether some step gives
 /// the empty clause.
 pub fn what_verdicts_say()
-    ensures broken { (shapes : List ShapeOf) (atoms : List Inequality) (clauses : List (List SignedLiteral)) (more : List Inequality) (moves : List Move) (n : ℕ) (rule : RuleName) → (verdict shapes atoms clauses more moves ≡ broken n rule) ↔ IsFirst shapes atoms clauses more moves n rule }
-    ensures refuted { (shapes : List ShapeOf) (atoms : List Inequality) (clauses : List (List SignedLiteral)) (more : List Inequality) (moves : List Move) → (verdict shapes atoms clauses more moves ≡ refuted) ↔ (IsRight shapes atoms clauses more moves × Contains (map added moves) []) }
-    ensures unfinished { (shapes : List ShapeOf) (atoms : List Inequality) (clauses : List (List SignedLiteral)) (more : List Inequality) (moves : List Move) → (verdict shapes atoms clauses more moves ≡ unfinished) ↔ (IsRight shapes atoms clauses more moves × (¬ Contains (map added moves) [])) }
+    ensures broken { (shapes : List ShapeOf) (atoms : List Inequality) (clauses : List (List SignedLiteral))
+        (more : List Inequality) (moves : List Move) (n : ℕ) (rule : RuleName) →
+        (verdict shapes atoms clauses more moves ≡ broken n rule) ↔ IsFirst shapes atoms clauses more moves n
+        rule }
+    ensures refuted { (shapes : List ShapeOf) (atoms : List Inequality) (clauses : List (List SignedLiteral))
+        (more : List Inequality) (moves : List Move) → (verdict shapes atoms clauses more moves ≡ refuted) ↔
+        (IsRight shapes atoms clauses more moves × Contains (map added moves) []) }
+    ensures unfinished { (shapes : List ShapeOf) (atoms : List Inequality) (clauses : List (List SignedLiteral))
+        (more : List Inequality) (moves : List Move) → (verdict shapes atoms clauses more moves ≡ unfinished) ↔
+        (IsRight shapes atoms clauses more moves × (¬ Contains (map added moves) [])) }
 {}
 
 /// Where the hints of a derived step are met, its clause is true under all values that make the
 /// clauses before it true.
 pub fn derived_steps_follow()
-    ensures { (atoms : List Inequality) (known : List (List SignedLiteral)) (clause : List SignedLiteral) (hints : List ℕ) (v : Values) → AreMet known clause hints → Solves atoms v known → clause_true atoms v clause ≡ true }
+    ensures { (atoms : List Inequality) (known : List (List SignedLiteral)) (clause : List SignedLiteral)
+        (hints : List ℕ) (v : Values) → AreMet known clause hints → Solves atoms v known
+        → clause_true atoms v clause ≡ true }
 {}
 
 /// The clause of a theory step that breaks no rule is true under all values whatsoever.
 pub fn theory_steps_hold()
-    ensures { (shapes : List ShapeOf) (atoms : List Inequality) (known : List (List SignedLiteral)) (clause : List SignedLiteral) (lines : List Sum) (v : Values) → move_fault shapes atoms known (theory clause lines) ≡ None → clause_true atoms v clause ≡ true }
+    ensures { (shapes : List ShapeOf) (atoms : List Inequality) (known : List (List SignedLiteral))
+        (clause : List SignedLiteral) (lines : List Sum) (v : Values) → move_fault shapes atoms known
+        (theory clause lines) ≡ None → clause_true atoms v clause ≡ true }
 {}
 
 /// Where no atom and no step of a proof breaks a rule and some step gives the empty clause, no
 /// values satisfy the clauses.
 pub fn refutations_leave_no_values()
-    ensures { (shapes : List ShapeOf) (atoms : List Inequality) (clauses : List (List SignedLiteral)) (more : List Inequality) (moves : List Move) → IsRight shapes atoms clauses more moves → Contains (map added moves) [] → HaveNoSolution atoms clauses }
+    ensures { (shapes : List ShapeOf) (atoms : List Inequality) (clauses : List (List SignedLiteral))
+        (more : List Inequality) (moves : List Move) → IsRight shapes atoms clauses more moves → Contains
+        (map added moves) [] → HaveNoSolution atoms clauses }
 {}

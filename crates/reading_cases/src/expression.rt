@@ -1,7 +1,7 @@
 //! Expressions, as text.
 
 use crate::words::{show_place, show_word};
-use lus_tree::{Expr, Form, Operator, Word};
+use lus_tree::{Expr, Form, Operator, PlacedName};
 use std::alloc::AllocError;
 
 /// An expression in parentheses, with the numbers of its occurrences behind `#`, and with `places`
@@ -71,8 +71,8 @@ fn show_leaf(out: &mut String, form: &Form, places: bool) -> Result<(), AllocErr
 
 fn show_mode_name(
     out: &mut String,
-    contract: &Option<Word>,
-    mode: &Word,
+    contract: &Option<PlacedName>,
+    mode: &PlacedName,
     places: bool,
 ) -> Result<(), AllocError> {
     if let Some(contract) = contract {

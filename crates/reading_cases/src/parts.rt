@@ -12,7 +12,7 @@ use lus_reader::{
     Counts, groups, label, local_group, names, parameters, read_body, read_constant, read_expr,
     read_left,
 };
-use lus_tree::{Param, Refusal, Word};
+use lus_tree::{Param, PlacedName, Refusal};
 use std::alloc::{AllocError, Global};
 
 /// No occurrence yet.
@@ -153,7 +153,7 @@ fn show_streams(
 /// The names, and the token behind them; or the refusal.
 fn show_names(
     alloc: Global,
-    read: Result<(Vec<Word>, u32), Refusal>,
+    read: Result<(Vec<PlacedName>, u32), Refusal>,
 ) -> Result<String, AllocError> {
     match read {
         Ok((words, next)) => {

@@ -7,7 +7,9 @@ use crate::words::{
     show_mark, show_param, show_params, show_refusal, show_sort, show_word, show_words,
 };
 use contract_reader::read_program;
-use lus_tree::{ContractItem, Decl, Definition, Expr, Item, Named, Node, Param, Program, Word};
+use lus_tree::{
+    ContractItem, Decl, Definition, Expr, Item, Named, Node, Param, PlacedName, Program,
+};
 use std::alloc::{AllocError, Global};
 
 /// The tree of a copy of the program, or the refusal.
@@ -71,7 +73,7 @@ fn show_decl(out: &mut String, decl: &Decl, places: bool) -> Result<(), AllocErr
 
 fn show_head(
     out: &mut String,
-    name: &Word,
+    name: &PlacedName,
     inputs: &[Param],
     outputs: &[Param],
     places: bool,

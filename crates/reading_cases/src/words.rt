@@ -1,6 +1,6 @@
 //! Places, names, declared streams and refusals, as text.
 
-use lus_tree::{Param, Pos, Refusal, Sort, Word};
+use lus_tree::{Param, PlacedName, Pos, Refusal, Sort};
 use std::alloc::{AllocError, Global};
 
 /// `LINE:COLUMN`.
@@ -25,13 +25,13 @@ pub fn show_refusal(alloc: Global, refusal: &Refusal) -> Result<String, AllocErr
 }
 
 /// A name, with its place if places are wanted.
-pub fn show_word(out: &mut String, word: &Word, places: bool) -> Result<(), AllocError> {
+pub fn show_word(out: &mut String, word: &PlacedName, places: bool) -> Result<(), AllocError> {
     out.push_str(word.text.as_str())?;
     show_mark(out, word.at, places)
 }
 
 /// Names with commas between them.
-pub fn show_words(out: &mut String, words: &[Word], places: bool) -> Result<(), AllocError> {
+pub fn show_words(out: &mut String, words: &[PlacedName], places: bool) -> Result<(), AllocError> {
     let mut first = true;
     for word in words {
         if !first {

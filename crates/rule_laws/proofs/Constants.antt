@@ -45,7 +45,9 @@ pub found_more : (x : Name) (v : Value) (cs ds : Values) → lookup (bytes_eq x)
 found_more x v [] ds e = not_none v e
 found_more x v (c ∷ cs) ds e = go (bytes_eq x c.0) e (found_more x v cs ds)
   where
-    go : (b : Bool) → cond b (Some c.1) (lookup (bytes_eq x) cs) ≡ Some v → (lookup (bytes_eq x) cs ≡ Some v → lookup (bytes_eq x) (cs ++ ds) ≡ Some v) → cond b (Some c.1) (lookup (bytes_eq x) (cs ++ ds)) ≡ Some v
+    go : (b : Bool) → cond b (Some c.1) (lookup (bytes_eq x) cs) ≡ Some v →
+        (lookup (bytes_eq x) cs ≡ Some v → lookup (bytes_eq x) (cs ++ ds) ≡ Some v) → cond b (Some c.1)
+        (lookup (bytes_eq x) (cs ++ ds)) ≡ Some v
     go true h r = h
     go false h r = r h
 
@@ -53,7 +55,9 @@ found_last : (x : Name) (v : Value) (cs : Values) → named_in x (value_names cs
 found_last x v [] e = ap (λ b. cond b (Some v) None) (self_bytes x)
 found_last x v (c ∷ cs) e = go (bytes_eq x c.0) e (found_last x v cs)
   where
-    go : (b : Bool) → (b || named_in x (value_names cs)) ≡ false → (named_in x (value_names cs) ≡ false → lookup (bytes_eq x) (cs ++ (x, v) ∷ []) ≡ Some v) → cond b (Some c.1) (lookup (bytes_eq x) (cs ++ (x, v) ∷ [])) ≡ Some v
+    go : (b : Bool) → (b || named_in x (value_names cs)) ≡ false →
+        (named_in x (value_names cs) ≡ false → lookup (bytes_eq x) (cs ++ (x, v) ∷ []) ≡ Some v) → cond b (Some c.1)
+        (lookup (bytes_eq x) (cs ++ (x, v) ∷ [])) ≡ Some v
     go true h r = absurd (false≢true (sym h))
     go false h r = r h
 
@@ -115,9 +119,11 @@ not_known false e h = false≢true h
 unseen : (x : Name) (outer rest : List Entry) → Seen (find (is_word x) (first_constants 0 rest ++ outer)) (find (is_word x) outer)
 unseen x outer [] = λ k f. record { fixed = f; sort = refl; value = refl }
 unseen x outer (e ∷ rest) = go (bytes_eq x e.word.text)
-    (subst (λ j. Seen (find (is_word x) (first_constants j rest ++ outer)) (find (is_word x) outer)) (sym (no_left (is_constant_role e.role))) (unseen x outer rest))
+    (subst (λ j. Seen (find (is_word x) (first_constants j rest ++ outer)) (find (is_word x) outer))
+    (sym (no_left (is_constant_role e.role))) (unseen x outer rest))
   where
-    go : (c : Bool) → Seen (find (is_word x) (first_constants (left_after 0 e) rest ++ outer)) (find (is_word x) outer) → Seen (cond c (Some (known_after 0 e)) (find (is_word x) (first_constants (left_after 0 e) rest ++ outer))) (find (is_word x) outer)
+    go : (c : Bool) → Seen (find (is_word x) (first_constants (left_after 0 e) rest ++ outer)) (find (is_word x) outer) → Seen
+        (cond c (Some (known_after 0 e)) (find (is_word x) (first_constants (left_after 0 e) rest ++ outer))) (find (is_word x) outer)
     go true r = λ k f. absurd (not_known (is_constant_role e.role) k f)
     go false r = r
 
@@ -126,19 +132,24 @@ left_count true j c e = ap pred e
 left_count false j c e = e
 
 -- where as many constants are known as stand among the first entries, those are known
-sees : (x : Name) (outer done rest : List Entry) (j : ℕ) → j ≡ fixed_count done → Seen (find (is_word x) (first_constants j (done ++ rest) ++ outer)) (find (is_word x) (done ++ outer))
+sees : (x : Name) (outer done rest : List Entry) (j : ℕ) → j ≡ fixed_count done → Seen
+    (find (is_word x) (first_constants j (done ++ rest) ++ outer)) (find (is_word x) (done ++ outer))
 sees x outer [] rest j e = subst (λ k. Seen (find (is_word x) (first_constants k rest ++ outer)) (find (is_word x) outer)) (sym e) (unseen x outer rest)
-sees x outer (d ∷ done) rest j e = go (bytes_eq x d.word.text) (sees x outer done rest (left_after j d) (left_count (is_constant_role d.role) j (fixed_count done) e))
+sees x outer (d ∷ done) rest j e = go (bytes_eq x d.word.text) (sees x outer done rest (left_after j d)
+    (left_count (is_constant_role d.role) j (fixed_count done) e))
   where
     go : (c : Bool) → Seen (find (is_word x) (first_constants (left_after j d) (done ++ rest) ++ outer)) (find (is_word x) (done ++ outer)) →
-        Seen (cond c (Some (known_after j d)) (find (is_word x) (first_constants (left_after j d) (done ++ rest) ++ outer))) (cond c (Some d) (find (is_word x) (done ++ outer)))
+        Seen (cond c (Some (known_after j d)) (find (is_word x) (first_constants (left_after j d) (done ++ rest) ++ outer)))
+        (cond c (Some d) (find (is_word x) (done ++ outer)))
     go true r = λ k f. record { fixed = f; sort = refl; value = refl }
     go false r = r
 
 -- a scope that shows at most the first so many constants of a table, behind which other entries stand
 abbrev pub Sees : Scope → List Entry → List Entry → ℕ → Type 0
 Sees sc table outer j =
-    (x : Name) → is_known sc x ≡ true → is_constant_name sc x ≡ true → (known_in (find (is_word x) (first_constants j table ++ outer)) ≡ true) × AlsoAs (entry_of sc x) (find (is_word x) (first_constants j table ++ outer))
+    (x : Name) → is_known sc x ≡ true → is_constant_name sc x ≡ true →
+    (known_in (find (is_word x) (first_constants j table ++ outer)) ≡ true) × AlsoAs (entry_of sc x)
+    (find (is_word x) (first_constants j table ++ outer))
 
 also : (a b c : Option Entry) → AlsoAs a b → AlsoAs b c → AlsoAs a c
 also a b c h g = record { fixed = g.fixed; sort = h.sort ∙ g.sort; value = h.value ∙ g.value }
@@ -156,18 +167,21 @@ found : (P : Entry → Type 0) (x : Name) (es : List Entry) → AllByRecursion P
 found P x [] a f = absurd (false≢true f)
 found P x (e ∷ es) a f = go (bytes_eq x e.word.text) refl f (found P x es a.1)
   where
-    go : (c : Bool) → bytes_eq x e.word.text ≡ c → fixed_in (cond c (Some e) (find (is_word x) es)) ≡ true → (fixed_in (find (is_word x) es) ≡ true → Found P x es) → Found P x (e ∷ es)
+    go : (c : Bool) → bytes_eq x e.word.text ≡ c → fixed_in (cond c (Some e) (find (is_word x) es)) ≡ true →
+        (fixed_in (find (is_word x) es) ≡ true → Found P x es) → Found P x (e ∷ es)
     go true m h r = record { entry = e; is = ap (λ b. cond b (Some e) (find (is_word x) es)) m; word = same_bytes x e.word.text m; role = h; holds = a.0 }
     go false m h r =
         let q : Found P x es = r h in
         record { entry = q.entry; is = ap (λ b. cond b (Some e) (find (is_word x) es)) m ∙ q.is; word = q.word; role = q.role; holds = q.holds }
 
-name_worth : (p : Program) (sc : Scope) (cs : Values) (es : List Entry) (x : Name) → AllByRecursion (Good cs) es → AlsoAs (entry_of sc x) (find (is_word x) es) → NameWorth sc (names_only p es) cs x
+name_worth : (p : Program) (sc : Scope) (cs : Values) (es : List Entry) (x : Name) → AllByRecursion (Good cs) es → AlsoAs (entry_of sc x)
+    (find (is_word x) es) → NameWorth sc (names_only p es) cs x
 name_worth p sc cs es x a h =
     let q : Found (Good cs) x es = found (Good cs) x es a h.fixed in
     let f : IsFixed cs q.entry = q.holds q.role in
     let there : option_and_then (λ e. e.sort) (find (is_word x) es) ≡ Some f.sort = ap (option_and_then (λ e. e.sort)) q.is ∙ f.is_sort in
-    let value : unwrap_or (option_map (λ e. e.value) (find (is_word x) es)) absent ≡ q.entry.value = ap (λ o. unwrap_or (option_map (λ e. e.value) o) absent) q.is in
+    let value : unwrap_or (option_map (λ e. e.value) (find (is_word x) es)) absent ≡ q.entry.value = ap
+    (λ o. unwrap_or (option_map (λ e. e.value) o) absent) q.is in
     record {
       sort = f.sort;
       value = q.entry.value;
@@ -190,21 +204,30 @@ nothing_mapped : {A B : Type 0} (f : A → B) (xs : List A) → map f xs ≡ [] 
 nothing_mapped f [] e = refl
 nothing_mapped f (x ∷ xs) e = not_nil (f x) (map f xs) e
 
-defined : (p : Program) (sc : Scope) (cs : Values) (es : List Entry) (c : Constant) → ((x : Name) → is_known sc x ≡ true → is_constant_name sc x ≡ true → NameWorth sc (names_only p es) cs x) → definition_faults sc c.sort c.value ≡ [] → named_in c.name.text (value_names cs) ≡ false →
+defined : (p : Program) (sc : Scope) (cs : Values) (es : List Entry) (c : Constant) →
+    ((x : Name) → is_known sc x ≡ true → is_constant_name sc x ≡ true → NameWorth sc (names_only p es) cs x)
+    → definition_faults sc c.sort c.value ≡ [] → named_in c.name.text (value_names cs) ≡ false →
     IsFixed (cs ++ (c.name.text, constant_value cs c.value) ∷ []) (entry_for (names_only p es) (a_fixed c))
 defined p sc cs es c names h fresh =
     let e : Expression = c.value in
     let two : not_allowed sc e ++ expression_faults sc (on_clock base) e ≡ [] = (no_parts (not_allowed sc e ++ expression_faults sc (on_clock base) e) _ h).0 in
     let allowed : not_allowed sc e ≡ [] = (no_parts (not_allowed sc e) (expression_faults sc (on_clock base) e) two).0 in
     let clean : expression_faults sc (on_clock base) e ≡ [] = (no_parts (not_allowed sc e) (expression_faults sc (on_clock base) e) two).1 in
-    let parts : AllByRecursion (λ o. part_faults sc o ≡ []) (occurrences sc.owner (on_clock base) e) = none_mapped (part_faults sc) (occurrences sc.owner (on_clock base) e) clean in
+    let parts : AllByRecursion (λ o. part_faults sc o ≡ []) (occurrences sc.owner (on_clock base) e) = none_mapped (part_faults sc)
+    (occurrences sc.owner (on_clock base) e) clean in
     let free : AllByRecursion (λ o. hinders_constant sc o.expression ≡ []) (occurrences sc.owner (on_clock base) e) =
-    none_mapped (λ o. hinders_constant sc o.expression) (occurrences sc.owner (on_clock base) e) (nothing_mapped (fault not_constant) (flat_map (λ o. hinders_constant sc o.expression) (occurrences sc.owner (on_clock base) e)) allowed) in
+    none_mapped (λ o. hinders_constant sc o.expression) (occurrences sc.owner (on_clock base) e)
+    (nothing_mapped (fault not_constant) (flat_map (λ o. hinders_constant sc o.expression) (occurrences sc.owner (on_clock base) e))
+    allowed) in
     let fine : AllByRecursion (Fine sc (names_only p es) cs names) (occurrences sc.owner (on_clock base) e) =
-    all_from_both (λ o. part_faults sc o ≡ []) (λ o. hinders_constant sc o.expression ≡ []) (Fine sc (names_only p es) cs names) (λ o a b. (a, b)) (occurrences sc.owner (on_clock base) e) parts free in
-    let w : ExpressionWorth sc (names_only p es) cs e = worths sc (names_only p es) cs names (on_clock base) e (each_part (Fine sc (names_only p es) cs names) sc.owner (on_clock base) e fine) in
+    all_from_both (λ o. part_faults sc o ≡ []) (λ o. hinders_constant sc o.expression ≡ []) (Fine sc (names_only p es) cs names)
+    (λ o a b. (a, b)) (occurrences sc.owner (on_clock base) e) parts free in
+    let w : ExpressionWorth sc (names_only p es) cs e = worths sc (names_only p es) cs names (on_clock base) e
+    (each_part (Fine sc (names_only p es) cs names) sc.owner (on_clock base) e fine) in
     let value : constant_of (names_only p es) e ≡ constant_value cs e = ap (λ k. k.value) w.worth ∙ w.value in
-    let agree : differ c.sort (Some w.sort) ≡ false = subst (λ o. differ c.sort o ≡ false) w.here (not_so (differ c.sort (type_of sc e)) type_clash (begin e) (no_parts (not_allowed sc e ++ expression_faults sc (on_clock base) e) _ h).1) in
+    let agree : differ c.sort (Some w.sort) ≡ false = subst (λ o. differ c.sort o ≡ false) w.here
+    (not_so (differ c.sort (type_of sc e)) type_clash (begin e) (no_parts
+    (not_allowed sc e ++ expression_faults sc (on_clock base) e) _ h).1) in
     record {
       sort = w.sort;
       is_sort = ap (given_or_found c.sort) w.there ∙ given c.sort w.sort agree;
@@ -246,7 +269,8 @@ rest_of p outer done (x ∷ xs) =
     let r : RestOf p outer (done ++ e ∷ []) xs = rest_of p outer (done ++ e ∷ []) xs in
     record { rest = e ∷ r.rest; is = r.is ∙ one_more done e r.rest }
 
-count_more : (b : Bool) (e : Entry) → is_constant_role e.role ≡ b → (done : List Entry) → fixed_count (done ++ e ∷ []) ≡ cond b (suc (fixed_count done)) (fixed_count done)
+count_more : (b : Bool) (e : Entry) → is_constant_role e.role ≡ b → (done : List Entry) → fixed_count (done ++ e ∷ []) ≡ cond b
+    (suc (fixed_count done)) (fixed_count done)
 count_more b e h [] = ap (λ c. cond c 1 0) h
 count_more true e h (d ∷ done) = ap (λ k. cond (is_constant_role d.role) (suc k) k) (count_more true e h done) ∙ over (is_constant_role d.role)
   where
@@ -277,7 +301,9 @@ middle (x ∷ xs) y ys d = go (bytes_eq y x) refl (middle xs y ys d.1)
     go false m r = r
 
 module _ (p : Program) (table outer : List Entry) where
-  pub all_good : (done : List Entry) (xs : List Declared) (cs : Values) → table ≡ entries_from p outer done xs → AllByRecursion (Good cs) outer → AllByRecursion (Good cs) done → AreDistinct (value_names cs ++ map (λ c. c.name.text) (fixed_of xs)) → CleanFrom table outer xs (fixed_count done) →
+  pub all_good : (done : List Entry) (xs : List Declared) (cs : Values) → table ≡ entries_from p outer done xs → AllByRecursion
+      (Good cs) outer → AllByRecursion (Good cs) done → AreDistinct (value_names cs ++ map (λ c. c.name.text) (fixed_of xs))
+      → CleanFrom table outer xs (fixed_count done) →
       AllByRecursion (Good (constant_values cs (fixed_of xs))) (entries_from p outer done xs)
   all_good done [] cs t o a d c = a
   all_good done (a_stream r v ∷ xs) cs t o a d c =
@@ -291,13 +317,20 @@ module _ (p : Program) (table outer : List Entry) where
       let more : Values = cs ++ (k.name.text, constant_value cs k.value) ∷ [] in
       let shows : (x : Name) → is_known q.scope x ≡ true → is_constant_name q.scope x ≡ true → NameWorth q.scope (names_only p (done ++ outer)) cs x =
       λ x h g.
-      let s : (known_in (find (is_word x) (first_constants (fixed_count done) table ++ outer)) ≡ true) × AlsoAs (entry_of q.scope x) (find (is_word x) (first_constants (fixed_count done) table ++ outer)) = q.shows x h g in
+      let s : (known_in (find (is_word x) (first_constants (fixed_count done) table ++ outer)) ≡ true) × AlsoAs (entry_of q.scope x)
+      (find (is_word x) (first_constants (fixed_count done) table ++ outer)) = q.shows x h g in
       let u : Seen (find (is_word x) (first_constants (fixed_count done) table ++ outer)) (find (is_word x) (done ++ outer)) =
-      subst (λ es. Seen (find (is_word x) (first_constants (fixed_count done) es ++ outer)) (find (is_word x) (done ++ outer))) (sym (t ∙ r.is)) (sees x outer done r.rest (fixed_count done) refl) in
-      name_worth p q.scope cs (done ++ outer) x (both_parts (Good cs) done outer a o) (also (entry_of q.scope x) (find (is_word x) (first_constants (fixed_count done) table ++ outer)) (find (is_word x) (done ++ outer)) s.1 (u s.0 s.1.fixed)) in
-      let own : IsFixed more e = defined p q.scope cs (done ++ outer) k shows q.clean (middle (value_names cs) k.name.text (map (λ c. c.name.text) (fixed_of xs)) d) in
-      let lift : (es : List Entry) → AllByRecursion (Good cs) es → AllByRecursion (Good more) es = λ es b. all_from (Good cs) (Good more) (λ z g. good_more cs ((k.name.text, constant_value cs k.value) ∷ []) z g) es b in
+      subst (λ es. Seen (find (is_word x) (first_constants (fixed_count done) es ++ outer)) (find (is_word x) (done ++ outer)))
+      (sym (t ∙ r.is)) (sees x outer done r.rest (fixed_count done) refl) in
+      name_worth p q.scope cs (done ++ outer) x (both_parts (Good cs) done outer a o)
+      (also (entry_of q.scope x) (find (is_word x) (first_constants (fixed_count done) table ++ outer))
+      (find (is_word x) (done ++ outer)) s.1 (u s.0 s.1.fixed)) in
+      let own : IsFixed more e = defined p q.scope cs (done ++ outer) k shows q.clean
+      (middle (value_names cs) k.name.text (map (λ c. c.name.text) (fixed_of xs)) d) in
+      let lift : (es : List Entry) → AllByRecursion (Good cs) es → AllByRecursion (Good more) es = λ es b. all_from (Good cs) (Good more)
+      (λ z g. good_more cs ((k.name.text, constant_value cs k.value) ∷ []) z g) es b in
       let words : value_names cs ++ k.name.text ∷ map (λ c. c.name.text) (fixed_of xs) ≡ value_names more ++ map (λ c. c.name.text) (fixed_of xs) =
-      sym (ap (λ ys. ys ++ map (λ c. c.name.text) (fixed_of xs)) (map_append (λ z. z.0) cs ((k.name.text, constant_value cs k.value) ∷ [])) ∙ one_more (value_names cs) k.name.text (map (λ c. c.name.text) (fixed_of xs))) in
+      sym (ap (λ ys. ys ++ map (λ c. c.name.text) (fixed_of xs)) (map_append (λ z. z.0) cs ((k.name.text, constant_value cs k.value) ∷ []))
+      ∙ one_more (value_names cs) k.name.text (map (λ c. c.name.text) (fixed_of xs))) in
       all_good (done ++ e ∷ []) xs more t (lift outer o) (both_parts (Good more) done (e ∷ []) (lift done a) ((λ h. own), tt)) (subst AreDistinct words d)
       (subst (CleanFrom table outer xs) (sym (count_more true e refl done)) c.1)

@@ -2,10 +2,10 @@
 use Rattle.std.proofs.Common.{◌≡◌, ℕ, zero, suc, List, [], ◌∷◌, ◌++◌, map, flat_map, length, refl, ap, ◌∙◌}
 use Rattle.std.specs.Prelude.{take, drop}
 use Rattle.std.specs.List.{AllByRecursion, prefix_len}
-use Rattle.lus_tree.specs.Tree.{Variable, Constant, Clause, assume, guarantee, ghost_variable, constant, mode, «import», Component}
-use Rattle.lus_meaning.specs.Scene.{ghosts, clauses, variables}
-use Rattle.lus_meaning.specs.Program.{clause_constants}
-use Rattle.lus_meaning.specs.Scope.{Role, a_local, Declared, a_stream, a_fixed, clause_names, word_of, is_before, interleaved, local_names, declared_in, an_input, an_output}
+use Rattle.lus_tree.specs.Tree.{Variable, Constant, ContractStatement, assume, guarantee, ghost_variable, constant, mode, «import», Component}
+use Rattle.lus_meaning.specs.Scene.{ghosts, contract_statements, variables}
+use Rattle.lus_meaning.specs.Program.{contract_statement_constants}
+use Rattle.lus_meaning.specs.Scope.{Role, a_local, Declared, a_stream, a_fixed, contract_statement_names, word_of, is_before, interleaved, local_names, declared_in, an_input, an_output}
 use Rattle.lus_meaning.proofs.Lists.{both_parts}
 use Rattle.lus_meaning.proofs.Now.{left_part, right_part}
 use Rattle.rule_laws.proofs.Constants.{fixed_of}
@@ -22,13 +22,15 @@ module _ (y : Declared) (zs : List Declared → List Declared) where
   put_fixed ok (suc m) (a_stream r v ∷ xs) = put_fixed ok m xs
   put_fixed ok (suc m) (a_fixed c ∷ xs) = ap (λ ks. c ∷ ks) (put_fixed ok m xs)
 
-  pub put_all : (P : Declared → Type 0) → ((ws : List Declared) → AllByRecursion P ws → AllByRecursion P (y ∷ zs ws)) → (m : ℕ) (xs : List Declared) → AllByRecursion P xs → AllByRecursion P (put_in m xs)
+  pub put_all : (P : Declared → Type 0) → ((ws : List Declared) → AllByRecursion P ws → AllByRecursion P (y ∷ zs ws)) → (m : ℕ)
+      (xs : List Declared) → AllByRecursion P xs → AllByRecursion P (put_in m xs)
   put_all P ok zero xs a = ok xs a
   put_all P ok (suc m) [] a = ok [] a
   put_all P ok (suc m) (x ∷ xs) a = (a.0, put_all P ok m xs a.1)
 
   -- a predicate that counts what went before
-  pub put_counted : (P : List Declared → ℕ → Type 0) → ((x : Declared) (as_ bs : List Declared) (j : ℕ) → ((i : ℕ) → P as_ i → P bs i) → P (x ∷ as_) j → P (x ∷ bs) j) → ((ws : List Declared) (i : ℕ) → P ws i → P (y ∷ zs ws) i) →
+  pub put_counted : (P : List Declared → ℕ → Type 0) → ((x : Declared) (as_ bs : List Declared) (j : ℕ) → ((i : ℕ) → P as_ i → P bs i) → P
+      (x ∷ as_) j → P (x ∷ bs) j) → ((ws : List Declared) (i : ℕ) → P ws i → P (y ∷ zs ws) i) →
       (m : ℕ) (xs : List Declared) (j : ℕ) → P xs j → P (put_in m xs) j
   put_counted P more ok zero xs j a = ok xs j a
   put_counted P more ok (suc m) [] j a = ok [] j a
@@ -45,9 +47,11 @@ local_fixed : (vs : List Variable) (xs : List Declared) → fixed_of (with_local
 local_fixed [] xs = refl
 local_fixed (v ∷ vs) xs = put_fixed (a_stream a_local v) (λ ws. with_locals ws vs) (λ ws. local_fixed vs ws) (before (a_stream a_local v) xs) xs
 
-local_all : (P : Declared → Type 0) (vs : List Variable) (xs : List Declared) → AllByRecursion (λ v. P (a_stream a_local v)) vs → AllByRecursion P xs → AllByRecursion P (with_locals xs vs)
+local_all : (P : Declared → Type 0) (vs : List Variable) (xs : List Declared) → AllByRecursion (λ v. P (a_stream a_local v)) vs
+    → AllByRecursion P xs → AllByRecursion P (with_locals xs vs)
 local_all P [] xs a b = b
-local_all P (v ∷ vs) xs a b = put_all (a_stream a_local v) (λ ws. with_locals ws vs) P (λ ws c. (a.0, local_all P vs ws a.1 c)) (before (a_stream a_local v) xs) xs b
+local_all P (v ∷ vs) xs a b = put_all (a_stream a_local v) (λ ws. with_locals ws vs) P (λ ws c. (a.0, local_all P vs ws a.1 c))
+    (before (a_stream a_local v) xs) xs b
 
 -- ---- the constants of a declaration
 
@@ -55,25 +59,26 @@ streams_fixed : (r : Role) (vs : List Variable) (xs : List Declared) → fixed_o
 streams_fixed r [] xs = refl
 streams_fixed r (v ∷ vs) xs = streams_fixed r vs xs
 
-clauses_fixed : (cs : List Clause) (xs : List Declared) → fixed_of (flat_map clause_names cs ++ xs) ≡ clause_constants cs ++ fixed_of xs
-clauses_fixed [] xs = refl
-clauses_fixed (assume l ∷ cs) xs = clauses_fixed cs xs
-clauses_fixed (guarantee l ∷ cs) xs = clauses_fixed cs xs
-clauses_fixed (ghost_variable v e ∷ cs) xs = clauses_fixed cs xs
-clauses_fixed (constant c ∷ cs) xs = ap (λ ks. c ∷ ks) (clauses_fixed cs xs)
-clauses_fixed (mode m rs es ∷ cs) xs = clauses_fixed cs xs
-clauses_fixed («import» k c as_ ws ∷ cs) xs = clauses_fixed cs xs
+contract_statements_fixed : (cs : List ContractStatement) (xs : List Declared) → fixed_of
+    (flat_map contract_statement_names cs ++ xs) ≡ contract_statement_constants cs ++ fixed_of xs
+contract_statements_fixed [] xs = refl
+contract_statements_fixed (assume l ∷ cs) xs = contract_statements_fixed cs xs
+contract_statements_fixed (guarantee l ∷ cs) xs = contract_statements_fixed cs xs
+contract_statements_fixed (ghost_variable v e ∷ cs) xs = contract_statements_fixed cs xs
+contract_statements_fixed (constant c ∷ cs) xs = ap (λ ks. c ∷ ks) (contract_statements_fixed cs xs)
+contract_statements_fixed (mode m rs es ∷ cs) xs = contract_statements_fixed cs xs
+contract_statements_fixed («import» k c as_ ws ∷ cs) xs = contract_statements_fixed cs xs
 
 fixed_only : (cs : List Constant) → fixed_of (map a_fixed cs) ≡ cs
 fixed_only [] = refl
 fixed_only (c ∷ cs) = ap (λ ks. c ∷ ks) (fixed_only cs)
 
-pub fixed_in_order : (n : Component) → fixed_of (declared_in n) ≡ clause_constants (clauses n) ++ n.constants
+pub fixed_in_order : (n : Component) → fixed_of (declared_in n) ≡ contract_statement_constants (contract_statements n) ++ n.constants
 fixed_in_order n =
-    streams_fixed an_input n.inputs (map (a_stream an_output) n.outputs ++ (flat_map clause_names (clauses n) ++ local_names n))
-    ∙ streams_fixed an_output n.outputs (flat_map clause_names (clauses n) ++ local_names n)
-    ∙ clauses_fixed (clauses n) (local_names n)
-    ∙ ap (λ ks. clause_constants (clauses n) ++ ks) (local_fixed n.locals (map a_fixed n.constants) ∙ fixed_only n.constants)
+    streams_fixed an_input n.inputs (map (a_stream an_output) n.outputs ++ (flat_map contract_statement_names (contract_statements n) ++ local_names n))
+    ∙ streams_fixed an_output n.outputs (flat_map contract_statement_names (contract_statements n) ++ local_names n)
+    ∙ contract_statements_fixed (contract_statements n) (local_names n)
+    ∙ ap (λ ks. contract_statement_constants (contract_statements n) ++ ks) (local_fixed n.locals (map a_fixed n.constants) ∙ fixed_only n.constants)
 
 -- ---- the streams of a declaration
 
@@ -89,14 +94,14 @@ module _ (P : Declared → Type 0) (fixed : (c : Constant) → P (a_fixed c)) wh
   of_local [] a = tt
   of_local (v ∷ vs) a = (a.0 a_local, of_local vs a.1)
 
-  of_clauses : (cs : List Clause) → AllByRecursion AnyRole (ghosts cs) → AllByRecursion P (flat_map clause_names cs)
-  of_clauses [] a = tt
-  of_clauses (assume l ∷ cs) a = of_clauses cs a
-  of_clauses (guarantee l ∷ cs) a = of_clauses cs a
-  of_clauses (ghost_variable v e ∷ cs) a = (a.0 _, of_clauses cs a.1)
-  of_clauses (constant c ∷ cs) a = (fixed c, of_clauses cs a)
-  of_clauses (mode m rs es ∷ cs) a = of_clauses cs a
-  of_clauses («import» k c as_ ws ∷ cs) a = of_clauses cs a
+  of_contract_statements : (cs : List ContractStatement) → AllByRecursion AnyRole (ghosts cs) → AllByRecursion P (flat_map contract_statement_names cs)
+  of_contract_statements [] a = tt
+  of_contract_statements (assume l ∷ cs) a = of_contract_statements cs a
+  of_contract_statements (guarantee l ∷ cs) a = of_contract_statements cs a
+  of_contract_statements (ghost_variable v e ∷ cs) a = (a.0 _, of_contract_statements cs a.1)
+  of_contract_statements (constant c ∷ cs) a = (fixed c, of_contract_statements cs a)
+  of_contract_statements (mode m rs es ∷ cs) a = of_contract_statements cs a
+  of_contract_statements («import» k c as_ ws ∷ cs) a = of_contract_statements cs a
 
   of_fixed : (cs : List Constant) → AllByRecursion P (map a_fixed cs)
   of_fixed [] = tt
@@ -104,9 +109,15 @@ module _ (P : Declared → Type 0) (fixed : (c : Constant) → P (a_fixed c)) wh
 
   pub of_declared : (n : Component) → AllByRecursion AnyRole (variables n) → AllByRecursion P (declared_in n)
   of_declared n a =
-      let front : AllByRecursion AnyRole (n.inputs ++ n.outputs ++ n.locals) = left_part AnyRole (n.inputs ++ n.outputs ++ n.locals) (ghosts (clauses n)) a in
+      let front : AllByRecursion AnyRole (n.inputs ++ n.outputs ++ n.locals) = left_part AnyRole (n.inputs ++ n.outputs ++ n.locals)
+      (ghosts (contract_statements n)) a in
       let ends : AllByRecursion AnyRole (n.inputs ++ n.outputs) = left_part AnyRole (n.inputs ++ n.outputs) n.locals front in
-      both_parts P (map (a_stream an_input) n.inputs) (map (a_stream an_output) n.outputs ++ (flat_map clause_names (clauses n) ++ local_names n)) (of_role an_input n.inputs (left_part AnyRole n.inputs n.outputs ends))
-      (both_parts P (map (a_stream an_output) n.outputs) (flat_map clause_names (clauses n) ++ local_names n) (of_role an_output n.outputs (right_part AnyRole n.inputs n.outputs ends))
-      (both_parts P (flat_map clause_names (clauses n)) (local_names n) (of_clauses (clauses n) (right_part AnyRole (n.inputs ++ n.outputs ++ n.locals) (ghosts (clauses n)) a))
+      both_parts P (map (a_stream an_input) n.inputs) (map (a_stream an_output) n.outputs ++
+      (flat_map contract_statement_names (contract_statements n) ++ local_names n))
+      (of_role an_input n.inputs (left_part AnyRole n.inputs n.outputs ends))
+      (both_parts P (map (a_stream an_output) n.outputs) (flat_map contract_statement_names (contract_statements n) ++ local_names n)
+      (of_role an_output n.outputs (right_part AnyRole n.inputs n.outputs ends))
+      (both_parts P (flat_map contract_statement_names (contract_statements n)) (local_names n)
+      (of_contract_statements (contract_statements n) (right_part AnyRole (n.inputs ++ n.outputs ++ n.locals)
+      (ghosts (contract_statements n)) a))
       (local_all P n.locals (map a_fixed n.constants) (of_local n.locals (right_part AnyRole (n.inputs ++ n.outputs) n.locals front)) (of_fixed n.constants))))

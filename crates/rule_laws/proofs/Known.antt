@@ -3,11 +3,11 @@ use Rattle.std.proofs.Common.{◌≡◌, ℕ, Bool, true, false, cond, List, [],
 use Rattle.std.specs.Prelude.{Contains, find, option_map, option_and_then, unwrap_or}
 use Rattle.std.specs.Str.{bytes_eq}
 use Rattle.std.proofs.lemmas.Bool.{false≢true}
-use Rattle.lus_tree.specs.Tree.{Name, Clause, Component, Program}
+use Rattle.lus_tree.specs.Tree.{Name, ContractStatement, Component, Program}
 use Rattle.lus_meaning.specs.Scene.{Scene}
-use Rattle.lus_meaning.specs.Program.{clause_constants, instance_of}
+use Rattle.lus_meaning.specs.Program.{contract_statement_constants, instance_of}
 use Rattle.lus_meaning.specs.Run.{sort_of_name, is_typed}
-use Rattle.lus_meaning.specs.Scope.{Entry, is_constant_role, Scope, entry_of, is_known, sort_of_entry, left_after, known_after, first_constants, hide_local, own_names, outer_names, clause_scope, constant_scope}
+use Rattle.lus_meaning.specs.Scope.{Entry, is_constant_role, Scope, entry_of, is_known, sort_of_entry, left_after, known_after, first_constants, hide_local, own_names, outer_names, contract_statement_scope, constant_scope}
 use Rattle.lus_meaning.specs.NameFaults.{home}
 use Rattle.lus_meaning.specs.Refusals.{IsTyped}
 use Rattle.lus_meaning.proofs.RulesFit.{KnownName, fixed_name, stream_name}
@@ -25,7 +25,8 @@ same_first x j [] tail = record { role = refl; sort = refl }
 same_first x j (e ∷ es) tail = go (bytes_eq x e.word.text) (same_first x (left_after j e) es tail)
   where
     go : (c : Bool) → SameFound (find (is_word x) (first_constants (left_after j e) es ++ tail)) (find (is_word x) (es ++ tail)) →
-        SameFound (cond c (Some (known_after j e)) (find (is_word x) (first_constants (left_after j e) es ++ tail))) (cond c (Some e) (find (is_word x) (es ++ tail)))
+        SameFound (cond c (Some (known_after j e)) (find (is_word x) (first_constants (left_after j e) es ++ tail)))
+        (cond c (Some e) (find (is_word x) (es ++ tail)))
     go true r = record { role = refl; sort = refl }
     go false r = r
 
@@ -33,7 +34,8 @@ same_hidden : (x : Name) (es : List Entry) → SameFound (find (is_word x) (map 
 same_hidden x [] = record { role = refl; sort = refl }
 same_hidden x (e ∷ es) = go (bytes_eq x e.word.text) (same_hidden x es)
   where
-    go : (c : Bool) → SameFound (find (is_word x) (map hide_local es)) (find (is_word x) es) → SameFound (cond c (Some (hide_local e)) (find (is_word x) (map hide_local es))) (cond c (Some e) (find (is_word x) es))
+    go : (c : Bool) → SameFound (find (is_word x) (map hide_local es)) (find (is_word x) es) → SameFound
+        (cond c (Some (hide_local e)) (find (is_word x) (map hide_local es))) (cond c (Some e) (find (is_word x) es))
     go true r = record { role = refl; sort = refl }
     go false r = r
 
@@ -44,11 +46,14 @@ Shows p h sc = (x : Name) → SameFound (entry_of sc x) (find (is_word x) (table
 pub constant_shows : (p : Program) (h : ℕ × Component) (k : ℕ) → Shows p h (constant_scope (home p h.0 h.1) k)
 constant_shows p h k x = same_first x _ (own_names (home p h.0 h.1)) (outer_names p h.0)
 
-pub clause_shows : (p : Program) (h : ℕ × Component) (cs : List Clause) → Shows p h (clause_scope (home p h.0 h.1) cs)
-clause_shows p h cs x =
-    let j : ℕ = length (clause_constants cs) in
-    let a : SameFound (entry_of (clause_scope (home p h.0 h.1) cs) x) (find (is_word x) (first_constants j (own_names (home p h.0 h.1)) ++ outer_names p h.0)) = same_hidden x (first_constants j (own_names (home p h.0 h.1)) ++ outer_names p h.0) in
-    let b : SameFound (find (is_word x) (first_constants j (own_names (home p h.0 h.1)) ++ outer_names p h.0)) (find (is_word x) (table p h)) = same_first x j (own_names (home p h.0 h.1)) (outer_names p h.0) in
+pub contract_statement_shows : (p : Program) (h : ℕ × Component) (cs : List ContractStatement) → Shows p h (contract_statement_scope (home p h.0 h.1) cs)
+contract_statement_shows p h cs x =
+    let j : ℕ = length (contract_statement_constants cs) in
+    let a : SameFound (entry_of (contract_statement_scope (home p h.0 h.1) cs) x)
+    (find (is_word x) (first_constants j (own_names (home p h.0 h.1)) ++ outer_names p h.0)) = same_hidden x
+    (first_constants j (own_names (home p h.0 h.1)) ++ outer_names p h.0) in
+    let b : SameFound (find (is_word x) (first_constants j (own_names (home p h.0 h.1)) ++ outer_names p h.0))
+    (find (is_word x) (table p h)) = same_first x j (own_names (home p h.0 h.1)) (outer_names p h.0) in
     record { role = a.role ∙ b.role; sort = a.sort ∙ b.sort }
 
 abbrev is_some : {A : Type 0} → Option A → Bool
@@ -67,7 +72,8 @@ known_entry (Some d) None s k = absurd (false≢true (sym (ap is_some s.role)))
 known_entry (Some d) (Some e) s k = record { entry = e; is = refl; role = ap (option_map is_constant_role) s.role }
 
 -- so it has there the type of the instance, and is a constant of that type or a stream with a clock
-pub agrees : (p : Program) → IsTyped p → (h : ℕ × Component) → Contains (placed 0 p) h → (sc : Scope) → Shows p h sc → (s : Scene) → s.place ≡ instance_of p h.1 → (x : Name) → is_known sc x ≡ true →
+pub agrees : (p : Program) → IsTyped p → (h : ℕ × Component) → Contains (placed 0 p) h → (sc : Scope) → Shows p h sc → (s : Scene)
+    → s.place ≡ instance_of p h.1 → (x : Name) → is_known sc x ≡ true →
     (sort_of_entry sc x ≡ Some (sort_of_name s.place x)) × KnownName sc s x
 agrees p t h i sc shows s place x k =
     let q : Known (entry_of sc x) (find (is_word x) (table p h)) = known_entry (entry_of sc x) (find (is_word x) (table p h)) (shows x) k in

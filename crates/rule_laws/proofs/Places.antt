@@ -5,11 +5,11 @@ use Rattle.std.specs.List.{AllByRecursion}
 use Rattle.std.specs.Str.{bytes_eq}
 use Rattle.std.proofs.lemmas.Bool.{false≢true}
 use Rattle.lus_tree.specs.declared.place.Sort.{Sort}
-use Rattle.lus_tree.specs.Tree.{Expression, truth, number, name, negation, minus, pre, arrow, binary, choice, sampled, merged, call, condact, mode_name, Clause, assume, guarantee, ghost_variable, constant, mode, «import», Component, declared_constant, declared_node, declared_contract, Program}
+use Rattle.lus_tree.specs.Tree.{Expression, truth, number, name, negation, minus, pre, arrow, binary, choice, sampled, merged, call, condact, mode_name, ContractStatement, assume, guarantee, ghost_variable, constant, mode, «import», Component, declared_constant, declared_node, declared_contract, Program}
 use Rattle.lus_tree.specs.Numbers.{a_pre, a_call, pre_number, call_number, all_numbers, import_number, numbers_in, are_counted, IsNumbered}
 use Rattle.lus_meaning.specs.Value.{Value, absent, has_sort}
 use Rattle.lus_meaning.specs.Frame.{firsts_of}
-use Rattle.lus_meaning.specs.Scene.{Site, Instance, Instances, instance, no_instances, with_instance, component_of, calls_of, instance_at, call_instance, called_among, clauses}
+use Rattle.lus_meaning.specs.Scene.{Site, Instance, Instances, instance, no_instances, with_instance, component_of, calls_of, instance_at, call_instance, called_among, contract_statements}
 use Rattle.lus_meaning.specs.Program.{site_in, import_site, all_sites, component_named, in_order, instance_of}
 use Rattle.lus_meaning.specs.Run.{sort_of, have_sorts}
 use Rattle.lus_meaning.specs.Occurrences.{Standing, Memory, gathered, memories}
@@ -40,7 +40,7 @@ all_grammatical (declared_contract n ∷ ds) a = (a.0.0, all_grammatical ds a.1)
 numbered : (p : Program) → IsGrammatical p → (n : Component) → Contains (components p) n → IsNumbered n
 numbered p g n i = (at_one IsGrammaticalComponent (components p) n (all_grammatical p g) i).numbered
 
-no_imports : (cs : List Clause) → flat_map (import_number a_pre) cs ≡ []
+no_imports : (cs : List ContractStatement) → flat_map (import_number a_pre) cs ≡ []
 no_imports [] = refl
 no_imports (assume l ∷ cs) = no_imports cs
 no_imports (guarantee l ∷ cs) = no_imports cs
@@ -51,7 +51,8 @@ no_imports («import» k f as_ xs ∷ cs) = no_imports cs
 
 memories_counted : (n : Component) → IsNumbered n → are_counted (map (λ m. m.number) (memories n)) ≡ true
 memories_counted n k =
-    let same : numbers_in a_pre n ≡ map (λ m. m.number) (memories n) = ap (λ xs. all_numbers pre_number n ++ xs) (no_imports (clauses n)) ∙ append_none (all_numbers pre_number n) ∙ sym (memory_numbers n) in
+    let same : numbers_in a_pre n ≡ map (λ m. m.number) (memories n) = ap (λ xs. all_numbers pre_number n ++ xs)
+    (no_imports (contract_statements n)) ∙ append_none (all_numbers pre_number n) ∙ sym (memory_numbers n) in
     subst (λ xs. are_counted xs ≡ true) same (k.each a_pre)
 
 site_is : (s : Standing) (e : Expression) → map (λ (c : Site). c.number) (site_in s e) ≡ call_number e
@@ -70,7 +71,7 @@ site_is s (call p k f as_) = refl
 site_is s (condact p k a f as_ ds) = refl
 site_is s (mode_name p c m) = refl
 
-imports_are : (cs : List Clause) → map (λ (c : Site). c.number) (flat_map import_site cs) ≡ flat_map (import_number a_call) cs
+imports_are : (cs : List ContractStatement) → map (λ (c : Site). c.number) (flat_map import_site cs) ≡ flat_map (import_number a_call) cs
 imports_are [] = refl
 imports_are (assume l ∷ cs) = imports_are cs
 imports_are (guarantee l ∷ cs) = imports_are cs
@@ -80,26 +81,36 @@ imports_are (mode m rs es ∷ cs) = imports_are cs
 imports_are («import» k f as_ xs ∷ cs) = ap (λ ks. k ∷ ks) (imports_are cs)
 
 abbrev found_sites : Component → List Site
-found_sites n = gathered site_in n ++ flat_map import_site (clauses n)
+found_sites n = gathered site_in n ++ flat_map import_site (contract_statements n)
 
 sites_counted : (n : Component) → IsNumbered n → are_counted (map (λ c. c.number) (found_sites n)) ≡ true
 sites_counted n k =
-    let calls : map (λ (c : Site). c.number) (gathered site_in n) ≡ all_numbers call_number n = numbers_gathered site_in (λ c. c.number) call_number site_is n in
-    let both : map (λ (c : Site). c.number) (gathered site_in n) ++ map (λ (c : Site). c.number) (flat_map import_site (clauses n)) ≡ numbers_in a_call n =
-    ap (λ xs. xs ++ map (λ (c : Site). c.number) (flat_map import_site (clauses n))) calls ∙ ap (λ xs. all_numbers call_number n ++ xs) (imports_are (clauses n)) in
-    subst (λ xs. are_counted xs ≡ true) (sym (map_append (λ (c : Site). c.number) (gathered site_in n) (flat_map import_site (clauses n)) ∙ both)) (k.each a_call)
+    let calls : map (λ (c : Site). c.number) (gathered site_in n) ≡ all_numbers call_number n = numbers_gathered site_in
+    (λ c. c.number) call_number site_is n in
+    let both : map (λ (c : Site). c.number) (gathered site_in n) ++ map (λ (c : Site). c.number)
+    (flat_map import_site (contract_statements n)) ≡ numbers_in a_call n =
+    ap (λ xs. xs ++ map (λ (c : Site). c.number) (flat_map import_site (contract_statements n))) calls ∙ ap
+    (λ xs. all_numbers call_number n ++ xs) (imports_are (contract_statements n)) in
+    subst (λ xs. are_counted xs ≡ true) (sym (map_append (λ (c : Site). c.number) (gathered site_in n)
+    (flat_map import_site (contract_statements n)) ∙ both)) (k.each a_call)
 
 -- ---- calls
 
 -- the instance at the place of a call occurrence
-placed_site : (p : Program) (ss : List Site) (is : Instances) (k : ℕ) (s : Site) → AreUnfolded p ss is → At ss k s → (site_at is k ≡ Some s) × (component_named p s.callee ≡ Some (component_of (instance_at is k)))
+placed_site : (p : Program) (ss : List Site) (is : Instances) (k : ℕ) (s : Site) → AreUnfolded p ss is → At ss k s → (site_at is k ≡ Some s)
+    × (component_named p s.callee ≡ Some (component_of (instance_at is k)))
 placed_site p [] is k s u a = absurd a
 placed_site p (c ∷ ss) no_instances k s u a = absurd u
-placed_site p (c ∷ ss) (with_instance d i is) zero s u a = (ap (λ (x : Site). Some x) (u.0 ∙ a), subst (λ x. component_named p x.callee ≡ Some (component_of i)) a u.1)
+placed_site p (c ∷ ss) (with_instance d i is) zero s u a = (
+  ap (λ (x : Site). Some x) (u.0 ∙ a),
+  subst
+      (λ x. component_named p x.callee ≡ Some (component_of i)) a u.1,
+)
 placed_site p (c ∷ ss) (with_instance d i is) (suc k) s u a = placed_site p ss is k s u.3 a
 
 -- the first call of its callee
-first_call : (p : Program) (ss : List Site) (is : Instances) (k : ℕ) (s : Site) → AreUnfolded p ss is → At ss k s → component_named p s.callee ≡ Some (component_of (called_among is s.callee))
+first_call : (p : Program) (ss : List Site) (is : Instances) (k : ℕ) (s : Site) → AreUnfolded p ss is → At ss k s
+    → component_named p s.callee ≡ Some (component_of (called_among is s.callee))
 first_call p [] is k s u a = absurd a
 first_call p (c ∷ ss) no_instances k s u a = absurd u
 first_call p (c ∷ ss) (with_instance d i is) zero s u a =
@@ -107,7 +118,8 @@ first_call p (c ∷ ss) (with_instance d i is) zero s u a =
     subst (λ x. component_named p x.callee ≡ Some (component_of i)) a u.1 ∙ ap (λ b. Some (component_of (cond b i (called_among is s.callee)))) (sym same)
 first_call p (c ∷ ss) (with_instance d i is) (suc k) s u a = go (bytes_eq s.callee d.callee) refl (first_call p ss is k s u.3 a)
   where
-    go : (b : Bool) → bytes_eq s.callee d.callee ≡ b → component_named p s.callee ≡ Some (component_of (called_among is s.callee)) → component_named p s.callee ≡ Some (component_of (cond b i (called_among is s.callee)))
+    go : (b : Bool) → bytes_eq s.callee d.callee ≡ b → component_named p s.callee ≡ Some (component_of (called_among is s.callee))
+        → component_named p s.callee ≡ Some (component_of (cond b i (called_among is s.callee)))
     go true m r = subst (λ x. component_named p x ≡ Some (component_of i)) (sym (same_bytes s.callee d.callee m ∙ ap (λ (x : Site). x.callee) u.0)) u.1
     go false m r = r
 
@@ -118,14 +130,24 @@ by_number : (i : Instance) (k : ℕ) → 1 ≤ k → instance_at (calls_of i) (p
 by_number i zero l = absurd (omega arith)
 by_number i (suc k) l = refl
 
-site_in_place : (p : Program) → IsChecked p → (n : Component) → Contains (components p) n → (named : Option Component) (s : Site) → named ≡ component_named p s.callee → InPlace (λ c. c.number) (found_sites n) s → HasItsPlace (instance_of p n) named s
+site_in_place : (p : Program) → IsChecked p → (n : Component) → Contains (components p) n → (named : Option Component) (s : Site)
+    → named ≡ component_named p s.callee → InPlace (λ c. c.number) (found_sites n) s → HasItsPlace (instance_of p n) named s
 site_in_place p c n i named s e h =
     let u : AreUnfolded p (all_sites n) (calls_of (instance_of p n)) = calls_unfolded p (instance_of p n) n (component_within _ p n) (each_unfolded p c n i) in
-    let q : (site_at (calls_of (instance_of p n)) (pred s.number) ≡ Some s) × (component_named p s.callee ≡ Some (component_of (instance_at (calls_of (instance_of p n)) (pred s.number)))) =
+    let q : (site_at (calls_of (instance_of p n)) (pred s.number) ≡ Some s) ×
+    (component_named p s.callee ≡ Some (component_of (instance_at (calls_of (instance_of p n)) (pred s.number)))) =
     placed_site p (all_sites n) (calls_of (instance_of p n)) (pred s.number) s u h.place in
-    record { number = h.positive; by_name = e ∙ first_call p (all_sites n) (calls_of (instance_of p n)) (pred s.number) s u h.place; site = q.0; callee = e ∙ q.1 ∙ ap (λ j. Some (component_of j)) (by_number (instance_of p n) s.number h.positive) }
+    record {
+      number = h.positive;
+      by_name = e ∙ first_call p (all_sites n) (calls_of (instance_of p n))
+          (pred s.number) s u h.place;
+      site = q.0;
+      callee = e ∙ q.1 ∙ ap (λ j. Some (component_of j))
+          (by_number (instance_of p n) s.number h.positive);
+    }
 
-sites_in_place : (p : Program) → IsChecked p → (n : Component) → Contains (components p) n → AllByRecursion (InPlace (λ c. c.number) (found_sites n)) (found_sites n)
+sites_in_place : (p : Program) → IsChecked p → (n : Component) → Contains (components p) n → AllByRecursion
+    (InPlace (λ c. c.number) (found_sites n)) (found_sites n)
 sites_in_place p c n i = all_in_place (λ c. c.number) (found_sites n) (sites_counted n (numbered p c.grammatical n i))
 
 abbrev Placed : Component → Site → Type 0
@@ -133,15 +155,20 @@ Placed n s = InPlace (λ c. c.number) (found_sites n) s
 
 pub calls_in_place : CallsInPlace
 calls_in_place p c n i s h =
-    let places : AllByRecursion (Placed n) (gathered site_in n) = left_part (Placed n) (gathered site_in n) (flat_map import_site (clauses n)) (sites_in_place p c n i) in
-    let declared : is_declared (node_named p s.callee) ≡ true = at_one (λ x. is_declared (node_named p x.callee) ≡ true) (gathered site_in n) s (each_call p c.rules.clocked.typed n i) h in
+    let places : AllByRecursion (Placed n) (gathered site_in n) = left_part (Placed n) (gathered site_in n)
+    (flat_map import_site (contract_statements n)) (sites_in_place p c n i) in
+    let declared : is_declared (node_named p s.callee) ≡ true = at_one (λ x. is_declared (node_named p x.callee) ≡ true)
+    (gathered site_in n) s (each_call p c.rules.clocked.typed n i) h in
     site_in_place p c n i (node_named p s.callee) s (where_is_named true p s.callee declared) (at_one (Placed n) (gathered site_in n) s places h)
 
 pub imports_in_place : ImportsInPlace
 imports_in_place p c n i s h =
-    let places : AllByRecursion (Placed n) (flat_map import_site (clauses n)) = right_part (Placed n) (gathered site_in n) (flat_map import_site (clauses n)) (sites_in_place p c n i) in
-    let declared : is_declared (contract_named p s.callee) ≡ true = at_one (λ x. is_declared (contract_named p x.callee) ≡ true) (flat_map import_site (clauses n)) s (each_import p c.rules.clocked.typed n i) h in
-    site_in_place p c n i (contract_named p s.callee) s (where_is_named false p s.callee declared) (at_one (Placed n) (flat_map import_site (clauses n)) s places h)
+    let places : AllByRecursion (Placed n) (flat_map import_site (contract_statements n)) = right_part (Placed n) (gathered site_in n)
+    (flat_map import_site (contract_statements n)) (sites_in_place p c n i) in
+    let declared : is_declared (contract_named p s.callee) ≡ true = at_one (λ x. is_declared (contract_named p x.callee) ≡ true)
+    (flat_map import_site (contract_statements n)) s (each_import p c.rules.clocked.typed n i) h in
+    site_in_place p c n i (contract_named p s.callee) s (where_is_named false p s.callee declared)
+    (at_one (Placed n) (flat_map import_site (contract_statements n)) s places h)
 
 -- ---- first values
 
@@ -149,7 +176,8 @@ both_true : (a b : Bool) → (a && b) ≡ true → (a ≡ true) × (b ≡ true)
 both_true true b e = (refl, e)
 both_true false b e = absurd (false≢true e)
 
-sorted_at : (sort : Memory → Sort) (ms : List Memory) (vs : List Value) (k : ℕ) (m : Memory) → have_sorts (map sort ms) vs ≡ true → At ms k m → has_sort (sort m) (slice_index_or vs k absent) ≡ true
+sorted_at : (sort : Memory → Sort) (ms : List Memory) (vs : List Value) (k : ℕ) (m : Memory) → have_sorts (map sort ms) vs ≡ true
+    → At ms k m → has_sort (sort m) (slice_index_or vs k absent) ≡ true
 sorted_at sort [] vs k m h a = absurd a
 sorted_at sort (x ∷ ms) [] k m h a = absurd (false≢true h)
 sorted_at sort (x ∷ ms) (v ∷ vs) zero m h a = subst (λ y. has_sort (sort y) v ≡ true) a (both_true (has_sort (sort x) v) (have_sorts (map sort ms) vs) h).0
@@ -157,7 +185,9 @@ sorted_at sort (x ∷ ms) (v ∷ vs) (suc k) m h a = sorted_at sort ms vs k m (b
 
 pub firsts_in_place : FirstsInPlace
 firsts_in_place p c n i f h m j =
-    let place : InPlace (λ x. x.number) (memories n) m = at_one (InPlace (λ x. x.number) (memories n)) (memories n) m (all_in_place (λ x. x.number) (memories n) (memories_counted n (numbered p c.grammatical n i))) j in
+    let place : InPlace (λ x. x.number) (memories n) m = at_one (InPlace (λ x. x.number) (memories n)) (memories n) m
+    (all_in_place (λ x. x.number) (memories n) (memories_counted n (numbered p c.grammatical n i))) j in
     let sorts : have_sorts (map (λ x. sort_of (instance_of p n) x.operand) (in_order (λ x. x.number) (memories n))) (firsts_of f) ≡ true =
-    subst (λ k. have_sorts (map (λ x. sort_of (instance_of p n) x.operand) (in_order (λ x. x.number) (memories k))) (firsts_of f) ≡ true) (component_within _ p n) h in
+    subst (λ k. have_sorts (map (λ x. sort_of (instance_of p n) x.operand) (in_order (λ x. x.number) (memories k))) (firsts_of f) ≡ true)
+    (component_within _ p n) h in
     sorted_at (λ x. sort_of (instance_of p n) x.operand) (in_order (λ x. x.number) (memories n)) (firsts_of f) (pred m.number) m sorts place.place

@@ -34,11 +34,14 @@ new_or_known y known (x ∷ xs) e = here (bytes_eq y x) refl e (new_or_known y (
     same true k s = inl (ap (λ z. named_in z known) s ∙ k)
     same false k s = inr (or_left (bytes_eq y x) (named_in y later) (ap (bytes_eq y) (sym s) ∙ self_bytes y))
 
-    other : bytes_eq y x ≡ false → (named_in y (known ++ x ∷ []) ≡ true) ⊎ (named_in y later ≡ true) → (named_in y known ≡ true) ⊎ (named_in y (cond (named_in x known) [] (x ∷ []) ++ later) ≡ true)
+    other : bytes_eq y x ≡ false → (named_in y (known ++ x ∷ []) ≡ true) ⊎ (named_in y later ≡ true) → (named_in y known ≡ true) ⊎
+        (named_in y (cond (named_in x known) [] (x ∷ []) ++ later) ≡ true)
     other d (inl h) = inl (in_first (named_in y known) (bytes_eq y x) d (sym (named_append y known (x ∷ [])) ∙ h))
     other d (inr h) = inr (in_right y (cond (named_in x known) [] (x ∷ [])) later h)
 
-    here : (c : Bool) → bytes_eq y x ≡ c → (c || named_in y xs) ≡ true → (named_in y xs ≡ true → (named_in y (known ++ x ∷ []) ≡ true) ⊎ (named_in y later ≡ true)) → (named_in y known ≡ true) ⊎ (named_in y (cond (named_in x known) [] (x ∷ []) ++ later) ≡ true)
+    here : (c : Bool) → bytes_eq y x ≡ c → (c || named_in y xs) ≡ true →
+        (named_in y xs ≡ true → (named_in y (known ++ x ∷ []) ≡ true) ⊎ (named_in y later ≡ true)) → (named_in y known ≡ true) ⊎
+        (named_in y (cond (named_in x known) [] (x ∷ []) ++ later) ≡ true)
     here true m h r = same (named_in x known) refl (same_bytes y x m)
     here false m h r = other m (r h)
 
@@ -66,7 +69,8 @@ reach_most zero k m s g x xs e = let same : k ≡ m = omega arith in subst (λ i
 reach_most (suc j) k m s g x xs e = reach_most j (suc k) m (omega arith) g x xs (reach_more k g x xs e)
 
 -- a call from what is reached is reached by one more step
-pub reach_next : (k : ℕ) (g : Graph) (x y : Name) → ((xs : List Name) → named_in x xs ≡ true → named_in y (next_in g xs) ≡ true) → (xs : List Name) → named_in x (reached k g xs) ≡ true → named_in y (reached (suc k) g xs) ≡ true
+pub reach_next : (k : ℕ) (g : Graph) (x y : Name) → ((xs : List Name) → named_in x xs ≡ true → named_in y (next_in g xs) ≡ true) →
+    (xs : List Name) → named_in x (reached k g xs) ≡ true → named_in y (reached (suc k) g xs) ≡ true
 reach_next zero g x y next xs e = in_round g y xs (next xs e)
 reach_next (suc k) g x y next xs e = reach_next k g x y next (round g xs) e
 
@@ -82,8 +86,10 @@ first_row p g y xs n h e = go (named_in n.name.text xs) h
     go true k = in_left y (map text_of (callees p n)) (next_in g xs) e
     go false k = absurd (false≢true k)
 
-later_rows : (p : Program) (g : Graph) (y : Name) (xs : List Name) (r : Name × List Name) (ns : List Component) → AllByRecursion (Leads p g y xs) ns → AllByRecursion (Leads p (r ∷ g) y xs) ns
-later_rows p g y xs r ns a = all_from (Leads p g y xs) (Leads p (r ∷ g) y xs) (λ n l h e. in_right y (cond (named_in r.0 xs) r.1 []) (next_in g xs) (l h e)) ns a
+later_rows : (p : Program) (g : Graph) (y : Name) (xs : List Name) (r : Name × List Name) (ns : List Component) → AllByRecursion
+    (Leads p g y xs) ns → AllByRecursion (Leads p (r ∷ g) y xs) ns
+later_rows p g y xs r ns a = all_from (Leads p g y xs) (Leads p (r ∷ g) y xs)
+    (λ n l h e. in_right y (cond (named_in r.0 xs) r.1 []) (next_in g xs) (l h e)) ns a
 
 pub leads : (p : Program) (y : Name) (xs : List Name) (ds : Program) → AllByRecursion (Leads p (graph_of p ds) y xs) (components ds)
 leads p y xs [] = tt

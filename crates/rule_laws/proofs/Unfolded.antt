@@ -67,22 +67,27 @@ not_longer p k n vs w =
     omega arith
 
 -- a name of the way reaches its end, so none is called from there
-not_back : (p : Program) (d k : ℕ) → d + k ≡ length p → (n : Component) (x : Name) (vs : List Name) → named_in n.name.text (reached (length p) (graph_of p p) (x ∷ [])) ≡ false → AllByRecursion (λ v. named_in n.name.text (reached k (graph_of p p) (v ∷ [])) ≡ true) vs → named_in x vs ≡ false
+not_back : (p : Program) (d k : ℕ) → d + k ≡ length p → (n : Component) (x : Name) (vs : List Name) → named_in n.name.text
+    (reached (length p) (graph_of p p) (x ∷ [])) ≡ false → AllByRecursion
+    (λ v. named_in n.name.text (reached k (graph_of p p) (v ∷ [])) ≡ true) vs → named_in x vs ≡ false
 not_back p d k e n x [] a r = refl
 not_back p d k e n x (v ∷ vs) a r = go (bytes_eq x v) refl (not_back p d k e n x vs a r.1)
   where
     go : (c : Bool) → bytes_eq x v ≡ c → named_in x vs ≡ false → (c || named_in x vs) ≡ false
     go true m f =
         let there : named_in n.name.text (reached (length p) (graph_of p p) (x ∷ [])) ≡ true =
-        reach_most d k (length p) e (graph_of p p) n.name.text (x ∷ []) (subst (λ y. named_in n.name.text (reached k (graph_of p p) (y ∷ [])) ≡ true) (sym (same_bytes x v m)) r.0) in
+        reach_most d k (length p) e (graph_of p p) n.name.text (x ∷ [])
+        (subst (λ y. named_in n.name.text (reached k (graph_of p p) (y ∷ [])) ≡ true) (sym (same_bytes x v m)) r.0) in
         absurd (false≢true (sym a ∙ there))
     go false m f = f
 
 -- the way to a callee
-onward : (p : Program) (d k : ℕ) → d + k ≡ length p → (n : Component) → Contains (components p) n → (vs : List Name) → Way p k n vs → (x : Name) (g : GoesDown p n x) → Way p (suc k) g.is_callee.callee (x ∷ vs)
+onward : (p : Program) (d k : ℕ) → d + k ≡ length p → (n : Component) → Contains (components p) n → (vs : List Name) → Way p k n vs →
+    (x : Name) (g : GoesDown p n x) → Way p (suc k) g.is_callee.callee (x ∷ vs)
 onward p d k e n i vs w x g =
     let m : Component = g.is_callee.callee in
-    let called : named_in m.name.text (map text_of (callees p n)) ≡ true = subst (λ y. named_in y (map text_of (callees p n)) ≡ true) (sym g.is_callee.word) g.called in
+    let called : named_in m.name.text (map text_of (callees p n)) ≡ true = subst (λ y. named_in y (map text_of (callees p n)) ≡ true)
+    (sym g.is_callee.word) g.called in
     let next : (xs : List Name) → named_in n.name.text xs ≡ true → named_in m.name.text (next_in (graph_of p p) xs) ≡ true =
     λ xs h. at_one (Leads p (graph_of p p) m.name.text xs) (components p) n (leads p m.name.text xs p) i h called in
     let own : named_in m.name.text (x ∷ []) ≡ true = subst (λ y. named_in y (x ∷ []) ≡ true) (sym g.is_callee.word) (self_named x []) in
@@ -92,7 +97,9 @@ onward p d k e n i vs w x g =
       declared = (subst (λ y. named_in y (declared_words p) ≡ true) g.is_callee.word (one_word (components p) m g.is_callee.declared), w.declared);
       reach = (
         reach_first (suc k) (graph_of p p) m.name.text (x ∷ []) own,
-        all_from (λ v. named_in n.name.text (reached k (graph_of p p) (v ∷ [])) ≡ true) (λ v. named_in m.name.text (reached (suc k) (graph_of p p) (v ∷ [])) ≡ true) (λ v h. reach_next k (graph_of p p) n.name.text m.name.text next (v ∷ []) h) vs w.reach,
+        all_from (λ v. named_in n.name.text (reached k (graph_of p p) (v ∷ [])) ≡ true)
+            (λ v. named_in m.name.text (reached (suc k) (graph_of p p) (v ∷ [])) ≡ true)
+            (λ v h. reach_next k (graph_of p p) n.name.text m.name.text next (v ∷ []) h) vs w.reach,
       );
     }
 
@@ -104,18 +111,26 @@ abbrev Down : Program → Component → Site → Type 0
 Down p n s = GoesDown p n s.callee
 
 -- with calls nested so deep, behind a way of so many calls
-unfolded : (p : Program) → ((n : Component) → Contains (components p) n → AllByRecursion (Down p n) (all_sites n)) → (d k : ℕ) → d + k ≡ length p → (n : Component) → Contains (components p) n → (vs : List Name) → Way p k n vs → IsUnfolded p (instance_within d p n)
+unfolded : (p : Program) → ((n : Component) → Contains (components p) n → AllByRecursion (Down p n) (all_sites n)) → (d k : ℕ)
+    → d + k ≡ length p → (n : Component) → Contains (components p) n → (vs : List Name) → Way p k n vs → IsUnfolded p
+    (instance_within d p n)
 unfolded p down zero k e n i vs w = let a : suc k ≤ length p = not_longer p k n vs w in absurd (omega arith)
 unfolded p down (suc d) k e n i vs w = (refl, go (unfolded p down d (suc k) (omega arith)) (all_sites n) (down n i))
   where
-    go : ((m : Component) → Contains (components p) m → (us : List Name) → Way p (suc k) m us → IsUnfolded p (instance_within d p m)) → (ss : List Site) → AllByRecursion (Down p n) ss → AreUnfolded p ss (instances_with (λ x. instance_within d p (unwrap_or (component_named p x) no_component)) ss)
+    go : ((m : Component) → Contains (components p) m → (us : List Name) → Way p (suc k) m us → IsUnfolded p (instance_within d p m)) →
+        (ss : List Site) → AllByRecursion (Down p n) ss → AreUnfolded p ss
+        (instances_with (λ x. instance_within d p (unwrap_or (component_named p x) no_component)) ss)
     go below [] a = tt
     go below (s ∷ ss) a =
         let c : IsCallee p s.callee = a.0.is_callee in
         let u : IsUnfolded p (instance_within d p c.callee) = below c.callee c.declared (s.callee ∷ vs) (onward p (suc d) k e n i vs w s.callee a.0) in
-        let q : (component_named p s.callee ≡ Some (component_of (instance_within d p c.callee))) × IsUnfolded p (instance_within d p c.callee) = (c.named ∙ ap Some (sym (component_within d p c.callee)), u) in
-        let r : (component_named p s.callee ≡ Some (component_of (instance_within d p (unwrap_or (component_named p s.callee) no_component)))) × IsUnfolded p (instance_within d p (unwrap_or (component_named p s.callee) no_component)) =
-        subst (λ m. (component_named p s.callee ≡ Some (component_of (instance_within d p m))) × IsUnfolded p (instance_within d p m)) (sym (ap (λ o. unwrap_or o no_component) c.named)) q in
+        let q : (component_named p s.callee ≡ Some (component_of (instance_within d p c.callee))) × IsUnfolded p
+        (instance_within d p c.callee) = (c.named ∙ ap Some (sym (component_within d p c.callee)), u) in
+        let r : (component_named p s.callee ≡ Some (component_of (instance_within d p
+        (unwrap_or (component_named p s.callee) no_component)))) × IsUnfolded p
+        (instance_within d p (unwrap_or (component_named p s.callee) no_component)) =
+        subst (λ m. (component_named p s.callee ≡ Some (component_of (instance_within d p m))) × IsUnfolded p (instance_within d p m))
+        (sym (ap (λ o. unwrap_or o no_component) c.named)) q in
         (refl, r.0, r.1, go below ss a.1)
 
 pub each_unfolded : Unfolding

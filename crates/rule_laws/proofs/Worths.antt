@@ -50,19 +50,22 @@ no_clash : (s : Scope) (q r : Sort) (e : Expression) → needs_sort s q e ≡ []
 no_clash s q r e h t = sym (same_sorts q r (subst (λ k. differ (Some q) k ≡ false) t (not_so (differ (Some q) (type_of s e)) type_clash (begin e) h)))
 
 no_dispute : (s : Scope) (q r : Sort) (a b : Expression) → agree s a b ≡ [] → type_of s a ≡ Some q → type_of s b ≡ Some r → r ≡ q
-no_dispute s q r a b h t u = sym (same_sorts q r (subst (λ k. differ (Some q) k ≡ false) u (subst (λ k. differ k (type_of s b) ≡ false) t (not_so (differ (type_of s a) (type_of s b)) type_clash (begin b) h))))
+no_dispute s q r a b h t u = sym (same_sorts q r (subst (λ k. differ (Some q) k ≡ false) u
+    (subst (λ k. differ k (type_of s b) ≡ false) t (not_so (differ (type_of s a) (type_of s b)) type_clash (begin b) h))))
 
 -- ---- what an operator asks
 
 abbrev Asked : Operator → Sort → Sort → Type 0
 Asked o q r = Takes o q × (r ≡ q)
 
-of_sort : (s : Scope) (k : Sort) (a b : Expression) (q r : Sort) → needs_sort s k a ++ needs_sort s k b ≡ [] → type_of s a ≡ Some q → type_of s b ≡ Some r → (q ≡ k) × (r ≡ q)
+of_sort : (s : Scope) (k : Sort) (a b : Expression) (q r : Sort) → needs_sort s k a ++ needs_sort s k b ≡ [] → type_of s a ≡ Some q
+    → type_of s b ≡ Some r → (q ≡ k) × (r ≡ q)
 of_sort s k a b q r h t u =
     let e : q ≡ k = no_clash s k q a (no_parts (needs_sort s k a) (needs_sort s k b) h).0 t in
     (e, no_clash s k r b (no_parts (needs_sort s k a) (needs_sort s k b) h).1 u ∙ sym e)
 
-asked : (s : Scope) (at : Pos) (o : Operator) (a b : Expression) (q r : Sort) → operator_faults s at o a b ≡ [] → type_of s a ≡ Some q → type_of s b ≡ Some r → Asked o q r
+asked : (s : Scope) (at : Pos) (o : Operator) (a b : Expression) (q r : Sort) → operator_faults s at o a b ≡ [] → type_of s a ≡ Some q
+    → type_of s b ≡ Some r → Asked o q r
 asked s at Implies a b q r h t u = of_sort s Flags a b q r h t u
 asked s at Or a b q r h t u = of_sort s Flags a b q r h t u
 asked s at Xor a b q r h t u = of_sort s Flags a b q r h t u
@@ -80,13 +83,15 @@ asked s at Div a b q r h t u = of_sort s Numbers a b q r (no_parts _ _ (no_parts
 asked s at Mod a b q r h t u = of_sort s Numbers a b q r (no_parts _ _ (no_parts _ _ h).0).0 t u
 
 -- a constant divisor is not 0
-not_zero : (s : Scope) (at : Pos) (b : Expression) → ((is_constant s b && is_zero (constant_of s b)) ≡ false) → is_constant s b ≡ true → is_zero (constant_of s b) ≡ false
+not_zero : (s : Scope) (at : Pos) (b : Expression) → ((is_constant s b && is_zero (constant_of s b)) ≡ false) → is_constant s b ≡ true
+    → is_zero (constant_of s b) ≡ false
 not_zero s at b h c = subst (λ k. (k && is_zero (constant_of s b)) ≡ false) c h
 
 divided : (o : Operator) (v w : Value) → is_zero w ≡ false → cond (is_zero w) absent (apply o v w) ≡ apply o v w
 divided o v w e = ap (λ k. cond k absent (apply o v w)) e
 
-total : (s : Scope) (at : Pos) (o : Operator) (a b : Expression) (v : Value) → operator_faults s at o a b ≡ [] → is_constant s b ≡ true → apply_total o v (constant_of s b) ≡ apply o v (constant_of s b)
+total : (s : Scope) (at : Pos) (o : Operator) (a b : Expression) (v : Value) → operator_faults s at o a b ≡ [] → is_constant s b ≡ true
+    → apply_total o v (constant_of s b) ≡ apply o v (constant_of s b)
 total s at Implies a b v h c = refl
 total s at Or a b v h c = refl
 total s at Xor a b v h c = refl
@@ -100,8 +105,10 @@ total s at More a b v h c = refl
 total s at Add a b v h c = refl
 total s at Sub a b v h c = refl
 total s at Mul a b v h c = refl
-total s at Div a b v h c = divided Div v (constant_of s b) (not_zero s at b (not_so (is_constant s b && is_zero (constant_of s b)) zero_divisor at (no_parts _ _ h).1) c)
-total s at Mod a b v h c = divided Mod v (constant_of s b) (not_zero s at b (not_so (is_constant s b && is_zero (constant_of s b)) zero_divisor at (no_parts _ _ h).1) c)
+total s at Div a b v h c = divided Div v (constant_of s b) (not_zero s at b
+    (not_so (is_constant s b && is_zero (constant_of s b)) zero_divisor at (no_parts _ _ h).1) c)
+total s at Mod a b v h c = divided Mod v (constant_of s b) (not_zero s at b
+    (not_so (is_constant s b && is_zero (constant_of s b)) zero_divisor at (no_parts _ _ h).1) c)
 
 -- ---- weights
 
@@ -190,13 +197,27 @@ module _ (sc sc' : Scope) (cs : List (Name × Value)) (names : (x : Name) → is
   forms : (t : Standing) (e : Expression) → Fine (occurs t e) → form_faults sc t.whole_side e ≡ []
   forms t e f = (no_parts (form_faults sc t.whole_side e) (weight_faults sc e) f.0).0
 
-  not_heavy : (t : Standing) (e : Expression) (q : Sort) → Fine (occurs t e) → type_of sc e ≡ Some q → (q ≡ Flags → weight_of sc e ≡ None) → is_heavy (weight_of sc e) ≡ false
+  not_heavy : (t : Standing) (e : Expression) (q : Sort) → Fine (occurs t e) → type_of sc e ≡ Some q → (q ≡ Flags → weight_of sc e ≡ None)
+      → is_heavy (weight_of sc e) ≡ false
   not_heavy t e Flags f k w = ap is_heavy (w refl)
   not_heavy t e Numbers f k w =
-      subst (λ o. (is_integer o && is_heavy (weight_of sc e)) ≡ false) k (not_so (is_integer (type_of sc e) && is_heavy (weight_of sc e)) heavy (begin e) (no_parts (form_faults sc t.whole_side e) (weight_faults sc e) f.0).1)
+      subst (λ o. (is_integer o && is_heavy (weight_of sc e)) ≡ false) k
+      (not_so (is_integer (type_of sc e) && is_heavy (weight_of sc e)) heavy (begin e)
+      (no_parts (form_faults sc t.whole_side e) (weight_faults sc e) f.0).1)
 
   pub worths : (t : Standing) (e : Expression) → Each Fine sc.owner t e → Has e
-  worths t (truth p b) g = record { sort = Flags; here = refl; there = refl; worth = refl; fixed_here = refl; fixed_there = refl; value = refl; has = refl; weightless = λ h. refl }
+  worths t (truth p b) g = record {
+    sort = Flags;
+    here = refl;
+    there = refl;
+    worth = refl;
+    fixed_here = refl;
+    fixed_there = refl;
+    value =
+        refl;
+    has = refl;
+    weightless = λ h. refl;
+  }
   worths t (number p k) g = record {
     sort = Numbers;
     here = refl;
@@ -212,7 +233,8 @@ module _ (sc sc' : Scope) (cs : List (Name × Value)) (names : (x : Name) → is
       let k : is_known sc x ≡ true = not_false (is_known sc x) (not_so (not (is_known sc x)) name_unknown p.at (forms t (name p x) g)) in
       let c : is_constant_name sc x ≡ true = is_so (is_constant_name sc x) p.at g.1 in
       let w : NameWorth sc sc' cs x = names x k c in
-      let light : w.sort ≡ Flags → name_weight sc x ≡ None = λ h. name_weight_is sc x w.value c w.value_here ∙ no_size w.value (has_as w.sort Flags w.value h w.has) in
+      let light : w.sort ≡ Flags → name_weight sc x ≡ None = λ h. name_weight_is sc x w.value c w.value_here ∙ no_size w.value
+      (has_as w.sort Flags w.value h w.has) in
       let v : w.value ≡ constant_value cs (name p x) = sym (ap (λ o. constant_or o (λ u. true) (entry empty_frame x) 0) w.found) in
       record {
         sort = w.sort;
@@ -250,7 +272,8 @@ module _ (sc sc' : Scope) (cs : List (Name × Value)) (names : (x : Name) → is
         worth = ap (λ w. worth (minus_value w.value) w.weight) r.worth;
         fixed_here = r.fixed_here;
         fixed_there = r.fixed_there;
-        value = value_kept (minus_value (constant_of sc a)) (weight_of sc a) (not_heavy t (minus p a) Numbers g.0 refl (λ h. not_flags h)) ∙ ap minus_value r.value;
+        value = value_kept (minus_value (constant_of sc a)) (weight_of sc a) (not_heavy t (minus p a) Numbers g.0 refl (λ h. not_flags h))
+            ∙ ap minus_value r.value;
         has = minus_has (constant_value cs a) (has_as r.sort Numbers (constant_value cs a) e r.has);
         weightless = λ h. not_flags h;
       }
@@ -266,11 +289,16 @@ module _ (sc sc' : Scope) (cs : List (Name × Value)) (names : (x : Name) → is
         sort = sort_of_operator o;
         here = refl;
         there = refl;
-        worth = ap (λ c. operator_worth o c (worth_of sc' a) (worth_of sc' b)) (r.fixed_there ∙ sym r.fixed_here) ∙ ap (λ w. operator_worth o (is_constant sc a) w (worth_of sc' b)) r.worth ∙ ap (operator_worth o (is_constant sc a) (worth_of sc a)) q.worth;
+        worth = ap (λ c. operator_worth o c (worth_of sc' a) (worth_of sc' b)) (r.fixed_there ∙ sym r.fixed_here) ∙ ap
+            (λ w. operator_worth o (is_constant sc a) w (worth_of sc' b)) r.worth ∙ ap
+            (operator_worth o (is_constant sc a) (worth_of sc a)) q.worth;
         fixed_here = both_so (is_constant sc a) (is_constant sc b) r.fixed_here q.fixed_here;
         fixed_there = both_so (is_constant sc' a) (is_constant sc' b) r.fixed_there q.fixed_there;
-        value = value_kept (apply_total o (constant_of sc a) (constant_of sc b)) (operator_weight o (is_constant sc a) (worth_of sc a) (worth_of sc b)) (not_heavy t (binary p o a b) (sort_of_operator o) g.0 refl light)
-            ∙ total sc p.at o a b (constant_of sc a) f q.fixed_here ∙ ap (λ v. apply o v (constant_of sc b)) r.value ∙ ap (apply o (constant_value cs a)) q.value;
+        value = value_kept (apply_total o (constant_of sc a) (constant_of sc b))
+            (operator_weight o (is_constant sc a) (worth_of sc a) (worth_of sc b))
+            (not_heavy t (binary p o a b) (sort_of_operator o) g.0 refl light)
+            ∙ total sc p.at o a b (constant_of sc a) f q.fixed_here ∙ ap (λ v. apply o v (constant_of sc b)) r.value ∙ ap
+            (apply o (constant_value cs a)) q.value;
         has = apply_has o r.sort (constant_value cs a) (constant_value cs b) k.0 r.has (has_as q.sort r.sort (constant_value cs b) k.1 q.has);
         weightless = light;
       }
@@ -284,18 +312,26 @@ module _ (sc sc' : Scope) (cs : List (Name × Value)) (names : (x : Name) → is
       let there : has_sort q.sort (constant_value cs d) ≡ true = has_as u.sort q.sort (constant_value cs d) m u.has in
       let light : q.sort ≡ Flags → weight_of sc (choice p a b d) ≡ None = λ h. no_greater (weight_of sc b) (weight_of sc d) (q.weightless h) in
       let like : are_alike (constant_of sc b) (constant_of sc d) ≡ true =
-      alike q.sort (constant_of sc b) (constant_of sc d) (subst (λ v. has_sort q.sort v ≡ true) (sym q.value) q.has) (subst (λ v. has_sort q.sort v ≡ true) (sym u.value) there) in
+      alike q.sort (constant_of sc b) (constant_of sc d) (subst (λ v. has_sort q.sort v ≡ true) (sym q.value) q.has)
+      (subst (λ v. has_sort q.sort v ≡ true) (sym u.value) there) in
       record {
         sort = q.sort;
         here = q.here;
         there = q.there;
-        worth = ap (λ w. choice_worth w (worth_of sc' b) (worth_of sc' d)) r.worth ∙ ap (λ w. choice_worth (worth_of sc a) w (worth_of sc' d)) q.worth ∙ ap (choice_worth (worth_of sc a) (worth_of sc b)) u.worth;
-        fixed_here = both_so (is_constant sc a) (is_constant sc b && is_constant sc d) r.fixed_here (both_so (is_constant sc b) (is_constant sc d) q.fixed_here u.fixed_here);
-        fixed_there = both_so (is_constant sc' a) (is_constant sc' b && is_constant sc' d) r.fixed_there (both_so (is_constant sc' b) (is_constant sc' d) q.fixed_there u.fixed_there);
-        value = value_kept (choose_total (constant_of sc a) (constant_of sc b) (constant_of sc d)) (greater (weight_of sc b) (weight_of sc d)) (not_heavy t (choice p a b d) q.sort g.0 q.here light)
+        worth = ap (λ w. choice_worth w (worth_of sc' b) (worth_of sc' d)) r.worth ∙ ap
+            (λ w. choice_worth (worth_of sc a) w (worth_of sc' d)) q.worth ∙ ap (choice_worth (worth_of sc a) (worth_of sc b)) u.worth;
+        fixed_here = both_so (is_constant sc a) (is_constant sc b && is_constant sc d) r.fixed_here
+            (both_so (is_constant sc b) (is_constant sc d) q.fixed_here u.fixed_here);
+        fixed_there = both_so (is_constant sc' a) (is_constant sc' b && is_constant sc' d) r.fixed_there
+            (both_so (is_constant sc' b) (is_constant sc' d) q.fixed_there u.fixed_there);
+        value = value_kept (choose_total (constant_of sc a) (constant_of sc b) (constant_of sc d))
+            (greater (weight_of sc b) (weight_of sc d)) (not_heavy t (choice p a b d) q.sort g.0 q.here light)
             ∙ ap (λ c. cond c (choose (constant_of sc a) (constant_of sc b) (constant_of sc d)) absent) like
-            ∙ ap (λ v. choose v (constant_of sc b) (constant_of sc d)) r.value ∙ ap (λ v. choose (constant_value cs a) v (constant_of sc d)) q.value ∙ ap (choose (constant_value cs a) (constant_value cs b)) u.value;
-        has = choose_has q.sort (constant_value cs a) (constant_value cs b) (constant_value cs d) (has_as r.sort Flags (constant_value cs a) k r.has) q.has there;
+            ∙ ap (λ v. choose v (constant_of sc b) (constant_of sc d)) r.value ∙ ap
+            (λ v. choose (constant_value cs a) v (constant_of sc d)) q.value ∙ ap
+            (choose (constant_value cs a) (constant_value cs b)) u.value;
+        has = choose_has q.sort (constant_value cs a) (constant_value cs b) (constant_value cs d)
+            (has_as r.sort Flags (constant_value cs a) k r.has) q.has there;
         weightless = light;
       }
   worths t (sampled p a b x) g = not_nil _ _ g.0.1

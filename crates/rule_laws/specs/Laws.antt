@@ -5,7 +5,7 @@ use Rattle.std.specs.Str.{bytes_eq}
 use Rattle.lus_tree.specs.Tree.{Name, Component, declared_constant, declared_node, declared_contract, Program}
 use Rattle.lus_meaning.specs.Value.{has_sort}
 use Rattle.lus_meaning.specs.Frame.{Frame, firsts_of, first_value}
-use Rattle.lus_meaning.specs.Scene.{Site, Instance, Instances, instance, no_instances, with_instance, component_of, constants_of, calls_of, call_instance, instance_called, clauses, clock_of}
+use Rattle.lus_meaning.specs.Scene.{Site, Instance, Instances, instance, no_instances, with_instance, component_of, constants_of, calls_of, call_instance, instance_called, contract_statements, clock_of}
 use Rattle.lus_meaning.specs.Program.{site_in, import_site, all_sites, component_named, constants_in, instance_of}
 use Rattle.lus_meaning.specs.Run.{sort_of_name, sort_of, first_sorts, have_sorts, is_typed}
 use Rattle.lus_meaning.specs.Occurrences.{Memory, gathered, memories}
@@ -78,7 +78,7 @@ CallsInPlace =
 
 abbrev pub ImportsInPlace : Type 0
 ImportsInPlace =
-    OfEach (λ p n. (s : Site) → Contains (flat_map import_site (clauses n)) s
+    OfEach (λ p n. (s : Site) → Contains (flat_map import_site (contract_statements n)) s
     → HasItsPlace (instance_of p n) (contract_named p s.callee) s)
 
 -- First values of the types of an instance have each the type of what stands under the `pre` of its number.

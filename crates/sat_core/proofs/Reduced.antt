@@ -34,7 +34,8 @@ reduced_first known trail marked n last literals hints hints' e f t =
         within = omega arith;
         top = λ k z. absurd (omega arith);
         rest = λ j a h m s. either (has (last ∷ []) (opposite a.literal))
-            (λ y. absurd (late (subst (Contains (falses (take n trail))) (sym (alone last (opposite a.literal) (has-contains (last ∷ []) (opposite a.literal) y)))
+            (λ y. absurd (late (subst (Contains (falses (take n trail)))
+            (sym (alone last (opposite a.literal) (has-contains (last ∷ []) (opposite a.literal) y)))
             (to_map_take (λ (x : Assigned). opposite x.literal) trail n j a s m))))
             (λ z. z);
       };

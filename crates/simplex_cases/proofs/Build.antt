@@ -55,7 +55,8 @@ made_given n count rows m = record {
       let e = m.number in
       sparse_within 0 (n + count) (get_or rows k d)
       (sparse_wider 0 (suc (n + k)) (n + count) (get_or rows k d) (omega arith) (made-from n (n + k) (get_or rows k d) (omega arith) (at k d h)));
-  ends = λ k d h. ap (entry (get_or rows k d)) (made-last n (n + k) (get_or rows k d) (omega arith) (at k d h)) ∙ made-end n (n + k) (get_or rows k d) (omega arith) (at k d h);
+  ends = λ k d h. ap (entry (get_or rows k d)) (made-last n (n + k) (get_or rows k d) (omega arith) (at k d h)) ∙ made-end n (n + k)
+      (get_or rows k d) (omega arith) (at k d h);
   alone = λ i j r s d er es.
       ap (entry s) (made-last n (n + i) r (omega arith) (m.each i r er))
       ∙ made-other n (n + j) (n + i) s (omega arith) (λ q. d (let p : i ≡ j = omega arith in p)) (m.each j s es);

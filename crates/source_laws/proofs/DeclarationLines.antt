@@ -10,15 +10,15 @@ use Rattle.lus_grammar.specs.Syntax.{Counts, Syntax, node}
 use Rattle.lus_grammar.specs.Programs.{contract_of, constants_of, declaration_of, declarations_of, program_of}
 use Rattle.lus_grammar.specs.Text.{Text}
 use Rattle.source_laws.proofs.Lists.{all_both, all_map}
-use Rattle.source_laws.proofs.Parts.{IsConstant, IsClause, IsDeclaration, IsProgram}
+use Rattle.source_laws.proofs.Parts.{IsConstant, IsContractStatement, IsDeclaration, IsProgram}
 use Rattle.source_laws.proofs.Made.{token, line, line_anew, both, this_one, that_one, not_once, once, no_more, again, made, of_line}
-use Rattle.source_laws.proofs.Lines.{AreMarks, AreLocals, AreItems, AreClauses, IsLine, Shown, the_one}
+use Rattle.source_laws.proofs.Lines.{AreMarks, AreLocals, AreItems, AreContractStatements, IsLine, Shown, the_one}
 use Rattle.source_laws.proofs.ExpressionLines.{expressions, expression, condition, arrow_line, implication, relation, chain, unary, primary}
 use Rattle.source_laws.proofs.ItemLines.{folded, names, group, groups, parameters, local_group, locals, left, item, arguments, constant_line, mode_item, contract_item, contract}
 
 module _ {s : Stream} where
   optional_contract : {x : Syntax} → Shown s (optional (part P.Contract)) x →
-      AllByRecursion IsClause (unwrap_or (contract_of x) [])
+      AllByRecursion IsContractStatement (unwrap_or (contract_of x) [])
   optional_contract not_once = tt
   optional_contract (once (line a)) = a
 
@@ -35,7 +35,8 @@ module _ {s : Stream} where
 
   module _ (marks : AreMarks s) where
     node_line : (x : Syntax) → Shown s (body P.Node) x → IsLine P.Node (node P.Node x)
-    node_line x (both (token t) (both (token {i = k} v) (both (line ps) (both a2 (both (line qs) (both a4 (both c (both ls (both a7 (both is (both a9 a10))))))))))) =
+    node_line x (both (token t) (both (token {i = k} v) (both (line ps)
+        (both a2 (both (line qs) (both a4 (both c (both ls (both a7 (both is (both a9 a10))))))))))) =
         let l = folded AreLocals (record { streams = tt; constants = tt }) (λ y a. a) ls in (
           record {
             name = marks.name k (the_one v);
@@ -58,7 +59,7 @@ module _ {s : Stream} where
           outputs = qs;
           locals = tt;
           constants = tt;
-          contract = folded AreClauses tt (λ y a. a) is;
+          contract = folded AreContractStatements tt (λ y a. a) is;
           body = tt;
         },
         record { function = refl; locals = refl; constants = refl; contract = refl; body = refl },

@@ -105,11 +105,16 @@ module _ {s : Stream} where
         marks.name i (the_one u)
     primary x (that_one (that_one (that_one (this_one (both (token t) (both (token {i = i} u) (once (both v (token {i = k} w))))))))) =
         (marks.name i (the_one u), marks.name k (the_one w))
-    primary x (that_one (that_one (that_one (that_one (this_one (both (token t) (both (token {i = i} u) (both t3 (both t4 (both t5 (both (line a) (both t6 (both t7 (both t8 (both t9 (both (line b) t10)))))))))))))))) =
+    primary x (that_one (that_one (that_one (that_one (this_one (both (token t)
+        (both (token {i = i} u) (both t3 (both t4 (both t5 (both (line a)
+        (both t6 (both t7 (both t8 (both t9 (both (line b) t10)))))))))))))))) =
         (marks.name i (the_one u), a, b)
-    primary x (that_one (that_one (that_one (that_one (that_one (this_one (both occurrence (both t1 (both (line a) (both t2 (both (token {i = i} t) (both (both t3 (both b t4)) (both ds t5))))))))))))) =
+    primary x (that_one (that_one (that_one (that_one (that_one (this_one
+        (both occurrence (both t1 (both (line a) (both t2 (both (token {i = i} t) (both (both t3 (both b t4)) (both ds t5))))))))))))) =
         (a, marks.name i (the_one t), arguments b, more_expressions ds)
-    primary x (that_one (that_one (that_one (that_one (that_one (that_one (both (token {i = o} t) (this_one (both occurrence (both (token {i = i} u) (both t2 (both (line a) (both t3 (both t4 (both (both t5 (both ds t6)) (both t7 (both t8 (both b t9)))))))))))))))))) =
+    primary x (that_one (that_one (that_one (that_one (that_one (that_one
+        (both (token {i = o} t) (this_one (both occurrence (both (token {i = i} u)
+        (both t2 (both (line a) (both t3 (both t4 (both (both t5 (both ds t6)) (both t7 (both t8 (both b t9)))))))))))))))))) =
         (a, marks.name i (the_one u), arguments b, arguments ds)
     primary x (that_one (that_one (that_one (that_one (that_one (that_one (both (token {i = o} t) (that_one (both {x = a} (line h) u))))))))) =
         begun_plain (record { from = (s o).at; at = (place_of (expression_of a)).at }) (expression_of a) h

@@ -1,15 +1,15 @@
 -- A source's constants, nodes, contract nodes and streams are named by identifiers.
 use Rattle.std.proofs.Common.{ℕ, List, [], ◌∷◌, ◌++◌}
 use Rattle.std.specs.List.{AllByRecursion}
-use Rattle.lus_tree.specs.Tree.{Clause, assume, guarantee, ghost_variable, constant, mode, «import», Component, Declaration, declared_constant, declared_node, declared_contract, Program}
+use Rattle.lus_tree.specs.Tree.{ContractStatement, assume, guarantee, ghost_variable, constant, mode, «import», Component, Declaration, declared_constant, declared_node, declared_contract, Program}
 use Rattle.lus_grammar.specs.Source.{IsSource}
-use Rattle.lus_meaning.specs.Scene.{ghosts, clauses, variables}
+use Rattle.lus_meaning.specs.Scene.{ghosts, contract_statements, variables}
 use Rattle.source_laws.specs.Laws.{IsIdentified, IsIdentifiedDeclaration, AreIdentified}
 use Rattle.source_laws.proofs.Lists.{all_both, all_map, all_such}
-use Rattle.source_laws.proofs.Parts.{IsWord, IsStream, IsParameter, IsClause, IsComponent, IsDeclaration}
+use Rattle.source_laws.proofs.Parts.{IsWord, IsStream, IsParameter, IsContractStatement, IsComponent, IsDeclaration}
 use Rattle.source_laws.proofs.Read.{source_parts}
 
-ghosts_named : (cs : List Clause) → AllByRecursion IsClause cs → AllByRecursion IsStream (ghosts cs)
+ghosts_named : (cs : List ContractStatement) → AllByRecursion IsContractStatement cs → AllByRecursion IsStream (ghosts cs)
 ghosts_named [] h = tt
 ghosts_named (assume l ∷ cs) h = ghosts_named cs h.1
 ghosts_named (guarantee l ∷ cs) h = ghosts_named cs h.1
@@ -23,9 +23,9 @@ pub streams_named : (n : Component) → IsComponent n → AllByRecursion IsStrea
 streams_named n h =
     let inputs = all_such IsParameter IsStream (λ v k. k.name) n.inputs h.inputs in
     let outputs = all_such IsParameter IsStream (λ v k. k.name) n.outputs h.outputs in
-    all_both IsStream (n.inputs ++ n.outputs ++ n.locals) (ghosts (clauses n))
+    all_both IsStream (n.inputs ++ n.outputs ++ n.locals) (ghosts (contract_statements n))
     (all_both IsStream (n.inputs ++ n.outputs) n.locals (all_both IsStream n.inputs n.outputs inputs outputs) h.locals)
-    (ghosts_named (clauses n) h.contract)
+    (ghosts_named (contract_statements n) h.contract)
 
 identified : (n : Component) → IsComponent n → IsIdentified n
 identified n h =

@@ -13,11 +13,11 @@ use Rattle.lus_grammar.specs.Phrase.{Part, part, limited, one_of, optional, repe
 use Rattle.lus_grammar.specs.Grammar.{body, labelled, semicolon}
 use Rattle.lus_grammar.specs.Syntax.{Syntax, leaf, node, ◌·◌, this, none, some}
 use Rattle.lus_grammar.specs.Trees.{expression_of}
-use Rattle.lus_grammar.specs.Programs.{label_of, labelled_of, names_of, more_names_of, sort_of, variable_of, clock_of, group_of, groups_of, local_group_of, local_groups_of, local_variables_of, local_constants_of, constants_of, import_arguments_of, more_arguments_of, clauses_of}
+use Rattle.lus_grammar.specs.Programs.{label_of, labelled_of, names_of, more_names_of, sort_of, variable_of, clock_of, group_of, groups_of, local_group_of, local_groups_of, local_variables_of, local_constants_of, constants_of, import_arguments_of, more_arguments_of, contract_statements_of}
 use Rattle.source_laws.proofs.Lists.{all_both, all_map, all_such}
-use Rattle.source_laws.proofs.Parts.{IsWord, AreWords, IsPlain, IsPrintable, IsItem, IsConstant, IsStream, IsOnClock, IsParameter, IsClause}
+use Rattle.source_laws.proofs.Parts.{IsWord, AreWords, IsPlain, IsPrintable, IsItem, IsConstant, IsStream, IsOnClock, IsParameter, IsContractStatement}
 use Rattle.source_laws.proofs.Made.{Made, token, occurrence, line, line_within, both, this_one, that_one, not_once, once, no_more, again}
-use Rattle.source_laws.proofs.Lines.{AreMarks, AreModeItems, AreClauses, Adds, IsLine, Shown, the_one}
+use Rattle.source_laws.proofs.Lines.{AreMarks, AreModeItems, AreContractStatements, Adds, IsLine, Shown, the_one}
 
 -- what each of some lines adds to
 pub folded : {H : Part → Syntax → Type 0} {s : Stream} {p : Part} (F : Syntax → Type 0) → F none →
@@ -85,12 +85,12 @@ module _ {s : Stream} where
   mode_items : {x : Syntax} → Shown s (repeated (part P.ModeItem)) x → AreModeItems x
   mode_items r = folded AreModeItems (record { required = tt; ensured = tt }) (λ x a. a) r
 
-  clauses : {x : Syntax} → Shown s (repeated (part P.ContractItem)) x → AreClauses x
-  clauses r = folded AreClauses tt (λ x a. a) r
+  contract_statements : {x : Syntax} → Shown s (repeated (part P.ContractItem)) x → AreContractStatements x
+  contract_statements r = folded AreContractStatements tt (λ x a. a) r
 
   pub contract : (x : Syntax) → Shown s (body P.Contract) x → IsLine P.Contract (node P.Contract x)
-  contract x (this_one (both t (both is u))) = clauses is
-  contract x (that_one (both t (both is u))) = clauses is
+  contract x (this_one (both t (both is u))) = contract_statements is
+  contract x (that_one (both t (both is u))) = contract_statements is
 
   module _ (marks : AreMarks s) where
     more_names : {x : Syntax} → Shown s (repeated (P.sign S.Comma ⨾ P.identifier)) x → AreWords (more_names_of x)
@@ -132,16 +132,18 @@ module _ {s : Stream} where
     contract_item x (this_one (both {y = l} (token {i = i} t) e)) is h = go t (labelled_item (s i) e)
       where
         go : ((s i).class ≡ Some (C.Keyword K.Assume)) ⊎ (((s i).class ≡ Some (C.Keyword K.Guarantee)) ⊎ ⊥) →
-            IsItem (labelled_of (s i) l) → AreClauses (some (node P.ContractItem (this (leaf (s i) · l))) is)
+            IsItem (labelled_of (s i) l) → AreContractStatements (some (node P.ContractItem (this (leaf (s i) · l))) is)
         go (inl a) p = rw a (p, h)
         go (inr (inl a)) p = rw a (p, h)
         go (inr (inr a)) p = absurd a
     contract_item x (that_one (this_one (both (token t) (both (token {i = i} v) (both u (both q (both w (both (line_within a) z)))))))) is h =
         ((record { name = marks.name i (the_one v); clock = refl }, a), h)
     contract_item x (that_one (that_one (this_one {x = c} (line k)))) is h =
-        all_both IsClause (map T.constant (constants_of c)) (clauses_of is) (all_map IsConstant IsClause T.constant (λ d a. a) (constants_of c) k) h
+        all_both IsContractStatement (map T.constant (constants_of c)) (contract_statements_of is)
+        (all_map IsConstant IsContractStatement T.constant (λ d a. a) (constants_of c) k) h
     contract_item x (that_one (that_one (that_one (this_one (both (token t) (both (token {i = i} v) (both u (both r (both w z))))))))) is h =
         let m = mode_items r in
         ((marks.name i (the_one v), m.required, m.ensured), h)
-    contract_item x (that_one (that_one (that_one (that_one (both occurrence (both (token v) (both u (both a (both t1 (both t2 (both t3 (both w (both t4 t5))))))))))))) is h =
+    contract_item x (that_one (that_one (that_one (that_one (both occurrence
+        (both (token v) (both u (both a (both t1 (both t2 (both t3 (both w (both t4 t5))))))))))))) is h =
         (import_arguments a, h)

@@ -9,9 +9,9 @@ use Rattle.lus_grammar.specs.Phrase as P
 use Rattle.lus_grammar.specs.Phrase.{Part, Phrase}
 use Rattle.lus_grammar.specs.Syntax.{Syntax, present, some}
 use Rattle.lus_grammar.specs.Trees.{digits_value, expression_of, arguments_of}
-use Rattle.lus_grammar.specs.Programs.{unquoted, names_of, group_of, groups_of, parameters_of, local_group_of, local_variables_of, local_constants_of, left_of, items_of, requires_of, ensures_of, constants_of, import_arguments_of, clauses_of, contract_of, nodes_of, contract_nodes_of, declaration_of, program_of}
+use Rattle.lus_grammar.specs.Programs.{unquoted, names_of, group_of, groups_of, parameters_of, local_group_of, local_variables_of, local_constants_of, left_of, items_of, requires_of, ensures_of, constants_of, import_arguments_of, contract_statements_of, contract_of, nodes_of, contract_nodes_of, declaration_of, program_of}
 use Rattle.lus_meaning.specs.Grammatical.{has_left_name}
-use Rattle.source_laws.proofs.Parts.{IsWord, AreWords, IsSmall, IsPlain, ArePlain, IsPrintable, IsItem, IsConstant, IsStream, IsOnClock, IsParameter, IsClause, IsStatement, IsDeclaration, IsProgram}
+use Rattle.source_laws.proofs.Parts.{IsWord, AreWords, IsSmall, IsPlain, ArePlain, IsPrintable, IsItem, IsConstant, IsStream, IsOnClock, IsParameter, IsContractStatement, IsStatement, IsDeclaration, IsProgram}
 use Rattle.source_laws.proofs.Made.{Made}
 
 -- what names, numbers and texts are in a stream
@@ -38,8 +38,8 @@ pub record AreModeItems (x : Syntax) : Type 0 where
 abbrev pub AreItems : Syntax → Type 0
 AreItems x = AllByRecursion IsStatement (items_of x)
 
-abbrev pub AreClauses : Syntax → Type 0
-AreClauses x = AllByRecursion IsClause (clauses_of x)
+abbrev pub AreContractStatements : Syntax → Type 0
+AreContractStatements x = AllByRecursion IsContractStatement (contract_statements_of x)
 
 -- before others of its kind it leaves them such
 abbrev pub Adds : (Syntax → Type 0) → Syntax → Type 0
@@ -60,8 +60,8 @@ IsLine P.Locals x = Adds AreLocals x
 IsLine P.LocalGroup x = AllByRecursion IsStream (local_group_of x)
 IsLine P.Item x = Adds AreItems x
 IsLine P.Left x = (e : Expression) → has_left_name (equation (left_of x) e) ≡ true
-IsLine P.Contract x = AllByRecursion IsClause (unwrap_or (contract_of (present x)) [])
-IsLine P.ContractItem x = Adds AreClauses x
+IsLine P.Contract x = AllByRecursion IsContractStatement (unwrap_or (contract_of (present x)) [])
+IsLine P.ContractItem x = Adds AreContractStatements x
 IsLine P.ModeItem x = Adds AreModeItems x
 IsLine P.Arguments x = AllByRecursion IsPlain (import_arguments_of (present x))
 IsLine P.Expressions x = ArePlain (arguments_of (present x))

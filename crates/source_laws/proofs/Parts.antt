@@ -1,9 +1,9 @@
 -- What is shown of each part of a source's tree.
 use Rattle.std.proofs.Common.{◌≡◌, ℕ, ◌^◌, nat_lt, Bool, true, List, Option, Some, None}
 use Rattle.std.specs.List.{AllByRecursion}
-use Rattle.lus_tree.specs.Tree.{Name, Spelled, Expression, Expressions, truth, number, name, negation, minus, pre, arrow, binary, choice, sampled, merged, call, condact, mode_name, no_more, more, Variable, Constant, Labelled, Statement, equation, assertion, property, main_mark, Clause, assume, guarantee, ghost_variable, constant, mode, «import», Component, Declaration, declared_constant, declared_node, declared_contract, Program}
+use Rattle.lus_tree.specs.Tree.{Name, Spelled, Expression, Expressions, truth, number, name, negation, minus, pre, arrow, binary, choice, sampled, merged, call, condact, mode_name, no_more, more, Variable, Constant, Labelled, Statement, equation, assertion, property, main_mark, ContractStatement, assume, guarantee, ghost_variable, constant, mode, «import», Component, Declaration, declared_constant, declared_node, declared_contract, Program}
 use Rattle.lus_lexer.specs.Names.{is_name}
-use Rattle.lus_meaning.specs.Scene.{clauses}
+use Rattle.lus_meaning.specs.Scene.{contract_statements}
 use Rattle.lus_meaning.specs.Grammatical.{has_left_name, is_printable, IsContractNode}
 
 abbrev pub IsWord : Name → Type 0
@@ -65,13 +65,13 @@ pub record IsOnClock (c : Option (Bool × Spelled)) (v : Variable) : Type 0 wher
 abbrev pub IsParameter : Variable → Type 0
 IsParameter v = IsOnClock None v
 
-abbrev pub IsClause : Clause → Type 0
-IsClause (assume l) = IsItem l
-IsClause (guarantee l) = IsItem l
-IsClause (ghost_variable v e) = IsParameter v × IsPlain e
-IsClause (constant c) = IsConstant c
-IsClause (mode m rs es) = IsWord m.text × AllByRecursion IsItem rs × AllByRecursion IsItem es
-IsClause («import» k c as_ xs) = AllByRecursion IsPlain as_
+abbrev pub IsContractStatement : ContractStatement → Type 0
+IsContractStatement (assume l) = IsItem l
+IsContractStatement (guarantee l) = IsItem l
+IsContractStatement (ghost_variable v e) = IsParameter v × IsPlain e
+IsContractStatement (constant c) = IsConstant c
+IsContractStatement (mode m rs es) = IsWord m.text × AllByRecursion IsItem rs × AllByRecursion IsItem es
+IsContractStatement («import» k c as_ xs) = AllByRecursion IsPlain as_
 
 abbrev pub IsStatement : Statement → Type 0
 IsStatement (equation xs e) = (has_left_name (equation xs e) ≡ true) × IsPlain e
@@ -87,7 +87,7 @@ pub record IsComponent (n : Component) : Type 0 where
   pub outputs : AllByRecursion IsParameter n.outputs
   pub locals : AllByRecursion IsStream n.locals
   pub constants : AllByRecursion IsConstant n.constants
-  pub contract : AllByRecursion IsClause (clauses n)
+  pub contract : AllByRecursion IsContractStatement (contract_statements n)
   pub body : AllByRecursion IsStatement n.body
 
 abbrev pub IsDeclaration : Declaration → Type 0

@@ -64,7 +64,8 @@ same_value b i n zero l = refl
 same_value b i n (suc k) l =
     let r = same_value b i n k (omega (arith, l)) in
     let z : 0 + k ≡ k = omega arith in
-    let e : byte (take n (drop i b)) (0 + k) ≡ byte b (i + k) = ap (byte (take n (drop i b))) z ∙ get_or-take n (drop i b) k 0 (omega (arith, l)) ∙ get_or-drop i b k 0 in
+    let e : byte (take n (drop i b)) (0 + k) ≡ byte b (i + k) = ap (byte (take n (drop i b))) z ∙ get_or-take n (drop i b) k 0
+    (omega (arith, l)) ∙ get_or-drop i b k 0 in
     ap (λ (x : ℕ). 10 * x + (byte (take n (drop i b)) (0 + k) - 48)) r ∙ ap (λ (x : ℕ). 10 * value (byte b) i k + (x - 48)) e
 
 slice_length : (b : List ℕ) (t : Tok) → t.from < t.to → t.to ≤ length b → length (slice b t) ≡ t.to - t.from

@@ -50,7 +50,8 @@ map_both : {X Y : Type 0} (f : X → Y) (xs ys : List X) → map f (xs ++ ys) �
 map_both f [] ys = refl
 map_both f (x ∷ xs) ys = ap (λ l. f x ∷ l) (map_both f xs ys)
 
-pub each_mapped : {X Y Z : Type 0} (f : Y → Z) (h : X → List Y) (g : X → List Z) (xs : List X) → AllByRecursion (λ x. map f (h x) ≡ g x) xs → map f (flat_map h xs) ≡ flat_map g xs
+pub each_mapped : {X Y Z : Type 0} (f : Y → Z) (h : X → List Y) (g : X → List Z) (xs : List X) → AllByRecursion (λ x. map f (h x) ≡ g x) xs
+    → map f (flat_map h xs) ≡ flat_map g xs
 each_mapped f h g [] a = refl
 each_mapped f h g (x ∷ xs) a = map_both f (h x) (flat_map h xs) ∙ rw (a.0, each_mapped f h g xs a.1) refl
 
@@ -77,12 +78,14 @@ apart (x ∷ xs) ys a = both ys (apart xs ys a.1) (none xs ys a.0)
     none [] [] e = tt
     none [] (z ∷ zs) e = go (bytes_eq x z) refl e (none [] zs)
       where
-        go : (b : Bool) → bytes_eq x z ≡ b → (b || named_in x zs) ≡ false → (named_in x zs ≡ false → AllByRecursion (λ z. bytes_eq x z ≡ false) zs) → AllByRecursion (λ z. bytes_eq x z ≡ false) (z ∷ zs)
+        go : (b : Bool) → bytes_eq x z ≡ b → (b || named_in x zs) ≡ false →
+            (named_in x zs ≡ false → AllByRecursion (λ z. bytes_eq x z ≡ false) zs) → AllByRecursion (λ z. bytes_eq x z ≡ false) (z ∷ zs)
         go true p f r = absurd (true≢false f)
         go false p f r = (p, r f)
     none (u ∷ us) zs e = go (bytes_eq x u) e (none us zs)
       where
-        go : (b : Bool) → (b || named_in x (us ++ zs)) ≡ false → (named_in x (us ++ zs) ≡ false → AllByRecursion (λ z. bytes_eq x z ≡ false) zs) → AllByRecursion (λ z. bytes_eq x z ≡ false) zs
+        go : (b : Bool) → (b || named_in x (us ++ zs)) ≡ false → (named_in x (us ++ zs) ≡ false → AllByRecursion
+            (λ z. bytes_eq x z ≡ false) zs) → AllByRecursion (λ z. bytes_eq x z ≡ false) zs
         go true f r = absurd (true≢false f)
         go false f r = r f
 
@@ -93,7 +96,8 @@ apart (x ∷ xs) ys a = both ys (apart xs ys a.1) (none xs ys a.0)
         go false p = refl
         go true p = absurd (true≢false (sym (self_bytes x) ∙ ap (λ z. bytes_eq x z) (sym (same_bytes y x p)) ∙ e))
 
-    both : (zs : List Name) → AllByRecursion (λ y. named_in y xs ≡ false) zs → AllByRecursion (λ z. bytes_eq x z ≡ false) zs → AllByRecursion (λ y. named_in y (x ∷ xs) ≡ false) zs
+    both : (zs : List Name) → AllByRecursion (λ y. named_in y xs ≡ false) zs → AllByRecursion (λ z. bytes_eq x z ≡ false) zs
+        → AllByRecursion (λ y. named_in y (x ∷ xs) ≡ false) zs
     both [] p q = tt
     both (z ∷ zs) p q = (rw (turned z q.0) p.0, both zs p.1 q.1)
 
@@ -105,11 +109,13 @@ no_right (e ∷ es) x f = go (named_in x e.names) refl (no_right es x)
     split [] zs k = (refl, k)
     split (y ∷ ys) zs k = step (bytes_eq x y) k (split ys zs)
       where
-        step : (b : Bool) → (b || named_in x (ys ++ zs)) ≡ false → (named_in x (ys ++ zs) ≡ false → (named_in x ys ≡ false) × (named_in x zs ≡ false)) → ((b || named_in x ys) ≡ false) × (named_in x zs ≡ false)
+        step : (b : Bool) → (b || named_in x (ys ++ zs)) ≡ false → (named_in x (ys ++ zs) ≡ false → (named_in x ys ≡ false) ×
+            (named_in x zs ≡ false)) → ((b || named_in x ys) ≡ false) × (named_in x zs ≡ false)
         step true k r = absurd (true≢false k)
         step false k r = r k
 
-    go : (b : Bool) → named_in x e.names ≡ b → (named_in x (flat_map (λ e. e.names) es) ≡ false → right_of es x ≡ None) → cond b (Some e.right) (right_of es x) ≡ None
+    go : (b : Bool) → named_in x e.names ≡ b → (named_in x (flat_map (λ e. e.names) es) ≡ false → right_of es x ≡ None) → cond b
+        (Some e.right) (right_of es x) ≡ None
     go true p r = absurd (true≢false (sym p ∙ (split e.names (flat_map (λ e. e.names) es) f).0))
     go false p r = r (split e.names (flat_map (λ e. e.names) es) f).1
 
@@ -126,55 +132,74 @@ module _ (d : Component) (node : IsBooleanNode d) (at : Spotted → ℕ) (modes 
       go zero = refl
       go (suc m) = refl
 
-  pub sources_are : (es : List Equation) → AllByRecursion IsBooleanEquation es → AllByRecursion (λ e. Numbers at n e.right) es → (x : Name) → lookup (bytes_eq x) (equation_sources g es) ≡ option_map (λ e. a_flag (formula_of n e)) (right_of es x)
+  pub sources_are : (es : List Equation) → AllByRecursion IsBooleanEquation es → AllByRecursion (λ e. Numbers at n e.right) es → (x : Name)
+      → lookup (bytes_eq x) (equation_sources g es) ≡ option_map (λ e. a_flag (formula_of n e)) (right_of es x)
   sources_are [] b k x = refl
   sources_are (e ∷ es) b k x = one e.names b.0.one_name (sources_are es b.1 k.1 x)
     where
       one : (xs : List Name) → length xs ≡ 1 → lookup (bytes_eq x) (equation_sources g es) ≡ option_map (λ e. a_flag (formula_of n e)) (right_of es x)
-          → lookup (bytes_eq x) (paired xs (right_terms g e.right) ++ equation_sources g es) ≡ option_map (λ e. a_flag (formula_of n e)) (cond (named_in x xs) (Some e.right) (right_of es x))
+          → lookup (bytes_eq x) (paired xs (right_terms g e.right) ++ equation_sources g es) ≡ option_map (λ e. a_flag (formula_of n e))
+          (cond (named_in x xs) (Some e.right) (right_of es x))
       one [] l r = absurd (omega arith)
       one (y ∷ []) l r = rw (right_is d node at modes n e.right b.0.right k.0) (go (bytes_eq x y) r)
         where
-          go : (c : Bool) → lookup (bytes_eq x) (equation_sources g es) ≡ option_map (λ e. a_flag (formula_of n e)) (right_of es x) → cond c (Some (a_flag (formula_of n e.right))) (lookup (bytes_eq x) (equation_sources g es)) ≡ option_map (λ e. a_flag (formula_of n e)) (cond (c || false) (Some e.right) (right_of es x))
+          go : (c : Bool) → lookup (bytes_eq x) (equation_sources g es) ≡ option_map (λ e. a_flag (formula_of n e)) (right_of es x) → cond c
+              (Some (a_flag (formula_of n e.right))) (lookup (bytes_eq x) (equation_sources g es)) ≡ option_map
+              (λ e. a_flag (formula_of n e)) (cond (c || false) (Some e.right) (right_of es x))
           go true r = refl
           go false r = r
       one (y ∷ z ∷ xs) l r = absurd (omega arith)
 
   -- a name that is no input
-  pub name_condition_is : (v : Variable) → IsFlag v → at (own beat) ≡ 0 → at (own (named v.name.text)) ≡ name_number n v.name.text → named_in v.name.text (inputs_of g.place) ≡ false → (es : List Equation) (o : Option Part) → o ≡ option_map (λ e. a_flag (formula_of n e)) (right_of es v.name.text) → name_here g v o ≡ name_condition n es v.name.text ∷ []
+  pub name_condition_is : (v : Variable) → IsFlag v → at (own beat) ≡ 0 → at (own (named v.name.text)) ≡ name_number n v.name.text
+      → named_in v.name.text (inputs_of g.place) ≡ false → (es : List Equation) (o : Option Part) → o ≡ option_map
+      (λ e. a_flag (formula_of n e)) (right_of es v.name.text) → name_here g v o ≡ name_condition n es v.name.text ∷ []
   name_condition_is v f b k free es o e = rw e (go (right_of es v.name.text))
     where
-      go : (r : Option Expression) → name_here g v (option_map (λ e. a_flag (formula_of n e)) r) ≡ option_map_or (defined_condition n v.name.text) r (free_condition n v.name.text) ∷ []
+      go : (r : Option Expression) → name_here g v (option_map (λ e. a_flag (formula_of n e)) r) ≡ option_map_or
+          (defined_condition n v.name.text) r (free_condition n v.name.text) ∷ []
       go (Some a) = rw (f.sort, f.clock, present_base, b, k) refl
       go None = rw (free, f.sort, f.clock, present_base, b, k) refl
 
   -- an input has none
-  pub input_condition : (v : Variable) → named_in v.name.text (inputs_of g.place) ≡ true → (es : List Equation) → named_in v.name.text (flat_map (λ e. e.names) es) ≡ false → (o : Option Part) → o ≡ option_map (λ e. a_flag (formula_of n e)) (right_of es v.name.text) → name_here g v o ≡ []
+  pub input_condition : (v : Variable) → named_in v.name.text (inputs_of g.place) ≡ true → (es : List Equation) → named_in v.name.text
+      (flat_map (λ e. e.names) es) ≡ false → (o : Option Part) → o ≡ option_map (λ e. a_flag (formula_of n e)) (right_of es v.name.text)
+      → name_here g v o ≡ []
   input_condition v i es k o e = rw (e, no_right es v.name.text k, i) refl
 
   -- ---- a state and the next
 
-  memory_next_is : (m : Kept) (k : ℕ) → m.number ≡ k → IsOperand at n m → at (own beat) ≡ 0 → at (own (memory k)) ≡ memory_number n k → memory_next g (on_base_clock m) ≡ memory_condition n k m.operand
+  memory_next_is : (m : Kept) (k : ℕ) → m.number ≡ k → IsOperand at n m → at (own beat) ≡ 0 → at (own (memory k)) ≡ memory_number n k
+      → memory_next g (on_base_clock m) ≡ memory_condition n k m.operand
   memory_next_is m k e o b l = rw (boolean_is_flag d node m.operand o.shape, e, present_base, b, l, term_is d node at modes n m.operand o.shape o.numbers) refl
 
-  pub memories_next : (ms : List Kept) (k : ℕ) → AllByRecursion (IsOperand at n) ms → at (own beat) ≡ 0 → at (own (memory k)) ≡ memory_number n k → map (memory_next g) (option_to_list (find (λ m. m.number == k) (map on_base_clock ms))) ≡ option_to_list (option_map (memory_condition n k) (operand_of ms k))
+  pub memories_next : (ms : List Kept) (k : ℕ) → AllByRecursion (IsOperand at n) ms → at (own beat) ≡ 0 → at
+      (own (memory k)) ≡ memory_number n k → map (memory_next g) (option_to_list (find (λ m. m.number == k) (map on_base_clock ms))) ≡
+      option_to_list (option_map (memory_condition n k) (operand_of ms k))
   memories_next [] k a b l = refl
   memories_next (m ∷ ms) k a b l = go (cases_Bool (m.number == k)) (memories_next ms k a.1 b l)
     where
-      go : ((m.number == k) ≡ true) ⊎ ((m.number == k) ≡ false) → map (memory_next g) (option_to_list (find (λ m. m.number == k) (map on_base_clock ms))) ≡ option_to_list (option_map (memory_condition n k) (operand_of ms k))
-          → map (memory_next g) (option_to_list (cond (m.number == k) (Some (on_base_clock m)) (find (λ m. m.number == k) (map on_base_clock ms)))) ≡ option_to_list (option_map (memory_condition n k) (cond (nat_eq k m.number) (Some m.operand) (operand_of ms k)))
+      go : ((m.number == k) ≡ true) ⊎ ((m.number == k) ≡ false) → map (memory_next g)
+          (option_to_list (find (λ m. m.number == k) (map on_base_clock ms))) ≡ option_to_list
+          (option_map (memory_condition n k) (operand_of ms k))
+          → map (memory_next g) (option_to_list (cond (m.number == k) (Some (on_base_clock m))
+          (find (λ m. m.number == k) (map on_base_clock ms)))) ≡ option_to_list
+          (option_map (memory_condition n k) (cond (nat_eq k m.number) (Some m.operand) (operand_of ms k)))
       go (inl p) r = rw (p, eq-eqb k m.number (sym (eqb-true m.number k p))) (ap (λ f. f ∷ []) (memory_next_is m k (eqb-true m.number k p) a.0 b l))
       go (inr p) r = rw (p, ne_eqb k m.number (λ e. eqb-false m.number k p (sym e))) r
 
-  pub start_next_is : (a : Start) → a.clock ≡ base → at (own beat) ≡ 0 → at (own (starting a.number)) ≡ start_number n a.number → start_next g a ≡ start_condition n a.number
+  pub start_next_is : (a : Start) → a.clock ≡ base → at (own beat) ≡ 0 → at (own (starting a.number)) ≡ start_number n a.number
+      → start_next g a ≡ start_condition n a.number
   start_next_is a c b l = rw (c, present_base, b, l) refl
 
   -- ---- properties and assertions
 
-  pub properties_are : (ss : List Statement) → AllByRecursion IsBooleanItem ss → AllByRecursion (Numbers at n) (body_expressions ss) → body_properties g ss ≡ property_formulas n ss
+  pub properties_are : (ss : List Statement) → AllByRecursion IsBooleanItem ss → AllByRecursion (Numbers at n) (body_expressions ss)
+      → body_properties g ss ≡ property_formulas n ss
   properties_are [] h k = refl
   properties_are (s ∷ ss) h k = of_boolean_item
-      (λ s. (AllByRecursion (Numbers at n) (body_expressions ss) → body_properties g ss ≡ property_formulas n ss) → AllByRecursion (Numbers at n) (body_expressions (s ∷ ss)) → body_properties g (s ∷ ss) ≡ property_formulas n (s ∷ ss))
+      (λ s. (AllByRecursion (Numbers at n) (body_expressions ss) → body_properties g ss ≡ property_formulas n ss) → AllByRecursion
+      (Numbers at n) (body_expressions (s ∷ ss)) → body_properties g (s ∷ ss) ≡ property_formulas n (s ∷ ss))
       (λ x e i r j. r j.1)
       (λ l i r j. rw (term_is d node at modes n l.value i j.0, r j.1) refl)
       (λ p r j. r j)
@@ -182,4 +207,5 @@ module _ (d : Component) (node : IsBooleanNode d) (at : Spotted → ℕ) (modes 
 
 pub no_assertions : (ss : List Statement) → AllByRecursion IsBooleanItem ss → assertions ss ≡ []
 no_assertions [] h = refl
-no_assertions (s ∷ ss) h = of_boolean_item (λ s. assertions ss ≡ [] → assertions (s ∷ ss) ≡ []) (λ x e i r. r) (λ l i r. r) (λ p r. r) s h.0 (no_assertions ss h.1)
+no_assertions (s ∷ ss) h = of_boolean_item (λ s. assertions ss ≡ [] → assertions (s ∷ ss) ≡ []) (λ x e i r. r) (λ l i r. r) (λ p r. r) s h.0
+    (no_assertions ss h.1)

@@ -17,7 +17,8 @@ number_below (y ∷ xs) x e = go (bytes_eq x y) (number_below xs x) e
     go false r f = let h : number_of xs x < length xs = r f in omega arith
 
 -- so it is small where the system has few variables
-pub number_is_small : (n : Numbering) (xs : List Name) (x : Name) (i : ℕ) → xs ≡ n.names → named_in x xs ≡ true → i ≡ number_of xs x → width_of n < 2 ^ 31 → i + 1 < 2 ^ 32
+pub number_is_small : (n : Numbering) (xs : List Name) (x : Name) (i : ℕ) → xs ≡ n.names → named_in x xs ≡ true → i ≡ number_of xs x
+    → width_of n < 2 ^ 31 → i + 1 < 2 ^ 32
 number_is_small n xs x i l e is few =
     let h : number_of xs x < length xs = number_below xs x e in
     let m : length xs ≡ length n.names = ap length l in

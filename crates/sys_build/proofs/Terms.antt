@@ -64,7 +64,8 @@ module _ (d : Component) (node : IsBooleanNode d) (at : Spotted → ℕ) (modes 
   constant_applied Differs i a b = refl
   constant_applied _ i a b = absurd i
 
-  operated_part : (o : Operator) → IsOfFlags o → (a b : Expression) (f h : Formula) → binary_part over o a b (a_flag f) (a_flag h) ≡ a_flag (operate_formulas o f h)
+  operated_part : (o : Operator) → IsOfFlags o → (a b : Expression) (f h : Formula) → binary_part over o a b (a_flag f) (a_flag h) ≡ a_flag
+      (operate_formulas o f h)
   operated_part Implies i a b f h = refl
   operated_part Or i a b f h = refl
   operated_part Xor i a b f h = refl
@@ -73,13 +74,25 @@ module _ (d : Component) (node : IsBooleanNode d) (at : Spotted → ℕ) (modes 
   operated_part Differs i a b f h = refl
   operated_part _ i a b f h = absurd i
 
-  binary_comes : (p : Place) (o : Operator) → IsOfFlags o → (a b : Expression) (q r : Folded) → Comes over a q → Comes over b r → Comes over (binary p o a b) (operated o q r)
-  binary_comes p o i a b (known x) (known y) h k = (rw (h.0, k.0) refl, rw (h.1, k.1) (constant_applied o i x y), rw (h.0, k.0, h.1, k.1, constant_applied o i x y) refl)
+  binary_comes : (p : Place) (o : Operator) → IsOfFlags o → (a b : Expression) (q r : Folded) → Comes over a q → Comes over b r → Comes over
+      (binary p o a b) (operated o q r)
+  binary_comes p o i a b (known x) (known y) h k = (
+    rw (h.0, k.0) refl,
+    rw (h.1, k.1) (constant_applied o i x y),
+    rw
+        (h.0, k.0, h.1, k.1, constant_applied o i x y) refl,
+  )
   binary_comes p o i a b (known x) (left_open f) h k = (rw (h.0, k.0) refl, rw (h.0, k.0, h.2, k.1) (operated_part o i a b (t.truth x) f))
   binary_comes p o i a b (left_open f) r h k = (rw h.0 refl, rw (h.0, h.1, term_comes over b r k) (operated_part o i a b f (as_formula r)))
 
-  choice_comes : (p : Place) (c a b : Expression) (u q r : Folded) → Comes over c u → Comes over a q → Comes over b r → Comes over (choice p c a b) (chosen u q r)
-  choice_comes p c a b (known z) (known x) (known y) l h k = (rw (l.0, h.0, k.0) refl, rw (l.1, h.1, k.1) (if_flag z), rw (l.0, h.0, k.0, l.1, h.1, k.1, if_flag z) refl)
+  choice_comes : (p : Place) (c a b : Expression) (u q r : Folded) → Comes over c u → Comes over a q → Comes over b r → Comes over
+      (choice p c a b) (chosen u q r)
+  choice_comes p c a b (known z) (known x) (known y) l h k = (
+    rw (l.0, h.0, k.0) refl,
+    rw (l.1, h.1, k.1) (if_flag z),
+    rw
+        (l.0, h.0, k.0, l.1, h.1, k.1, if_flag z) refl,
+  )
     where
       if_flag : (w : Bool) → cond w (flag x) (flag y) ≡ flag (cond w x y)
       if_flag true = refl
@@ -97,21 +110,35 @@ module _ (d : Component) (node : IsBooleanNode d) (at : Spotted → ℕ) (modes 
   comes (pre p k a) h x m s = (refl, rw (boolean_is_flag d node a h, m.0) refl)
   comes (arrow p k a b) h x m s =
       let own_start : StartsAre (k ∷ arrows b) = right_part (λ j. at (own (starting j)) ≡ start_number n j) (arrows a) (k ∷ arrows b) s in
-      let left : Comes over a (folded n a) = comes a h.0 (left_part (λ y. at (own (named y)) ≡ name_number n y) (used_names a) (used_names b) x) (left_part (λ j. at (own (memory j)) ≡ memory_number n j) (pres a) (pres b) m) (left_part (λ j. at (own (starting j)) ≡ start_number n j) (arrows a) (k ∷ arrows b) s) in
-      let right : Comes over b (folded n b) = comes b h.1 (right_part (λ y. at (own (named y)) ≡ name_number n y) (used_names a) (used_names b) x) (right_part (λ j. at (own (memory j)) ≡ memory_number n j) (pres a) (pres b) m) own_start.1 in
+      let left : Comes over a (folded n a) = comes a h.0 (left_part (λ y. at (own (named y)) ≡ name_number n y) (used_names a)
+      (used_names b) x) (left_part (λ j. at (own (memory j)) ≡ memory_number n j) (pres a) (pres b) m)
+      (left_part (λ j. at (own (starting j)) ≡ start_number n j) (arrows a) (k ∷ arrows b) s) in
+      let right : Comes over b (folded n b) = comes b h.1 (right_part (λ y. at (own (named y)) ≡ name_number n y) (used_names a)
+      (used_names b) x) (right_part (λ j. at (own (memory j)) ≡ memory_number n j) (pres a) (pres b) m) own_start.1 in
       (refl, rw (own_start.0, term_comes over a (folded n a) left, term_comes over b (folded n b) right) refl)
   comes (binary p o a b) h x m s =
       binary_comes p o h.0 a b (folded n a) (folded n b)
-      (comes a h.1 (left_part (λ y. at (own (named y)) ≡ name_number n y) (used_names a) (used_names b) x) (left_part (λ j. at (own (memory j)) ≡ memory_number n j) (pres a) (pres b) m) (left_part (λ j. at (own (starting j)) ≡ start_number n j) (arrows a) (arrows b) s))
-      (comes b h.2 (right_part (λ y. at (own (named y)) ≡ name_number n y) (used_names a) (used_names b) x) (right_part (λ j. at (own (memory j)) ≡ memory_number n j) (pres a) (pres b) m) (right_part (λ j. at (own (starting j)) ≡ start_number n j) (arrows a) (arrows b) s))
+      (comes a h.1 (left_part (λ y. at (own (named y)) ≡ name_number n y) (used_names a) (used_names b) x)
+      (left_part (λ j. at (own (memory j)) ≡ memory_number n j) (pres a) (pres b) m)
+      (left_part (λ j. at (own (starting j)) ≡ start_number n j) (arrows a) (arrows b) s))
+      (comes b h.2 (right_part (λ y. at (own (named y)) ≡ name_number n y) (used_names a) (used_names b) x)
+      (right_part (λ j. at (own (memory j)) ≡ memory_number n j) (pres a) (pres b) m)
+      (right_part (λ j. at (own (starting j)) ≡ start_number n j) (arrows a) (arrows b) s))
   comes (choice p c a b) h x m s =
       let mc : MemoriesAre (pres c ++ pres a) = left_part (λ j. at (own (memory j)) ≡ memory_number n j) (pres c ++ pres a) (pres b) m in
       let sc : StartsAre (arrows c ++ arrows a) = left_part (λ j. at (own (starting j)) ≡ start_number n j) (arrows c ++ arrows a) (arrows b) s in
-      let xr : NamesAre (used_names a ++ used_names b) = right_part (λ y. at (own (named y)) ≡ name_number n y) (used_names c) (used_names a ++ used_names b) x in
+      let xr : NamesAre (used_names a ++ used_names b) = right_part (λ y. at (own (named y)) ≡ name_number n y) (used_names c)
+      (used_names a ++ used_names b) x in
       choice_comes p c a b (folded n c) (folded n a) (folded n b)
-      (comes c h.0 (left_part (λ y. at (own (named y)) ≡ name_number n y) (used_names c) (used_names a ++ used_names b) x) (left_part (λ j. at (own (memory j)) ≡ memory_number n j) (pres c) (pres a) mc) (left_part (λ j. at (own (starting j)) ≡ start_number n j) (arrows c) (arrows a) sc))
-      (comes a h.1 (left_part (λ y. at (own (named y)) ≡ name_number n y) (used_names a) (used_names b) xr) (right_part (λ j. at (own (memory j)) ≡ memory_number n j) (pres c) (pres a) mc) (right_part (λ j. at (own (starting j)) ≡ start_number n j) (arrows c) (arrows a) sc))
-      (comes b h.2 (right_part (λ y. at (own (named y)) ≡ name_number n y) (used_names a) (used_names b) xr) (right_part (λ j. at (own (memory j)) ≡ memory_number n j) (pres c ++ pres a) (pres b) m) (right_part (λ j. at (own (starting j)) ≡ start_number n j) (arrows c ++ arrows a) (arrows b) s))
+      (comes c h.0 (left_part (λ y. at (own (named y)) ≡ name_number n y) (used_names c) (used_names a ++ used_names b) x)
+      (left_part (λ j. at (own (memory j)) ≡ memory_number n j) (pres c) (pres a) mc)
+      (left_part (λ j. at (own (starting j)) ≡ start_number n j) (arrows c) (arrows a) sc))
+      (comes a h.1 (left_part (λ y. at (own (named y)) ≡ name_number n y) (used_names a) (used_names b) xr)
+      (right_part (λ j. at (own (memory j)) ≡ memory_number n j) (pres c) (pres a) mc)
+      (right_part (λ j. at (own (starting j)) ≡ start_number n j) (arrows c) (arrows a) sc))
+      (comes b h.2 (right_part (λ y. at (own (named y)) ≡ name_number n y) (used_names a) (used_names b) xr)
+      (right_part (λ j. at (own (memory j)) ≡ memory_number n j) (pres c ++ pres a) (pres b) m)
+      (right_part (λ j. at (own (starting j)) ≡ start_number n j) (arrows c ++ arrows a) (arrows b) s))
   comes _ h x m s = absurd h
 
   pub term_is : (e : Expression) → IsBooleanExpression e → Numbers at n e → term_of over e ≡ a_flag (formula_of n e)

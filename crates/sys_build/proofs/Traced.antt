@@ -20,7 +20,7 @@ use Rattle.lus_meaning.specs.Recompute.{sample}
 use Rattle.lus_meaning.specs.Verdict.{throughout}
 use Rattle.lus_meaning.specs.Rules.{names_of}
 use Rattle.lus_meaning.specs.Depends.{named_in}
-use Rattle.lus_meaning.specs.Trace.{Subject, Line, is_defined, free_names}
+use Rattle.lus_meaning.specs.Trace.{Subject, BareLine, is_defined, free_names}
 use Rattle.lus_meaning.specs.TraceView.{all_at, bare_values, bare_line, bare_view, line_view, trace_view, unplaced}
 use Rattle.lus_meaning.specs.BooleanRules.{IsBooleanNode, IsBooleanChecked}
 use Rattle.lus_meaning.proofs.Exists.{length_mapped}
@@ -56,7 +56,8 @@ values_bare p [] = refl
 values_bare p (v ∷ vs) = ap (λ (ws : List Value). v ∷ ws) (values_bare p vs)
 
 -- its places aside
-pub own_bare : {E : Type 0} (p : Pos) (path : List ℕ) (x : Subject) (vs : List Value) (r : Result TraceLine E) → path ≡ [] → IfOk r (λ l. line_view l ≡ unplaced p path x vs) → IfOk r (λ l. bare_view l ≡ own_line x vs)
+pub own_bare : {E : Type 0} (p : Pos) (path : List ℕ) (x : Subject) (vs : List Value) (r : Result TraceLine E) → path ≡ [] → IfOk r
+    (λ l. line_view l ≡ unplaced p path x vs) → IfOk r (λ l. bare_view l ≡ own_line x vs)
 own_bare p path x vs (Ok l) e h =
     ap bare_line h ∙ ap (λ (q : List ℕ). bare_line (unplaced p q x vs)) e ∙ ap (own_line x) (values_bare p vs)
 own_bare p path x vs (Err e) f h = tt
@@ -67,7 +68,8 @@ right_there : (es : List Equation) (x : Name) → is_some (right_of es x) ≡ li
 right_there [] x = refl
 right_there (e ∷ es) x = go (named_in x e.names) (right_there es x)
   where
-    go : (b : Bool) → is_some (right_of es x) ≡ list_any (λ e. list_any (bytes_eq x) e.names) es → is_some (cond b (Some e.right) (right_of es x)) ≡ (b || list_any (λ e. list_any (bytes_eq x) e.names) es)
+    go : (b : Bool) → is_some (right_of es x) ≡ list_any (λ e. list_any (bytes_eq x) e.names) es → is_some
+        (cond b (Some e.right) (right_of es x)) ≡ (b || list_any (λ e. list_any (bytes_eq x) e.names) es)
     go true r = refl
     go false r = r
 
@@ -81,15 +83,18 @@ module _ (d : Component) (node : IsBooleanNode d) where
       right_there (body_equations d.body) x
       ∙ ap (λ (es : List Equation). list_any (λ e. list_any (bytes_eq x) e.names) es) (sym (boolean_equations d node))
 
-  free_are : (n : Numbering) (states : List (List Entry)) (vs : List Variable) → free_lines n (body_equations d.body) states vs ≡ map (name_line n states) (free_of vs)
+  free_are : (n : Numbering) (states : List (List Entry)) (vs : List Variable) → free_lines n (body_equations d.body) states vs ≡ map
+      (name_line n states) (free_of vs)
   free_are n states [] = refl
   free_are n states (v ∷ vs) =
       ap (λ (b : Bool). cond b [] (name_line n states v ∷ []) ++ free_lines n (body_equations d.body) states vs) (defined_is v.name.text)
       ∙ go (is_defined d v.name.text) (free_are n states vs)
     where
-      go : (b : Bool) → free_lines n (body_equations d.body) states vs ≡ map (name_line n states) (free_of vs) → cond b [] (name_line n states v ∷ []) ++ free_lines n (body_equations d.body) states vs ≡ map (name_line n states) (cond b [] (v ∷ []) ++ free_of vs)
+      go : (b : Bool) → free_lines n (body_equations d.body) states vs ≡ map (name_line n states) (free_of vs) → cond b []
+          (name_line n states v ∷ []) ++ free_lines n (body_equations d.body) states vs ≡ map (name_line n states)
+          (cond b [] (v ∷ []) ++ free_of vs)
       go true r = r
-      go false r = ap (λ (ls : List Line). name_line n states v ∷ ls) r
+      go false r = ap (λ (ls : List BareLine). name_line n states v ∷ ls) r
 
 -- ---- what a name is in each state
 
@@ -175,23 +180,24 @@ module _ (d : Component) (node : IsBooleanNode d) (numbered : IsNumbered d) (sta
   declared = subst (AllByRecursion IsNamed) (boolean_variables d node) (listed_each (variables d))
 
   free_split : map (name_line n states) (free_names d) ≡ free_lines n es states d.outputs ++ free_lines n es states d.locals
-  free_split = sym (free_are d node n states (d.outputs ++ d.locals)) ∙ flat_map-append (λ v. cond (is_some (right_of es v.name.text)) [] (name_line n states v ∷ [])) d.outputs d.locals
+  free_split = sym (free_are d node n states (d.outputs ++ d.locals)) ∙ flat_map-append
+      (λ v. cond (is_some (right_of es v.name.text)) [] (name_line n states v ∷ [])) d.outputs d.locals
 
   lines_are : trace_of the_one states ≡ boolean_lines d states
   lines_are =
-      let inputs : List Line = name_lines [] (length states) f d.inputs in
-      let free : List Line = name_lines [] (length states) f (free_names d) in
-      let firsts : List Line = first_lines [] 1 (firsts_by 1 (first_sorts the_one) at c) in
-      let outs : List Line = free_lines n es states d.outputs in
-      let locals : List Line = free_lines n es states d.locals in
-      ap (λ (ls : List Line). inputs ++ ls) (append_none (free ++ firsts))
-      ∙ ap (λ (ls : List Line). ls ++ (free ++ firsts))
+      let inputs : List BareLine = name_lines [] (length states) f d.inputs in
+      let free : List BareLine = name_lines [] (length states) f (free_names d) in
+      let firsts : List BareLine = first_lines [] 1 (firsts_by 1 (first_sorts the_one) at c) in
+      let outs : List BareLine = free_lines n es states d.outputs in
+      let locals : List BareLine = free_lines n es states d.locals in
+      ap (λ (ls : List BareLine). inputs ++ ls) (append_none (free ++ firsts))
+      ∙ ap (λ (ls : List BareLine). ls ++ (free ++ firsts))
       (names_are d.inputs (left_part IsNamed d.inputs (d.outputs ++ d.locals) declared))
-      ∙ ap (λ (ls : List Line). map (name_line n states) d.inputs ++ (ls ++ firsts)) (names_are (free_names d)
+      ∙ ap (λ (ls : List BareLine). map (name_line n states) d.inputs ++ (ls ++ firsts)) (names_are (free_names d)
       (free_part IsNamed d (d.outputs ++ d.locals) (right_part IsNamed d.inputs (d.outputs ++ d.locals) declared))
       ∙ free_split)
-      ∙ ap (λ (ls : List Line). map (name_line n states) d.inputs ++ ls) (append_assoc outs locals firsts)
-      ∙ ap (λ (ls : List Line). map (name_line n states) d.inputs ++ (outs ++ (locals ++ ls))) firsts_listed
+      ∙ ap (λ (ls : List BareLine). map (name_line n states) d.inputs ++ ls) (append_assoc outs locals firsts)
+      ∙ ap (λ (ls : List BareLine). map (name_line n states) d.inputs ++ (outs ++ (locals ++ ls))) firsts_listed
 
 -- ---- of a checked program
 
@@ -203,7 +209,7 @@ states_lines p d states h =
 
 lines_bare : (ls : List TraceLine) → map bare_line (map line_view ls) ≡ map bare_view ls
 lines_bare [] = refl
-lines_bare (l ∷ ls) = ap (λ (ks : List Line). bare_view l ∷ ks) (lines_bare ls)
+lines_bare (l ∷ ls) = ap (λ (ks : List BareLine). bare_view l ∷ ks) (lines_bare ls)
 
 -- a trace with the lines of these states is theirs
 pub is_trace : (p : Program) (d e : Component) (states : List State) (t : Trace) → IsBooleanChecked p d →

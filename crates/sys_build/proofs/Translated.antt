@@ -21,7 +21,7 @@ use Rattle.lus_meaning.proofs.Exists.{length_mapped, self_bytes}
 use Rattle.lus_meaning.proofs.InOrder.{counting_all, in_order_all, length_counting}
 use Rattle.lus_meaning.proofs.Lists.{append_none, map_append, all_from, all_from_both, all_from_three, both_parts, mapped_all, or_true}
 use Rattle.lus_meaning.proofs.Now.{right_part}
-use Rattle.lus_meaning.proofs.BooleanNode.{boolean_checked_instance, boolean_no_clauses, boolean_variables, boolean_equations, boolean_flags, boolean_body_equations}
+use Rattle.lus_meaning.proofs.BooleanNode.{boolean_checked_instance, boolean_no_contract_statements, boolean_variables, boolean_equations, boolean_flags, boolean_body_equations}
 use Rattle.lus_meaning.proofs.BooleanFirsts.{boolean_memories}
 use Rattle.kind_num.specs.declared.Shape.{Shape}
 use Rattle.kind_num.specs.declared.Shape.TheVariants as shapes
@@ -45,7 +45,12 @@ use Rattle.sys_build.proofs.Conditioned.{map_same, map_through, each_mapped, fla
 -- each of a list of names is among them
 member : (vs : List Variable) → AllByRecursion (λ v. named_in v.name.text (names_of vs) ≡ true) vs
 member [] = tt
-member (v ∷ vs) = (rw (self_bytes v.name.text) refl, all_from (λ u. named_in u.name.text (names_of vs) ≡ true) (λ u. named_in u.name.text (names_of (v ∷ vs)) ≡ true) (λ u e. or_true (bytes_eq u.name.text v.name.text) (named_in u.name.text (names_of vs)) e) vs (member vs))
+member (v ∷ vs) = (
+  rw (self_bytes v.name.text) refl,
+  all_from (λ u. named_in u.name.text (names_of vs) ≡ true)
+      (λ u. named_in u.name.text (names_of (v ∷ vs)) ≡ true) (λ u e. or_true (bytes_eq u.name.text v.name.text)
+      (named_in u.name.text (names_of vs)) e) vs (member vs),
+)
 
 module _ (d : Component) (node : IsBooleanNode d) (names : HasBooleanNames d) (numbered : IsNumbered d) where
   abbrev i : Instance
@@ -74,12 +79,15 @@ module _ (d : Component) (node : IsBooleanNode d) (names : HasBooleanNames d) (n
   abbrev source : Variable → List Formula
   source v = name_here g v (lookup (bytes_eq v.name.text) ([] ++ equation_sources g (equations d)))
 
-  found : (x : Name) → lookup (bytes_eq x) ([] ++ equation_sources g (equations d)) ≡ option_map (λ e. a_flag (formula_of n e)) (right_of (body_equations d.body) x)
+  found : (x : Name) → lookup (bytes_eq x) ([] ++ equation_sources g (equations d)) ≡ option_map (λ e. a_flag (formula_of n e))
+      (right_of (body_equations d.body) x)
   found x = rw (boolean_equations d node) (sources_are d node number modes n (body_equations d.body) (boolean_body_equations d.body node.items) rights x)
 
   inputs_none : AllByRecursion (λ v. source v ≡ []) d.inputs
-  inputs_none = all_from_both (λ v. named_in v.name.text (names_of d.inputs) ≡ true) (λ v. named_in v.name.text (flat_map (λ e. e.names) (body_equations d.body)) ≡ false) (λ v. source v ≡ [])
-      (λ v a b. input_condition d node number modes n v a (body_equations d.body) b (lookup (bytes_eq v.name.text) ([] ++ equation_sources g (equations d))) (found v.name.text)) d.inputs (member d.inputs)
+  inputs_none = all_from_both (λ v. named_in v.name.text (names_of d.inputs) ≡ true)
+      (λ v. named_in v.name.text (flat_map (λ e. e.names) (body_equations d.body)) ≡ false) (λ v. source v ≡ [])
+      (λ v a b. input_condition d node number modes n v a (body_equations d.body) b
+      (lookup (bytes_eq v.name.text) ([] ++ equation_sources g (equations d))) (found v.name.text)) d.inputs (member d.inputs)
       (mapped_all (λ x. named_in x (flat_map (λ e. e.names) (body_equations d.body)) ≡ false) (λ (v : Variable). v.name.text) d.inputs
       (subst (λ es. AllByRecursion (λ x. named_in x (flat_map (λ e. e.names) es) ≡ false) (names_of d.inputs)) (boolean_equations d node) names.inputs_given))
 
@@ -90,17 +98,23 @@ module _ (d : Component) (node : IsBooleanNode d) (names : HasBooleanNames d) (n
   declared_are = ap names_of (boolean_variables d node) ∙ map_append (λ (v : Variable). v.name.text) d.inputs others
 
   others_free : AllByRecursion (λ v. named_in v.name.text (names_of d.inputs) ≡ false) others
-  others_free = mapped_all (λ x. named_in x (names_of d.inputs) ≡ false) (λ (v : Variable). v.name.text) others (apart (names_of d.inputs) (names_of others) (subst AreDistinct declared_are names.declared_once))
+  others_free = mapped_all (λ x. named_in x (names_of d.inputs) ≡ false) (λ (v : Variable). v.name.text) others
+      (apart (names_of d.inputs) (names_of others) (subst AreDistinct declared_are names.declared_once))
 
   others_flags : AllByRecursion IsFlag others
   others_flags = both_parts IsFlag d.outputs d.locals node.outputs node.locals
 
   others_named : AllByRecursion (λ v. named_in v.name.text (declared_names d) ≡ true) others
-  others_named = right_part (λ (v : Variable). named_in v.name.text (declared_names d) ≡ true) d.inputs others (subst (AllByRecursion (λ (v : Variable). named_in v.name.text (declared_names d) ≡ true)) (boolean_variables d node) (member (variables d)))
+  others_named = right_part (λ (v : Variable). named_in v.name.text (declared_names d) ≡ true) d.inputs others
+      (subst (AllByRecursion (λ (v : Variable). named_in v.name.text (declared_names d) ≡ true)) (boolean_variables d node)
+      (member (variables d)))
 
   others_here : AllByRecursion (λ v. source v ≡ name_condition n (body_equations d.body) v.name.text ∷ []) others
-  others_here = all_from_three (λ v. named_in v.name.text (names_of d.inputs) ≡ false) IsFlag (λ v. named_in v.name.text (declared_names d) ≡ true) (λ v. source v ≡ name_condition n (body_equations d.body) v.name.text ∷ [])
-      (λ v a f b. name_condition_is d node number modes n v f beat_is (name_is d node numbered v.name.text b) a (body_equations d.body) (lookup (bytes_eq v.name.text) ([] ++ equation_sources g (equations d))) (found v.name.text)) others others_free others_flags others_named
+  others_here = all_from_three (λ v. named_in v.name.text (names_of d.inputs) ≡ false) IsFlag
+      (λ v. named_in v.name.text (declared_names d) ≡ true) (λ v. source v ≡ name_condition n (body_equations d.body) v.name.text ∷ [])
+      (λ v a f b. name_condition_is d node number modes n v f beat_is (name_is d node numbered v.name.text b) a (body_equations d.body)
+      (lookup (bytes_eq v.name.text) ([] ++ equation_sources g (equations d))) (found v.name.text)) others others_free others_flags
+      others_named
 
   names_are : names_here g [] ≡ here_conditions n (body_equations d.body) others
   names_are =
@@ -112,27 +126,36 @@ module _ (d : Component) (node : IsBooleanNode d) (names : HasBooleanNames d) (n
 
   -- ---- the first state
 
-  starts_from : (f h : ℕ → Formula) → ((k : ℕ) → 1 ≤ k → k < 1 + length (started_of d.body) → f k ≡ h k) → map f (counting 1 (length (starts d))) ≡ map h (counting 1 (length (started_of d.body)))
-  starts_from f h e = rw (start_count d node numbered) (map_same f h (counting 1 (length (started_of d.body))) (counting_all (λ k. f k ≡ h k) 1 (length (started_of d.body)) e))
+  starts_from : (f h : ℕ → Formula) → ((k : ℕ) → 1 ≤ k → k < 1 + length (started_of d.body) → f k ≡ h k) → map f
+      (counting 1 (length (starts d))) ≡ map h (counting 1 (length (started_of d.body)))
+  starts_from f h e = rw (start_count d node numbered) (map_same f h (counting 1 (length (started_of d.body)))
+      (counting_all (λ k. f k ≡ h k) 1 (length (started_of d.body)) e))
 
   no_so_far : {X : Type 0} (xs : List X) → cond (is_some d.contract) xs [] ≡ []
   no_so_far xs = ap (λ c. cond (is_some c) xs []) node.contract
 
   first_starts : starts_first g ≡ map (λ k. flag_at (start_number n k)) (counting 1 n.starts)
   first_starts =
-      sym (map_through (λ k. translate.flag_at g (own (starting k))) (λ (a : Start). a.number) (ts d node numbered)) ∙ ap (map (λ k. translate.flag_at g (own (starting k)))) (start_order d node numbered)
-      ∙ starts_from (λ k. translate.flag_at g (own (starting k))) (λ k. flag_at (start_number n k)) (λ k l m. ap flag_at (start_within d node names numbered k l m))
+      sym (map_through (λ k. translate.flag_at g (own (starting k))) (λ (a : Start). a.number) (ts d node numbered)) ∙ ap
+      (map (λ k. translate.flag_at g (own (starting k)))) (start_order d node numbered)
+      ∙ starts_from (λ k. translate.flag_at g (own (starting k))) (λ k. flag_at (start_number n k))
+      (λ k l m. ap flag_at (start_within d node names numbered k l m))
 
   first_are : (system_of i).first ≡ (boolean_system d).first
-  first_are = append_none (starts_first g ++ so_far_first g plain) ∙ ap (λ l. starts_first g ++ l) (no_so_far (translate.flag_at g (own so_far) ∷ [])) ∙ append_none (starts_first g) ∙ first_starts
+  first_are = append_none (starts_first g ++ so_far_first g plain) ∙ ap (λ l. starts_first g ++ l)
+      (no_so_far (translate.flag_at g (own so_far) ∷ [])) ∙ append_none (starts_first g) ∙ first_starts
 
   -- ---- a state and the next
 
   memories_step : map (memory_next g) (ms d node numbered) ≡ flat_map (memory_conditions n (kept_of d.body)) (counting 1 n.memories)
-  memories_step = each_mapped (memory_next g) (λ k. option_to_list (find (λ m. m.number == k) (memories d))) (memory_conditions n (kept_of d.body)) (counting 1 (length (memories d)))
-      (counting_all (λ k. map (memory_next g) (option_to_list (find (λ m. m.number == k) (memories d))) ≡ memory_conditions n (kept_of d.body) k) 1 (length (memories d))
+  memories_step = each_mapped (memory_next g) (λ k. option_to_list (find (λ m. m.number == k) (memories d)))
+      (memory_conditions n (kept_of d.body)) (counting 1 (length (memories d)))
+      (counting_all (λ k. map (memory_next g) (option_to_list (find (λ m. m.number == k) (memories d))) ≡ memory_conditions n
+      (kept_of d.body) k) 1 (length (memories d))
       (λ k l m. ap (λ us. map (memory_next g) (option_to_list (find (λ m. m.number == k) us))) (memories_are d node)
-      ∙ memories_next d node number modes n (kept_of d.body) k (all_operands number n d.body node.items (body_numbers d node names numbered)) beat_is (memory_within d node names numbered k l (subst (λ c. k < 1 + c) (memory_count d node numbered) m))))
+      ∙ memories_next d node number modes n (kept_of d.body) k (all_operands number n d.body node.items
+      (body_numbers d node names numbered)) beat_is (memory_within d node names numbered k l
+      (subst (λ c. k < 1 + c) (memory_count d node numbered) m))))
       ∙ ap (λ c. flat_map (memory_conditions n (kept_of d.body)) (counting 1 c)) (memory_count d node numbered)
 
   based : AllByRecursion (λ (a : Start). a.clock ≡ base) (ts d node numbered)
@@ -144,13 +167,15 @@ module _ (d : Component) (node : IsBooleanNode d) (names : HasBooleanNames d) (n
 
   starts_within_order : AllByRecursion (λ (a : Start). number (own (starting a.number)) ≡ start_number n a.number) (ts d node numbered)
   starts_within_order = mapped_all (λ k. number (own (starting k)) ≡ start_number n k) (λ (a : Start). a.number) (ts d node numbered)
-      (subst (AllByRecursion (λ k. number (own (starting k)) ≡ start_number n k)) (sym (start_order d node numbered ∙ ap (counting 1) (start_count d node numbered)))
+      (subst (AllByRecursion (λ k. number (own (starting k)) ≡ start_number n k))
+      (sym (start_order d node numbered ∙ ap (counting 1) (start_count d node numbered)))
       (counting_all (λ k. number (own (starting k)) ≡ start_number n k) 1 (length (started_of d.body)) (start_within d node names numbered)))
 
   starts_step : map (start_next g) (ts d node numbered) ≡ map (start_condition n) (counting 1 n.starts)
   starts_step =
       map_same (start_next g) (λ (a : Start). start_condition n a.number) (ts d node numbered)
-      (all_from_both (λ (a : Start). a.clock ≡ base) (λ (a : Start). number (own (starting a.number)) ≡ start_number n a.number) (λ (a : Start). start_next g a ≡ start_condition n a.number)
+      (all_from_both (λ (a : Start). a.clock ≡ base) (λ (a : Start). number (own (starting a.number)) ≡ start_number n a.number)
+      (λ (a : Start). start_next g a ≡ start_condition n a.number)
       (λ a c l. start_next_is d node number modes n a c beat_is l) (ts d node numbered) based starts_within_order)
       ∙ sym (map_through (start_condition n) (λ (a : Start). a.number) (ts d node numbered))
       ∙ ap (map (start_condition n)) (start_order d node numbered ∙ ap (counting 1) (start_count d node numbered))
@@ -167,16 +192,18 @@ module _ (d : Component) (node : IsBooleanNode d) (names : HasBooleanNames d) (n
   -- ---- lawful states and properties
 
   legal_are : (system_of i).legal ≡ []
-  legal_are = rw (boolean_no_clauses d node, no_assertions d.body node.items) refl
+  legal_are = rw (boolean_no_contract_statements d node, no_assertions d.body node.items) refl
 
   no_contract : contract_of i ≡ no_items
-  no_contract = rw (boolean_no_clauses d node) refl
+  no_contract = rw (boolean_no_contract_statements d node) refl
 
   abbrev with_items : Items Written → List Formula
-  with_items c = body_properties g d.body ++ map (λ f. f number) c.guarantees ++ flat_map (λ m. map (λ f. f number) m.ensures_each) c.modes ++ one_mode c.modes number ++ []
+  with_items c = body_properties g d.body ++ map (λ f. f number) c.guarantees ++ flat_map (λ m. map (λ f. f number) m.ensures_each) c.modes
+      ++ one_mode c.modes number ++ []
 
   properties_same : (system_of i).properties ≡ (boolean_system d).properties
-  properties_same = ap with_items no_contract ∙ go (body_properties g d.body) ∙ properties_are d node number modes n d.body node.items (body_numbers d node names numbered)
+  properties_same = ap with_items no_contract ∙ go (body_properties g d.body) ∙ properties_are d node number modes n d.body node.items
+      (body_numbers d node names numbered)
     where
       go : (l : List Formula) → (((l ++ []) ++ []) ++ []) ++ [] ≡ l
       go l = append_none (((l ++ []) ++ []) ++ []) ∙ append_none ((l ++ []) ++ []) ∙ append_none (l ++ []) ∙ append_none l
@@ -191,7 +218,8 @@ module _ (d : Component) (node : IsBooleanNode d) (names : HasBooleanNames d) (n
   name_flags [] a = tt
   name_flags (v ∷ vs) a = (a.0.sort, name_flags vs a.1)
 
-  memory_flags : (us : List Memory) → AllByRecursion (λ (m : Memory). sort_of i m.operand ≡ Flags) us → AllByRecursion (λ (q : Slot). q.sort ≡ Flags) (memory_slots i us)
+  memory_flags : (us : List Memory) → AllByRecursion (λ (m : Memory). sort_of i m.operand ≡ Flags) us → AllByRecursion
+      (λ (q : Slot). q.sort ≡ Flags) (memory_slots i us)
   memory_flags [] a = tt
   memory_flags (u ∷ us) a = (a.0, memory_flags us a.1)
 
@@ -200,14 +228,24 @@ module _ (d : Component) (node : IsBooleanNode d) (names : HasBooleanNames d) (n
   start_flags (u ∷ us) = (refl, start_flags us)
 
   all_flags : AllByRecursion (λ (q : Slot). q.sort ≡ Flags) (listed_slots d node numbered)
-  all_flags = both_parts (λ (q : Slot). q.sort ≡ Flags) (name_slots i (variables d)) (memory_slots i (ms d node numbered) ++ (start_slots i (ts d node numbered) ++ [])) (name_flags (variables d) (boolean_flags d node))
-      (both_parts (λ (q : Slot). q.sort ≡ Flags) (memory_slots i (ms d node numbered)) (start_slots i (ts d node numbered) ++ []) (memory_flags (ms d node numbered) (in_order_all (λ m. m.number) (λ (m : Memory). sort_of i m.operand ≡ Flags) (memories d) (boolean_memories d node))) (start_flags (ts d node numbered)))
+  all_flags = both_parts (λ (q : Slot). q.sort ≡ Flags) (name_slots i (variables d))
+      (memory_slots i (ms d node numbered) ++ (start_slots i (ts d node numbered) ++ [])) (name_flags (variables d) (boolean_flags d node))
+      (both_parts (λ (q : Slot). q.sort ≡ Flags) (memory_slots i (ms d node numbered)) (start_slots i (ts d node numbered) ++ [])
+      (memory_flags (ms d node numbered) (in_order_all (λ m. m.number) (λ (m : Memory). sort_of i m.operand ≡ Flags) (memories d)
+      (boolean_memories d node))) (start_flags (ts d node numbered)))
 
   how_many : suc (length (listed_slots d node numbered)) ≡ width_of n
   how_many =
-      let a : length (listed_slots d node numbered) ≡ length (name_slots i (variables d)) + length (memory_slots i (ms d node numbered) ++ (start_slots i (ts d node numbered) ++ [])) = length-append (name_slots i (variables d)) (memory_slots i (ms d node numbered) ++ (start_slots i (ts d node numbered) ++ [])) in
-      let b : length (memory_slots i (ms d node numbered) ++ (start_slots i (ts d node numbered) ++ [])) ≡ length (memory_slots i (ms d node numbered)) + length (start_slots i (ts d node numbered) ++ []) = length-append (memory_slots i (ms d node numbered)) (start_slots i (ts d node numbered) ++ []) in
-      let c : length (start_slots i (ts d node numbered) ++ []) ≡ length (starts d) = ap length (append_none (start_slots i (ts d node numbered))) ∙ length_mapped (slot i []) (map start_cell (ts d node numbered)) ∙ length_mapped start_cell (ts d node numbered) ∙ sym (length_mapped (λ (a : Start). a.number) (ts d node numbered)) ∙ ap length (start_order d node numbered) ∙ length_counting 1 (length (starts d)) in
+      let a : length (listed_slots d node numbered) ≡ length (name_slots i (variables d)) + length
+      (memory_slots i (ms d node numbered) ++ (start_slots i (ts d node numbered) ++ [])) = length-append (name_slots i (variables d))
+      (memory_slots i (ms d node numbered) ++ (start_slots i (ts d node numbered) ++ [])) in
+      let b : length (memory_slots i (ms d node numbered) ++ (start_slots i (ts d node numbered) ++ [])) ≡ length
+      (memory_slots i (ms d node numbered)) + length (start_slots i (ts d node numbered) ++ []) = length-append
+      (memory_slots i (ms d node numbered)) (start_slots i (ts d node numbered) ++ []) in
+      let c : length (start_slots i (ts d node numbered) ++ []) ≡ length (starts d) = ap length
+      (append_none (start_slots i (ts d node numbered))) ∙ length_mapped (slot i []) (map start_cell (ts d node numbered))
+      ∙ length_mapped start_cell (ts d node numbered) ∙ sym (length_mapped (λ (a : Start). a.number) (ts d node numbered)) ∙ ap length
+      (start_order d node numbered) ∙ length_counting 1 (length (starts d)) in
       let e : length (name_slots i (variables d)) ≡ length (stream_names d) = names_length d node numbered in
       let f : length (memory_slots i (ms d node numbered)) ≡ length (memories d) = memories_length d node numbered in
       let h : length (memories d) ≡ length (kept_of d.body) = memory_count d node numbered in
@@ -215,7 +253,8 @@ module _ (d : Component) (node : IsBooleanNode d) (names : HasBooleanNames d) (n
       omega (arith, a, b, c, e, f, h, j)
 
   shapes_are : (system_of i).shapes ≡ (boolean_system d).shapes
-  shapes_are = ap (map (λ (q : Slot). shape_of q.sort)) (slots_are d node numbered) ∙ ap (λ (l : List Shape). shapes.Flag ∷ l) (as_flags (listed_slots d node numbered) all_flags) ∙ ap (λ m. replicate m shapes.Flag) how_many
+  shapes_are = ap (map (λ (q : Slot). shape_of q.sort)) (slots_are d node numbered) ∙ ap (λ (l : List Shape). shapes.Flag ∷ l)
+      (as_flags (listed_slots d node numbered) all_flags) ∙ ap (λ m. replicate m shapes.Flag) how_many
 
   -- ---- together
 

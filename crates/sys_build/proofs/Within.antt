@@ -22,7 +22,8 @@ use Rattle.sys_build.proofs.Places.{node_instance, name_is, memory_is, start_is}
 use Rattle.sys_build.proofs.Terms.{Numbers}
 
 -- what holds of all that is read of a list holds of what is read of each
-each_read : {X : Type 0} (P : X → Type 0) (f : Expression → List X) (es : List Expression) → AllByRecursion P (flat_map f es) → AllByRecursion (λ e. AllByRecursion P (f e)) es
+each_read : {X : Type 0} (P : X → Type 0) (f : Expression → List X) (es : List Expression) → AllByRecursion P (flat_map f es)
+    → AllByRecursion (λ e. AllByRecursion P (f e)) es
 each_read P f [] a = tt
 each_read P f (e ∷ es) a = (left_part P (f e) (flat_map f es) a, each_read P f es (right_part P (f e) (flat_map f es) a))
 
@@ -48,7 +49,8 @@ module _ (d : Component) (node : IsBooleanNode d) (names : HasBooleanNames d) (n
   StartIs k = at (own (starting k)) ≡ start_number (numbering_of d) k
 
   all_names : AllByRecursion NameIs (flat_map used_names (body_expressions d.body))
-  all_names = all_from (λ x. named_in x (declared_names d) ≡ true) NameIs (name_is d node numbered) (flat_map used_names (body_expressions d.body)) names.used_declared
+  all_names = all_from (λ x. named_in x (declared_names d) ≡ true) NameIs (name_is d node numbered)
+      (flat_map used_names (body_expressions d.body)) names.used_declared
 
   kept_count : length (body_pres d.body) ≡ length (kept_of d.body)
   kept_count = sym (ap length (body_kept_numbers d.body node.items)) ∙ length_mapped (λ (m : Kept). m.number) (kept_of d.body)
@@ -66,12 +68,16 @@ module _ (d : Component) (node : IsBooleanNode d) (names : HasBooleanNames d) (n
   arrows_counted = subst (λ es. are_counted (flat_map arrows es) ≡ true) (boolean_expressions d node) (boolean_counted d node numbered an_arrow)
 
   all_starts : AllByRecursion StartIs (body_arrows d.body)
-  all_starts = all_from (λ k. (1 ≤ k) × (k < 1 + length (body_arrows d.body))) StartIs (λ k h. start_within k h.0 (subst (λ c. k < 1 + c) (sym (ap length (body_started_numbers d.body node.items))) h.1)) (body_arrows d.body) (counted_within (body_arrows d.body) arrows_counted)
+  all_starts = all_from (λ k. (1 ≤ k) × (k < 1 + length (body_arrows d.body))) StartIs
+      (λ k h. start_within k h.0 (subst (λ c. k < 1 + c) (sym (ap length (body_started_numbers d.body node.items))) h.1))
+      (body_arrows d.body) (counted_within (body_arrows d.body) arrows_counted)
 
   pub body_numbers : AllByRecursion (Numbers at (numbering_of d)) (body_expressions d.body)
-  body_numbers = all_from_three (λ e. AllByRecursion NameIs (used_names e)) (λ e. AllByRecursion MemoryIs (pres e)) (λ e. AllByRecursion StartIs (arrows e)) (Numbers at (numbering_of d))
+  body_numbers = all_from_three (λ e. AllByRecursion NameIs (used_names e)) (λ e. AllByRecursion MemoryIs (pres e))
+      (λ e. AllByRecursion StartIs (arrows e)) (Numbers at (numbering_of d))
       (λ e x m s. record { names = x; memories = m; starts = s }) (body_expressions d.body)
-      (each_read NameIs used_names (body_expressions d.body) all_names) (each_read MemoryIs pres (body_expressions d.body) all_memories) (each_read StartIs arrows (body_expressions d.body) all_starts)
+      (each_read NameIs used_names (body_expressions d.body) all_names) (each_read MemoryIs pres (body_expressions d.body) all_memories)
+      (each_read StartIs arrows (body_expressions d.body) all_starts)
 
 -- ---- operands
 
@@ -91,10 +97,20 @@ module _ (at : Spotted → ℕ) (n : Numbering) where
   StartOk k = at (own (starting k)) ≡ start_number n k
 
   left_numbers : (p : _) (o : _) (a b : Expression) → Numbers at n (binary p o a b) → Numbers at n a
-  left_numbers p o a b k = record { names = left_part NameOk (used_names a) (used_names b) k.names; memories = left_part MemoryOk (pres a) (pres b) k.memories; starts = left_part StartOk (arrows a) (arrows b) k.starts }
+  left_numbers p o a b k = record {
+    names = left_part NameOk (used_names a) (used_names b) k.names;
+    memories = left_part MemoryOk (pres a)
+        (pres b) k.memories;
+    starts = left_part StartOk (arrows a) (arrows b) k.starts;
+  }
 
   right_numbers : (p : _) (o : _) (a b : Expression) → Numbers at n (binary p o a b) → Numbers at n b
-  right_numbers p o a b k = record { names = right_part NameOk (used_names a) (used_names b) k.names; memories = right_part MemoryOk (pres a) (pres b) k.memories; starts = right_part StartOk (arrows a) (arrows b) k.starts }
+  right_numbers p o a b k = record {
+    names = right_part NameOk (used_names a) (used_names b) k.names;
+    memories = right_part MemoryOk
+        (pres a) (pres b) k.memories;
+    starts = right_part StartOk (arrows a) (arrows b) k.starts;
+  }
 
   pub operands : (e : Expression) → IsBooleanExpression e → Numbers at n e → AllByRecursion (IsOperand at n) (kept_in e)
   operands (truth p b) h k = tt
@@ -106,24 +122,52 @@ module _ (at : Spotted → ℕ) (n : Numbering) where
   operands (arrow p j a b) h k =
       let rest : AllByRecursion StartOk (j ∷ arrows b) = right_part StartOk (arrows a) (j ∷ arrows b) k.starts in
       both_parts (IsOperand at n) (kept_in a) (kept_in b)
-      (operands a h.0 record { names = left_part NameOk (used_names a) (used_names b) k.names; memories = left_part MemoryOk (pres a) (pres b) k.memories; starts = left_part StartOk (arrows a) (j ∷ arrows b) k.starts })
-      (operands b h.1 record { names = right_part NameOk (used_names a) (used_names b) k.names; memories = right_part MemoryOk (pres a) (pres b) k.memories; starts = rest.1 })
-  operands (binary p o a b) h k = both_parts (IsOperand at n) (kept_in a) (kept_in b) (operands a h.1 (left_numbers p o a b k)) (operands b h.2 (right_numbers p o a b k))
+      (operands a h.0 record {
+        names = left_part NameOk (used_names a) (used_names b) k.names;
+        memories = left_part MemoryOk (pres a)
+            (pres b) k.memories;
+        starts = left_part StartOk (arrows a) (j ∷ arrows b) k.starts;
+      })
+      (operands b h.1 record {
+        names = right_part NameOk (used_names a) (used_names b) k.names;
+        memories = right_part MemoryOk (pres a)
+            (pres b) k.memories;
+        starts = rest.1;
+      })
+  operands (binary p o a b) h k = both_parts (IsOperand at n) (kept_in a) (kept_in b) (operands a h.1 (left_numbers p o a b k))
+      (operands b h.2 (right_numbers p o a b k))
   operands (choice p c a b) h k =
       let mc : AllByRecursion MemoryOk (pres c ++ pres a) = left_part MemoryOk (pres c ++ pres a) (pres b) k.memories in
       let sc : AllByRecursion StartOk (arrows c ++ arrows a) = left_part StartOk (arrows c ++ arrows a) (arrows b) k.starts in
       let xr : AllByRecursion NameOk (used_names a ++ used_names b) = right_part NameOk (used_names c) (used_names a ++ used_names b) k.names in
       both_parts (IsOperand at n) (kept_in c) (kept_in a ++ kept_in b)
-      (operands c h.0 record { names = left_part NameOk (used_names c) (used_names a ++ used_names b) k.names; memories = left_part MemoryOk (pres c) (pres a) mc; starts = left_part StartOk (arrows c) (arrows a) sc })
+      (operands c h.0 record {
+        names = left_part NameOk (used_names c) (used_names a ++ used_names b) k.names;
+        memories = left_part MemoryOk
+            (pres c) (pres a) mc;
+        starts = left_part StartOk (arrows c) (arrows a) sc;
+      })
       (both_parts (IsOperand at n) (kept_in a) (kept_in b)
-      (operands a h.1 record { names = left_part NameOk (used_names a) (used_names b) xr; memories = right_part MemoryOk (pres c) (pres a) mc; starts = right_part StartOk (arrows c) (arrows a) sc })
-      (operands b h.2 record { names = right_part NameOk (used_names a) (used_names b) xr; memories = right_part MemoryOk (pres c ++ pres a) (pres b) k.memories; starts = right_part StartOk (arrows c ++ arrows a) (arrows b) k.starts }))
+      (operands a h.1 record {
+        names = left_part NameOk (used_names a) (used_names b) xr;
+        memories = right_part MemoryOk (pres c)
+            (pres a) mc;
+        starts = right_part StartOk (arrows c) (arrows a) sc;
+      })
+      (operands b h.2 record {
+        names = right_part NameOk (used_names a) (used_names b) xr;
+        memories = right_part MemoryOk (pres c ++ pres a)
+            (pres b) k.memories;
+        starts = right_part StartOk (arrows c ++ arrows a) (arrows b) k.starts;
+      }))
   operands _ h k = absurd h
 
-  pub all_operands : (ss : List Statement) → AllByRecursion IsBooleanItem ss → AllByRecursion (Numbers at n) (body_expressions ss) → AllByRecursion (IsOperand at n) (kept_of ss)
+  pub all_operands : (ss : List Statement) → AllByRecursion IsBooleanItem ss → AllByRecursion (Numbers at n) (body_expressions ss)
+      → AllByRecursion (IsOperand at n) (kept_of ss)
   all_operands [] h k = tt
   all_operands (s ∷ ss) h k = of_boolean_item
-      (λ s. (AllByRecursion (Numbers at n) (body_expressions ss) → AllByRecursion (IsOperand at n) (kept_of ss)) → AllByRecursion (Numbers at n) (body_expressions (s ∷ ss)) → AllByRecursion (IsOperand at n) (kept_of (s ∷ ss)))
+      (λ s. (AllByRecursion (Numbers at n) (body_expressions ss) → AllByRecursion (IsOperand at n) (kept_of ss)) → AllByRecursion
+      (Numbers at n) (body_expressions (s ∷ ss)) → AllByRecursion (IsOperand at n) (kept_of (s ∷ ss)))
       (λ x e i r j. both_parts (IsOperand at n) (kept_in e) (kept_of ss) (operands e i j.0) (r j.1))
       (λ l i r j. both_parts (IsOperand at n) (kept_in l.value) (kept_of ss) (operands l.value i j.0) (r j.1))
       (λ p r j. r j)

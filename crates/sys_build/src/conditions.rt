@@ -24,7 +24,8 @@ pub(crate) const BEAT: u32 = 0;
 
 /// That a name has the value of its right side.
 fn defined(alloc: Global, numbers: &Numbering, name: &str, side: &Expr) -> Result<Term, AllocError>
-    ensures { IfOk result (λ t. term_view t ≡ defined_condition (numbering_of (node_view numbers.now.node.now)) name.now (expr_view side.now)) }
+    ensures { IfOk result (λ t. term_view t ≡ defined_condition
+        (numbering_of (node_view numbers.now.node.now)) name.now (expr_view side.now)) }
 {
     let value = term(alloc, numbers, side)?;
     let value = choice(alloc, flag(BEAT), value, Term::Truth(false))?;
@@ -50,7 +51,8 @@ fn named(
     name: &str,
 ) -> Result<Term, AllocError>
     requires known { KnowsRights (node_view numbers.now.node.now) sides.now }
-    ensures { IfOk result (λ t. term_view t ≡ name_condition (numbering_of (node_view numbers.now.node.now)) (body_equations (node_view numbers.now.node.now).body) name.now) }
+    ensures { IfOk result (λ t. term_view t ≡ name_condition (numbering_of (node_view numbers.now.node.now))
+        (body_equations (node_view numbers.now.node.now).body) name.now) }
 {
     match sides.get(name) {
         Some(side) => defined(alloc, numbers, name, side),
@@ -67,7 +69,9 @@ pub(crate) fn push_named(
     params: &[Param],
 ) -> Result<(), AllocError>
     requires known { KnowsRights (node_view numbers.now.node.now) sides.now }
-    ensures { OnOk result (Gains terms.old.items terms.new.items (here_conditions (numbering_of (node_view numbers.now.node.now)) (body_equations (node_view numbers.now.node.now).body) (map param_view params.now))) }
+    ensures { OnOk result (Gains terms.old.items terms.new.items
+        (here_conditions (numbering_of (node_view numbers.now.node.now))
+        (body_equations (node_view numbers.now.node.now).body) (map param_view params.now))) }
 {
     for param in params {
         terms.push(named(alloc, numbers, sides, param.name.text.as_str())?)?;
@@ -77,7 +81,9 @@ pub(crate) fn push_named(
 
 /// What holds of the first state: each `->` is at its start.
 pub(crate) fn at_first(alloc: Global, numbers: &Numbering) -> Result<Vec<Term>, AllocError>
-    ensures { IfOk result (λ v. terms_view v.items ≡ map (λ k. flag_at (start_number (numbering_of (node_view numbers.now.node.now)) k)) (counting 1 (numbering_of (node_view numbers.now.node.now)).starts)) }
+    ensures { IfOk result (λ v. terms_view v.items ≡ map
+        (λ k. flag_at (start_number (numbering_of (node_view numbers.now.node.now)) k))
+        (counting 1 (numbering_of (node_view numbers.now.node.now)).starts)) }
 {
     let starts = counted(alloc, numbers.starts)?;
     let mut terms = Vec::new(alloc);
@@ -94,7 +100,8 @@ fn remembered(
     number: u32,
     operand: &Expr,
 ) -> Result<Term, AllocError>
-    ensures { IfOk result (λ t. term_view t ≡ memory_condition (numbering_of (node_view numbers.now.node.now)) number (expr_view operand.now)) }
+    ensures { IfOk result (λ t. term_view t ≡ memory_condition
+        (numbering_of (node_view numbers.now.node.now)) number (expr_view operand.now)) }
 {
     let memory = numbers.of_memory(number);
     let value = term(alloc, numbers, operand)?;
@@ -111,7 +118,9 @@ fn push_memory(
     number: u32,
 ) -> Result<(), AllocError>
     requires known { KnowsOperands (node_view numbers.now.node.now) operands.now }
-    ensures { OnOk result (Gains terms.old.items terms.new.items (memory_conditions (numbering_of (node_view numbers.now.node.now)) (kept_of (node_view numbers.now.node.now).body) number)) }
+    ensures { OnOk result (Gains terms.old.items terms.new.items
+        (memory_conditions (numbering_of (node_view numbers.now.node.now))
+        (kept_of (node_view numbers.now.node.now).body) number)) }
 {
     if let Some(operand) = operands.get(&number) {
         terms.push(remembered(alloc, numbers, number, operand)?)?;
@@ -127,7 +136,10 @@ pub(crate) fn push_memories(
     operands: &IndexMap<u32, &Expr>,
 ) -> Result<(), AllocError>
     requires known { KnowsOperands (node_view numbers.now.node.now) operands.now }
-    ensures { OnOk result (Gains terms.old.items terms.new.items (flat_map (memory_conditions (numbering_of (node_view numbers.now.node.now)) (kept_of (node_view numbers.now.node.now).body)) (counting 1 (numbering_of (node_view numbers.now.node.now)).memories))) }
+    ensures { OnOk result (Gains terms.old.items terms.new.items
+        (flat_map (memory_conditions (numbering_of (node_view numbers.now.node.now))
+        (kept_of (node_view numbers.now.node.now).body))
+        (counting 1 (numbering_of (node_view numbers.now.node.now)).memories))) }
 {
     let memories = counted(alloc, numbers.memories)?;
     for number in &memories {
@@ -152,7 +164,9 @@ pub(crate) fn push_starting(
     alloc: Global,
     numbers: &Numbering,
 ) -> Result<(), AllocError>
-    ensures { OnOk result (Gains terms.old.items terms.new.items (map (start_condition (numbering_of (node_view numbers.now.node.now))) (counting 1 (numbering_of (node_view numbers.now.node.now)).starts))) }
+    ensures { OnOk result (Gains terms.old.items terms.new.items
+        (map (start_condition (numbering_of (node_view numbers.now.node.now)))
+        (counting 1 (numbering_of (node_view numbers.now.node.now)).starts))) }
 {
     let starts = counted(alloc, numbers.starts)?;
     for number in &starts {
@@ -168,7 +182,8 @@ fn push_property(
     numbers: &Numbering,
     item: &Item,
 ) -> Result<(), AllocError>
-    ensures { OnOk result (Gains terms.old.items terms.new.items (property_formulas (numbering_of (node_view numbers.now.node.now)) (item_view item.now ∷ []))) }
+    ensures { OnOk result (Gains terms.old.items terms.new.items
+        (property_formulas (numbering_of (node_view numbers.now.node.now)) (item_view item.now ∷ []))) }
 {
     if let Item::Property(property) = item {
         terms.push(term(alloc, numbers, &property.value)?)?;
@@ -182,7 +197,8 @@ pub(crate) fn properties(
     numbers: &Numbering,
     items: &[Item],
 ) -> Result<Vec<Term>, AllocError>
-    ensures { IfOk result (λ v. terms_view v.items ≡ property_formulas (numbering_of (node_view numbers.now.node.now)) (map item_view items.now)) }
+    ensures { IfOk result (λ v. terms_view v.items ≡ property_formulas
+        (numbering_of (node_view numbers.now.node.now)) (map item_view items.now)) }
 {
     let mut terms = Vec::new(alloc);
     for item in items {

@@ -89,7 +89,8 @@ fn choose(alloc: Global, c: Folded, a: Folded, b: Folded) -> Result<Folded, Allo
 /// What an expression of the Boolean language comes to.
 #[tactic(auto, using(lus_tree::proofs::Views::form_views))]
 pub(crate) fn fold(alloc: Global, numbers: &Numbering, e: &Expr) -> Result<Folded, AllocError>
-    ensures { IfOk result (λ r. folded_view r ≡ folded (numbering_of (node_view numbers.now.node.now)) (expr_view e.now)) }
+    ensures { IfOk result (λ r. folded_view r ≡ folded (numbering_of (node_view numbers.now.node.now))
+        (expr_view e.now)) }
 {
     match &e.form {
         Form::Truth(b) => Ok(Folded::Known(*b)),
@@ -129,7 +130,8 @@ pub(crate) fn fold(alloc: Global, numbers: &Numbering, e: &Expr) -> Result<Folde
 
 /// The term of an expression of the Boolean language.
 pub(crate) fn term(alloc: Global, numbers: &Numbering, e: &Expr) -> Result<Term, AllocError>
-    ensures { IfOk result (λ t. term_view t ≡ formula_of (numbering_of (node_view numbers.now.node.now)) (expr_view e.now)) }
+    ensures { IfOk result (λ t. term_view t ≡ formula_of (numbering_of (node_view numbers.now.node.now))
+        (expr_view e.now)) }
 {
     let folded = fold(alloc, numbers, e)?;
     Ok(as_term(folded))

@@ -19,7 +19,8 @@ pub(crate) struct Memory<'a> {
 /// Adds the `pre` occurrences of an expression.
 #[tactic(auto, using(lus_tree::proofs::Views::form_views))]
 fn push_memories<'a>(memories: &mut Vec<Memory<'a>>, e: &'a Expr) -> Result<(), AllocError>
-    ensures { OnOk result (map memory_view memories.new.items ≡ map memory_view memories.old.items ++ kept_in (expr_view e.now)) }
+    ensures { OnOk result (map memory_view memories.new.items ≡ map memory_view memories.old.items ++ kept_in
+        (expr_view e.now)) }
 {
     match &e.form {
         Form::Pre(k, a) => {
@@ -53,7 +54,8 @@ fn push_memories<'a>(memories: &mut Vec<Memory<'a>>, e: &'a Expr) -> Result<(), 
 
 /// Adds those of an item.
 fn push_memories_of<'a>(memories: &mut Vec<Memory<'a>>, item: &'a Item) -> Result<(), AllocError>
-    ensures { OnOk result (map memory_view memories.new.items ≡ map memory_view memories.old.items ++ flat_map kept_in (body_expressions (item_view item.now ∷ []))) }
+    ensures { OnOk result (map memory_view memories.new.items ≡ map memory_view memories.old.items
+        ++ flat_map kept_in (body_expressions (item_view item.now ∷ []))) }
 {
     match item {
         Item::Equation(_, e) | Item::Assert(e) => push_memories(memories, e),
@@ -64,7 +66,8 @@ fn push_memories_of<'a>(memories: &mut Vec<Memory<'a>>, item: &'a Item) -> Resul
 
 /// The `pre` occurrences of a body, in text order.
 pub(crate) fn memories_of(alloc: Global, items: &[Item]) -> Result<Vec<Memory>, AllocError>
-    ensures { IfOk result (λ v. map memory_view v.items ≡ flat_map kept_in (body_expressions (map item_view items.now))) }
+    ensures { IfOk result (λ v. map memory_view v.items ≡ flat_map kept_in
+        (body_expressions (map item_view items.now))) }
 {
     let mut memories = Vec::new(alloc);
     for item in items {
@@ -108,7 +111,8 @@ fn push_starts(starts: &mut Vec<u32>, e: &Expr) -> Result<(), AllocError>
 
 /// Adds those of an item.
 fn push_starts_of(starts: &mut Vec<u32>, item: &Item) -> Result<(), AllocError>
-    ensures { OnOk result (starts.new.items ≡ starts.old.items ++ flat_map started_in (body_expressions (item_view item.now ∷ []))) }
+    ensures { OnOk result (starts.new.items ≡ starts.old.items ++ flat_map started_in
+        (body_expressions (item_view item.now ∷ []))) }
 {
     match item {
         Item::Equation(_, e) | Item::Assert(e) => push_starts(starts, e),

@@ -17,7 +17,8 @@ fn note<'a>(
     number: u32,
     operand: &'a Expr,
 ) -> Result<(), AllocError>
-    ensures { OnOk result ((k : ℕ) → get nat_eq operands.new k ≡ option_or (get nat_eq operands.old k) (cond (nat_eq k number) (Some operand.entry) None)) }
+    ensures { OnOk result ((k : ℕ) → get nat_eq operands.new k ≡ option_or (get nat_eq operands.old k)
+        (cond (nat_eq k number) (Some operand.entry) None)) }
 {
     if !operands.contains_key(&number) {
         operands.insert(number, operand)?;

@@ -11,7 +11,7 @@ ghost use Rattle.sys_build.specs.Conditions.{right_of};
 ghost use Rattle.sys_build.specs.Tables.{by_name, right_in};
 
 use indexmap::IndexMap;
-use lus_tree::{Expr, Item, Word};
+use lus_tree::{Expr, Item, PlacedName};
 use std::alloc::{AllocError, Global};
 
 /// Notes the right side of a name that has none yet.
@@ -20,7 +20,8 @@ fn note<'a>(
     name: &'a str,
     side: &'a Expr,
 ) -> Result<(), AllocError>
-    ensures { OnOk result ((x : Name) → by_name sides.new x ≡ option_or (by_name sides.old x) (cond (bytes_eq x name.now) (Some side.entry) None)) }
+    ensures { OnOk result ((x : Name) → by_name sides.new x ≡ option_or (by_name sides.old x)
+        (cond (bytes_eq x name.now) (Some side.entry) None)) }
 {
     if !sides.contains_key(name) {
         sides.insert(name, side)?;
@@ -31,10 +32,11 @@ fn note<'a>(
 /// Notes the right side of these names.
 fn note_all<'a>(
     sides: &mut IndexMap<&'a str, &'a Expr>,
-    names: &'a [Word],
+    names: &'a [PlacedName],
     side: &'a Expr,
 ) -> Result<(), AllocError>
-    ensures { OnOk result ((x : Name) → right_in sides.new x ≡ option_or (right_in sides.old x) (cond (named_in x (map text_of (map word_view names.now))) (Some (expr_view side.now)) None)) }
+    ensures { OnOk result ((x : Name) → right_in sides.new x ≡ option_or (right_in sides.old x)
+        (cond (named_in x (map text_of (map word_view names.now))) (Some (expr_view side.now)) None)) }
 {
     for name in names {
         note(sides, name.text.as_str(), side)?;
@@ -44,7 +46,8 @@ fn note_all<'a>(
 
 /// Notes the right side of an item.
 fn note_item<'a>(sides: &mut IndexMap<&'a str, &'a Expr>, item: &'a Item) -> Result<(), AllocError>
-    ensures { OnOk result ((x : Name) → right_in sides.new x ≡ option_or (right_in sides.old x) (right_of (body_equations (item_view item.now ∷ [])) x)) }
+    ensures { OnOk result ((x : Name) → right_in sides.new x ≡ option_or (right_in sides.old x)
+        (right_of (body_equations (item_view item.now ∷ [])) x)) }
 {
     match item {
         Item::Equation(names, side) => note_all(sides, names, side),

@@ -102,7 +102,8 @@ fn built(alloc: Global, node: &Node, names: &NameTable) -> Result<System, AllocE
 ///
 /// Only want of memory.
 pub fn build(alloc: Global, checked: &Checked) -> Result<System, BuildFault>
-    ensures exact { IfOk result (λ s. (d : Component) → IsBooleanChecked (program_view checked.now) d → system_view s ≡ system_of (instance_of (program_view checked.now) d)) }
+    ensures exact { IfOk result (λ s. (d : Component) → IsBooleanChecked (program_view checked.now) d
+        → system_view s ≡ system_of (instance_of (program_view checked.now) d)) }
 {
     Ok(built(alloc, checked.node(), checked.declared())?)
 }

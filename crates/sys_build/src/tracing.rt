@@ -78,7 +78,8 @@ fn named(
     states: &[State],
     param: &Param,
 ) -> Result<TraceLine, AllocError>
-    ensures { IfOk result (λ l. bare_view l ≡ name_line (numbering_of (node_view numbers.now.node.now)) (states_view states.now) (param_view param.now)) }
+    ensures { IfOk result (λ l. bare_view l ≡ name_line (numbering_of (node_view numbers.now.node.now))
+        (states_view states.now) (param_view param.now)) }
 {
     let values = values_in(alloc, states, numbers.of_name(param.name.text.as_str()))?;
     let name = param.name.text.clone()?;
@@ -93,7 +94,9 @@ fn push_named(
     states: &[State],
     params: &[Param],
 ) -> Result<(), AllocError>
-    ensures { OnOk result (map bare_view lines.new.items ≡ map bare_view lines.old.items ++ map (name_line (numbering_of (node_view numbers.now.node.now)) (states_view states.now)) (map param_view params.now)) }
+    ensures { OnOk result (map bare_view lines.new.items ≡ map bare_view lines.old.items ++ map
+        (name_line (numbering_of (node_view numbers.now.node.now)) (states_view states.now))
+        (map param_view params.now)) }
 {
     for param in params {
         lines.push(named(alloc, numbers, states, param)?)?;
@@ -119,7 +122,9 @@ fn push_open(
     param: &Param,
 ) -> Result<(), AllocError>
     requires known { KnowsRights (node_view numbers.now.node.now) sides.now }
-    ensures { OnOk result (map bare_view lines.new.items ≡ map bare_view lines.old.items ++ free_lines (numbering_of (node_view numbers.now.node.now)) (body_equations (node_view numbers.now.node.now).body) (states_view states.now) (param_view param.now ∷ [])) }
+    ensures { OnOk result (map bare_view lines.new.items ≡ map bare_view lines.old.items ++ free_lines
+        (numbering_of (node_view numbers.now.node.now)) (body_equations (node_view numbers.now.node.now).body)
+        (states_view states.now) (param_view param.now ∷ [])) }
 {
     if !is_defined(numbers, sides, param.name.text.as_str()) {
         lines.push(named(alloc, numbers, states, param)?)?;
@@ -137,7 +142,9 @@ fn push_free(
     params: &[Param],
 ) -> Result<(), AllocError>
     requires known { KnowsRights (node_view numbers.now.node.now) sides.now }
-    ensures { OnOk result (map bare_view lines.new.items ≡ map bare_view lines.old.items ++ free_lines (numbering_of (node_view numbers.now.node.now)) (body_equations (node_view numbers.now.node.now).body) (states_view states.now) (map param_view params.now)) }
+    ensures { OnOk result (map bare_view lines.new.items ≡ map bare_view lines.old.items ++ free_lines
+        (numbering_of (node_view numbers.now.node.now)) (body_equations (node_view numbers.now.node.now).body)
+        (states_view states.now) (map param_view params.now)) }
 {
     for param in params {
         push_open(lines, alloc, numbers, sides, states, param)?;
@@ -152,7 +159,8 @@ fn remembered(
     first: &State,
     number: u32,
 ) -> Result<TraceLine, AllocError>
-    ensures { IfOk result (λ l. bare_view l ≡ first_line (numbering_of (node_view numbers.now.node.now)) (state_view first.now) number) }
+    ensures { IfOk result (λ l. bare_view l ≡ first_line (numbering_of (node_view numbers.now.node.now))
+        (state_view first.now) number) }
 {
     let value = flag_at(first, numbers.of_memory(number));
     own(alloc, Spot::First(number), &[Some(Value::Truth(value))])
@@ -165,7 +173,9 @@ fn push_firsts(
     numbers: &Numbering,
     first: &State,
 ) -> Result<(), AllocError>
-    ensures { OnOk result (map bare_view lines.new.items ≡ map bare_view lines.old.items ++ map (first_line (numbering_of (node_view numbers.now.node.now)) (state_view first.now)) (counting 1 (numbering_of (node_view numbers.now.node.now)).memories)) }
+    ensures { OnOk result (map bare_view lines.new.items ≡ map bare_view lines.old.items ++ map
+        (first_line (numbering_of (node_view numbers.now.node.now)) (state_view first.now))
+        (counting 1 (numbering_of (node_view numbers.now.node.now)).memories)) }
 {
     let memories = counted(alloc, numbers.memories)?;
     for number in &memories {
@@ -181,7 +191,8 @@ fn listed(
     states: &[State],
 ) -> Result<Vec<TraceLine>, AllocError>
     requires some { states.now ≢ [] }
-    ensures { IfOk result (λ v. map bare_view v.items ≡ boolean_lines (node_view numbers.now.node.now) (states_view states.now)) }
+    ensures { IfOk result (λ v. map bare_view v.items ≡ boolean_lines (node_view numbers.now.node.now)
+        (states_view states.now)) }
 {
     let node = numbers.node;
     let sides = sides_of(alloc, &node.items)?;

@@ -21,7 +21,7 @@ use Rattle.lus_meaning.proofs.Lists.{all_from, all_from_both, all_from_three, bo
 use Rattle.lus_meaning.proofs.Now.{left_part}
 use Rattle.lus_meaning.proofs.Exists.{self_bytes, length_mapped}
 use Rattle.lus_meaning.proofs.InOrder.{counted_within, in_order_all}
-use Rattle.lus_meaning.proofs.BooleanNode.{boolean_no_clauses, boolean_flags, boolean_variables, boolean_on_base, boolean_checked_instance}
+use Rattle.lus_meaning.proofs.BooleanNode.{boolean_no_contract_statements, boolean_flags, boolean_variables, boolean_on_base, boolean_checked_instance}
 use Rattle.lus_meaning.proofs.BooleanFirsts.{boolean_firsts, boolean_name_is_flag, boolean_numbers}
 use Rattle.sys_meaning.specs.Slot.{Spot, beat, named, memory, starting, so_far, held, spot_of, place_of, same_spot, number_in}
 use Rattle.sys_meaning.specs.System.{Sources, paired, equation_sources, stage, number_of}
@@ -30,7 +30,7 @@ use Rattle.sys_meaning.specs.Part.{Part}
 use Rattle.sys_meaning.specs.System as system
 use Rattle.sys_meaning.specs.Law.{TreeDistinct}
 use Rattle.sys_meaning.specs.Checked.{CheckedIsWellTyped}
-use Rattle.sys_meaning.specs.WellTyped.{ClauseFits, IsNameOn, IsMemory, MemoryFits, StartFits, StreamFits, OwnFits, HasSpot, HasPlace, WellTyped, slot_sort}
+use Rattle.sys_meaning.specs.WellTyped.{ContractStatementFits, IsNameOn, IsMemory, MemoryFits, StartFits, StreamFits, OwnFits, HasSpot, HasPlace, WellTyped, slot_sort}
 use Rattle.sys_meaning.proofs.Whole.{no_modes}
 use Rattle.sys_meaning.proofs.Owned.{found_one}
 use Rattle.sys_meaning.proofs.Found.{found_number, some_found, once, found_in_order, in_order_differ}
@@ -168,7 +168,7 @@ module _ (d : Component) (node : IsBooleanNode d) (names : HasBooleanNames d) (n
   own_fits : OwnFits i no_key
   own_fits = record {
     once = names.declared_once;
-    contract = subst (AllByRecursion (ClauseFits i no_key)) (sym (boolean_no_clauses d node)) tt;
+    contract = subst (AllByRecursion (ContractStatementFits i no_key)) (sym (boolean_no_contract_statements d node)) tt;
     streams = streams_fit;
     equations = all_equations_fit d node names numbered;
     firsts = firsts_fit;

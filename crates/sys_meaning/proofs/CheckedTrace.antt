@@ -18,7 +18,7 @@ use Rattle.lus_meaning.specs.Recompute.{sample}
 use Rattle.lus_meaning.specs.Verdict.{throughout}
 use Rattle.lus_meaning.specs.Depends.{named_in}
 use Rattle.lus_meaning.specs.WellMade.{AreDistinct}
-use Rattle.lus_meaning.specs.Trace.{Subject, of_name, of_first, Line, same_subject, same_numbers, is_defined, free_names}
+use Rattle.lus_meaning.specs.Trace.{Subject, of_name, of_first, BareLine, same_subject, same_numbers, is_defined, free_names}
 use Rattle.lus_meaning.specs.Fits.{Listable, listable_names, listable_firsts, listable, same_place, listable_at, is_listed, takes_value, IsTaken, AreDifferent, is_given, FitsInstance}
 use Rattle.lus_meaning.specs.Rules.{IsFlag}
 use Rattle.lus_meaning.specs.BooleanRules.{IsBooleanNode, HasBooleanNames}
@@ -64,7 +64,7 @@ module _ (n : ℕ) where
     sort : s.sort ≡ Flags
     count : s.count ≡ count_of n s.subject
 
-  record IsFlagLine (l : Line) : Type 0 where
+  record IsFlagLine (l : BareLine) : Type 0 where
     count : length l.values ≡ count_of n l.subject
     flags : AllByRecursion (λ v. has_sort Flags v ≡ true) l.values
 
@@ -76,7 +76,7 @@ module _ (n : ℕ) where
   takes_flag s (flag b) e h = rw e refl
   takes_flag s (whole z) e h = absurd (false≢true h)
 
-  line_taken : (ss : List Listable) → AllByRecursion IsFlagPlace ss → (l : Line) → IsFlagLine l →
+  line_taken : (ss : List Listable) → AllByRecursion IsFlagPlace ss → (l : BareLine) → IsFlagLine l →
       may_list ss l.path l.subject ≡ true → IsTaken (listable_at ss l.path l.subject) l.values
   line_taken [] a l f e = absurd (false≢true e)
   line_taken (s ∷ ss) a l f e = go (same_place s.path s.subject l.path l.subject) refl e (line_taken ss a.1 l f)
@@ -188,14 +188,14 @@ module _ (n : ℕ) where
 
 -- ---- lines of two kinds
 
-unlisted_both : (xs ys : List Line) (path : List ℕ) (x : Subject) → is_listed xs path x ≡ false →
+unlisted_both : (xs ys : List BareLine) (path : List ℕ) (x : Subject) → is_listed xs path x ≡ false →
     is_listed ys path x ≡ false → is_listed (xs ++ ys) path x ≡ false
 unlisted_both [] ys path x a b = b
 unlisted_both (l ∷ xs) ys path x a b =
     let c = neither (same_place l.path l.subject path x) (is_listed xs path x) a in
     rw c.0 (unlisted_both xs ys path x c.1 b)
 
-differ_both : (xs ys : List Line) → AreDifferent xs → AreDifferent ys →
+differ_both : (xs ys : List BareLine) → AreDifferent xs → AreDifferent ys →
     AllByRecursion (λ l. is_listed ys l.path l.subject ≡ false) xs → AreDifferent (xs ++ ys)
 differ_both [] ys a b c = b
 differ_both (l ∷ xs) ys a b c =
@@ -297,16 +297,16 @@ module _ (d : Component) (node : IsBooleanNode d) (names : HasBooleanNames d) (n
         (all_mapped (λ s. s ≡ Flags) (λ _. Flags) (body_pres d.body) (everywhere (λ _. Flags ≡ Flags)
         (λ k. refl) (body_pres d.body)))
 
-    abbrev input_lines : List Line
+    abbrev input_lines : List BareLine
     input_lines = name_lines [] n f d.inputs
 
-    abbrev free_lines : List Line
+    abbrev free_lines : List BareLine
     free_lines = name_lines [] n f (free_names d)
 
-    abbrev value_lines : List Line
+    abbrev value_lines : List BareLine
     value_lines = first_lines [] 1 (firsts_of f)
 
-    abbrev all_lines : List Line
+    abbrev all_lines : List BareLine
     all_lines = input_lines ++ ((free_lines ++ value_lines) ++ [])
 
     lines_flags : AllByRecursion (IsFlagLine n) all_lines
@@ -334,16 +334,16 @@ module _ (d : Component) (node : IsBooleanNode d) (names : HasBooleanNames d) (n
         (both_parts IsFlag d.outputs d.locals node.outputs node.locals)))
         (both_parts (IsFlagPlace n) value_places [] (firsts_may n 1 (first_sorts i) flag_sorts) tt))
 
-    abbrev MayBe : List Listable → Line → Type 0
+    abbrev MayBe : List Listable → BareLine → Type 0
     MayBe ss l = may_list n ss l.path l.subject ≡ true
 
-    more_left : (ss rs : List Listable) (ls : List Line) → AllByRecursion (MayBe ss) ls →
+    more_left : (ss rs : List Listable) (ls : List BareLine) → AllByRecursion (MayBe ss) ls →
         AllByRecursion (MayBe (ss ++ rs)) ls
     more_left ss rs ls a =
         all_from (MayBe ss) (MayBe (ss ++ rs))
         (λ l e. any_left (λ s. same_place s.path s.subject l.path l.subject) ss rs e) ls a
 
-    more_right : (ss rs : List Listable) (ls : List Line) → AllByRecursion (MayBe rs) ls →
+    more_right : (ss rs : List Listable) (ls : List BareLine) → AllByRecursion (MayBe rs) ls →
         AllByRecursion (MayBe (ss ++ rs)) ls
     more_right ss rs ls a =
         all_from (MayBe rs) (MayBe (ss ++ rs))

@@ -36,7 +36,7 @@ use Rattle.sys_meaning.proofs.Balanced.{Picked, pick}
 use Rattle.sys_meaning.proofs.Taken.{Gives, shown_by}
 use Rattle.sys_meaning.proofs.Back as back
 use Rattle.sys_meaning.proofs.Backward.{ordered_at, mapped_all, FrameMeets, CallsMeet, meets_called, call_fits_called, own_meets, call_shown}
-use Rattle.sys_meaning.proofs.Clauses.{items_modes}
+use Rattle.sys_meaning.proofs.ContractStatements.{items_modes}
 use Rattle.sys_meaning.proofs.Whole.{no_modes}
 
 and_one : (a : Bool) → (a && true) ≡ a

@@ -30,7 +30,7 @@ use Rattle.sys_meaning.proofs.Balanced.{source_names, equations_balanced}
 use Rattle.sys_meaning.proofs.Forward.{modes_of}
 use Rattle.sys_meaning.proofs.Backward.{FrameMeets, CallsMeet, call_shown}
 use Rattle.sys_meaning.proofs.Given.{plain_beat, frame_shown}
-use Rattle.sys_meaning.proofs.Clauses.{terms_modes}
+use Rattle.sys_meaning.proofs.ContractStatements.{terms_modes}
 use Rattle.sys_meaning.proofs.Whole.{no_modes}
 
 firsts_sorted : (k : ℕ) (ss : List Sort) (at : Place → ℕ) (c : Course) → have_sorts ss (firsts_by k ss at c) ≡ true

@@ -17,7 +17,7 @@ pub mod Owned
 pub mod Forward
 pub mod Onward
 pub mod Begin
-pub mod Clauses
+pub mod ContractStatements
 pub mod RunPath
 pub mod Offs
 pub mod Taken

@@ -10,7 +10,7 @@ use Rattle.lus_tree.specs.declared.place.Sort.TheVariants.{Bool as Flags, Int as
 use Rattle.lus_tree.specs.Tree.{Name, Variable, Component, Expression, Expressions, no_more, more}
 use Rattle.lus_meaning.specs.Value.{Value, absent, flag, whole, Stream, Instants, has_sort, was_on, latest, is}
 use Rattle.lus_meaning.specs.Frame.{Frame, Frames, no_frames, with_frame, frame_at, calls_in, entry, first_value, firsts_of, call_frame}
-use Rattle.lus_meaning.specs.Scene.{Clock, Scene, Instance, Instances, instance, no_instances, with_instance, instance_at, component_of, calls_of, call_instance, outputs_of, clock_of, clock_from, variables, is_on, ghosts, clauses}
+use Rattle.lus_meaning.specs.Scene.{Clock, Scene, Instance, Instances, instance, no_instances, with_instance, instance_at, component_of, calls_of, call_instance, outputs_of, clock_of, clock_from, variables, is_on, ghosts, contract_statements}
 use Rattle.lus_meaning.specs.Meaning.{value}
 use Rattle.lus_meaning.specs.Contract.{scene}
 use Rattle.lus_meaning.specs.Occurrences.{memories}
@@ -135,7 +135,7 @@ outputs_typed k n b f r t h (v ∷ vs) c a = (
 outputs_of_all : (P : Variable → Type 0) (d : Component) → AllByRecursion P (variables d) → AllByRecursion P d.outputs
 outputs_of_all P d a =
     right_part P d.inputs d.outputs (left_part P (d.inputs ++ d.outputs) d.locals (left_part P
-    (d.inputs ++ d.outputs ++ d.locals) (ghosts (clauses d)) a))
+    (d.inputs ++ d.outputs ++ d.locals) (ghosts (contract_statements d)) a))
 
 -- ---- one frame of a run, whose states read it
 

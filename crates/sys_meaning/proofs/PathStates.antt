@@ -29,7 +29,7 @@ use Rattle.sys_meaning.proofs.Shows.{Reads, same_both, later_value}
 use Rattle.sys_meaning.proofs.Follows.{some_same}
 use Rattle.sys_meaning.proofs.Forward.{both_true, own_fits, shown_here}
 use Rattle.sys_meaning.proofs.Lawful.{all_asserted}
-use Rattle.sys_meaning.proofs.Clauses.{IsShownBy, assumed_all, true_listed}
+use Rattle.sys_meaning.proofs.ContractStatements.{IsShownBy, assumed_all, true_listed}
 use Rattle.sys_meaning.proofs.PathRun.{from_places, start, path_meets, begins, path_offs, path_is_run}
 use Rattle.sys_meaning.proofs.Reading.{path_reads}
 use Rattle.sys_meaning.proofs.Whole.{no_modes, no_contracts}

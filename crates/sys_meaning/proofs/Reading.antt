@@ -24,7 +24,7 @@ use Rattle.sys_meaning.specs.WellTyped.{clock_here, OutputFits, IsCall, CallFits
 use Rattle.sys_meaning.proofs.Shown.{value_has}
 use Rattle.sys_meaning.proofs.Conditions.{flags_same, becomes_gives}
 use Rattle.sys_meaning.proofs.Pools.{true_all}
-use Rattle.sys_meaning.proofs.Clauses.{all_of_true, assumed_all, so_far_then, kept_on}
+use Rattle.sys_meaning.proofs.ContractStatements.{all_of_true, assumed_all, so_far_then, kept_on}
 use Rattle.sys_meaning.proofs.Rows.{OwnShown, as_it_is}
 use Rattle.sys_meaning.proofs.Balanced.{Picked, pick, join_all}
 use Rattle.sys_meaning.proofs.Forward.{modes_of}

@@ -6,12 +6,12 @@ use Rattle.lus_tree.specs.declared.place.Sort.{Sort}
 use Rattle.lus_tree.specs.Tree.{Variable, Component}
 use Rattle.lus_meaning.specs.Value.{Value, absent, has_sort, Instants}
 use Rattle.lus_meaning.specs.Frame.{Frame, Frames, no_frames, with_frame, calls_in, firsts_of, frame_at, entry, first_value}
-use Rattle.lus_meaning.specs.Scene.{Manner, plain, while_true, as_import, Scene, Instance, Instances, instance, no_instances, with_instance, component_of, clock_from, clauses, ghosts, variables, is_on}
+use Rattle.lus_meaning.specs.Scene.{Manner, plain, while_true, as_import, Scene, Instance, Instances, instance, no_instances, with_instance, component_of, clock_from, contract_statements, ghosts, variables, is_on}
 use Rattle.lus_meaning.specs.Contract.{scene}
 use Rattle.lus_meaning.specs.Run.{IsRun, CallsRun, active, first_sorts, have_sorts, is_typed}
 use Rattle.lus_meaning.specs.Recompute.{sample}
 use Rattle.lus_meaning.specs.Replay.{frame_on}
-use Rattle.lus_meaning.specs.Trace.{Subject, of_name, of_first, Line, same_subject, same_numbers, listed_at, or_default, is_defined, free_names, free_in, TakesNames, TakesFirsts, TakesFrom, TakesBelow, IsFrameOf}
+use Rattle.lus_meaning.specs.Trace.{Subject, of_name, of_first, BareLine, same_subject, same_numbers, listed_at, or_default, is_defined, free_names, free_in, TakesNames, TakesFirsts, TakesFrom, TakesBelow, IsFrameOf}
 use Rattle.lus_meaning.specs.Verdict.{throughout}
 use Rattle.lus_meaning.proofs.Lists.{all_from, both_parts, or_true, or_left}
 use Rattle.lus_meaning.proofs.Now.{left_part, right_part}
@@ -59,17 +59,17 @@ any_right g (x ∷ xs) ys e = or_true (g x) (list_any g (xs ++ ys)) (any_right g
 
 -- ---- what the lines list
 
-abbrev pub finds : List ℕ → Subject → Line → Bool
+abbrev pub finds : List ℕ → Subject → BareLine → Bool
 finds path x l = same_numbers path l.path && same_subject x l.subject
 
-abbrev pub has : List Line → List ℕ → Subject → Bool
+abbrev pub has : List BareLine → List ℕ → Subject → Bool
 has ls path x = list_any (finds path x) ls
 
 abbrev pub values_at : ℕ → Frame → Subject → List Value
 values_at n g (of_name x) = sample n (entry g x)
 values_at n g (of_first k) = first_value g k ∷ []
 
-abbrev pub listed : List Line → List ℕ → Subject → List Value
+abbrev pub listed : List BareLine → List ℕ → Subject → List Value
 listed ls path x =
     unwrap_or (option_map (λ l. l.values) (find (λ l. same_numbers path l.path && same_subject x l.subject) ls)) []
 
@@ -85,7 +85,7 @@ has_names path n f (v ∷ vs) = (
   later vs (has_names path n f vs),
 )
   where
-    line : Variable → Line
+    line : Variable → BareLine
     line v = record { path = path; subject = of_name v.name.text; values = sample n (entry f v.name.text) }
 
     later : (ws : List Variable) →
@@ -103,10 +103,10 @@ frame_on_call f (suc k ∷ ks) p = frame_on_call (frame_at (calls_in f) k) ks p
 
 module _ (n : ℕ) (top : Frame) where
   -- a line lists what the frame has there
-  abbrev pub Says : Line → Type 0
+  abbrev pub Says : BareLine → Type 0
   Says l = l.values ≡ values_at n (frame_on top l.path) l.subject
 
-  pub says_listed : (ls : List Line) → AllByRecursion Says ls → (path : List ℕ) (x : Subject) →
+  pub says_listed : (ls : List BareLine) → AllByRecursion Says ls → (path : List ℕ) (x : Subject) →
       has ls path x ≡ true → listed ls path x ≡ values_at n (frame_on top path) x
   says_listed [] a path x e = absurd (false≢true e)
   says_listed (l ∷ ls) a path x e = go (finds path x l) refl e (says_listed ls a.1 path x)
@@ -170,15 +170,15 @@ module _ (n : ℕ) (top : Frame) where
 
   -- ---- and the frame takes what they list
 
-  module _ (ls : List Line) (says : AllByRecursion Says ls) where
+  module _ (ls : List BareLine) (says : AllByRecursion Says ls) where
     -- these lines are among them
-    abbrev pub Among : List Line → Type 0
+    abbrev pub Among : List BareLine → Type 0
     Among ks = (path : List ℕ) (x : Subject) → has ks path x ≡ true → has ls path x ≡ true
 
-    among_left : (ks js : List Line) → Among (ks ++ js) → Among ks
+    among_left : (ks js : List BareLine) → Among (ks ++ js) → Among ks
     among_left ks js h path x e = h path x (any_left (finds path x) ks js e)
 
-    among_right : (ks js : List Line) → Among (ks ++ js) → Among js
+    among_right : (ks js : List BareLine) → Among (ks ++ js) → Among js
     among_right ks js h path x e = h path x (any_right (finds path x) ks js e)
 
     -- the names have values of their types where they are on
@@ -208,7 +208,7 @@ module _ (n : ℕ) (top : Frame) where
     takes_firsts path f e m [] vs k h a = tt
     takes_firsts path f e m (s ∷ ss) [] k h a = absurd (false≢true k)
     takes_firsts path f e m (s ∷ ss) (v ∷ vs) k h a =
-        let l : Line = record { path = path; subject = of_first (suc m); values = v ∷ [] } in
+        let l : BareLine = record { path = path; subject = of_first (suc m); values = v ∷ [] } in
         let both = same_both (has_sort s v) (have_sorts ss vs) k in
         let here : m ≡ m + 0 = omega arith in
         let is : first_value f (suc m) ≡ v = ap (λ k. slice_index_or (firsts_of f) k absent) here ∙ h 0 in
@@ -239,7 +239,7 @@ module _ (n : ℕ) (top : Frame) where
     free_all : (P : Variable → Type 0) (d : Component) → AllByRecursion P (variables d) →
         AllByRecursion P (free_names d)
     free_all P d a =
-        let b = left_part P (d.inputs ++ d.outputs ++ d.locals) (ghosts (clauses d)) a in
+        let b = left_part P (d.inputs ++ d.outputs ++ d.locals) (ghosts (contract_statements d)) a in
         free_part P d (d.outputs ++ d.locals) (both_parts P d.outputs d.locals
         (right_part P d.inputs d.outputs (left_part P (d.inputs ++ d.outputs) d.locals b))
         (right_part P (d.inputs ++ d.outputs) d.locals b))
@@ -326,7 +326,7 @@ module _ (Modes : Instance → Key → Type 0) where
         (both_parts (Typed n f ls says (scene i throughout f)) inputs free
         (left_part (Typed n f ls says (scene i throughout f)) inputs d.outputs
         (left_part (Typed n f ls says (scene i throughout f)) (inputs ++ d.outputs) d.locals
-        (left_part (Typed n f ls says (scene i throughout f)) (inputs ++ d.outputs ++ d.locals) (ghosts (clauses d))
+        (left_part (Typed n f ls says (scene i throughout f)) (inputs ++ d.outputs ++ d.locals) (ghosts (contract_statements d))
         (types_of n f ls says i throughout f run))))
         (free_all n f ls says (Typed n f ls says (scene i throughout f)) d
         (types_of n f ls says i throughout f run)));
@@ -341,13 +341,13 @@ module _ (Modes : Instance → Key → Type 0) where
       free : List Variable
       free = free_names (component_of i)
 
-      inputs_lines : List Line
+      inputs_lines : List BareLine
       inputs_lines = name_lines [] n f inputs
 
-      others : List Line
+      others : List BareLine
       others = lines_from [] n free i f
 
-      ls : List Line
+      ls : List BareLine
       ls = inputs_lines ++ others
 
       says : AllByRecursion (Says n f) ls

@@ -26,7 +26,7 @@ use Rattle.sys_meaning.proofs.Main.{formula_value}
 use Rattle.sys_meaning.proofs.Conditions.{flags_same}
 use Rattle.sys_meaning.proofs.Shows.{Reads, state_reads}
 use Rattle.sys_meaning.proofs.Forward.{drop_calls, drop_frames, first_frame, frame_dropped, later_calls, later_frames, calls_later, frames_later, modes_of, call_at_reads, own_fits, shown_here}
-use Rattle.sys_meaning.proofs.Clauses.{AllSame, terms_modes, items_modes, IsShownBy, assumes_same, guarantees_same}
+use Rattle.sys_meaning.proofs.ContractStatements.{AllSame, terms_modes, items_modes, IsShownBy, assumes_same, guarantees_same}
 use Rattle.sys_meaning.proofs.Whole.{no_modes, no_contracts}
 
 agree_both : (f : Frame) (t : ℕ) (s : List Entry) (ps ps' : List Property) (qs qs' : List Formula) →

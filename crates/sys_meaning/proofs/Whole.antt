@@ -34,7 +34,7 @@ use Rattle.sys_meaning.proofs.Forward.{Contracts, modes_of, calls_of_run, own_fi
 use Rattle.sys_meaning.proofs.Onward.{SoFar}
 use Rattle.sys_meaning.proofs.RunPath.{run_is_path}
 use Rattle.sys_meaning.proofs.Conditions.{flags_same, becomes_made}
-use Rattle.sys_meaning.proofs.Clauses.{IsShownBy, assumed_all, all_of_true, listed_true, so_far_then, kept_on}
+use Rattle.sys_meaning.proofs.ContractStatements.{IsShownBy, assumed_all, all_of_true, listed_true, so_far_then, kept_on}
 
 pub fits_at : (Modes : Instance → Key → Type 0) (i : Instance) (is : Instances) (p j : ℕ) →
     CallsFit Modes i is p → j < count_of is → TreeFits Modes (instance_at is j)

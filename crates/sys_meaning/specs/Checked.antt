@@ -10,7 +10,7 @@ use Rattle.lus_meaning.specs.Contract.{Property}
 use Rattle.lus_meaning.specs.Run.{IsRun, first_sorts}
 use Rattle.lus_meaning.specs.Property.{IsLawful, properties}
 use Rattle.lus_meaning.specs.Verdict.{throughout, Holds, Breaks}
-use Rattle.lus_meaning.specs.Trace.{Line, of_name, of_first, free_names, IsFrameOf}
+use Rattle.lus_meaning.specs.Trace.{BareLine, of_name, of_first, free_names, IsFrameOf}
 use Rattle.lus_meaning.specs.TraceView.{Listing, lines_of}
 use Rattle.lus_meaning.specs.Fits.{FitsInstance, FitsProgram}
 use Rattle.lus_meaning.specs.Replay.{Shown, ReplaysTrace}
@@ -92,11 +92,11 @@ abbrev pub flag_in : Instance → Spot → List Entry → Value
 flag_in i p s = flag ((values_of s).flag_at (number_of i (own p)))
 
 -- a name at each state, and a first value, which is the memory of its `pre` in the first state
-abbrev pub name_line : Instance → List (List Entry) → Variable → Line
+abbrev pub name_line : Instance → List (List Entry) → Variable → BareLine
 name_line i states v =
     record { path = []; subject = of_name v.name.text; values = map (flag_in i (named v.name.text)) states }
 
-abbrev pub first_line : Instance → List (List Entry) → ℕ → Line
+abbrev pub first_line : Instance → List (List Entry) → ℕ → BareLine
 first_line i states k =
     record { path = []; subject = of_first k; values = flag_in i (memory k) (get_or states 0 []) ∷ [] }
 

@@ -7,7 +7,7 @@ use Rattle.lus_meaning.specs.Frame.{Frame, Frames, frame, no_frames, with_frame,
 use Rattle.lus_meaning.specs.Scene.{Instance, Instances, instance, no_instances, with_instance, component_of, clock_from, variables}
 use Rattle.lus_meaning.specs.Run.{first_sorts}
 use Rattle.lus_meaning.specs.Recompute.{sample}
-use Rattle.lus_meaning.specs.Trace.{Line, of_name, of_first, free_names, free_in, IsFrameOf}
+use Rattle.lus_meaning.specs.Trace.{BareLine, of_name, of_first, free_names, free_in, IsFrameOf}
 use Rattle.sys_terms.specs.declared.term.Entry.{Entry}
 use Rattle.sys_terms.specs.Meaning.{Values, values_of, truth_of}
 use Rattle.sys_terms.specs.Paths.{IsPath}
@@ -53,32 +53,32 @@ frame_of_path i states = frame_by i (number_of i) (course_of states) (length sta
 
 -- ---- the trace
 
-abbrev pub name_lines : List ℕ → ℕ → Frame → List Variable → List Line
+abbrev pub name_lines : List ℕ → ℕ → Frame → List Variable → List BareLine
 name_lines path n f vs =
     map (λ v. record { path = path; subject = of_name v.name.text; values = sample n (entry f v.name.text) }) vs
 
-abbrev pub first_lines : List ℕ → ℕ → List Value → List Line
+abbrev pub first_lines : List ℕ → ℕ → List Value → List BareLine
 first_lines path k [] = []
 first_lines path k (v ∷ vs) =
     record { path = path; subject = of_first k; values = v ∷ [] } ∷ first_lines path (suc k) vs
 
 abbrev mutual
   -- free names and first values, of a frame and of those of its calls
-  pub lines_from : List ℕ → ℕ → List Variable → Instance → Frame → List Line
+  pub lines_from : List ℕ → ℕ → List Variable → Instance → Frame → List BareLine
   lines_from path n free (instance d cs is) f = name_lines path n f free ++ first_lines path 1 (firsts_of f)
       ++ lines_below path n is (calls_in f)
 
-  pub lines_below : List ℕ → ℕ → Instances → Frames → List Line
+  pub lines_below : List ℕ → ℕ → Instances → Frames → List BareLine
   lines_below path n (with_instance c i is) (with_frame f fs) =
       lines_from (path ++ c.number ∷ []) n (free_in c.manner (component_of i)) i f ++ lines_below path n is fs
   lines_below path n no_instances fs = []
   lines_below path n (with_instance c i is) no_frames = []
 
 -- the inputs, all free names and all first values
-abbrev pub trace_lines : Instance → ℕ → Frame → List Line
+abbrev pub trace_lines : Instance → ℕ → Frame → List BareLine
 trace_lines i n f = name_lines [] n f (component_of i).inputs ++ lines_from [] n (free_names (component_of i)) i f
 
-abbrev pub trace_of : Instance → List (List Entry) → List Line
+abbrev pub trace_of : Instance → List (List Entry) → List BareLine
 trace_of i states = trace_lines i (length states) (frame_of_path i states)
 
 -- the trace of a path has the path's frame

@@ -7,9 +7,9 @@ use Rattle.lus_tree.specs.declared.expression.Operator.{Operator}
 use Rattle.lus_tree.specs.declared.expression.Operator.TheVariants.{Implies, Or, Xor, And, Less, AtMost, Equal, Differs, AtLeast, More, Add, Sub, Mul, Div, Mod}
 use Rattle.lus_tree.specs.declared.place.Sort.{Sort}
 use Rattle.lus_tree.specs.declared.place.Sort.TheVariants.{Bool as Flags, Int as Numbers}
-use Rattle.lus_tree.specs.Tree.{Statement, property, Clause, assume, guarantee, ghost_variable, constant, mode, «import», Name, Variable, text_of, Expression, Expressions, no_more, more, truth, number, name, negation, minus, pre, arrow, binary, choice, sampled, merged, call, condact, mode_name}
+use Rattle.lus_tree.specs.Tree.{Statement, property, ContractStatement, assume, guarantee, ghost_variable, constant, mode, «import», Name, Variable, text_of, Expression, Expressions, no_more, more, truth, number, name, negation, minus, pre, arrow, binary, choice, sampled, merged, call, condact, mode_name}
 use Rattle.lus_meaning.specs.Value.{Value, has_sort}
-use Rattle.lus_meaning.specs.Scene.{Manner, as_import, Site, instance, Instances, no_instances, with_instance, calls_of, clock_from, Clock, base, sampled_by, plain, while_true, Instance, component_of, constants_of, outputs_of, call_instance, instance_called, clock_of, clauses, variables}
+use Rattle.lus_meaning.specs.Scene.{Manner, as_import, Site, instance, Instances, no_instances, with_instance, calls_of, clock_from, Clock, base, sampled_by, plain, while_true, Instance, component_of, constants_of, outputs_of, call_instance, instance_called, clock_of, contract_statements, variables}
 use Rattle.lus_meaning.specs.Scene.{clock_of_names}
 use Rattle.lus_meaning.specs.Program.{constant_value}
 use Rattle.lus_meaning.specs.Occurrences.{Memory, memories, Start, starts}
@@ -193,18 +193,18 @@ module _ (i : Instance) (ModeAt : Key → Type 0) where
     pub clock : ClockFits a.clock
 
   -- for now assumptions and guarantees alone, without modes and imports
-  abbrev pub ClauseFits : Clause → Type 0
-  ClauseFits (assume l) = Stands base l.value × (sort_of i l.value ≡ Flags)
-  ClauseFits (guarantee l) = Stands base l.value × (sort_of i l.value ≡ Flags)
-  ClauseFits (ghost_variable x e) = Unit {0}
-  ClauseFits (constant c) = Unit {0}
-  ClauseFits (mode m rs es) = ⊥
-  ClauseFits («import» k c as_ xs) = ⊥
+  abbrev pub ContractStatementFits : ContractStatement → Type 0
+  ContractStatementFits (assume l) = Stands base l.value × (sort_of i l.value ≡ Flags)
+  ContractStatementFits (guarantee l) = Stands base l.value × (sort_of i l.value ≡ Flags)
+  ContractStatementFits (ghost_variable x e) = Unit {0}
+  ContractStatementFits (constant c) = Unit {0}
+  ContractStatementFits (mode m rs es) = ⊥
+  ContractStatementFits («import» k c as_ xs) = ⊥
 
   pub record OwnFits : Type 0 where
     -- each name is declared once
     pub once : AreDistinct (map (λ v. v.name.text) (variables (component_of i)))
-    pub contract : AllByRecursion ClauseFits (clauses (component_of i))
+    pub contract : AllByRecursion ContractStatementFits (contract_statements (component_of i))
     pub streams : AllByRecursion StreamFits (variables (component_of i))
     pub equations : AllByRecursion EquationFits (equations (component_of i))
     -- each first value is that of a memory

@@ -30,7 +30,8 @@ piece_more w from i o h =
     let k : i + 1 - from ≡ (i - from) + 1 = omega arith in
     let l : i - from < length (drop from w) = omega (arith, length-drop from w) in
     let e : from + (i - from) ≡ i = omega arith in
-    ap (λ (n : ℕ). take n (drop from w)) k ∙ take_more (drop from w) (i - from) 0 l ∙ ap (λ (b : ℕ). piece w from i ++ b ∷ []) (get_or-drop from w (i - from) 0 ∙ ap (λ (n : ℕ). get_or w n 0) e)
+    ap (λ (n : ℕ). take n (drop from w)) k ∙ take_more (drop from w) (i - from) 0 l ∙ ap (λ (b : ℕ). piece w from i ++ b ∷ [])
+    (get_or-drop from w (i - from) 0 ∙ ap (λ (n : ℕ). get_or w n 0) e)
 
 dot_is : (b : ℕ) → b ≡ 46 → (b == 46) ≡ true
 dot_is b e = ap (λ (x : ℕ). x == 46) e
@@ -45,7 +46,8 @@ pub at_other : (path : List ℕ) (w : List ℕ) (from i : ℕ) → from ≤ i �
 unfolding address_from
 at_other path w from i o h e = rw (front w i h, e, piece_more w from i o h) refl
 
-pub at_end : (path : List ℕ) (w : List ℕ) (from i : ℕ) → from ≤ i → length w ≤ i → address_from (Some path) (piece w from i) (drop i w) ≡ joined path (subject_of (drop from w))
+pub at_end : (path : List ℕ) (w : List ℕ) (from i : ℕ) → from ≤ i → length w ≤ i → address_from (Some path) (piece w from i)
+    (drop i w) ≡ joined path (subject_of (drop from w))
 unfolding address_from
 at_end path w from i o h = rw (drop_all i w h, take_all (i - from) (drop from w) (omega (arith, length-drop from w))) refl
 
@@ -53,31 +55,39 @@ not_dot : (b : ℕ) → (b ≡ 46 → ⊥) → (b == 46) ≡ false
 not_dot b h = grind (arith, h)
 
 -- behind a dot
-pub after_dot : (path path' : List ℕ) (w : List ℕ) (from from' i n : ℕ) (total : Option (List ℕ × Subject)) → path' ≡ path ++ n ∷ [] → from' ≡ i + 1 → i < length w → get_or w i 0 ≡ 46 → Some n ≡ small_of (piece w from i)
+pub after_dot : (path path' : List ℕ) (w : List ℕ) (from from' i n : ℕ) (total : Option (List ℕ × Subject)) → path' ≡ path ++ n ∷ []
+    → from' ≡ i + 1 → i < length w → get_or w i 0 ≡ 46 → Some n ≡ small_of (piece w from i)
     → address_from (Some path) (piece w from i) (drop i w) ≡ total → address_from (Some path') (piece w from' (i + 1)) (drop (i + 1) w) ≡ total
 after_dot path path' w from from' i n total p f h e s so_far =
     let zero : i + 1 - (i + 1) ≡ 0 = omega arith in
     let none : piece w (i + 1) (i + 1) ≡ [] = ap (λ (k : ℕ). take k (drop (i + 1) w)) zero in
     ap (λ (k : ℕ). address_from (Some path') (piece w k (i + 1)) (drop (i + 1) w)) f ∙ ap (λ (x : List ℕ). address_from (Some path') x (drop (i + 1) w)) none
-    ∙ ap (λ (x : List ℕ). address_from (Some x) [] (drop (i + 1) w)) p ∙ ap (λ (o : Option ℕ). address_from (longer path o) [] (drop (i + 1) w)) s ∙ sym (at_dot path w from i h e) ∙ so_far
+    ∙ ap (λ (x : List ℕ). address_from (Some x) [] (drop (i + 1) w)) p ∙ ap
+    (λ (o : Option ℕ). address_from (longer path o) [] (drop (i + 1) w)) s ∙ sym (at_dot path w from i h e) ∙ so_far
 
 -- behind another byte
-pub after_other : (path path' : List ℕ) (w : List ℕ) (from from' i : ℕ) (total : Option (List ℕ × Subject)) → path' ≡ path → from' ≡ from → from ≤ i → i < length w → (get_or w i 0 ≡ 46 → ⊥)
+pub after_other : (path path' : List ℕ) (w : List ℕ) (from from' i : ℕ) (total : Option (List ℕ × Subject)) → path' ≡ path → from' ≡ from
+    → from ≤ i → i < length w → (get_or w i 0 ≡ 46 → ⊥)
     → address_from (Some path) (piece w from i) (drop i w) ≡ total → address_from (Some path') (piece w from' (i + 1)) (drop (i + 1) w) ≡ total
 after_other path path' w from from' i total p f o h e so_far =
-    ap (λ (k : ℕ). address_from (Some path') (piece w k (i + 1)) (drop (i + 1) w)) f ∙ ap (λ (x : List ℕ). address_from (Some x) (piece w from (i + 1)) (drop (i + 1) w)) p
+    ap (λ (k : ℕ). address_from (Some path') (piece w k (i + 1)) (drop (i + 1) w)) f ∙ ap
+    (λ (x : List ℕ). address_from (Some x) (piece w from (i + 1)) (drop (i + 1) w)) p
     ∙ sym (at_other path w from i o h (not_dot (get_or w i 0) e)) ∙ so_far
 
 -- a piece before a dot that is no number
-pub no_number : (path : List ℕ) (w : List ℕ) (from i : ℕ) (total : Option (List ℕ × Subject)) → i < length w → get_or w i 0 ≡ 46 → None ≡ small_of (piece w from i)
+pub no_number : (path : List ℕ) (w : List ℕ) (from i : ℕ) (total : Option (List ℕ × Subject)) → i < length w → get_or w i 0 ≡ 46
+    → None ≡ small_of (piece w from i)
     → address_from (Some path) (piece w from i) (drop i w) ≡ total → None ≡ total
 no_number path w from i total h e s so_far =
     sym (nothing [] (drop (i + 1) w)) ∙ ap (λ (o : Option ℕ). address_from (longer path o) [] (drop (i + 1) w)) s ∙ sym (at_dot path w from i h e) ∙ so_far
 
 -- the end of the word
-pub is_address : (path : List ℕ) (w : List ℕ) (from i : ℕ) (total : Option (List ℕ × Subject)) (s : Option Subject) → from ≤ i → length w ≤ i → s ≡ subject_of (take (length w - from) (drop from w))
+pub is_address : (path : List ℕ) (w : List ℕ) (from i : ℕ) (total : Option (List ℕ × Subject)) (s : Option Subject) → from ≤ i
+    → length w ≤ i → s ≡ subject_of (take (length w - from) (drop from w))
     → address_from (Some path) (piece w from i) (drop i w) ≡ total → joined path s ≡ total
-is_address path w from i total s o h e so_far = ap (joined path) (e ∙ ap subject_of (take_all (length w - from) (drop from w) (omega (arith, length-drop from w)))) ∙ sym (at_end path w from i o h) ∙ so_far
+is_address path w from i total s o h e so_far = ap (joined path)
+    (e ∙ ap subject_of (take_all (length w - from) (drop from w) (omega (arith, length-drop from w)))) ∙ sym (at_end path w from i o h)
+    ∙ so_far
 
 -- ---- what a place is
 
@@ -93,11 +103,13 @@ word_no_dot b h = grind (arith, h)
 
 all_no_dots : (t : ℕ → Bool) → ((b : ℕ) → t b ≡ true → (b == 46) ≡ false) → (bs : List ℕ) → list_all t bs ≡ true → no_dots bs ≡ true
 all_no_dots t f [] h = refl
-all_no_dots t f (b ∷ bs) h = both_true (not (b == 46)) (no_dots bs) (ap not (f b (and_left (t b) (list_all t bs) h))) (all_no_dots t f bs (and_right (t b) (list_all t bs) h))
+all_no_dots t f (b ∷ bs) h = both_true (not (b == 46)) (no_dots bs) (ap not (f b (and_left (t b) (list_all t bs) h)))
+    (all_no_dots t f bs (and_right (t b) (list_all t bs) h))
 
 digits_all : (bs : List ℕ) → all_ascii_digits bs ≡ true → list_all is_ascii_digit bs ≡ true
 digits_all [] h = refl
-digits_all (b ∷ bs) h = both_true (is_ascii_digit b) (list_all is_ascii_digit bs) (and_left (is_ascii_digit b) (all_ascii_digits bs) h) (digits_all bs (and_right (is_ascii_digit b) (all_ascii_digits bs) h))
+digits_all (b ∷ bs) h = both_true (is_ascii_digit b) (list_all is_ascii_digit bs) (and_left (is_ascii_digit b) (all_ascii_digits bs) h)
+    (digits_all bs (and_right (is_ascii_digit b) (all_ascii_digits bs) h))
 
 decimal_no_dots : (n : ℕ) → n < 4294967296 → no_dots (decimal n) ≡ true
 decimal_no_dots n l = all_no_dots is_ascii_digit digit_no_dot (decimal n) (digits_all (decimal n) (digits_of_decimal n (omega arith)))
@@ -129,8 +141,10 @@ unfolding address_from
 to_piece path piece [] r h = ap (λ (x : List ℕ). address_from (Some path) x r) (sym (append-nil piece))
 to_piece path piece (b ∷ q) r h = go (b == 46) h (to_piece path (piece ++ b ∷ []) q r)
   where
-    go : (x : Bool) → (not x && no_dots q) ≡ true → (no_dots q ≡ true → address_from (Some path) (piece ++ b ∷ []) (q ++ r) ≡ address_from (Some path) ((piece ++ b ∷ []) ++ q) r)
-        → cond x (address_from (longer path (small_of piece)) [] (q ++ r)) (address_from (Some path) (piece ++ b ∷ []) (q ++ r)) ≡ address_from (Some path) (piece ++ b ∷ q) r
+    go : (x : Bool) → (not x && no_dots q) ≡ true → (no_dots q ≡ true → address_from (Some path) (piece ++ b ∷ []) (q ++ r) ≡ address_from
+        (Some path) ((piece ++ b ∷ []) ++ q) r)
+        → cond x (address_from (longer path (small_of piece)) [] (q ++ r))
+        (address_from (Some path) (piece ++ b ∷ []) (q ++ r)) ≡ address_from (Some path) (piece ++ b ∷ q) r
     go true k f = absurd cc
     go false k f = f k ∙ ap (λ (x : List ℕ). address_from (Some path) x r) (append_assoc piece (b ∷ []) q)
 
@@ -145,7 +159,8 @@ unfolding subject_of name_of
 subject_sound [] s h = none_some s h
 subject_sound (b ∷ bs) s h = go (b == 35) refl (is_name (b ∷ bs)) refl h
   where
-    go : (x : Bool) → (b == 35) ≡ x → (y : Bool) → is_name (b ∷ bs) ≡ y → cond x (option_map of_first (small_of bs)) (option_map of_name (cond y (Some (b ∷ bs)) None)) ≡ Some s → ((b ∷ bs) ≡ subject_text s) × FitsSubject s
+    go : (x : Bool) → (b == 35) ≡ x → (y : Bool) → is_name (b ∷ bs) ≡ y → cond x (option_map of_first (small_of bs))
+        (option_map of_name (cond y (Some (b ∷ bs)) None)) ≡ Some s → ((b ∷ bs) ≡ subject_text s) × FitsSubject s
     go true e y f k =
         let m = map_some of_first (small_of bs) s k in
         let n = small_sound bs m.0 m.1 in
@@ -156,12 +171,15 @@ subject_sound (b ∷ bs) s h = go (b == 35) refl (is_name (b ∷ bs)) refl h
 -- a number and a dot
 step_read : (path : List ℕ) (k : ℕ) (r : List ℕ) → k < 4294967296 → address_from (Some path) [] (step_text k ++ r) ≡ address_from (Some (path ++ k ∷ [])) [] r
 step_read path k r l =
-    ap (address_from (Some path) []) (append_assoc (decimal k) (46 ∷ []) r) ∙ to_piece path [] (decimal k) (46 ∷ r) (decimal_no_dots k l) ∙ dot_read path (decimal k) r
+    ap (address_from (Some path) []) (append_assoc (decimal k) (46 ∷ []) r) ∙ to_piece path [] (decimal k) (46 ∷ r) (decimal_no_dots k l)
+    ∙ dot_read path (decimal k) r
     ∙ ap (λ (o : Option ℕ). address_from (longer path o) [] r) (small_complete (decimal k) k (record { spelled = refl; small = l }))
 
-read_address : (path ks : List ℕ) (s : Subject) → AllByRecursion (λ k. k < 4294967296) ks → FitsSubject s → address_from (Some path) [] (address_text ks s) ≡ Some (path ++ ks, s)
+read_address : (path ks : List ℕ) (s : Subject) → AllByRecursion (λ k. k < 4294967296) ks → FitsSubject s → address_from (Some path) []
+    (address_text ks s) ≡ Some (path ++ ks, s)
 read_address path [] s a f =
-    ap (address_from (Some path) []) (sym (append-nil (subject_text s))) ∙ to_piece path [] (subject_text s) [] (subject_no_dots s f) ∙ piece_end path (subject_text s)
+    ap (address_from (Some path) []) (sym (append-nil (subject_text s))) ∙ to_piece path [] (subject_text s) [] (subject_no_dots s f)
+    ∙ piece_end path (subject_text s)
     ∙ ap (joined path) (subject_complete s f) ∙ ap (λ (x : List ℕ). Some (x, s)) (sym (append-nil path))
 read_address path (k ∷ ks) s a f =
     step_read path k (address_text ks s) a.0 ∙ read_address (path ++ k ∷ []) ks s a.1 f ∙ ap (λ (x : List ℕ). Some (x, s)) (append_assoc path (k ∷ []) ks)
@@ -181,11 +199,20 @@ unfolding address_from
 spells [] path piece x h =
     let m = map_some (λ s. (path, s)) (subject_of piece) x h in
     let s = subject_sound piece m.0 m.1 in
-    subst (λ y. Spells path piece [] y) (sym m.2) (record { more = []; path_is = sym (append-nil path); spelled = append-nil piece ∙ s.0; path_fits = tt; subject_fits = s.1 })
+    subst (λ y. Spells path piece [] y) (sym m.2) (record {
+      more = [];
+      path_is = sym (append-nil path);
+      spelled = append-nil piece
+          ∙ s.0;
+      path_fits = tt;
+      subject_fits = s.1;
+    })
 spells (b ∷ bs) path piece x h = go (b == 46) refl (small_of piece) refl h (λ k. spells bs (path ++ k ∷ []) [] x) (spells bs path (piece ++ b ∷ []) x)
   where
-    go : (d : Bool) → (b == 46) ≡ d → (o : Option ℕ) → small_of piece ≡ o → cond d (address_from (longer path o) [] bs) (address_from (Some path) (piece ++ b ∷ []) bs) ≡ Some x
-        → ((k : ℕ) → address_from (Some (path ++ k ∷ [])) [] bs ≡ Some x → Spells (path ++ k ∷ []) [] bs x) → (address_from (Some path) (piece ++ b ∷ []) bs ≡ Some x → Spells path (piece ++ b ∷ []) bs x) → Spells path piece (b ∷ bs) x
+    go : (d : Bool) → (b == 46) ≡ d → (o : Option ℕ) → small_of piece ≡ o → cond d (address_from (longer path o) [] bs)
+        (address_from (Some path) (piece ++ b ∷ []) bs) ≡ Some x
+        → ((k : ℕ) → address_from (Some (path ++ k ∷ [])) [] bs ≡ Some x → Spells (path ++ k ∷ []) [] bs x) →
+        (address_from (Some path) (piece ++ b ∷ []) bs ≡ Some x → Spells path (piece ++ b ∷ []) bs x) → Spells path piece (b ∷ bs) x
     go true e None f k dot other = none_some x (sym (nothing [] bs) ∙ k)
     go true e (Some n) f k dot other =
         let s = dot n k in
@@ -193,16 +220,29 @@ spells (b ∷ bs) path piece x h = go (b == 46) refl (small_of piece) refl h (λ
         record {
           more = n ∷ s.more;
           path_is = s.path_is ∙ append_assoc path (n ∷ []) s.more;
-          spelled = ap (λ (c : ℕ). piece ++ c ∷ bs) (equal_is b 46 e) ∙ ap (λ (y : List ℕ). y ++ 46 ∷ bs) i.spelled ∙ ap (λ (y : List ℕ). decimal n ++ 46 ∷ y) s.spelled ∙ sym (append_assoc (decimal n) (46 ∷ []) (address_text s.more x.1));
+          spelled = ap (λ (c : ℕ). piece ++ c ∷ bs) (equal_is b 46 e) ∙ ap (λ (y : List ℕ). y ++ 46 ∷ bs) i.spelled ∙ ap
+              (λ (y : List ℕ). decimal n ++ 46 ∷ y) s.spelled ∙ sym (append_assoc (decimal n) (46 ∷ []) (address_text s.more x.1));
           path_fits = (i.small, s.path_fits);
           subject_fits = s.subject_fits;
         }
     go false e o f k dot other =
         let s = other k in
-        record { more = s.more; path_is = s.path_is; spelled = sym (append_assoc piece (b ∷ []) bs) ∙ s.spelled; path_fits = s.path_fits; subject_fits = s.subject_fits }
+        record {
+          more = s.more;
+          path_is = s.path_is;
+          spelled = sym (append_assoc piece (b ∷ []) bs)
+              ∙ s.spelled;
+          path_fits = s.path_fits;
+          subject_fits = s.subject_fits;
+        }
 
 pub address_sound : (w path : List ℕ) (s : Subject) → address_of w ≡ Some (path, s) → IsAddress w path s
 address_sound w path s h =
     let x = spells w [] [] (path, s) h in
     let e : x.more ≡ path = sym x.path_is in
-    record { spelled = x.spelled ∙ ap (λ (y : List ℕ). address_text y s) e; path_fits = subst (AllByRecursion (λ k. k < 4294967296)) e x.path_fits; subject_fits = x.subject_fits }
+    record {
+      spelled = x.spelled ∙ ap (λ (y : List ℕ). address_text y s) e;
+      path_fits = subst
+          (AllByRecursion (λ k. k < 4294967296)) e x.path_fits;
+      subject_fits = x.subject_fits;
+    }

@@ -28,7 +28,8 @@ and_right false y h = absurd cc
 
 pub name_word : (w : List ℕ) → is_name w ≡ true → list_all is_word w ≡ true
 unfolding is_name
-name_word w h = and_left (list_all is_word w) (not (list_any (bytes_eq w) reserved)) (and_right (is_letter (get_or w 0 0)) (list_all is_word w && not (list_any (bytes_eq w) reserved)) h)
+name_word w h = and_left (list_all is_word w) (not (list_any (bytes_eq w) reserved))
+    (and_right (is_letter (get_or w 0 0)) (list_all is_word w && not (list_any (bytes_eq w) reserved)) h)
 
 pub name_letter : (w : List ℕ) → is_name w ≡ true → is_letter (get_or w 0 0) ≡ true
 unfolding is_name

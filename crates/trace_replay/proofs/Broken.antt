@@ -12,7 +12,7 @@ use Rattle.lus_meaning.specs.Property.{assertions, all_assert, meets_assumptions
 use Rattle.lus_meaning.specs.Verdict.{throughout}
 use Rattle.lus_meaning.specs.BooleanRules.{IsBooleanItem, IsBooleanNode}
 use Rattle.lus_meaning.proofs.Lists.{append_none}
-use Rattle.lus_meaning.proofs.BooleanNode.{boolean_no_clauses}
+use Rattle.lus_meaning.proofs.BooleanNode.{boolean_no_contract_statements}
 use Rattle.trace_replay.specs.Broken.{IsFirstFalse, property_values, AreFirstFalse}
 use Rattle.lus_meaning.specs.FirstBreak.{IsBreak}
 use Rattle.trace_replay.specs.Replayed.{EachBreaks}
@@ -22,10 +22,12 @@ module _ (d : Component) (boolean : IsBooleanNode d) where
   node = instance d [] no_instances
 
   pub terms_are : terms node ≡ no_terms
-  terms_are = ap (terms_after node (λ k. slice_index_or (terms_each no_instances) (pred k) no_terms) []) (boolean_no_clauses d boolean)
+  terms_are = ap (terms_after node (λ k. slice_index_or (terms_each no_instances) (pred k) no_terms) []) (boolean_no_contract_statements d boolean)
 
   pub properties_are : properties node ≡ body_properties node d.body
-  properties_are = rw terms_are (append_none (((body_properties node d.body ++ []) ++ []) ++ []) ∙ append_none ((body_properties node d.body ++ []) ++ []) ∙ append_none (body_properties node d.body ++ []) ∙ append_none (body_properties node d.body))
+  properties_are = rw terms_are (append_none (((body_properties node d.body ++ []) ++ []) ++ []) ∙ append_none
+      ((body_properties node d.body ++ []) ++ []) ∙ append_none (body_properties node d.body ++ []) ∙ append_none
+      (body_properties node d.body))
 
   pub no_assertions : (ss : List Statement) → AllByRecursion IsBooleanItem ss → assertions ss ≡ []
   no_assertions [] q = refl
@@ -39,7 +41,8 @@ module _ (d : Component) (boolean : IsBooleanNode d) where
   always_lawful f t u le = ap (λ b. b && meets_assumptions node throughout f u) asserted ∙ assumed
     where
       asserted : all_assert node throughout f u ≡ true
-      asserted = ap (λ (es : List Expression). list_all (λ e. is true (value (scene node throughout f) base e u)) es && true) (no_assertions d.body boolean.items)
+      asserted = ap (λ (es : List Expression). list_all (λ e. is true (value (scene node throughout f) base e u)) es && true)
+          (no_assertions d.body boolean.items)
 
       assumed : meets_assumptions node throughout f u ≡ true
       assumed = ap (λ (r : Terms). list_all (λ (p : Property). is true (p.test throughout f u)) r.assumes) terms_are
@@ -63,7 +66,8 @@ module _ (d : Component) (boolean : IsBooleanNode d) where
           },
         )
 
-    pub breaks_of : (ss : List Statement) → AllByRecursion P (property_values ss) → (hits : List (Option ℕ)) → AreFirstFalse b n (property_values ss) hits → EachBreaks node f n (body_properties node ss) hits
+    pub breaks_of : (ss : List Statement) → AllByRecursion P (property_values ss) → (hits : List (Option ℕ)) → AreFirstFalse b n
+        (property_values ss) hits → EachBreaks node f n (body_properties node ss) hits
     breaks_of [] q [] h = tt
     breaks_of [] q (o ∷ hits) h = absurd h
     breaks_of (equation xs e ∷ ss) q hits h = breaks_of ss q hits h
@@ -72,5 +76,6 @@ module _ (d : Component) (boolean : IsBooleanNode d) where
     breaks_of (property l ∷ ss) q [] h = absurd h
     breaks_of (property l ∷ ss) q (o ∷ hits) h = (break_of l q.0 o h.0, breaks_of ss q.1 hits h.1)
 
-    pub all_breaks : AllByRecursion P (property_values d.body) → (hits : List (Option ℕ)) → AreFirstFalse b n (property_values d.body) hits → EachBreaks node f n (properties node) hits
+    pub all_breaks : AllByRecursion P (property_values d.body) → (hits : List (Option ℕ)) → AreFirstFalse b n (property_values d.body) hits
+        → EachBreaks node f n (properties node) hits
     all_breaks q hits h = subst (λ ps. EachBreaks node f n ps hits) (sym properties_are) (breaks_of d.body q hits h)

@@ -28,7 +28,8 @@ unfolding blank_length
 blanks p [] = ap (λ q. left_at q []) (sym (shift_none p))
 blanks p (b ∷ bs) = go (blanks (right p) bs) (is_blank b) refl
   where
-    go : left_at (right p) bs ≡ left_at (shift (blank_length bs) (right p)) (drop (blank_length bs) bs) → (x : Bool) → is_blank b ≡ x → left_at p (b ∷ bs) ≡ left_at (shift (cond x (suc (blank_length bs)) 0) p) (drop (cond x (suc (blank_length bs)) 0) (b ∷ bs))
+    go : left_at (right p) bs ≡ left_at (shift (blank_length bs) (right p)) (drop (blank_length bs) bs) → (x : Bool) → is_blank b ≡ x
+        → left_at p (b ∷ bs) ≡ left_at (shift (cond x (suc (blank_length bs)) 0) p) (drop (cond x (suc (blank_length bs)) 0) (b ∷ bs))
     go h true e = left_blank p b bs e ∙ h ∙ ap (λ q. left_at q (drop (blank_length bs) bs)) (shift_more p (blank_length bs))
     go h false e = ap (λ q. left_at q (b ∷ bs)) (sym (shift_none p))
 
@@ -37,7 +38,8 @@ unfolding blank_length
 no_blank [] = refl
 no_blank (b ∷ bs) = go (no_blank bs) (is_blank b) refl
   where
-    go : begins_with_blank (drop (blank_length bs) bs) ≡ false → (x : Bool) → is_blank b ≡ x → begins_with_blank (drop (cond x (suc (blank_length bs)) 0) (b ∷ bs)) ≡ false
+    go : begins_with_blank (drop (blank_length bs) bs) ≡ false → (x : Bool) → is_blank b ≡ x → begins_with_blank
+        (drop (cond x (suc (blank_length bs)) 0) (b ∷ bs)) ≡ false
     go h true e = h
     go h false e = e
 
@@ -58,7 +60,9 @@ stops_at : (b : ℕ) (bs : List ℕ) → ends_word b bs ≡ true → Stops (b �
 unfolding cut
 stops_at b bs e p = go (b == 10) (is_blank b) (is_return b bs) e
   where
-    go : (x y z : Bool) → (x || (y || z)) ≡ true → (cond x (before_feed p (below p) (cut (below p) bs)) (cond y (before_blank (right p) (cut (right p) bs)) (cond z (before_return p (cut (right p) bs)) (before_byte b (cut (right p) bs))))).front ≡ []
+    go : (x y z : Bool) → (x || (y || z)) ≡ true → (cond x (before_feed p (below p) (cut (below p) bs))
+        (cond y (before_blank (right p) (cut (right p) bs)) (cond z (before_return p (cut (right p) bs))
+        (before_byte b (cut (right p) bs))))).front ≡ []
     go true y z h = refl
     go false true z h = refl
     go false false true h = refl
@@ -68,7 +72,9 @@ goes_on : (b : ℕ) (bs : List ℕ) (p : Pos) → ends_word b bs ≡ false → c
 unfolding cut
 goes_on b bs p e = go (b == 10) (is_blank b) (is_return b bs) e
   where
-    go : (x y z : Bool) → (x || (y || z)) ≡ false → cond x (before_feed p (below p) (cut (below p) bs)) (cond y (before_blank (right p) (cut (right p) bs)) (cond z (before_return p (cut (right p) bs)) (before_byte b (cut (right p) bs)))) ≡ before_byte b (cut (right p) bs)
+    go : (x y z : Bool) → (x || (y || z)) ≡ false → cond x (before_feed p (below p) (cut (below p) bs))
+        (cond y (before_blank (right p) (cut (right p) bs)) (cond z (before_return p (cut (right p) bs))
+        (before_byte b (cut (right p) bs)))) ≡ before_byte b (cut (right p) bs)
     go true y z h = absurd cc
     go false true z h = absurd cc
     go false false true h = absurd cc
@@ -98,7 +104,8 @@ cut_word p (b ∷ bs) = go (cut_word (right p) bs) (ends_word b bs) refl
     n : ℕ
     n = word_length bs
 
-    go : cut (right p) bs ≡ onto (take n bs) (cut (shift n (right p)) (drop n bs)) → (x : Bool) → ends_word b bs ≡ x → cut p (b ∷ bs) ≡ onto (take (cond x 0 (suc n)) (b ∷ bs)) (cut (shift (cond x 0 (suc n)) p) (drop (cond x 0 (suc n)) (b ∷ bs)))
+    go : cut (right p) bs ≡ onto (take n bs) (cut (shift n (right p)) (drop n bs)) → (x : Bool) → ends_word b bs ≡ x → cut p (b ∷ bs) ≡ onto
+        (take (cond x 0 (suc n)) (b ∷ bs)) (cut (shift (cond x 0 (suc n)) p) (drop (cond x 0 (suc n)) (b ∷ bs)))
     go h true e = onto_same (cut p (b ∷ bs)) (stops_at b bs e p) ∙ ap (λ q. onto [] (cut q (b ∷ bs))) (sym (shift_none p))
     go h false e = goes_on b bs p e ∙ ap (before_byte b) h ∙ ap (λ q. onto (b ∷ take n bs) (cut q (drop n bs))) (shift_more p n)
 
@@ -119,7 +126,9 @@ left_word p bs l h =
     let a : word_of (left p (cut p bs)) ≡ word_of (left p (onto w d)) = ap (λ c. word_of (left p c)) (cut_word p bs) in
     let o : d.front ≡ [] = stops bs (shift (word_length bs) p) in
     let q : with_front w p d.words ≡ record { text = w; at = p } ∷ d.words = with_front_some w p d.words (some_word (word_length bs) bs refl h l) in
-    let r : left_at (shift (word_length bs) p) (rest_of bs) ≡ record { words = d.words; end = d.end; later = filled d.later; last = d.last } = ap (λ f. record { words = with_front f (shift (word_length bs) p) d.words; end = d.end; later = filled d.later; last = d.last }) o in
+    let r : left_at (shift (word_length bs) p) (rest_of bs) ≡ record
+    { words = d.words; end = d.end; later = filled d.later; last = d.last } = ap
+    (λ f. record { words = with_front f (shift (word_length bs) p) d.words; end = d.end; later = filled d.later; last = d.last }) o in
     a ∙ ap (λ ws. word_of record { words = ws; end = d.end; later = filled d.later; last = d.last }) q ∙ ap (λ x. Some (record { text = w; at = p }, x)) (sym r)
 
 -- ---- the end of a line
@@ -134,8 +143,12 @@ line_ends p [] k e = record { words = refl; end = refl }
 line_ends p (b ∷ bs) k e = let r = go (b == 10) (is_blank b) (is_return b bs) k e in record { words = r.0; end = r.1 }
   where
     go : (x y z : Bool) → y ≡ false → cond (x || (y || z)) 0 (suc (word_length bs)) ≡ 0 →
-        ((left p (cond x (before_feed p (below p) (cut (below p) bs)) (cond y (before_blank (right p) (cut (right p) bs)) (cond z (before_return p (cut (right p) bs)) (before_byte b (cut (right p) bs)))))).words ≡ [])
-        × ((left p (cond x (before_feed p (below p) (cut (below p) bs)) (cond y (before_blank (right p) (cut (right p) bs)) (cond z (before_return p (cut (right p) bs)) (before_byte b (cut (right p) bs)))))).end ≡ p)
+        ((left p (cond x (before_feed p (below p) (cut (below p) bs))
+        (cond y (before_blank (right p) (cut (right p) bs)) (cond z (before_return p (cut (right p) bs))
+        (before_byte b (cut (right p) bs)))))).words ≡ [])
+        × ((left p (cond x (before_feed p (below p) (cut (below p) bs))
+        (cond y (before_blank (right p) (cut (right p) bs)) (cond z (before_return p (cut (right p) bs))
+        (before_byte b (cut (right p) bs)))))).end ≡ p)
     go true y z m n = (refl, refl)
     go false true z m n = absurd cc
     go false false true m n = (refl, refl)
@@ -145,7 +158,8 @@ none_some : {A : Type 0} (o : Option A) (x : A) → o ≡ None → o ≡ Some x 
 none_some o x e f = cc
 
 pub word_none : (p : Pos) (bs : List ℕ) → begins_with_blank bs ≡ false → word_length bs ≡ 0 → word_of (left_at p bs) ≡ None
-word_none p bs k e = let r = line_ends p bs k e in ap (λ ws. word_of record { words = ws; end = (left_at p bs).end; later = (left_at p bs).later; last = (left_at p bs).last }) r.words
+word_none p bs k e = let r = line_ends p bs k e in ap (λ ws. word_of record
+    { words = ws; end = (left_at p bs).end; later = (left_at p bs).later; last = (left_at p bs).last }) r.words
 
 pub end_here : (p : Pos) (bs : List ℕ) → begins_with_blank bs ≡ false → word_length bs ≤ length bs → word_of (left_at p bs) ≡ None → (left_at p bs).end ≡ p
 end_here p bs k h e = go (word_length bs) refl
@@ -155,7 +169,8 @@ end_here p bs k h e = go (word_length bs) refl
     go (suc n) f = absurd (none_some (word_of (left_at p bs)) _ e (left_word p bs (omega arith) h))
 
 -- on to the line below
-pub goes_below : (p : Pos) (bs : List ℕ) → begins_with_blank bs ≡ false → (left_at p bs).words ≡ [] → 0 < end_length bs → first_of (left_at p bs) ≡ first_of (left_at (below p) (drop (end_length bs) bs))
+pub goes_below : (p : Pos) (bs : List ℕ) → begins_with_blank bs ≡ false → (left_at p bs).words ≡ [] → 0 < end_length bs → first_of
+    (left_at p bs) ≡ first_of (left_at (below p) (drop (end_length bs) bs))
 unfolding cut end_length
 goes_below p [] k e l = absurd (omega arith)
 goes_below p (b ∷ bs) k e l = go (b == 10) refl (is_blank b) k (is_return b bs) refl l
@@ -169,7 +184,9 @@ goes_below p (b ∷ bs) k e l = go (b == 10) refl (is_blank b) k (is_return b bs
     and_right false y f = absurd cc
 
     go : (x : Bool) → (b == 10) ≡ x → (y : Bool) → y ≡ false → (z : Bool) → is_return b bs ≡ z → 0 < cond x 1 (cond z 2 0) →
-        first_of (left p (cond x (before_feed p (below p) (cut (below p) bs)) (cond y (before_blank (right p) (cut (right p) bs)) (cond z (before_return p (cut (right p) bs)) (before_byte b (cut (right p) bs))))))
+        first_of (left p (cond x (before_feed p (below p) (cut (below p) bs))
+        (cond y (before_blank (right p) (cut (right p) bs)) (cond z (before_return p (cut (right p) bs))
+        (before_byte b (cut (right p) bs))))))
         ≡ first_of (left_at (below p) (drop (cond x 1 (cond z 2 0)) (b ∷ bs)))
     go true f y g z h l = refl
     go false f true g z h l = absurd cc
@@ -182,9 +199,13 @@ no_line_below p [] k e l = refl
 no_line_below p (b ∷ bs) k e l = go (b == 10) (is_blank b) k (is_return b bs) e l
   where
     go : (x y : Bool) → y ≡ false → (z : Bool)
-        → (left p (cond x (before_feed p (below p) (cut (below p) bs)) (cond y (before_blank (right p) (cut (right p) bs)) (cond z (before_return p (cut (right p) bs)) (before_byte b (cut (right p) bs)))))).words ≡ []
+        → (left p (cond x (before_feed p (below p) (cut (below p) bs))
+        (cond y (before_blank (right p) (cut (right p) bs)) (cond z (before_return p (cut (right p) bs))
+        (before_byte b (cut (right p) bs)))))).words ≡ []
         → ◌≡◌ {A = ℕ} (cond x 1 (cond z 2 0)) 0
-        → first_of (left p (cond x (before_feed p (below p) (cut (below p) bs)) (cond y (before_blank (right p) (cut (right p) bs)) (cond z (before_return p (cut (right p) bs)) (before_byte b (cut (right p) bs)))))) ≡ Err p
+        → first_of (left p (cond x (before_feed p (below p) (cut (below p) bs))
+        (cond y (before_blank (right p) (cut (right p) bs)) (cond z (before_return p (cut (right p) bs))
+        (before_byte b (cut (right p) bs)))))) ≡ Err p
     go true y g z e l = absurd (omega arith)
     go false true g z e l = absurd cc
     go false false g true e l = absurd (omega arith)

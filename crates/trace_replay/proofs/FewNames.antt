@@ -18,7 +18,8 @@ pub one_less : (x : Name) (ys : List Name) → named_in x ys ≡ true → length
 one_less x [] e = absurd (false≢true e)
 one_less x (y ∷ ys) e = go (bytes_eq x y) (one_less x ys) e
   where
-    go : (c : Bool) → (named_in x ys ≡ true → length ys ≡ suc (length (without x ys))) → (c || named_in x ys) ≡ true → suc (length ys) ≡ suc (length (cond c ys (y ∷ without x ys)))
+    go : (c : Bool) → (named_in x ys ≡ true → length ys ≡ suc (length (without x ys))) → (c || named_in x ys) ≡ true → suc (length ys) ≡ suc
+        (length (cond c ys (y ∷ without x ys)))
     go true r k = refl
     go false r k = ap suc (r k)
 
@@ -26,7 +27,8 @@ pub still_there : (x z : Name) (ys : List Name) → bytes_eq x z ≡ false → n
 still_there x z [] d e = absurd (false≢true e)
 still_there x z (y ∷ ys) d e = go (bytes_eq x y) refl (bytes_eq z y) refl (still_there x z ys d) e
   where
-    go : (c : Bool) → bytes_eq x y ≡ c → (b : Bool) → bytes_eq z y ≡ b → (named_in z ys ≡ true → named_in z (without x ys) ≡ true) → (b || named_in z ys) ≡ true → named_in z (cond c ys (y ∷ without x ys)) ≡ true
+    go : (c : Bool) → bytes_eq x y ≡ c → (b : Bool) → bytes_eq z y ≡ b → (named_in z ys ≡ true → named_in z (without x ys) ≡ true) →
+        (b || named_in z ys) ≡ true → named_in z (cond c ys (y ∷ without x ys)) ≡ true
     go true p true q r k = absurd (true≢false (sym (self_bytes z) ∙ ap (λ w. bytes_eq w z) (same_bytes z y q ∙ sym (same_bytes x y p)) ∙ d))
     go true p false q r k = k
     go false p true q r k = rw q refl

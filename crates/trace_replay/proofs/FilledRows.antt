@@ -44,7 +44,8 @@ width w j (c ∷ cs) r = let e : w ≡ suc j + length cs = width w (suc j) cs r.
 
 -- ---- what stands stays
 
-pub code-keeps : (w : ℕ) (kept more : List Bool) (c : Coded) (j t : ℕ) → ReadsBelow w j c → j ≤ w → t * w + j ≤ length kept → code_truth (kept ++ more) w c t ≡ code_truth kept w c t
+pub code-keeps : (w : ℕ) (kept more : List Bool) (c : Coded) (j t : ℕ) → ReadsBelow w j c → j ≤ w → t * w + j ≤ length kept → code_truth
+    (kept ++ more) w c t ≡ code_truth kept w c t
 code-keeps w kept more (known b) j t r le room = refl
 code-keeps w kept more (placed k) j t r le room = get_or-append kept more false (t * w + k) (omega arith)
 code-keeps w kept more (negated a) j t r le room = ap not (code-keeps w kept more a j t r le room)
@@ -53,21 +54,31 @@ code-keeps w kept more (earlier b a) j (suc t) r le room = code-keeps w kept mor
 code-keeps w kept more (started a b) j zero r le room = code-keeps w kept more a j zero r.0 le room
 code-keeps w kept more (started a b) j (suc t) r le room = code-keeps w kept more b j (suc t) r.1 le room
 code-keeps w kept more (operated o a b) j t r le room = rw (code-keeps w kept more a j t r.0 le room, code-keeps w kept more b j t r.1 le room) refl
-code-keeps w kept more (chosen a b c) j t r le room = rw (code-keeps w kept more a j t r.0 le room, code-keeps w kept more b j t r.1 le room, code-keeps w kept more c j t r.2 le room) refl
+code-keeps w kept more (chosen a b c) j t r le room = rw (
+  code-keeps w kept more a j t r.0 le room,
+  code-keeps w kept more b j t r.1 le
+      room,
+  code-keeps w kept more c j t r.2 le room,
+) refl
 
-pub source-keeps : (w : ℕ) (kept more : List Bool) (c : Source) (j t : ℕ) → SourceBelow w j c → j ≤ w → t * w + j ≤ length kept → source_truth (kept ++ more) w t c ≡ source_truth kept w t c
+pub source-keeps : (w : ℕ) (kept more : List Bool) (c : Source) (j t : ℕ) → SourceBelow w j c → j ≤ w → t * w + j ≤ length kept
+    → source_truth (kept ++ more) w t c ≡ source_truth kept w t c
 source-keeps w kept more (given bits) j t r le room = refl
 source-keeps w kept more (computed c) j t r le room = code-keeps w kept more c j t r le room
 
-pub meets-keeps : (w : ℕ) (kept more : List Bool) (cs : List Source) (j t : ℕ) → AreReadable w j cs → suc t * w ≤ length kept → Meets kept w t j cs → Meets (kept ++ more) w t j cs
+pub meets-keeps : (w : ℕ) (kept more : List Bool) (cs : List Source) (j t : ℕ) → AreReadable w j cs → suc t * w ≤ length kept
+    → Meets kept w t j cs → Meets (kept ++ more) w t j cs
 meets-keeps w kept more [] j t r room m = tt
 meets-keeps w kept more (c ∷ cs) j t r room m =
     let e : w ≡ suc j + length cs = width w (suc j) cs r.1 in
     let row : suc t * w ≡ t * w + w = row-suc t w in
     let le : j ≤ w = omega arith in
     let here : t * w + j ≤ length kept = omega arith in
-    let there : t * w + j < length kept = omega arith in
-    (get_or-append kept more false (t * w + j) there ∙ m.0 ∙ sym (source-keeps w kept more c j t r.0 le here), meets-keeps w kept more cs (suc j) t r.1 room m.1)
+    let there : t * w + j < length kept = omega arith in (
+      get_or-append kept more false (t * w + j) there ∙ m.0 ∙ sym (source-keeps w kept more c j t r.0 le here),
+      meets-keeps w kept more cs
+          (suc j) t r.1 room m.1,
+    )
 
 -- ---- a row
 

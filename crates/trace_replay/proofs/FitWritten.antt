@@ -14,7 +14,7 @@ use Rattle.lus_meaning.specs.Value.{Value, absent, flag, whole}
 use Rattle.lus_meaning.specs.Scene.{instance, no_instances}
 use Rattle.lus_meaning.specs.Depends.{named_in}
 use Rattle.lus_meaning.specs.Rules.{names_of, declared_names, IsWithinCounts}
-use Rattle.lus_meaning.specs.Trace.{Subject, of_name, of_first, Line}
+use Rattle.lus_meaning.specs.Trace.{Subject, of_name, of_first, BareLine}
 use Rattle.lus_meaning.specs.TraceView.{Listing, lines_of}
 use Rattle.lus_meaning.specs.Fits.{Listable, listable, listable_at, is_of_sort, takes_value, IsTaken, AreTaken, first_named, FitsProgram}
 use Rattle.lus_meaning.specs.BooleanRules.{IsBooleanNode, IsBooleanChecked}
@@ -61,7 +61,8 @@ no_need x e = cc
 need_is : (m : ℕ) (a b : Bool) (x : ℕ × Bool) → Some (m, a) ≡ Some x → m ≡ x.0
 need_is m a b x e = cc
 
-named_by : (d : Component) (n : ℕ) (y : Name) (x : ℕ × Bool) → name_need d n y ≡ Some x → (x.0 ≡ n) × ((named_in y (names_of d.inputs) || (named_in y (names_of d.outputs) || named_in y (names_of d.locals))) ≡ true)
+named_by : (d : Component) (n : ℕ) (y : Name) (x : ℕ × Bool) → name_need d n y ≡ Some x → (x.0 ≡ n) ×
+    ((named_in y (names_of d.inputs) || (named_in y (names_of d.outputs) || named_in y (names_of d.locals))) ≡ true)
 named_by d n y x e = go (named_in y (names_of d.inputs)) (named_in y (names_of d.outputs) || named_in y (names_of d.locals)) (not (is_left y d.body)) e
   where
     go : (a b c : Bool) → cond a (Some (n, true)) (cond (b && c) (Some (n, false)) None) ≡ Some x → (x.0 ≡ n) × ((a || b) ≡ true)
@@ -79,7 +80,8 @@ numbered_by last k x e = go (nat_le 1 k) (nat_le k last) refl e
     go false b f h = absurd (no_need x h)
 
 module _ (d : Component) (node : IsBooleanNode d) (numbered : IsNumbered d) (ids : HasIdentifiers d) (few : length (body_pres d.body) ≤ 20000) (n : ℕ) (some : 1 ≤ n) where
-  declared_is : (y : Name) → (named_in y (names_of d.inputs) || (named_in y (names_of d.outputs) || named_in y (names_of d.locals))) ≡ true → named_in y (declared_names d) ≡ true
+  declared_is : (y : Name) → (named_in y (names_of d.inputs) || (named_in y (names_of d.outputs) || named_in y (names_of d.locals))) ≡ true
+      → named_in y (declared_names d) ≡ true
   declared_is y h =
       ap (λ vs. named_in y (names_of vs)) (boolean_variables d node) ∙ named_append y d.inputs (d.outputs ++ d.locals)
       ∙ ap (λ b. named_in y (names_of d.inputs) || b) (named_append y d.outputs d.locals) ∙ h
@@ -90,11 +92,13 @@ module _ (d : Component) (node : IsBooleanNode d) (numbered : IsNumbered d) (ids
   last_small : greatest_pre_in 0 d.body ≤ 20000
   last_small = omega (arith, greatest_numbered d node numbered, few)
 
-  line_fits : (path : List ℕ) (s : Subject) (vs : List Value) (o : Option Listable) → listable_at (listable n (instance d [] no_instances)) path s ≡ o → IsTaken o vs → FitsLine record { path = path; subject = s; values = vs }
+  line_fits : (path : List ℕ) (s : Subject) (vs : List Value) (o : Option Listable) → listable_at
+      (listable n (instance d [] no_instances)) path s ≡ o → IsTaken o vs → FitsLine record { path = path; subject = s; values = vs }
   line_fits path s vs None e h = absurd h
   line_fits path s vs (Some x) e h = go path s (sym (need_told d node numbered n path s) ∙ ap told e)
     where
-      go : (path : List ℕ) (s : Subject) → line_need d (greatest_pre_in 0 d.body) n path s ≡ Some (x.count, x.needed) → FitsLine record { path = path; subject = s; values = vs }
+      go : (path : List ℕ) (s : Subject) → line_need d (greatest_pre_in 0 d.body) n path s ≡ Some (x.count, x.needed)
+          → FitsLine record { path = path; subject = s; values = vs }
       go (k ∷ ks) s f = absurd (no_need (x.count, x.needed) f)
       go [] (of_name y) f =
           let a = named_by d n y (x.count, x.needed) f in
@@ -103,9 +107,13 @@ module _ (d : Component) (node : IsBooleanNode d) (numbered : IsNumbered d) (ids
           let a = numbered_by (greatest_pre_in 0 d.body) k (x.count, x.needed) f in
           record { path = tt; subject = omega (arith, a.1, last_small); values = some_values x vs (omega (arith, a.0)) h.count h.each }
 
-  lines_fit : (ls : List Line) → AreTaken (listable n (instance d [] no_instances)) ls → AllByRecursion FitsLine ls
+  lines_fit : (ls : List BareLine) → AreTaken (listable n (instance d [] no_instances)) ls → AllByRecursion FitsLine ls
   lines_fit [] h = tt
-  lines_fit (l ∷ ls) h = (line_fits l.path l.subject l.values (listable_at (listable n (instance d [] no_instances)) l.path l.subject) refl h.0, lines_fit ls h.1)
+  lines_fit (l ∷ ls) h = (
+    line_fits l.path l.subject l.values (listable_at (listable n (instance d [] no_instances)) l.path l.subject) refl
+        h.0,
+    lines_fit ls h.1,
+  )
 
 -- ---- the trace
 
@@ -122,7 +130,8 @@ fits_trace p d checked within ids t f =
     let few : HasFew d = few_counts p d node checked.numbered (boolean_checked_instance p d checked) within in
     let pres : length (body_pres d.body) ≤ 20000 = omega (arith, few.variables) in
     record {
-      node = subst (λ (x : Name). is_name x ≡ true) (sym (named_text d f.node t.node (sym (ap (λ (q : Program). first_named t.node (nodes_of q)) checked.one_node) ∙ f.named))) ids.node;
+      node = subst (λ (x : Name). is_name x ≡ true) (sym (named_text d f.node t.node
+          (sym (ap (λ (q : Program). first_named t.node (nodes_of q)) checked.one_node) ∙ f.named))) ids.node;
       length = omega (arith, f.few);
       lines = lines_fit d node checked.numbered ids pres t.length f.some (lines_of t) (fits_one p d checked t f).taken;
     }

@@ -52,7 +52,8 @@ end_or_line p x m e = cc
 same_line : (x y : PlacedLine) (l m : Left) → done (a_line x l) ≡ Ok (a_line y m) → l ≡ m
 same_line x y l m e = cc
 
-steps_in : (e : Pos) (rows : List TextLine) (x : PlacedLine) (m : Left) → line_from e rows ≡ Ok (a_line x m) → (r : TextLine) × (rows ≡ r ∷ lines_ahead m) × (m.last ≡ e)
+steps_in : (e : Pos) (rows : List TextLine) (x : PlacedLine) (m : Left) → line_from e rows ≡ Ok (a_line x m) → (r : TextLine) ×
+    (rows ≡ r ∷ lines_ahead m) × (m.last ≡ e)
 unfolding line_from
 steps_in e [] x m h = absurd cc
 steps_in e (r ∷ rs) x m h = go r.words h
@@ -63,16 +64,20 @@ steps_in e (r ∷ rs) x m h = go r.words h
     behind : List TraceWord → Left
     behind ws = record { words = ws; end = r.end; later = rs; last = e }
 
-    line_wanted : (w : TraceWord) (ws : List TraceWord) → (line_read w (behind ws) >>= (λ y. Ok (a_line y.0 y.1))) ≡ Ok (a_line x m) → m ≡ without_words (behind ws)
+    line_wanted : (w : TraceWord) (ws : List TraceWord) → (line_read w (behind ws) >>= (λ y. Ok (a_line y.0 y.1))) ≡ Ok (a_line x m)
+        → m ≡ without_words (behind ws)
     line_wanted w ws k =
         let b = bind_ok (line_read w (behind ws)) (λ y. Ok (a_line y.0 y.1)) (a_line x m) k in
         sym (same_line b.0.0 x b.0.1 m b.2) ∙ line_left w (behind ws) b.0 b.1
 
-    branch : (b : Bool) (w : TraceWord) (ws : List TraceWord) → cond b (nothing_of (behind ws) >>= (λ done. Ok (an_end w.at))) (line_read w (behind ws) >>= (λ y. Ok (a_line y.0 y.1))) ≡ Ok (a_line x m) → m ≡ without_words (behind ws)
+    branch : (b : Bool) (w : TraceWord) (ws : List TraceWord) → cond b (nothing_of (behind ws) >>= (λ done. Ok (an_end w.at)))
+        (line_read w (behind ws) >>= (λ y. Ok (a_line y.0 y.1))) ≡ Ok (a_line x m) → m ≡ without_words (behind ws)
     branch true w ws k = let b = bind_ok (nothing_of (behind ws)) (λ done. Ok (an_end w.at)) (a_line x m) k in absurd (end_or_line w.at x m b.2)
     branch false w ws k = line_wanted w ws k
 
-    go : (words : List TraceWord) → (or_misfit e (word_in whole words) >>= λ first. cond (is_closing first.0 first.1) (nothing_of first.1 >>= (λ done. Ok (an_end first.0.at))) (line_read first.0 first.1 >>= (λ y. Ok (a_line y.0 y.1)))) ≡ Ok (a_line x m)
+    go : (words : List TraceWord) → (or_misfit e (word_in whole words) >>= λ first. cond (is_closing first.0 first.1)
+        (nothing_of first.1 >>= (λ done. Ok (an_end first.0.at))) (line_read first.0 first.1 >>= (λ y. Ok (a_line y.0 y.1)))) ≡ Ok
+        (a_line x m)
         → (q : TextLine) × ((r ∷ rs) ≡ q ∷ lines_ahead m) × (m.last ≡ e)
     go [] k = absurd cc
     go (w ∷ ws) k = let s = branch (is_closing w (behind ws)) w ws k in (r, ap (λ n. r ∷ lines_ahead n) (sym s), ap (λ n. n.last) s)
@@ -99,7 +104,8 @@ nothing_ends e p (r ∷ rs) k = ap (λ x. x >>= λ y. onto y (lines_in e rs)) k
 pub lines_end : (l : Left) (p : Pos) → line_of l ≡ Ok (an_end p) → lines_left l ≡ Ok ([], p)
 lines_end l p h = nothing_ends l.last p (lines_ahead l) h
 
-more_in : (e : Pos) (rows rs : List TextLine) (r : TextLine) (x : PlacedLine) (m : Left) → line_from e rows ≡ Ok (a_line x m) → rows ≡ r ∷ rs → lines_in e rows ≡ (lines_in e rs >>= λ o. Ok (x ∷ o.0, o.1))
+more_in : (e : Pos) (rows rs : List TextLine) (r : TextLine) (x : PlacedLine) (m : Left) → line_from e rows ≡ Ok (a_line x m)
+    → rows ≡ r ∷ rs → lines_in e rows ≡ (lines_in e rs >>= λ o. Ok (x ∷ o.0, o.1))
 unfolding lines_in
 more_in e rows rs r x m k s =
     let q : line_from e (r ∷ rs) ≡ Ok (a_line x m) = ap (line_from e) (sym s) ∙ k in
@@ -112,16 +118,22 @@ lines_more l x m h =
 
 -- ---- the loop over the lines
 
-pub lines_end_with : (e : TraceFault) (front : List PlacedLine) (l : Left) (total : Result (List PlacedLine × Pos) Pos) → Fails e (line_of l) → lines_onto front (lines_left l) ≡ total → Fails e total
+pub lines_end_with : (e : TraceFault) (front : List PlacedLine) (l : Left) (total : Result (List PlacedLine × Pos) Pos) → Fails e
+    (line_of l) → lines_onto front (lines_left l) ≡ total → Fails e total
 lines_end_with faults.Memory front l total h so_far = tt
 lines_end_with (faults.Form p) front l total h so_far = sym so_far ∙ ap (lines_onto front) (lines_fail l p h)
 
-onto_more : (front : List PlacedLine) (x : PlacedLine) (r : Result (List PlacedLine × Pos) Pos) → lines_onto front (r >>= λ o. Ok (x ∷ o.0, o.1)) ≡ lines_onto (front ++ x ∷ []) r
+onto_more : (front : List PlacedLine) (x : PlacedLine) (r : Result (List PlacedLine × Pos) Pos) → lines_onto front
+    (r >>= λ o. Ok (x ∷ o.0, o.1)) ≡ lines_onto (front ++ x ∷ []) r
 onto_more front x (Ok o) = ap (λ (ys : List PlacedLine). Ok (ys, o.1)) (sym (append_assoc front (x ∷ []) o.0))
 onto_more front x (Err p) = refl
 
-pub lines_go_on : (front front' : List PlacedLine) (l : Left) (x : PlacedLine) (m : Left) (total : Result (List PlacedLine × Pos) Pos) → front' ≡ front ++ x ∷ [] → line_of l ≡ Ok (a_line x m) → lines_onto front (lines_left l) ≡ total → lines_onto front' (lines_left m) ≡ total
-lines_go_on front front' l x m total f h so_far = ap (λ ys. lines_onto ys (lines_left m)) f ∙ sym (onto_more front x (lines_left m)) ∙ ap (lines_onto front) (sym (lines_more l x m h)) ∙ so_far
+pub lines_go_on : (front front' : List PlacedLine) (l : Left) (x : PlacedLine) (m : Left) (total : Result (List PlacedLine × Pos) Pos)
+    → front' ≡ front ++ x ∷ [] → line_of l ≡ Ok (a_line x m) → lines_onto front (lines_left l) ≡ total → lines_onto front'
+    (lines_left m) ≡ total
+lines_go_on front front' l x m total f h so_far = ap (λ ys. lines_onto ys (lines_left m)) f ∙ sym (onto_more front x (lines_left m)) ∙ ap
+    (lines_onto front) (sym (lines_more l x m h)) ∙ so_far
 
-pub lines_done : (front : List PlacedLine) (l : Left) (p : Pos) (total : Result (List PlacedLine × Pos) Pos) → line_of l ≡ Ok (an_end p) → lines_onto front (lines_left l) ≡ total → total ≡ Ok (front, p)
+pub lines_done : (front : List PlacedLine) (l : Left) (p : Pos) (total : Result (List PlacedLine × Pos) Pos) → line_of l ≡ Ok (an_end p)
+    → lines_onto front (lines_left l) ≡ total → total ≡ Ok (front, p)
 lines_done front l p total h so_far = sym so_far ∙ ap (lines_onto front) (lines_end l p h) ∙ ap (λ (ys : List PlacedLine). Ok (ys, p)) (append-nil front)

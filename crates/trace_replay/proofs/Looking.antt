@@ -22,7 +22,8 @@ some_there (y ∷ l) (suc k) d x e = some_there l k d x e
 abbrev pub Owed : (Expression → ℕ → Bool) → ℕ → List Expression → List (Option ℕ) → List Expression → Type 0
 Owed b n all found todo = (rest : List (Option ℕ)) → AreFirstFalse b n todo rest → AreFirstFalse b n all (found ++ rest)
 
-pub both-false : (b : Expression → ℕ → Bool) (n : ℕ) (es fs : List Expression) (hits rest : List (Option ℕ)) → AreFirstFalse b n es hits → AreFirstFalse b n fs rest → AreFirstFalse b n (es ++ fs) (hits ++ rest)
+pub both-false : (b : Expression → ℕ → Bool) (n : ℕ) (es fs : List Expression) (hits rest : List (Option ℕ)) → AreFirstFalse b n es hits
+    → AreFirstFalse b n fs rest → AreFirstFalse b n (es ++ fs) (hits ++ rest)
 both-false b n [] fs [] rest h r = r
 both-false b n [] fs (o ∷ hits) rest h r = absurd h
 both-false b n (e ∷ es) fs [] rest h r = absurd h
@@ -39,7 +40,8 @@ pub owed-next : (b : Expression → ℕ → Bool) (n : ℕ) (all : List Expressi
     → Owed b n all found (property_values (map item_view (drop i items))) → Owed b n all grown (property_values (map item_view (drop (i + 1) items)))
 owed-next b n all found grown hits items i item lt is e h o =
     let cons : drop i items ≡ item ∷ drop (suc i) items = drop-cons items i item lt ∙ ap (λ (x : Item). x ∷ drop (suc i) items) (sym is) in
-    let before : Owed b n all found (property_values (item_view item ∷ map item_view (drop (suc i) items))) = subst (λ (l : List Item). Owed b n all found (property_values (map item_view l))) cons o in
+    let before : Owed b n all found (property_values (item_view item ∷ map item_view (drop (suc i) items))) = subst
+    (λ (l : List Item). Owed b n all found (property_values (map item_view l))) cons o in
     rw (add-one, e) (λ rest others. rw (append_assoc found hits rest)
     (before (hits ++ rest) (rw (one-more (item_view item) (map item_view (drop (suc i) items)))
     (both-false b n (property_values (item_view item ∷ [])) (property_values (map item_view (drop (suc i) items))) hits rest h others))))
@@ -60,7 +62,8 @@ none_there (y ∷ l) zero d e = absurd (something e)
 none_there (y ∷ l) (suc k) d e = none_there l k d e
 
 -- what is found among the views of views
-pub found_at : {A B C : Type 0} (f : B → C) (v : A → B) (xs : List A) (k : ℕ) (o : Option A) → o ≡ slice_get xs k → option_map f (option_map v o) ≡ slice_get (map f (map v xs)) k
+pub found_at : {A B C : Type 0} (f : B → C) (v : A → B) (xs : List A) (k : ℕ) (o : Option A) → o ≡ slice_get xs k → option_map f
+    (option_map v o) ≡ slice_get (map f (map v xs)) k
 found_at f v xs k o e = ap (λ p. option_map f (option_map v p)) e ∙ sym (slice_get-map f (map v xs) k ∙ ap (option_map f) (slice_get-map v xs k))
 
 pub some_at : {X : Type 0} (xs : List X) (k : ℕ) (x : X) → k < length xs → x ≡ get_or xs k x → Some x ≡ slice_get xs k

@@ -39,19 +39,24 @@ pub column_behind : (done later : List Name) (x : Name) → named_in x done ≡ 
 column_behind [] later x e = rw (self_bytes x) refl
 column_behind (y ∷ done) later x e = go (bytes_eq x y) (column_behind done later x) e
   where
-    go : (c : Bool) → (named_in x done ≡ false → column_of (done ++ x ∷ later) x ≡ length done) → (c || named_in x done) ≡ false → cond c 0 (suc (column_of (done ++ x ∷ later) x)) ≡ suc (length done)
+    go : (c : Bool) → (named_in x done ≡ false → column_of (done ++ x ∷ later) x ≡ length done) → (c || named_in x done) ≡ false → cond c 0
+        (suc (column_of (done ++ x ∷ later) x)) ≡ suc (length done)
     go true r k = absurd (true≢false k)
     go false r k = ap suc (r k)
 
 -- a name of the first part has its column_of there
-pub column_within : (done later : List Name) (x : Name) → named_in x done ≡ true → (column_of (done ++ later) x < length done) × (column_of (done ++ later) x ≡ column_of done x)
+pub column_within : (done later : List Name) (x : Name) → named_in x done ≡ true → (column_of (done ++ later) x < length done) ×
+    (column_of (done ++ later) x ≡ column_of done x)
 column_within [] later x e = absurd (false≢true e)
 column_within (y ∷ done) later x e = go (bytes_eq x y) (column_within done later x) e
   where
-    go : (c : Bool) → (named_in x done ≡ true → (column_of (done ++ later) x < length done) × (column_of (done ++ later) x ≡ column_of done x)) → (c || named_in x done) ≡ true
-        → (cond c 0 (suc (column_of (done ++ later) x)) < suc (length done)) × (cond c 0 (suc (column_of (done ++ later) x)) ≡ cond c 0 (suc (column_of done x)))
+    go : (c : Bool) → (named_in x done ≡ true → (column_of (done ++ later) x < length done) ×
+        (column_of (done ++ later) x ≡ column_of done x)) → (c || named_in x done) ≡ true
+        → (cond c 0 (suc (column_of (done ++ later) x)) < suc (length done)) ×
+        (cond c 0 (suc (column_of (done ++ later) x)) ≡ cond c 0 (suc (column_of done x)))
     go true r k = (omega arith, refl)
-    go false r k = let q : (column_of (done ++ later) x < length done) × (column_of (done ++ later) x ≡ column_of done x) = r k in let l : column_of (done ++ later) x < length done = q.0 in (omega arith, ap suc q.1)
+    go false r k = let q : (column_of (done ++ later) x < length done) × (column_of (done ++ later) x ≡ column_of done x) = r k
+        in let l : column_of (done ++ later) x < length done = q.0 in (omega arith, ap suc q.1)
 
 -- ---- free names
 
@@ -59,19 +64,23 @@ pub free_new : (ls : List Name) (vs : List Variable) (x : Name) → named_in x (
 free_new ls [] x e = absurd (false≢true e)
 free_new ls (v ∷ vs) x e = go (cases_Bool (named_in v.name.text ls)) (free_new ls vs x)
   where
-    one : named_in v.name.text ls ≡ false → (bytes_eq x v.name.text ≡ true) ⊎ (bytes_eq x v.name.text ≡ false) → (named_in x (free_among ls vs) ≡ true → named_in x ls ≡ false) → named_in x ls ≡ false
+    one : named_in v.name.text ls ≡ false → (bytes_eq x v.name.text ≡ true) ⊎ (bytes_eq x v.name.text ≡ false) →
+        (named_in x (free_among ls vs) ≡ true → named_in x ls ≡ false) → named_in x ls ≡ false
     one f (inl s) r = ap (λ y. named_in y ls) (same_bytes x v.name.text s) ∙ f
     one f (inr s) r = r (rw (f, s) at e)
 
-    go : (named_in v.name.text ls ≡ true) ⊎ (named_in v.name.text ls ≡ false) → (named_in x (free_among ls vs) ≡ true → named_in x ls ≡ false) → named_in x ls ≡ false
+    go : (named_in v.name.text ls ≡ true) ⊎ (named_in v.name.text ls ≡ false) →
+        (named_in x (free_among ls vs) ≡ true → named_in x ls ≡ false) → named_in x ls ≡ false
     go (inl t) r = r (rw t at e)
     go (inr f) r = one f (cases_Bool (bytes_eq x v.name.text)) r
 
-pub free_there : (ls : List Name) (vs : List Variable) (x : Name) → named_in x ls ≡ false → named_in x (names_of vs) ≡ true → named_in x (free_among ls vs) ≡ true
+pub free_there : (ls : List Name) (vs : List Variable) (x : Name) → named_in x ls ≡ false → named_in x (names_of vs) ≡ true → named_in x
+    (free_among ls vs) ≡ true
 free_there ls [] x o e = absurd (false≢true e)
 free_there ls (v ∷ vs) x o e = go (cases_Bool (bytes_eq x v.name.text)) (free_there ls vs x o)
   where
-    go : (bytes_eq x v.name.text ≡ true) ⊎ (bytes_eq x v.name.text ≡ false) → (named_in x (names_of vs) ≡ true → named_in x (free_among ls vs) ≡ true) → named_in x (free_among ls (v ∷ vs)) ≡ true
+    go : (bytes_eq x v.name.text ≡ true) ⊎ (bytes_eq x v.name.text ≡ false) →
+        (named_in x (names_of vs) ≡ true → named_in x (free_among ls vs) ≡ true) → named_in x (free_among ls (v ∷ vs)) ≡ true
     go (inl s) r = let new : named_in v.name.text ls ≡ false = ap (λ y. named_in y ls) (sym (same_bytes x v.name.text s)) ∙ o in
         rw new (or_left (bytes_eq x v.name.text) (named_in x (free_among ls vs)) s)
     go (inr f) r = in_second x (cond (named_in v.name.text ls) [] (v.name.text ∷ [])) (free_among ls vs) (r (rw f at e))
@@ -100,11 +109,13 @@ module _ (es : List Equation) (each : AllByRecursion IsBooleanEquation es) where
       let rest : length (flat_map (left_at es) ks) ≡ length ks = lefts_length ks a.1 in
       length-append (left_at es k) (flat_map (left_at es) ks) ∙ omega arith
 
-pub in_done : (es : List Equation) (ks : List ℕ) (j : ℕ) (x : Name) → is_listed ks j ≡ true → named_in x (left_at es j) ≡ true → named_in x (flat_map (left_at es) ks) ≡ true
+pub in_done : (es : List Equation) (ks : List ℕ) (j : ℕ) (x : Name) → is_listed ks j ≡ true → named_in x (left_at es j) ≡ true → named_in x
+    (flat_map (left_at es) ks) ≡ true
 in_done es [] j x e h = absurd (false≢true e)
 in_done es (k ∷ ks) j x e h = go (cases_Bool (eqb j k)) (in_done es ks j x)
   where
-    go : (eqb j k ≡ true) ⊎ (eqb j k ≡ false) → (is_listed ks j ≡ true → named_in x (left_at es j) ≡ true → named_in x (flat_map (left_at es) ks) ≡ true) → named_in x (left_at es k ++ flat_map (left_at es) ks) ≡ true
+    go : (eqb j k ≡ true) ⊎ (eqb j k ≡ false) → (is_listed ks j ≡ true → named_in x (left_at es j) ≡ true → named_in x
+        (flat_map (left_at es) ks) ≡ true) → named_in x (left_at es k ++ flat_map (left_at es) ks) ≡ true
     go (inl t) r = in_first x (left_at es k) (flat_map (left_at es) ks) (subst (λ i. named_in x (left_at es i) ≡ true) (eqb-true j k t) h)
     go (inr f) r = in_second x (left_at es k) (flat_map (left_at es) ks) (r (rw f at e) h)
 
@@ -115,20 +126,25 @@ eqb-self k = go (cases_Bool (eqb k k))
     go (inl t) = t
     go (inr f) = absurd (eqb-false k k f refl)
 
-pub from_done : (es : List Equation) (ks : List ℕ) (x : Name) → named_in x (flat_map (left_at es) ks) ≡ true → (j : ℕ) × (is_listed ks j ≡ true) × (named_in x (left_at es j) ≡ true)
+pub from_done : (es : List Equation) (ks : List ℕ) (x : Name) → named_in x (flat_map (left_at es) ks) ≡ true → (j : ℕ) ×
+    (is_listed ks j ≡ true) × (named_in x (left_at es j) ≡ true)
 from_done es [] x e = absurd (false≢true e)
 from_done es (k ∷ ks) x e = go (named_either x (left_at es k) (flat_map (left_at es) ks) e) (from_done es ks x)
   where
-    go : (named_in x (left_at es k) ≡ true) ⊎ (named_in x (flat_map (left_at es) ks) ≡ true) → (named_in x (flat_map (left_at es) ks) ≡ true → (j : ℕ) × (is_listed ks j ≡ true) × (named_in x (left_at es j) ≡ true))
+    go : (named_in x (left_at es k) ≡ true) ⊎ (named_in x (flat_map (left_at es) ks) ≡ true) →
+        (named_in x (flat_map (left_at es) ks) ≡ true → (j : ℕ) × (is_listed ks j ≡ true) × (named_in x (left_at es j) ≡ true))
         → (j : ℕ) × (is_listed (k ∷ ks) j ≡ true) × (named_in x (left_at es j) ≡ true)
     go (inl t) r = (k, or_left (eqb k k) (is_listed ks k) (eqb-self k), t)
-    go (inr t) r = let q : (j : ℕ) × (is_listed ks j ≡ true) × (named_in x (left_at es j) ≡ true) = r t in (q.0, or_true (eqb q.0 k) (is_listed ks q.0) q.1, q.2)
+    go (inr t) r = let q : (j : ℕ) × (is_listed ks j ≡ true) × (named_in x (left_at es j) ≡ true) = r t in
+        (q.0, or_true (eqb q.0 k) (is_listed ks q.0) q.1, q.2)
 
 pub left_of : (es : List Equation) (x : Name) → named_in x (lefts es) ≡ true → (j : ℕ) × (j < length es) × (named_in x (left_at es j) ≡ true)
 left_of [] x e = absurd (false≢true e)
 left_of (q ∷ es) x e = go (named_either x q.names (lefts es) e) (left_of es x)
   where
-    go : (named_in x q.names ≡ true) ⊎ (named_in x (lefts es) ≡ true) → (named_in x (lefts es) ≡ true → (j : ℕ) × (j < length es) × (named_in x (left_at es j) ≡ true)) → (j : ℕ) × (j < suc (length es)) × (named_in x (left_at (q ∷ es) j) ≡ true)
+    go : (named_in x q.names ≡ true) ⊎ (named_in x (lefts es) ≡ true) →
+        (named_in x (lefts es) ≡ true → (j : ℕ) × (j < length es) × (named_in x (left_at es j) ≡ true)) → (j : ℕ) × (j < suc (length es)) ×
+        (named_in x (left_at (q ∷ es) j) ≡ true)
     go (inl t) r = (0, omega arith, t)
     go (inr t) r = let p : (j : ℕ) × (j < length es) × (named_in x (left_at es j) ≡ true) = r t in let l : p.0 < length es = p.1 in (suc p.0, omega arith, p.2)
 

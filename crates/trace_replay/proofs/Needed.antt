@@ -32,7 +32,8 @@ early_named : (x : Name) (xs ys : List Name) → number_of (xs ++ ys) x < length
 early_named x [] ys l = absurd (omega (arith, l))
 early_named x (z ∷ xs) ys l = go (bytes_eq x z) (early_named x xs ys) l
   where
-    go : (c : Bool) → (number_of (xs ++ ys) x < length xs → named_in x xs ≡ true) → cond c 0 (suc (number_of (xs ++ ys) x)) < suc (length xs) → (c || named_in x xs) ≡ true
+    go : (c : Bool) → (number_of (xs ++ ys) x < length xs → named_in x xs ≡ true) → cond c 0 (suc (number_of (xs ++ ys) x)) < suc
+        (length xs) → (c || named_in x xs) ≡ true
     go true r h = refl
     go false r h = r (omega (arith, h))
 
@@ -40,7 +41,8 @@ named_early : (x : Name) (xs ys : List Name) → named_in x xs ≡ true → numb
 named_early x [] ys e = absurd (false≢true e)
 named_early x (z ∷ xs) ys e = go (bytes_eq x z) (named_early x xs ys) e
   where
-    go : (c : Bool) → (named_in x xs ≡ true → number_of (xs ++ ys) x < length xs) → (c || named_in x xs) ≡ true → cond c 0 (suc (number_of (xs ++ ys) x)) < suc (length xs)
+    go : (c : Bool) → (named_in x xs ≡ true → number_of (xs ++ ys) x < length xs) → (c || named_in x xs) ≡ true → cond c 0
+        (suc (number_of (xs ++ ys) x)) < suc (length xs)
     go true r h = omega arith
     go false r h = let l : number_of (xs ++ ys) x < length xs = r h in omega arith
 
@@ -56,7 +58,8 @@ module _ (d : Component) (n : ℕ) (x : Name) (xs ls : List Name) (own : xs ≡ 
   other = named_in x (names_of d.outputs) || named_in x (names_of d.locals)
 
   named : named_in x xs ≡ (input || other)
-  named = ap (named_in x) own ∙ in_joined x (names_of d.inputs) (names_of d.outputs ++ names_of d.locals) ∙ ap (λ c. input || c) (in_joined x (names_of d.outputs) (names_of d.locals))
+  named = ap (named_in x) own ∙ in_joined x (names_of d.inputs) (names_of d.outputs ++ names_of d.locals) ∙ ap (λ c. input || c)
+      (in_joined x (names_of d.outputs) (names_of d.locals))
 
   left : named_in x ls ≡ is_left x d.body
   left = ap (named_in x) defined ∙ left_named x (body_equations d.body)

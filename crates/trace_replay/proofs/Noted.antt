@@ -16,7 +16,8 @@ use Rattle.trace_replay.specs.Found.{column_by, noted_at, or_column}
 use Rattle.trace_replay.proofs.Found.{noted}
 
 -- each of these is among the names
-pub among_item : {Z : Type 0} (bytes : Z → Name) (ks : List Name) (zs : List Z) (i : ℕ) (z : Z) → AllAmong ks (map bytes zs) → i < length zs → z ≡ get_or zs i z → named_in (bytes z) ks ≡ true
+pub among_item : {Z : Type 0} (bytes : Z → Name) (ks : List Name) (zs : List Z) (i : ℕ) (z : Z) → AllAmong ks (map bytes zs) → i < length zs
+    → z ≡ get_or zs i z → named_in (bytes z) ks ≡ true
 among_item bytes ks [] i z a l e = absurd (omega (arith, l))
 among_item bytes ks (y ∷ zs) zero z a l e = ap (λ w. named_in (bytes w) ks) e ∙ a.0
 among_item bytes ks (y ∷ zs) (suc i) z a l e = among_item bytes ks zs i z a.1 (omega (arith, l)) e
@@ -46,17 +47,20 @@ module _ (ks : List Name) (cs : List (Option ℕ)) (y : Name) (v : ℕ) (there :
           let same : y ≡ x = sym (name_of_number ks y there) ∙ ap (λ k. get_or ks k []) (sym e) ∙ name_of_number ks x t in
           true≢false (sym ((bytes_eq-Decides y x).1 same) ∙ f)
 
-      go : (bytes_eq y x ≡ true) ⊎ (bytes_eq y x ≡ false) → (named_in x ks ≡ true) ⊎ (named_in x ks ≡ false) → column_by ks grown x ≡ cond (bytes_eq y x) (Some v) (column_by ks cs x)
+      go : (bytes_eq y x ≡ true) ⊎ (bytes_eq y x ≡ false) → (named_in x ks ≡ true) ⊎ (named_in x ks ≡ false) → column_by ks grown x ≡ cond
+          (bytes_eq y x) (Some v) (column_by ks cs x)
       go (inl e) n = rw e (subst (λ z. column_by ks grown z ≡ Some v) (same_bytes y x e) own)
       go (inr f) (inl t) = rw (f, t) (get_or-set_other cs (number_of ks y) (number_of ks x) (Some v) None (other f t))
       go (inr f) (inr n) = rw (f, n) refl
 
   -- the name had no column
-  noted_first : is_some (get_or cs (number_of ks y) None) ≡ false → (x : Name) → column_by ks grown x ≡ option_or (column_by ks cs x) (cond (bytes_eq x y) (Some v) None)
+  noted_first : is_some (get_or cs (number_of ks y) None) ≡ false → (x : Name) → column_by ks grown x ≡ option_or (column_by ks cs x)
+      (cond (bytes_eq x y) (Some v) None)
   noted_first e x = noted (column_by ks cs) y x v (column_by ks grown x) (rw there e) (column_set x)
 
   -- the name had one
-  noted_before : is_some (get_or cs (number_of ks y) None) ≡ true → (x : Name) → column_by ks cs x ≡ option_or (column_by ks cs x) (cond (bytes_eq x y) (Some v) None)
+  noted_before : is_some (get_or cs (number_of ks y) None) ≡ true → (x : Name) → column_by ks cs x ≡ option_or (column_by ks cs x)
+      (cond (bytes_eq x y) (Some v) None)
   noted_before e x = go (cases_Bool (bytes_eq x y))
     where
       kept : (o : Option ℕ) → is_some o ≡ true → o ≡ option_or o (Some v)

@@ -66,7 +66,8 @@ from_sound [] n m h = (refl, some_is n m h)
 from_sound (c ∷ cs) n m h = go (is_ascii_digit c) refl (nat_le n 922337203685477580) h (from_sound cs (n * 10 + (c - 48)) m)
   where
     go : (x : Bool) → is_ascii_digit c ≡ x → (y : Bool) → cond (x && y) (number_from (n * 10 + (c - 48)) cs) None ≡ Some m
-        → (number_from (n * 10 + (c - 48)) cs ≡ Some m → (all_ascii_digits cs ≡ true) × (read_on (n * 10 + (c - 48)) cs ≡ m)) → ((is_ascii_digit c && all_ascii_digits cs) ≡ true) × (read_on (n * 10 + (c - 48)) cs ≡ m)
+        → (number_from (n * 10 + (c - 48)) cs ≡ Some m → (all_ascii_digits cs ≡ true) × (read_on (n * 10 + (c - 48)) cs ≡ m)) →
+        ((is_ascii_digit c && all_ascii_digits cs) ≡ true) × (read_on (n * 10 + (c - 48)) cs ≡ m)
     go true e true k r = let s = r k in (both_true (is_ascii_digit c) (all_ascii_digits cs) e s.0, s.1)
     go true e false k r = none_some m k
     go false e y k r = none_some m k
@@ -76,7 +77,8 @@ from_complete [] n h l = refl
 from_complete (c ∷ cs) n h l =
     let more = read_more (n * 10 + (c - 48)) cs in
     let low : n ≤ 922337203685477580 = omega (arith, more) in
-    let both : (is_ascii_digit c && nat_le n 922337203685477580) ≡ true = both_true (is_ascii_digit c) (nat_le n 922337203685477580) (and_left (is_ascii_digit c) (all_ascii_digits cs) h) (le-leb n 922337203685477580 low) in
+    let both : (is_ascii_digit c && nat_le n 922337203685477580) ≡ true = both_true (is_ascii_digit c) (nat_le n 922337203685477580)
+    (and_left (is_ascii_digit c) (all_ascii_digits cs) h) (le-leb n 922337203685477580 low) in
     rw both (from_complete cs (n * 10 + (c - 48)) (and_right (is_ascii_digit c) (all_ascii_digits cs) h) l)
 
 up_to_some : (most : ℕ) (o : Option ℕ) (n : ℕ) → up_to most o ≡ Some n → (o ≡ Some n) × (n ≤ most)
@@ -99,7 +101,8 @@ unfolding number_of
 number_sound [] n h = none_some n h
 number_sound (b ∷ bs) n h = go (b == 48 && not (is_empty bs)) refl h
   where
-    go : (x : Bool) → (b == 48 && not (is_empty bs)) ≡ x → cond x None (up_to 9223372036854775807 (number_from 0 (b ∷ bs))) ≡ Some n → ((b ∷ bs) ≡ decimal n) × (n < 9223372036854775808)
+    go : (x : Bool) → (b == 48 && not (is_empty bs)) ≡ x → cond x None (up_to 9223372036854775807 (number_from 0 (b ∷ bs))) ≡ Some n →
+        ((b ∷ bs) ≡ decimal n) × (n < 9223372036854775808)
     go true e k = none_some n k
     go false e k =
         let u = up_to_some 9223372036854775807 (number_from 0 (b ∷ bs)) n k in
@@ -124,7 +127,8 @@ number_complete (b ∷ bs) n e l =
     let f : number_from 0 (b ∷ bs) ≡ Some n = from_complete (b ∷ bs) 0 d (omega (arith, v, l)) ∙ ap some v in
     go (b == 48) refl bs (no_zero (b ∷ bs) n e l) (ap (up_to 9223372036854775807) f ∙ some_up_to 9223372036854775807 n (omega arith))
   where
-    go : (x : Bool) → (b == 48) ≡ x → (cs : List ℕ) → (get_or (b ∷ cs) 0 0 ≡ 48 → length (b ∷ cs) ≡ 1) → up_to 9223372036854775807 (number_from 0 (b ∷ bs)) ≡ Some n
+    go : (x : Bool) → (b == 48) ≡ x → (cs : List ℕ) → (get_or (b ∷ cs) 0 0 ≡ 48 → length (b ∷ cs) ≡ 1) → up_to 9223372036854775807
+        (number_from 0 (b ∷ bs)) ≡ Some n
         → cond (x && not (is_empty cs)) None (up_to 9223372036854775807 (number_from 0 (b ∷ bs))) ≡ Some n
     go true f [] h k = k
     go true f (c ∷ cs) h k = let q = h (equal_is b 48 f) in absurd (omega (arith, q))
@@ -161,13 +165,17 @@ minus_is bs (suc n) e l = spelled (whole (negsuc n)) (ap (λ (x : List ℕ). 45 
 pub value_sound : (w : List ℕ) (v : Value) → value_of w ≡ Some v → IsValue w v
 unfolding value_of
 value_sound [] v h = none_some v h
-value_sound (b ∷ bs) v h = go (is_ascii_digit b) (b == 45) refl (bytes_eq (b ∷ bs) (codes "true")) refl (bytes_eq (b ∷ bs) (codes "false")) refl (bytes_eq (b ∷ bs) (codes "_")) refl h
+value_sound (b ∷ bs) v h = go (is_ascii_digit b) (b == 45) refl (bytes_eq (b ∷ bs) (codes "true")) refl
+    (bytes_eq (b ∷ bs) (codes "false")) refl (bytes_eq (b ∷ bs) (codes "_")) refl h
   where
     is_value : (u : Value) → some u ≡ Some v → IsValue (b ∷ bs) u → IsValue (b ∷ bs) v
     is_value u e i = subst (λ x. IsValue (b ∷ bs) x) (some_is u v e) i
 
-    go : (d m : Bool) → (b == 45) ≡ m → (x : Bool) → bytes_eq (b ∷ bs) (codes "true") ≡ x → (y : Bool) → bytes_eq (b ∷ bs) (codes "false") ≡ y → (z : Bool) → bytes_eq (b ∷ bs) (codes "_") ≡ z
-        → cond d (option_map (λ n. whole (pos n)) (number_of (b ∷ bs))) (cond m (option_map (λ n. whole (neg_ℤ (pos n))) (number_of bs)) (cond x (Some (flag true)) (cond y (Some (flag false)) (cond z (Some absent) None)))) ≡ Some v → IsValue (b ∷ bs) v
+    go : (d m : Bool) → (b == 45) ≡ m → (x : Bool) → bytes_eq (b ∷ bs) (codes "true") ≡ x → (y : Bool) → bytes_eq (b ∷ bs)
+        (codes "false") ≡ y → (z : Bool) → bytes_eq (b ∷ bs) (codes "_") ≡ z
+        → cond d (option_map (λ n. whole (pos n)) (number_of (b ∷ bs)))
+        (cond m (option_map (λ n. whole (neg_ℤ (pos n))) (number_of bs))
+        (cond x (Some (flag true)) (cond y (Some (flag false)) (cond z (Some absent) None)))) ≡ Some v → IsValue (b ∷ bs) v
     go true m em x ex y ey z ez k =
         let s = map_some (λ n. whole (pos n)) (number_of (b ∷ bs)) v k in
         let t = number_sound (b ∷ bs) s.0 s.1 in
@@ -175,7 +183,8 @@ value_sound (b ∷ bs) v h = go (is_ascii_digit b) (b == 45) refl (bytes_eq (b �
     go false true em x ex y ey z ez k =
         let s = map_some (λ n. whole (neg_ℤ (pos n))) (number_of bs) v k in
         let t = number_sound bs s.0 s.1 in
-        subst (λ u. IsValue (b ∷ bs) u) (sym s.2) (subst (λ (c : ℕ). IsValue (c ∷ bs) (whole (neg_ℤ (pos s.0)))) (sym (equal_is b 45 em)) (minus_is bs s.0 t.0 t.1))
+        subst (λ u. IsValue (b ∷ bs) u) (sym s.2) (subst (λ (c : ℕ). IsValue (c ∷ bs) (whole (neg_ℤ (pos s.0)))) (sym (equal_is b 45 em))
+        (minus_is bs s.0 t.0 t.1))
     go false false em true ex y ey z ez k = is_value (flag true) k (spelled (flag true) ((bytes_eq-Decides (b ∷ bs) (codes "true")).0 ex) tt)
     go false false em false ex true ey z ez k = is_value (flag false) k (spelled (flag false) ((bytes_eq-Decides (b ∷ bs) (codes "false")).0 ey) tt)
     go false false em false ex false ey true ez k = is_value absent k (spelled absent ((bytes_eq-Decides (b ∷ bs) (codes "_")).0 ez) tt)

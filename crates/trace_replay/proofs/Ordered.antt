@@ -10,7 +10,7 @@ use Rattle.lus_meaning.specs.Run.{Equation}
 use Rattle.lus_meaning.specs.Depends.{named_in}
 use Rattle.lus_meaning.specs.WellMade.{AreDistinct}
 use Rattle.lus_meaning.specs.Rules.{names_of, declared_names, lefts, NoneAmong, AllAmong}
-use Rattle.lus_meaning.specs.Trace.{Line}
+use Rattle.lus_meaning.specs.Trace.{BareLine}
 use Rattle.lus_meaning.specs.Order.{is_listed, Passes, IsNext, AreNext, left_at}
 use Rattle.lus_meaning.specs.BooleanNeeds.{needed_names, needed_at, needs_equation, IsLeastDirectOrder}
 use Rattle.lus_meaning.specs.BooleanRules.{IsBooleanExpression, used_names}
@@ -30,11 +30,13 @@ use Rattle.trace_replay.proofs.Named.{in_first, in_second, each_named, column_be
 -- ---- codes
 
 -- a code has the truth of its expression
-pub code_means : (order : List Name) (kept : List Bool) (f : Firsts) (e : Expression) (t : ℕ) → code_truth kept (length order) (code_of order f e) t ≡ truth_at (held order kept) f e t
+pub code_means : (order : List Name) (kept : List Bool) (f : Firsts) (e : Expression) (t : ℕ) → code_truth kept (length order)
+    (code_of order f e) t ≡ truth_at (held order kept) f e t
 code_means order kept f (truth p b) t = refl
 code_means order kept f (name p x) t = go (nat_lt (column_of order x) (length order))
   where
-    go : (c : Bool) → code_truth kept (length order) (cond c (placed (column_of order x)) (known false)) t ≡ cond c (get_or kept (t * length order + column_of order x) false) false
+    go : (c : Bool) → code_truth kept (length order) (cond c (placed (column_of order x)) (known false)) t ≡ cond c
+        (get_or kept (t * length order + column_of order x) false) false
     go true = refl
     go false = refl
 code_means order kept f (negation p a) t = ap not (code_means order kept f a t)
@@ -52,7 +54,8 @@ code_means order kept f (call p k g as_) t = refl
 code_means order kept f (condact p k a g as_ ds) t = refl
 code_means order kept f (mode_name p c m) t = refl
 
-name-below : (order : List Name) (x : Name) (j : ℕ) → (column_of order x < length order → column_of order x < j) → ReadsBelow (length order) j (coded_name order x)
+name-below : (order : List Name) (x : Name) (j : ℕ) → (column_of order x < length order → column_of order x < j) → ReadsBelow
+    (length order) j (coded_name order x)
 name-below order x j h = go (nat_lt (column_of order x) (length order)) refl
   where
     go : (c : Bool) → nat_lt (column_of order x) (length order) ≡ c → ReadsBelow (length order) j (cond c (placed (column_of order x)) (known false))
@@ -75,7 +78,8 @@ reads_any order f (call p k g as_) = tt
 reads_any order f (condact p k a g as_ ds) = tt
 reads_any order f (mode_name p c m) = tt
 
-pub reads_needed : (order : List Name) (f : Firsts) (j : ℕ) (e : Expression) → IsBooleanExpression e → AllByRecursion (λ x. column_of order x < j) (needed_names e) → ReadsBelow (length order) j (code_of order f e)
+pub reads_needed : (order : List Name) (f : Firsts) (j : ℕ) (e : Expression) → IsBooleanExpression e → AllByRecursion
+    (λ x. column_of order x < j) (needed_names e) → ReadsBelow (length order) j (code_of order f e)
 reads_needed order f j (truth p b) q a = tt
 reads_needed order f j (name p x) q a = name-below order x j (λ _. a.0)
 reads_needed order f j (negation p e) q a = reads_needed order f j e q a
@@ -89,7 +93,8 @@ reads_needed order f j (binary p o e g) q a = (
   reads_needed order f j g q.2 (right_part (λ x. column_of order x < j) (needed_names e) (needed_names g) a),
 )
 reads_needed order f j (choice p e g h) q a =
-    let r : AllByRecursion (λ x. column_of order x < j) (needed_names g ++ needed_names h) = right_part (λ x. column_of order x < j) (needed_names e) (needed_names g ++ needed_names h) a in (
+    let r : AllByRecursion (λ x. column_of order x < j) (needed_names g ++ needed_names h) = right_part (λ x. column_of order x < j)
+    (needed_names e) (needed_names g ++ needed_names h) a in (
       reads_needed order f j e q.0 (left_part (λ x. column_of order x < j) (needed_names e) (needed_names g ++ needed_names h) a),
       reads_needed order f j g q.1 (left_part (λ x. column_of order x < j) (needed_names g) (needed_names h) r),
       reads_needed order f j h q.2 (right_part (λ x. column_of order x < j) (needed_names g) (needed_names h) r),
@@ -98,12 +103,14 @@ reads_needed order f j _ q a = absurd q
 
 -- ---- right sides by number
 
-pub each_at : (P : Equation → Type 0) (Q : List Name → Expression → Type 0) → ((e : Equation) → P e → Q e.names e.right) → (es : List Equation) → AllByRecursion P es → (k : ℕ) → k < length es → Q (left_at es k) (right_at es k)
+pub each_at : (P : Equation → Type 0) (Q : List Name → Expression → Type 0) → ((e : Equation) → P e → Q e.names e.right) →
+    (es : List Equation) → AllByRecursion P es → (k : ℕ) → k < length es → Q (left_at es k) (right_at es k)
 each_at P Q h [] a k l = absurd (omega arith)
 each_at P Q h (e ∷ es) a zero l = h e a.0
 each_at P Q h (e ∷ es) a (suc k) l = each_at P Q h es a.1 k (omega arith)
 
-pub from_each : (Q : List Name → Expression → Type 0) (es : List Equation) → ((k : ℕ) → k < length es → Q (left_at es k) (right_at es k)) → AllByRecursion (λ e. Q e.names e.right) es
+pub from_each : (Q : List Name → Expression → Type 0) (es : List Equation) → ((k : ℕ) → k < length es → Q (left_at es k) (right_at es k))
+    → AllByRecursion (λ e. Q e.names e.right) es
 from_each Q [] h = tt
 from_each Q (e ∷ es) h = (h 0 (omega arith), from_each Q es (λ k l. h (suc k) (omega arith)))
 
@@ -112,20 +119,23 @@ needed_right [] k l = absurd (omega arith)
 needed_right (e ∷ es) zero l = refl
 needed_right (e ∷ es) (suc k) l = needed_right es k (omega arith)
 
-pub readable_given : (ls : List Line) (w : ℕ) (xs : List Name) (cs : List Source) (j k : ℕ) → k ≡ j + length xs → AreReadable w k cs → AreReadable w j (given_columns ls xs ++ cs)
+pub readable_given : (ls : List BareLine) (w : ℕ) (xs : List Name) (cs : List Source) (j k : ℕ) → k ≡ j + length xs → AreReadable w k cs
+    → AreReadable w j (given_columns ls xs ++ cs)
 readable_given ls w [] cs j k e r = let s : k ≡ j = omega arith in subst (λ i. AreReadable w i cs) s r
 readable_given ls w (x ∷ xs) cs j k e r = (tt, readable_given ls w xs cs (suc j) k (omega arith) r)
 
-pub given_length : (ls : List Line) (xs : List Name) → length (given_columns ls xs) ≡ length xs
+pub given_length : (ls : List BareLine) (xs : List Name) → length (given_columns ls xs) ≡ length xs
 given_length ls [] = refl
 given_length ls (x ∷ xs) = ap suc (given_length ls xs)
 
 -- a given name has its values
-pub given_holds : (ls : List Line) (kept : List Bool) (w t : ℕ) (xs : List Name) (j : ℕ) (x : Name) → Meets kept w t j (given_columns ls xs) → named_in x xs ≡ true → get_or kept (t * w + (j + column_of xs x)) false ≡ get_or (given_bits ls x) t false
+pub given_holds : (ls : List BareLine) (kept : List Bool) (w t : ℕ) (xs : List Name) (j : ℕ) (x : Name) → Meets kept w t j
+    (given_columns ls xs) → named_in x xs ≡ true → get_or kept (t * w + (j + column_of xs x)) false ≡ get_or (given_bits ls x) t false
 given_holds ls kept w t [] j x m e = absurd (false≢true e)
 given_holds ls kept w t (y ∷ xs) j x m e = go (cases_Bool (bytes_eq x y)) (given_holds ls kept w t xs (suc j) x m.1)
   where
-    go : (bytes_eq x y ≡ true) ⊎ (bytes_eq x y ≡ false) → (named_in x xs ≡ true → get_or kept (t * w + (suc j + column_of xs x)) false ≡ get_or (given_bits ls x) t false)
+    go : (bytes_eq x y ≡ true) ⊎ (bytes_eq x y ≡ false) → (named_in x xs ≡ true → get_or kept
+        (t * w + (suc j + column_of xs x)) false ≡ get_or (given_bits ls x) t false)
         → get_or kept (t * w + (j + cond (bytes_eq x y) 0 (suc (column_of xs x)))) false ≡ get_or (given_bits ls x) t false
     go (inl s) r =
         let at : t * w + (j + 0) ≡ t * w + j = omega arith in
@@ -134,10 +144,12 @@ given_holds ls kept w t (y ∷ xs) j x m e = go (cases_Bool (bytes_eq x y)) (giv
         let at : t * w + (j + suc (column_of xs x)) ≡ t * w + (suc j + column_of xs x) = omega arith in
         rw (f, at) (r (rw f at e))
 
-held-at : (order : List Name) (kept : List Bool) (x : Name) (t j : ℕ) → column_of order x ≡ j → j < length order → held order kept x t ≡ get_or kept (t * length order + j) false
+held-at : (order : List Name) (kept : List Bool) (x : Name) (t j : ℕ) → column_of order x ≡ j → j < length order
+    → held order kept x t ≡ get_or kept (t * length order + j) false
 held-at order kept x t j e l = go (nat_lt (column_of order x) (length order)) refl
   where
-    go : (c : Bool) → nat_lt (column_of order x) (length order) ≡ c → cond c (get_or kept (t * length order + column_of order x) false) false ≡ get_or kept (t * length order + j) false
+    go : (c : Bool) → nat_lt (column_of order x) (length order) ≡ c → cond c
+        (get_or kept (t * length order + column_of order x) false) false ≡ get_or kept (t * length order + j) false
     go true h = ap (λ (i : ℕ). get_or kept (t * length order + i) false) e
     go false h = absurd (grind (arith, h))
 
@@ -171,17 +183,21 @@ module _ (d : Component) (es : List Equation) (each : AllByRecursion IsBooleanEq
       free (inl t) = free_new (lefts es) d.outputs x t
       free (inr t) = free_new (lefts es) d.locals x t
 
-      go : (named_in x (names_of d.inputs) ≡ true) ⊎ (named_in x (free_among (lefts es) d.outputs ++ free_among (lefts es) d.locals) ≡ true) → named_in x (lefts es) ≡ false
+      go : (named_in x (names_of d.inputs) ≡ true) ⊎ (named_in x (free_among (lefts es) d.outputs ++ free_among (lefts es) d.locals) ≡ true)
+          → named_in x (lefts es) ≡ false
       go (inl t) = each_named (λ y. named_in y (lefts es) ≡ false) x (names_of d.inputs) apart t
       go (inr t) = free (named_either x (free_among (lefts es) d.outputs) (free_among (lefts es) d.locals) t)
 
   -- a declared name without an equation is a base name
   pub covered : (x : Name) → named_in x (declared_names d) ≡ true → named_in x (lefts es) ≡ false → named_in x base ≡ true
-  covered x e o = go (named_either x (names_of d.inputs) (names_of (d.outputs ++ d.locals)) (rw (vars, map-append (λ v. v.name.text) d.inputs (d.outputs ++ d.locals)) at e))
+  covered x e o = go (named_either x (names_of d.inputs) (names_of (d.outputs ++ d.locals))
+      (rw (vars, map-append (λ v. v.name.text) d.inputs (d.outputs ++ d.locals)) at e))
     where
       free : (named_in x (names_of d.outputs) ≡ true) ⊎ (named_in x (names_of d.locals) ≡ true) → named_in x base ≡ true
-      free (inl t) = in_second x (names_of d.inputs) (free_among (lefts es) d.outputs ++ free_among (lefts es) d.locals) (in_first x (free_among (lefts es) d.outputs) (free_among (lefts es) d.locals) (free_there (lefts es) d.outputs x o t))
-      free (inr t) = in_second x (names_of d.inputs) (free_among (lefts es) d.outputs ++ free_among (lefts es) d.locals) (in_second x (free_among (lefts es) d.outputs) (free_among (lefts es) d.locals) (free_there (lefts es) d.locals x o t))
+      free (inl t) = in_second x (names_of d.inputs) (free_among (lefts es) d.outputs ++ free_among (lefts es) d.locals)
+          (in_first x (free_among (lefts es) d.outputs) (free_among (lefts es) d.locals) (free_there (lefts es) d.outputs x o t))
+      free (inr t) = in_second x (names_of d.inputs) (free_among (lefts es) d.outputs ++ free_among (lefts es) d.locals)
+          (in_second x (free_among (lefts es) d.outputs) (free_among (lefts es) d.locals) (free_there (lefts es) d.locals x o t))
 
       go : (named_in x (names_of d.inputs) ≡ true) ⊎ (named_in x (names_of (d.outputs ++ d.locals)) ≡ true) → named_in x base ≡ true
       go (inl t) = in_first x (names_of d.inputs) (free_among (lefts es) d.outputs ++ free_among (lefts es) d.locals) t
@@ -214,15 +230,20 @@ module _ (d : Component) (es : List Equation) (each : AllByRecursion IsBooleanEq
   boolean_right k l = each_at IsBooleanEquation (λ xs e. IsBooleanExpression e) (λ e q. q.right) es each k l
 
   pub declared_right : (k : ℕ) → k < length es → AllAmong (declared_names d) (used_names (right_at es k))
-  declared_right k l = each_at (λ e. AllAmong (declared_names d) (used_names e.right)) (λ xs e. AllAmong (declared_names d) (used_names e)) (λ e q. q) es declared k l
+  declared_right k l = each_at (λ e. AllAmong (declared_names d) (used_names e.right)) (λ xs e. AllAmong (declared_names d) (used_names e))
+      (λ e q. q) es declared k l
 
-  pub needed_before : (done : List ℕ) (k : ℕ) → IsNext (length es) (Passes (needs_equation es)) done k → AllByRecursion (λ x. named_in x (before done) ≡ true) (needed_names (right_at es k))
-  needed_before done k n = all_from_both (λ x. named_in x (declared_names d) ≡ true) (λ z. (j : ℕ) → j < length es → named_in z (left_at es j) ≡ true → is_listed done j ≡ true) (λ x. named_in x (before done) ≡ true) one
+  pub needed_before : (done : List ℕ) (k : ℕ) → IsNext (length es) (Passes (needs_equation es)) done k → AllByRecursion
+      (λ x. named_in x (before done) ≡ true) (needed_names (right_at es k))
+  needed_before done k n = all_from_both (λ x. named_in x (declared_names d) ≡ true)
+      (λ z. (j : ℕ) → j < length es → named_in z (left_at es j) ≡ true → is_listed done j ≡ true) (λ x. named_in x (before done) ≡ true) one
       (needed_names (right_at es k))
       (needed_of_used (λ x. named_in x (declared_names d) ≡ true) (right_at es k) (boolean_right k n.below) (declared_right k n.below))
-      (subst (AllByRecursion (λ z. (j : ℕ) → j < length es → named_in z (left_at es j) ≡ true → is_listed done j ≡ true)) (needed_right es k n.below) (names_from_ready es done k n.ready))
+      (subst (AllByRecursion (λ z. (j : ℕ) → j < length es → named_in z (left_at es j) ≡ true → is_listed done j ≡ true))
+      (needed_right es k n.below) (names_from_ready es done k n.ready))
     where
-      one : (x : Name) → named_in x (declared_names d) ≡ true → ((j : ℕ) → j < length es → named_in x (left_at es j) ≡ true → is_listed done j ≡ true) → named_in x (before done) ≡ true
+      one : (x : Name) → named_in x (declared_names d) ≡ true → ((j : ℕ) → j < length es → named_in x (left_at es j) ≡ true
+          → is_listed done j ≡ true) → named_in x (before done) ≡ true
       one x m h = go (cases_Bool (named_in x (lefts es)))
         where
           go : (named_in x (lefts es) ≡ true) ⊎ (named_in x (lefts es) ≡ false) → named_in x (before done) ≡ true
@@ -237,29 +258,41 @@ module _ (d : Component) (es : List Equation) (each : AllByRecursion IsBooleanEq
     pub next : order ≡ before (done ++ k ∷ []) ++ flat_map (left_at es) ks
     pub size : length (before (done ++ k ∷ [])) ≡ suc (length (before done))
 
-  pub at_step : (order : List Name) (done ks : List ℕ) (k : ℕ) → IsNext (length es) (Passes (needs_equation es)) done k → order ≡ before done ++ flat_map (left_at es) (k ∷ ks) → AtStep order done ks k
+  pub at_step : (order : List Name) (done ks : List ℕ) (k : ℕ) → IsNext (length es) (Passes (needs_equation es)) done k
+      → order ≡ before done ++ flat_map (left_at es) (k ∷ ks) → AtStep order done ks k
   at_step order done ks k n e =
       let one : left_at es k ≡ the_name k ∷ [] = the_left es each k n.below in
-      let behind : order ≡ before done ++ the_name k ∷ flat_map (left_at es) ks = e ∙ ap (λ (l : List Name). before done ++ (l ++ flat_map (left_at es) ks)) one in
+      let behind : order ≡ before done ++ the_name k ∷ flat_map (left_at es) ks = e ∙ ap
+      (λ (l : List Name). before done ++ (l ++ flat_map (left_at es) ks)) one in
       let grown : before (done ++ k ∷ []) ≡ before done ++ the_name k ∷ [] =
-      ap (λ (l : List Name). base ++ l) (flat-snoc (left_at es) done k) ∙ sym (append_assoc base (flat_map (left_at es) done) (left_at es k)) ∙ ap (λ (l : List Name). before done ++ l) one in
-      let long : length order ≡ length (before done) + suc (length (flat_map (left_at es) ks)) = ap length behind ∙ length-append (before done) (the_name k ∷ flat_map (left_at es) ks) in
+      ap (λ (l : List Name). base ++ l) (flat-snoc (left_at es) done k) ∙ sym
+      (append_assoc base (flat_map (left_at es) done) (left_at es k)) ∙ ap (λ (l : List Name). before done ++ l) one in
+      let long : length order ≡ length (before done) + suc (length (flat_map (left_at es) ks)) = ap length behind ∙ length-append
+      (before done) (the_name k ∷ flat_map (left_at es) ks) in
       record {
-        placed_at = ap (λ (l : List Name). column_of l (the_name k)) behind ∙ column_behind (before done) (flat_map (left_at es) ks) (the_name k) (fresh done k n.below n.new);
+        placed_at = ap (λ (l : List Name). column_of l (the_name k)) behind ∙ column_behind (before done) (flat_map (left_at es) ks)
+            (the_name k) (fresh done k n.below n.new);
         within = omega arith;
         needed = each-column (needed_names (right_at es k)) (needed_before done k n);
-        next = behind ∙ sym (append_assoc (before done) (the_name k ∷ []) (flat_map (left_at es) ks)) ∙ ap (λ (l : List Name). l ++ flat_map (left_at es) ks) (sym grown);
+        next = behind ∙ sym (append_assoc (before done) (the_name k ∷ []) (flat_map (left_at es) ks)) ∙ ap
+            (λ (l : List Name). l ++ flat_map (left_at es) ks) (sym grown);
         size = ap length grown ∙ length-append (before done) (the_name k ∷ []) ∙ omega arith;
       }
     where
-      each-column : (xs : List Name) → AllByRecursion (λ x. named_in x (before done) ≡ true) xs → AllByRecursion (λ x. column_of order x < length (before done)) xs
+      each-column : (xs : List Name) → AllByRecursion (λ x. named_in x (before done) ≡ true) xs → AllByRecursion
+          (λ x. column_of order x < length (before done)) xs
       each-column [] a = tt
-      each-column (x ∷ xs) a = (subst (λ (l : List Name). column_of l x < length (before done)) (sym e) (column_within (before done) (flat_map (left_at es) (k ∷ ks)) x a.0).0, each-column xs a.1)
+      each-column (x ∷ xs) a = (
+        subst (λ (l : List Name). column_of l x < length (before done)) (sym e)
+            (column_within (before done) (flat_map (left_at es) (k ∷ ks)) x a.0).0,
+        each-column xs a.1,
+      )
 
   -- ---- the columns of equations
 
-  module _ (ls : List Line) (order : List Name) where
-    pub readable_from : (done ks : List ℕ) → AreNext (length es) (Passes (needs_equation es)) done ks → order ≡ before done ++ flat_map (left_at es) ks → AreReadable (length order) (length (before done)) (computed_columns ls order es ks)
+  module _ (ls : List BareLine) (order : List Name) where
+    pub readable_from : (done ks : List ℕ) → AreNext (length es) (Passes (needs_equation es)) done ks → order ≡ before done ++ flat_map
+        (left_at es) ks → AreReadable (length order) (length (before done)) (computed_columns ls order es ks)
     readable_from done [] a e = ap length (e ∙ append_none (before done))
     readable_from done (k ∷ ks) a e =
         let s : AtStep order done ks k = at_step order done ks k a.0 e in (
@@ -270,7 +303,9 @@ module _ (d : Component) (es : List Equation) (each : AllByRecursion IsBooleanEq
     abbrev pub Holds : List Bool → ℕ → ℕ → Type 0
     Holds kept t k = held order kept (the_name k) t ≡ truth_at (held order kept) (first_in ls) (right_at es k) t
 
-    pub holds_from : (kept : List Bool) (t : ℕ) (done ks : List ℕ) → AreNext (length es) (Passes (needs_equation es)) done ks → order ≡ before done ++ flat_map (left_at es) ks → Meets kept (length order) t (length (before done)) (computed_columns ls order es ks) →
+    pub holds_from : (kept : List Bool) (t : ℕ) (done ks : List ℕ) → AreNext (length es) (Passes (needs_equation es)) done ks
+        → order ≡ before done ++ flat_map (left_at es) ks → Meets kept (length order) t (length (before done))
+        (computed_columns ls order es ks) →
         AllByRecursion (Holds kept t) ks
     holds_from kept t done [] a e m = tt
     holds_from kept t done (k ∷ ks) a e m =
@@ -281,7 +316,7 @@ module _ (d : Component) (es : List Equation) (each : AllByRecursion IsBooleanEq
 
   -- ---- the whole table
 
-  module _ (ls : List Line) (ks : List ℕ) (least : IsLeastDirectOrder es ks) (n : ℕ) where
+  module _ (ls : List BareLine) (ks : List ℕ) (least : IsLeastDirectOrder es ks) (n : ℕ) where
     abbrev pub names : List Name
     names = table_names es d ks
 
@@ -299,7 +334,8 @@ module _ (d : Component) (es : List Equation) (each : AllByRecursion IsBooleanEq
 
     pub all_readable : AreReadable (length names) 0 columns
     all_readable = readable_given ls (length names) base (computed_columns ls names es ks) 0 (length base) (omega arith)
-        (subst (λ (l : List Name). AreReadable (length names) (length l) (computed_columns ls names es ks)) starts (readable_from ls names [] ks least.next whole))
+        (subst (λ (l : List Name). AreReadable (length names) (length l) (computed_columns ls names es ks)) starts
+        (readable_from ls names [] ks least.next whole))
 
     pub the_table : IsTable (length names) columns n kept_rows
     the_table = table (length names) columns all_readable n
@@ -313,7 +349,8 @@ module _ (d : Component) (es : List Equation) (each : AllByRecursion IsBooleanEq
         let at : t * length names + column_of base x ≡ t * length names + (0 + column_of base x) = omega arith in
         held-at names kept_rows x t (column_of base x) q.1 (omega arith)
         ∙ ap (λ (i : ℕ). get_or kept_rows i false) at
-        ∙ given_holds ls kept_rows (length names) t base 0 x (meets-left kept_rows (length names) t 0 (given_columns ls base) (computed_columns ls names es ks) (the_table.meets t l)) e
+        ∙ given_holds ls kept_rows (length names) t base 0 x (meets-left kept_rows (length names) t 0 (given_columns ls base)
+        (computed_columns ls names es ks) (the_table.meets t l)) e
 
     pub listed_holds : (t : ℕ) → t < n → AllByRecursion (Holds ls names kept_rows t) ks
     listed_holds t l = let size : length (given_columns ls base) ≡ length base = given_length ls base in holds_from ls names kept_rows t [] ks least.next whole
@@ -321,6 +358,7 @@ module _ (d : Component) (es : List Equation) (each : AllByRecursion IsBooleanEq
         (meets-right kept_rows (length names) t 0 (length base) (given_columns ls base) (computed_columns ls names es ks) (omega arith) (the_table.meets t l)))
 
     -- each equation holds
-    pub equation_values : (t : ℕ) → t < n → AllByRecursion (λ e. held names kept_rows (first_name e.names) t ≡ truth_at (held names kept_rows) (first_in ls) e.right t) es
+    pub equation_values : (t : ℕ) → t < n → AllByRecursion (λ e. held names kept_rows (first_name e.names) t ≡ truth_at
+        (held names kept_rows) (first_in ls) e.right t) es
     equation_values t l = from_each (λ xs e. held names kept_rows (first_name xs) t ≡ truth_at (held names kept_rows) (first_in ls) e t) es
         (λ k b. each-listed (Holds ls names kept_rows t) k ks (listed_holds t l) (least.order.all k b))

@@ -68,7 +68,8 @@ placed : (names : List Name) (x : Name) → nat_lt (column_of names x) (length n
 placed [] x = refl
 placed (y ∷ names) x = go (bytes_eq x y) (placed names x)
   where
-    go : (b : Bool) → nat_lt (column_of names x) (length names) ≡ named_in x names → nat_lt (cond b 0 (suc (column_of names x))) (suc (length names)) ≡ (b || named_in x names)
+    go : (b : Bool) → nat_lt (column_of names x) (length names) ≡ named_in x names → nat_lt (cond b 0 (suc (column_of names x)))
+        (suc (length names)) ≡ (b || named_in x names)
     go true h = grind arith
     go false h = let e : nat_lt (suc (column_of names x)) (suc (length names)) ≡ nat_lt (column_of names x) (length names) = grind arith in e ∙ h
 
@@ -89,7 +90,8 @@ module _ (d : Component) (n : ℕ) (f : Frame) (run : IsRun (instance d [] no_in
   unnamed : (x : Name) → named_in x (declared_names d) ≡ false → (t : ℕ) → entry f x t ≡ absent
   unnamed x e t = no_name (streams_of f) x (ap (named_in x) run.0.names ∙ e) t
 
-  here : (x : Name) (t : ℕ) (b c : Bool) → nat_lt t n ≡ b → named_in x (declared_names d) ≡ c → cond (true && b && c) (flag (held names kept x t)) absent ≡ entry f x t
+  here : (x : Name) (t : ℕ) (b c : Bool) → nat_lt t n ≡ b → named_in x (declared_names d) ≡ c → cond (true && b && c)
+      (flag (held names kept x t)) absent ≡ entry f x t
   here x t true true l m = sym (entries x m t (grind (arith, l)))
   here x t true false l m = sym (unnamed x m t)
   here x t false c l m = sym (late x t (grind (arith, l)))
@@ -102,7 +104,8 @@ module _ (d : Component) (n : ℕ) (f : Frame) (run : IsRun (instance d [] no_in
 
 -- ---- the breaks
 
-break_at : (i : Instance) (f : Frame) (n : ℕ) (ps : List Property) (hits : List (Option ℕ)) → EachBreaks i f n ps hits → (k : ℕ) → IsBreakOf i (slice_get ps k) f n (unwrap_or (slice_get hits k) None)
+break_at : (i : Instance) (f : Frame) (n : ℕ) (ps : List Property) (hits : List (Option ℕ)) → EachBreaks i f n ps hits → (k : ℕ)
+    → IsBreakOf i (slice_get ps k) f n (unwrap_or (slice_get hits k) None)
 break_at i f n [] [] h k = refl
 break_at i f n [] (o ∷ hits) h k = absurd h
 break_at i f n (p ∷ ps) [] h k = absurd h
@@ -115,7 +118,8 @@ pub shows : (p : Program) (d : Component) → IsBooleanChecked p d → (t : List
     → ((x : Name) → named_in x (map string_bytes r.names.items) ≡ named_in x (declared_names d))
     → IsReplayed (lines_of t) p d t.length (held (map string_bytes r.names.items) r.kept.items) r.broken.items → ReplaysTrace p t (replay_view r)
 shows p d checked t fits r instants named h =
-    let run : IsRun (instance d [] no_instances) t.length throughout h.frame = subst (λ i. IsRun i t.length throughout h.frame) (boolean_checked_instance p d checked) h.is_frame.run in
+    let run : IsRun (instance d [] no_instances) t.length throughout h.frame = subst (λ i. IsRun i t.length throughout h.frame)
+    (boolean_checked_instance p d checked) h.is_frame.run in
     record {
       node = d;
       named = fits.named ∙ ap (λ e. Some e) (node_is p d fits.node t.node checked.one_node fits.named);
@@ -129,7 +133,8 @@ shows p d checked t fits r instants named h =
           lawful = λ u l. h.lawful u;
           lawless = λ u a b l. absurd (omega (arith, instants, a, b));
         };
-        values = λ path x u. subst (λ (m : ℕ). shown (map string_bytes r.names.items) r.kept.items m path x u ≡ entry (frame_on h.frame path) x u) (sym instants)
+        values = λ path x u. subst (λ (m : ℕ). shown (map string_bytes r.names.items) r.kept.items m path x u ≡ entry
+            (frame_on h.frame path) x u) (sym instants)
             (values_are d t.length h.frame run (map string_bytes r.names.items) r.kept.items named h.entries path x u);
       };
     }

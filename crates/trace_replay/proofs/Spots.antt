@@ -16,7 +16,7 @@ use Rattle.lus_meaning.specs.Scene.{Instance, instance, no_instances}
 use Rattle.lus_meaning.specs.Run.{Equation, first_sorts}
 use Rattle.lus_meaning.specs.Depends.{named_in}
 use Rattle.lus_meaning.specs.Rules.{IsFlag, names_of}
-use Rattle.lus_meaning.specs.Trace.{Subject, of_name, of_first, Line, is_defined, free_names}
+use Rattle.lus_meaning.specs.Trace.{Subject, of_name, of_first, BareLine, is_defined, free_names}
 use Rattle.lus_meaning.specs.TraceView.{PlacedValue, PlacedLine, Listing, bare_line, lines_of}
 use Rattle.lus_meaning.specs.Fits.{Listable, listable_names, listable_firsts, listable, same_place, listable_at, is_listed, is_of_sort, is_given, Test, first_failed, value_tests, taken_tests, line_tests, lines_tests, instance_tests, node_tests, misfit}
 use Rattle.lus_meaning.specs.BooleanRules.{IsBooleanExpression, IsBooleanItem, IsBooleanNode, IsBooleanChecked}
@@ -41,19 +41,24 @@ greatest_is (truth p b) k h = refl
 greatest_is (name p x) k h = refl
 greatest_is (negation p a) k h = greatest_is a k h
 greatest_is (pre p j a) k h = greatest_is a (greater k j) h
-greatest_is (arrow p j a b) k h = greatest_is b (greatest_pre k a) h.1 ∙ ap (λ (m : ℕ). greatest m (pres b)) (greatest_is a k h.0) ∙ sym (greatest_append k (pres a) (pres b))
-greatest_is (binary p o a b) k h = greatest_is b (greatest_pre k a) h.2 ∙ ap (λ (m : ℕ). greatest m (pres b)) (greatest_is a k h.1) ∙ sym (greatest_append k (pres a) (pres b))
+greatest_is (arrow p j a b) k h = greatest_is b (greatest_pre k a) h.1 ∙ ap (λ (m : ℕ). greatest m (pres b)) (greatest_is a k h.0) ∙ sym
+    (greatest_append k (pres a) (pres b))
+greatest_is (binary p o a b) k h = greatest_is b (greatest_pre k a) h.2 ∙ ap (λ (m : ℕ). greatest m (pres b)) (greatest_is a k h.1) ∙ sym
+    (greatest_append k (pres a) (pres b))
 greatest_is (choice p a b c) k h =
     greatest_is c (greatest_pre (greatest_pre k a) b) h.2
-    ∙ ap (λ (m : ℕ). greatest m (pres c)) (greatest_is b (greatest_pre k a) h.1 ∙ ap (λ (m : ℕ). greatest m (pres b)) (greatest_is a k h.0) ∙ sym (greatest_append k (pres a) (pres b)))
+    ∙ ap (λ (m : ℕ). greatest m (pres c)) (greatest_is b (greatest_pre k a) h.1 ∙ ap (λ (m : ℕ). greatest m (pres b)) (greatest_is a k h.0)
+    ∙ sym (greatest_append k (pres a) (pres b)))
     ∙ sym (greatest_append k (pres a ++ pres b) (pres c))
 greatest_is _ k h = absurd h
 
 greatest_in : (ss : List Statement) → AllByRecursion IsBooleanItem ss → (k : ℕ) → greatest_pre_in k ss ≡ greatest k (body_pres ss)
 greatest_in [] h k = refl
-greatest_in (s ∷ ss) h k = of_boolean_item (λ s. ((k : ℕ) → greatest_pre_in k ss ≡ greatest k (body_pres ss)) → (k : ℕ) → greatest_pre_in k (s ∷ ss) ≡ greatest k (body_pres (s ∷ ss)))
+greatest_in (s ∷ ss) h k = of_boolean_item (λ s. ((k : ℕ) → greatest_pre_in k ss ≡ greatest k (body_pres ss)) → (k : ℕ) → greatest_pre_in k
+    (s ∷ ss) ≡ greatest k (body_pres (s ∷ ss)))
     (λ x e b r k. r (greatest_pre k e) ∙ ap (λ (m : ℕ). greatest m (body_pres ss)) (greatest_is e k b) ∙ sym (greatest_append k (pres e) (body_pres ss)))
-    (λ l b r k. r (greatest_pre k l.value) ∙ ap (λ (m : ℕ). greatest m (body_pres ss)) (greatest_is l.value k b) ∙ sym (greatest_append k (pres l.value) (body_pres ss)))
+    (λ l b r k. r (greatest_pre k l.value) ∙ ap (λ (m : ℕ). greatest m (body_pres ss)) (greatest_is l.value k b) ∙ sym
+    (greatest_append k (pres l.value) (body_pres ss)))
     (λ i r k. r k) s h.0 (greatest_in ss h.1) k
 
 greater_most : (k j n : ℕ) → k ≤ n → j ≤ n → greater k j ≤ n
@@ -80,7 +85,8 @@ at_least : (n k : ℕ) (js : List ℕ) → 0 < times n js → n ≤ greatest k j
 at_least n k [] h = absurd (omega (arith, h))
 at_least n k (j ∷ js) h = go (eqb n j) refl h (at_least n (greater k j) js)
   where
-    go : (b : Bool) → eqb n j ≡ b → 0 < cond b (suc (times n js)) (times n js) → (0 < times n js → n ≤ greatest (greater k j) js) → n ≤ greatest (greater k j) js
+    go : (b : Bool) → eqb n j ≡ b → 0 < cond b (suc (times n js)) (times n js) → (0 < times n js → n ≤ greatest (greater k j) js)
+        → n ≤ greatest (greater k j) js
     go true e l r = omega (arith, grows (greater k j) js, greater_right k j, equal_is n j e)
     go false e l r = r l
 
@@ -131,7 +137,8 @@ or_none : (o : Option (ℕ × Bool)) → or_need o None ≡ o
 or_none (Some x) = refl
 or_none None = refl
 
-told_append : (xs ys : List Listable) (path : List ℕ) (s : Subject) → told (listable_at (xs ++ ys) path s) ≡ or_need (told (listable_at xs path s)) (told (listable_at ys path s))
+told_append : (xs ys : List Listable) (path : List ℕ) (s : Subject) → told (listable_at (xs ++ ys) path s) ≡ or_need
+    (told (listable_at xs path s)) (told (listable_at ys path s))
 told_append [] ys path s = refl
 told_append (x ∷ xs) ys path s = go (same_place x.path x.subject path s) (told_append xs ys path s)
   where
@@ -157,19 +164,22 @@ firsts_name j [] x = refl
 firsts_name j (o ∷ ss) x = firsts_name (suc j) ss x
 
 bytes_back : (xs ys : List ℕ) → bytes_eq xs ys ≡ bytes_eq ys xs
-bytes_back xs ys = same_from_decides (bytes_eq xs ys) (bytes_eq ys xs) (bytes_eq-Decides xs ys) (λ h. sym ((bytes_eq-Decides ys xs).0 h), λ e. (bytes_eq-Decides ys xs).1 (sym e))
+bytes_back xs ys = same_from_decides (bytes_eq xs ys) (bytes_eq ys xs) (bytes_eq-Decides xs ys)
+    (λ h. sym ((bytes_eq-Decides ys xs).0 h), λ e. (bytes_eq-Decides ys xs).1 (sym e))
 
 abbrev named_as : ℕ → Bool → Variable → Listable
 named_as n b v = record { path = []; subject = of_name v.name.text; sort = v.sort; count = n; needed = b }
 
-named_name : (n : ℕ) (b : Bool) (vs : List Variable) (x : Name) → told (listable_at (listable_names [] n b vs) [] (of_name x)) ≡ cond (named_in x (names_of vs)) (Some (n, b)) None
+named_name : (n : ℕ) (b : Bool) (vs : List Variable) (x : Name) → told (listable_at (listable_names [] n b vs) [] (of_name x)) ≡ cond
+    (named_in x (names_of vs)) (Some (n, b)) None
 named_name n b [] x = refl
 named_name n b (v ∷ vs) x =
     ap (λ c. told (cond c (Some (named_as n b v)) (listable_at (listable_names [] n b vs) [] (of_name x)))) (bytes_back v.name.text x)
     ∙ go (bytes_eq x v.name.text) (named_name n b vs x)
   where
     go : (c : Bool) → told (listable_at (listable_names [] n b vs) [] (of_name x)) ≡ cond (named_in x (names_of vs)) (Some (n, b)) None
-        → told (cond c (Some (named_as n b v)) (listable_at (listable_names [] n b vs) [] (of_name x))) ≡ cond (c || named_in x (names_of vs)) (Some (n, b)) None
+        → told (cond c (Some (named_as n b v)) (listable_at (listable_names [] n b vs) [] (of_name x))) ≡ cond
+        (c || named_in x (names_of vs)) (Some (n, b)) None
     go true h = refl
     go false h = h
 
@@ -185,12 +195,15 @@ later j k n e = grind (arith, e)
 abbrev first_as : ℕ → Sort → Listable
 first_as j o = record { path = []; subject = of_first j; sort = o; count = 1; needed = false }
 
-firsts_first : (j : ℕ) (ss : List Sort) (k : ℕ) → told (listable_at (listable_firsts [] j ss) [] (of_first k)) ≡ cond (nat_le j k && nat_lt k (j + length ss)) (Some (1, false)) None
+firsts_first : (j : ℕ) (ss : List Sort) (k : ℕ) → told (listable_at (listable_firsts [] j ss) [] (of_first k)) ≡ cond
+    (nat_le j k && nat_lt k (j + length ss)) (Some (1, false)) None
 firsts_first j [] k = ap (λ c. cond c (Some (1, false)) None) (sym (none_after j k))
 firsts_first j (o ∷ ss) k = go (j == k) refl (firsts_first (suc j) ss k)
   where
-    go : (c : Bool) → (j == k) ≡ c → told (listable_at (listable_firsts [] (suc j) ss) [] (of_first k)) ≡ cond (nat_le (suc j) k && nat_lt k (suc j + length ss)) (Some (1, false)) None
-        → told (cond c (Some (first_as j o)) (listable_at (listable_firsts [] (suc j) ss) [] (of_first k))) ≡ cond (nat_le j k && nat_lt k (j + suc (length ss))) (Some (1, false)) None
+    go : (c : Bool) → (j == k) ≡ c → told (listable_at (listable_firsts [] (suc j) ss) [] (of_first k)) ≡ cond
+        (nat_le (suc j) k && nat_lt k (suc j + length ss)) (Some (1, false)) None
+        → told (cond c (Some (first_as j o)) (listable_at (listable_firsts [] (suc j) ss) [] (of_first k))) ≡ cond
+        (nat_le j k && nat_lt k (j + suc (length ss))) (Some (1, false)) None
     go true e h = ap (λ c. cond c (Some (1, false)) None) (sym (here j k (length ss) e))
     go false e h = h ∙ ap (λ c. cond c (Some (1, false)) None) (later j k (length ss) e)
 
@@ -215,9 +228,11 @@ kept d vs = flat_map (λ v. cond (is_defined d v.name.text) [] (v ∷ [])) vs
 
 kept_named : (d : Component) (x : Name) (vs : List Variable) → named_in x (names_of (kept d vs)) ≡ (named_in x (names_of vs) && not (is_defined d x))
 kept_named d x [] = refl
-kept_named d x (v ∷ vs) = split (is_defined d v.name.text) ∙ one_more (is_defined d v.name.text) (bytes_eq x v.name.text) (is_defined d x) (named_in x (names_of vs)) (named_in x (names_of (kept d vs))) same (kept_named d x vs)
+kept_named d x (v ∷ vs) = split (is_defined d v.name.text) ∙ one_more (is_defined d v.name.text) (bytes_eq x v.name.text) (is_defined d x)
+    (named_in x (names_of vs)) (named_in x (names_of (kept d vs))) same (kept_named d x vs)
   where
-    split : (q : Bool) → named_in x (names_of (cond q [] (v ∷ []) ++ kept d vs)) ≡ cond q (named_in x (names_of (kept d vs))) (bytes_eq x v.name.text || named_in x (names_of (kept d vs)))
+    split : (q : Bool) → named_in x (names_of (cond q [] (v ∷ []) ++ kept d vs)) ≡ cond q (named_in x (names_of (kept d vs)))
+        (bytes_eq x v.name.text || named_in x (names_of (kept d vs)))
     split true = refl
     split false = refl
 
@@ -230,7 +245,8 @@ or_back false b c = refl
 
 pub named_append : (x : Name) (vs ws : List Variable) → named_in x (names_of (vs ++ ws)) ≡ (named_in x (names_of vs) || named_in x (names_of ws))
 named_append x [] ws = refl
-named_append x (v ∷ vs) ws = ap (λ c. bytes_eq x v.name.text || c) (named_append x vs ws) ∙ or_back (bytes_eq x v.name.text) (named_in x (names_of vs)) (named_in x (names_of ws))
+named_append x (v ∷ vs) ws = ap (λ c. bytes_eq x v.name.text || c) (named_append x vs ws) ∙ or_back (bytes_eq x v.name.text)
+    (named_in x (names_of vs)) (named_in x (names_of ws))
 
 -- ---- the node
 
@@ -244,11 +260,14 @@ module _ (d : Component) (node : IsBooleanNode d) (numbered : IsNumbered d) wher
   defined_left : (x : Name) → is_defined d x ≡ is_left x d.body
   defined_left x = ap (λ (es : List Equation). list_any (λ e. named_in x e.names) es) (boolean_equations d node)
 
-  free_named : (x : Name) → named_in x (names_of (free_names d)) ≡ ((named_in x (names_of d.outputs) || named_in x (names_of d.locals)) && not (is_left x d.body))
-  free_named x = kept_named d x (d.outputs ++ d.locals) ∙ ap (λ c. c && not (is_defined d x)) (named_append x d.outputs d.locals) ∙ ap (λ c. (named_in x (names_of d.outputs) || named_in x (names_of d.locals)) && not c) (defined_left x)
+  free_named : (x : Name) → named_in x (names_of (free_names d)) ≡
+      ((named_in x (names_of d.outputs) || named_in x (names_of d.locals)) && not (is_left x d.body))
+  free_named x = kept_named d x (d.outputs ++ d.locals) ∙ ap (λ c. c && not (is_defined d x)) (named_append x d.outputs d.locals) ∙ ap
+      (λ c. (named_in x (names_of d.outputs) || named_in x (names_of d.locals)) && not c) (defined_left x)
 
   as_many_firsts : length (first_sorts one) ≡ last
-  as_many_firsts = ap (λ (ss : List Sort). length ss) (boolean_firsts d node numbered) ∙ length_mapped (λ _. Flags) (body_pres d.body) ∙ sym (greatest_numbered d node numbered)
+  as_many_firsts = ap (λ (ss : List Sort). length ss) (boolean_firsts d node numbered) ∙ length_mapped (λ _. Flags) (body_pres d.body) ∙ sym
+      (greatest_numbered d node numbered)
 
   module _ (n : ℕ) where
     abbrev of_inputs : List Listable
@@ -260,15 +279,18 @@ module _ (d : Component) (node : IsBooleanNode d) (numbered : IsNumbered d) wher
     abbrev of_firsts : List Listable
     of_firsts = listable_firsts [] 1 (first_sorts one)
 
-    parts : (path : List ℕ) (s : Subject) → told (listable_at (listable n one) path s) ≡ or_need (told (listable_at of_inputs path s)) (or_need (told (listable_at of_free path s)) (or_need (told (listable_at of_firsts path s)) None))
+    parts : (path : List ℕ) (s : Subject) → told (listable_at (listable n one) path s) ≡ or_need (told (listable_at of_inputs path s))
+        (or_need (told (listable_at of_free path s)) (or_need (told (listable_at of_firsts path s)) None))
     parts path s =
         told_append of_inputs (of_free ++ (of_firsts ++ [])) path s
-        ∙ ap (or_need (told (listable_at of_inputs path s))) (told_append of_free (of_firsts ++ []) path s ∙ ap (or_need (told (listable_at of_free path s))) (told_append of_firsts [] path s))
+        ∙ ap (or_need (told (listable_at of_inputs path s))) (told_append of_free (of_firsts ++ []) path s ∙ ap
+        (or_need (told (listable_at of_free path s))) (told_append of_firsts [] path s))
 
     three : (a b c u v w : Option (ℕ × Bool)) → a ≡ u → b ≡ v → c ≡ w → or_need a (or_need b (or_need c None)) ≡ or_need u (or_need v (or_need w None))
     three a b c u v w e f g = cc
 
-    names_joined : (t u : Bool) → or_need (cond t (Some (n, true)) None) (or_need (cond u (Some (n, false)) None) None) ≡ cond t (Some (n, true)) (cond u (Some (n, false)) None)
+    names_joined : (t u : Bool) → or_need (cond t (Some (n, true)) None) (or_need (cond u (Some (n, false)) None) None) ≡ cond t
+        (Some (n, true)) (cond u (Some (n, false)) None)
     names_joined true u = refl
     names_joined false true = refl
     names_joined false false = refl
@@ -277,7 +299,8 @@ module _ (d : Component) (node : IsBooleanNode d) (numbered : IsNumbered d) wher
     up_to_last k m = grind arith
 
     pub need_told : (path : List ℕ) (s : Subject) → told (listable_at (listable n one) path s) ≡ line_need d last n path s
-    need_told (k ∷ ks) s = parts (k ∷ ks) s ∙ three _ _ _ None None None (named_far n true d.inputs k ks s) (named_far n false (free_names d) k ks s) (firsts_far 1 (first_sorts one) k ks s)
+    need_told (k ∷ ks) s = parts (k ∷ ks) s ∙ three _ _ _ None None None (named_far n true d.inputs k ks s)
+        (named_far n false (free_names d) k ks s) (firsts_far 1 (first_sorts one) k ks s)
     need_told [] (of_first k) =
         parts [] (of_first k)
         ∙ three _ _ _ None None _ (named_first n true d.inputs k) (named_first n false (free_names d) k) (firsts_first 1 (first_sorts one) k)
@@ -319,7 +342,8 @@ failed_append : (ts us : List Test) → first_failed (ts ++ us) ≡ or_else (fir
 failed_append [] us = refl
 failed_append (t ∷ ts) us = go t.1 (failed_append ts us)
   where
-    go : (b : Bool) → first_failed (ts ++ us) ≡ or_else (first_failed ts) (first_failed us) → cond b (first_failed (ts ++ us)) (Some t.0) ≡ or_else (cond b (first_failed ts) (Some t.0)) (first_failed us)
+    go : (b : Bool) → first_failed (ts ++ us) ≡ or_else (first_failed ts) (first_failed us) → cond b (first_failed (ts ++ us))
+        (Some t.0) ≡ or_else (cond b (first_failed ts) (Some t.0)) (first_failed us)
     go true h = h
     go false h = refl
 
@@ -339,7 +363,8 @@ enough : (m n : ℕ) (o : Option Pos) (p : Pos) → cond (nat_le m n) o (Some p)
 enough m n o p = let e : nat_le m n ≡ not (nat_lt n m) = grind arith in ap (λ b. cond b o (Some p)) e ∙ turn (nat_lt n m) o p
 
 -- what is asked of a line's words by what it lists
-taken_is : (ss : List Listable) → AreFlags ss → (path : List ℕ) (s : Subject) (l : PlacedLine) → first_failed (taken_tests (listable_at ss path s) l) ≡ need_misfit (told (listable_at ss path s)) l
+taken_is : (ss : List Listable) → AreFlags ss → (path : List ℕ) (s : Subject) (l : PlacedLine) → first_failed
+    (taken_tests (listable_at ss path s) l) ≡ need_misfit (told (listable_at ss path s)) l
 taken_is [] h path s l = refl
 taken_is (x ∷ ss) h path s l = go (same_place x.path x.subject path s) (taken_is ss h.1 path s l)
   where
@@ -352,7 +377,7 @@ taken_is (x ∷ ss) h path s l = go (same_place x.path x.subject path s) (taken_
 
 -- ---- which have to be there
 
-given_is : (ls : List Line) (vs : List Variable) → list_all (is_given ls) vs ≡ are_listed (names_of vs) ls
+given_is : (ls : List BareLine) (vs : List Variable) → list_all (is_given ls) vs ≡ are_listed (names_of vs) ls
 given_is ls [] = refl
 given_is ls (v ∷ vs) = ap (λ b. is_given ls v && b) (given_is ls vs)
 
@@ -362,19 +387,23 @@ module _ (d : Component) (node : IsBooleanNode d) (numbered : IsNumbered d) (n :
   pub all_flags : AreFlags (listable n (one d node numbered))
   all_flags =
       both_parts (λ s. s.sort ≡ Flags) (listable_names [] n true d.inputs) _ (named_flags n true d.inputs node.inputs)
-      (both_parts (λ s. s.sort ≡ Flags) (listable_names [] n false (free_names d)) _ (named_flags n false (free_names d) (kept_flags d (d.outputs ++ d.locals) (both_parts IsFlag d.outputs d.locals node.outputs node.locals)))
-      (both_parts (λ s. s.sort ≡ Flags) (listable_firsts [] 1 (first_sorts (one d node numbered))) [] (subst (λ (ss : List Sort). AreFlags (listable_firsts [] 1 ss)) (sym (boolean_firsts d node numbered)) (first_flags 1 (body_pres d.body))) tt))
+      (both_parts (λ s. s.sort ≡ Flags) (listable_names [] n false (free_names d)) _
+      (named_flags n false (free_names d) (kept_flags d (d.outputs ++ d.locals)
+      (both_parts IsFlag d.outputs d.locals node.outputs node.locals)))
+      (both_parts (λ s. s.sort ≡ Flags) (listable_firsts [] 1 (first_sorts (one d node numbered))) []
+      (subst (λ (ss : List Sort). AreFlags (listable_firsts [] 1 ss)) (sym (boolean_firsts d node numbered))
+      (first_flags 1 (body_pres d.body))) tt))
 
   abbrev all : List Listable
   all = listable n (one d node numbered)
 
-  line_is : (before : List Line) (l : PlacedLine) → first_failed (line_tests all before l) ≡ flag_line_misfit d (greatest_pre_in 0 d.body) n before l
+  line_is : (before : List BareLine) (l : PlacedLine) → first_failed (line_tests all before l) ≡ flag_line_misfit d (greatest_pre_in 0 d.body) n before l
   line_is before l =
       turn (is_listed before l.path l.subject) (first_failed (taken_tests (listable_at all l.path l.subject) l)) l.at
       ∙ ap (λ o. cond (is_listed before l.path l.subject) (Some l.at) o)
       (taken_is all all_flags l.path l.subject l ∙ ap (λ o. need_misfit o l) (need_told d node numbered n l.path l.subject))
 
-  lines_are : (before : List Line) (ls : List PlacedLine) → first_failed (lines_tests all before ls) ≡ own_misfit d n before ls
+  lines_are : (before : List BareLine) (ls : List PlacedLine) → first_failed (lines_tests all before ls) ≡ own_misfit d n before ls
   lines_are before [] = refl
   lines_are before (l ∷ ls) =
       failed_append (line_tests all before l) (lines_tests all (before ++ bare_line l ∷ []) ls)

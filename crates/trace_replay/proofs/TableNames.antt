@@ -21,7 +21,8 @@ free_one : (ls : List Name) (vs : List Variable) (x : Name) → named_in x (free
 free_one ls [] x e = absurd (false≢true e)
 free_one ls (v ∷ vs) x e = go (cases_Bool (named_in v.name.text ls)) (free_one ls vs x)
   where
-    go : (named_in v.name.text ls ≡ true) ⊎ (named_in v.name.text ls ≡ false) → (named_in x (free_among ls vs) ≡ true → named_in x (names_of vs) ≡ true) → named_in x (names_of (v ∷ vs)) ≡ true
+    go : (named_in v.name.text ls ≡ true) ⊎ (named_in v.name.text ls ≡ false) →
+        (named_in x (free_among ls vs) ≡ true → named_in x (names_of vs) ≡ true) → named_in x (names_of (v ∷ vs)) ≡ true
     go (inl t) r = in_second x (v.name.text ∷ []) (names_of vs) (r (rw t at e))
     go (inr f) r = either (named_either x (v.name.text ∷ []) (free_among ls vs) (rw f at e))
       where
@@ -57,9 +58,11 @@ module _ (p : Program) (d : Component) (checked : IsBooleanChecked p d) (ks : Li
   free = free_among (lefts es) d.outputs ++ free_among (lefts es) d.locals
 
   free_own : (x : Name) → named_in x free ≡ true → named_in x own ≡ true
-  free_own x e = in_second x (names_of d.inputs) (names_of d.outputs ++ names_of d.locals) (go (named_either x (free_among (lefts es) d.outputs) (free_among (lefts es) d.locals) e))
+  free_own x e = in_second x (names_of d.inputs) (names_of d.outputs ++ names_of d.locals)
+      (go (named_either x (free_among (lefts es) d.outputs) (free_among (lefts es) d.locals) e))
     where
-      go : (named_in x (free_among (lefts es) d.outputs) ≡ true) ⊎ (named_in x (free_among (lefts es) d.locals) ≡ true) → named_in x (names_of d.outputs ++ names_of d.locals) ≡ true
+      go : (named_in x (free_among (lefts es) d.outputs) ≡ true) ⊎ (named_in x (free_among (lefts es) d.locals) ≡ true) → named_in x
+          (names_of d.outputs ++ names_of d.locals) ≡ true
       go (inl t) = in_first x (names_of d.outputs) (names_of d.locals) (free_one (lefts es) d.outputs x t)
       go (inr t) = in_second x (names_of d.outputs) (names_of d.locals) (free_one (lefts es) d.locals x t)
 
@@ -94,16 +97,20 @@ module _ (p : Program) (d : Component) (checked : IsBooleanChecked p d) (ks : Li
   declared_listed : (x : Name) → named_in x (declared_names d) ≡ true → named_in x (table_names es d ks) ≡ true
   declared_listed x e = go (cases_Bool (named_in x (lefts es)))
     where
-      base : named_in x (lefts es) ≡ false → (named_in x (names_of d.inputs) ≡ true) ⊎ (named_in x (names_of d.outputs ++ names_of d.locals) ≡ true) → named_in x (base_names es d) ≡ true
+      base : named_in x (lefts es) ≡ false → (named_in x (names_of d.inputs) ≡ true) ⊎
+          (named_in x (names_of d.outputs ++ names_of d.locals) ≡ true) → named_in x (base_names es d) ≡ true
       base o (inl t) = in_first x (names_of d.inputs) free t
       base o (inr t) = in_second x (names_of d.inputs) free (own_free x o t)
 
       go : (named_in x (lefts es) ≡ true) ⊎ (named_in x (lefts es) ≡ false) → named_in x (table_names es d ks) ≡ true
       go (inl t) = in_second x (base_names es d) (flat_map (left_at es) ks) (left_listed x t)
-      go (inr f) = in_first x (base_names es d) (flat_map (left_at es) ks) (base f (named_either x (names_of d.inputs) (names_of d.outputs ++ names_of d.locals) (sym (ap (named_in x) declared) ∙ e)))
+      go (inr f) = in_first x (base_names es d) (flat_map (left_at es) ks)
+          (base f (named_either x (names_of d.inputs) (names_of d.outputs ++ names_of d.locals) (sym (ap (named_in x) declared) ∙ e)))
 
   pub table_declared : (fs : List Equation) → fs ≡ body_equations d.body → (x : Name) → named_in x (table_names fs d ks) ≡ named_in x (declared_names d)
-  table_declared fs body x = ap (λ (l : List Equation). named_in x (table_names l d ks)) (body ∙ sym (boolean_equations d checked.rules.shape)) ∙ both_ways (named_in x (table_names es d ks)) (named_in x (declared_names d)) (listed_declared x) (declared_listed x)
+  table_declared fs body x = ap (λ (l : List Equation). named_in x (table_names l d ks))
+      (body ∙ sym (boolean_equations d checked.rules.shape)) ∙ both_ways (named_in x (table_names es d ks)) (named_in x (declared_names d))
+      (listed_declared x) (declared_listed x)
 
   pub table_among : (fs : List Equation) → fs ≡ body_equations d.body → AllAmong (own_names d) (table_names fs d ks)
   table_among fs body = all_among (own_names d) (table_names fs d ks) (λ x e. sym (ap (named_in x) declared) ∙ sym (table_declared fs body x) ∙ e)

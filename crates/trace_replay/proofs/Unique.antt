@@ -102,7 +102,8 @@ below_same (r ∷ rs) e p q (inl m) (inr n) = absurd (n.0 m.0)
 below_same (r ∷ rs) e p q (inr m) (inl n) = absurd (m.0 n.0)
 below_same (r ∷ rs) e p q (inr m) (inr n) = go m.1 n.1 (below_same rs e p q)
   where
-    go : (MisfitIn (line_wanted r.words) r.words r.end p ⊎ (AreFit (line_wanted r.words) r.words × MisfitBelow rs e p)) → (MisfitIn (line_wanted r.words) r.words r.end q ⊎ (AreFit (line_wanted r.words) r.words × MisfitBelow rs e q))
+    go : (MisfitIn (line_wanted r.words) r.words r.end p ⊎ (AreFit (line_wanted r.words) r.words × MisfitBelow rs e p)) →
+        (MisfitIn (line_wanted r.words) r.words r.end q ⊎ (AreFit (line_wanted r.words) r.words × MisfitBelow rs e q))
         → (MisfitBelow rs e p → MisfitBelow rs e q → p ≡ q) → p ≡ q
     go (inl a) (inl b) f = same_in (line_wanted r.words) r.words r.end p q a b
     go (inl a) (inr b) f = absurd (fit_or_misfit (line_wanted r.words) r.words r.end p b.0 a)
@@ -141,9 +142,11 @@ values_same [] (u ∷ us) vs a b = absurd a
 values_same [] [] (v ∷ vs) a b = absurd b
 values_same (w ∷ ws) [] vs a b = absurd a
 values_same (w ∷ ws) (u ∷ us) [] a b = absurd b
-values_same (w ∷ ws) (u ∷ us) (v ∷ vs) a b = let e : u ≡ v = placed_is u.value v.value u.at v.at (value_same w.text u.value v.value a.0 b.0) (a.1 ∙ sym b.1) in let f : us ≡ vs = values_same ws us vs a.2 b.2 in cc
+values_same (w ∷ ws) (u ∷ us) (v ∷ vs) a b = let e : u ≡ v = placed_is u.value v.value u.at v.at (value_same w.text u.value v.value a.0 b.0)
+    (a.1 ∙ sym b.1) in let f : us ≡ vs = values_same ws us vs a.2 b.2 in cc
 
-opening_same : (r : TextLine) (x y : List ℕ) (p q : Pos) (m n : ℕ) (u v : Pos) → IsOpening r x p m u → IsOpening r y q n v → (x ≡ y) × (p ≡ q) × (m ≡ n) × (u ≡ v)
+opening_same : (r : TextLine) (x y : List ℕ) (p q : Pos) (m n : ℕ) (u v : Pos) → IsOpening r x p m u → IsOpening r y q n v → (x ≡ y) ×
+    (p ≡ q) × (m ≡ n) × (u ≡ v)
 opening_same r x y p q m n u v a b =
     let s : codes "trace" ∷ x ∷ a.count ∷ [] ≡ codes "trace" ∷ y ∷ b.count ∷ [] = sym a.shape ∙ b.shape in
     let e : x ≡ y = cc in
@@ -162,7 +165,8 @@ line_same r k l a b =
     let s : a.place ∷ a.first ∷ a.others ≡ b.place ∷ b.first ∷ b.others = sym a.shape ∙ b.shape in
     let e : a.place ≡ b.place = cc in
     let f : a.first ∷ a.others ≡ b.first ∷ b.others = cc in
-    let p = address_same b.place.text k.path l.path k.subject l.subject (subst (λ (w : TraceWord). IsAddress w.text k.path k.subject) e a.is_address) b.is_address in
+    let p = address_same b.place.text k.path l.path k.subject l.subject
+    (subst (λ (w : TraceWord). IsAddress w.text k.path k.subject) e a.is_address) b.is_address in
     let v = values_same (b.first ∷ b.others) k.values l.values (subst (λ (ws : List TraceWord). AreValues ws k.values) f a.values) b.values in
     line_is k.at l.at k.path l.path k.subject l.subject k.values l.values (a.at ∙ ap (λ (w : TraceWord). w.at) e ∙ sym b.at) p.0 p.1 v
 
@@ -174,7 +178,8 @@ lines_same (r ∷ rs) (k ∷ ks) [] p q a b = absurd (not_closing r k a.0 b.0)
 lines_same (r ∷ rs) (k ∷ ks) (l ∷ ls) p q a b = let e = line_same r k l a.0 b.0 in let f = lines_same rs ks ls p q a.1 b.1 in let g : ks ≡ ls = f.0 in (cc, f.1)
 
 trace_is : (x y : List ℕ) (p q : Pos) (m n : ℕ) (u v : Pos) (ks ls : List PlacedLine) (e f : Pos) → x ≡ y → p ≡ q → m ≡ n → u ≡ v → ks ≡ ls → e ≡ f
-    → ◌≡◌ {A = Listing} (record { node = x; node_at = p; length = m; length_at = u; lines = ks; end_at = e }) (record { node = y; node_at = q; length = n; length_at = v; lines = ls; end_at = f })
+    → ◌≡◌ {A = Listing} (record { node = x; node_at = p; length = m; length_at = u; lines = ks; end_at = e })
+    (record { node = y; node_at = q; length = n; length_at = v; lines = ls; end_at = f })
 trace_is x y p q m n u v ks ls e f a b c d g h = cc
 
 trace_same : (rs : List TextLine) (s t : Listing) → AreTrace rs s → AreTrace rs t → s ≡ t
@@ -189,7 +194,8 @@ one_trace bytes s t a b = trace_same (filled (text_lines bytes)) s t a b
 
 -- ---- a trace or a misfit
 
-tells_either : (bytes : List ℕ) (r : Result Listing Pos) → Tells r (IsTraceText bytes) (FirstMisfit bytes) → ((t : Listing) × IsTraceText bytes t) ⊎ ((p : Pos) × FirstMisfit bytes p)
+tells_either : (bytes : List ℕ) (r : Result Listing Pos) → Tells r (IsTraceText bytes) (FirstMisfit bytes) →
+    ((t : Listing) × IsTraceText bytes t) ⊎ ((p : Pos) × FirstMisfit bytes p)
 tells_either bytes (Ok t) h = inl (t, h)
 tells_either bytes (Err p) h = inr (p, h)
 

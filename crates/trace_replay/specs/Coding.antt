@@ -3,7 +3,7 @@ use Rattle.std.specs.Prelude.{ℕ, Bool, List, length, map}
 use Rattle.std.specs.String.{string_bytes}
 use Rattle.lus_tree.specs.Tree.{Name, Expression, Component}
 use Rattle.lus_tree.specs.View.{node_view}
-use Rattle.lus_meaning.specs.Trace.{Line}
+use Rattle.lus_meaning.specs.Trace.{BareLine}
 use Rattle.lus_meaning.specs.TraceView.{bare_view}
 use Rattle.trace_replay.specs.declared.node_names.NodeNames.{NodeNames}
 use Rattle.trace_replay.specs.declared.row_names.RowNames.{RowNames}
@@ -18,7 +18,7 @@ node_in n = node_view n.node.now
 abbrev pub names_in : RowNames → List Name
 names_in r = map string_bytes r.names.items
 
-abbrev pub lines_in : LineTable → List Line
+abbrev pub lines_in : LineTable → List BareLine
 lines_in t = map bare_view t.lines.now
 
 abbrev pub code_in : RowNames → LineTable → Expression → Coded

@@ -9,7 +9,7 @@ use Rattle.lus_meaning.specs.Value.{Value, is_absent}
 use Rattle.lus_meaning.specs.Run.{body_equations}
 use Rattle.lus_meaning.specs.Depends.{named_in}
 use Rattle.lus_meaning.specs.Rules.{names_of}
-use Rattle.lus_meaning.specs.Trace.{Subject, of_name, of_first, Line}
+use Rattle.lus_meaning.specs.Trace.{Subject, of_name, of_first, BareLine}
 use Rattle.lus_meaning.specs.TraceView.{PlacedValue, PlacedLine, Listing, bare_line, lines_of}
 use Rattle.lus_meaning.specs.Fits.{is_of_sort, is_listed}
 
@@ -78,7 +78,7 @@ abbrev pub need_misfit : Option (ℕ × Bool) → PlacedLine → Option Pos
 need_misfit None l = Some l.at
 need_misfit (Some s) l = cond (nat_lt (length l.values) s.0) (Some l.at) (flags_misfit s.1 s.0 l.values)
 
-abbrev pub flag_line_misfit : Component → ℕ → ℕ → List Line → PlacedLine → Option Pos
+abbrev pub flag_line_misfit : Component → ℕ → ℕ → List BareLine → PlacedLine → Option Pos
 flag_line_misfit d last n before l =
     cond (is_listed before l.path l.subject) (Some l.at) (need_misfit (line_need d last n l.path l.subject) l)
 
@@ -87,17 +87,17 @@ abbrev pub or_else : Option Pos → Option Pos → Option Pos
 or_else (Some p) o = Some p
 or_else None o = o
 
-abbrev pub flag_lines_misfit : Component → ℕ → ℕ → List Line → List PlacedLine → Option Pos
+abbrev pub flag_lines_misfit : Component → ℕ → ℕ → List BareLine → List PlacedLine → Option Pos
 flag_lines_misfit d last n before [] = None
 flag_lines_misfit d last n before (l ∷ ls) =
     or_else (flag_line_misfit d last n before l) (flag_lines_misfit d last n (before ++ bare_line l ∷ []) ls)
 
 -- the misfit of the lines of a node itself
-abbrev pub own_misfit : Component → ℕ → List Line → List PlacedLine → Option Pos
+abbrev pub own_misfit : Component → ℕ → List BareLine → List PlacedLine → Option Pos
 own_misfit d n before ls = flag_lines_misfit d (greatest_pre_in 0 d.body) n before ls
 
 -- whether each of these names is listed
-abbrev pub are_listed : List Name → List Line → Bool
+abbrev pub are_listed : List Name → List BareLine → Bool
 are_listed xs ls = list_all (λ x. is_listed ls [] (of_name x)) xs
 
 -- the lines, and at the end the inputs that are missing

@@ -10,7 +10,7 @@ use Rattle.name_table.specs.Names.{number_of}
 use Rattle.lus_meaning.specs.declared.trace.PlacedValue.{PlacedValue}
 use Rattle.lus_meaning.specs.Value.{Value}
 use Rattle.lus_meaning.specs.TraceView.{values_view}
-use Rattle.lus_meaning.specs.Trace.{Line, Subject, same_numbers, same_subject}
+use Rattle.lus_meaning.specs.Trace.{BareLine, Subject, same_numbers, same_subject}
 
 -- the first column_of of a name
 abbrev pub found_column : List Name → Name → Option ℕ
@@ -30,11 +30,11 @@ abbrev pub or_column : Option ℕ → Name → ℕ → Name → Option ℕ
 or_column o y column x = option_or o (cond (bytes_eq x y) (Some column) None)
 
 -- whether a line lists a subject of the node itself
-abbrev pub lists : Subject → Line → Bool
+abbrev pub lists : Subject → BareLine → Bool
 lists s l = same_numbers [] l.path && same_subject s l.subject
 
 -- the values of the first line that lists a subject of the node itself
-abbrev pub found_values : List Line → Subject → Option (List Value)
+abbrev pub found_values : List BareLine → Subject → Option (List Value)
 found_values ls s = option_map (λ l. l.values) (find (lists s) ls)
 
 -- the values that a map by names, or by numbers, has for a key
@@ -45,5 +45,5 @@ abbrev pub values_numbered : {S : Type 0} → IndexMap ℕ (Bor (List PlacedValu
 values_numbered m k = option_map (λ v. values_view v.now) (get nat_eq m k)
 
 -- what was found, or else what the line has, where it lists the subject
-abbrev pub or_listed : Option (List Value) → Subject → Line → Option (List Value)
+abbrev pub or_listed : Option (List Value) → Subject → BareLine → Option (List Value)
 or_listed o s l = option_or o (cond (lists s l) (Some l.values) None)

@@ -4,7 +4,7 @@ use Rattle.lus_tree.specs.Tree.{Name, Expression, truth, Variable, Component}
 use Rattle.lus_meaning.specs.Value.{Value, flag}
 use Rattle.lus_meaning.specs.Run.{Equation, body_equations}
 use Rattle.lus_meaning.specs.Depends.{named_in}
-use Rattle.lus_meaning.specs.Trace.{Line, Subject, of_name, of_first, same_numbers, same_subject, listed_at}
+use Rattle.lus_meaning.specs.Trace.{BareLine, Subject, of_name, of_first, same_numbers, same_subject, listed_at}
 use Rattle.lus_meaning.specs.Order.{left_at}
 use Rattle.lus_meaning.specs.Rules.{names_of, lefts}
 use Rattle.trace_replay.specs.Columns.{Source, given, computed, code_of}
@@ -15,13 +15,13 @@ truth_in (flag b) = b
 truth_in _ = false
 
 -- the values that the lines list for a subject of the node itself
-abbrev pub values_of : List Line → Subject → List Value
+abbrev pub values_of : List BareLine → Subject → List Value
 values_of ls s = unwrap_or (option_map (λ l. l.values) (find (λ l. same_numbers [] l.path && same_subject s l.subject) ls)) []
 
-abbrev pub given_bits : List Line → Name → List Bool
+abbrev pub given_bits : List BareLine → Name → List Bool
 given_bits ls x = map truth_in (values_of ls (of_name x))
 
-abbrev pub first_in : List Line → ℕ → Bool
+abbrev pub first_in : List BareLine → ℕ → Bool
 first_in ls k = truth_in (listed_at ls [] (of_first k) 0)
 
 -- the right side of an equation, by its number
@@ -55,11 +55,11 @@ node_base d = base_names (body_equations d.body) d
 abbrev pub table_names : List Equation → Component → List ℕ → List Name
 table_names es d ks = base_names es d ++ flat_map (left_at es) ks
 
-abbrev pub given_columns : List Line → List Name → List Source
+abbrev pub given_columns : List BareLine → List Name → List Source
 given_columns ls xs = map (λ x. given (given_bits ls x)) xs
 
-abbrev pub computed_columns : List Line → List Name → List Equation → List ℕ → List Source
+abbrev pub computed_columns : List BareLine → List Name → List Equation → List ℕ → List Source
 computed_columns ls names es ks = map (λ k. computed (code_of names (first_in ls) (right_at es k))) ks
 
-abbrev pub table_columns : List Line → List Equation → Component → List ℕ → List Source
+abbrev pub table_columns : List BareLine → List Equation → Component → List ℕ → List Source
 table_columns ls es d ks = given_columns ls (base_names es d) ++ computed_columns ls (table_names es d ks) es ks

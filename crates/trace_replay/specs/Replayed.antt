@@ -8,7 +8,7 @@ use Rattle.lus_meaning.specs.Program.{instance_of}
 use Rattle.lus_meaning.specs.Contract.{Property}
 use Rattle.lus_meaning.specs.Property.{properties, IsLawful}
 use Rattle.lus_meaning.specs.Verdict.{throughout}
-use Rattle.lus_meaning.specs.Trace.{Line, IsFrameOf}
+use Rattle.lus_meaning.specs.Trace.{BareLine, IsFrameOf}
 use Rattle.lus_meaning.specs.Depends.{named_in}
 use Rattle.lus_meaning.specs.Rules.{declared_names}
 use Rattle.lus_meaning.specs.FirstBreak.{IsBreak}
@@ -21,7 +21,7 @@ EachBreaks i f n (p ∷ ps) (o ∷ os) = IsBreak i p f n o × EachBreaks i f n p
 EachBreaks i f n _ _ = ⊥
 
 -- the one frame of the lines has the values of the table, breaks its properties at these instants, and is lawful throughout
-pub record IsReplayed (ls : List Line) (p : Program) (d : Component) (n : ℕ) (h : Held) (broken : List (Option ℕ)) : Type 0 where
+pub record IsReplayed (ls : List BareLine) (p : Program) (d : Component) (n : ℕ) (h : Held) (broken : List (Option ℕ)) : Type 0 where
   pub frame : Frame
   pub is_frame : IsFrameOf ls (instance_of p d) n frame
   pub only : (other : Frame) → IsFrameOf ls (instance_of p d) n other → other ≡ frame

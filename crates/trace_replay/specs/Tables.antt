@@ -6,7 +6,7 @@ use Rattle.indexmap.specs.IndexSet.{IndexSet, contains, contains_by}
 use Rattle.lus_tree.specs.declared.place.Pos.{Pos}
 use Rattle.lus_tree.specs.Tree.{Name, Component}
 use Rattle.lus_meaning.specs.Depends.{named_in}
-use Rattle.lus_meaning.specs.Trace.{Subject, of_name, of_first, same_subject, Line}
+use Rattle.lus_meaning.specs.Trace.{Subject, of_name, of_first, same_subject, BareLine}
 use Rattle.lus_meaning.specs.TraceView.{PlacedLine}
 use Rattle.lus_meaning.specs.Fits.{is_listed, same_place}
 use Rattle.trace_replay.specs.Fitting.{greatest_pre_in, subject_need, need_misfit}
@@ -34,7 +34,7 @@ abbrev pub AddsLine : Listed → Listed → PlacedLine → Type 0
 AddsLine old new l = (r : Subject) → has_spot new r ≡ (has_spot old r || same_place l.path l.subject [] r)
 
 -- the names and first values that these lines list, and no others, were listed
-abbrev pub Lists : Listed → List Line → Type 0
+abbrev pub Lists : Listed → List BareLine → Type 0
 Lists t ls = (s : Subject) → has_spot t s ≡ is_listed ls [] s
 
 -- the first word of a line that doesn't fit, where these were listed before

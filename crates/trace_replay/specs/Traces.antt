@@ -3,7 +3,7 @@ use Rattle.std.specs.Prelude.{◌≡◌, ℕ, ◌<◌, ◌⊎◌, true, List, []
 use Rattle.std.specs.List.{flat_map, AllByRecursion}
 use Rattle.lus_tree.specs.declared.place.Pos.{Pos}
 use Rattle.lus_meaning.specs.Value.{Value}
-use Rattle.lus_meaning.specs.Trace.{Line}
+use Rattle.lus_meaning.specs.Trace.{BareLine}
 use Rattle.lus_meaning.specs.TraceView.{PlacedValue, PlacedLine, Listing, bare_line, lines_of}
 use Rattle.trace_replay.specs.declared.fault.TraceFault.{TraceFault}
 use Rattle.trace_replay.specs.declared.fault.TraceFault.TheVariants.{Form, Memory}
@@ -132,7 +132,7 @@ Refuses bytes Memory = Unit {0}
 abbrev pub item_text : Value → List ℕ
 item_text v = 32 ∷ value_text v
 
-abbrev pub line_text : Line → List ℕ
+abbrev pub line_text : BareLine → List ℕ
 line_text l = address_text l.path l.subject ++ (flat_map item_text l.values ++ 10 ∷ [])
 
 abbrev pub trace_text : Listing → List ℕ
@@ -143,7 +143,7 @@ abbrev pub HasValues : List Value → Type 0
 HasValues [] = ⊥
 HasValues (v ∷ vs) = AllByRecursion FitsValue (v ∷ vs)
 
-pub record FitsLine (l : Line) : Type 0 where
+pub record FitsLine (l : BareLine) : Type 0 where
   pub path : AllByRecursion (λ k. k < 4294967296) l.path
   pub subject : FitsSubject l.subject
   pub values : HasValues l.values

@@ -7,13 +7,13 @@ ghost use Rattle.lus_meaning.specs.Run.{body_equations};
 ghost use Rattle.trace_replay.specs.Equations.{equations_in};
 ghost use Rattle.trace_replay.specs.Given.{rights_of};
 
-use lus_tree::{Expr, Item, Word};
+use lus_tree::{Expr, Item, PlacedName};
 use std::alloc::{AllocError, Global};
 
 /// An equation, by references to its sides.
 #[derive(Clone, Copy)]
 pub(crate) struct Equation<'a> {
-    pub(crate) left: &'a [Word],
+    pub(crate) left: &'a [PlacedName],
     pub(crate) right: &'a Expr,
 }
 
@@ -31,8 +31,9 @@ pub(crate) fn equations_of(alloc: Global, items: &[Item]) -> Result<Vec<Equation
 }
 
 /// The left names of the equation with this number; they count from 0 in text order.
-pub(crate) fn left<'a>(equations: &[Equation<'a>], number: u32) -> Option<&'a [Word]>
-    ensures { option_map (λ w. map text_of (map word_view w.now)) result ≡ slice_get (map (λ e. e.names) (equations_in equations.now)) number }
+pub(crate) fn left<'a>(equations: &[Equation<'a>], number: u32) -> Option<&'a [PlacedName]>
+    ensures { option_map (λ w. map text_of (map word_view w.now)) result ≡ slice_get
+        (map (λ e. e.names) (equations_in equations.now)) number }
 {
     match equations.get(number as usize) {
         Some(equation) => Some(equation.left),

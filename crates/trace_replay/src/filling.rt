@@ -35,7 +35,8 @@ pub(crate) fn filled<'a>(
     requires fits { (n + 1) * length layout.row.names.items < 2 ^ 62 }
     ensures instants { IfOk result (λ r. r.instants ≡ n) }
     ensures names { IfOk result (λ r. r.names.items ≡ layout.entry.row.names.items) }
-    ensures kept { IfOk result (λ r. r.kept.items ≡ rows (length layout.entry.row.names.items) (map column_view layout.entry.columns.items) n) }
+    ensures kept { IfOk result (λ r. r.kept.items ≡ rows (length layout.entry.row.names.items)
+        (map column_view layout.entry.columns.items) n) }
     ensures broken { IfOk result (λ r. AreFirstFalse (λ e. truth_by r.kept.items layout.entry.row listing.now e) n
         (property_values (map item_view items.now)) r.broken.items) }
 {

@@ -34,8 +34,10 @@ pub(crate) fn laid_out<'a>(
 ) -> Result<Layout<'a>, AllocError>
     requires body { equations_in equations.now ≡ body_equations (node_in named.now).body }
     requires few { length (table_names (equations_in equations.now) (node_in named.now) order.now) < 2 ^ 31 }
-    requires declared { AllAmong (own_names (node_in named.now)) (table_names (equations_in equations.now) (node_in named.now) order.now) }
-    ensures names { IfOk result (λ l. names_in l.row ≡ table_names (equations_in equations.now) (node_in named.now) order.now) }
+    requires declared { AllAmong (own_names (node_in named.now))
+        (table_names (equations_in equations.now) (node_in named.now) order.now) }
+    ensures names { IfOk result (λ l. names_in l.row ≡ table_names (equations_in equations.now)
+        (node_in named.now) order.now) }
     ensures columns { IfOk result (λ l. map column_view l.columns.items
         ≡ table_columns (lines_in listing.now) (equations_in equations.now) (node_in named.now) order.now) }
 {

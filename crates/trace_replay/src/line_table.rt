@@ -40,14 +40,16 @@ impl<'a> LineTable<'a> {
 
     /// The values that are listed for a name.
     pub(crate) fn of_name(&self, name: &str) -> Option<&'a [PlacedValue]>
-        ensures { option_map (λ v. values_view v.now) result ≡ found_values (map bare_view self.now.lines.now) (of_name name.now) }
+        ensures { option_map (λ v. values_view v.now) result ≡ found_values (map bare_view self.now.lines.now)
+            (of_name name.now) }
     {
         self.names.get(name).copied()
     }
 
     /// The values that are listed for the first value of this number.
     pub(crate) fn of_first(&self, number: u32) -> Option<&'a [PlacedValue]>
-        ensures { option_map (λ v. values_view v.now) result ≡ found_values (map bare_view self.now.lines.now) (of_first number) }
+        ensures { option_map (λ v. values_view v.now) result ≡ found_values (map bare_view self.now.lines.now)
+            (of_first number) }
     {
         self.firsts.get(&number).copied()
     }
@@ -108,7 +110,8 @@ fn add_name<'a>(
     names: &mut IndexMap<&'a str, &'a [PlacedValue]>,
     line: &'a TraceLine,
 ) -> Result<(), AllocError>
-    ensures { OnOk result ((x : Name) → values_named names.new x ≡ or_listed (values_named names.old x) (of_name x) (bare_view line.now)) }
+    ensures { OnOk result ((x : Name) → values_named names.new x ≡ or_listed (values_named names.old x)
+        (of_name x) (bare_view line.now)) }
 {
     match name_of(line) {
         Some(name) => note_name(names, name, &line.values),
@@ -121,7 +124,8 @@ fn add_first<'a>(
     firsts: &mut IndexMap<u32, &'a [PlacedValue]>,
     line: &'a TraceLine,
 ) -> Result<(), AllocError>
-    ensures { OnOk result ((k : ℕ) → values_numbered firsts.new k ≡ or_listed (values_numbered firsts.old k) (of_first k) (bare_view line.now)) }
+    ensures { OnOk result ((k : ℕ) → values_numbered firsts.new k ≡ or_listed (values_numbered firsts.old k)
+        (of_first k) (bare_view line.now)) }
 {
     match first_of(line) {
         Some(number) => note_first(firsts, number, &line.values),

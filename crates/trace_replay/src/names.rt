@@ -18,7 +18,7 @@ use crate::given::bits_listed;
 use crate::line_table::LineTable;
 use crate::node_names::NodeNames;
 use crate::row_names::RowNames;
-use lus_tree::{Param, Word};
+use lus_tree::{Param, PlacedName};
 use name_table::NameTable;
 use std::alloc::{AllocError, Global};
 
@@ -34,7 +34,8 @@ fn push_params(names: &mut Vec<String>, params: &[Param]) -> Result<(), AllocErr
 
 /// Adds the names of variables that no equation defines.
 fn push_free(names: &mut Vec<String>, lefts: &NameTable, params: &[Param]) -> Result<(), AllocError>
-    ensures { OnOk result (PushesNames names.old.items names.new.items (free_among lefts.now (map param_view params.now))) }
+    ensures { OnOk result (PushesNames names.old.items names.new.items
+        (free_among lefts.now (map param_view params.now))) }
 {
     for param in params {
         if !lefts.has(&param.name.text) {
@@ -57,7 +58,7 @@ pub(crate) fn free(alloc: Global, named: &NodeNames) -> Result<Vec<String>, Allo
 }
 
 /// Adds words.
-fn push_words(names: &mut Vec<String>, words: &[Word]) -> Result<(), AllocError>
+fn push_words(names: &mut Vec<String>, words: &[PlacedName]) -> Result<(), AllocError>
     ensures { OnOk result (PushesNames names.old.items names.new.items (map text_of (map word_view words.now))) }
 {
     for word in words {
@@ -82,7 +83,8 @@ pub(crate) fn push_lefts(
     equations: &[Equation],
     order: &[u32],
 ) -> Result<(), AllocError>
-    ensures { OnOk result (PushesNames names.old.items names.new.items (flat_map (left_at (equations_in equations.now)) order.now)) }
+    ensures { OnOk result (PushesNames names.old.items names.new.items
+        (flat_map (left_at (equations_in equations.now)) order.now)) }
 {
     for number in order {
         push_left(names, equations, *number)?;
@@ -96,7 +98,8 @@ pub(crate) fn given(
     listing: &LineTable,
     names: &[String],
 ) -> Result<Vec<Column>, AllocError>
-    ensures { IfOk result (λ columns. map column_view columns.items ≡ given_columns (lines_in listing.now) (map string_bytes names.now)) }
+    ensures { IfOk result (λ columns. map column_view columns.items ≡ given_columns (lines_in listing.now)
+        (map string_bytes names.now)) }
 {
     let mut columns = Vec::new(alloc);
     for name in names {
@@ -115,7 +118,8 @@ fn right_code(
     equations: &[Equation],
     number: u32,
 ) -> Result<Code, AllocError>
-    ensures { IfOk result (λ c. code_view c ≡ code_in row.now listing.now (right_at (equations_in equations.now) number)) }
+    ensures { IfOk result (λ c. code_view c ≡ code_in row.now listing.now
+        (right_at (equations_in equations.now) number)) }
 {
     match right(equations, number) {
         Some(e) => coded(alloc, row, listing, e),

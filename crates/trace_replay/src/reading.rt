@@ -61,7 +61,8 @@ fn read_line<'a>(
     after: Cursor<'a>,
 ) -> Result<(TraceLine, Cursor<'a>), TraceFault>
     requires { IsWithin after }
-    ensures line { Gives (λ x. (line_view x.0, left_of x.1)) result (line_read (word_view first.entry) (left_of after.entry)) }
+    ensures line { Gives (λ x. (line_view x.0, left_of x.1)) result
+        (line_read (word_view first.entry) (left_of after.entry)) }
     ensures within { IfOk result (λ x. IsWithin x.1) }
 {
     let (path, what) = address(alloc, first)?;
@@ -95,7 +96,7 @@ fn is_closing(word: TraceWord, after: Cursor) -> bool
 /// What comes next: a line and what is left behind it, or the end line at this place.
 #[derive(Drop)]
 pub enum Next<'a> {
-    Line(TraceLine, Cursor<'a>),
+    BareLine(TraceLine, Cursor<'a>),
     End(Pos),
 }
 
@@ -112,7 +113,7 @@ fn line<'a>(alloc: Global, room: usize, here: Cursor<'a>) -> Result<Next<'a>, Tr
         return Ok(Next::End(start.at));
     }
     let (line, below) = read_line(alloc, room, start, after)?;
-    Ok(Next::Line(line, below))
+    Ok(Next::BareLine(line, below))
 }
 
 /// The lines up to the end line, and its place.
@@ -126,7 +127,7 @@ fn lines(alloc: Global, start: Cursor) -> Result<(Vec<TraceLine>, Pos), TraceFau
     let mut room = 0;
     loop {
         match line(alloc, room, here)? {
-            Next::Line(line, after) => {
+            Next::BareLine(line, after) => {
                 room = line.values.len();
                 lines.push(line)?;
                 here = after;
@@ -150,7 +151,8 @@ fn opening<'a>(
     after: Cursor<'a>,
 ) -> Result<(Node, Length, Cursor<'a>), TraceFault>
     requires { IsWithin after }
-    ensures opening { Gives (λ x. ((string_bytes x.0.0, x.0.1), x.1, left_of x.2)) result (opening_of (word_view first.entry) (left_of after.entry)) }
+    ensures opening { Gives (λ x. ((string_bytes x.0.0, x.0.1), x.1, left_of x.2)) result
+        (opening_of (word_view first.entry) (left_of after.entry)) }
     ensures within { IfOk result (λ x. IsWithin x.2) }
 {
     if first.text != b"trace".as_slice() {

@@ -32,7 +32,8 @@ pub fn replay<'a>(
     // A place is that of the first word that doesn't.
     ensures form { IfErr result (IsMisfit (program_view checked.now) (trace_view trace.now)) }
     // The answer is what the one frame of the trace shows.
-    ensures replayed { IfOk result (λ r. ReplaysTrace (program_view checked.now) (trace_view trace.now) (replay_view r)) }
+    ensures replayed { IfOk result (λ r. ReplaysTrace (program_view checked.now) (trace_view trace.now)
+        (replay_view r)) }
 {
     fits(alloc, checked, trace)?;
     let replay = replayed(alloc, checked, trace)?;

@@ -67,7 +67,8 @@ fn columns_of(
 ) -> Result<Vec<Option<u32>>, AllocError>
     requires few { length names.now < 2 ^ 31 }
     requires declared { AllAmong declared.now (map string_bytes names.now) }
-    ensures { IfOk result (λ cs. (x : Name) → column_by declared.now cs.items x ≡ found_column (map string_bytes names.now) x) }
+    ensures { IfOk result (λ cs. (x : Name) → column_by declared.now cs.items x ≡ found_column
+        (map string_bytes names.now) x) }
 {
     let mut columns = vec![in alloc; None; declared.len()]?;
     let mut column = 0;
@@ -83,7 +84,8 @@ fn note(declared: &NameTable, columns: &mut Vec<Option<u32>>, name: &str, column
     requires whole { length columns.old.items ≡ length declared.now }
     requires declared { named_in name.now declared.now ≡ true }
     ensures whole { length columns.new.items ≡ length declared.now }
-    ensures noted { (x : Name) → column_by declared.now columns.new.items x ≡ or_column (column_by declared.now columns.old.items x) name.now column x }
+    ensures noted { (x : Name) → column_by declared.now columns.new.items x ≡ or_column
+        (column_by declared.now columns.old.items x) name.now column x }
 {
     if let Some(number) = declared.number(name) {
         note_at(columns, number, column);

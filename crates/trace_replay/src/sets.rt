@@ -18,7 +18,8 @@ pub fn add_name<'a>(names: &mut IndexSet<&'a str>, name: &'a str) -> Result<bool
 /// Adds a number. Is it new?
 pub fn add_number(numbers: &mut IndexSet<u32>, number: u32) -> Result<bool, AllocError>
     ensures new { IfOk result (λ b. b ≡ not (contains nat_eq numbers.old number)) }
-    ensures adds { OnOk result ((k : ℕ) → contains nat_eq numbers.new k ≡ (contains nat_eq numbers.old k || nat_eq number k)) }
+    ensures adds { OnOk result ((k : ℕ) → contains nat_eq numbers.new k ≡
+        (contains nat_eq numbers.old k || nat_eq number k)) }
 {
     Ok(numbers.insert(number)?)
 }

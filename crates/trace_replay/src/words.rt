@@ -144,7 +144,8 @@ fn path(alloc: Global, word: &[u8]) -> Result<Option<(Vec<u32>, Spot)>, AllocErr
 
 /// The way and the subject that a word spells, which has to spell them.
 pub fn address(alloc: Global, word: TraceWord) -> Result<(Vec<u32>, Spot), TraceFault>
-    ensures { Gives (λ x. (x.0.items, spot_view x.1)) result (or_misfit word.entry.at (address_of word.entry.text.now)) }
+    ensures { Gives (λ x. (x.0.items, spot_view x.1)) result
+        (or_misfit word.entry.at (address_of word.entry.text.now)) }
 {
     match path(alloc, word.text)? {
         Some(found) => Ok(found),

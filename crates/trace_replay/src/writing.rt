@@ -80,7 +80,8 @@ fn put_line(out: &mut Vec<u8>, line: &TraceLine) -> Result<(), AllocError>
 
 /// Adds the lines.
 fn put_lines(out: &mut Vec<u8>, lines: &[TraceLine]) -> Result<(), AllocError>
-    ensures { OnOk result (out.new.items ≡ out.old.items ++ flat_map (λ l. line_text (bare_line l)) (map line_view lines.now)) }
+    ensures { OnOk result (out.new.items ≡ out.old.items ++ flat_map (λ l. line_text (bare_line l))
+        (map line_view lines.now)) }
 {
     for line in lines {
         put_line(out, line)?;

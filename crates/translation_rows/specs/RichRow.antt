@@ -376,7 +376,9 @@ rich_program = ((declared_constant (record { name = (spelled (codes "K")); sort 
 
 abbrev pub RichShapes : Type 0
 RichShapes = (system_of (instance_of rich_program top)).shapes ≡
-    (Flag ∷ Number ∷ Flag ∷ Flag ∷ Number ∷ Flag ∷ Flag ∷ Number ∷ Number ∷ Number ∷ Number ∷ Number ∷ Flag ∷ Number ∷ Number ∷ Flag ∷ Flag ∷ Flag ∷ Flag ∷ Flag ∷ Number ∷ Flag ∷ Number ∷ Flag ∷ Flag ∷ Flag ∷ Flag ∷ Number ∷ Flag ∷ Number ∷ Number ∷ Flag ∷ Number ∷ Number ∷ Number ∷ Flag ∷ Flag ∷ Flag ∷ Number ∷ Flag ∷ Number ∷ Number ∷ Number ∷ Flag ∷ Flag ∷ Flag ∷ Flag ∷ Flag ∷ Flag ∷ [])
+    (Flag ∷ Number ∷ Flag ∷ Flag ∷ Number ∷ Flag ∷ Flag ∷ Number ∷ Number ∷ Number ∷ Number ∷ Number ∷ Flag ∷ Number ∷ Number ∷ Flag ∷ Flag
+    ∷ Flag ∷ Flag ∷ Flag ∷ Number ∷ Flag ∷ Number ∷ Flag ∷ Flag ∷ Flag ∷ Flag ∷ Number ∷ Flag ∷ Number ∷ Number ∷ Flag ∷ Number ∷ Number
+    ∷ Number ∷ Flag ∷ Flag ∷ Flag ∷ Number ∷ Flag ∷ Number ∷ Number ∷ Number ∷ Flag ∷ Flag ∷ Flag ∷ Flag ∷ Flag ∷ Flag ∷ [])
 
 abbrev pub RichFirst : Type 0
 RichFirst = (system_of (instance_of rich_program top)).first ≡ ((t.flag record { number = 16; next = false }) ∷

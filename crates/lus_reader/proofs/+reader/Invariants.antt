@@ -96,7 +96,8 @@ decreases-expression::read_expression-loop-alloc l = length l.tokens - l.found.n
 
 abbrev pub invariant-expression::read_rest-loop-operator : goal.invariant-expression::read_rest-loop-operator
 invariant-expression::read_rest-loop-operator l = record {
-  grouped : (i : ℕ) (n : Counts) → IsRead (stream l.bytes l.tokens) (operand (level_view l.level)) i n l.fn.of → IsGrouped (stream l.bytes l.tokens) (level_view l.level) i n l.left.next (counts_view l.left.counts) (tree_of l.left);
+  grouped : (i : ℕ) (n : Counts) → IsRead (stream l.bytes l.tokens) (operand (level_view l.level)) i n l.fn.of → IsGrouped
+      (stream l.bytes l.tokens) (level_view l.level) i n l.left.next (counts_view l.left.counts) (tree_of l.left);
   past : l.fn.of.next ≤ l.left.next;
   within : l.fn.of.next ≤ length l.tokens → l.left.next ≤ length l.tokens;
 }
@@ -106,7 +107,8 @@ decreases-expression::read_rest-loop-operator l = length l.tokens - l.left.next
 
 abbrev pub invariant-arguments::read_more-loop-alloc : goal.invariant-arguments::read_more-loop-alloc
 invariant-arguments::read_more-loop-alloc l = record {
-  listed : IsListed (stream l.bytes l.tokens) (trees_of l.fn.of) l.fn.of.next (counts_view l.fn.of.counts) (trees_of l.list) l.list.next (counts_view l.list.counts);
+  listed : IsListed (stream l.bytes l.tokens) (trees_of l.fn.of) l.fn.of.next (counts_view l.fn.of.counts) (trees_of l.list) l.list.next
+      (counts_view l.list.counts);
   past : l.fn.of.next ≤ l.list.next;
   within : l.fn.of.next ≤ length l.tokens → l.list.next ≤ length l.tokens;
 }

@@ -18,7 +18,8 @@ pub loop-start-preserved : goal.loop-start-preserved
 loop-start-preserved c =
     let e = ap contract_item_start_of (c.class_at.ensures.class c.args.bytes.now) ∙ (sym c.contract_item_start.ensures ∙ c.in-Some.is) in
     record {
-      loops = rw (pushed contract_item_view _ _ _ c.in_ok-push.ensures.items) (one_more c.loop-start.invariant.loops (begins_contract_item _ _ e) c.in_ok-item.ensures.run);
+      loops = rw (pushed contract_item_view _ _ _ c.in_ok-push.ensures.items)
+          (one_more c.loop-start.invariant.loops (begins_contract_item _ _ e) c.in_ok-item.ensures.run);
       since = omega (arith, c.in_ok-item.ensures.inside.0);
       within = c.in_ok-item.ensures.inside.1;
     }

@@ -19,7 +19,8 @@ pub loop-start-preserved : goal.loop-start-preserved
 loop-start-preserved c =
     let e = ap declaration_start_of (c.class_at.ensures.class c.args.bytes.now) ∙ (sym c.declaration_start.ensures ∙ c.in-Some.is) in
     record {
-      loops = rw (pushed decl_view _ _ _ c.in_ok-push.ensures.items) (one_more c.loop-start.invariant.loops (begins_declaration _ _ e) (c.in_ok-decl.ensures.run _));
+      loops = rw (pushed decl_view _ _ _ c.in_ok-push.ensures.items)
+          (one_more c.loop-start.invariant.loops (begins_declaration _ _ e) (c.in_ok-decl.ensures.run _));
       within = c.in_ok-decl.ensures.inside.1;
     }
 

@@ -6,7 +6,8 @@ use Rattle.contract_reader.proofs.Variables.{group, into_variables, first_group,
 use Rattle.contract_reader.proofs.locals.add_variables.Goals as goal
 
 pub returns-in_err-next-clause-stop : goal.returns-in_err-next-clause-stop
-returns-in_err-next-clause-stop c = at_err _ _ _ c.from_residual.ensures.1 (λ n. stops (into_variables _ _ n c.requires.word) (c.in_err-next.ensures.stop_before n (repeated group)))
+returns-in_err-next-clause-stop c = at_err _ _ _ c.from_residual.ensures.1
+    (λ n. stops (into_variables _ _ n c.requires.word) (c.in_err-next.ensures.stop_before n (repeated group)))
 
 pub loop-alloc-init : goal.loop-alloc-init
 loop-alloc-init c = record {

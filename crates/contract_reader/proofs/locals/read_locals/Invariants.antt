@@ -9,7 +9,8 @@ use Rattle.contract_reader.proofs.locals.read_locals.Given as goal
 
 abbrev pub invariant-loop-start : goal.invariant-loop-start
 invariant-loop-start l = record {
-  loops : LoopsBoth local_variables_of local_constants_of (stream l.bytes l.tokens) (part Locals) l.at (counts_view l.fn.counts) l.next (counts_view l.counts) (map param_view l.locals.variables.items) (map definition_view l.locals.constants.items);
+  loops : LoopsBoth local_variables_of local_constants_of (stream l.bytes l.tokens) (part Locals) l.at (counts_view l.fn.counts) l.next
+      (counts_view l.counts) (map param_view l.locals.variables.items) (map definition_view l.locals.constants.items);
   since : l.at ≤ l.next;
   within : l.next ≤ length l.tokens;
 }

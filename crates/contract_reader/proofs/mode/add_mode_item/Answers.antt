@@ -8,7 +8,9 @@ pub returns-in_err-named-clause-stop : goal.returns-in_err-named-clause-stop
 returns-in_err-named-clause-stop c = at_err _ _ _ c.from_residual.ensures.1 (stops (into_mode_item _ _ _ _ c.requires.word) c.in_err-named.ensures.stop)
 
 pub returns-in_ok-push-in-Require-clause-run : goal.returns-in_ok-push-in-Require-clause-run
-returns-in_ok-push-in-Require-clause-run c = adds_require _ _ _ _ (c.requires.word ∙ ap (λ z. Some (mode_item_class z)) c.in-Require.is) c.in_ok-named.ensures.run c.in_ok-push-in-Require.ensures.items
+returns-in_ok-push-in-Require-clause-run c = adds_require _ _ _ _
+    (c.requires.word ∙ ap (λ z. Some (mode_item_class z)) c.in-Require.is) c.in_ok-named.ensures.run c.in_ok-push-in-Require.ensures.items
 
 pub returns-in_ok-push-in-Ensure-clause-run : goal.returns-in_ok-push-in-Ensure-clause-run
-returns-in_ok-push-in-Ensure-clause-run c = adds_ensure _ _ _ _ (c.requires.word ∙ ap (λ z. Some (mode_item_class z)) c.in-Ensure.is) c.in_ok-named.ensures.run c.in_ok-push-in-Ensure.ensures.items
+returns-in_ok-push-in-Ensure-clause-run c = adds_ensure _ _ _ _ (c.requires.word ∙ ap (λ z. Some (mode_item_class z)) c.in-Ensure.is)
+    c.in_ok-named.ensures.run c.in_ok-push-in-Ensure.ensures.items

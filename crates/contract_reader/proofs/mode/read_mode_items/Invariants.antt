@@ -9,7 +9,8 @@ use Rattle.contract_reader.proofs.mode.read_mode_items.Given as goal
 
 abbrev pub invariant-loop-start : goal.invariant-loop-start
 invariant-loop-start l = record {
-  loops : LoopsBoth requires_of ensures_of (stream l.bytes l.tokens) (part ModeItem) l.at (counts_view l.fn.counts) l.next (counts_view l.counts) (map named_view l.items.required.items) (map named_view l.items.ensured.items);
+  loops : LoopsBoth requires_of ensures_of (stream l.bytes l.tokens) (part ModeItem) l.at (counts_view l.fn.counts) l.next
+      (counts_view l.counts) (map named_view l.items.required.items) (map named_view l.items.ensured.items);
   since : l.at ≤ l.next;
   within : l.next ≤ length l.tokens;
 }

@@ -48,4 +48,5 @@ returns-clause-run c =
     let l3 = behind l2 (c.in_ok-first.ensures.run _) in
     let l4 = behind l3 c.in_ok-items.ensures.run.run in
     let l5 = behind l4 (c.in_ok-past.ensures.run _) in
-    reads_contract_node _ refl refl refl refl l5 (c.past_semicolon.ensures.run c.args.bytes.now _).1 head.are_named head.are_taken head.are_given (ap (λ y. Some y) c.in_ok-items.ensures.run.is)
+    reads_contract_node _ refl refl refl refl l5 (c.past_semicolon.ensures.run c.args.bytes.now _).1 head.are_named head.are_taken
+    head.are_given (ap (λ y. Some y) c.in_ok-items.ensures.run.is)

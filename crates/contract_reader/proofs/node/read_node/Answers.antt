@@ -40,4 +40,5 @@ returns-clause-run c =
     let l2 = behind l1 (c.past_semicolon-begin.ensures.run c.args.bytes.now _).1 in
     let l3 = behind l2 c.in_ok-contract.ensures.run.run in
     let l4 = behind l3 c.in_ok-locals.ensures.run.run in
-    reads_node _ c.requires.word l4 head.are_named head.are_taken head.are_given c.in_ok-contract.ensures.run.is c.in_ok-locals.ensures.run.is c.in_ok-items.ensures.run
+    reads_node _ c.requires.word l4 head.are_named head.are_taken head.are_given c.in_ok-contract.ensures.run.is
+    c.in_ok-locals.ensures.run.is c.in_ok-items.ensures.run

@@ -11,5 +11,6 @@ unreachable-requires c =
     let law = c.unbroken_rules_are_facts.ensures (system_view c.args.system.now) [] in
     let none : base_fault (system_view c.args.system.now) c.args.property c.args.instant [] (proofs_view c.args.proofs.now) ≡ None =
     (law.bases c.args.property c.args.instant (proofs_view c.args.proofs.now)).1 c.requires.base in
-    let told : IsMisfit (base_fault (system_view c.args.system.now) c.args.property c.args.instant [] (proofs_view c.args.proofs.now)) c.in-Err-Refused.field-0 = c.in-Err-Refused.ensures in
+    let told : IsMisfit (base_fault (system_view c.args.system.now) c.args.property c.args.instant [] (proofs_view c.args.proofs.now))
+    c.in-Err-Refused.field-0 = c.in-Err-Refused.ensures in
     never_told _ c.in-Err-Refused.field-0-0 c.in-Err-Refused.field-0-1 none (rw c.in-Err-Refused.field-0-is at told)

@@ -35,7 +35,8 @@ returns-in-Ok-cut_by c =
     let m = simp to_z-of_z at c.in-Ok-cut_by.ensures.cut in
     cut_from c.args.tableau.now c.args.x c.args.row.now c.entry_in-own.result c.requires.row c.requires.stands c.entry_in-own.ensures c.in-Ok.d e
     c.requires.sound c.requires.on_rows c.requires.broken c.in_ok-parts.parts.items a (line_view c.in-Ok-cut_by.cut.line) (atom_view c.in-Ok-cut_by.cut.atom)
-    (let P : List Part → Type 0 = λ ps. IsMadeOf c.args.tableau.now ps c.in-Ok.d (line_view c.in-Ok-cut_by.cut.line) (atom_view c.in-Ok-cut_by.cut.atom) in subst P c.deref.ensures.value m)
+    (let P : List Part → Type 0 = λ ps. IsMadeOf c.args.tableau.now ps c.in-Ok.d (line_view c.in-Ok-cut_by.cut.line)
+    (atom_view c.in-Ok-cut_by.cut.atom) in subst P c.deref.ensures.value m)
 
 pub returns-in-Err-Past : goal.returns-in-Err-Past
 returns-in-Err-Past c =

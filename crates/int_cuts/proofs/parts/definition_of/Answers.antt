@@ -8,7 +8,8 @@ use Rattle.int_cuts.proofs.parts.definition_of.Goals as goal
 
 pub loop-k-preserved : goal.loop-k-preserved
 loop-k-preserved c =
-    undefined_more c.args.given.now c.loop-k.k c.args.column c.greatest_column.result c.index-given-k.result c.deref.result.now c.index-given-k.is c.loop-k-test.true
+    undefined_more c.args.given.now c.loop-k.k c.args.column c.greatest_column.result c.index-given-k.result c.deref.result.now
+    c.index-given-k.is c.loop-k-test.true
     c.deref.ensures.value c.greatest_column.ensures c.if-greatest_column-column.false c.loop-k.invariant
 
 pub returns : goal.returns

@@ -14,7 +14,8 @@ returns-then-rest-eq0 c =
     let f : SFits w128 c.rem_euclid-rest.result = search rules in
     let z : c.rem_euclid-rest.result ≡ pos 0 = simp to_z-of_z at (ap (to_z w128) c.if-rest-eq0.true) in
     let v : c.rem_euclid-rest.result ≡ int_rem_euclid c.args.e c.args.d = simp to_z-of_z at c.rem_euclid-rest.ensures.value in
-    sym (opposite_none c.args.d c.args.e c.requires (sym v ∙ z)) ∙ ap (λ (b : Bool). int_rem_euclid (cond b (neg_ℤ c.args.e) c.args.e) c.args.d) (sym c.if-not-opposite.false)
+    sym (opposite_none c.args.d c.args.e c.requires (sym v ∙ z)) ∙ ap
+    (λ (b : Bool). int_rem_euclid (cond b (neg_ℤ c.args.e) c.args.e) c.args.d) (sym c.if-not-opposite.false)
 
 pub returns : goal.returns
 returns c =

@@ -16,5 +16,6 @@ loop-x-preserved c =
     let e : c.div_floor.result ≡ int_div_euclid c.in_ok-sum.sum c.args.d = simp to_z-of_z at c.div_floor.ensures.exact in
     let g = simp to_z-of_z at c.in_ok-push_term.ensures.grown in
     let m = simp to_z-of_z at c.loop-x.invariant in
-    simp to_z-of_z (terms_next (λ k. int_div_euclid (sum_by (map row_view c.args.given.now) (Some k) c.args.parts.now) c.args.d) c.loop-x.x c.div_floor.result c.loop-x.terms.items
+    simp to_z-of_z (terms_next (λ k. int_div_euclid (sum_by (map row_view c.args.given.now) (Some k) c.args.parts.now) c.args.d) c.loop-x.x
+    c.div_floor.result c.loop-x.terms.items
     c.push_term.new.terms.items m (e ∙ ap (λ z. int_div_euclid z c.args.d) c.in_ok-sum.ensures.sum) g)

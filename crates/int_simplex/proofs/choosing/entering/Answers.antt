@@ -34,11 +34,15 @@ returns-then-can_enter c =
     let l = c.requires.lowers in let u = c.requires.uppers in
     let fe : SFits w128 c.entry_in-falls.result = search rules in
     let fa : SFits w128 (get_or c.args.row.now c.loop-t.t-index (0, pos 0)).1 = search rules in (
-      enters_if (length c.args.places.now) c.loop-t.t-index c.args.row.now c.args.x c.args.side _ c.args.places.now c.args.lowers.now c.args.uppers.now (0, pos 0) _ _ _ c.requires.sparse
-          c.loop-t-test.true (ap (lt_z (pos 0)) c.entry_in-falls.ensures) (place-is c.args.places.now (get_or c.args.row.now c.loop-t.t-index (0, pos 0)).0 (pos 0) b)
-          (limit-is c.args.lowers.now (get_or c.args.row.now c.loop-t.t-index (0, pos 0)).0 None (omega arith)) (limit-is c.args.uppers.now (get_or c.args.row.now c.loop-t.t-index (0, pos 0)).0 None (omega arith))
+      enters_if (length c.args.places.now) c.loop-t.t-index c.args.row.now c.args.x c.args.side _ c.args.places.now c.args.lowers.now
+          c.args.uppers.now (0, pos 0) _ _ _ c.requires.sparse
+          c.loop-t-test.true (ap (lt_z (pos 0)) c.entry_in-falls.ensures)
+          (place-is c.args.places.now (get_or c.args.row.now c.loop-t.t-index (0, pos 0)).0 (pos 0) b)
+          (limit-is c.args.lowers.now (get_or c.args.row.now c.loop-t.t-index (0, pos 0)).0 None (omega arith))
+          (limit-is c.args.uppers.now (get_or c.args.row.now c.loop-t.t-index (0, pos 0)).0 None (omega arith))
           (simp to_z-of_z at (c.can_enter.ensures.0 c.if-can_enter.true)),
-      enters_first (length c.args.places.now) c.loop-t.t-index c.args.row.now c.args.x c.args.side c.args.places.now c.args.lowers.now c.args.uppers.now (0, pos 0) c.requires.sparse
+      enters_first (length c.args.places.now) c.loop-t.t-index c.args.row.now c.args.x c.args.side c.args.places.now c.args.lowers.now
+          c.args.uppers.now (0, pos 0) c.requires.sparse
           c.loop-t-test.true c.loop-t.invariant,
     )
 
@@ -49,12 +53,17 @@ loop-t-preserved c =
     let l = c.requires.lowers in let u = c.requires.uppers in
     let fe : SFits w128 c.entry_in-falls.result = search rules in
     let fa : SFits w128 (get_or c.args.row.now c.loop-t.t-index (0, pos 0)).1 = search rules in
-    enters_next (length c.args.places.now) c.loop-t.t-index c.args.row.now c.args.x c.args.side c.args.places.now c.args.lowers.now c.args.uppers.now (0, pos 0) c.loop-t-test.true
-    (λ e. both_ways c.can_enter.result (c.can_enter.ensures.1 (simp to_z-of_z (enters_only (length c.args.places.now) c.loop-t.t-index c.args.row.now c.args.x c.args.side _ c.args.places.now c.args.lowers.now
-    c.args.uppers.now (0, pos 0) _ _ _ c.requires.sparse c.loop-t-test.true (ap (lt_z (pos 0)) c.entry_in-falls.ensures) (place-is c.args.places.now (get_or c.args.row.now c.loop-t.t-index (0, pos 0)).0 (pos 0) b)
-    (limit-is c.args.lowers.now (get_or c.args.row.now c.loop-t.t-index (0, pos 0)).0 None (omega arith)) (limit-is c.args.uppers.now (get_or c.args.row.now c.loop-t.t-index (0, pos 0)).0 None (omega arith)) e))) c.if-can_enter.false)
+    enters_next (length c.args.places.now) c.loop-t.t-index c.args.row.now c.args.x c.args.side c.args.places.now c.args.lowers.now
+    c.args.uppers.now (0, pos 0) c.loop-t-test.true
+    (λ e. both_ways c.can_enter.result (c.can_enter.ensures.1 (simp to_z-of_z
+    (enters_only (length c.args.places.now) c.loop-t.t-index c.args.row.now c.args.x c.args.side _ c.args.places.now c.args.lowers.now
+    c.args.uppers.now (0, pos 0) _ _ _ c.requires.sparse c.loop-t-test.true (ap (lt_z (pos 0)) c.entry_in-falls.ensures)
+    (place-is c.args.places.now (get_or c.args.row.now c.loop-t.t-index (0, pos 0)).0 (pos 0) b)
+    (limit-is c.args.lowers.now (get_or c.args.row.now c.loop-t.t-index (0, pos 0)).0 None (omega arith))
+    (limit-is c.args.uppers.now (get_or c.args.row.now c.loop-t.t-index (0, pos 0)).0 None (omega arith)) e))) c.if-can_enter.false)
     c.loop-t.invariant
 
 pub returns : goal.returns
-returns c = enters_none (length c.args.places.now) c.loop-t.t-index c.args.row.now c.args.x c.args.side c.args.places.now c.args.lowers.now c.args.uppers.now c.requires.sparse
+returns c = enters_none (length c.args.places.now) c.loop-t.t-index c.args.row.now c.args.x c.args.side c.args.places.now c.args.lowers.now
+    c.args.uppers.now c.requires.sparse
     c.loop-t-test.false c.loop-t.invariant

@@ -22,7 +22,8 @@ returns-in_err-made-clause-past c =
     let p = c.entry_in-p.ensures in
     let q = c.entry_in-q.ensures in
     let e = simp to_z-of_z at c.in_err-made.ensures.past in
-    past_of _ _ c.entry_in-p.result c.entry_in-q.result c.args.row.now c.args.other.now c.in_err-made.field-0.0 c.from_residual.result p q e c.from_residual.ensures.1
+    past_of _ _ c.entry_in-p.result c.entry_in-q.result c.args.row.now c.args.other.now c.in_err-made.field-0.0 c.from_residual.result p q e
+    c.from_residual.ensures.1
 
 pub returns-then-is_empty-clause-made : goal.returns-then-is_empty-clause-made
 returns-then-is_empty-clause-made c =
@@ -30,8 +31,10 @@ returns-then-is_empty-clause-made c =
     let fq : SFits w128 c.entry_in-q.result = search rules in
     let p = c.entry_in-p.ensures in
     let q = c.entry_in-q.ensures in
-    let m = made_of c.args.columns c.args.entering c.entry_in-p.result c.entry_in-q.result c.args.row.now c.args.other.now c.in_ok-made.made.items p q (simp to_z-of_z at c.in_ok-made.ensures.made) in
-    empty_pivoted c.args.columns c.args.entering c.args.row.now c.args.other.now c.in_ok-made.made.items (empty_list c.in_ok-made.made.items _ (sym c.in_ok-made.made.ok.0) c.if-is_empty.ensures) m
+    let m = made_of c.args.columns c.args.entering c.entry_in-p.result c.entry_in-q.result c.args.row.now c.args.other.now
+    c.in_ok-made.made.items p q (simp to_z-of_z at c.in_ok-made.ensures.made) in
+    empty_pivoted c.args.columns c.args.entering c.args.row.now c.args.other.now c.in_ok-made.made.items
+    (empty_list c.in_ok-made.made.items _ (sym c.in_ok-made.made.ok.0) c.if-is_empty.ensures) m
 
 pub returns-clause-made : goal.returns-clause-made
 returns-clause-made c =
@@ -39,6 +42,10 @@ returns-clause-made c =
     let fq : SFits w128 c.entry_in-q.result = search rules in
     let p = c.entry_in-p.ensures in
     let q = c.entry_in-q.ensures in
-    let m = made_of c.args.columns c.args.entering c.entry_in-p.result c.entry_in-q.result c.args.row.now c.args.other.now c.in_ok-made.made.items p q (simp to_z-of_z at c.in_ok-made.ensures.made) in
+    let m = made_of c.args.columns c.args.entering c.entry_in-p.result c.entry_in-q.result c.args.row.now c.args.other.now
+    c.in_ok-made.made.items p q (simp to_z-of_z at c.in_ok-made.ensures.made) in
     reduced_pivoted c.args.columns c.args.entering c.args.row.now c.args.other.now c.in_ok-made.made.items c.in_ok-new.new.items m
-    (subst (λ (r : List (ℕ × ℤ)). IsReduced r c.in_ok-new.new.items) c.deref.ensures.value (c.in_ok-new.ensures (subst HasEntry (sym c.deref.ensures.value) (made_has c.args.columns _ c.in_ok-made.made.items (full_list c.in_ok-made.made.items _ (sym c.in_ok-made.made.ok.0) c.if-is_empty.ensures) m))))
+    (subst (λ (r : List (ℕ × ℤ)). IsReduced r c.in_ok-new.new.items) c.deref.ensures.value
+    (c.in_ok-new.ensures (subst HasEntry (sym c.deref.ensures.value)
+    (made_has c.args.columns _ c.in_ok-made.made.items (full_list c.in_ok-made.made.items _
+    (sym c.in_ok-made.made.ok.0) c.if-is_empty.ensures) m))))

@@ -23,8 +23,10 @@ pub returns-in_err-turn_rows-clause-past : goal.returns-in_err-turn_rows-clause-
 returns-in_err-turn_rows-clause-past c =
     let r = c.requires.ready in let t = c.requires.turn in
     let o = there (map row_view c.args.rows.now.items) c.args.basis.now.items [] c.args.out.at c.args.out.column (sym r.are_rows.count) t.stands in
-    turn_stopped (map row_view c.args.given.now) (length c.args.places.now.items) c.args.basis.now.items (map row_view c.args.rows.now.items) r c.args.out.at c.args.column c.args.out.column
-    o.0 c.args.places.now.items c.args.out.limit c.in_err-turn_rows.field-0.0 c.from_residual.result t.stands o.1 c.in_err-turn_rows.ensures.past c.from_residual.ensures.1
+    turn_stopped (map row_view c.args.given.now) (length c.args.places.now.items) c.args.basis.now.items
+    (map row_view c.args.rows.now.items) r c.args.out.at c.args.column c.args.out.column
+    o.0 c.args.places.now.items c.args.out.limit c.in_err-turn_rows.field-0.0 c.from_residual.result t.stands o.1
+    c.in_err-turn_rows.ensures.past c.from_residual.ensures.1
 
 pub index_mut-requires : goal.index_mut-requires
 index_mut-requires c =
@@ -41,16 +43,20 @@ pub values_of-requires-clause-count : goal.values_of-requires-clause-count
 values_of-requires-clause-count c =
     let r = c.requires.ready in let t = c.requires.turn in
     let o = there (map row_view c.args.rows.now.items) c.args.basis.now.items [] c.args.out.at c.args.out.column (sym r.are_rows.count) t.stands in
-    let nx : AreNext (length c.args.places.now.items) c.args.out.at c.args.column o.0 (map row_view c.args.rows.now.items) (map row_view c.turn_rows.new.rows.items) =
-    subst (λ (n : ℕ). AreNext n c.args.out.at c.args.column o.0 (map row_view c.args.rows.now.items) (map row_view c.turn_rows.new.rows.items)) c.requires.columns
+    let nx : AreNext (length c.args.places.now.items) c.args.out.at c.args.column o.0 (map row_view c.args.rows.now.items)
+    (map row_view c.turn_rows.new.rows.items) =
+    subst (λ (n : ℕ). AreNext n c.args.out.at c.args.column o.0 (map row_view c.args.rows.now.items)
+    (map row_view c.turn_rows.new.rows.items)) c.requires.columns
     (c.in_ok-turn_rows.ensures.made o.0 o.1) in
-    let ra = ready_after (map row_view c.args.given.now) (length c.args.places.now.items) c.args.basis.now.items (map row_view c.args.rows.now.items) (map row_view c.turn_rows.new.rows.items)
+    let ra = ready_after (map row_view c.args.given.now) (length c.args.places.now.items) c.args.basis.now.items
+    (map row_view c.args.rows.now.items) (map row_view c.turn_rows.new.rows.items)
     c.args.out c.args.column o.0 r t o.1 nx in
     let sb = set_exchanged c.args.basis.now.items c.args.out.at c.args.out.column c.args.column r.different t.stands in
     let e1 : length c.deref-2.result.now ≡ length c.turn_rows.new.rows.items = ap length c.deref-2.ensures.value in
     let e2 : length (map row_view c.turn_rows.new.rows.items) ≡ length c.turn_rows.new.rows.items = length-map c.turn_rows.new.rows.items row_view in
     let e3 = ra.are_rows.count in
-    let e4 : length (slice_set c.args.basis.now.items c.args.out.at c.args.column) ≡ length (map (exchanged c.args.out.column c.args.column) c.args.basis.now.items) = ap length sb in
+    let e4 : length (slice_set c.args.basis.now.items c.args.out.at c.args.column) ≡ length
+    (map (exchanged c.args.out.column c.args.column) c.args.basis.now.items) = ap length sb in
     let e5 : length c.deref.result.now ≡ length (slice_set c.args.basis.now.items c.args.out.at c.args.column) = ap length c.deref.ensures.value in
     omega arith
 
@@ -58,10 +64,13 @@ pub values_of-requires-clause-different : goal.values_of-requires-clause-differe
 values_of-requires-clause-different c =
     let r = c.requires.ready in let t = c.requires.turn in
     let o = there (map row_view c.args.rows.now.items) c.args.basis.now.items [] c.args.out.at c.args.out.column (sym r.are_rows.count) t.stands in
-    let nx : AreNext (length c.args.places.now.items) c.args.out.at c.args.column o.0 (map row_view c.args.rows.now.items) (map row_view c.turn_rows.new.rows.items) =
-    subst (λ (n : ℕ). AreNext n c.args.out.at c.args.column o.0 (map row_view c.args.rows.now.items) (map row_view c.turn_rows.new.rows.items)) c.requires.columns
+    let nx : AreNext (length c.args.places.now.items) c.args.out.at c.args.column o.0 (map row_view c.args.rows.now.items)
+    (map row_view c.turn_rows.new.rows.items) =
+    subst (λ (n : ℕ). AreNext n c.args.out.at c.args.column o.0 (map row_view c.args.rows.now.items)
+    (map row_view c.turn_rows.new.rows.items)) c.requires.columns
     (c.in_ok-turn_rows.ensures.made o.0 o.1) in
-    let ra = ready_after (map row_view c.args.given.now) (length c.args.places.now.items) c.args.basis.now.items (map row_view c.args.rows.now.items) (map row_view c.turn_rows.new.rows.items)
+    let ra = ready_after (map row_view c.args.given.now) (length c.args.places.now.items) c.args.basis.now.items
+    (map row_view c.args.rows.now.items) (map row_view c.turn_rows.new.rows.items)
     c.args.out c.args.column o.0 r t o.1 nx in
     let sb = set_exchanged c.args.basis.now.items c.args.out.at c.args.out.column c.args.column r.different t.stands in
     subst AllDiffer (sym (c.deref.ensures.value ∙ sb)) ra.different
@@ -70,54 +79,73 @@ pub values_of-requires-clause-sparse : goal.values_of-requires-clause-sparse
 values_of-requires-clause-sparse c = λ k x e.
     let r = c.requires.ready in let t = c.requires.turn in
     let o = there (map row_view c.args.rows.now.items) c.args.basis.now.items [] c.args.out.at c.args.out.column (sym r.are_rows.count) t.stands in
-    let nx : AreNext (length c.args.places.now.items) c.args.out.at c.args.column o.0 (map row_view c.args.rows.now.items) (map row_view c.turn_rows.new.rows.items) =
-    subst (λ (n : ℕ). AreNext n c.args.out.at c.args.column o.0 (map row_view c.args.rows.now.items) (map row_view c.turn_rows.new.rows.items)) c.requires.columns
+    let nx : AreNext (length c.args.places.now.items) c.args.out.at c.args.column o.0 (map row_view c.args.rows.now.items)
+    (map row_view c.turn_rows.new.rows.items) =
+    subst (λ (n : ℕ). AreNext n c.args.out.at c.args.column o.0 (map row_view c.args.rows.now.items)
+    (map row_view c.turn_rows.new.rows.items)) c.requires.columns
     (c.in_ok-turn_rows.ensures.made o.0 o.1) in
-    let ra = ready_after (map row_view c.args.given.now) (length c.args.places.now.items) c.args.basis.now.items (map row_view c.args.rows.now.items) (map row_view c.turn_rows.new.rows.items)
+    let ra = ready_after (map row_view c.args.given.now) (length c.args.places.now.items) c.args.basis.now.items
+    (map row_view c.args.rows.now.items) (map row_view c.turn_rows.new.rows.items)
     c.args.out c.args.column o.0 r t o.1 nx in
     let sb = set_exchanged c.args.basis.now.items c.args.out.at c.args.out.column c.args.column r.different t.stands in
     let f = subst (λ (xs : List (Vec (ℕ × ℤ) Global)). slice_get (map row_view xs) k ≡ Some x) c.deref-2.ensures.value e in
-    let n : length c.deref-3.result.now ≡ length c.args.places.now.items = ap length c.deref-3.ensures.value ∙ length-set c.args.places.now.items c.args.out.column _ in
+    let n : length c.deref-3.result.now ≡ length c.args.places.now.items = ap length c.deref-3.ensures.value
+    ∙ length-set c.args.places.now.items c.args.out.column _ in
     subst (λ (m : ℕ). IsSparse m x) (sym n) (ra.are_rows.sparse k x f)
 
 pub returns-in_err-values-clause-past : goal.returns-in_err-values-clause-past
 returns-in_err-values-clause-past c =
     let r = c.requires.ready in let t = c.requires.turn in
     let o = there (map row_view c.args.rows.now.items) c.args.basis.now.items [] c.args.out.at c.args.out.column (sym r.are_rows.count) t.stands in
-    let nx : AreNext (length c.args.places.now.items) c.args.out.at c.args.column o.0 (map row_view c.args.rows.now.items) (map row_view c.turn_rows.new.rows.items) =
-    subst (λ (n : ℕ). AreNext n c.args.out.at c.args.column o.0 (map row_view c.args.rows.now.items) (map row_view c.turn_rows.new.rows.items)) c.requires.columns
+    let nx : AreNext (length c.args.places.now.items) c.args.out.at c.args.column o.0 (map row_view c.args.rows.now.items)
+    (map row_view c.turn_rows.new.rows.items) =
+    subst (λ (n : ℕ). AreNext n c.args.out.at c.args.column o.0 (map row_view c.args.rows.now.items)
+    (map row_view c.turn_rows.new.rows.items)) c.requires.columns
     (c.in_ok-turn_rows.ensures.made o.0 o.1) in
-    let ra = ready_after (map row_view c.args.given.now) (length c.args.places.now.items) c.args.basis.now.items (map row_view c.args.rows.now.items) (map row_view c.turn_rows.new.rows.items)
+    let ra = ready_after (map row_view c.args.given.now) (length c.args.places.now.items) c.args.basis.now.items
+    (map row_view c.args.rows.now.items) (map row_view c.turn_rows.new.rows.items)
     c.args.out c.args.column o.0 r t o.1 nx in
     let sb = set_exchanged c.args.basis.now.items c.args.out.at c.args.out.column c.args.column r.different t.stands in
     let fl : SFits w128 c.args.out.limit = search rules in
     let h = in-list (length c.args.places.now.items) c.args.basis.now.items c.args.out.at c.args.out.column r.in_range t.stands in
     let v3 = simp to_z-of_z at c.deref-3.ensures.value in
-    values_stopped (map row_view c.args.given.now) (length c.args.places.now.items) (map (exchanged c.args.out.column c.args.column) c.args.basis.now.items) (map row_view c.turn_rows.new.rows.items)
+    values_stopped (map row_view c.args.given.now) (length c.args.places.now.items)
+    (map (exchanged c.args.out.column c.args.column) c.args.basis.now.items) (map row_view c.turn_rows.new.rows.items)
     ra c.args.places.now.items c.args.out.column c.args.out.limit c.in_err-values.field-0.0 c.from_residual-in_err-values.result h
-    (subst (λ (ps : List ℤ). IsValuesPast (map row_view c.args.given.now) (map (exchanged c.args.out.column c.args.column) c.args.basis.now.items) (map row_view c.turn_rows.new.rows.items) (place_at ps) c.in_err-values.field-0.0) v3
-    (subst (λ (xs : List (Vec (ℕ × ℤ) Global)). IsValuesPast (map row_view c.args.given.now) (map (exchanged c.args.out.column c.args.column) c.args.basis.now.items) (map row_view xs) (place_at c.deref-3.result.now) c.in_err-values.field-0.0)
+    (subst (λ (ps : List ℤ). IsValuesPast (map row_view c.args.given.now)
+    (map (exchanged c.args.out.column c.args.column) c.args.basis.now.items) (map row_view c.turn_rows.new.rows.items)
+    (place_at ps) c.in_err-values.field-0.0) v3
+    (subst (λ (xs : List (Vec (ℕ × ℤ) Global)). IsValuesPast (map row_view c.args.given.now)
+    (map (exchanged c.args.out.column c.args.column) c.args.basis.now.items) (map row_view xs)
+    (place_at c.deref-3.result.now) c.in_err-values.field-0.0)
     c.deref-2.ensures.value
-    (subst (λ (b : List ℕ). IsValuesPast (map row_view c.args.given.now) b (map row_view c.deref-2.result.now) (place_at c.deref-3.result.now) c.in_err-values.field-0.0) (c.deref.ensures.value ∙ sb)
+    (subst (λ (b : List ℕ). IsValuesPast (map row_view c.args.given.now) b (map row_view c.deref-2.result.now)
+    (place_at c.deref-3.result.now) c.in_err-values.field-0.0) (c.deref.ensures.value ∙ sb)
     c.in_err-values.ensures.past))) c.from_residual-in_err-values.ensures.1
 
 pub returns-clause-kept : goal.returns-clause-kept
 returns-clause-kept c =
     let r = c.requires.ready in let t = c.requires.turn in
     let o = there (map row_view c.args.rows.now.items) c.args.basis.now.items [] c.args.out.at c.args.out.column (sym r.are_rows.count) t.stands in
-    let nx : AreNext (length c.args.places.now.items) c.args.out.at c.args.column o.0 (map row_view c.args.rows.now.items) (map row_view c.turn_rows.new.rows.items) =
-    subst (λ (n : ℕ). AreNext n c.args.out.at c.args.column o.0 (map row_view c.args.rows.now.items) (map row_view c.turn_rows.new.rows.items)) c.requires.columns
+    let nx : AreNext (length c.args.places.now.items) c.args.out.at c.args.column o.0 (map row_view c.args.rows.now.items)
+    (map row_view c.turn_rows.new.rows.items) =
+    subst (λ (n : ℕ). AreNext n c.args.out.at c.args.column o.0 (map row_view c.args.rows.now.items)
+    (map row_view c.turn_rows.new.rows.items)) c.requires.columns
     (c.in_ok-turn_rows.ensures.made o.0 o.1) in
-    let ra = ready_after (map row_view c.args.given.now) (length c.args.places.now.items) c.args.basis.now.items (map row_view c.args.rows.now.items) (map row_view c.turn_rows.new.rows.items)
+    let ra = ready_after (map row_view c.args.given.now) (length c.args.places.now.items) c.args.basis.now.items
+    (map row_view c.args.rows.now.items) (map row_view c.turn_rows.new.rows.items)
     c.args.out c.args.column o.0 r t o.1 nx in
     let sb = set_exchanged c.args.basis.now.items c.args.out.at c.args.out.column c.args.column r.different t.stands in
     let a = c.in_ok-values.ensures.values in
     record {
-      ready = subst (λ (b : List ℕ). IsReady (map row_view c.args.given.now) (length c.args.places.now.items) b (map row_view c.turn_rows.new.rows.items)) (sym sb) ra;
+      ready = subst (λ (b : List ℕ). IsReady (map row_view c.args.given.now) (length c.args.places.now.items) b
+          (map row_view c.turn_rows.new.rows.items)) (sym sb) ra;
       width = length-set c.args.places.now.items c.args.out.column _;
       are_values =
-          subst (λ (ps : List ℤ). AreValues (slice_set c.args.basis.now.items c.args.out.at c.args.column) (map row_view c.turn_rows.new.rows.items) ps c.in_ok-values.field-0.items) c.deref-3.ensures.value
-          (subst (λ (xs : List (Vec (ℕ × ℤ) Global)). AreValues (slice_set c.args.basis.now.items c.args.out.at c.args.column) (map row_view xs) c.deref-3.result.now c.in_ok-values.field-0.items)
+          subst (λ (ps : List ℤ). AreValues (slice_set c.args.basis.now.items c.args.out.at c.args.column)
+          (map row_view c.turn_rows.new.rows.items) ps c.in_ok-values.field-0.items) c.deref-3.ensures.value
+          (subst (λ (xs : List (Vec (ℕ × ℤ) Global)). AreValues (slice_set c.args.basis.now.items c.args.out.at c.args.column)
+          (map row_view xs) c.deref-3.result.now c.in_ok-values.field-0.items)
           c.deref-2.ensures.value
           (subst (λ (b : List ℕ). AreValues b (map row_view c.deref-2.result.now) c.deref-3.result.now c.in_ok-values.field-0.items) c.deref.ensures.value a));
     }

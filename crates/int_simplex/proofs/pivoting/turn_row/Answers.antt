@@ -21,7 +21,8 @@ next_row-requires-clause-row c =
 pub returns-in_err-new-clause-past : goal.returns-in_err-new-clause-past
 returns-in_err-new-clause-past c =
     let e = row_there c.args.rows.now.items c.args.k c.index.result.now c.requires.in_range c.index.ensures in
-    turned_past c.args.at c.args.entering c.args.k (map row_view c.args.rows.now.items) c.index.result.now.items c.args.other.now c.in_err-new.field-0.0 c.from_residual.result
+    turned_past c.args.at c.args.entering c.args.k (map row_view c.args.rows.now.items) c.index.result.now.items c.args.other.now
+    c.in_err-new.field-0.0 c.from_residual.result
     e c.if-k-at.false
     (subst (λ (r : List (ℕ × ℤ)). IsNextPast c.args.entering c.args.other.now r c.in_err-new.field-0.0) c.deref.ensures.value c.in_err-new.ensures.past)
     c.from_residual.ensures.1
@@ -34,11 +35,16 @@ returns-in-Some-clause-made c =
       c.in-Some.new.items,
       e,
       c.if-k-at.false,
-      (subst (λ (r : List (ℕ × ℤ)). IsPivoted c.args.columns c.args.entering r c.args.other.now c.in-Some.new.items) c.deref.ensures.value (rw c.in-Some.is at c.in_ok-new.ensures.made)),
+      (subst (λ (r : List (ℕ × ℤ)). IsPivoted c.args.columns c.args.entering r c.args.other.now c.in-Some.new.items) c.deref.ensures.value
+          (rw c.in-Some.is at c.in_ok-new.ensures.made)),
       set_mapped row_view c.args.rows.now.items c.args.k c.in-Some.new,
     )
 
 pub returns-in-None-clause-made : goal.returns-in-None-clause-made
 returns-in-None-clause-made c =
     let e = row_there c.args.rows.now.items c.args.k c.index.result.now c.requires.in_range c.index.ensures in
-    inl (refl, λ row f. inr (subst (λ (r : List (ℕ × ℤ)). entry r c.args.entering ≡ pos 0) (c.deref.ensures.value ∙ same_some c.index.result.now.items row (sym e ∙ f)) (rw c.in-None.is at c.in_ok-new.ensures.made)))
+    inl (
+      refl,
+      λ row f. inr (subst (λ (r : List (ℕ × ℤ)). entry r c.args.entering ≡ pos 0)
+          (c.deref.ensures.value ∙ same_some c.index.result.now.items row (sym e ∙ f)) (rw c.in-None.is at c.in_ok-new.ensures.made)),
+    )

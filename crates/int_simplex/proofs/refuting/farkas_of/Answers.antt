@@ -31,8 +31,10 @@ pub returns-in-Err-clause-past : goal.returns-in-Err-clause-past
 returns-in-Err-clause-past c =
     let fa : SFits w128 (get_or c.args.row.now c.loop-t.t-index (0, pos 0)).1 = search rules in
     let g = row_there c.args.given.now 0 c.index-given-0.result c.requires.given c.index-given-0.is in
-    size_past c.args.row.now (map row_view c.args.given.now) c.loop-t.t-index (get_or c.args.row.now c.loop-t.t-index (0, pos 0)) c.index-given-0.result.items c.deref.result.now
-    c.in-Err.past c.past_over.result (slice_get-get_or c.args.row.now c.loop-t.t-index (0, pos 0) c.loop-t-test.true) g c.deref.ensures.value c.past_over.ensures
+    size_past c.args.row.now (map row_view c.args.given.now) c.loop-t.t-index
+    (get_or c.args.row.now c.loop-t.t-index (0, pos 0)) c.index-given-0.result.items c.deref.result.now
+    c.in-Err.past c.past_over.result (slice_get-get_or c.args.row.now c.loop-t.t-index (0, pos 0) c.loop-t-test.true) g
+    c.deref.ensures.value c.past_over.ensures
     (simp to_z-of_z at c.in-Err.ensures.past)
 
 pub loop-t-preserved : goal.loop-t-preserved
@@ -52,13 +54,20 @@ loop-t-preserved c =
     ∙ ap (λ (z : ℤ). c.loop-t.parts.items ++ (z, c.literal_of.result) ∷ []) m
     ∙ ap (λ (n : ℕ). c.loop-t.parts.items ++ (pos (unsigned_abs (get_or c.args.row.now c.loop-t.t-index (0, pos 0)).1), n) ∷ []) (l ∙ ap literal_in k
     ∙ ap (λ o. literal_in (on_side o
-    (get_or c.args.lowers.now (get_or c.args.row.now c.loop-t.t-index (0, pos 0)).0 None) (get_or c.args.uppers.now (get_or c.args.row.now c.loop-t.t-index (0, pos 0)).0 None))) (d2 ∙ ap (λ w. differs w c.args.side) d1)
+    (get_or c.args.lowers.now (get_or c.args.row.now c.loop-t.t-index (0, pos 0)).0 None)
+    (get_or c.args.uppers.now (get_or c.args.row.now c.loop-t.t-index (0, pos 0)).0 None))) (d2 ∙ ap (λ w. differs w c.args.side) d1)
     ∙ ap (λ o. literal_in (on_side (differs (differs (lt_z (pos 0) (get_or c.args.row.now c.loop-t.t-index (0, pos 0)).1) (lt_z (pos 0) o)) c.args.side)
-    (get_or c.args.lowers.now (get_or c.args.row.now c.loop-t.t-index (0, pos 0)).0 None) (get_or c.args.uppers.now (get_or c.args.row.now c.loop-t.t-index (0, pos 0)).0 None))) c.entry_in-falls.ensures
+    (get_or c.args.lowers.now (get_or c.args.row.now c.loop-t.t-index (0, pos 0)).0 None)
+    (get_or c.args.uppers.now (get_or c.args.row.now c.loop-t.t-index (0, pos 0)).0 None))) c.entry_in-falls.ensures
     ∙ ap (λ o. literal_in (on_side (stop_side c.args.row.now c.args.x c.args.side (get_or c.args.row.now c.loop-t.t-index (0, pos 0)).1) o
-    (get_or c.args.uppers.now (get_or c.args.row.now c.loop-t.t-index (0, pos 0)).0 None))) (limit-is c.args.lowers.now (get_or c.args.row.now c.loop-t.t-index (0, pos 0)).0 None b)
+    (get_or c.args.uppers.now (get_or c.args.row.now c.loop-t.t-index (0, pos 0)).0 None)))
+    (limit-is c.args.lowers.now (get_or c.args.row.now c.loop-t.t-index (0, pos 0)).0 None b)
     ∙ ap (λ o. literal_in (on_side (stop_side c.args.row.now c.args.x c.args.side (get_or c.args.row.now c.loop-t.t-index (0, pos 0)).1)
-    (limit_at c.args.lowers.now (get_or c.args.row.now c.loop-t.t-index (0, pos 0)).0) o)) (limit-is c.args.uppers.now (get_or c.args.row.now c.loop-t.t-index (0, pos 0)).0 None (omega arith)))
-    ∙ ap (λ xs. xs ++ part_of c.args.row.now c.args.x c.args.side c.args.lowers.now c.args.uppers.now (get_or c.args.row.now c.loop-t.t-index (0, pos 0)) ∷ []) c.loop-t.invariant
-    ∙ sym (map-append (part_of c.args.row.now c.args.x c.args.side c.args.lowers.now c.args.uppers.now) (take c.loop-t.t-index c.args.row.now) (get_or c.args.row.now c.loop-t.t-index (0, pos 0) ∷ []))
-    ∙ ap (map (part_of c.args.row.now c.args.x c.args.side c.args.lowers.now c.args.uppers.now)) (sym (take_more c.args.row.now c.loop-t.t-index (0, pos 0) c.loop-t-test.true))
+    (limit_at c.args.lowers.now (get_or c.args.row.now c.loop-t.t-index (0, pos 0)).0) o))
+    (limit-is c.args.uppers.now (get_or c.args.row.now c.loop-t.t-index (0, pos 0)).0 None (omega arith)))
+    ∙ ap (λ xs. xs ++ part_of c.args.row.now c.args.x c.args.side c.args.lowers.now c.args.uppers.now
+    (get_or c.args.row.now c.loop-t.t-index (0, pos 0)) ∷ []) c.loop-t.invariant
+    ∙ sym (map-append (part_of c.args.row.now c.args.x c.args.side c.args.lowers.now c.args.uppers.now)
+    (take c.loop-t.t-index c.args.row.now) (get_or c.args.row.now c.loop-t.t-index (0, pos 0) ∷ []))
+    ∙ ap (map (part_of c.args.row.now c.args.x c.args.side c.args.lowers.now c.args.uppers.now))
+    (sym (take_more c.args.row.now c.loop-t.t-index (0, pos 0) c.loop-t-test.true))

@@ -23,8 +23,10 @@ loop-c-preserved c =
     let g : SFits w128 c.clamped.result = search rules in
     let p = simp to_z-of_z at c.in_ok-push.ensures.items in
     subst (λ (xs : List ℤ). AreFirstTo c.args.basis.now c.args.values.now c.args.lowers.now c.args.uppers.now xs (c.loop-c.c + 1)) (sym p)
-    (first_more c.args.basis.now c.args.values.now c.args.lowers.now c.args.uppers.now c.loop-c.places.items c.loop-c.c (to_z w128 c.match-place_in.z-bits) c.clamped.result _ _ z
-    (limit-is c.args.lowers.now c.loop-c.c None (omega (arith, c.loop-c-test.true, l))) (limit-is c.args.uppers.now c.loop-c.c None (omega (arith, c.loop-c-test.true, u)))
+    (first_more c.args.basis.now c.args.values.now c.args.lowers.now c.args.uppers.now c.loop-c.places.items c.loop-c.c
+    (to_z w128 c.match-place_in.z-bits) c.clamped.result _ _ z
+    (limit-is c.args.lowers.now c.loop-c.c None (omega (arith, c.loop-c-test.true, l)))
+    (limit-is c.args.uppers.now c.loop-c.c None (omega (arith, c.loop-c-test.true, u)))
     c.clamped.ensures c.loop-c.invariant)
 
 pub returns : goal.returns

@@ -17,7 +17,8 @@ loop-c-preserved c = elim c.match-place_in.branch [
       let p = simp to_z-of_z at w.in_ok-push-in-None.ensures.items in
       ap (λ v. v.items ++ outside_from (c.loop-c.c + 1) (drop (c.loop-c.c + 1) c.args.values.now) c.args.basis.now) w.places-is
       ∙ ap (λ xs. xs ++ outside_from (c.loop-c.c + 1) (drop (c.loop-c.c + 1) c.args.values.now) c.args.basis.now) p
-      ∙ outside_out c.loop-c.c c.args.values.now c.args.basis.now c.loop-c.places.items (pos 0, pos 0) (c.loop-c.c, (get_or c.args.values.now c.loop-c.c (pos 0, pos 0)).0) c.loop-c-test.true
+      ∙ outside_out c.loop-c.c c.args.values.now c.args.basis.now c.loop-c.places.items (pos 0, pos 0)
+      (c.loop-c.c, (get_or c.args.values.now c.loop-c.c (pos 0, pos 0)).0) c.loop-c-test.true
       w.in-None.ensures refl
       ∙ c.loop-c.invariant
   | in-Some w ↦

@@ -35,7 +35,8 @@ returns-in_ok-negated-2-clause-value c =
     let r = c.in_ok-sum.ensures.sum ∙ rest_is c.args.x 0 (length c.args.places.now) (place_at c.args.places.now) c.args.row.now c.requires in
     record {
       fraction = c.lowest-then-own-gt0.ensures.fraction;
-      quotient = quotient_up _ c.in_ok-sum.sum c.entry_in-own.result _ _ _ r c.entry_in-own.ensures (ap (λ z. z *ℤ c.lowest-then-own-gt0.result.1) (sym n.1) ∙ s);
+      quotient = quotient_up _ c.in_ok-sum.sum c.entry_in-own.result _ _ _ r c.entry_in-own.ensures
+          (ap (λ z. z *ℤ c.lowest-then-own-gt0.result.1) (sym n.1) ∙ s);
     }
 
 pub returns-else-own-gt0-clause-value : goal.returns-else-own-gt0-clause-value

@@ -31,10 +31,13 @@ returns-in-Err-clause-past c =
     let e = row_there c.args.rows.now c.loop-k.k c.index-rows-k.result (omega (arith, n, c.loop-k-test.true)) c.index-rows-k.is in
     let f = row_there c.args.rows.now c.loop-k.k c.index-rows-k-in-Err.result (omega (arith, n, c.loop-k-test.true)) c.index-rows-k-in-Err.is in
     let g = row_there c.args.given.now 0 c.index-given-0.result (omega (arith, c.requires.given, c.loop-k-test.true)) c.index-given-0.is in
-    values_past (map row_view c.args.given.now) c.args.basis.now (map row_view c.args.rows.now) (place_at c.args.places.now) c.loop-k.k (get_or c.args.basis.now c.loop-k.k 0)
+    values_past (map row_view c.args.given.now) c.args.basis.now (map row_view c.args.rows.now) (place_at c.args.places.now) c.loop-k.k
+    (get_or c.args.basis.now c.loop-k.k 0)
     c.index-rows-k-in-Err.result.items c.index-given-0.result.items c.deref-in-Err.result.now c.deref-in-Err-2.result.now c.in-Err.past c.past_over.result
     (slice_get-get_or c.args.basis.now c.loop-k.k 0 c.loop-k-test.true) f g c.deref-in-Err.ensures.value c.deref-in-Err-2.ensures.value c.past_over.ensures
-    (subst (λ (r : List (ℕ × ℤ)). IsValuePast (get_or c.args.basis.now c.loop-k.k 0) (place_at c.args.places.now) r c.in-Err.past) (c.deref.ensures.value ∙ same_some c.index-rows-k.result.items c.index-rows-k-in-Err.result.items (sym e ∙ f)) c.in-Err.ensures.past)
+    (subst (λ (r : List (ℕ × ℤ)). IsValuePast (get_or c.args.basis.now c.loop-k.k 0) (place_at c.args.places.now) r c.in-Err.past)
+    (c.deref.ensures.value ∙ same_some c.index-rows-k.result.items c.index-rows-k-in-Err.result.items (sym e ∙ f))
+    c.in-Err.ensures.past)
 
 pub loop-k-preserved : goal.loop-k-preserved
 loop-k-preserved c =
@@ -43,10 +46,13 @@ loop-k-preserved c =
     let f0 : SFits w128 c.in-Ok.v.0 = search rules in
     let f1 : SFits w128 c.in-Ok.v.1 = search rules in
     let q = c.in-Ok.ensures.value in
-    values_more c.args.basis.now (map row_view c.args.rows.now) c.args.places.now c.loop-k.values.items c.loop-k.k (get_or c.args.basis.now c.loop-k.k 0) c.index-rows-k.result.items c.in-Ok.v
+    values_more c.args.basis.now (map row_view c.args.rows.now) c.args.places.now c.loop-k.values.items c.loop-k.k
+    (get_or c.args.basis.now c.loop-k.k 0) c.index-rows-k.result.items c.in-Ok.v
     c.requires.different (slice_get-get_or c.args.basis.now c.loop-k.k 0 c.loop-k-test.true) e (c.requires.in_range c.loop-k.k 0 c.loop-k-test.true)
-    (subst (λ (r : List (ℕ × ℤ)). IsRowValue (length c.args.places.now) (get_or c.args.basis.now c.loop-k.k 0) (place_at c.args.places.now) r c.in-Ok.v) c.deref.ensures.value q)
+    (subst (λ (r : List (ℕ × ℤ)). IsRowValue (length c.args.places.now) (get_or c.args.basis.now c.loop-k.k 0)
+    (place_at c.args.places.now) r c.in-Ok.v) c.deref.ensures.value q)
     c.loop-k.invariant
 
 pub returns-clause-values : goal.returns-clause-values
-returns-clause-values c = values_all c.args.basis.now (map row_view c.args.rows.now) c.args.places.now c.loop-k.values.items c.loop-k.k c.loop-k-test.false c.loop-k.invariant
+returns-clause-values c = values_all c.args.basis.now (map row_view c.args.rows.now) c.args.places.now c.loop-k.values.items c.loop-k.k
+    c.loop-k-test.false c.loop-k.invariant

@@ -8,6 +8,11 @@ pub loop-preserved : goal.loop-preserved
 loop-preserved g c =
     let (done, split, appended) = c.loop.invariant in
     elim c.match-write.branch [
-      | in-Ok w ↦ (done ++ take w.in-Ok.count c.loop.rest.now, rw w.rest-is (front_moves _ done c.loop.rest.now w.in-Ok.count split), Appends-trans _ _ _ done _ appended w.in-Ok.ensures.bytes)
+      | in-Ok w ↦ (
+        done ++ take w.in-Ok.count c.loop.rest.now,
+        rw w.rest-is
+            (front_moves _ done c.loop.rest.now w.in-Ok.count split),
+        Appends-trans _ _ _ done _ appended w.in-Ok.ensures.bytes,
+      )
       | in-Err w ↦ (done, rw w.rest-is split, Appends-kept _ _ _ done appended w.in-Err.ensures.bytes)
     ]

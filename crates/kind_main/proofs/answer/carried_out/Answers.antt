@@ -8,4 +8,5 @@ returns-in-Some-Prove g c =
 
 pub returns-in-Some-Replay : goal.returns-in-Some-Replay
 returns-in-Some-Replay g c =
-    ended_as _ _ (λ e h. A.replay c.in-Some-Replay.source.now c.in-Some-Replay.trace.now (rw c.in-Some-Replay.field-0-is at c.in-Some-Replay.ensures) h) _ c.replay_files.ensures
+    ended_as _ _ (λ e h. A.replay c.in-Some-Replay.source.now c.in-Some-Replay.trace.now
+    (rw c.in-Some-Replay.field-0-is at c.in-Some-Replay.ensures) h) _ c.replay_files.ensures

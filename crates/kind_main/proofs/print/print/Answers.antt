@@ -6,14 +6,16 @@ use Rattle.kind_main.proofs.print.print.Goals as goal
 pub returns-in-Err-Failed : goal.returns-in-Err-Failed
 returns-in-Err-Failed g c =
     let e = ap Err c.in-Err-Failed.field-0-is in
-    writing-failed line_bytes c.args.lines.now c.loop-line.line-index c.line-item.result (omega arith) c.line-item.is c.args.status.code _ _ _ _ _ _ c.loop-line.invariant
+    writing-failed line_bytes c.args.lines.now c.loop-line.line-index c.line-item.result
+    (omega arith) c.line-item.is c.args.status.code _ _ _ _ _ _ c.loop-line.invariant
     (c.in-Err-Failed.ensures.cause e) (rw c.deref.ensures.value at (c.in-Err-Failed.ensures.front e))
 
 pub returns-in-Err-Memory : goal.returns-in-Err-Memory
 returns-in-Err-Memory g c =
     let e = ap Err c.in-Err-Memory.field-0-is in
     writing-stopped line_bytes c.args.lines.now c.loop-line.line-index c.line-item.result (omega arith) c.line-item.is c.args.status.code _ _ _ _ _ _ _
-    (writing-stays line_bytes c.args.lines.now c.loop-line.line-index c.line-item.result (omega arith) c.line-item.is _ _ _ _ _ _ c.loop-line.invariant c.in-Err-Memory.ensures.later (c.in-Err-Memory.ensures.memory e))
+    (writing-stays line_bytes c.args.lines.now c.loop-line.line-index c.line-item.result
+    (omega arith) c.line-item.is _ _ _ _ _ _ c.loop-line.invariant c.in-Err-Memory.ensures.later (c.in-Err-Memory.ensures.memory e))
     c.out_of_memory.ensures.said
 
 pub loop-line-preserved : goal.loop-line-preserved

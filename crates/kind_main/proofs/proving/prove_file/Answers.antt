@@ -20,6 +20,7 @@ pub returns : goal.returns
 returns g c =
     let held = c.in_ok-bytes.ensures.fetched in
     let read = rw c.deref.ensures.value at c.in_ok-checked.ensures in
-    proof_done (g.H.Shelf.told c.args.shelf.now) (g.H.Shelf.faults c.args.shelf.now) (g.H.Shelf.faults c.fetch.new.shelf) c.args.source.now (program_view c.in_ok-checked.checked)
+    proof_done (g.H.Shelf.told c.args.shelf.now) (g.H.Shelf.faults c.args.shelf.now) (g.H.Shelf.faults c.fetch.new.shelf) c.args.source.now
+    (program_view c.in_ok-checked.checked)
     (held_source _ (program_view c.in_ok-checked.checked) c.in_ok-bytes.bytes.items held.0 held.1 read.0 read.1)
     _ _ c.in_ok-proof_report.ensures

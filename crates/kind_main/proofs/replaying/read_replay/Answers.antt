@@ -9,5 +9,6 @@ returns-in-Err c =
 
 pub returns-in-Err-replay : goal.returns-in-Err-replay
 returns-in-Err-replay c =
-    stop_as _ _ (misfit_ends c.args.bytes.now (program_view c.args.checked.now) (trace_view c.in-Ok.trace) c.in-Err-replay.fault c.in-Ok.ensures.found c.in-Err-replay.ensures.form)
+    stop_as _ _ (misfit_ends c.args.bytes.now (program_view c.args.checked.now)
+    (trace_view c.in-Ok.trace) c.in-Err-replay.fault c.in-Ok.ensures.found c.in-Err-replay.ensures.form)
     c.formless-in-Err-replay.result c.formless-in-Err-replay.ensures

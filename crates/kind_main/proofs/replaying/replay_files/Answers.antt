@@ -41,7 +41,9 @@ returns g c =
     let read = rw c.deref.ensures.value at c.in_ok-checked.ensures in
     let trace = c.in_ok-bytes-2.ensures.fetched in
     let replayed = rw c.deref-2.ensures.value at c.in_ok-replayed.ensures in
-    traced (g.H.Shelf.told c.args.shelf.now) (g.H.Shelf.faults c.args.shelf.now) (g.H.Shelf.faults c.fetch-2.new.shelf) c.args.source.now c.args.trace.now (program_view c.in_ok-checked.checked)
+    traced (g.H.Shelf.told c.args.shelf.now) (g.H.Shelf.faults c.args.shelf.now)
+    (g.H.Shelf.faults c.fetch-2.new.shelf) c.args.source.now c.args.trace.now (program_view c.in_ok-checked.checked)
     (held_source _ (program_view c.in_ok-checked.checked) c.in_ok-bytes.bytes.items held.0 held.1 read.0 read.1)
-    _ (c.in_ok-bytes.ensures.names c.args.trace.now) c.in_ok-bytes-2.bytes.items trace.0 trace.1 (trace_view c.in_ok-replayed.replayed.trace) replayed.0 replayed.1
+    _ (c.in_ok-bytes.ensures.names c.args.trace.now) c.in_ok-bytes-2.bytes.items trace.0 trace.1
+    (trace_view c.in_ok-replayed.replayed.trace) replayed.0 replayed.1
     _ _ c.in_ok-replay_report.ensures

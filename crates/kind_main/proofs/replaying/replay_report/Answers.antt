@@ -15,7 +15,8 @@ break_lines-requires c =
 pub returns : goal.returns
 returns c =
     let lines = rw c.deref.ensures.value at c.in_ok-lines.ensures in
-    replayed (program_view c.args.checked.now) (node_view c.node.result.now) c.node.ensures.rules (trace_view c.args.trace.now) (replay_view c.args.replay.now) c.requires
+    replayed (program_view c.args.checked.now) (node_view c.node.result.now) c.node.ensures.rules (trace_view c.args.trace.now)
+    (replay_view c.args.replay.now) c.requires
     (lines_view c.in_ok-lines.lines.items) lines
     _ (pushed-line line_bytes c.in_ok-lines.lines.items _ c.into_bytes.result _ c.in_ok-push.ensures.items
     (ap line_bytes c.into_bytes.ensures.value ∙ (rw c.lawful.ensures at c.in_ok-last.ensures)))

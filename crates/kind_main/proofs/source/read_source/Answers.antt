@@ -12,5 +12,6 @@ returns-in-Err c = stop_as _ _ (misread_ends c.args.bytes.now (refusal_view c.in
 
 pub returns-in-Err-checked : goal.returns-in-Err-checked
 returns-in-Err-checked c =
-    stop_as _ _ (unbuilt_ends c.args.bytes.now (program_view c.in-Ok.program) (refusal_view c.in-Err-checked.refusal) c.in-Ok.ensures.found c.in-Err-checked.ensures.refused)
+    stop_as _ _ (unbuilt_ends c.args.bytes.now (program_view c.in-Ok.program)
+    (refusal_view c.in-Err-checked.refusal) c.in-Ok.ensures.found c.in-Err-checked.ensures.refused)
     c.refused-in-Err-checked.result c.refused-in-Err-checked.ensures

@@ -13,7 +13,8 @@ returns c =
     let named : length (map (λ r. named_view r.now) c.in_ok-properties.properties.items) ≡ length (labelled_in (map item_view c.args.items.now)) =
     ap length c.in_ok-properties.ensures in
     let same = c.requires in
-    report_done (λ r. property_label (named_view r.now)) c.in_ok-properties.properties.items c.args.outcomes.now c.loop-i.i (omega (arith, many, named, same)) _ _
+    report_done (λ r. property_label (named_view r.now)) c.in_ok-properties.properties.items c.args.outcomes.now c.loop-i.i
+    (omega (arith, many, named, same)) _ _
     c.loop-i.invariant
     ∙ ap (λ l. verdict_report l (outcomes_view c.args.outcomes.now))
     (labels_through (λ r. named_view r.now) property_label c.in_ok-properties.properties.items (labelled_in (map item_view c.args.items.now))

@@ -6,4 +6,5 @@ use Rattle.lus_checked.proofs.collected.lefts_of.Given as goal
 
 -- what is there, followed by what is to come, is all
 abbrev pub invariant-loop-item : goal.invariant-loop-item
-invariant-loop-item l = map (λ x. x.now) l.names.items ++ lefts (body_equations (map item_view (drop l.item-index l.items))) ≡ lefts (body_equations (map item_view l.items))
+invariant-loop-item l = map (λ x. x.now) l.names.items ++ lefts (body_equations (map item_view (drop l.item-index l.items))) ≡ lefts
+    (body_equations (map item_view l.items))

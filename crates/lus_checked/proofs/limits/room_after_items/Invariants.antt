@@ -7,6 +7,7 @@ use Rattle.lus_checked.proofs.limits.room_after_items.Given as goal
 
 abbrev pub invariant-loop-item : goal.invariant-loop-item
 invariant-loop-item l = record {
-  room : (length (body_pres (map item_view l.items)) + length (body_arrows (map item_view l.items))) + l.left ≡ l.room + (length (body_pres (map item_view (drop l.item-index l.items))) + length (body_arrows (map item_view (drop l.item-index l.items))));
+  room : (length (body_pres (map item_view l.items)) + length (body_arrows (map item_view l.items))) + l.left ≡ l.room +
+      (length (body_pres (map item_view (drop l.item-index l.items))) + length (body_arrows (map item_view (drop l.item-index l.items))));
   simple : AllByRecursion IsBooleanItem (map item_view (drop l.item-index l.items));
 }

@@ -14,7 +14,8 @@ loop-done-init c = record {
 pub returns-in_default : goal.returns-in_default
 returns-in_default c = (
   c.loop-done.order.items,
-  none_open (map (λ r. r.items) c.args.rows.now) (length c.args.rows.now) c.loop-done.done.items c.loop-done.order.items c.loop-done.invariant.whole c.loop-done.invariant.marks (grind (arith, common_steps))
+  none_open (map (λ r. r.items) c.args.rows.now) (length c.args.rows.now) c.loop-done.done.items c.loop-done.order.items
+      c.loop-done.invariant.whole c.loop-done.invariant.marks (grind (arith, common_steps))
       (rw c.deref.ensures.value at c.in_default.ensures),
 )
 
@@ -26,8 +27,13 @@ loop-done-preserved c =
     let below : c.in-Some.k < length c.args.rows.now = c.in-Some.ensures.0 in
     record {
       whole = grind (arith, common_steps);
-      marks = rw c.in_ok-push.ensures.items (marks_next (map (λ r. r.items) c.args.rows.now) (length c.args.rows.now) c.loop-done.done.items c.loop-done.order.items c.loop-done.invariant.whole c.loop-done.invariant.marks c.in-Some.k below);
-      next = rw c.in_ok-push.ensures.items (open_next (map (λ r. r.items) c.args.rows.now) (length c.args.rows.now) c.loop-done.done.items c.loop-done.order.items c.loop-done.invariant.whole c.loop-done.invariant.marks c.in-Some.k c.loop-done.invariant.next below (rw c.deref.ensures.value at c.in-Some.ensures.1) (rw c.deref.ensures.value at c.in-Some.ensures.2));
+      marks = rw c.in_ok-push.ensures.items (marks_next (map (λ r. r.items) c.args.rows.now)
+          (length c.args.rows.now) c.loop-done.done.items c.loop-done.order.items c.loop-done.invariant.whole c.loop-done.invariant.marks
+          c.in-Some.k below);
+      next = rw c.in_ok-push.ensures.items (open_next (map (λ r. r.items) c.args.rows.now)
+          (length c.args.rows.now) c.loop-done.done.items c.loop-done.order.items c.loop-done.invariant.whole c.loop-done.invariant.marks
+          c.in-Some.k c.loop-done.invariant.next below (rw c.deref.ensures.value at c.in-Some.ensures.1)
+          (rw c.deref.ensures.value at c.in-Some.ensures.2));
       within = grind (arith, common_steps);
     }
 

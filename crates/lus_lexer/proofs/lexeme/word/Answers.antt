@@ -9,8 +9,12 @@ use Rattle.lus_lexer.proofs.lexeme.word.Goals as goal
 
 pub returns : goal.returns
 returns c =
-    let o : c.args.at < c.word_end-end.result = some_word (byte c.args.bytes.now) c.args.at c.word_end-end.result c.word_end-end.ensures.within.0 c.requires.letter c.word_end-end.ensures.last in
+    let o : c.args.at < c.word_end-end.result = some_word (byte c.args.bytes.now) c.args.at c.word_end-end.result
+    c.word_end-end.ensures.within.0 c.requires.letter c.word_end-end.ensures.last in
     let w : List ℕ = take (c.word_end-end.result - c.args.at) (drop c.args.at c.args.bytes.now) in
-    longest_word (byte c.args.bytes.now) c.args.at c.word_end-end.result (Token c.word_in.result) c.word_end-end.ensures.within.0 c.requires.letter c.word_end-end.ensures.last
-    (word_spells c.args.bytes.now c.args.at c.word_end-end.result c.word_in.result o c.word_end-end.ensures.within.1 c.requires.letter c.word_end-end.ensures.word
-    (word_found (byte c.args.bytes.now c.args.at) w c.word_in.result (c.word_in.ensures ∙ ap (λ (ws : List (List ℕ × Class)). word_in ws w) c.words_from.ensures)))
+    longest_word (byte c.args.bytes.now) c.args.at c.word_end-end.result
+    (Token c.word_in.result) c.word_end-end.ensures.within.0 c.requires.letter c.word_end-end.ensures.last
+    (word_spells c.args.bytes.now c.args.at c.word_end-end.result c.word_in.result o c.word_end-end.ensures.within.1 c.requires.letter
+    c.word_end-end.ensures.word
+    (word_found (byte c.args.bytes.now c.args.at) w c.word_in.result
+    (c.word_in.ensures ∙ ap (λ (ws : List (List ℕ × Class)). word_in ws w) c.words_from.ensures)))

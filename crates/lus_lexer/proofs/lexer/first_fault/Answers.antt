@@ -10,7 +10,8 @@ loop-here-preserved c = record {
   cursor = c.in-Ok.ensures.there;
   leads = record {
     front = c.loop-here.invariant.leads.front ++ option_to_list c.in-Ok.field-0-0;
-    on = λ ts e h. subst (λ (x : List Token). Lexes (byte c.args.bytes.now) (length c.args.bytes.now) 0 x e) (sym (append_assoc c.loop-here.invariant.leads.front (option_to_list c.in-Ok.field-0-0) ts))
+    on = λ ts e h. subst (λ (x : List Token). Lexes (byte c.args.bytes.now) (length c.args.bytes.now) 0 x e)
+        (sym (append_assoc c.loop-here.invariant.leads.front (option_to_list c.in-Ok.field-0-0) ts))
         (c.loop-here.invariant.leads.on _ e (c.in-Ok.ensures.step ts e h));
   };
 }

@@ -13,4 +13,6 @@ pub is_wide-requires-clause-digits : goal.is_wide-requires-clause-digits
 is_wide-requires-clause-digits c = let k = is_number _ _ _ c.requires.longest.spells in k.digits
 
 pub returns-then-is_wide-clause-step : goal.returns-then-is_wide-clause-step
-returns-then-is_wide-clause-step c = wide_at (byte c.args.bytes.now) (length c.args.bytes.now) c.args.here.at c.args.end c.args.here.pos c.refusal.result.at c.refusal.result.what c.requires.here c.refusal.ensures.at c.refusal.ensures.what c.requires.longest (c.is_wide.ensures.0 c.if-is_wide.true)
+returns-then-is_wide-clause-step c = wide_at (byte c.args.bytes.now)
+    (length c.args.bytes.now) c.args.here.at c.args.end c.args.here.pos c.refusal.result.at c.refusal.result.what c.requires.here
+    c.refusal.ensures.at c.refusal.ensures.what c.requires.longest (c.is_wide.ensures.0 c.if-is_wide.true)

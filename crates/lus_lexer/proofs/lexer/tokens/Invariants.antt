@@ -7,7 +7,8 @@ abbrev pub invariant-loop-here : goal.invariant-loop-here
 invariant-loop-here l = record {
   within : l.here.at ≤ length l.bytes;
   cursor : IsCursor (byte l.bytes) l.here.at l.here.pos;
-  leads : (ts : List Token) (e : Ending) → Lexes (byte l.bytes) (length l.bytes) l.here.at ts e → Lexes (byte l.bytes) (length l.bytes) 0 (l.tokens.items ++ ts) e;
+  leads : (ts : List Token) (e : Ending) → Lexes (byte l.bytes) (length l.bytes) l.here.at ts e → Lexes (byte l.bytes) (length l.bytes) 0
+      (l.tokens.items ++ ts) e;
 }
 
 abbrev pub decreases-loop-here : goal.decreases-loop-here

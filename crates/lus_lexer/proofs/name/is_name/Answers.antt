@@ -18,7 +18,8 @@ ident c =
     let w : List ℕ = c.args.bytes.now in
     let l : is_letter (byte w 0) ≡ true = sym (ap is_letter c.peek-first.ensures) ∙ sym c.is_letter.ensures ∙ c.if-not-is_letter.false in
     let e : Each (byte w) is_word 0 (length w) = subst (λ (j : ℕ). Each (byte w) is_word 0 j) c.if-word_end-bytes.false c.word_end.ensures.word in
-    (word_name w c.word_in.result l e (c.word_in.ensures ∙ ap (λ (ws : List (List ℕ × Class)). word_in ws w) (c.words_from.ensures ∙ ap (λ (b : ℕ). looked_up b word_groups) c.peek-first.ensures))).0 c.in-Ident.is
+    (word_name w c.word_in.result l e (c.word_in.ensures ∙ ap (λ (ws : List (List ℕ × Class)). word_in ws w)
+    (c.words_from.ensures ∙ ap (λ (b : ℕ). looked_up b word_groups) c.peek-first.ensures))).0 c.in-Ident.is
 
 pub returns-in-Ident-clause-same : goal.returns-in-Ident-clause-same
 returns-in-Ident-clause-same c = yes c.args.bytes.now (ident c)
@@ -31,7 +32,8 @@ not_ident c h =
     let w : List ℕ = c.args.bytes.now in
     let l : is_letter (byte w 0) ≡ true = sym (ap is_letter c.peek-first.ensures) ∙ sym c.is_letter.ensures ∙ c.if-not-is_letter.false in
     let e : Each (byte w) is_word 0 (length w) = subst (λ (j : ℕ). Each (byte w) is_word 0 j) c.if-word_end-bytes.false c.word_end.ensures.word in
-    c.in_default.not-Ident ((word_name w c.word_in.result l e (c.word_in.ensures ∙ ap (λ (ws : List (List ℕ × Class)). word_in ws w) (c.words_from.ensures ∙ ap (λ (b : ℕ). looked_up b word_groups) c.peek-first.ensures))).1 h)
+    c.in_default.not-Ident ((word_name w c.word_in.result l e (c.word_in.ensures ∙ ap (λ (ws : List (List ℕ × Class)). word_in ws w)
+    (c.words_from.ensures ∙ ap (λ (b : ℕ). looked_up b word_groups) c.peek-first.ensures))).1 h)
 
 pub returns-in_default : goal.returns-in_default
 returns-in_default c = record {

@@ -13,7 +13,12 @@ use Rattle.lus_reader.proofs.ends.optional_sort.Goals as goal
 
 pub returns-then-not-is_at-clause-run : goal.returns-then-not-is_at-clause-run
 returns-then-not-is_at-clause-run c = λ n.
-    record { syntax = absent; run = not_once (passes_one (stream c.args.bytes.now c.args.tokens.now) c.args.at (C.Sign S.Colon) refl (not_true ((c.if-not-is_at.ensures.when c.args.bytes.now).1))); is = refl }
+    record {
+      syntax = absent;
+      run = not_once (passes_one (stream c.args.bytes.now c.args.tokens.now) c.args.at (C.Sign S.Colon) refl
+          (not_true ((c.if-not-is_at.ensures.when c.args.bytes.now).1)));
+      is = refl;
+    }
 
 pub overflow_add-at : goal.overflow_add-at
 overflow_add-at c = next_fits c.args.bytes.now c.args.tokens.now c.args.at c.requires.cut c.requires.small (c.if-not-is_at.ensures.inside refl)

@@ -8,29 +8,38 @@ use Rattle.lus_reader.proofs.Stops.{at_err, refuses_by}
 use Rattle.lus_reader.proofs.ends.read_constant.Goals as goal
 
 pub returns-in_err-next-clause-stop : goal.returns-in_err-next-clause-stop
-returns-in_err-next-clause-stop c = at_err _ _ _ c.from_residual.ensures.1 (refuses_by (λ d k u. line_stop (first_stop u)) (c.in_err-next.ensures.stop (counts_view c.args.counts.now)))
+returns-in_err-next-clause-stop c = at_err _ _ _ c.from_residual.ensures.1
+    (refuses_by (λ d k u. line_stop (first_stop u)) (c.in_err-next.ensures.stop (counts_view c.args.counts.now)))
 
 pub returns-in_err-name-clause-stop : goal.returns-in_err-name-clause-stop
 returns-in_err-name-clause-stop c =
     let n = counts_view c.args.counts.now in
-    at_err _ _ _ c.from_residual-in_err-name.ensures.1 (refuses_by (λ d k u. line_stop (second_stop (c.in_ok-next.ensures.run n) (first_stop u))) (c.in_err-name.ensures.stop n))
+    at_err _ _ _ c.from_residual-in_err-name.ensures.1 (refuses_by
+    (λ d k u. line_stop (second_stop (c.in_ok-next.ensures.run n) (first_stop u))) (c.in_err-name.ensures.stop n))
 
 pub returns-in_err-sort-clause-stop : goal.returns-in_err-sort-clause-stop
 returns-in_err-sort-clause-stop c =
     let n = counts_view c.args.counts.now in
-    at_err _ _ _ c.from_residual-in_err-sort.ensures.1 (refuses_by (λ d k u. line_stop (second_stop (c.in_ok-next.ensures.run n) (second_stop (c.in_ok-name.ensures.run n) (first_stop u)))) (c.in_err-sort.ensures.stop n))
+    at_err _ _ _ c.from_residual-in_err-sort.ensures.1 (refuses_by
+    (λ d k u. line_stop (second_stop (c.in_ok-next.ensures.run n) (second_stop (c.in_ok-name.ensures.run n) (first_stop u))))
+    (c.in_err-sort.ensures.stop n))
 
 pub returns-in_err-next-2-clause-stop : goal.returns-in_err-next-2-clause-stop
 returns-in_err-next-2-clause-stop c =
     let n = counts_view c.args.counts.now in
     let q = c.in_ok-sort.ensures.run n in
-    at_err _ _ _ c.from_residual-in_err-next-2.ensures.1 (refuses_by (λ d k u. line_stop (second_stop (c.in_ok-next.ensures.run n) (second_stop (c.in_ok-name.ensures.run n) (second_stop q.run (first_stop u))))) (c.in_err-next-2.ensures.stop n))
+    at_err _ _ _ c.from_residual-in_err-next-2.ensures.1 (refuses_by
+    (λ d k u. line_stop (second_stop (c.in_ok-next.ensures.run n)
+    (second_stop (c.in_ok-name.ensures.run n) (second_stop q.run (first_stop u))))) (c.in_err-next-2.ensures.stop n))
 
 pub returns-in_err-value-clause-stop : goal.returns-in_err-value-clause-stop
 returns-in_err-value-clause-stop c =
     let n = counts_view c.args.counts.now in
     let q = c.in_ok-sort.ensures.run n in
-    at_err _ _ _ c.from_residual-in_err-value.ensures.1 (refuses_by (λ d k u. line_stop (second_stop (c.in_ok-next.ensures.run n) (second_stop (c.in_ok-name.ensures.run n) (second_stop q.run (second_stop (c.in_ok-next-2.ensures.run n) u))))) c.in_err-value.ensures.stop)
+    at_err _ _ _ c.from_residual-in_err-value.ensures.1 (refuses_by
+    (λ d k u. line_stop (second_stop (c.in_ok-next.ensures.run n)
+    (second_stop (c.in_ok-name.ensures.run n) (second_stop q.run (second_stop (c.in_ok-next-2.ensures.run n) u)))))
+    c.in_err-value.ensures.stop)
 
 pub returns-clause-run : goal.returns-clause-run
 returns-clause-run c =

@@ -8,7 +8,8 @@ pub returns-in_err-value-clause-stop : goal.returns-in_err-value-clause-stop
 returns-in_err-value-clause-stop c = at_err _ _ _ c.from_residual.ensures.1 (refuses_by (λ d k u. first_stop u) c.in_err-value.ensures.stop)
 
 pub returns-in_err-next-clause-stop : goal.returns-in_err-next-clause-stop
-returns-in_err-next-clause-stop c = at_err _ _ _ c.from_residual-in_err-next.ensures.1 (refuses_by (λ d k u. second_stop c.in_ok-value.ensures.run.run u) (c.in_err-next.ensures.stop (counts_view c.read_expr.new.counts)))
+returns-in_err-next-clause-stop c = at_err _ _ _ c.from_residual-in_err-next.ensures.1
+    (refuses_by (λ d k u. second_stop c.in_ok-value.ensures.run.run u) (c.in_err-next.ensures.stop (counts_view c.read_expr.new.counts)))
 
 pub returns-clause-run : goal.returns-clause-run
 returns-clause-run c =

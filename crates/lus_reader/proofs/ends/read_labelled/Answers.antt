@@ -10,7 +10,8 @@ pub overflow_add-first : goal.overflow_add-first
 overflow_add-first c = next_fits c.args.bytes.now c.args.tokens.now c.args.first c.requires.cut c.requires.small c.requires.inside
 
 pub returns-in_err-label-clause-stop : goal.returns-in_err-label-clause-stop
-returns-in_err-label-clause-stop c = at_err _ _ _ c.from_residual.ensures.1 (refuses_by (λ d k u. first_stop u) (c.in_err-label.ensures.stop (counts_view c.args.counts.now)))
+returns-in_err-label-clause-stop c = at_err _ _ _ c.from_residual.ensures.1
+    (refuses_by (λ d k u. first_stop u) (c.in_err-label.ensures.stop (counts_view c.args.counts.now)))
 
 pub returns-in_err-value-clause-stop : goal.returns-in_err-value-clause-stop
 returns-in_err-value-clause-stop c =

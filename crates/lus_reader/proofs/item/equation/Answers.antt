@@ -11,7 +11,8 @@ use Rattle.lus_reader.proofs.Stops.{at_err, refuses_by}
 use Rattle.lus_reader.proofs.item.equation.Goals as goal
 
 pub returns-in_err-left-clause-stop : goal.returns-in_err-left-clause-stop
-returns-in_err-left-clause-stop c = at_err _ _ _ c.from_residual.ensures.1 (refuses_by (λ d k u. first_stop u) (c.in_err-left.ensures.stop (counts_view c.args.counts.now)))
+returns-in_err-left-clause-stop c = at_err _ _ _ c.from_residual.ensures.1
+    (refuses_by (λ d k u. first_stop u) (c.in_err-left.ensures.stop (counts_view c.args.counts.now)))
 
 pub returns-in_err-next-clause-stop : goal.returns-in_err-next-clause-stop
 returns-in_err-next-clause-stop c =
@@ -23,7 +24,8 @@ pub returns-in_err-right-clause-stop : goal.returns-in_err-right-clause-stop
 returns-in_err-right-clause-stop c =
     let n = counts_view c.args.counts.now in
     let r = c.in_ok-left.ensures.run n in
-    at_err _ _ _ c.from_residual-in_err-right.ensures.1 (refuses_by (λ d k u. second_stop r.run (second_stop (c.in_ok-next.ensures.run n) u)) c.in_err-right.ensures.stop)
+    at_err _ _ _ c.from_residual-in_err-right.ensures.1 (refuses_by
+    (λ d k u. second_stop r.run (second_stop (c.in_ok-next.ensures.run n) u)) c.in_err-right.ensures.stop)
 
 pub returns-clause-run : goal.returns-clause-run
 returns-clause-run c =

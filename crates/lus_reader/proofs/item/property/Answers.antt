@@ -8,7 +8,8 @@ use Rattle.lus_reader.proofs.Stops.{at_err, refuses_by}
 use Rattle.lus_reader.proofs.item.property.Goals as goal
 
 pub returns-in_err-named-clause-stop : goal.returns-in_err-named-clause-stop
-returns-in_err-named-clause-stop c = at_err _ _ _ c.from_residual.ensures.1 (refuses_by (λ d k u. second_stop (token c.requires.first) u) c.in_err-named.ensures.stop)
+returns-in_err-named-clause-stop c = at_err _ _ _ c.from_residual.ensures.1
+    (refuses_by (λ d k u. second_stop (token c.requires.first) u) c.in_err-named.ensures.stop)
 
 pub returns-clause-run : goal.returns-clause-run
 returns-clause-run c =

@@ -13,18 +13,22 @@ use Rattle.lus_reader.proofs.item.read_items.Goals as goal
 
 pub loop-alloc-init : goal.loop-alloc-init
 loop-alloc-init c = record {
-  leads = body_none (stream c.args.bytes.now c.args.tokens.now) c.args.from (counts_view c.args.counts.now) _ (ap (λ x. map item_view x) c.new-items.ensures.items);
+  leads = body_none (stream c.args.bytes.now c.args.tokens.now) c.args.from (counts_view c.args.counts.now) _
+      (ap (λ x. map item_view x) c.new-items.ensures.items);
   past = omega arith;
   inside = c.requires.inside;
 }
 
 pub returns-in_err-item-clause-stop : goal.returns-in_err-item-clause-stop
 returns-in_err-item-clause-stop c = at_err _ _ _ c.from_residual.ensures.1
-    (body_stuck (stream c.args.bytes.now c.args.tokens.now) c.args.from c.loop-alloc.next (counts_view c.args.counts.now) (counts_view c.loop-alloc.after) _ _ c.loop-alloc.invariant.leads (c.loop-alloc-test.ensures.begins c.args.bytes.now) c.in_err-item.ensures.stop)
+    (body_stuck (stream c.args.bytes.now c.args.tokens.now) c.args.from c.loop-alloc.next (counts_view c.args.counts.now)
+    (counts_view c.loop-alloc.after) _ _ c.loop-alloc.invariant.leads
+    (c.loop-alloc-test.ensures.begins c.args.bytes.now) c.in_err-item.ensures.stop)
 
 pub loop-alloc-preserved : goal.loop-alloc-preserved
 loop-alloc-preserved c = record {
-  leads = body_next (stream c.args.bytes.now c.args.tokens.now) c.args.from c.loop-alloc.next c.in_ok-item.behind (counts_view c.args.counts.now) (counts_view c.loop-alloc.after) (counts_view c.read_item.new.counts) _ _ _
+  leads = body_next (stream c.args.bytes.now c.args.tokens.now) c.args.from c.loop-alloc.next c.in_ok-item.behind
+      (counts_view c.args.counts.now) (counts_view c.loop-alloc.after) (counts_view c.read_item.new.counts) _ _ _
       c.loop-alloc.invariant.leads (c.loop-alloc-test.ensures.begins c.args.bytes.now) c.in_ok-item.ensures.run
       (ap (λ x. map item_view x) c.in_ok-push.ensures.items ∙ map-append item_view c.loop-alloc.items.items (c.in_ok-item.item ∷ []));
   past = omega (arith, c.loop-alloc.invariant.past, c.in_ok-item.ensures.inside.0);
@@ -33,4 +37,6 @@ loop-alloc-preserved c = record {
 
 pub returns-clause-run : goal.returns-clause-run
 returns-clause-run c =
-    leads_end items_of items_of (stream c.args.bytes.now c.args.tokens.now) (repeated (part P.Item)) (part P.Item) c.args.from (counts_view c.args.counts.now) _ c.loop-alloc.next (counts_view c.loop-alloc.after) c.loop-alloc.invariant.leads refl (c.loop-alloc-test.ensures.begins c.args.bytes.now)
+    leads_end items_of items_of (stream c.args.bytes.now c.args.tokens.now) (repeated (part P.Item)) (part P.Item) c.args.from
+    (counts_view c.args.counts.now) _ c.loop-alloc.next (counts_view c.loop-alloc.after) c.loop-alloc.invariant.leads refl
+    (c.loop-alloc-test.ensures.begins c.args.bytes.now)

@@ -10,7 +10,8 @@ use Rattle.lus_reader.proofs.item.read_items.Given as goal
 
 abbrev pub invariant-loop-alloc : goal.invariant-loop-alloc
 invariant-loop-alloc l = record {
-  leads : Leads items_of items_of (stream l.bytes l.tokens) (repeated (part P.Item)) (repeated (part P.Item)) l.from (counts_view l.counts) (map item_view l.items.items) l.next (counts_view l.after);
+  leads : Leads items_of items_of (stream l.bytes l.tokens) (repeated (part P.Item)) (repeated (part P.Item)) l.from (counts_view l.counts)
+      (map item_view l.items.items) l.next (counts_view l.after);
   past : l.from ≤ l.next;
   inside : l.next ≤ length l.tokens;
 }

@@ -11,12 +11,14 @@ use Rattle.lus_reader.proofs.item.read_left.Goals as goal
 
 pub returns-in_err-names-clause-stop : goal.returns-in_err-names-clause-stop
 returns-in_err-names-clause-stop c = at_err _ _ _ c.from_residual.ensures.1 (λ n.
-    let e = enters_by (stream c.args.bytes.now c.args.tokens.now) c.args.at C.Ident (class_code C.Ident ∷ []) refl ((c.if-is_at.ensures.when c.args.bytes.now).0 refl) in
+    let e = enters_by (stream c.args.bytes.now c.args.tokens.now) c.args.at C.Ident (class_code C.Ident ∷ []) refl
+    ((c.if-is_at.ensures.when c.args.bytes.now).0 refl) in
     refuses_by (λ d k u. line_stop (this_stop e u)) (c.in_err-names.ensures.stop n))
 
 pub returns-then-is_at-clause-run : goal.returns-then-is_at-clause-run
 returns-then-is_at-clause-run c = λ n.
-    let e = enters_by (stream c.args.bytes.now c.args.tokens.now) c.args.at C.Ident (class_code C.Ident ∷ []) refl ((c.if-is_at.ensures.when c.args.bytes.now).0 refl) in
+    let e = enters_by (stream c.args.bytes.now c.args.tokens.now) c.args.at C.Ident (class_code C.Ident ∷ []) refl
+    ((c.if-is_at.ensures.when c.args.bytes.now).0 refl) in
     let r = c.in_ok-names.ensures.run n in
     record { syntax = node P.Left (this r.syntax); run = line (this_one e r.run); is = r.is }
 

@@ -8,7 +8,8 @@ use Rattle.lus_reader.proofs.look.expect.Goals as goal
 
 pub returns-then-not-is_at-clause-stop : goal.returns-then-not-is_at-clause-stop
 returns-then-not-is_at-clause-stop c =
-    λ n. refused c.refusal_at.ensures (no_token (not_one (stream c.args.bytes.now c.args.tokens.now) c.args.at c.args.class (not_true ((c.if-not-is_at.ensures.when c.args.bytes.now).1))))
+    λ n. refused c.refusal_at.ensures (no_token (not_one (stream c.args.bytes.now c.args.tokens.now) c.args.at c.args.class
+    (not_true ((c.if-not-is_at.ensures.when c.args.bytes.now).1))))
 
 pub overflow_add-result : goal.overflow_add-result
 overflow_add-result c = next_fits c.args.bytes.now c.args.tokens.now c.args.at c.requires.cut c.requires.small (c.if-not-is_at.ensures.inside refl)

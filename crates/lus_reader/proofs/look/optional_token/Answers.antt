@@ -12,8 +12,18 @@ overflow_add-result c = next_fits c.args.bytes.now c.args.tokens.now c.args.at c
 pub returns-then-is_at-clause-run : goal.returns-then-is_at-clause-run
 returns-then-is_at-clause-run c = λ n.
     let e = (c.if-is_at.ensures.when c.args.bytes.now).0 refl in
-    record { syntax = _; run = once (enters_by (stream c.args.bytes.now c.args.tokens.now) c.args.at c.args.class (class_code c.args.class ∷ []) (first_code c.args.class []) e) (token (inl e)); is = refl }
+    record {
+      syntax = _;
+      run = once (enters_by (stream c.args.bytes.now c.args.tokens.now) c.args.at c.args.class
+          (class_code c.args.class ∷ []) (first_code c.args.class []) e) (token (inl e));
+      is = refl;
+    }
 
 pub returns-else-is_at-clause-run : goal.returns-else-is_at-clause-run
 returns-else-is_at-clause-run c = λ n.
-    record { syntax = _; run = not_once (passes_one (stream c.args.bytes.now c.args.tokens.now) c.args.at c.args.class c.requires.kept (not_true ((c.if-is_at.ensures.when c.args.bytes.now).1))); is = refl }
+    record {
+      syntax = _;
+      run = not_once (passes_one (stream c.args.bytes.now c.args.tokens.now) c.args.at c.args.class c.requires.kept
+          (not_true ((c.if-is_at.ensures.when c.args.bytes.now).1)));
+      is = refl;
+    }

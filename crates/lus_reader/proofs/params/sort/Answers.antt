@@ -26,7 +26,8 @@ returns-then-is_at-clause-run c = λ n.
 pub returns-in_err-next-clause-stop : goal.returns-in_err-next-clause-stop
 returns-in_err-next-clause-stop c = at_err _ _ _ c.from_residual.ensures.1 (λ n.
     let s = stream c.args.bytes.now c.args.tokens.now in
-    refuses_by (λ d k u. line_stop (no_token_too s c.args.at k n d (C.Keyword K.Bool) (C.Keyword K.Int) (not_true ((c.if-is_at.ensures.when c.args.bytes.now).1)) u)) (c.in_err-next.ensures.stop n))
+    refuses_by (λ d k u. line_stop (no_token_too s c.args.at k n d (C.Keyword K.Bool) (C.Keyword K.Int)
+    (not_true ((c.if-is_at.ensures.when c.args.bytes.now).1)) u)) (c.in_err-next.ensures.stop n))
 
 pub returns-clause-run : goal.returns-clause-run
 returns-clause-run c = λ n.
@@ -34,6 +35,7 @@ returns-clause-run c = λ n.
     let e = c.in_ok-next.ensures.token in
     record {
       syntax = node P.Sort (leaf (s c.args.at));
-      run = subst (λ (j : ℕ). Run limit s (part P.Sort) c.args.at n (read j n (node P.Sort (leaf (s c.args.at))))) (sym c.in_ok-next.ensures.next) (line (token (inr (inl e))));
+      run = subst (λ (j : ℕ). Run limit s (part P.Sort) c.args.at n (read j n (node P.Sort (leaf (s c.args.at)))))
+          (sym c.in_ok-next.ensures.next) (line (token (inr (inl e))));
       is = sym (ap sort_of_class e);
     }

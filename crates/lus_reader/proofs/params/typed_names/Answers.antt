@@ -7,7 +7,8 @@ use Rattle.lus_reader.proofs.Stops.{at_err, refuses_by}
 use Rattle.lus_reader.proofs.params.typed_names.Goals as goal
 
 pub returns-in_err-words-clause-stop : goal.returns-in_err-words-clause-stop
-returns-in_err-words-clause-stop c = at_err _ _ _ c.from_residual.ensures.1 (λ n. refuses_by (λ d k u. line_stop (first_stop u)) (c.in_err-words.ensures.stop n))
+returns-in_err-words-clause-stop c = at_err _ _ _ c.from_residual.ensures.1
+    (λ n. refuses_by (λ d k u. line_stop (first_stop u)) (c.in_err-words.ensures.stop n))
 
 pub returns-in_err-next-clause-stop : goal.returns-in_err-next-clause-stop
 returns-in_err-next-clause-stop c = at_err _ _ _ c.from_residual-in_err-next.ensures.1 (λ n.

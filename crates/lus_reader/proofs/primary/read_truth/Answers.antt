@@ -5,4 +5,6 @@ use Rattle.lus_reader.proofs.Unaries.{truth_read}
 use Rattle.lus_reader.proofs.primary.read_truth.Goals as goal
 
 pub returns-clause-reads : goal.returns-clause-reads
-returns-clause-reads c = λ bytes. as_found c.in_ok-found.field-0 c.args.counts (truth_read c.args.value (c.requires.here bytes) (c.pos_at-pos.ensures bytes) refl) c.in_ok-found.ensures.rest (c.in_ok-found.ensures.tree ∙ view-Truth _ _)
+returns-clause-reads c = λ bytes. as_found c.in_ok-found.field-0 c.args.counts
+    (truth_read c.args.value (c.requires.here bytes) (c.pos_at-pos.ensures bytes) refl) c.in_ok-found.ensures.rest
+    (c.in_ok-found.ensures.tree ∙ view-Truth _ _)

@@ -10,7 +10,8 @@ use Rattle.lus_reader.proofs.words.names.Given as goal
 
 abbrev pub invariant-loop-alloc : goal.invariant-loop-alloc
 invariant-loop-alloc l = record {
-  leads : (n : Counts) → Leads names_of more_names_of (stream l.bytes l.tokens) (part Names) (repeated (sign S.Comma ⨾ identifier)) l.at n (map word_view l.words.items) l.next n;
+  leads : (n : Counts) → Leads names_of more_names_of (stream l.bytes l.tokens) (part Names) (repeated (sign S.Comma ⨾ identifier)) l.at n
+      (map word_view l.words.items) l.next n;
   past : l.at < l.next;
   inside : l.next ≤ length l.tokens;
 }

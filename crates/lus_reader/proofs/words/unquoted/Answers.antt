@@ -6,13 +6,17 @@ use Rattle.lus_reader.proofs.Stops.{if_ok_by}
 use Rattle.lus_reader.proofs.words.unquoted.Goals as goal
 
 pub overflow_sub-text : goal.overflow_sub-text
-overflow_sub-text c = let h = quotes_at c.args.bytes.now c.args.tokens.now c.args.at c.requires.cut c.requires.inside c.requires.text in let k = ap length c.slice_at-text.ensures.text in omega (arith, h, k)
+overflow_sub-text c = let h = quotes_at c.args.bytes.now c.args.tokens.now c.args.at c.requires.cut c.requires.inside c.requires.text
+    in let k = ap length c.slice_at-text.ensures.text in omega (arith, h, k)
 
 pub slice_bounds-copied-count : goal.slice_bounds-copied-count
-slice_bounds-copied-count c = let h = quotes_at c.args.bytes.now c.args.tokens.now c.args.at c.requires.cut c.requires.inside c.requires.text in let k = ap length c.slice_at-text.ensures.text in omega (arith, h, k)
+slice_bounds-copied-count c = let h = quotes_at c.args.bytes.now c.args.tokens.now c.args.at c.requires.cut c.requires.inside
+    c.requires.text in let k = ap length c.slice_at-text.ensures.text in omega (arith, h, k)
 
 pub slice_bounds-copied-start : goal.slice_bounds-copied-start
-slice_bounds-copied-start c = let h = quotes_at c.args.bytes.now c.args.tokens.now c.args.at c.requires.cut c.requires.inside c.requires.text in let k = ap length c.slice_at-text.ensures.text in let l : 1 ≤ length c.slice_at-text.result.now = omega (arith, h, k) in search (rules, l)
+slice_bounds-copied-start c = let h = quotes_at c.args.bytes.now c.args.tokens.now c.args.at c.requires.cut c.requires.inside
+    c.requires.text in let k = ap length c.slice_at-text.ensures.text in let l : 1 ≤ length c.slice_at-text.result.now = omega (arith, h, k)
+    in search (rules, l)
 
 pub copied-requires : goal.copied-requires
 copied-requires c = record { ascii = IsAscii-take _ _ (IsAscii-drop _ 1 c.slice_at-text.ensures.ascii) }

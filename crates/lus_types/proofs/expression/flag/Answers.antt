@@ -12,6 +12,11 @@ use Rattle.lus_types.proofs.expression.flag.Goals as goal
 
 pub returns : goal.returns
 returns c =
-    λ fs i. least_behind (least_view c.args.least.now) (least_view c.needs_sort.new.least) fs (whole_walk (scope_view c.args.scope.now) false false (expr_view c.args.e.now) ++ needs_sort (scope_view c.args.scope.now) Flags (expr_view c.args.e.now)) (flag_faults (scope_view c.args.scope.now) (expr_view c.args.e.now))
-    (sort_behind (scope_view c.args.scope.now) Flags (expr_view c.args.e.now) c.part-found.result (whole_walk (scope_view c.args.scope.now) false false (expr_view c.args.e.now)) (least_view c.args.least.now) (least_view c.part-found.new.least) (least_view c.needs_sort.new.least) c.part-found.ensures.part c.part-found.ensures.least c.needs_sort.ensures)
+    λ fs i. least_behind (least_view c.args.least.now) (least_view c.needs_sort.new.least) fs
+    (whole_walk (scope_view c.args.scope.now) false false (expr_view c.args.e.now) ++ needs_sort (scope_view c.args.scope.now) Flags
+    (expr_view c.args.e.now)) (flag_faults (scope_view c.args.scope.now) (expr_view c.args.e.now))
+    (sort_behind (scope_view c.args.scope.now) Flags (expr_view c.args.e.now) c.part-found.result
+    (whole_walk (scope_view c.args.scope.now) false false (expr_view c.args.e.now)) (least_view c.args.least.now)
+    (least_view c.part-found.new.least) (least_view c.needs_sort.new.least) c.part-found.ensures.part c.part-found.ensures.least
+    c.needs_sort.ensures)
     (λ p. flag_noted p (scope_view c.args.scope.now) (expr_view c.args.e.now)) i

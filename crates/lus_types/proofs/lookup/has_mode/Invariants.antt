@@ -5,4 +5,5 @@ use Rattle.lus_meaning.specs.Scope.{mode_names}
 use Rattle.lus_types.proofs.lookup.has_mode.Given as goal
 
 abbrev pub invariant-loop-item : goal.invariant-loop-item
-invariant-loop-item l = named_in l.name (mode_names (map contract_item_view (drop l.item-index l.items))) ≡ named_in l.name (mode_names (map contract_item_view l.items))
+invariant-loop-item l = named_in l.name (mode_names (map contract_item_view (drop l.item-index l.items))) ≡ named_in l.name
+    (mode_names (map contract_item_view l.items))

@@ -9,6 +9,7 @@ use Rattle.lus_types.proofs.part.+part.Given as goal
 abbrev pub invariant-values-loop-value : goal.invariant-values-loop-value
 invariant-values-loop-value l = record {
   counted : l.i ≡ l.value-index;
-  noted : noted_all (least_view l.least) (walk_among (scope_view l.scope) l.constant (map param_view l.streams) l.value-index (joined (map expr_view (drop l.value-index l.values))))
+  noted : noted_all (least_view l.least) (walk_among (scope_view l.scope) l.constant (map param_view l.streams) l.value-index
+      (joined (map expr_view (drop l.value-index l.values))))
       ≡ noted_all (least_view l.initial.least) (walk_among (scope_view l.scope) l.constant (map param_view l.streams) 0 (joined (map expr_view l.values)));
 }

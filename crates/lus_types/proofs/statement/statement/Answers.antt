@@ -7,4 +7,5 @@ use Rattle.lus_types.proofs.statement.statement.Goals as goal
 
 pub returns-in-Equation : goal.returns-in-Equation
 returns-in-Equation c =
-    λ fs i. rw (c.in-Equation.is, ← c.deref.ensures.value) (c.equation.ensures fs (clock_of_names (scope_view c.args.scope.now).owner (map text_of (map word_view c.deref.result.now))) i)
+    λ fs i. rw (c.in-Equation.is, ← c.deref.ensures.value) (c.equation.ensures fs
+    (clock_of_names (scope_view c.args.scope.now).owner (map text_of (map word_view c.deref.result.now))) i)

@@ -17,7 +17,10 @@ returns-clause-fits c = record {
           record { count = refl; each = (refl, (refl, (refl, tt))) },
           (
             record { count = refl; each = (refl, tt) },
-            (record { count = refl; each = (refl, (refl, (refl, tt))) }, (record { count = refl; each = (refl, tt) }, (record { count = refl; each = (refl, (refl, (refl, tt))) }, tt))),
+            (
+              record { count = refl; each = (refl, (refl, (refl, tt))) },
+              (record { count = refl; each = (refl, tt) }, (record { count = refl; each = (refl, (refl, (refl, tt))) }, tt)),
+            ),
           ),
         ),
       ),

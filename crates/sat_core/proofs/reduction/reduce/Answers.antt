@@ -17,5 +17,6 @@ loop-i-preserved c =
 
 pub returns : goal.returns
 returns c = let z : c.loop-i.i ≡ 0 = (let t = c.loop-i-test.false in omega arith) in
-    λ last r. subst (λ x. IsReduced (map clause_view c.args.clauses.now) c.args.trail.now c.args.marked.now c.args.from last c.loop-i.literals.items c.loop-i.low x
+    λ last r. subst (λ x. IsReduced (map clause_view c.args.clauses.now) c.args.trail.now c.args.marked.now c.args.from last
+    c.loop-i.literals.items c.loop-i.low x
     (reverse c.loop-i.hints.items)) z (c.loop-i.invariant.1 last r)

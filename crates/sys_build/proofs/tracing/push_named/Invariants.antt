@@ -9,5 +9,6 @@ use Rattle.sys_build.proofs.tracing.push_named.Given as goal
 -- what is there, and what is to come, is all
 abbrev pub invariant-loop-param : goal.invariant-loop-param
 invariant-loop-param l =
-    map bare_view l.lines.items ++ map (name_line (numbering_of (node_view l.numbers.node.now)) (states_view l.states)) (map param_view (drop l.param-index l.params))
+    map bare_view l.lines.items ++ map (name_line (numbering_of (node_view l.numbers.node.now)) (states_view l.states))
+    (map param_view (drop l.param-index l.params))
     ≡ map bare_view l.initial.lines.items ++ map (name_line (numbering_of (node_view l.numbers.node.now)) (states_view l.states)) (map param_view l.params)

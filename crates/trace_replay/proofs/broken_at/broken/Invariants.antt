@@ -9,5 +9,9 @@ use Rattle.trace_replay.specs.Broken.{property_values, AreFirstFalse}
 use Rattle.trace_replay.proofs.broken_at.broken.Given as goal
 
 abbrev pub invariant-loop-item : goal.invariant-loop-item
-invariant-loop-item l = (rest : List (Option ℕ)) → AreFirstFalse (λ e. code_truth l.kept (length l.row.names.items) (code_of (map string_bytes l.row.names.items) (first_in (map bare_view l.listing.lines.now)) e)) l.n (property_values (map item_view (drop l.item-index l.items))) rest
-    → AreFirstFalse (λ e. code_truth l.kept (length l.row.names.items) (code_of (map string_bytes l.row.names.items) (first_in (map bare_view l.listing.lines.now)) e)) l.n (property_values (map item_view l.items)) (l.found.items ++ rest)
+invariant-loop-item l = (rest : List (Option ℕ)) → AreFirstFalse
+    (λ e. code_truth l.kept (length l.row.names.items) (code_of (map string_bytes l.row.names.items)
+    (first_in (map bare_view l.listing.lines.now)) e)) l.n (property_values (map item_view (drop l.item-index l.items))) rest
+    → AreFirstFalse (λ e. code_truth l.kept (length l.row.names.items)
+    (code_of (map string_bytes l.row.names.items) (first_in (map bare_view l.listing.lines.now)) e)) l.n
+    (property_values (map item_view l.items)) (l.found.items ++ rest)

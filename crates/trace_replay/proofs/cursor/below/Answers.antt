@@ -14,5 +14,7 @@ pub returns-clause-below : goal.returns-clause-below
 returns-clause-below c =
     let e = c.past_blanks-end.result in
     let words : (left_at e.at e.rest.now).words ≡ [] = ap (λ l. l.words) c.past_blanks-end.ensures.same ∙ c.requires.none in
-    let r : drop (end_length e.rest.now) e.rest.now ≡ c.split_at.result.1.now = ap (λ (k : ℕ). drop k e.rest.now) (sym c.end_length-count.ensures.length) ∙ search rules in
-    ap first_of (sym c.past_blanks-end.ensures.same) ∙ goes_below e.at e.rest.now c.past_blanks-end.ensures.blank words (omega arith) ∙ ap (λ (x : List ℕ). first_of (left_at (below e.at) x)) r
+    let r : drop (end_length e.rest.now) e.rest.now ≡ c.split_at.result.1.now = ap (λ (k : ℕ). drop k e.rest.now)
+    (sym c.end_length-count.ensures.length) ∙ search rules in
+    ap first_of (sym c.past_blanks-end.ensures.same) ∙ goes_below e.at e.rest.now c.past_blanks-end.ensures.blank words (omega arith) ∙ ap
+    (λ (x : List ℕ). first_of (left_at (below e.at) x)) r

@@ -12,4 +12,5 @@ returns-clause-same c =
 
 pub returns-clause-blank : goal.returns-clause-blank
 returns-clause-blank c =
-    ap begins_with_blank c.past.ensures.rest ∙ ap (λ (k : ℕ). begins_with_blank (drop k c.args.here.rest.now)) c.blank_length.ensures.length ∙ no_blank c.args.here.rest.now
+    ap begins_with_blank c.past.ensures.rest ∙ ap (λ (k : ℕ). begins_with_blank (drop k c.args.here.rest.now)) c.blank_length.ensures.length
+    ∙ no_blank c.args.here.rest.now

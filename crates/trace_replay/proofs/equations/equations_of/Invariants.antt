@@ -5,4 +5,5 @@ use Rattle.trace_replay.specs.Equations.{equation_view}
 use Rattle.trace_replay.proofs.equations.equations_of.Given as goal
 
 abbrev pub invariant-loop-item : goal.invariant-loop-item
-invariant-loop-item l = map equation_view l.equations.items ++ body_equations (map item_view (drop l.item-index l.items)) ≡ body_equations (map item_view l.items)
+invariant-loop-item l = map equation_view l.equations.items ++ body_equations (map item_view (drop l.item-index l.items)) ≡ body_equations
+    (map item_view l.items)

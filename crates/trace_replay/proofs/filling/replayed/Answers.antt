@@ -46,7 +46,8 @@ filled-requires-clause-few c =
     let order = direct p d node ks (c.order-order.ensures d node) in
     let body = rw c.deref.ensures.value at c.in_ok-equations.ensures in
     let names = rw c.deref-3.ensures.value at c.in_ok-layout.ensures.names in
-    names_fit p d node c.of-named.ensures.limits ks order (map equation_view c.in_ok-equations.equations.items) body string_bytes c.in_ok-layout.layout.row.names.items names
+    names_fit p d node c.of-named.ensures.limits ks order (map equation_view c.in_ok-equations.equations.items) body string_bytes
+    c.in_ok-layout.layout.row.names.items names
 
 pub filled-requires-clause-fits : goal.filled-requires-clause-fits
 filled-requires-clause-fits c =
@@ -57,7 +58,8 @@ filled-requires-clause-fits c =
     let order = direct p d node ks (c.order-order.ensures d node) in
     let body = rw c.deref.ensures.value at c.in_ok-equations.ensures in
     let names = rw c.deref-3.ensures.value at c.in_ok-layout.ensures.names in
-    rows_fit p d node c.of-named.ensures.limits ks order (map equation_view c.in_ok-equations.equations.items) body string_bytes c.in_ok-layout.layout.row.names.items names c.args.trace.now.length (search rules)
+    rows_fit p d node c.of-named.ensures.limits ks order (map equation_view c.in_ok-equations.equations.items) body string_bytes
+    c.in_ok-layout.layout.row.names.items names c.args.trace.now.length (search rules)
 
 pub returns : goal.returns
 returns c =
@@ -74,7 +76,10 @@ returns c =
     let columns = rw (c.deref-3.ensures.value, c.in_ok-listing.ensures, c.deref-2.ensures.value, lines) at c.in_ok-layout.ensures.columns in
     if_filled c.filled.result c.filled.ensures.instants c.filled.ensures.names c.filled.ensures.kept c.filled.ensures.broken (λ r long same kept broken.
     let hits = rw (c.in_ok-listing.ensures, c.deref-2.ensures.value, c.deref-4.ensures.value, lines) at broken in
-    let here = whole_replay p d node c.of-named.ensures.limits ks order es body string_bytes c.in_ok-layout.layout.row.names.items names (lines_of t) c.args.trace.now.length
+    let here = whole_replay p d node c.of-named.ensures.limits ks order es body string_bytes c.in_ok-layout.layout.row.names.items names
+    (lines_of t) c.args.trace.now.length
     (trace_calm p d node t c.requires.fits) _ columns r.kept.items kept r.broken.items hits in
-    let named : (x : Name) → named_in x (map string_bytes r.names.items) ≡ named_in x (declared_names d) = λ x. ap (λ l. named_in x (map string_bytes l)) same ∙ ap (named_in x) names ∙ table_declared p d node ks order es body x in
-    shows p d node t c.requires.fits r long named (subst (λ l. IsReplayed (lines_of t) p d t.length (held (map string_bytes l) r.kept.items) r.broken.items) (sym same) here))
+    let named : (x : Name) → named_in x (map string_bytes r.names.items) ≡ named_in x (declared_names d) = λ x. ap
+    (λ l. named_in x (map string_bytes l)) same ∙ ap (named_in x) names ∙ table_declared p d node ks order es body x in
+    shows p d node t c.requires.fits r long named (subst (λ l. IsReplayed (lines_of t) p d t.length
+    (held (map string_bytes l) r.kept.items) r.broken.items) (sym same) here))

@@ -7,4 +7,5 @@ use Rattle.trace_replay.specs.Found.{found_values}
 use Rattle.trace_replay.proofs.line_table.by_firsts.Given as goal
 
 abbrev pub invariant-loop-line : goal.invariant-loop-line
-invariant-loop-line l = (x : ℕ) → option_map (λ v. values_view v.now) (get nat_eq l.firsts x) ≡ found_values (map bare_view (take l.line-index l.lines)) (of_first x)
+invariant-loop-line l = (x : ℕ) → option_map (λ v. values_view v.now) (get nat_eq l.firsts x) ≡ found_values
+    (map bare_view (take l.line-index l.lines)) (of_first x)

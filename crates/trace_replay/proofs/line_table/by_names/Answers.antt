@@ -9,5 +9,6 @@ use Rattle.trace_replay.proofs.line_table.by_names.Goals as goal
 
 pub loop-line-preserved : goal.loop-line-preserved
 loop-line-preserved c = λ x. c.in_ok-add_name.ensures x
-    ∙ ap (λ (o : Option (List Value)). option_or o (cond (lists (of_name x) (bare_view c.line-item.result)) (Some (bare_view c.line-item.result).values) None)) (c.loop-line.invariant x)
+    ∙ ap (λ (o : Option (List Value)). option_or o (cond (lists (of_name x) (bare_view c.line-item.result))
+    (Some (bare_view c.line-item.result).values) None)) (c.loop-line.invariant x)
     ∙ sym (listed_take bare_view c.args.lines.now c.loop-line.line-index c.line-item.result (omega arith) c.line-item.is (of_name x))

@@ -7,4 +7,5 @@ use Rattle.trace_replay.specs.Found.{found_values}
 use Rattle.trace_replay.proofs.line_table.by_names.Given as goal
 
 abbrev pub invariant-loop-line : goal.invariant-loop-line
-invariant-loop-line l = (x : List ℕ) → option_map (λ v. values_view v.now) (get_by (λ k. bytes_eq x k.now) l.names) ≡ found_values (map bare_view (take l.line-index l.lines)) (of_name x)
+invariant-loop-line l = (x : List ℕ) → option_map (λ v. values_view v.now) (get_by (λ k. bytes_eq x k.now) l.names) ≡ found_values
+    (map bare_view (take l.line-index l.lines)) (of_name x)

@@ -5,4 +5,5 @@ use Rattle.trace_replay.proofs.names.push_left.Goals as goal
 
 pub returns-in-None : goal.returns-in-None
 returns-in-None c = sym (append-nil (map string_bytes c.args.names.now.items))
-    ∙ ap (λ (l : List (List ℕ)). map string_bytes c.args.names.now.items ++ l) (none_there (map (λ e. e.names) (map equation_view c.args.equations.now)) c.args.number [] c.in-None.ensures)
+    ∙ ap (λ (l : List (List ℕ)). map string_bytes c.args.names.now.items ++ l)
+    (none_there (map (λ e. e.names) (map equation_view c.args.equations.now)) c.args.number [] c.in-None.ensures)

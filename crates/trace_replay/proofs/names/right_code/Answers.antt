@@ -9,4 +9,5 @@ use Rattle.trace_replay.proofs.names.right_code.Goals as goal
 
 pub returns-in-None : goal.returns-in-None
 returns-in-None c = view-Truth false
-    ∙ ap (code_of (map string_bytes c.args.row.now.names.items) (first_in (map bare_view c.args.listing.now.lines.now))) (none_there (rights_of (map equation_view c.args.equations.now)) c.args.number no_right c.in-None.ensures)
+    ∙ ap (code_of (map string_bytes c.args.row.now.names.items) (first_in (map bare_view c.args.listing.now.lines.now)))
+    (none_there (rights_of (map equation_view c.args.equations.now)) c.args.number no_right c.in-None.ensures)

@@ -5,7 +5,11 @@ use Rattle.trace_replay.proofs.Lines.{lines_onto}
 use Rattle.trace_replay.proofs.reading.lines.Given as goal
 
 abbrev pub invariant-loop-lines : goal.invariant-loop-lines
-invariant-loop-lines l = record { same : lines_onto (map line_view l.lines.items) (lines_left (left_of l.here)) ≡ lines_left (left_of l.start); within : IsWithin l.here }
+invariant-loop-lines l = record {
+  same : lines_onto (map line_view l.lines.items) (lines_left (left_of l.here)) ≡ lines_left
+      (left_of l.start);
+  within : IsWithin l.here;
+}
 
 abbrev pub decreases-loop-lines : goal.decreases-loop-lines
 decreases-loop-lines l = length (lines_ahead (left_of l.here))

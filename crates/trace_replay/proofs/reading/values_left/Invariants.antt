@@ -5,7 +5,11 @@ use Rattle.trace_replay.proofs.Lines.{values_onto}
 use Rattle.trace_replay.proofs.reading.values_left.Given as goal
 
 abbrev pub invariant-loop-word : goal.invariant-loop-word
-invariant-loop-word l = record { same : values_onto (map placed_view l.values.items) (values_left (left_of l.here)) ≡ values_left (left_of l.start); within : IsWithin l.here }
+invariant-loop-word l = record {
+  same : values_onto (map placed_view l.values.items) (values_left (left_of l.here)) ≡ values_left
+      (left_of l.start);
+  within : IsWithin l.here;
+}
 
 abbrev pub decreases-loop-word : goal.decreases-loop-word
 decreases-loop-word l = length (left_of l.here).words

@@ -6,7 +6,8 @@ use Rattle.trace_replay.proofs.Noted.{among_item}
 use Rattle.trace_replay.proofs.row_names.columns_of.Goals as goal
 
 pub note-requires-clause-declared : goal.note-requires-clause-declared
-note-requires-clause-declared c = rw c.deref.ensures (among_item string_bytes c.args.declared.now c.args.names.now c.loop-name.name-index c.name-item.result c.requires.declared (omega arith) c.name-item.is)
+note-requires-clause-declared c = rw c.deref.ensures (among_item string_bytes c.args.declared.now c.args.names.now c.loop-name.name-index
+    c.name-item.result c.requires.declared (omega arith) c.name-item.is)
 
 pub loop-name-preserved : goal.loop-name-preserved
 loop-name-preserved c = record {

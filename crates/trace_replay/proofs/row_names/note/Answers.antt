@@ -12,7 +12,9 @@ note_at-requires c =
     omega (arith, below, c.requires.whole, c.in-Some.ensures.1)
 
 pub returns-in-Some-clause-whole : goal.returns-in-Some-clause-whole
-returns-in-Some-clause-whole c = rw (c.note_at.ensures, c.in-Some.ensures.1) (noted_length c.args.declared.now c.args.columns.now.items c.args.name.now c.args.column c.requires.declared c.requires.whole)
+returns-in-Some-clause-whole c = rw (c.note_at.ensures, c.in-Some.ensures.1)
+    (noted_length c.args.declared.now c.args.columns.now.items c.args.name.now c.args.column c.requires.declared c.requires.whole)
 
 pub returns-in-Some-clause-noted : goal.returns-in-Some-clause-noted
-returns-in-Some-clause-noted c = λ x. rw (c.note_at.ensures, c.in-Some.ensures.1) (noted_name c.args.declared.now c.args.columns.now.items c.args.name.now c.args.column c.requires.declared c.requires.whole x)
+returns-in-Some-clause-noted c = λ x. rw (c.note_at.ensures, c.in-Some.ensures.1)
+    (noted_name c.args.declared.now c.args.columns.now.items c.args.name.now c.args.column c.requires.declared c.requires.whole x)

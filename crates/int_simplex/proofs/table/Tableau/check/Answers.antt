@@ -23,7 +23,8 @@ walk-walked-requires-clause-ready c =
     let r = ready_of c.self.inside (ap (λ s. s.usable) v ∙ u) c.self.invariant in
     let n : c.self.inside.columns ≡ length c.deref-9.result.now = sym c.self.invariant.lowers.count ∙ ap length (sym c.deref-9.ensures.value) in
     subst (λ (k : ℕ). IsReady (map row_view c.deref-8.result.now) k c.self.inside.basis.items (map row_view c.self.inside.rows.items)) n
-    (subst (λ (g : List (Vec (ℕ × ℤ) Global)). IsReady (map row_view g) c.self.inside.columns c.self.inside.basis.items (map row_view c.self.inside.rows.items)) (sym c.deref-8.ensures.value) r)
+    (subst (λ (g : List (Vec (ℕ × ℤ) Global)). IsReady (map row_view g) c.self.inside.columns c.self.inside.basis.items
+    (map row_view c.self.inside.rows.items)) (sym c.deref-8.ensures.value) r)
 
 pub invariant_of-self : goal.invariant_of-self
 invariant_of-self c =
@@ -31,11 +32,15 @@ invariant_of-self c =
     let v = c.self.view_is in
     let t = tables_of c.self.inside (ap (λ s. s.usable) v ∙ c.requires) i in
     let n : length c.deref-9.result.now ≡ c.self.inside.columns = ap length c.deref-9.ensures.value ∙ i.lowers.count in
-    let k = subst (λ (k : ℕ). IsKept (map row_view c.deref-8.result.now) k c.walk-walked.new.basis.items (map row_view c.walk-walked.new.rows.items) c.walk-walked.new.places.items c.walk-walked.new.values.items) n
+    let k = subst (λ (k : ℕ). IsKept (map row_view c.deref-8.result.now) k c.walk-walked.new.basis.items
+    (map row_view c.walk-walked.new.rows.items) c.walk-walked.new.places.items c.walk-walked.new.values.items) n
     (let z = rw c.in-Ok-Fits.is at c.walk-walked.ensures.kept in let y = rw c.in-Ok-Fits.field-0-is at z in y tt) in
-    let q = subst (λ (g : List (Vec (ℕ × ℤ) Global)). IsKept (map row_view g) c.self.inside.columns c.walk-walked.new.basis.items (map row_view c.walk-walked.new.rows.items) c.walk-walked.new.places.items c.walk-walked.new.values.items) c.deref-8.ensures.value k in
+    let q = subst (λ (g : List (Vec (ℕ × ℤ) Global)). IsKept (map row_view g) c.self.inside.columns c.walk-walked.new.basis.items
+    (map row_view c.walk-walked.new.rows.items) c.walk-walked.new.places.items c.walk-walked.new.values.items) c.deref-8.ensures.value k
+    in
     record {
-      sound = λ u. sound_kept (map row_view c.self.inside.given.items) c.self.inside.columns c.walk-walked.new.basis.items (map row_view c.walk-walked.new.rows.items) c.walk-walked.new.places.items c.walk-walked.new.values.items q
+      sound = λ u. sound_kept (map row_view c.self.inside.given.items) c.self.inside.columns c.walk-walked.new.basis.items
+          (map row_view c.walk-walked.new.rows.items) c.walk-walked.new.places.items c.walk-walked.new.values.items q
           (map standing c.self.inside.trail.items) c.self.inside.usable t.of_columns t.uncrossed;
       rows = λ u. q.ready.are_rows;
       free = λ u. q.ready.free;
@@ -51,11 +56,15 @@ invariant_of-self-in-Ok-Refuted c =
     let v = c.self.view_is in
     let t = tables_of c.self.inside (ap (λ s. s.usable) v ∙ c.requires) i in
     let n : length c.deref-9.result.now ≡ c.self.inside.columns = ap length c.deref-9.ensures.value ∙ i.lowers.count in
-    let k = subst (λ (k : ℕ). IsKept (map row_view c.deref-8.result.now) k c.walk-walked.new.basis.items (map row_view c.walk-walked.new.rows.items) c.walk-walked.new.places.items c.walk-walked.new.values.items) n
+    let k = subst (λ (k : ℕ). IsKept (map row_view c.deref-8.result.now) k c.walk-walked.new.basis.items
+    (map row_view c.walk-walked.new.rows.items) c.walk-walked.new.places.items c.walk-walked.new.values.items) n
     (let z = rw c.in-Ok-Refuted.is at c.walk-walked.ensures.kept in let y = rw c.in-Ok-Refuted.field-0-is at z in y tt) in
-    let q = subst (λ (g : List (Vec (ℕ × ℤ) Global)). IsKept (map row_view g) c.self.inside.columns c.walk-walked.new.basis.items (map row_view c.walk-walked.new.rows.items) c.walk-walked.new.places.items c.walk-walked.new.values.items) c.deref-8.ensures.value k in
+    let q = subst (λ (g : List (Vec (ℕ × ℤ) Global)). IsKept (map row_view g) c.self.inside.columns c.walk-walked.new.basis.items
+    (map row_view c.walk-walked.new.rows.items) c.walk-walked.new.places.items c.walk-walked.new.values.items) c.deref-8.ensures.value k
+    in
     record {
-      sound = λ u. sound_kept (map row_view c.self.inside.given.items) c.self.inside.columns c.walk-walked.new.basis.items (map row_view c.walk-walked.new.rows.items) c.walk-walked.new.places.items c.walk-walked.new.values.items q
+      sound = λ u. sound_kept (map row_view c.self.inside.given.items) c.self.inside.columns c.walk-walked.new.basis.items
+          (map row_view c.walk-walked.new.rows.items) c.walk-walked.new.places.items c.walk-walked.new.values.items q
           (map standing c.self.inside.trail.items) c.self.inside.usable t.of_columns t.uncrossed;
       rows = λ u. q.ready.are_rows;
       free = λ u. q.ready.free;
@@ -73,16 +82,28 @@ returns-in-Ok-Long-clause-answer c =
     let t = tables_of c.self.inside u i in
     let z = rw c.in-Ok-Long.is at c.walk-walked.ensures.found in
     let y = rw c.in-Ok-Long.field-0-is at z in
-    let a = y (map standing c.self.inside.trail.items) (tables_at c.self.inside.columns (map standing c.self.inside.trail.items) c.self.inside.lowers.items c.deref-9.result.now c.self.inside.uppers.items c.deref-10.result.now
+    let a = y (map standing c.self.inside.trail.items) (tables_at c.self.inside.columns
+    (map standing c.self.inside.trail.items) c.self.inside.lowers.items c.deref-9.result.now c.self.inside.uppers.items
+    c.deref-10.result.now
     (sym c.deref-9.ensures.value) (sym c.deref-10.ensures.value) t) in
-    let f = first_at c.self.inside.basis.items c.deref-4.result.now c.self.inside.values.items c.deref-5.result.now c.self.inside.lowers.items c.deref-6.result.now c.self.inside.uppers.items c.deref-7.result.now c.in_ok-places.places.items
+    let f = first_at c.self.inside.basis.items c.deref-4.result.now c.self.inside.values.items c.deref-5.result.now
+    c.self.inside.lowers.items c.deref-6.result.now c.self.inside.uppers.items c.deref-7.result.now c.in_ok-places.places.items
     c.deref-4.ensures.value c.deref-5.ensures.value c.deref-6.ensures.value c.deref-7.ensures.value c.in_ok-places.ensures in
-    let e = first_is c.self.inside.columns c.self.inside.basis.items c.self.inside.values.items (map standing c.self.inside.trail.items) c.self.inside.lowers.items c.self.inside.uppers.items c.in_ok-places.places.items c.args.pivots
+    let e = first_is c.self.inside.columns c.self.inside.basis.items c.self.inside.values.items
+    (map standing c.self.inside.trail.items) c.self.inside.lowers.items c.self.inside.uppers.items c.in_ok-places.places.items
+    c.args.pivots
     t (i.sound u).count f in
-    let b = long_from (state_of c.self.inside) (map row_view c.deref-8.result.now) (length c.deref-9.result.now) c.in_ok-places.places.items c.args.pivots (ap (map row_view) c.deref-8.ensures.value) (ap length c.deref-9.ensures.value ∙ i.lowers.count) e a in
-    let g = started c.self.inside.basis.items c.deref.result.now c.self.inside.trail.items c.deref-2.result.now c.self.inside.values.items c.deref-3.result.now c.args.pivots
-    c.deref.ensures.value c.deref-2.ensures.value c.deref-3.ensures.value in
-    (c.in_ok-start.ensures ∙ g ∙ ap (λ (s : State). beginning s c.args.pivots) v, subst (λ (s : State). IsUncrossed s.bounds) v t.uncrossed, subst (λ (s : State). IsLong s c.args.pivots) v b)
+    let b = long_from (state_of c.self.inside) (map row_view c.deref-8.result.now)
+    (length c.deref-9.result.now) c.in_ok-places.places.items c.args.pivots (ap (map row_view) c.deref-8.ensures.value)
+    (ap length c.deref-9.ensures.value ∙ i.lowers.count) e a in
+    let g = started c.self.inside.basis.items c.deref.result.now c.self.inside.trail.items c.deref-2.result.now c.self.inside.values.items
+    c.deref-3.result.now c.args.pivots
+    c.deref.ensures.value c.deref-2.ensures.value c.deref-3.ensures.value in (
+      c.in_ok-start.ensures ∙ g ∙ ap (λ (s : State). beginning s c.args.pivots) v,
+      subst
+          (λ (s : State). IsUncrossed s.bounds) v t.uncrossed,
+      subst (λ (s : State). IsLong s c.args.pivots) v b,
+    )
 
 pub returns-in-Ok-Refuted-clause-answer : goal.returns-in-Ok-Refuted-clause-answer
 returns-in-Ok-Refuted-clause-answer c =
@@ -92,17 +113,28 @@ returns-in-Ok-Refuted-clause-answer c =
     let t = tables_of c.self.inside u i in
     let z = rw c.in-Ok-Refuted.is at c.walk-walked.ensures.found in
     let y = rw c.in-Ok-Refuted.field-0-is at z in
-    let a = y (map standing c.self.inside.trail.items) (tables_at c.self.inside.columns (map standing c.self.inside.trail.items) c.self.inside.lowers.items c.deref-9.result.now c.self.inside.uppers.items c.deref-10.result.now
+    let a = y (map standing c.self.inside.trail.items) (tables_at c.self.inside.columns
+    (map standing c.self.inside.trail.items) c.self.inside.lowers.items c.deref-9.result.now c.self.inside.uppers.items
+    c.deref-10.result.now
     (sym c.deref-9.ensures.value) (sym c.deref-10.ensures.value) t) in
-    let f = first_at c.self.inside.basis.items c.deref-4.result.now c.self.inside.values.items c.deref-5.result.now c.self.inside.lowers.items c.deref-6.result.now c.self.inside.uppers.items c.deref-7.result.now c.in_ok-places.places.items
+    let f = first_at c.self.inside.basis.items c.deref-4.result.now c.self.inside.values.items c.deref-5.result.now
+    c.self.inside.lowers.items c.deref-6.result.now c.self.inside.uppers.items c.deref-7.result.now c.in_ok-places.places.items
     c.deref-4.ensures.value c.deref-5.ensures.value c.deref-6.ensures.value c.deref-7.ensures.value c.in_ok-places.ensures in
-    let e = first_is c.self.inside.columns c.self.inside.basis.items c.self.inside.values.items (map standing c.self.inside.trail.items) c.self.inside.lowers.items c.self.inside.uppers.items c.in_ok-places.places.items c.args.pivots
+    let e = first_is c.self.inside.columns c.self.inside.basis.items c.self.inside.values.items
+    (map standing c.self.inside.trail.items) c.self.inside.lowers.items c.self.inside.uppers.items c.in_ok-places.places.items
+    c.args.pivots
     t (i.sound u).count f in
     let kz = rw c.in-Ok-Refuted.is at c.walk-walked.ensures.kept in let ky = rw c.in-Ok-Refuted.field-0-is at kz in
-    let r = refuted_from (state_of c.self.inside) (map row_view c.deref-8.result.now) (length c.deref-9.result.now) c.walk-walked.new.basis.items (map row_view c.walk-walked.new.rows.items) c.walk-walked.new.values.items
-    c.in_ok-places.places.items c.walk-walked.new.places.items c.self.inside.lowers.items c.self.inside.uppers.items c.args.pivots (i.sound u) (i.free u) t e (ap (map row_view) c.deref-8.ensures.value) (ap length c.deref-9.ensures.value ∙ i.lowers.count)
-    (ky tt) c.in-Ok-Refuted.farkas a in
-    (subst (λ (s : State). IsChecked s (record (state_of c.self.inside) { basis = c.walk-walked.new.basis.items; values = c.walk-walked.new.values.items }) c.args.pivots) v r.0, r.1)
+    let r = refuted_from (state_of c.self.inside) (map row_view c.deref-8.result.now)
+    (length c.deref-9.result.now) c.walk-walked.new.basis.items (map row_view c.walk-walked.new.rows.items)
+    c.walk-walked.new.values.items
+    c.in_ok-places.places.items c.walk-walked.new.places.items c.self.inside.lowers.items c.self.inside.uppers.items c.args.pivots
+    (i.sound u) (i.free u) t e (ap (map row_view) c.deref-8.ensures.value) (ap length c.deref-9.ensures.value ∙ i.lowers.count)
+    (ky tt) c.in-Ok-Refuted.farkas a in (
+      subst (λ (s : State). IsChecked s (record (state_of c.self.inside)
+          { basis = c.walk-walked.new.basis.items; values = c.walk-walked.new.values.items }) c.args.pivots) v r.0,
+      r.1,
+    )
 
 pub returns-in-Err-Past-clause-answer : goal.returns-in-Err-Past-clause-answer
 returns-in-Err-Past-clause-answer c =
@@ -112,10 +144,14 @@ returns-in-Err-Past-clause-answer c =
     let t = tables_of c.self.inside u i in
     let z = rw c.in-Err-Past.is at c.walk-walked.ensures.past in
     let y = rw c.in-Err-Past.field-0-is at z in
-    let f = first_at c.self.inside.basis.items c.deref-4.result.now c.self.inside.values.items c.deref-5.result.now c.self.inside.lowers.items c.deref-6.result.now c.self.inside.uppers.items c.deref-7.result.now c.in_ok-places.places.items
+    let f = first_at c.self.inside.basis.items c.deref-4.result.now c.self.inside.values.items c.deref-5.result.now
+    c.self.inside.lowers.items c.deref-6.result.now c.self.inside.uppers.items c.deref-7.result.now c.in_ok-places.places.items
     c.deref-4.ensures.value c.deref-5.ensures.value c.deref-6.ensures.value c.deref-7.ensures.value c.in_ok-places.ensures in
-    let r = past_from (state_of c.self.inside) (map row_view c.deref-8.result.now) (length c.deref-9.result.now) c.in_ok-places.places.items c.self.inside.lowers.items c.deref-9.result.now c.self.inside.uppers.items c.deref-10.result.now
-    (i.sound u) t f (ap (map row_view) c.deref-8.ensures.value) (ap length c.deref-9.ensures.value ∙ i.lowers.count) c.deref-9.ensures.value c.deref-10.ensures.value c.in-Err-Past.step y in
+    let r = past_from (state_of c.self.inside) (map row_view c.deref-8.result.now)
+    (length c.deref-9.result.now) c.in_ok-places.places.items c.self.inside.lowers.items c.deref-9.result.now c.self.inside.uppers.items
+    c.deref-10.result.now
+    (i.sound u) t f (ap (map row_view) c.deref-8.ensures.value) (ap length c.deref-9.ensures.value ∙ i.lowers.count) c.deref-9.ensures.value
+    c.deref-10.ensures.value c.in-Err-Past.step y in
     subst (λ (s : State). IsPastStep s.given s.columns (IsNumberOf s) (past_view c.in-Err-Past.step)) v r
 
 pub returns-in-Ok-Fits-clause-answer : goal.returns-in-Ok-Fits-clause-answer
@@ -126,14 +162,25 @@ returns-in-Ok-Fits-clause-answer c =
     let t = tables_of c.self.inside u i in
     let z = rw c.in-Ok-Fits.is at c.walk-walked.ensures.found in
     let y = rw c.in-Ok-Fits.field-0-is at z in
-    let a = y (map standing c.self.inside.trail.items) (tables_at c.self.inside.columns (map standing c.self.inside.trail.items) c.self.inside.lowers.items c.deref-9.result.now c.self.inside.uppers.items c.deref-10.result.now
+    let a = y (map standing c.self.inside.trail.items) (tables_at c.self.inside.columns
+    (map standing c.self.inside.trail.items) c.self.inside.lowers.items c.deref-9.result.now c.self.inside.uppers.items
+    c.deref-10.result.now
     (sym c.deref-9.ensures.value) (sym c.deref-10.ensures.value) t) in
-    let f = first_at c.self.inside.basis.items c.deref-4.result.now c.self.inside.values.items c.deref-5.result.now c.self.inside.lowers.items c.deref-6.result.now c.self.inside.uppers.items c.deref-7.result.now c.in_ok-places.places.items
+    let f = first_at c.self.inside.basis.items c.deref-4.result.now c.self.inside.values.items c.deref-5.result.now
+    c.self.inside.lowers.items c.deref-6.result.now c.self.inside.uppers.items c.deref-7.result.now c.in_ok-places.places.items
     c.deref-4.ensures.value c.deref-5.ensures.value c.deref-6.ensures.value c.deref-7.ensures.value c.in_ok-places.ensures in
-    let e = first_is c.self.inside.columns c.self.inside.basis.items c.self.inside.values.items (map standing c.self.inside.trail.items) c.self.inside.lowers.items c.self.inside.uppers.items c.in_ok-places.places.items c.args.pivots
+    let e = first_is c.self.inside.columns c.self.inside.basis.items c.self.inside.values.items
+    (map standing c.self.inside.trail.items) c.self.inside.lowers.items c.self.inside.uppers.items c.in_ok-places.places.items
+    c.args.pivots
     t (i.sound u).count f in
     let kz = rw c.in-Ok-Fits.is at c.walk-walked.ensures.kept in let ky = rw c.in-Ok-Fits.field-0-is at kz in
-    let r = fits_from (state_of c.self.inside) (map row_view c.deref-8.result.now) (length c.deref-9.result.now) c.walk-walked.new.basis.items (map row_view c.walk-walked.new.rows.items) c.walk-walked.new.values.items
-    c.in_ok-places.places.items c.walk-walked.new.places.items c.self.inside.lowers.items c.self.inside.uppers.items c.args.pivots (i.sound u) (i.free u) t e (ap (map row_view) c.deref-8.ensures.value) (ap length c.deref-9.ensures.value ∙ i.lowers.count)
-    (ky tt) a in
-    (subst (λ (s : State). IsChecked s (record (state_of c.self.inside) { basis = c.walk-walked.new.basis.items; values = c.walk-walked.new.values.items }) c.args.pivots) v r.0, r.1)
+    let r = fits_from (state_of c.self.inside) (map row_view c.deref-8.result.now)
+    (length c.deref-9.result.now) c.walk-walked.new.basis.items (map row_view c.walk-walked.new.rows.items)
+    c.walk-walked.new.values.items
+    c.in_ok-places.places.items c.walk-walked.new.places.items c.self.inside.lowers.items c.self.inside.uppers.items c.args.pivots
+    (i.sound u) (i.free u) t e (ap (map row_view) c.deref-8.ensures.value) (ap length c.deref-9.ensures.value ∙ i.lowers.count)
+    (ky tt) a in (
+      subst (λ (s : State). IsChecked s (record (state_of c.self.inside)
+          { basis = c.walk-walked.new.basis.items; values = c.walk-walked.new.values.items }) c.args.pivots) v r.0,
+      r.1,
+    )

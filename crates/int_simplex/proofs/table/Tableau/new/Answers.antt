@@ -17,7 +17,8 @@ invariant_of-result c =
     let el = c.in_ok-lowers.ensures in let eu = c.in_ok-uppers.ensures in let et = c.new.ensures.items in
     let es : map standing c.new.result.items ≡ [] = ap (map standing) et in
     record {
-      sound = λ u. sound_parts (map row_view c.args.rows.now) (map row_view c.in_ok-given.given.items) c.args.columns (last_columns (map row_view c.args.rows.now)) c.in_ok-basis.basis.items
+      sound = λ u. sound_parts (map row_view c.args.rows.now) (map row_view c.in_ok-given.given.items) c.args.columns
+          (last_columns (map row_view c.args.rows.now)) c.in_ok-basis.basis.items
           (replicate c.args.columns (pos 0, pos 1)) c.in_ok-values.values.items [] (map standing c.new.result.items) (sym eg) (sym eb) (sym ev) (sym es)
           (begun_sound (map row_view c.args.rows.now) c.args.columns c.requires);
       rows = λ u.

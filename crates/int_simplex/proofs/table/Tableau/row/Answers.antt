@@ -38,7 +38,8 @@ returns-in-Some-clause-in_order c =
     subst (λ (xs : List ℕ). slice_get xs c.in-Some.k ≡ Some c.args.column) c.deref.ensures.value c.in-Some.ensures in
     let n : length c.self.inside.rows.items ≡ length c.self.inside.basis.items = sym (length-map c.self.inside.rows.items row_view) ∙ a.count in
     let h : c.in-Some.k < length c.self.inside.basis.items = slice_get_within c.self.inside.basis.items c.in-Some.k c.args.column p in
-    let f = a.sparse c.in-Some.k (row_view c.index.result.now) (row_there c.self.inside.rows.items c.in-Some.k c.index.result.now (omega arith) c.index.ensures) in
+    let f = a.sparse c.in-Some.k (row_view c.index.result.now) (row_there c.self.inside.rows.items c.in-Some.k c.index.result.now
+    (omega arith) c.index.ensures) in
     subst IsInOrder (sym c.deref-in-Some.ensures.value) (sparse_in_order 0 c.self.inside.columns (row_view c.index.result.now) f)
 
 pub returns-in-Some-clause-in_range : goal.returns-in-Some-clause-in_range
@@ -50,7 +51,8 @@ returns-in-Some-clause-in_range c =
     subst (λ (xs : List ℕ). slice_get xs c.in-Some.k ≡ Some c.args.column) c.deref.ensures.value c.in-Some.ensures in
     let n : length c.self.inside.rows.items ≡ length c.self.inside.basis.items = sym (length-map c.self.inside.rows.items row_view) ∙ a.count in
     let h : c.in-Some.k < length c.self.inside.basis.items = slice_get_within c.self.inside.basis.items c.in-Some.k c.args.column p in
-    let f = a.sparse c.in-Some.k (row_view c.index.result.now) (row_there c.self.inside.rows.items c.in-Some.k c.index.result.now (omega arith) c.index.ensures) in
+    let f = a.sparse c.in-Some.k (row_view c.index.result.now) (row_there c.self.inside.rows.items c.in-Some.k c.index.result.now
+    (omega arith) c.index.ensures) in
     subst (λ (k : ℕ). IsWithin k c.deref-in-Some.result.now) m
     (subst (IsWithin c.self.inside.columns) (sym c.deref-in-Some.ensures.value) (sparse_within 0 c.self.inside.columns (row_view c.index.result.now) f))
 
@@ -62,5 +64,6 @@ returns-in-Some-clause-entries c =
     subst (λ (xs : List ℕ). slice_get xs c.in-Some.k ≡ Some c.args.column) c.deref.ensures.value c.in-Some.ensures in
     let n : length c.self.inside.rows.items ≡ length c.self.inside.basis.items = sym (length-map c.self.inside.rows.items row_view) ∙ a.count in
     let h : c.in-Some.k < length c.self.inside.basis.items = slice_get_within c.self.inside.basis.items c.in-Some.k c.args.column p in
-    let f = a.sparse c.in-Some.k (row_view c.index.result.now) (row_there c.self.inside.rows.items c.in-Some.k c.index.result.now (omega arith) c.index.ensures) in
+    let f = a.sparse c.in-Some.k (row_view c.index.result.now) (row_there c.self.inside.rows.items c.in-Some.k c.index.result.now
+    (omega arith) c.index.ensures) in
     subst HasNoZero (sym c.deref-in-Some.ensures.value) (sparse_no_zero 0 c.self.inside.columns (row_view c.index.result.now) f)

@@ -41,4 +41,12 @@ returns c =
       bounds = bs;
       usable = c.self.inside.usable;
     } in s) e
-    ∙ ap (λ (s : State). let t : State = record { given = s.given; columns = s.columns; basis = s.basis; values = s.values; bounds = take c.args.mark s.bounds; usable = s.usable } in t) c.self.view_is
+    ∙ ap (λ (s : State). let t : State = record {
+      given = s.given;
+      columns = s.columns;
+      basis = s.basis;
+      values = s.values;
+      bounds = take
+          c.args.mark s.bounds;
+      usable = s.usable;
+    } in t) c.self.view_is

@@ -7,5 +7,6 @@ use Rattle.lus_tree.proofs.declaration.Program.named.Given as goal
 abbrev pub invariant-loop-decl : goal.invariant-loop-decl
 invariant-loop-decl l = record {
   within : l.number ≤ l.decl-index;
-  found : number_of l.name (map decl_view l.self.decls.items) ≡ option_map (λ k. l.number + k) (number_of l.name (map decl_view (drop l.decl-index l.self.decls.items)));
+  found : number_of l.name (map decl_view l.self.decls.items) ≡ option_map (λ k. l.number + k)
+      (number_of l.name (map decl_view (drop l.decl-index l.self.decls.items)));
 }

@@ -3,10 +3,10 @@ use Rattle.std.proofs.Common.{◌≡◌, ℕ, pred, Bool, true, false, not, ◌&
 use Rattle.std.specs.List.{AllByRecursion, list_all}
 use Rattle.std.proofs.lemmas.Bool.{false≢true}
 use Rattle.lus_tree.specs.declared.place.Sort.TheVariants.{Bool as Flags}
-use Rattle.lus_tree.specs.Tree.{Expression, Clause, assume, guarantee, ghost_variable, constant, mode, «import»}
+use Rattle.lus_tree.specs.Tree.{Expression, ContractStatement, assume, guarantee, ghost_variable, constant, mode, «import»}
 use Rattle.lus_meaning.specs.Value.{flag, Instants, is as equals}
 use Rattle.lus_meaning.specs.Frame.{Frame}
-use Rattle.lus_meaning.specs.Scene.{base, Instance, instance, component_of, clauses}
+use Rattle.lus_meaning.specs.Scene.{base, Instance, instance, component_of, contract_statements}
 use Rattle.lus_meaning.specs.Meaning.{value}
 use Rattle.lus_meaning.specs.Contract.{Property, Terms, no_terms, scene_with, terms_after, terms, terms_each, scene}
 use Rattle.lus_meaning.specs.Run.{sort_of}
@@ -17,7 +17,7 @@ use Rattle.sys_meaning.specs.Items.{Key, known, Items, no_items, items_after, it
 use Rattle.sys_meaning.specs.Part.{all_after, all_of}
 use Rattle.sys_meaning.specs.Translate.{flag_at, formula}
 use Rattle.sys_meaning.specs.System.{Written, at_numbers, written, contract_of, assumed, stage}
-use Rattle.sys_meaning.specs.WellTyped.{Stands, ClauseFits, OwnFits}
+use Rattle.sys_meaning.specs.WellTyped.{Stands, ContractStatementFits, OwnFits}
 use Rattle.sys_meaning.proofs.Rows.{OwnShown}
 use Rattle.sys_meaning.proofs.Main.{formula_value}
 use Rattle.sys_meaning.proofs.Pools.{true_all}
@@ -33,7 +33,7 @@ no_modes j key = ⊥
 -- ---- no modes
 
 module _ (i : Instance) where
-  no_term_modes : (sub : ℕ → Terms) (cs : List Clause) → AllByRecursion (ClauseFits i no_mode) cs →
+  no_term_modes : (sub : ℕ → Terms) (cs : List ContractStatement) → AllByRecursion (ContractStatementFits i no_mode) cs →
       (terms_after i sub [] cs).modes ≡ []
   no_term_modes sub [] a = refl
   no_term_modes sub (assume l ∷ cs) a = no_term_modes sub cs a.1
@@ -43,7 +43,7 @@ module _ (i : Instance) where
   no_term_modes sub (mode m rs es ∷ cs) a = absurd a.0
   no_term_modes sub («import» k c as_ xs ∷ cs) a = absurd a.0
 
-  no_item_modes : (sub : ℕ → Items Written) (cs : List Clause) → AllByRecursion (ClauseFits i no_mode) cs →
+  no_item_modes : (sub : ℕ → Items Written) (cs : List ContractStatement) → AllByRecursion (ContractStatementFits i no_mode) cs →
       (items_after written i sub [] cs).modes ≡ []
   no_item_modes sub [] a = refl
   no_item_modes sub (assume l ∷ cs) a = no_item_modes sub cs a.1
@@ -53,15 +53,15 @@ module _ (i : Instance) where
   no_item_modes sub (mode m rs es ∷ cs) a = absurd a.0
   no_item_modes sub («import» k c as_ xs ∷ cs) a = absurd a.0
 
-pub terms_modes : (i : Instance) → AllByRecursion (ClauseFits i no_mode) (clauses (component_of i)) →
+pub terms_modes : (i : Instance) → AllByRecursion (ContractStatementFits i no_mode) (contract_statements (component_of i)) →
     (terms i).modes ≡ []
 terms_modes (instance d cs is) a =
-    no_term_modes (instance d cs is) (λ k. slice_index_or (terms_each is) (pred k) no_terms) (clauses d) a
+    no_term_modes (instance d cs is) (λ k. slice_index_or (terms_each is) (pred k) no_terms) (contract_statements d) a
 
-pub items_modes : (i : Instance) → AllByRecursion (ClauseFits i no_mode) (clauses (component_of i)) →
+pub items_modes : (i : Instance) → AllByRecursion (ContractStatementFits i no_mode) (contract_statements (component_of i)) →
     (contract_of i).modes ≡ []
 items_modes (instance d cs is) a =
-    no_item_modes (instance d cs is) (λ k. slice_index_or (items_each written is) (pred k) no_items) (clauses d) a
+    no_item_modes (instance d cs is) (λ k. slice_index_or (items_each written is) (pred k) no_items) (contract_statements d) a
 
 -- ---- items and their formulas
 
@@ -79,8 +79,8 @@ module _ (at : Place → ℕ) (now next : Values) (b : Instants) (f : Frame) (t 
   module _ (i : Instance) (worth_of : (e : Expression) → Stands i no_mode base e → sort_of i e ≡ Flags →
       b t ≡ true → flag (truth_of now next (formula (record { place = i; number = at; modes = [] }) e))
       ≡ value (scene_with i [] b f) base e t) where
-    same_assumes : (sub : ℕ → Terms) (sub' : ℕ → Items Written) (cs : List Clause) →
-        AllByRecursion (ClauseFits i no_mode) cs →
+    same_assumes : (sub : ℕ → Terms) (sub' : ℕ → Items Written) (cs : List ContractStatement) →
+        AllByRecursion (ContractStatementFits i no_mode) cs →
         AllSame (terms_after i sub [] cs).assumes (items_after written i sub' [] cs).assumes
     same_assumes sub sub' [] a = tt
     same_assumes sub sub' (assume l ∷ cs) a = (worth_of l.value a.0.0 a.0.1, same_assumes sub sub' cs a.1)
@@ -90,8 +90,8 @@ module _ (at : Place → ℕ) (now next : Values) (b : Instants) (f : Frame) (t 
     same_assumes sub sub' (mode m rs es ∷ cs) a = absurd a.0
     same_assumes sub sub' («import» k c as_ xs ∷ cs) a = absurd a.0
 
-    same_guarantees : (sub : ℕ → Terms) (sub' : ℕ → Items Written) (cs : List Clause) →
-        AllByRecursion (ClauseFits i no_mode) cs →
+    same_guarantees : (sub : ℕ → Terms) (sub' : ℕ → Items Written) (cs : List ContractStatement) →
+        AllByRecursion (ContractStatementFits i no_mode) cs →
         AllSame (terms_after i sub [] cs).guarantees (items_after written i sub' [] cs).guarantees
     same_guarantees sub sub' [] a = tt
     same_guarantees sub sub' (assume l ∷ cs) a = same_guarantees sub sub' cs a.1
@@ -172,14 +172,14 @@ module _ (at : Place → ℕ) (now next : Values) (b : Instants) (f : Frame) (t 
   assumes_same (instance d cs is) fits sh =
       same_assumes at now next b f t (instance d cs is) (shown_worth (instance d cs is) fits sh)
       (λ k. slice_index_or (terms_each is) (pred k) no_terms)
-      (λ k. slice_index_or (items_each written is) (pred k) no_items) (clauses d) fits.contract
+      (λ k. slice_index_or (items_each written is) (pred k) no_items) (contract_statements d) fits.contract
 
   pub guarantees_same : (i : Instance) → OwnFits i no_mode → IsShownBy i →
       AllSame at now next b f t (terms i).guarantees (contract_of i).guarantees
   guarantees_same (instance d cs is) fits sh =
       same_guarantees at now next b f t (instance d cs is) (shown_worth (instance d cs is) fits sh)
       (λ k. slice_index_or (terms_each is) (pred k) no_terms)
-      (λ k. slice_index_or (items_each written is) (pred k) no_items) (clauses d) fits.contract
+      (λ k. slice_index_or (items_each written is) (pred k) no_items) (contract_statements d) fits.contract
 
   -- the formulas of the assumptions are true where the assumptions are
   pub assumed_all : (i : Instance) → OwnFits i no_mode → IsShownBy i → b t ≡ true →
