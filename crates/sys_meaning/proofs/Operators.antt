@@ -16,7 +16,7 @@ use Rattle.lus_meaning.proofs.Typed as typed
 use Rattle.sys_terms.specs.View.{Formula, Amount, negation, both, same, at_most, plus, minus}
 use Rattle.sys_terms.specs.Meaning.{equal_flags, Values, truth_of, value_of}
 use Rattle.sys_meaning.specs.Part.{Part, a_flag, a_number, either, implies, not_part, minus_part, choose_part, equal_parts, of_formulas, of_amounts, of_order, operate, scaled, divided, rest_of, worth}
-use Rattle.sys_meaning.specs.WellTyped.{Takes}
+use Rattle.lus_meaning.specs.Run.{Takes}
 
 pub takes_same : (o : Operator) (s : Sort) → Takes o s → typed.Takes o s
 takes_same Implies s e = e

@@ -13,7 +13,7 @@ use Rattle.lus_meaning.specs.Value.{Value, absent, flag, whole, has_sort, not_va
 use Rattle.lus_meaning.specs.Scene.{Clock, sampled_by, constants_of, call_instance}
 use Rattle.lus_meaning.specs.Meaning.{constant_or}
 use Rattle.lus_meaning.specs.Program.{constant_value}
-use Rattle.lus_meaning.specs.Run.{sort_of, sort_of_name, output_sort, first_sort}
+use Rattle.lus_meaning.specs.Run.{sort_of, sort_of_name, output_sort, first_sort, Takes}
 use Rattle.lus_meaning.proofs.Typed.{apply_has, not_has, minus_has, choose_has, has_as}
 use Rattle.sys_terms.specs.View.{Formula}
 use Rattle.sys_terms.specs.Meaning.{Values, truth_of}
@@ -24,7 +24,7 @@ use Rattle.sys_meaning.specs.Part.{Part, a_flag, a_number, formula_of, fixed, va
 use Rattle.sys_meaning.specs.Translate.{Stage, name_part, name_flag, flag_at, output_part, held_part, latest_part, head_part, or_constant, constant_number, number_of_value, binary_part, mode_part, term_of, right_terms}
 use Rattle.sys_meaning.specs.Translate as tr
 use Rattle.sys_meaning.specs.Seen.{Row, Sight, seen_or, seen_output, seen_latest, seen_mode, outputs_at, head_value, seen, seen_right}
-use Rattle.sys_meaning.specs.WellTyped.{Takes, no_constant, is_declared, clock_here, NameFits, IsMemory, IsStart, IsPlainCall, IsHeldCall, HasConstant, Stands}
+use Rattle.sys_meaning.specs.WellTyped.{no_constant, is_declared, clock_here, NameFits, IsMemory, IsStart, IsPlainCall, IsHeldCall, HasConstant, Stands}
 use Rattle.sys_meaning.proofs.Operators.{takes_same, IsPlain, operate_worth, not_worth, minus_worth, choose_worth, scaled_worth, scaled_right, divided_worth, rest_worth}
 
 -- ---- constants
