@@ -1,0 +1,4 @@
+pub mod Behind
+pub mod Begins
+pub mod Arms
+pub mod Walks

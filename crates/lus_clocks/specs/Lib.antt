@@ -1,0 +1,4 @@
+pub mod Clocks
+pub mod Names
+pub mod Parts
+pub mod Walk
