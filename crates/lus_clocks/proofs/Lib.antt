@@ -2,3 +2,5 @@ pub mod Behind
 pub mod Begins
 pub mod Arms
 pub mod Walks
+pub mod Sides
+pub mod Same

@@ -2,3 +2,4 @@ pub mod Clocks
 pub mod Names
 pub mod Parts
 pub mod Walk
+pub mod Items

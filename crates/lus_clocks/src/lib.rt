@@ -2,7 +2,10 @@
 #![tactic(auto)]
 
 mod clock;
+mod equation;
 mod found;
+mod items;
 mod names;
 mod notes;
 mod part;
+mod program;
