@@ -1,5 +1,5 @@
 -- Each form by its parts: its faults are noted behind those of its parts.
-use Rattle.std.proofs.Common.{◌≡◌, ℕ, suc, ◌+◌, ◌<◌, arith, drop, get_or, drop-cons, true, false, List, [], ◌∷◌, ◌++◌, map, length, refl, ap, sym, ◌∙◌, Option, Some, None}
+use Rattle.std.proofs.Common.{◌≡◌, ℕ, suc, ◌+◌, ◌<◌, arith, drop, get_or, drop-cons, true, false, List, ◌∷◌, ◌++◌, map, length, refl, ap, sym, ◌∙◌, Option, Some, None}
 use Rattle.std.specs.Prelude.{unwrap_or}
 use Rattle.lus_tree.specs.declared.expression.Expr.{Expr}
 use Rattle.lus_tree.specs.Tree.{Spelled, Component, Expression, Expressions}
@@ -131,7 +131,7 @@ module _ (n : Component) where
       ∙ sym (noted_append o own (walk_among n c rest))
       ∙ ap (λ ys. noted_all o (walk_among n k (joined (map expr_view ys)))) (sym l))
 
-  or_else_of_three : (k c d : Option Clock) → or_else (or_else k c) d ≡ or_else k (or_else c d)
+  pub or_else_of_three : (k c d : Option Clock) → or_else (or_else k c) d ≡ or_else k (or_else c d)
   or_else_of_three None c d = refl
   or_else_of_three (Some b) c d = refl
 

@@ -4,3 +4,4 @@ pub mod Arms
 pub mod Walks
 pub mod Sides
 pub mod Same
+pub mod Seeks

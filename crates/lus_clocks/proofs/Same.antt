@@ -1,15 +1,15 @@
 -- The faults that are noted of a program are those of the definition.
-use Rattle.std.proofs.Common.{◌≡◌, ℕ, ◌+◌, Bool, List, [], ◌∷◌, ◌++◌, map, flat_map, refl, ap, sym, ◌∙◌, arith, Option, None}
-use Rattle.lus_tree.specs.Tree.{Name, text_of, Component, Expression, Labelled, Statement, equation, assertion, property, main_mark, ContractStatement, assume, guarantee, ghost_variable, constant, mode, «import», Declaration, declared_constant, declared_node, declared_contract, Program}
+use Rattle.std.proofs.Common.{◌≡◌, ◌+◌, Bool, List, [], ◌∷◌, ◌++◌, map, flat_map, refl, ap, sym, ◌∙◌, Option, None}
+use Rattle.lus_tree.specs.Tree.{Name, text_of, Component, Expression, Labelled, Statement, equation, assertion, property, main_mark, ContractStatement, assume, guarantee, ghost_variable, constant, mode, «import», declared_constant, declared_node, declared_contract, Program}
 use Rattle.lus_tree.specs.Reason.{Refused, clock_clash}
 use Rattle.lus_meaning.specs.Scene.{base, clock_of_names, contract_statements}
 use Rattle.lus_meaning.specs.Occurrences.{begin}
 use Rattle.lus_meaning.specs.Faults.{if_so}
-use Rattle.lus_meaning.specs.ClockFaults.{clock_faults, clock_faults_of, component_clock_faults, components, contract_statement_clock_faults, statement_clock_faults, side_faults, all_on_base}
+use Rattle.lus_meaning.specs.ClockFaults.{clock_faults, clock_faults_of, component_clock_faults, contract_statement_clock_faults, statement_clock_faults, side_faults, all_on_base}
 use Rattle.lus_types.specs.Least.{IsLeast, noted_all}
 use Rattle.lus_types.proofs.Alike.{AreSame, least_same}
 use Rattle.lus_types.proofs.Leasts.{least_of_all}
-use Rattle.lus_types.proofs.Walks.{Both, failing, failing_append}
+use Rattle.lus_types.proofs.Walks.{failing, failing_append}
 use Rattle.lus_clocks.specs.Items.{some_other, placed_walk, side_walk, labelled_walk, contract_statement_walk, statement_walk, component_walk, declaration_walk}
 use Rattle.lus_clocks.proofs.Walks.{placed}
 

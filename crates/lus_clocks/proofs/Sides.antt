@@ -1,5 +1,5 @@
 -- Items behind each other, and an equation by its left names and its right side.
-use Rattle.std.proofs.Common.{◌≡◌, ℕ, suc, ◌+◌, ◌<◌, Bool, arith, drop, get_or, drop-cons, List, ◌∷◌, ◌++◌, map, flat_map, length, ap, sym, ◌∙◌, Option}
+use Rattle.std.proofs.Common.{◌≡◌, ℕ, suc, ◌+◌, ◌<◌, Bool, arith, drop, get_or, drop-cons, List, ◌∷◌, map, flat_map, length, ap, sym, ◌∙◌, Option}
 use Rattle.lus_tree.specs.declared.expression.Expr.{Expr}
 use Rattle.lus_tree.specs.Tree.{Name, Component}
 use Rattle.lus_tree.specs.View.{expr_view}

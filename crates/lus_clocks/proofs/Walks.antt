@@ -1,10 +1,9 @@
 -- The faults that are noted of an expression are those of the definition: the same are in both lists.
 use Rattle.std.proofs.Common.{◌≡◌, ℕ, ◌+◌, Bool, true, false, List, [], ◌∷◌, ◌++◌, flat_map, refl, ap, sym, ◌∙◌, arith, Option, Some, None}
 use Rattle.std.proofs.lemmas.List.{append-nil}
-use Rattle.std.specs.Prelude.{unwrap_or}
-use Rattle.lus_tree.specs.Tree.{Spelled, Component, Expression, Expressions, truth, number, name, negation, minus, pre, arrow, binary, choice, sampled, merged, call, condact, mode_name, no_more, more}
+use Rattle.lus_tree.specs.Tree.{Component, Expression, Expressions, truth, number, name, negation, minus, pre, arrow, binary, choice, sampled, merged, call, condact, mode_name, no_more, more}
 use Rattle.lus_tree.specs.Reason.{Refused}
-use Rattle.lus_meaning.specs.Scene.{Clock, base, sampled_by, clock_of}
+use Rattle.lus_meaning.specs.Scene.{Clock, sampled_by, clock_of}
 use Rattle.lus_meaning.specs.Program.{listed}
 use Rattle.lus_meaning.specs.Occurrences.{Standing, on_clock, within, before, moved, Occurrence, occurs, occurrences, occurrences_among}
 use Rattle.lus_meaning.specs.ClockFaults.{clock_in, clock_among, or_else, stands_on, all_on, clock_form_faults, clock_faults_of}

@@ -3,3 +3,4 @@ pub mod Names
 pub mod Parts
 pub mod Walk
 pub mod Items
+pub mod Sought

@@ -1,5 +1,5 @@
 -- What is known of a part of an expression.
-use Rattle.std.specs.Prelude.{◌≡◌, List, [], ◌++◌, Option, Some, None}
+use Rattle.std.specs.Prelude.{◌≡◌, List, [], Option, Some, None}
 use Rattle.lus_tree.specs.Tree.{Component, Expression}
 use Rattle.lus_tree.specs.Reason.{Refused, clock_clash}
 use Rattle.lus_meaning.specs.Scene.{Clock}

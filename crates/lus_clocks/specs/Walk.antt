@@ -1,6 +1,6 @@
 -- The faults of an expression in the order in which a part's own come behind those of its parts. They are those of
 -- `clock_form_faults` of all its parts: `proofs/Walks`.
-use Rattle.std.specs.Prelude.{true, false, List, [], ◌++◌, Option, Some, None, unwrap_or}
+use Rattle.std.specs.Prelude.{true, false, List, [], ◌++◌, Option, None, unwrap_or}
 use Rattle.lus_tree.specs.Tree.{Spelled, Component, Expression, Expressions, truth, number, name, negation, minus, pre, arrow, binary, choice, sampled, merged, call, condact, mode_name, no_more, more}
 use Rattle.lus_tree.specs.Reason.{Refused}
 use Rattle.lus_meaning.specs.Scene.{Clock, base, sampled_by, clock_of}

@@ -27,7 +27,7 @@ pub(crate) fn placed(names: Names<'_>, least: &mut Least, clock: Clock<'_>, e: &
 }
 
 /// The clock of an equation of these left names.
-fn side_clock<'a>(names: Names<'a>, words: &[PlacedName]) -> Clock<'a>
+pub(crate) fn side_clock<'a>(names: Names<'a>, words: &[PlacedName]) -> Clock<'a>
     ensures { clock_seen result ≡ clock_of_names (names_view names.entry) (map text_of (map word_view words.now)) }
 {
     match words {

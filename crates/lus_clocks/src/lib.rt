@@ -7,5 +7,8 @@ mod found;
 mod items;
 mod names;
 mod notes;
+mod occurrence;
 mod part;
 mod program;
+mod seek;
+mod sites;

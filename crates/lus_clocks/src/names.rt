@@ -2,14 +2,14 @@
 
 ghost use Rattle.std.specs.Prelude.{◌≡◌, find, map, option_map};
 ghost use Rattle.std.specs.Str.{bytes_eq};
-ghost use Rattle.lus_tree.specs.View.{contract_item_view, item_view, node_view, param_view};
+ghost use Rattle.lus_tree.specs.View.{contract_item_view, definition_view, item_view, node_view, param_view};
 ghost use Rattle.lus_meaning.specs.ClockFaults.{name_clock};
 ghost use Rattle.lus_meaning.specs.Scene.{clock_of, contract_statements, ghosts, variables};
 ghost use Rattle.lus_clocks.specs.Clocks.{clock_seen, clocks_seen};
 ghost use Rattle.lus_clocks.specs.Names.{names_view, owner_view};
 
 use crate::clock::{Clock, declared};
-use lus_tree::{ContractItem, ContractNode, Item, Node, Param};
+use lus_tree::{ContractItem, ContractNode, Definition, Item, Node, Param};
 
 /// A declaration with streams.
 #[derive(Clone, Copy)]
@@ -95,6 +95,15 @@ impl<'a> Owner<'a> {
         match self {
             Owner::Node(node) => contract_of(node),
             Owner::Contract(contract) => &contract.items,
+        }
+    }
+
+    pub(crate) fn constants(self) -> &'a [Definition]
+        ensures { map definition_view result.now ≡ (owner_view self.entry).constants }
+    {
+        match self {
+            Owner::Node(node) => &node.consts,
+            Owner::Contract(_) => &[],
         }
     }
 

@@ -10,7 +10,7 @@ ghost use Rattle.lus_clocks.specs.Names.{names_view};
 ghost use Rattle.lus_clocks.specs.Parts.{IsPart, fits_on};
 ghost use Rattle.lus_clocks.specs.Walk.{walk, walk_among, walk_each};
 
-use crate::clock::{Clock, or_else, or_base};
+use crate::clock::{Clock, or_base, or_else};
 use crate::found::Part;
 use crate::names::Names;
 use crate::notes::{branches, fits_on, pair, stands_on, triple};
