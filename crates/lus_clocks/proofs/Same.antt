@@ -46,7 +46,8 @@ module _ (p : Refused → Bool) where
     contract_same (guarantee l) = placed p n base l.value
     contract_same (ghost_variable v e) = placed p n base e
     contract_same (constant c) = refl
-    contract_same (mode m rs es) = both_same (labelled_walk n rs) (all_on_base n rs) (labelled_walk n es) (all_on_base n es) (labelled_same rs) (labelled_same es)
+    contract_same (mode m rs es) =
+        both_same (labelled_walk n rs) (all_on_base n rs) (labelled_walk n es) (all_on_base n es) (labelled_same rs) (labelled_same es)
     contract_same («import» k c as_ xs) = each_same (placed_walk n base) (clock_faults_of n base) (placed p n base) as_
 
     component_same : failing p (component_walk n) ≡ failing p (component_clock_faults n)

@@ -10,21 +10,18 @@ use Rattle.lus_meaning.specs.ClockFaults.{or_else}
 use Rattle.lus_clocks.specs.declared.occurrence.Occurrence.{Occurrence as Sought}
 use Rattle.lus_clocks.specs.declared.occurrence.Occurrence.TheVariants.{Pre, Arrow, Call}
 use Rattle.lus_clocks.specs.Sought.{is_pre, is_arrow, is_call, if_there, clock_at, clock_at_among, clock_at_texts, import_at, occurrence_clock}
+use Rattle.lus_clocks.proofs.Arms.{or_else_of_three}
 use Rattle.lus_clocks.proofs.Behind.{found_behind}
 
 pub or_else_none : (o : Option Clock) → or_else o None ≡ o
 or_else_none None = refl
 or_else_none (Some c) = refl
 
-of_three : (a b c : Option Clock) → or_else (or_else a b) c ≡ or_else a (or_else b c)
-of_three None b c = refl
-of_three (Some a) b c = refl
-
 pub texts_append : (n : Component) (s : Sought) (xs ys : List Text) → clock_at_texts n s (xs ++ ys) ≡ or_else (clock_at_texts n s xs) (clock_at_texts n s ys)
 texts_append n s [] ys = refl
 texts_append n s (x ∷ xs) ys =
     ap (or_else (clock_at n s x.0.clock x.1)) (texts_append n s xs ys)
-    ∙ sym (of_three (clock_at n s x.0.clock x.1) (clock_at_texts n s xs) (clock_at_texts n s ys))
+    ∙ sym (or_else_of_three n (clock_at n s x.0.clock x.1) (clock_at_texts n s xs) (clock_at_texts n s ys))
 
 pub one_more_text : (n : Component) (s : Sought) {X Y : Type 0} (f : Y → List Text) (v : X → Y) (xs : List X) (i : ℕ) (x : X) (r : Option Clock)
     → i < length xs → x ≡ get_or xs i x → r ≡ clock_at_texts n s (f (v x))
@@ -56,7 +53,7 @@ module _ (n : Component) (s : Sought) where
   first_append [] ys = refl
   first_append (x ∷ xs) ys =
       ap (or_else (if_there (is_it s x.expression) x.standing.clock)) (first_append xs ys)
-      ∙ sym (of_three (if_there (is_it s x.expression) x.standing.clock) (first xs) (first ys))
+      ∙ sym (or_else_of_three n (if_there (is_it s x.expression) x.standing.clock) (first xs) (first ys))
 
   two_in : (a b : Option Clock) (xs ys : List Occurrence) → a ≡ first xs → b ≡ first ys → or_else a b ≡ first (xs ++ ys)
   two_in a b xs ys d e = ap (λ z. or_else z b) d ∙ ap (or_else (first xs)) e ∙ sym (first_append xs ys)
@@ -132,7 +129,8 @@ module _ {A : Type 0} (f : Standing → Expression → List A) (clock : A → Cl
       ∙ ap (λ z. or_else z (option_map clock (find test rest))) (i o.standing o.expression)
       ∙ ap (or_else (if_there (is_it s o.expression) o.standing.clock)) (by_number n i os)
 
-each_memory : (k : ℕ) (t : Standing) (e : Expression) → option_map (λ (m : Memory). m.clock) (find (λ m. m.number == k) (memory_in t e)) ≡ if_there (is_it (Pre k) e) t.clock
+each_memory : (k : ℕ) (t : Standing) (e : Expression)
+    → option_map (λ (m : Memory). m.clock) (find (λ m. m.number == k) (memory_in t e)) ≡ if_there (is_it (Pre k) e) t.clock
 each_memory k t (truth q b) = refl
 each_memory k t (number q i) = refl
 each_memory k t (name q x) = refl
@@ -148,7 +146,8 @@ each_memory k t (call q i f as_) = refl
 each_memory k t (condact q i a f as_ ds) = refl
 each_memory k t (mode_name q d m) = refl
 
-each_start : (k : ℕ) (t : Standing) (e : Expression) → option_map (λ (m : Start). m.clock) (find (λ m. m.number == k) (start_in t e)) ≡ if_there (is_it (Arrow k) e) t.clock
+each_start : (k : ℕ) (t : Standing) (e : Expression)
+    → option_map (λ (m : Start). m.clock) (find (λ m. m.number == k) (start_in t e)) ≡ if_there (is_it (Arrow k) e) t.clock
 each_start k t (truth q b) = refl
 each_start k t (number q i) = refl
 each_start k t (name q x) = refl
@@ -164,7 +163,8 @@ each_start k t (call q i f as_) = refl
 each_start k t (condact q i a f as_ ds) = refl
 each_start k t (mode_name q d m) = refl
 
-each_site : (k : ℕ) (t : Standing) (e : Expression) → option_map (λ (m : Site). m.clock) (find (λ m. m.number == k) (site_in t e)) ≡ if_there (is_it (Call k) e) t.clock
+each_site : (k : ℕ) (t : Standing) (e : Expression)
+    → option_map (λ (m : Site). m.clock) (find (λ m. m.number == k) (site_in t e)) ≡ if_there (is_it (Call k) e) t.clock
 each_site k t (truth q b) = refl
 each_site k t (number q i) = refl
 each_site k t (name q x) = refl
@@ -191,7 +191,8 @@ import_there : (b : Bool) (r : Site) (rest : Option Site) (o : Option Clock) →
 import_there true r rest o h = refl
 import_there false r rest o h = h
 
-import_call : (k : ℕ) (cs : List ContractStatement) → option_map (λ (m : Site). m.clock) (find (λ m. m.number == k) (flat_map import_site cs)) ≡ import_at (Call k) cs
+import_call : (k : ℕ) (cs : List ContractStatement)
+    → option_map (λ (m : Site). m.clock) (find (λ m. m.number == k) (flat_map import_site cs)) ≡ import_at (Call k) cs
 import_call k [] = refl
 import_call k (assume l ∷ cs) = import_call k cs
 import_call k (guarantee l ∷ cs) = import_call k cs

@@ -38,14 +38,16 @@ pub(crate) fn side_clock<'a>(names: Names<'a>, words: &[PlacedName]) -> Clock<'a
 
 /// Whether a name is on another clock.
 fn is_other(names: Names<'_>, clock: Clock<'_>, word: &PlacedName) -> bool
-    ensures { result ≡ not (same_clock (clock_seen clock.entry) (clock_of (names_view names.entry) (word_view word.now).text)) }
+    ensures { result
+        ≡ not (same_clock (clock_seen clock.entry) (clock_of (names_view names.entry) (word_view word.now).text)) }
 {
     !is_same(clock, names.clock_or_base(&word.text))
 }
 
 /// Whether one of these names is on another clock.
 fn some_other(names: Names<'_>, clock: Clock<'_>, words: &[PlacedName]) -> bool
-    ensures { result ≡ some_other (names_view names.entry) (clock_seen clock.entry) (map text_of (map word_view words.now)) }
+    ensures { result
+        ≡ some_other (names_view names.entry) (clock_seen clock.entry) (map text_of (map word_view words.now)) }
 {
     for word in words {
         if is_other(names, clock, word) {

@@ -15,7 +15,8 @@ use lus_types::least::Least;
 
 /// Notes the faults of an item of a body.
 fn statement(names: Names<'_>, least: &mut Least, item: &Item)
-    ensures { least_view least.new ≡ noted_all (least_view least.old) (statement_walk (names_view names.entry) (item_view item.now)) }
+    ensures { least_view least.new ≡ noted_all (least_view least.old)
+        (statement_walk (names_view names.entry) (item_view item.now)) }
 {
     match item {
         Item::Equation(words, e) => equation(names, least, words, e),

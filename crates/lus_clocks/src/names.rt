@@ -36,7 +36,8 @@ fn contract_of(node: &Node) -> &[ContractItem]
 
 /// The first stream of that name among these.
 fn stream_among<'a>(streams: &'a [Param], name: &str) -> Option<&'a Param>
-    ensures { option_map (λ v. param_view v.now) result ≡ find (λ v. bytes_eq name.now v.name.text) (map param_view streams.now) }
+    ensures { option_map (λ v. param_view v.now) result
+        ≡ find (λ v. bytes_eq name.now v.name.text) (map param_view streams.now) }
 {
     for stream in streams {
         if name == stream.name.text.as_str() {
@@ -120,7 +121,8 @@ impl<'a> Owner<'a> {
 /// The first of these, or else a local or a ghost variable.
 #[tactic(auto, using(crate::proofs::Behind::found_behind))]
 fn stream<'a>(owner: Owner<'a>, name: &str) -> Option<&'a Param>
-    ensures { option_map (λ v. param_view v.now) result ≡ find (λ v. bytes_eq name.now v.name.text) (variables (owner_view owner.entry)) }
+    ensures { option_map (λ v. param_view v.now) result
+        ≡ find (λ v. bytes_eq name.now v.name.text) (variables (owner_view owner.entry)) }
 {
     if let Some(stream) = stream_among(owner.inputs(), name) {
         return Some(stream);

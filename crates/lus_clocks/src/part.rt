@@ -23,7 +23,8 @@ use lus_types::least::Least;
 #[tactic(auto, using(lus_tree::proofs::Views::form_views, crate::proofs::Begins::begins))]
 pub(crate) fn part<'a>(names: Names<'a>, least: &mut Least, e: &'a Expr) -> Part<'a>
     ensures part { IsPart (names_view names.entry) (expr_view e.now) result }
-    ensures least { least_view least.new ≡ noted_all (least_view least.old) (walk (names_view names.entry) (expr_view e.now)) }
+    ensures least { least_view least.new ≡ noted_all (least_view least.old)
+        (walk (names_view names.entry) (expr_view e.now)) }
 {
     let clock = form_clock(names, least, &e.form);
     Part {
@@ -107,9 +108,11 @@ fn one_among<'a>(
     clock: Option<Clock<'a>>,
     value: &'a Expr,
 ) -> Option<Clock<'a>>
-    ensures clock { clocks_seen result ≡ or_else (clocks_seen clock.entry) (clock_in (names_view names.entry) (expr_view value.now)) }
-    ensures least { least_view least.new ≡ noted_all (least_view least.old) (walk (names_view names.entry) (expr_view value.now)
-        ++ fits_on (names_view names.entry) (or_else (clocks_seen clock.entry) (clock_in (names_view names.entry) (expr_view value.now)))
+    ensures clock { clocks_seen result
+        ≡ or_else (clocks_seen clock.entry) (clock_in (names_view names.entry) (expr_view value.now)) }
+    ensures least { least_view least.new ≡ noted_all (least_view least.old)
+        (walk (names_view names.entry) (expr_view value.now) ++ fits_on (names_view names.entry)
+        (or_else (clocks_seen clock.entry) (clock_in (names_view names.entry) (expr_view value.now)))
         (expr_view value.now)) }
 {
     let found = part(names, least, value);

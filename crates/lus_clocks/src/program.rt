@@ -38,7 +38,8 @@ fn declaration(least: &mut Least, decl: &Decl)
 /// Notes the faults of declarations.
 #[tactic(auto, using(lus_types::proofs::Leasts::noted_append))]
 fn declarations(least: &mut Least, decls: &[Decl])
-    ensures { least_view least.new ≡ noted_all (least_view least.old) (flat_map declaration_walk (map decl_view decls.now)) }
+    ensures { least_view least.new ≡ noted_all (least_view least.old)
+        (flat_map declaration_walk (map decl_view decls.now)) }
 {
     for decl in decls {
         declaration(least, decl);

@@ -29,7 +29,8 @@ fn in_labelled<'a>(names: Names<'a>, sought: Occurrence, all: &'a [Named]) -> Op
 
 /// In the arguments of an import.
 fn in_arguments<'a>(names: Names<'a>, sought: Occurrence, all: &'a [Expr]) -> Option<Clock<'a>>
-    ensures { clocks_seen result ≡ clock_at_texts (names_view names.entry) sought (map (λ a. (on_clock base, a)) (exprs_view all.now)) }
+    ensures { clocks_seen result
+        ≡ clock_at_texts (names_view names.entry) sought (map (λ a. (on_clock base, a)) (exprs_view all.now)) }
 {
     for argument in all {
         if let Some(found) = seek(names, sought, Clock::Base, argument) {
@@ -45,7 +46,8 @@ fn in_constants<'a>(
     sought: Occurrence,
     all: &'a [Definition],
 ) -> Option<Clock<'a>>
-    ensures { clocks_seen result ≡ clock_at_texts (names_view names.entry) sought (constant_texts (map definition_view all.now)) }
+    ensures { clocks_seen result
+        ≡ clock_at_texts (names_view names.entry) sought (constant_texts (map definition_view all.now)) }
 {
     for definition in all {
         if let Some(found) = seek(names, sought, Clock::Base, &definition.value) {

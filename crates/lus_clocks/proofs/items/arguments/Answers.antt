@@ -8,5 +8,6 @@ use Rattle.lus_clocks.proofs.Sides.{one_more}
 use Rattle.lus_clocks.proofs.items.arguments.Goals as goal
 
 pub loop-argument-preserved : goal.loop-argument-preserved
-loop-argument-preserved c = one_more (placed_walk (names_view c.args.names) base) expr_view c.args.all.now c.loop-argument.argument-index c.argument-item.result (least_view c.loop-argument.least)
+loop-argument-preserved c = one_more (placed_walk (names_view c.args.names) base) expr_view
+    c.args.all.now c.loop-argument.argument-index c.argument-item.result (least_view c.loop-argument.least)
     (least_view c.placed.new.least) (omega arith) c.argument-item.is c.placed.ensures ∙ c.loop-argument.invariant

@@ -7,5 +7,6 @@ use Rattle.lus_clocks.proofs.Sides.{one_more}
 use Rattle.lus_clocks.proofs.items.contract_items.Goals as goal
 
 pub loop-item-preserved : goal.loop-item-preserved
-loop-item-preserved c = one_more (contract_statement_walk (names_view c.args.names)) contract_item_view c.args.items.now c.loop-item.item-index c.item-item.result (least_view c.loop-item.least)
+loop-item-preserved c = one_more (contract_statement_walk (names_view c.args.names)) contract_item_view
+    c.args.items.now c.loop-item.item-index c.item-item.result (least_view c.loop-item.least)
     (least_view c.contract_item.new.least) (omega arith) c.item-item.is c.contract_item.ensures ∙ c.loop-item.invariant

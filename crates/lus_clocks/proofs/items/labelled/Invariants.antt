@@ -8,5 +8,6 @@ use Rattle.lus_clocks.proofs.items.labelled.Given as goal
 
 -- what was noted, followed by what is to come, is all
 abbrev pub invariant-loop-named : goal.invariant-loop-named
-invariant-loop-named l = noted_all (least_view l.least) (flat_map (λ z. placed_walk (names_view l.names) base z.value) (map named_view (drop l.named-index l.all)))
+invariant-loop-named l = noted_all (least_view l.least)
+    (flat_map (λ z. placed_walk (names_view l.names) base z.value) (map named_view (drop l.named-index l.all)))
     ≡ noted_all (least_view l.initial.least) (flat_map (λ z. placed_walk (names_view l.names) base z.value) (map named_view l.all))
