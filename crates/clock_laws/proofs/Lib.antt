@@ -1,0 +1,5 @@
+pub mod Same
+pub mod Parts
+pub mod Stands
+pub mod Valued
+pub mod Runs

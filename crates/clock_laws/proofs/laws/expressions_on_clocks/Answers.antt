@@ -1,0 +1,9 @@
+use Rattle.clock_laws.proofs.Same.{same_instance}
+use Rattle.clock_laws.proofs.Parts.{each_whole}
+use Rattle.clock_laws.proofs.Stands.{each_stands}
+use Rattle.clock_laws.proofs.Valued.{value_on}
+use Rattle.clock_laws.proofs.Runs.{runs_on_clocks}
+use Rattle.clock_laws.proofs.laws.expressions_on_clocks.Goals as goal
+
+pub returns-clause-runs : goal.returns-clause-runs
+returns-clause-runs c = runs_on_clocks
