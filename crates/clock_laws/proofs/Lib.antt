@@ -3,3 +3,5 @@ pub mod Parts
 pub mod Stands
 pub mod Valued
 pub mod Runs
+pub mod SameModes
+pub mod Texts

@@ -1,3 +1,5 @@
+use Rattle.clock_laws.proofs.SameModes.{value_same}
+use Rattle.clock_laws.proofs.Texts.{call_on}
 use Rattle.clock_laws.proofs.Same.{same_instance}
 use Rattle.clock_laws.proofs.Parts.{each_whole}
 use Rattle.clock_laws.proofs.Stands.{each_stands}
