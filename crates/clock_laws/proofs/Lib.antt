@@ -5,3 +5,7 @@ pub mod Valued
 pub mod Runs
 pub mod SameModes
 pub mod Texts
+pub mod Modes
+pub mod Fixed
+pub mod Contracts
+pub mod Walk

@@ -247,6 +247,24 @@ abbrev pub ModesOn : Scene → ℕ → Scope → Type 0
 ModesOn s m sc = (d : Option Spelled) (x : Spelled) → mode_is_known sc d x ≡ true → (t : ℕ) → t < m → is_typed Flags (s.beat t)
     (mode_stream s (option_map text_of d) x.text t) ≡ true
 
+-- the name of a constant is no stream
+pub constant_apart : (p : Program) → IsChecked p → (k : ℕ) (i : Instance) → Contains (placed 0 p) (k, component_of i) → i ≡ instance_of p (component_of i)
+    → (sc : Scope) → Shows p (k, component_of i) sc → (x : Name) → is_constant_name sc x ≡ true → name_clock (component_of i) x ≡ None
+constant_apart p c k i placed_here same sc shows x h = go (entry_of sc x) (find (is_word x) (table p (k, component_of i))) refl (shows x) h
+  where
+    is_entry : {A : Type 0} → Option A → Bool
+    is_entry None = false
+    is_entry (Some a) = true
+
+    go : (a r : Option Entry) → find (is_word x) (table p (k, component_of i)) ≡ r → SameFound a r → unwrap_or
+        (option_map (λ e. is_constant_role e.role) a) false ≡ true → name_clock (component_of i) x ≡ None
+    go None r q u h = absurd (false≢true h)
+    go (Some d) None q u h = absurd (false≢true (sym (ap is_entry u.role)))
+    go (Some d) (Some g) q u h =
+        let a : Agrees i x g = subst (λ j. Agrees j x g) (sym same) (typed_tables p c.rules.clocked.typed (k, component_of i) placed_here x g q) in
+        let r : is_constant_role g.role ≡ true = sym (ap (λ o. unwrap_or (option_map is_constant_role o) false) u.role) ∙ h in
+        a.stream ∙ ap (λ (q : Bool). cond q None (Some g.clock)) r
+
 module _ (p : Program) (c : IsChecked p) (k : ℕ) (i : Instance) (placed_here : Contains (placed 0 p) (k, component_of i)) (same : i ≡ instance_of p (component_of i))
     (m : ℕ) (b : Instants) (f : Frame) (on : IsOnClocks i m b f) where
   abbrev pub here : Component
@@ -259,22 +277,8 @@ module _ (p : Program) (c : IsChecked p) (k : ℕ) (i : Instance) (placed_here :
     known : (x : Name) → is_known sc x ≡ true → (sort_of_entry sc x ≡ Some (sort_of_name i x)) × KnownName sc full x
     known x h = agrees p c.rules.clocked.typed (k, here) placed_here sc clean.shows full same x h
 
-    -- the name of a constant is no stream
     apart : (x : Name) → is_constant_name sc x ≡ true → name_clock here x ≡ None
-    apart x h = go (entry_of sc x) (find (is_word x) (table p (k, here))) refl (clean.shows x) h
-      where
-        is_entry : {A : Type 0} → Option A → Bool
-        is_entry None = false
-        is_entry (Some a) = true
-
-        go : (a r : Option Entry) → find (is_word x) (table p (k, here)) ≡ r → SameFound a r → unwrap_or
-            (option_map (λ e. is_constant_role e.role) a) false ≡ true → name_clock here x ≡ None
-        go None r q u h = absurd (false≢true h)
-        go (Some d) None q u h = absurd (false≢true (sym (ap is_entry u.role)))
-        go (Some d) (Some g) q u h =
-            let a : Agrees i x g = subst (λ j. Agrees j x g) (sym same) (typed_tables p c.rules.clocked.typed (k, here) placed_here x g q) in
-            let r : is_constant_role g.role ≡ true = sym (ap (λ o. unwrap_or (option_map is_constant_role o) false) u.role) ∙ h in
-            a.stream ∙ ap (λ (q : Bool). cond q None (Some g.clock)) r
+    apart = constant_apart p c k i placed_here same sc clean.shows
 
     part_right : (o : Occurrence) → part_faults sc o ≡ [] → form_faults sc o.standing.whole_side o.expression ≡ []
     part_right o h = (no_parts (form_faults sc o.standing.whole_side o.expression) (weight_faults sc o.expression) h).0

@@ -1,3 +1,6 @@
+use Rattle.clock_laws.proofs.Walk.{at_whole}
+use Rattle.clock_laws.proofs.Contracts.{known_key}
+use Rattle.clock_laws.proofs.Modes.{mode_has}
 use Rattle.clock_laws.proofs.SameModes.{value_same}
 use Rattle.clock_laws.proofs.Texts.{call_on}
 use Rattle.clock_laws.proofs.Same.{same_instance}
