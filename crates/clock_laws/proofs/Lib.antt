@@ -9,3 +9,4 @@ pub mod Modes
 pub mod Fixed
 pub mod Contracts
 pub mod Walk
+pub mod Clocks

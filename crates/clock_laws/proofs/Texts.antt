@@ -44,7 +44,7 @@ use Rattle.clock_laws.proofs.Valued.{AnyCall, StreamOn, OwnOn, IsOwnOn, value_on
 
 -- ---- declarations
 
-all_grammatical : (ds : Program) → AllByRecursion IsGrammaticalDeclaration ds → AllByRecursion IsGrammaticalComponent (components ds)
+pub all_grammatical : (ds : Program) → AllByRecursion IsGrammaticalDeclaration ds → AllByRecursion IsGrammaticalComponent (components ds)
 all_grammatical [] a = tt
 all_grammatical (declared_constant c ∷ ds) a = all_grammatical ds a.1
 all_grammatical (declared_node n ∷ ds) a = (a.0, all_grammatical ds a.1)
@@ -77,7 +77,7 @@ of_where P w (declared_contract n ∷ ds) x m a e = go (bytes_eq x n.name.text) 
     go false h r = r h
 
 -- the clocks of inputs, outputs and ghost variables
-all_pass : {A : Type 0} (test : A → Bool) (xs : List A) → list_all test xs ≡ true → AllByRecursion (λ x. test x ≡ true) xs
+pub all_pass : {A : Type 0} (test : A → Bool) (xs : List A) → list_all test xs ≡ true → AllByRecursion (λ x. test x ≡ true) xs
 all_pass test [] e = tt
 all_pass test (x ∷ xs) e = go (test x) refl e (all_pass test xs)
   where

@@ -34,7 +34,7 @@ use Rattle.lus_meaning.proofs.Typed.{flags_has}
 use Rattle.rule_laws.specs.Laws.{placed, HasItsPlace}
 use Rattle.rule_laws.proofs.Known.{contract_statement_shows}
 use Rattle.rule_laws.proofs.Worths.{same_sorts}
-use Rattle.clock_laws.specs.Laws.{IsOnClocks, HasItsValue}
+use Rattle.clock_laws.specs.Laws.{IsOnClocks, HasItsValue, IsContractSaid}
 use Rattle.clock_laws.proofs.Contracts.{side_top, CoversAll, known_key, covers_more, covers_plain, covers_mode, covers_import, covers_names, covers_imports, Covers, Extends, extends}
 use Rattle.clock_laws.proofs.Fixed.{constant_clocks}
 use Rattle.clock_laws.proofs.Modes.{has_key, ModesHave, found_mode, found_before, SaysHave, mode_has, mode_named, imported_have, imported_named}
@@ -65,12 +65,6 @@ PropertyHas m b f q = (t : ℕ) → t < m → is_typed Flags (b t) (q.test b f t
 
 abbrev pub EnsuresHave : ℕ → Instants → Frame → List ModeTerms → Type 0
 EnsuresHave m b f ms = AllByRecursion (λ x. AllByRecursion (PropertyHas m b f) x.ensures_each) ms
-
-pub record TermsHave (m : ℕ) (b : Instants) (f : Frame) (r : Terms) : Type 0 where
-  pub assumes : AllByRecursion (PropertyHas m b f) r.assumes
-  pub guarantees : AllByRecursion (PropertyHas m b f) r.guarantees
-  pub modes : ModesHave m b f r.modes
-  pub ensures_each : EnsuresHave m b f r.modes
 
 implied_has : (on : Bool) (v w : Value) → is_typed Flags on v ≡ true → is_typed Flags on w ≡ true → is_typed Flags on (apply Implies v w) ≡ true
 implied_has true v w h g = flags_has (λ a c. not a || c) v w h g
@@ -187,7 +181,7 @@ module _ (p : Program) (c : IsChecked p) (k : ℕ) (i : Instance) (placed_here :
 
   module _ (sub : ℕ → Terms)
       (sub_have : (d : Site) (named : Option Component) → HasItsPlace i named d → IsOnClocks (call_instance i d.number) m b (call_frame f d.number)
-      → TermsHave m b (call_frame f d.number) (sub d.number))
+      → IsContractSaid m b (call_frame f d.number) (sub d.number))
       (sub_named : (d : Site) (named : Option Component) → HasItsPlace i named d → (x : Name) → has_mode x named ≡ true → has_key ([], x)
       (sub d.number).modes ≡ true) where
     abbrev scope_at : List ContractStatement → Scope
@@ -380,7 +374,7 @@ module _ (p : Program) (c : IsChecked p) (k : ℕ) (i : Instance) (placed_here :
         let texts_here : List Text = map (λ a. (on_clock base, a)) as_ in
         let a : AllByRecursion EachHas texts_here = arguments_have before ms w as_ (no_parts (flat_map (expression_faults (scope_at before) (on_clock base)) as_) _ z.0).0
         y.0 (left_part EachNumbered texts_here (flat_map contract_statement_texts cs) num) in
-        let its : TermsHave m b (call_frame f j) (sub j) = sub_have _ (contract_named p x.text) q.0
+        let its : IsContractSaid m b (call_frame f j) (sub j) = sub_have _ (contract_named p x.text) q.0
         (import_on _ (contract_named p x.text) (λ t. and_true (b t)) q.0) in
         let more : List ModeTerms = map (imported_mode j x.text) (sub j).modes in
         let kept : Known (before ++ «import» j x as_ xs ∷ []) (ms ++ more) = known_more before cs («import» j x as_ xs) ms more w e

@@ -1,12 +1,13 @@
 -- The laws of the clocks of a checked program.
 use Rattle.std.specs.Prelude.{◌≡◌, ℕ, ◌<◌, true, suc, Contains}
 use Rattle.std.specs.List.{AllByRecursion}
+use Rattle.lus_tree.specs.declared.place.Sort.TheVariants.{Bool as Flags}
 use Rattle.lus_tree.specs.Tree.{Component}
 use Rattle.lus_meaning.specs.Value.{Instants}
 use Rattle.lus_meaning.specs.Frame.{Frame, frame_at, calls_in, firsts_of, entry}
 use Rattle.lus_meaning.specs.Scene.{Scene, Instance, Instances, instance, no_instances, with_instance, clock_from, variables, is_on}
 use Rattle.lus_meaning.specs.Meaning.{value}
-use Rattle.lus_meaning.specs.Contract.{scene}
+use Rattle.lus_meaning.specs.Contract.{Test, Terms, terms, scene}
 use Rattle.lus_meaning.specs.Run.{sort_of, is_typed, first_sorts, have_sorts, active, IsRun}
 use Rattle.lus_meaning.specs.Occurrences.{Occurrence, all_occurrences}
 use Rattle.lus_meaning.specs.Program.{instance_of}
@@ -36,6 +37,21 @@ abbrev pub ExpressionsOnClocks : Type 0
 ExpressionsOnClocks =
     OfEach (λ p n. (m : ℕ) (b : Instants) (f : Frame) → IsOnClocks (instance_of p n) m b f →
     (o : Occurrence) → Contains (all_occurrences n) o → (t : ℕ) → t < m → HasItsValue (instance_of p n) b f t o)
+
+-- what an item of a contract or a mode says: a truth value exactly where the frame is active
+abbrev pub IsSaid : ℕ → Instants → Frame → Test → Type 0
+IsSaid m b f test = (t : ℕ) → t < m → is_typed Flags (b t) (test b f t) ≡ true
+
+-- so do all items of a contract, those of its imports among them
+pub record IsContractSaid (m : ℕ) (b : Instants) (f : Frame) (r : Terms) : Type 0 where
+  pub assumes : AllByRecursion (λ q. IsSaid m b f q.test) r.assumes
+  pub guarantees : AllByRecursion (λ q. IsSaid m b f q.test) r.guarantees
+  pub modes : AllByRecursion (λ x. IsSaid m b f x.requires_all) r.modes
+  pub ensures_each : AllByRecursion (λ x. AllByRecursion (λ q. IsSaid m b f q.test) x.ensures_each) r.modes
+
+abbrev pub ContractsOnClocks : Type 0
+ContractsOnClocks =
+    OfEach (λ p n. (m : ℕ) (b : Instants) (f : Frame) → IsOnClocks (instance_of p n) m b f → IsContractSaid m b f (terms (instance_of p n)))
 
 -- each run is such a frame
 abbrev pub RunsOnClocks : Type 0

@@ -1,11 +1,13 @@
 //! The laws of clocks, orders and runs.
 
-ghost use Rattle.clock_laws.specs.Laws.{ExpressionsOnClocks, RunsOnClocks};
+ghost use Rattle.clock_laws.specs.Laws.{ExpressionsOnClocks, ContractsOnClocks, RunsOnClocks};
 
 /// In a checked program, in a frame whose names have their values exactly on their clocks, at every depth of calls,
-/// each occurrence of an expression has a value of its type exactly where the clock of its place is on. Each run is
-/// such a frame.
+/// each occurrence of an expression has a value of its type exactly where the clock of its place is on, and what an
+/// item of its contract says, or the requires of a mode, a truth value exactly where the frame is active; so have those
+/// of imports. Each run is such a frame.
 pub fn expressions_on_clocks()
     ensures expressions { ExpressionsOnClocks }
+    ensures contracts { ContractsOnClocks }
     ensures runs { RunsOnClocks }
 {}
