@@ -10,3 +10,5 @@ pub mod Fixed
 pub mod Contracts
 pub mod Walk
 pub mod Clocks
+pub mod Routes
+pub mod AllPlaces
