@@ -12,3 +12,6 @@ pub mod Walk
 pub mod Clocks
 pub mod Routes
 pub mod AllPlaces
+pub mod Reaching
+pub mod Lefts
+pub mod EquationOrders
