@@ -15,3 +15,4 @@ pub mod AllPlaces
 pub mod Reaching
 pub mod Lefts
 pub mod EquationOrders
+pub mod OrderLaws

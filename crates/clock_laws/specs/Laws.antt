@@ -1,16 +1,20 @@
--- The laws of the clocks of a checked program.
-use Rattle.std.specs.Prelude.{◌≡◌, ℕ, ◌<◌, true, suc, Contains}
+-- The laws of a checked program: clocks, orders of equations, and runs.
+use Rattle.std.specs.Prelude.{◌≡◌, ◌↔◌, ℕ, ◌<◌, true, suc, List, [], Contains}
 use Rattle.std.specs.List.{AllByRecursion}
 use Rattle.lus_tree.specs.declared.place.Sort.TheVariants.{Bool as Flags}
-use Rattle.lus_tree.specs.Tree.{Component}
+use Rattle.lus_tree.specs.Tree.{Component, Program}
 use Rattle.lus_meaning.specs.Value.{Instants}
 use Rattle.lus_meaning.specs.Frame.{Frame, frame_at, calls_in, firsts_of, entry}
 use Rattle.lus_meaning.specs.Scene.{Scene, Instance, Instances, instance, no_instances, with_instance, clock_from, variables, is_on}
 use Rattle.lus_meaning.specs.Meaning.{value}
 use Rattle.lus_meaning.specs.Contract.{Test, Terms, terms, scene}
-use Rattle.lus_meaning.specs.Run.{sort_of, is_typed, first_sorts, have_sorts, active, IsRun}
+use Rattle.lus_meaning.specs.Run.{sort_of, is_typed, first_sorts, have_sorts, active, IsRun, equations}
 use Rattle.lus_meaning.specs.Occurrences.{Occurrence, all_occurrences}
 use Rattle.lus_meaning.specs.Program.{instance_of}
+use Rattle.lus_meaning.specs.Order.{IsEquationOrder, IsLeastEquationOrder}
+use Rattle.lus_meaning.specs.ClockFaults.{components}
+use Rattle.lus_meaning.specs.EquationFaults.{left_faults, DependsOnItself}
+use Rattle.lus_meaning.specs.Refusals.{IsTyped}
 use Rattle.lus_meaning.specs.RuleLaws.{OfEach}
 
 -- A frame whose names are on their clocks, and so are those of its calls, each on the instants at which it is active:
@@ -56,3 +60,22 @@ ContractsOnClocks =
 -- each run is such a frame
 abbrev pub RunsOnClocks : Type 0
 RunsOnClocks = (i : Instance) (m : ℕ) (b : Instants) (f : Frame) → IsRun i m b f → IsOnClocks i m b f
+
+-- ---- orders of equations
+
+-- no equation of a declaration needs itself at one instant
+abbrev pub NoneOnCircle : Program → Component → Type 0
+NoneOnCircle p n = AllByRecursion (λ e. DependsOnItself (instance_of p n) e.names → ⊥) (equations n)
+
+-- where names, types and left names have no fault, the equations of a declaration have an order exactly where none needs
+-- itself
+abbrev pub OrderOrCircle : Type 0
+OrderOrCircle =
+    (p : Program) → IsTyped p → (n : Component) → Contains (components p) n → left_faults n ≡ [] →
+    ((ks : List ℕ) × IsEquationOrder (instance_of p n) (equations n) ks) ↔ NoneOnCircle p n
+
+-- in a checked program there is exactly one order in which again and again the least equation that is ready is listed
+abbrev pub OneOrderOfEach : Type 0
+OneOrderOfEach =
+    OfEach (λ p n. (ks : List ℕ) × IsLeastEquationOrder (instance_of p n) (equations n) ks
+    × ((js : List ℕ) → IsLeastEquationOrder (instance_of p n) (equations n) js → js ≡ ks))

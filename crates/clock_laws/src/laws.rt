@@ -1,6 +1,6 @@
 //! The laws of clocks, orders and runs.
 
-ghost use Rattle.clock_laws.specs.Laws.{ExpressionsOnClocks, ContractsOnClocks, RunsOnClocks};
+ghost use Rattle.clock_laws.specs.Laws.{ExpressionsOnClocks, ContractsOnClocks, RunsOnClocks, OrderOrCircle, OneOrderOfEach};
 
 /// In a checked program, in a frame whose names have their values exactly on their clocks, at every depth of calls,
 /// each occurrence of an expression has a value of its type exactly where the clock of its place is on, and what an
@@ -10,4 +10,12 @@ pub fn expressions_on_clocks()
     ensures expressions { ExpressionsOnClocks }
     ensures contracts { ContractsOnClocks }
     ensures runs { RunsOnClocks }
+{}
+
+/// Where names, types and left names of a program have no fault, the equations of a declaration have an order, in which
+/// each comes after those that it needs, exactly where none needs itself at one instant. In a checked program there is
+/// exactly one order in which again and again the least equation comes whose needs are listed.
+pub fn equation_orders()
+    ensures exists { OrderOrCircle }
+    ensures least { OneOrderOfEach }
 {}

@@ -1,8 +1,3 @@
-use Rattle.clock_laws.proofs.EquationOrders.{none_in}
-use Rattle.clock_laws.proofs.Lefts.{lefts_distinct}
-use Rattle.clock_laws.proofs.Reaching.{reaches_on}
-use Rattle.clock_laws.proofs.Routes.{decided}
-use Rattle.clock_laws.proofs.AllPlaces.{spot_complete}
 use Rattle.clock_laws.proofs.Clocks.{expressions_on_clocks, contracts_on_clocks}
 use Rattle.clock_laws.proofs.Runs.{runs_on_clocks}
 use Rattle.clock_laws.proofs.laws.expressions_on_clocks.Goals as goal
