@@ -16,3 +16,4 @@ pub mod Reaching
 pub mod Lefts
 pub mod EquationOrders
 pub mod OrderLaws
+pub mod Weights
