@@ -17,3 +17,4 @@ pub mod Lefts
 pub mod EquationOrders
 pub mod OrderLaws
 pub mod Weights
+pub mod LightWalk

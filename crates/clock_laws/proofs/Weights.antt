@@ -47,13 +47,13 @@ abbrev pub heft_all : Weights → List Expression → ℕ
 heft_all ws [] = 0
 heft_all ws (a ∷ as_) = heft ws a + heft_all ws as_
 
-abbrev pub manner_heft : Weights → Manner → ℕ
-manner_heft ws plain = 0
-manner_heft ws (while_true a) = heft ws a
-manner_heft ws (as_import xs) = 0
+abbrev pub with_condition : Weights → Manner → ℕ → ℕ
+with_condition ws plain b = b
+with_condition ws (while_true a) b = heft ws a + b
+with_condition ws (as_import xs) b = b
 
 abbrev pub site_heft : Weights → Site → ℕ
-site_heft ws c = suc (manner_heft ws c.manner + heft_all ws c.arguments)
+site_heft ws c = suc (with_condition ws c.manner (heft_all ws c.arguments))
 
 pub listed_heft : (ws : Weights) (as_ : Expressions) → heft_all ws (listed as_) ≡ hefts ws as_
 listed_heft ws no_more = refl
@@ -106,10 +106,10 @@ module _ (weigh : ℕ → ℕ) where
   outputs_light b j l [] = tt
   outputs_light b j l (y ∷ ys) = (l, outputs_light b j l ys)
 
-  two_light : (b d : ℕ) (ns ms : List Need) → AllLight b ns → AllLight d ms → AllLight (b + d) (ns ++ ms)
+  pub two_light : (b d : ℕ) (ns ms : List Need) → AllLight b ns → AllLight d ms → AllLight (b + d) (ns ++ ms)
   two_light b d ns ms a q = both_parts (Light (b + d)) ns ms (lighter b (b + d) (omega arith) ns a) (lighter d (b + d) (omega arith) ms q)
 
-  behind_clock : (b : ℕ) (c : Clock) (ns : List Need) → AllLight b ns → AllLight b (clock_needs c ++ ns)
+  pub behind_clock : (b : ℕ) (c : Clock) (ns : List Need) → AllLight b ns → AllLight b (clock_needs c ++ ns)
   behind_clock b c ns a = both_parts (Light b) (clock_needs c) ns (clock_light b c) a
 
   module _ (ns : ModeNeeds) (ws : Weights) where

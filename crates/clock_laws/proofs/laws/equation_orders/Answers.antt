@@ -1,4 +1,4 @@
-use Rattle.clock_laws.proofs.Weights.{weight_before}
+use Rattle.clock_laws.proofs.LightWalk.{walk_light}
 use Rattle.clock_laws.proofs.OrderLaws.{order_or_circle, one_order}
 use Rattle.clock_laws.proofs.laws.equation_orders.Goals as goal
 
