@@ -69,12 +69,12 @@ own_keys_after i sub ms (mode w rs es ∷ cs) x e =
         (key_behind ([], x) ms (y ∷ []) (or_left (bytes_eq x w.text) false q)))
     go false q h r = r h
 
-own_keys : (i : Instance) (x : Name) → named_in x (mode_names (contract_statements (component_of i))) ≡ true → has_key ([], x) (terms i).modes ≡ true
+pub own_keys : (i : Instance) (x : Name) → named_in x (mode_names (contract_statements (component_of i))) ≡ true → has_key ([], x) (terms i).modes ≡ true
 own_keys (instance n cs is) x e = own_keys_after (instance n cs is) _ [] (contract_statements n) x e
 
 -- ---- declarations
 
-placed_of : (j : ℕ) (ds : Program) (n : Component) → Contains (components ds) n → (k : ℕ) × Contains (placed j ds) (k, n)
+pub placed_of : (j : ℕ) (ds : Program) (n : Component) → Contains (components ds) n → (k : ℕ) × Contains (placed j ds) (k, n)
 placed_of j [] n (k, l, e) = absurd (none k l)
   where
     none : (k : ℕ) → k < 0 → ⊥
@@ -92,15 +92,15 @@ placed_of j (declared_contract m ∷ ds) n (suc k, l, e) =
     (r.0, (suc r.1.0, omega arith, r.1.2))
 
 -- a declaration whose items have no faults
-record IsFaultless (p : Program) (k : ℕ) (n : Component) : Type 0 where
-  contract : contract_faults (home p k n) [] (contract_statements n) ≡ []
+pub record IsFaultless (p : Program) (k : ℕ) (n : Component) : Type 0 where
+  pub contract : contract_faults (home p k n) [] (contract_statements n) ≡ []
   constants : local_constant_faults (home p k n) 0 n.constants ≡ []
   statements : flat_map (statement_faults (body_scope (home p k n))) n.body ≡ []
   contract_clocks : flat_map (contract_statement_clock_faults n) (contract_statements n) ≡ []
   statement_clocks : flat_map (statement_clock_faults n) n.body ≡ []
   lefts : list_all has_left_name n.body ≡ true
 
-faultless : (p : Program) → IsChecked p → (k : ℕ) (n : Component) → Contains (components p) n → Contains (placed 0 p) (k, n) → IsFaultless p k n
+pub faultless : (p : Program) → IsChecked p → (k : ℕ) (n : Component) → Contains (components p) n → Contains (placed 0 p) (k, n) → IsFaultless p k n
 faultless p c k n j h =
     let e : component_faults (home p k n) (constant_words p) ≡ [] = at_one (CleanHome p) (placed 0 p) (k, n) (homes_clean p 0 p
     (no_parts _ (declaration_faults p 0 p) (no_parts _ _ (empty_of (typing_faults p) c.rules.clocked.typed)).1).1) h in
@@ -127,7 +127,7 @@ faultless p c k n j h =
 -- ---- instances
 
 module _ (p : Program) (c : IsChecked p) where
-  unfolded_same : (i : Instance) → IsUnfolded p i → Contains (components p) (component_of i) → i ≡ instance_of p (component_of i)
+  pub unfolded_same : (i : Instance) → IsUnfolded p i → Contains (components p) (component_of i) → i ≡ instance_of p (component_of i)
   unfolded_same i u j = same_instance p i (instance_of p (component_of i)) u (each_unfolded p c (component_of i) j)
       (sym (component_within _ p (component_of i)))
 
@@ -153,7 +153,7 @@ module _ (p : Program) (c : IsChecked p) where
       (λ x a. each_part (IsNumberedIn p i f) n x.0 x.1 a) (texts n)
       (all_parts (IsNumberedIn p i f) (λ x. occurrences n x.0 x.1) (texts n) each)
 
-  imports_placed : (i : Instance) → Contains (components p) (component_of i) → i ≡ instance_of p (component_of i) → AllByRecursion
+  pub imports_placed : (i : Instance) → Contains (components p) (component_of i) → i ≡ instance_of p (component_of i) → AllByRecursion
       (λ d. HasItsPlace i (contract_named p d.callee) d) (flat_map import_site (contract_statements (component_of i)))
   imports_placed i j same = each_listed (λ d. HasItsPlace i (contract_named p d.callee) d) (flat_map import_site (contract_statements (component_of i)))
       (λ d h. subst (λ k. HasItsPlace k (contract_named p d.callee) d) (sym same) (imports_in_place p c (component_of i) j d h))
@@ -169,7 +169,7 @@ module _ (p : Program) (c : IsChecked p) where
         (flat_map contract_statement_texts (contract_statements (component_of i)))
     its_terms : IsContractSaid m b f (terms i)
 
-  abbrev sub_of : Instances → ℕ → Terms
+  abbrev pub sub_of : Instances → ℕ → Terms
   sub_of is j = slice_index_or (terms_each is) (pred j) no_terms
 
   is_called : (i : Instance) (d : Site) (named : Option Component) → HasItsPlace i named d → instance_at (calls_of i) (pred d.number) ≡ call_instance i d.number
@@ -188,14 +188,14 @@ module _ (p : Program) (c : IsChecked p) where
   sub_is (with_instance s k is) zero d e = refl
   sub_is (with_instance s k is) (suc j) d e = sub_is is j d e
 
-  sub_named_of : (i : Instance) (d : Site) (named : Option Component) → HasItsPlace i named d → (x : Name) → has_mode x named ≡ true → has_key ([], x)
+  pub sub_named_of : (i : Instance) (d : Site) (named : Option Component) → HasItsPlace i named d → (x : Name) → has_mode x named ≡ true → has_key ([], x)
       (sub_of (calls_of i) d.number).modes ≡ true
   sub_named_of i d named h x e =
       let its : sub_of (calls_of i) d.number ≡ terms (call_instance i d.number) = sub_is (calls_of i) (pred d.number) d h.site
       ∙ ap terms (is_called i d named h) in
       subst (λ r. has_key ([], x) r.modes ≡ true) (sym its) (own_keys (call_instance i d.number) x (subst (λ o. has_mode x o ≡ true) h.callee e))
 
-  declared_at : (n : Component) (s : Site) (k : Instance) → GoesDown p n s.callee → component_named p s.callee ≡ Some (component_of k)
+  pub declared_at : (n : Component) (s : Site) (k : Instance) → GoesDown p n s.callee → component_named p s.callee ≡ Some (component_of k)
       → Contains (components p) (component_of k)
   declared_at n s k g e = subst (Contains (components p)) (some_same g.is_callee.callee (component_of k) (sym g.is_callee.named ∙ e)) g.is_callee.declared
 

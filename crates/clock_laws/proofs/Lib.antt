@@ -18,3 +18,4 @@ pub mod EquationOrders
 pub mod OrderLaws
 pub mod Weights
 pub mod LightWalk
+pub mod TopCircles

@@ -22,7 +22,7 @@ at_in k q [] h = absurd h
 at_in zero q (p ∷ ps) h = inl h
 at_in (suc k) q (p ∷ ps) h = inr (at_in k q ps h)
 
-in_either : {X : Type 0} (x : X) (xs ys : List X) → IsIn x (xs ++ ys) → IsIn x xs ⊎ IsIn x ys
+pub in_either : {X : Type 0} (x : X) (xs ys : List X) → IsIn x (xs ++ ys) → IsIn x xs ⊎ IsIn x ys
 in_either x [] ys h = inr h
 in_either x (y ∷ xs) ys (inl e) = inl (inl e)
 in_either x (y ∷ xs) ys (inr h) = go (in_either x xs ys h)
@@ -31,7 +31,7 @@ in_either x (y ∷ xs) ys (inr h) = go (in_either x xs ys h)
     go (inl a) = inl (inr a)
     go (inr a) = inr a
 
-in_image : {X Y : Type 0} (g : X → Y) (y : Y) (xs : List X) → IsIn y (map g xs) → (x : X) × IsIn x xs × (y ≡ g x)
+pub in_image : {X Y : Type 0} (g : X → Y) (y : Y) (xs : List X) → IsIn y (map g xs) → (x : X) × IsIn x xs × (y ≡ g x)
 in_image g y [] h = absurd h
 in_image g y (x ∷ xs) (inl e) = (x, inl refl, e)
 in_image g y (x ∷ xs) (inr h) = let r : (x : _) × IsIn x xs × (y ≡ g x) = in_image g y xs h in (r.0, inr r.1, r.2)
@@ -115,7 +115,7 @@ module _ (i : Instance) where
   lefts_of : List Equation → List Name
   lefts_of es = flat_map (λ e. e.names) es
 
-  defined_left : (n : Need) (x : Name) (es : List Equation) → IsIn n (defined_needs i x es) → named_in x (flat_map (λ e. e.names) es) ≡ true
+  pub defined_left : (n : Need) (x : Name) (es : List Equation) → IsIn n (defined_needs i x es) → named_in x (flat_map (λ e. e.names) es) ≡ true
   defined_left n x [] h = absurd h
   defined_left n x (e ∷ es) h = named_append x e.names (flat_map (λ e. e.names) es) ∙ go
       (in_either n (cond (named_in x e.names) (equation_step i e) []) (defined_needs i x es) h) (defined_left n x es)
@@ -175,7 +175,7 @@ module _ (i : Instance) where
       go (inl a) = declared_defined n x y (equations (component_of i)) j e g a
       go (inr a) = swap_defined n x y (equations (component_of i)) j d e g a
 
-next_top : (i : Instance) (x : Name) → next_places i [] (Some x) ≡ map place_of (own_needs i x)
+pub next_top : (i : Instance) (x : Name) → next_places i [] (Some x) ≡ map place_of (own_needs i x)
 next_top (instance d cs is) x = refl
 
 module _ (i : Instance) (distinct : AreDistinct (left_names (component_of i))) where
