@@ -19,3 +19,4 @@ pub mod OrderLaws
 pub mod Weights
 pub mod LightWalk
 pub mod TopCircles
+pub mod Circles
