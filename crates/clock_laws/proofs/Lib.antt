@@ -20,3 +20,5 @@ pub mod Weights
 pub mod LightWalk
 pub mod TopCircles
 pub mod Circles
+pub mod Ranks
+pub mod RunLaws

@@ -17,7 +17,7 @@ use Rattle.lus_meaning.proofs.Unique.{same_bytes}
 use Rattle.clock_laws.proofs.AllPlaces.{same_spot, spots_equal, all_places, is_member, member_in, spot_complete}
 use Rattle.clock_laws.proofs.Routes.{Route, by_way, route_of, decided}
 
-at_in : (k : ℕ) (q : Place) (ps : List Place) → IsAt k q ps → IsIn q ps
+pub at_in : (k : ℕ) (q : Place) (ps : List Place) → IsAt k q ps → IsIn q ps
 at_in k q [] h = absurd h
 at_in zero q (p ∷ ps) h = inl h
 at_in (suc k) q (p ∷ ps) h = inr (at_in k q ps h)

@@ -1,8 +1,8 @@
 -- The laws of a checked program: clocks, orders of equations, and runs.
-use Rattle.std.specs.Prelude.{◌≡◌, ◌↔◌, ℕ, ◌<◌, true, suc, List, [], Contains}
+use Rattle.std.specs.Prelude.{◌≡◌, ◌↔◌, ℕ, ◌<◌, true, suc, List, [], ◌∷◌, Contains, Some}
 use Rattle.std.specs.List.{AllByRecursion}
 use Rattle.lus_tree.specs.declared.place.Sort.TheVariants.{Bool as Flags}
-use Rattle.lus_tree.specs.Tree.{Component, Program}
+use Rattle.lus_tree.specs.Tree.{Name, Component, Program}
 use Rattle.lus_meaning.specs.Value.{Instants}
 use Rattle.lus_meaning.specs.Frame.{Frame, frame_at, calls_in, firsts_of, entry}
 use Rattle.lus_meaning.specs.Scene.{Scene, Instance, Instances, instance, no_instances, with_instance, clock_from, variables, is_on}
@@ -11,6 +11,8 @@ use Rattle.lus_meaning.specs.Contract.{Test, Terms, terms, scene}
 use Rattle.lus_meaning.specs.Run.{sort_of, is_typed, first_sorts, have_sorts, active, IsRun, equations}
 use Rattle.lus_meaning.specs.Occurrences.{Occurrence, all_occurrences}
 use Rattle.lus_meaning.specs.Program.{instance_of}
+use Rattle.lus_meaning.specs.Depends.{Rank, IsRanked, SameChoices}
+use Rattle.lus_meaning.specs.Cycle.{Place, IsWay, last_place}
 use Rattle.lus_meaning.specs.Order.{IsEquationOrder, IsLeastEquationOrder}
 use Rattle.lus_meaning.specs.ClockFaults.{components}
 use Rattle.lus_meaning.specs.EquationFaults.{left_faults, DependsOnItself}
@@ -79,3 +81,29 @@ abbrev pub OneOrderOfEach : Type 0
 OneOrderOfEach =
     OfEach (λ p n. (ks : List ℕ) × IsLeastEquationOrder (instance_of p n) (equations n) ks
     × ((js : List ℕ) → IsLeastEquationOrder (instance_of p n) (equations n) js → js ≡ ks))
+
+-- ---- runs
+
+-- no way of needs from a place of a tree of instances, of one step at least, comes back to it
+abbrev pub NeverReturns : Instance → Type 0
+NeverReturns i = (q : Place) (s : ℕ × Place) (ws : List (ℕ × Place)) → IsWay i q (s ∷ ws) → last_place s.1 ws ≡ q → ⊥
+
+-- so it is in the tree of each declaration, at every depth of calls
+abbrev pub NothingNeedsItself : Type 0
+NothingNeedsItself = OfEach (λ p n. NeverReturns (instance_of p n))
+
+-- each name of the tree has a number above those of all that it needs at its own instant, and all are below some number
+pub record HasRank (i : Instance) : Type 0 where
+  pub rank : Rank
+  pub ranked : IsRanked i rank
+  pub bound : ℕ
+  pub below : (ks : List ℕ) (x : Name) → rank ks (Some x) < bound
+
+abbrev pub EachHasRank : Type 0
+EachHasRank = OfEach (λ p n. HasRank (instance_of p n))
+
+-- two runs on a beat with the same choices, which are first values and the values of inputs and free names, are one
+abbrev pub OneRunAtMost : Type 0
+OneRunAtMost =
+    OfEach (λ p n. (m : ℕ) (b : Instants) (f g : Frame) → IsRun (instance_of p n) m b f → IsRun (instance_of p n) m b g →
+    SameChoices (instance_of p n) [] m f g → f ≡ g)

@@ -1,6 +1,8 @@
 //! The laws of clocks, orders and runs.
 
-ghost use Rattle.clock_laws.specs.Laws.{ExpressionsOnClocks, ContractsOnClocks, RunsOnClocks, OrderOrCircle, OneOrderOfEach};
+ghost use Rattle.clock_laws.specs.Laws.{
+    ExpressionsOnClocks, ContractsOnClocks, RunsOnClocks, OrderOrCircle, OneOrderOfEach, NothingNeedsItself, EachHasRank, OneRunAtMost,
+};
 
 /// In a checked program, in a frame whose names have their values exactly on their clocks, at every depth of calls,
 /// each occurrence of an expression has a value of its type exactly where the clock of its place is on, and what an
@@ -18,4 +20,17 @@ pub fn expressions_on_clocks()
 pub fn equation_orders()
     ensures exists { OrderOrCircle }
     ensures least { OneOrderOfEach }
+{}
+
+/// In the tree of instances of a declaration of a checked program nothing needs itself at one instant, at whatever depth
+/// of calls; so each name has a rank above those of all that it needs.
+pub fn ranks()
+    ensures returns { NothingNeedsItself }
+    ensures ranked { EachHasRank }
+{}
+
+/// A declaration of a checked program has at most one run for a number of instants, a beat, first values and the values
+/// of its inputs and free names.
+pub fn one_run_at_most()
+    ensures { OneRunAtMost }
 {}

@@ -1,4 +1,3 @@
-use Rattle.clock_laws.proofs.Circles.{no_circle}
 use Rattle.clock_laws.proofs.OrderLaws.{order_or_circle, one_order}
 use Rattle.clock_laws.proofs.laws.equation_orders.Goals as goal
 
