@@ -151,7 +151,8 @@ call_heads k = ([], None) ∷ (named_places (inputs_of k ++ outputs_of k) ++ all
 head_place : (i : Instance) (c : Site) (k : Instance) (x : Option Name) → IsSome (caller_needs i c k x) → IsIn ([], x) (call_heads k)
 head_place i c k None h = inl refl
 head_place i c k (Some x) h = inr (in_left ([], Some x) (named_places (inputs_of k ++ outputs_of k)) (all_places k)
-    (in_mapped (λ (y : Name). let q : Place = ([], Some y) in q) x (inputs_of k ++ outputs_of k) (go (some_either _ (shared_needs c.manner x (outputs_of k)) h))))
+    (in_mapped (λ (y : Name). let q : Place = ([], Some y) in q) x (inputs_of k ++ outputs_of k) (go (some_either _ (shared_needs c.manner x
+        (outputs_of k)) h))))
   where
     go : IsSome (matching (λ a. site_needs i (modes_need i) c c.manner ++ needs i (modes_need i) c.clock a) x (inputs_of k) c.arguments) ⊎ IsSome
         (shared_needs c.manner x (outputs_of k)) → IsIn x (inputs_of k ++ outputs_of k)
@@ -170,7 +171,8 @@ mutual
       in_left ([], Some x) (named_places xs) (places_below 0 is) (in_mapped (λ (y : Name). let q : Place = ([], Some y) in q) x xs
       (go (some_either (declared_needs d x) (defined_needs (instance d cs is) x (equations d)) (of_some place_of (own_needs (instance d cs is) x) h))))
     where
-      go : IsSome (declared_needs d x) ⊎ IsSome (defined_needs (instance d cs is) x (equations d)) → IsIn x (map (λ v. v.name.text) (variables d) ++ left_names d)
+      go : IsSome (declared_needs d x) ⊎ IsSome (defined_needs (instance d cs is) x (equations d))
+          → IsIn x (map (λ v. v.name.text) (variables d) ++ left_names d)
       go (inl a) = in_left x (map (λ v. v.name.text) (variables d)) (left_names d) (declared_in_variables x (variables d) a)
       go (inr a) = in_right x (map (λ v. v.name.text) (variables d)) (left_names d) (defined_in_lefts (instance d cs is) x (equations d) a)
   place_listed (instance d cs is) (j ∷ ks) x h =

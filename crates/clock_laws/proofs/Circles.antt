@@ -58,7 +58,8 @@ keys_after i st sn h ms ns (assume l ∷ cs) e = keys_after i st sn h ms ns cs e
 keys_after i st sn h ms ns (guarantee l ∷ cs) e = keys_after i st sn h ms ns cs e
 keys_after i st sn h ms ns (ghost_variable x d ∷ cs) e = keys_after i st sn h ms ns cs e
 keys_after i st sn h ms ns (constant x ∷ cs) e = keys_after i st sn h ms ns cs e
-keys_after i st sn h ms ns (mode m rs es ∷ cs) e = keys_after i st sn h (ms ++ mode_terms i ms m.text rs es ∷ []) (ns ++ (([], m.text), asked_needs i ns rs) ∷ []) cs
+keys_after i st sn h ms ns (mode m rs es ∷ cs) e = keys_after i st sn h (ms ++ mode_terms i ms m.text rs es ∷ []) (ns ++ (([], m.text), asked_needs i
+    ns rs) ∷ []) cs
     (map_append (λ x. x.key) ms (mode_terms i ms m.text rs es ∷ []) ∙ ap (λ r. r ++ ([], m.text) ∷ []) e
     ∙ sym (map_append (λ r. r.0) ns ((([], m.text), asked_needs i ns rs) ∷ [])))
 keys_after i st sn h ms ns («import» k c as_ xs ∷ cs) e =
@@ -85,7 +86,8 @@ record CallStep (i : Instance) (is : Instances) (j0 j : ℕ) (ks : List ℕ) (x 
   place : site_at is j ≡ Some site
   either : IsIn z (map place_of (at_top ks (caller_needs i site (instance_at is j) x))) ⊎ IsIn z (map (deeper j0) (next_places (instance_at is j) ks x))
 
-call_step : (i : Instance) (is : Instances) (j0 j : ℕ) (ks : List ℕ) (x : Option Name) (z : Place) → IsIn z (next_in_call i is j0 j ks x) → CallStep i is j0 j ks x z
+call_step : (i : Instance) (is : Instances) (j0 j : ℕ) (ks : List ℕ) (x : Option Name) (z : Place) → IsIn z (next_in_call i is j0 j ks x)
+    → CallStep i is j0 j ks x z
 call_step i no_instances j0 j ks x z h = absurd h
 call_step i (with_instance c k is) j0 zero ks x z h = record {
   site = c;
@@ -225,7 +227,8 @@ module _ (p : Program) (c : IsChecked p) where
       all_from (λ x. AllByRecursion P (occurrences n x.0 x.1)) (λ x. Each P n x.0 x.1) (λ x a. each_part P n x.0 x.1 a) (texts n)
       (all_parts P (λ x. occurrences n x.0 x.1) (texts n) calls)
 
-  site_of : (P : Site → Type 0) (ss : List Site) (is : Instances) → AreUnfolded p ss is → AllByRecursion P ss → (j : ℕ) (d : Site) → site_at is j ≡ Some d → P d
+  site_of : (P : Site → Type 0) (ss : List Site) (is : Instances) → AreUnfolded p ss is → AllByRecursion P ss → (j : ℕ) (d : Site)
+      → site_at is j ≡ Some d → P d
   site_of P ss no_instances u a j d e = absurd (false≢true (ap is_site e))
     where
       is_site : Option Site → Bool
@@ -263,9 +266,11 @@ module _ (p : Program) (c : IsChecked p) where
         let weigh : ℕ → ℕ = heft_at all is in
         let weighed : (d : Site) (named : Option Component) → HasItsPlace i named d → weigh (pred d.number) ≡ site_heft all d = λ d named h. heft_there all is
             (pred d.number) d h.site in
-        let placed_here : AllByRecursion (EachPlaced p at.0 i (sub_of p c is) sub_needs (λ k. each_keys is (pred k)) (sub_named_of p c i) all weigh weighed) (texts n) =
+        let placed_here : AllByRecursion (EachPlaced p at.0 i (sub_of p c is) sub_needs (λ k. each_keys is (pred k)) (sub_named_of p c i) all weigh
+            weighed) (texts n) =
             placed_texts i j same in
-        let pairs : PairsLight weigh (modes_need i) all = walk_light p at.0 i (sub_of p c is) sub_needs (λ k. each_keys is (pred k)) (sub_named_of p c i) all weigh
+        let pairs : PairsLight weigh (modes_need i) all = walk_light p at.0 i (sub_of p c is) sub_needs (λ k. each_keys is (pred k)) (sub_named_of p c
+            i) all weigh
             weighed [] (contract_statements n) [] [] [] f.contract (left_part _ (flat_map contract_statement_texts (contract_statements n)) _ placed_here)
             (imports_placed p c i j same) refl refl
             record { by_name = λ x e. absurd (false≢true e); by_import = λ d x e h. absurd (false≢true e) } tt in

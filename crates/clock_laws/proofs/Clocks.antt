@@ -172,7 +172,8 @@ module _ (p : Program) (c : IsChecked p) where
   abbrev pub sub_of : Instances → ℕ → Terms
   sub_of is j = slice_index_or (terms_each is) (pred j) no_terms
 
-  is_called : (i : Instance) (d : Site) (named : Option Component) → HasItsPlace i named d → instance_at (calls_of i) (pred d.number) ≡ call_instance i d.number
+  is_called : (i : Instance) (d : Site) (named : Option Component) → HasItsPlace i named d
+      → instance_at (calls_of i) (pred d.number) ≡ call_instance i d.number
   is_called i d named h = go d.number h.number
     where
       go : (k : ℕ) → 1 ≤ k → instance_at (calls_of i) (pred k) ≡ call_instance i k
@@ -200,7 +201,8 @@ module _ (p : Program) (c : IsChecked p) where
   declared_at n s k g e = subst (Contains (components p)) (some_same g.is_callee.callee (component_of k) (sym g.is_callee.named ∙ e)) g.is_callee.declared
 
   mutual
-    pub contract_on : (i : Instance) → IsUnfolded p i → Contains (components p) (component_of i) → (m : ℕ) (b : Instants) (f : Frame) → (on : IsOnClocks i m b f)
+    pub contract_on : (i : Instance) → IsUnfolded p i → Contains (components p) (component_of i) → (m : ℕ) (b : Instants) (f : Frame)
+        → (on : IsOnClocks i m b f)
         → IsContractOn i m b f on
     contract_on (instance n cs is) u j m b f on =
         let i : Instance = instance n cs is in
@@ -213,7 +215,8 @@ module _ (p : Program) (c : IsChecked p) where
             (subst (λ k. IsOnClocks k m b (call_frame f d.number)) (sym (is_called i d named h)) o) in
         let w : Walked p c at.0 i at.1 same m b f on (sub_of is) sub_have (sub_named_of i) [] (contract_statements n) [] =
             walk p c at.0 i at.1 same m b f on (sub_of is) sub_have (sub_named_of i) [] (contract_statements n) [] q.contract q.contract_clocks
-            (left_part (λ x. Each (IsNumberedIn p i f) n x.0 x.1) (flat_map contract_statement_texts (contract_statements n)) _ (numbered_texts i j same m b f on))
+            (left_part (λ x. Each (IsNumberedIn p i f) n x.0 x.1) (flat_map contract_statement_texts (contract_statements n)) _ (numbered_texts i j
+                same m b f on))
             (imports_placed i j same) refl record {
               extended = extends i (sub_of is) [] (contract_statements n);
               have = tt;
@@ -266,7 +269,8 @@ module _ (p : Program) (c : IsChecked p) where
           top = w;
         } num
 
-    constants_have : (j : ℕ) (xs : List Constant) → local_constant_faults (home p r.home_at here) j xs ≡ [] → AllByRecursion IsNumberedText (constant_texts xs)
+    constants_have : (j : ℕ) (xs : List Constant) → local_constant_faults (home p r.home_at here) j xs ≡ []
+        → AllByRecursion IsNumberedText (constant_texts xs)
         → AllByRecursion Has (constant_texts xs)
     constants_have j [] h num = tt
     constants_have j (x ∷ xs) h num =
@@ -316,9 +320,11 @@ module _ (p : Program) (c : IsChecked p) where
         let num : AllByRecursion IsNumberedText (texts here) = numbered_texts i r.declared r.same m b f on in
         let behind : AllByRecursion IsNumberedText (constant_texts here.constants ++ flat_map (statement_texts here) here.body) = right_part IsNumberedText
         (flat_map contract_statement_texts (contract_statements here)) (constant_texts here.constants ++ flat_map (statement_texts here) here.body) num in
-        both_parts Has (flat_map contract_statement_texts (contract_statements here)) (constant_texts here.constants ++ flat_map (statement_texts here) here.body)
+        both_parts Has (flat_map contract_statement_texts (contract_statements here)) (constant_texts here.constants ++ flat_map (statement_texts here)
+            here.body)
         r.its_texts (both_parts Has (constant_texts here.constants) (flat_map (statement_texts here) here.body)
-        (constants_have 0 here.constants q.constants (left_part IsNumberedText (constant_texts here.constants) (flat_map (statement_texts here) here.body) behind))
+        (constants_have 0 here.constants q.constants (left_part IsNumberedText (constant_texts here.constants) (flat_map (statement_texts here)
+            here.body) behind))
         (body_has (length here.constants) here.body q.lefts q.statements q.statement_clocks
         (right_part IsNumberedText (constant_texts here.constants) (flat_map (statement_texts here) here.body) behind)))
 

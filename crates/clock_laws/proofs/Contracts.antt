@@ -96,7 +96,8 @@ both_true true b e = (refl, e)
 both_true false b e = absurd (false≢true e)
 
 pub known_key : (p : Program) (own imports : List Name) (ms : List ModeTerms) → Covers p own imports ms → (sc : Scope) → sc.program ≡ p → sc.modes ≡ own
-    → sc.imports ≡ imports → (d : Option Spelled) (x : Spelled) → mode_is_known sc d x ≡ true → has_key (option_to_list (option_map text_of d), x.text) ms ≡ true
+    → sc.imports ≡ imports → (d : Option Spelled) (x : Spelled) → mode_is_known sc d x ≡ true
+        → has_key (option_to_list (option_map text_of d), x.text) ms ≡ true
 known_key p own imports ms v sc a b c None x e = v.by_name x.text (subst (λ xs. named_in x.text xs ≡ true) b e)
 known_key p own imports ms v sc a b c (Some w) x e =
     let h : (has_one (filter (bytes_eq w.text) sc.imports) ≡ true) × (has_mode x.text (contract_named sc.program w.text) ≡ true) =

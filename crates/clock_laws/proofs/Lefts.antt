@@ -24,7 +24,8 @@ use Rattle.lus_meaning.proofs.Unique.{same_bytes}
 
 -- ---- distinct names
 
-pub distinct_parts : (xs ys : List Name) → AreDistinct xs → AreDistinct ys → ((z : Name) → named_in z xs ≡ true → named_in z ys ≡ false) → AreDistinct (xs ++ ys)
+pub distinct_parts : (xs ys : List Name) → AreDistinct xs → AreDistinct ys → ((z : Name) → named_in z xs ≡ true → named_in z ys ≡ false)
+    → AreDistinct (xs ++ ys)
 distinct_parts [] ys d e f = e
 distinct_parts (x ∷ xs) ys d e f = (
   named_append x xs ys ∙ neither (named_in x xs) (named_in x ys) d.0 (f x (or_left (bytes_eq x x) (named_in x xs) (self_bytes x))),
@@ -68,7 +69,8 @@ ghost_lefts (constant c ∷ cs) = ghost_lefts cs
 ghost_lefts (mode m rs es ∷ cs) = ghost_lefts cs
 ghost_lefts («import» k c as_ ws ∷ cs) = ghost_lefts cs
 
-lefts_in_body : (ss : List Statement) → flat_map (λ (e : Equation). e.names) (body_equations ss) ≡ map text_of (flat_map (λ (xs : List Spelled). xs) (body_sides ss))
+lefts_in_body : (ss : List Statement) → flat_map (λ (e : Equation). e.names) (body_equations ss) ≡ map text_of (flat_map (λ (xs : List Spelled). xs)
+    (body_sides ss))
 lefts_in_body [] = refl
 lefts_in_body (equation xs e ∷ ss) = ap (λ (ys : List Name). map text_of xs ++ ys) (lefts_in_body ss)
     ∙ sym (map_append text_of xs (flat_map (λ (ys : List Spelled). ys) (body_sides ss)))
@@ -89,7 +91,8 @@ pub left_definable : (n : Component) → left_faults n ≡ [] → (z : Name) →
 left_definable n e z h = go (body_lefts n) (none_mapped (λ w. if_so (not (named_in w.text (definable n))) input_defined w.at) (body_lefts n)
     (no_parts (words_twice equation_twice (body_lefts n)) _ e).1) h
   where
-    go : (ws : List Spelled) → AllByRecursion (λ w. if_so (not (named_in w.text (definable n))) input_defined w.at ≡ []) ws → named_in z (map text_of ws) ≡ true
+    go : (ws : List Spelled) → AllByRecursion (λ w. if_so (not (named_in w.text (definable n))) input_defined w.at ≡ []) ws
+        → named_in z (map text_of ws) ≡ true
         → named_in z (definable n) ≡ true
     go [] a h = absurd (false≢true h)
     go (w ∷ ws) a h = here (cases_Bool (bytes_eq z w.text)) (go ws a.1)
@@ -112,7 +115,8 @@ pub lefts_distinct : (n : Component) → AreDistinct (map (λ v. v.name.text) (v
 lefts_distinct n d e =
     let gs : List Name = names_of (ghosts (contract_statements n)) in
     let rest : AreDistinct (definable n ++ gs) = distinct_behind (names_of n.inputs) (definable n ++ gs) (subst AreDistinct (variables_apart n) d) in
-    let body : AreDistinct (map text_of (body_lefts n)) = none_twice equation_twice (body_lefts n) (no_parts (words_twice equation_twice (body_lefts n)) _ e).0 in
+    let body : AreDistinct (map text_of (body_lefts n)) = none_twice equation_twice (body_lefts n) (no_parts (words_twice equation_twice (body_lefts
+        n)) _ e).0 in
     subst AreDistinct (sym (lefts_apart n)) (distinct_parts gs (map text_of (body_lefts n)) (distinct_behind (definable n) gs rest) body
     (λ z h. go z (cases_Bool (named_in z (map text_of (body_lefts n)))) h))
   where

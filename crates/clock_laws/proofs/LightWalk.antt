@@ -240,14 +240,17 @@ module _ (p : Program) (k : ℕ) (i : Instance) (sub_terms : ℕ → Terms) (sub
       let more_terms : List ModeTerms = map (imported_mode j x.text) (sub_terms j).modes in
       let more_weights : Weights = map (imported_weight x.text b) (sub_needs j) in
       let texts_here : List Text = map (λ r. (on_clock base, r)) as_ in
-      walk_light (before ++ «import» j x as_ xs ∷ []) cs (ms ++ more_terms) (ns ++ map (imported_needs (pred j) x.text) (sub_needs j)) (ws ++ more_weights) z.1
+      walk_light (before ++ «import» j x as_ xs ∷ []) cs (ms ++ more_terms) (ns ++ map (imported_needs (pred j) x.text) (sub_needs j)) (ws ++
+          more_weights) z.1
       (right_part EachPlaced texts_here (flat_map contract_statement_texts cs) a) q.1 e
       (map_append (λ m. m.key) ms more_terms ∙ rw (keys, imported_keys j x.text b (sub_terms j).modes (sub_needs j) (sub_keys j)) refl
       ∙ sym (map_append (λ r. r.0) ws more_weights))
-      (covers_more p before («import» j x as_ xs) (ms ++ more_terms) (covers_names p (mode_names before) (import_names before ++ x.text ∷ []) (ms ++ more_terms)
+      (covers_more p before («import» j x as_ xs) (ms ++ more_terms) (covers_names p (mode_names before) (import_names before ++ x.text ∷ []) (ms ++
+          more_terms)
       (covers_import p (mode_names before) (import_names before) ms more_terms x.text v
       (λ u o. imported_named j x.text u (sub_terms j).modes (sub_named _ (contract_named p x.text) q.0 u o)))))
-      (pairs_joined weigh ns (map (imported_needs (pred j) x.text) (sub_needs j)) ws more_weights pairs (imported_light weigh b (pred j) x.text light (sub_needs j)))
+      (pairs_joined weigh ns (map (imported_needs (pred j) x.text) (sub_needs j)) ws more_weights pairs (imported_light weigh b (pred j) x.text light
+          (sub_needs j)))
 
   -- ---- what a call needs of its caller
 
@@ -263,7 +266,8 @@ module _ (p : Program) (k : ℕ) (i : Instance) (sub_terms : ℕ → Terms) (sub
     HasLightNeeds e = (c : Clock) → AllLight weigh (heft all e) (needs i ns c e)
 
     has_light : (t : Standing) (e : Expression) → EachPlaced (t, e) → HasLightNeeds e
-    has_light t e a c = light_needs weigh ns all i e t c (each_from CallsPlaced (LightPart weigh ns all) (λ o q. light_at o.standing o.expression q) here t e a)
+    has_light t e a c = light_needs weigh ns all i e t c (each_from CallsPlaced (LightPart weigh ns all) (λ o q. light_at o.standing o.expression q)
+        here t e a)
 
     each_light : (t : Standing) (as_ : Expressions) → EachAmong CallsPlaced here t as_ → AllByRecursion HasLightNeeds (listed as_)
     each_light t no_more a = tt

@@ -34,7 +34,8 @@ None i n = AllByRecursion (λ e. Reaches i e.names e.names → ⊥) (equations n
 orders_of : (i : Instance) (n : Component) → component_of i ≡ n → AreDistinct (left_names n) → ((ks : List ℕ) × IsEquationOrder i (equations n) ks) ↔ None i n
 orders_of i n e = subst (λ k. AreDistinct (left_names k) → ((ks : List ℕ) × IsEquationOrder i (equations k) ks) ↔ None i k) e
     (λ d. (
-      (λ o. none_in i (equations (component_of i)) (order_never (length (equations (component_of i))) (NeedsEquation i (equations (component_of i))) o.0 o.1)),
+      (λ o. none_in i (equations (component_of i)) (order_never (length (equations (component_of i))) (NeedsEquation i (equations (component_of i)))
+          o.0 o.1)),
       (λ a. some_order i d (none_at i (equations (component_of i)) a)),
     ))
 

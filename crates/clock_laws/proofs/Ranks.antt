@@ -77,15 +77,18 @@ module _ (i : Instance) where
     not_itself q = go (cases_Bool (needs_place q q))
       where
         go : (needs_place q q ≡ true) ⊎ (needs_place q q ≡ false) → needs_place q q ≡ false
-        go (inl t) = let r : (ms : List Place) × RouteOf i q ms q = route_of same_spot spots_equal (needed_by i) (all_places i) q q t in absurd (never q r.0 r.1)
+        go (inl t) = let r : (ms : List Place) × RouteOf i q ms q = route_of same_spot spots_equal (needed_by i) (all_places i) q q t in absurd (never
+            q r.0 r.1)
         go (inr f) = f
 
-    fewer : (p q s : Place) → IsIn q (needed_by i p) → IsIn s (needed_by i q) → count_of (needs_place q) (all_places i) < count_of (needs_place p) (all_places i)
+    fewer : (p q s : Place) → IsIn q (needed_by i p) → IsIn s (needed_by i q)
+        → count_of (needs_place q) (all_places i) < count_of (needs_place p) (all_places i)
     fewer p q s h g = count_less (needs_place q) (needs_place p) (more_needed p q h) q (not_itself q)
         (decided same_spot spots_equal (needed_by i) (all_places i) (spot_complete i) p [] q (is_member q (needed_by i p) h)) (all_places i)
         (member_in q (all_places i) (spot_complete i q s (is_member s (needed_by i q) g)))
 
-    lower : (p q : Place) (ps qs : List Place) → IsIn q ps → needed_by i p ≡ ps → needed_by i q ≡ qs → height qs (count_of (needs_place q) (all_places i)) < height
+    lower : (p q : Place) (ps qs : List Place) → IsIn q ps → needed_by i p ≡ ps → needed_by i q ≡ qs
+        → height qs (count_of (needs_place q) (all_places i)) < height
         ps (count_of (needs_place p) (all_places i))
     lower p q [] qs h e f = absurd h
     lower p q (x ∷ ps) [] h e f = omega arith

@@ -97,7 +97,8 @@ module _ (i : Instance) where
   never_both z (x ∷ xs) ys d e h = go (cases_Bool (bytes_eq z x)) (never_both z xs ys d.1)
     where
       go : (bytes_eq z x ≡ true) ⊎ (bytes_eq z x ≡ false) → (named_in z xs ≡ true → named_in z ys ≡ true → ⊥) → ⊥
-      go (inl t) r = false≢true (sym d.0 ∙ named_append x xs ys ∙ or_true (named_in x xs) (named_in x ys) (subst (λ w. named_in w ys ≡ true) (same_bytes z x t) h))
+      go (inl t) r = false≢true (sym d.0 ∙ named_append x xs ys ∙ or_true (named_in x xs) (named_in x ys) (subst (λ w. named_in w ys ≡ true)
+          (same_bytes z x t) h))
       go (inr n) r = r (subst (λ c. (c || named_in z xs) ≡ true) n e) h
 
   distinct_right : (xs ys : List Name) → AreDistinct (xs ++ ys) → AreDistinct ys

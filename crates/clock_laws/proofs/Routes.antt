@@ -91,7 +91,8 @@ module _ {A : Type 0} (same : A → A → Bool) (sound : (a b : A) → same a b 
   Finds ss = (a : A) (ms : List A) (z : A) → Route a ms z → AllIn ss ms → by_way ss a z ≡ true
 
   -- from s on, a route may leave out its circles through s
-  from_there : (s : A) (ss : List A) → Finds ss → (fuel : ℕ) (ms : List A) (z : A) → length ms < fuel → Route s ms z → AllIn (s ∷ ss) ms → by_way ss s z ≡ true
+  from_there : (s : A) (ss : List A) → Finds ss → (fuel : ℕ) (ms : List A) (z : A) → length ms < fuel → Route s ms z → AllIn (s ∷ ss) ms
+      → by_way ss s z ≡ true
   from_there s ss f zero ms z l r i = absurd (omega arith)
   from_there s ss f (suc fuel) ms z l r i = go (split s ss s ms z r i) (from_there s ss f fuel)
     where

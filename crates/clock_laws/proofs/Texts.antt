@@ -62,7 +62,8 @@ of_if P true n m h e = subst P (ap (λ (o : Option Component). unwrap_or o n) e)
 of_if P false n m h e = none_there m e
 
 -- what holds of each declaration holds of the one that is named
-of_where : (P : Component → Type 0) (w : Bool) (ds : Program) (x : Name) (m : Component) → AllByRecursion P (components ds) → component_where w ds x ≡ Some m → P m
+of_where : (P : Component → Type 0) (w : Bool) (ds : Program) (x : Name) (m : Component) → AllByRecursion P (components ds)
+    → component_where w ds x ≡ Some m → P m
 of_where P w [] x m a e = none_there m e
 of_where P w (declared_constant c ∷ ds) x m a e = of_where P w ds x m a e
 of_where P w (declared_node n ∷ ds) x m a e = go (bytes_eq x n.name.text) e (of_where P w ds x m a.1)
@@ -126,7 +127,8 @@ called_outputs : (sc : Scope) (w : Bool) (f : Spelled) (as_ : List Expression) (
     → (w ≡ true → HasOutputs o) → HasOutputs o
 called_outputs sc w f as_ None e h = tt
 called_outputs sc true f as_ (Some m) e h = h refl
-called_outputs sc false f as_ (Some m) e h = some_output m.outputs (not_false (has_one m.outputs) (not_so (not (has_one m.outputs)) _ f.at (no_parts _ _ e).1))
+called_outputs sc false f as_ (Some m) e h = some_output m.outputs (not_false (has_one m.outputs) (not_so (not (has_one m.outputs)) _ f.at (no_parts _
+    _ e).1))
 
 -- ---- instances and frames
 
@@ -265,7 +267,8 @@ constant_apart p c k i placed_here same sc shows x h = go (entry_of sc x) (find 
         let r : is_constant_role g.role ≡ true = sym (ap (λ o. unwrap_or (option_map is_constant_role o) false) u.role) ∙ h in
         a.stream ∙ ap (λ (q : Bool). cond q None (Some g.clock)) r
 
-module _ (p : Program) (c : IsChecked p) (k : ℕ) (i : Instance) (placed_here : Contains (placed 0 p) (k, component_of i)) (same : i ≡ instance_of p (component_of i))
+module _ (p : Program) (c : IsChecked p) (k : ℕ) (i : Instance) (placed_here : Contains (placed 0 p) (k, component_of i)) (same : i ≡ instance_of p
+    (component_of i))
     (m : ℕ) (b : Instants) (f : Frame) (on : IsOnClocks i m b f) where
   abbrev pub here : Component
   here = component_of i
@@ -294,7 +297,8 @@ module _ (p : Program) (c : IsChecked p) (k : ℕ) (i : Instance) (placed_here :
         let outs : HasOutputs (Some n) = subst HasOutputs named o in
         (outs.0, outs.1, outs.2, ap (λ (x : Component). first_sort x.outputs) (sym one) ∙ ap first_sort outs.2)
 
-    call_fits : (j : ℕ) (g : Name) (d : Site) → d.callee ≡ g → d.number ≡ j → HasItsPlace i (node_named p g) d → HasOutputs (node_named p g) → HeldAt full AnyCall j g
+    call_fits : (j : ℕ) (g : Name) (d : Site) → d.callee ≡ g → d.number ≡ j → HasItsPlace i (node_named p g) d → HasOutputs (node_named p g)
+        → HeldAt full AnyCall j g
     call_fits j g d s w h o =
         let callee : node_named p g ≡ Some (component_of (call_instance i j)) = subst
         (λ x. node_named p g ≡ Some (component_of (call_instance i x))) w h.callee in
@@ -335,7 +339,8 @@ module _ (p : Program) (c : IsChecked p) (k : ℕ) (i : Instance) (placed_here :
         (subst (λ r. call_faults sc o.standing.whole_side g as_ (node_named r g.text) ≡ []) clean.program h) w
 
     -- the parts of a condact's faults: its call and its defaults
-    held_right : (t : Standing) (q : Place) (j : ℕ) (a : Expression) (g : Spelled) (as_ ds : Expressions) → form_faults sc t.whole_side (condact q j a g as_ ds) ≡ []
+    held_right : (t : Standing) (q : Place) (j : ℕ) (a : Expression) (g : Spelled) (as_ ds : Expressions)
+        → form_faults sc t.whole_side (condact q j a g as_ ds) ≡ []
         → (call_faults sc t.whole_side g (listed as_) (node_named sc.program g.text) ≡ []) × (flat_map (not_allowed sc) (listed ds) ≡ [])
     held_right t q j a g as_ ds h =
         let three : needs_sort sc Flags a ++ call_faults sc t.whole_side g (listed as_) (node_named sc.program g.text)
@@ -407,7 +412,8 @@ module _ (p : Program) (c : IsChecked p) (k : ℕ) (i : Instance) (placed_here :
     both_on false = refl
 
     own_right : (u : Standing) (a : Expression) → IsPart (occurs u a) → OwnOn full m u a
-    own_right u (name q x) h = stream_on x (not_false (is_known sc x) (not_so (not (is_known sc x)) name_unknown q.at (part_right (occurs u (name q x)) h.types)))
+    own_right u (name q x) h = stream_on x (not_false (is_known sc x) (not_so (not (is_known sc x)) name_unknown q.at (part_right (occurs u (name q x))
+        h.types)))
     own_right u (sampled q a d x) h = clock_word_on x (part_right (occurs u (sampled q a d x)) h.types)
     own_right u (merged q x a d) h = clock_word_on x (no_parts (used_as_clock sc x) _ (part_right (occurs u (merged q x a d)) h.types)).0
     own_right u (call q j g as_) h =
@@ -479,7 +485,8 @@ module _ (p : Program) (c : IsChecked p) (k : ℕ) (i : Instance) (placed_here :
     text_on num =
         let whole : Each (λ o. Good sc full AnyCall known o.standing o.expression) here t e = each_whole
         (GoodPart sc full AnyCall known) here t e (good num) in
-        let own : Each (IsOwnOn full m) here t e = each_from IsPart (IsOwnOn full m) (λ o h. own_right o.standing o.expression h) here t e (parts_right num) in
+        let own : Each (IsOwnOn full m) here t e = each_from IsPart (IsOwnOn full m) (λ o h. own_right o.standing o.expression h) here t e (parts_right
+            num) in
         let fit : Each (λ o. Good sc full AnyCall known o.standing o.expression × StandsThere here o) here t e = each_of_both
         (λ o. Good sc full AnyCall known o.standing o.expression) (StandsThere here)
         (λ o. Good sc full AnyCall known o.standing o.expression × StandsThere here o) (λ o a q. (a, q)) here t e whole (stands_each num) in

@@ -94,7 +94,8 @@ found_variable x w (v ∷ vs) e = go (bytes_eq x v.name.text) refl e (found_vari
 
 -- ---- circles through a name of the declaration
 
-module _ (p : Program) (c : IsChecked p) (i : Instance) (same : i ≡ instance_of p (component_of i)) (declared : Contains (components p) (component_of i)) where
+module _ (p : Program) (c : IsChecked p) (i : Instance) (same : i ≡ instance_of p (component_of i)) (declared : Contains (components p) (component_of
+    i)) where
   abbrev here : Component
   here = component_of i
 
@@ -111,7 +112,8 @@ module _ (p : Program) (c : IsChecked p) (i : Instance) (same : i ≡ instance_o
     where
       go : (named_in x q.names ≡ true) ⊎ (named_in x q.names ≡ false) → (named_in x (flat_map (λ e. e.names) es) ≡ true → WayTo i (top x) (top x) → ⊥) → ⊥
       go (inl t) r = a.0 record { start = x; starts = t; first = w.first; rest = w.rest; way = w.way; finish = x; finishes = t; last = w.last }
-      go (inr n) r = r (subst (λ b. (b || named_in x (flat_map (λ e. e.names) es)) ≡ true) n (sym (named_append x q.names (flat_map (λ e. e.names) es)) ∙ e)) w
+      go (inr n) r = r (subst (λ b. (b || named_in x (flat_map (λ e. e.names) es)) ≡ true) n (sym (named_append x q.names (flat_map (λ e. e.names) es))
+          ∙ e)) w
 
   defined_circle : (x : Name) (ms : List Place) → named_in x (left_names here) ≡ true → RouteOf i (top x) ms (top x) → ⊥
   defined_circle x ms e r = left_circle x (equations here) no_equation_circle e (route_ways i (top x) ms (top x) r)
@@ -168,7 +170,8 @@ module _ (p : Program) (c : IsChecked p) (i : Instance) (same : i ≡ instance_o
       last (to_clock w k h) = ends w h (some_end w z (sym k)) (named_in w (left_names here)) refl
   along x (m ∷ ms) z e r = go (clock_step x m e (member_in m (next_places i [] (Some x)) r.0)) (λ w. along w ms z)
     where
-      further : (w : Name) → clock_names (clock_of here x) ≡ w ∷ [] → named_in w (left_names here) ≡ false → RouteOf i (top x) [] (top w) → Along w z → Along x z
+      further : (w : Name) → clock_names (clock_of here x) ≡ w ∷ [] → named_in w (left_names here) ≡ false → RouteOf i (top x) [] (top w) → Along w z
+          → Along x z
       further w k h s (passes v l to from) = passes v l (([] ++ top w ∷ to.0), joined same_spot spots_equal (λ q. next_places i q.0 q.1)
           (top x) (top w) (top v) [] to.0 s to.1) from
       further w k h s (by_clocks next rest chain end) = by_clocks w (next ∷ rest) (k, h, chain) end

@@ -77,7 +77,8 @@ ensures_has : (i : Instance) (ms : List ModeTerms) (m : ℕ) (b : Instants) (f :
     (map (λ l. under (mode_terms i ms x rs es).requires_all (item i ms (ensured x) l)) ls)
 ensures_has i ms m b f x rs es h [] a = tt
 ensures_has i ms m b f x rs es h (l ∷ ls) a =
-    ((λ t q. implied_has (b t) ((mode_terms i ms x rs es).requires_all b f t) (says i ms l b f t) (h.0 t q) (a.0 t q)), ensures_has i ms m b f x rs es h ls a.1)
+    ((λ t q. implied_has (b t) ((mode_terms i ms x rs es).requires_all b f t) (says i ms l b f t) (h.0 t q) (a.0 t q)), ensures_has i ms m b f x rs es
+        h ls a.1)
 
 imported_properties : (m : ℕ) (b : Instants) (f : Frame) (k : ℕ) (qs : List Property) → AllByRecursion (PropertyHas m b (call_frame f k)) qs
     → AllByRecursion (PropertyHas m b f) (map (imported k) qs)
@@ -93,7 +94,8 @@ pub and_true : (q : Bool) → (q && true) ≡ q
 and_true true = refl
 and_true false = refl
 
-module _ (p : Program) (c : IsChecked p) (k : ℕ) (i : Instance) (placed_here : Contains (placed 0 p) (k, component_of i)) (same : i ≡ instance_of p (component_of i))
+module _ (p : Program) (c : IsChecked p) (k : ℕ) (i : Instance) (placed_here : Contains (placed 0 p) (k, component_of i)) (same : i ≡ instance_of p
+    (component_of i))
     (m : ℕ) (b : Instants) (f : Frame) (on : IsOnClocks i m b f) where
   abbrev here : Component
   here = component_of i
@@ -311,7 +313,8 @@ module _ (p : Program) (c : IsChecked p) (k : ℕ) (i : Instance) (placed_here :
         let s : LabelRight ms l = label_right before ms w l (no_parts (contract_statement_faults (scope_at before) (assume l)) _ h).0
         (no_parts (contract_statement_clock_faults (component_of i) (assume l)) _ g).0 num.0 in
         let r : Walked (before ++ assume l ∷ []) cs ms = walk (before ++ assume l ∷ []) cs ms
-        (no_parts (contract_statement_faults (scope_at before) (assume l)) _ h).1 (no_parts (contract_statement_clock_faults (component_of i) (assume l)) _ g).1
+        (no_parts (contract_statement_faults (scope_at before) (assume l)) _ h).1 (no_parts (contract_statement_clock_faults (component_of i) (assume
+            l)) _ g).1
         num.1 q e (known_plain before (assume l) ms w refl refl) in
         let n = next before cs (assume l) ms ms (s.has, tt) r in
         record { known = n.0; texts = n.1; assumes = (s.says_has, r.assumes); guarantees = r.guarantees }
@@ -329,7 +332,8 @@ module _ (p : Program) (c : IsChecked p) (k : ℕ) (i : Instance) (placed_here :
         let y = no_parts (contract_statement_clock_faults (component_of i) (ghost_variable v x)) _ g in
         let two = no_parts _ (expression_faults (scope_at before) (as_side base) x) z.0 in
         let a : EachHas (as_side base, x) = clean_has before ms w (scope_at before) refl refl refl (as_side base) x
-        (clean_at before (as_side base) x two.1 y.0 (λ _. side_top (scope_at before) v.name [] x (no_parts _ (sides_fit (scope_at before) (v.name ∷ []) x) two.0).1))
+        (clean_at before (as_side base) x two.1 y.0 (λ _. side_top (scope_at before) v.name [] x (no_parts _ (sides_fit (scope_at before) (v.name ∷ [])
+            x) two.0).1))
         num.0 in
         let r : Walked (before ++ ghost_variable v x ∷ []) cs ms = walk (before ++ ghost_variable v x ∷ []) cs ms z.1 y.1 num.1 q e
         (known_plain before (ghost_variable v x) ms w refl refl) in
@@ -353,9 +357,11 @@ module _ (p : Program) (c : IsChecked p) (k : ℕ) (i : Instance) (placed_here :
         let y = no_parts (contract_statement_clock_faults (component_of i) (mode x rs es)) _ g in
         let here_num : AllByRecursion EachNumbered (on_base rs ++ on_base es) = left_part EachNumbered (on_base rs ++ on_base es)
         (flat_map contract_statement_texts cs) num in
-        let a : AllByRecursion (LabelRight ms) rs = labels_right before ms w rs (no_parts (flags_of (scope_at before) rs) (flags_of (scope_at before) es) z.0).0
+        let a : AllByRecursion (LabelRight ms) rs = labels_right before ms w rs (no_parts (flags_of (scope_at before) rs) (flags_of (scope_at before)
+            es) z.0).0
         (no_parts (all_on_base (component_of i) rs) (all_on_base (component_of i) es) y.0).0 (left_part EachNumbered (on_base rs) (on_base es) here_num) in
-        let d : AllByRecursion (LabelRight ms) es = labels_right before ms w es (no_parts (flags_of (scope_at before) rs) (flags_of (scope_at before) es) z.0).1
+        let d : AllByRecursion (LabelRight ms) es = labels_right before ms w es (no_parts (flags_of (scope_at before) rs) (flags_of (scope_at before)
+            es) z.0).1
         (no_parts (all_on_base (component_of i) rs) (all_on_base (component_of i) es) y.0).1 (right_part EachNumbered (on_base rs) (on_base es) here_num) in
         let t : ModeTerms = mode_terms i ms x.text rs es in
         let have : ModesHave m b f (t ∷ []) = (mode_has i ms m b f x.text rs es (labels_say ms rs a), tt) in
@@ -372,7 +378,8 @@ module _ (p : Program) (c : IsChecked p) (k : ℕ) (i : Instance) (placed_here :
         let z = no_parts (contract_statement_faults (scope_at before) («import» j x as_ xs)) _ h in
         let y = no_parts (contract_statement_clock_faults (component_of i) («import» j x as_ xs)) _ g in
         let texts_here : List Text = map (λ a. (on_clock base, a)) as_ in
-        let a : AllByRecursion EachHas texts_here = arguments_have before ms w as_ (no_parts (flat_map (expression_faults (scope_at before) (on_clock base)) as_) _ z.0).0
+        let a : AllByRecursion EachHas texts_here = arguments_have before ms w as_ (no_parts (flat_map (expression_faults (scope_at before) (on_clock
+            base)) as_) _ z.0).0
         y.0 (left_part EachNumbered texts_here (flat_map contract_statement_texts cs) num) in
         let its : IsContractSaid m b (call_frame f j) (sub j) = sub_have _ (contract_named p x.text) q.0
         (import_on _ (contract_named p x.text) (λ t. and_true (b t)) q.0) in
