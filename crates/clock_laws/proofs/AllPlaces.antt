@@ -1,11 +1,11 @@
 -- The places of a tree of instances that need others, listed.
-use Rattle.std.proofs.Common.{◌≡◌, ℕ, zero, suc, Bool, true, false, cond, ◌&&◌, ◌||◌, eqb, List, [], ◌∷◌, ◌++◌, map, flat_map, refl, sym, ap, ◌∙◌, subst, arith, ◌+◌, Option, Some, None}
+use Rattle.std.proofs.Common.{◌≡◌, ℕ, zero, suc, Bool, true, false, cond, ◌&&◌, ◌||◌, eqb, List, [], ◌∷◌, ◌++◌, map, flat_map, refl, ap, ◌∙◌, subst, arith, ◌+◌, Option, Some, None}
 use Rattle.std.specs.List.{list_any}
 use Rattle.std.specs.Str.{bytes_eq}
 use Rattle.std.proofs.Math.Logic.{◌⊎◌, inl, inr}
 use Rattle.std.proofs.lemmas.Bool.{false≢true, cases_Bool, eqb-true, eq-eqb}
 use Rattle.lus_tree.specs.Tree.{Name, Variable}
-use Rattle.lus_meaning.specs.Scene.{Manner, plain, while_true, as_import, Site, Instance, Instances, instance, no_instances, with_instance, component_of, outputs_of, clock_from, variables}
+use Rattle.lus_meaning.specs.Scene.{Manner, plain, while_true, as_import, Site, Instance, Instances, instance, no_instances, with_instance, outputs_of, clock_from, variables}
 use Rattle.lus_meaning.specs.Run.{Equation, equations, inputs_of}
 use Rattle.lus_meaning.specs.Depends.{Need, a_name, clock_needs, needs, modes_need, site_needs, left_names, named_in}
 use Rattle.lus_meaning.specs.Cycle.{Place, place_of, deeper, next_places, next_in_call, declared_needs, equation_step, defined_needs, own_needs, matching, shared_needs, caller_needs, at_top}
@@ -152,7 +152,7 @@ head_place : (i : Instance) (c : Site) (k : Instance) (x : Option Name) → IsSo
 head_place i c k None h = inl refl
 head_place i c k (Some x) h = inr (in_left ([], Some x) (named_places (inputs_of k ++ outputs_of k)) (all_places k)
     (in_mapped (λ (y : Name). let q : Place = ([], Some y) in q) x (inputs_of k ++ outputs_of k) (go (some_either _ (shared_needs c.manner x
-        (outputs_of k)) h))))
+    (outputs_of k)) h))))
   where
     go : IsSome (matching (λ a. site_needs i (modes_need i) c c.manner ++ needs i (modes_need i) c.clock a) x (inputs_of k) c.arguments) ⊎ IsSome
         (shared_needs c.manner x (outputs_of k)) → IsIn x (inputs_of k ++ outputs_of k)

@@ -1,14 +1,14 @@
 -- In the tree of instances of a checked declaration nothing needs itself at one instant.
-use Rattle.std.proofs.Common.{◌≡◌, ℕ, zero, suc, pred, ◌+◌, ◌<◌, ◌≤◌, Bool, true, false, cond, List, [], ◌∷◌, ◌++◌, map, flat_map, slice_index_or, unwrap_or, refl, sym, ap, ◌∙◌, subst, arith, Option, Some, None}
+use Rattle.std.proofs.Common.{◌≡◌, ℕ, zero, suc, pred, ◌<◌, Bool, true, false, List, [], ◌∷◌, ◌++◌, map, flat_map, slice_index_or, refl, sym, ap, ◌∙◌, subst, arith, Option, Some, None}
 use Rattle.std.specs.Prelude.{Contains}
 use Rattle.std.specs.List.{AllByRecursion}
 use Rattle.std.proofs.Math.Logic.{◌⊎◌, inl, inr}
 use Rattle.std.proofs.lemmas.Bool.{false≢true}
-use Rattle.lus_tree.specs.Tree.{Name, Labelled, ContractStatement, assume, guarantee, ghost_variable, constant, mode, «import», Component, Program}
+use Rattle.lus_tree.specs.Tree.{Name, ContractStatement, assume, guarantee, ghost_variable, constant, mode, «import», Component, Program}
 use Rattle.lus_meaning.specs.Scene.{Site, Instance, Instances, instance, no_instances, with_instance, component_of, instance_at, contract_statements}
 use Rattle.lus_meaning.specs.Contract.{ModeTerms, Terms, no_terms, terms, terms_each, terms_after, mode_terms, imported_mode}
 use Rattle.lus_meaning.specs.Program.{site_in, all_sites, instance_of}
-use Rattle.lus_meaning.specs.Occurrences.{Occurrence, occurrences, texts, Text, contract_statement_texts, all_occurrences, gathered}
+use Rattle.lus_meaning.specs.Occurrences.{Occurrence, occurrences, texts, contract_statement_texts, all_occurrences, gathered}
 use Rattle.lus_meaning.specs.Depends.{Need, the_beat, a_name, ModeNeeds, asked_needs, imported_needs, modes_after, modes_need, modes_need_each}
 use Rattle.lus_meaning.specs.Cycle.{Place, place_of, deeper, next_places, next_in_call, caller_needs, at_top}
 use Rattle.lus_meaning.specs.Scope.{node_named}
@@ -23,7 +23,7 @@ use Rattle.rule_laws.proofs.Callees.{GoesDown, each_site}
 use Rattle.rule_laws.proofs.Places.{calls_in_place}
 use Rattle.clock_laws.proofs.AllPlaces.{same_spot, spots_equal, member_in, is_member}
 use Rattle.clock_laws.proofs.Clocks.{placed_of, IsFaultless, faultless, unfolded_same, imports_placed, sub_named_of, declared_at, sub_of}
-use Rattle.clock_laws.proofs.LightWalk.{weights_after, keys_of, CallsPlaced, EachPlaced, walk_light, SiteLight, sites_light, caller_light}
+use Rattle.clock_laws.proofs.LightWalk.{weights_after, keys_of, EachPlaced, walk_light, SiteLight, sites_light, caller_light}
 use Rattle.clock_laws.proofs.Parts.{each_listed, all_parts}
 use Rattle.clock_laws.proofs.Reaching.{in_either, in_image, RouteOf}
 use Rattle.clock_laws.proofs.Routes.{joined}
@@ -58,8 +58,11 @@ keys_after i st sn h ms ns (assume l ∷ cs) e = keys_after i st sn h ms ns cs e
 keys_after i st sn h ms ns (guarantee l ∷ cs) e = keys_after i st sn h ms ns cs e
 keys_after i st sn h ms ns (ghost_variable x d ∷ cs) e = keys_after i st sn h ms ns cs e
 keys_after i st sn h ms ns (constant x ∷ cs) e = keys_after i st sn h ms ns cs e
-keys_after i st sn h ms ns (mode m rs es ∷ cs) e = keys_after i st sn h (ms ++ mode_terms i ms m.text rs es ∷ []) (ns ++ (([], m.text), asked_needs i
-    ns rs) ∷ []) cs
+keys_after i st sn h ms ns (mode m rs es ∷ cs) e = keys_after i st sn h (ms ++ mode_terms i ms m.text rs es ∷ []) (ns ++ (
+  ([], m.text),
+  asked_needs i
+      ns rs,
+) ∷ []) cs
     (map_append (λ x. x.key) ms (mode_terms i ms m.text rs es ∷ []) ∙ ap (λ r. r ++ ([], m.text) ∷ []) e
     ∙ sym (map_append (λ r. r.0) ns ((([], m.text), asked_needs i ns rs) ∷ [])))
 keys_after i st sn h ms ns («import» k c as_ xs ∷ cs) e =
@@ -265,17 +268,17 @@ module _ (p : Program) (c : IsChecked p) where
         let all : Weights = weights_after sub_needs [] (contract_statements n) in
         let weigh : ℕ → ℕ = heft_at all is in
         let weighed : (d : Site) (named : Option Component) → HasItsPlace i named d → weigh (pred d.number) ≡ site_heft all d = λ d named h. heft_there all is
-            (pred d.number) d h.site in
+        (pred d.number) d h.site in
         let placed_here : AllByRecursion (EachPlaced p at.0 i (sub_of p c is) sub_needs (λ k. each_keys is (pred k)) (sub_named_of p c i) all weigh
-            weighed) (texts n) =
-            placed_texts i j same in
+        weighed) (texts n) =
+        placed_texts i j same in
         let pairs : PairsLight weigh (modes_need i) all = walk_light p at.0 i (sub_of p c is) sub_needs (λ k. each_keys is (pred k)) (sub_named_of p c
-            i) all weigh
-            weighed [] (contract_statements n) [] [] [] f.contract (left_part _ (flat_map contract_statement_texts (contract_statements n)) _ placed_here)
-            (imports_placed p c i j same) refl refl
-            record { by_name = λ x e. absurd (false≢true e); by_import = λ d x e h. absurd (false≢true e) } tt in
+        i) all weigh
+        weighed [] (contract_statements n) [] [] [] f.contract (left_part _ (flat_map contract_statement_texts (contract_statements n)) _ placed_here)
+        (imports_placed p c i j same) refl refl
+        record { by_name = λ x e. absurd (false≢true e); by_import = λ d x e h. absurd (false≢true e) } tt in
         let sites = sites_light p at.0 i (sub_of p c is) sub_needs (λ k. each_keys is (pred k)) (sub_named_of p c i) all weigh weighed (modes_need i) pairs
-            placed_here in
+        placed_here in
         never i is weigh (λ l ks x. refl)
         (λ l d e ks x. (
           with_condition all d.manner (heft_all all d.arguments),

@@ -1,12 +1,12 @@
 -- In a checked program, in a frame whose names are on their clocks, each occurrence of an expression has its value
 -- exactly on the clock of its place: contracts with their imports first, and then constants and bodies.
-use Rattle.std.proofs.Common.{◌≡◌, ℕ, zero, suc, pred, ◌<◌, ◌≤◌, Bool, true, false, ◌&&◌, ◌||◌, List, [], ◌∷◌, ◌++◌, map, flat_map, length, slice_index_or, unwrap_or, refl, sym, ap, ◌∙◌, subst, arith, Option, Some, None}
+use Rattle.std.proofs.Common.{◌≡◌, ℕ, zero, suc, pred, ◌<◌, ◌≤◌, Bool, true, false, ◌&&◌, ◌||◌, List, [], ◌∷◌, ◌++◌, map, flat_map, length, slice_index_or, refl, sym, ap, ◌∙◌, subst, arith, Option, Some, None}
 use Rattle.std.specs.Prelude.{Contains}
 use Rattle.std.specs.List.{AllByRecursion, list_all}
 use Rattle.std.specs.Str.{bytes_eq}
 use Rattle.std.proofs.lemmas.Bool.{false≢true}
 use Rattle.lus_tree.specs.declared.place.Sort.TheVariants.{Bool as Flags}
-use Rattle.lus_tree.specs.Tree.{Name, Spelled, text_of, Expression, Constant, Labelled, Statement, equation, assertion, property, main_mark, ContractStatement, assume, guarantee, ghost_variable, constant, mode, «import», Component, declared_constant, declared_node, declared_contract, Program}
+use Rattle.lus_tree.specs.Tree.{Name, Spelled, text_of, Expression, Constant, Statement, equation, assertion, property, main_mark, ContractStatement, assume, guarantee, ghost_variable, constant, mode, «import», Component, declared_constant, declared_node, declared_contract, Program}
 use Rattle.lus_tree.specs.Reason.{name_twice}
 use Rattle.lus_meaning.specs.Value.{Instants, has_sort}
 use Rattle.lus_meaning.specs.Frame.{Frame, firsts_of, first_value, call_frame}
@@ -15,10 +15,10 @@ use Rattle.lus_meaning.specs.Contract.{Terms, no_terms, terms, terms_each, terms
 use Rattle.lus_meaning.specs.Program.{site_in, import_site, all_sites, component_named, instance_of}
 use Rattle.lus_meaning.specs.Run.{sort_of, first_sorts, have_sorts}
 use Rattle.lus_meaning.specs.Depends.{named_in}
-use Rattle.lus_meaning.specs.Occurrences.{Standing, on_clock, as_side, Occurrence, occurrences, all_occurrences, texts, Text, contract_statement_texts, statement_texts, constant_texts, gathered, memory_in, memories}
+use Rattle.lus_meaning.specs.Occurrences.{Standing, on_clock, as_side, occurrences, all_occurrences, texts, Text, contract_statement_texts, statement_texts, constant_texts, gathered, memory_in, memories}
 use Rattle.lus_meaning.specs.Scope.{Scope, node_named, contract_named, mode_names, constant_scope, body_scope}
 use Rattle.lus_meaning.specs.Faults.{words_twice}
-use Rattle.lus_meaning.specs.ExpressionFaults.{expression_faults, needs_sort, flag_faults, not_allowed, sides_fit, equation_faults, definition_faults, has_mode}
+use Rattle.lus_meaning.specs.ExpressionFaults.{expression_faults, needs_sort, not_allowed, sides_fit, definition_faults, has_mode}
 use Rattle.lus_meaning.specs.NameFaults.{home, component_faults, declaration_faults, typing_faults, constant_words, contract_faults, local_constant_faults, statement_faults, body_faults, labels_twice, own_words, outer_twice, mode_words}
 use Rattle.lus_meaning.specs.ClockFaults.{components, clock_faults, component_clock_faults, clock_faults_of, contract_statement_clock_faults, statement_clock_faults}
 use Rattle.lus_meaning.specs.Grammatical.{has_left_name, IsGrammaticalComponent}
@@ -38,10 +38,10 @@ use Rattle.rule_laws.proofs.Unfolded.{component_within, each_unfolded}
 use Rattle.clock_laws.specs.Laws.{IsOnClocks, HasItsValue, ExpressionsOnClocks, IsContractSaid, ContractsOnClocks}
 use Rattle.clock_laws.proofs.Contracts.{side_top, Extends, extends}
 use Rattle.clock_laws.proofs.Fixed.{constant_clocks}
-use Rattle.clock_laws.proofs.Modes.{has_key, key_before, key_behind, mode_named}
+use Rattle.clock_laws.proofs.Modes.{has_key, key_before, key_behind}
 use Rattle.clock_laws.proofs.Parts.{each_listed, all_parts, each_occurrence}
 use Rattle.clock_laws.proofs.Same.{some_same, same_instance}
-use Rattle.clock_laws.proofs.Texts.{TopFits, IsCleanIn, IsNumberedIn, constant_apart, firsts_right, all_grammatical, all_pass}
+use Rattle.clock_laws.proofs.Texts.{TopFits, IsNumberedIn, constant_apart, firsts_right, all_grammatical, all_pass}
 use Rattle.clock_laws.proofs.Walk.{Known, Walked, walk, clean_has}
 
 -- ---- modes of a contract by their own names
@@ -210,19 +210,19 @@ module _ (p : Program) (c : IsChecked p) where
         let at : (k : ℕ) × Contains (placed 0 p) (k, n) = placed_of 0 p n j in
         let q : IsFaultless p at.0 n = faultless p c at.0 n j at.1 in
         let sub_have : (d : Site) (named : Option Component) → HasItsPlace i named d → IsOnClocks (call_instance i d.number) m b (call_frame f d.number)
-            → IsContractSaid m b (call_frame f d.number) (sub_of is d.number) = λ d named h o. calls_terms_on n (all_sites n) is u.1
-            (each_site p c.rules.clocked.typed n j) (pred d.number) d h.site m b (call_frame f d.number)
-            (subst (λ k. IsOnClocks k m b (call_frame f d.number)) (sym (is_called i d named h)) o) in
+        → IsContractSaid m b (call_frame f d.number) (sub_of is d.number) = λ d named h o. calls_terms_on n (all_sites n) is u.1
+        (each_site p c.rules.clocked.typed n j) (pred d.number) d h.site m b (call_frame f d.number)
+        (subst (λ k. IsOnClocks k m b (call_frame f d.number)) (sym (is_called i d named h)) o) in
         let w : Walked p c at.0 i at.1 same m b f on (sub_of is) sub_have (sub_named_of i) [] (contract_statements n) [] =
-            walk p c at.0 i at.1 same m b f on (sub_of is) sub_have (sub_named_of i) [] (contract_statements n) [] q.contract q.contract_clocks
-            (left_part (λ x. Each (IsNumberedIn p i f) n x.0 x.1) (flat_map contract_statement_texts (contract_statements n)) _ (numbered_texts i j
-                same m b f on))
-            (imports_placed i j same) refl record {
-              extended = extends i (sub_of is) [] (contract_statements n);
-              have = tt;
-              ensures_each = tt;
-              covers = record { by_name = λ x e. absurd (false≢true e); by_import = λ d x e h. absurd (false≢true e) };
-            } in
+        walk p c at.0 i at.1 same m b f on (sub_of is) sub_have (sub_named_of i) [] (contract_statements n) [] q.contract q.contract_clocks
+        (left_part (λ x. Each (IsNumberedIn p i f) n x.0 x.1) (flat_map contract_statement_texts (contract_statements n)) _ (numbered_texts i j
+        same m b f on))
+        (imports_placed i j same) refl record {
+          extended = extends i (sub_of is) [] (contract_statements n);
+          have = tt;
+          ensures_each = tt;
+          covers = record { by_name = λ x e. absurd (false≢true e); by_import = λ d x e h. absurd (false≢true e) };
+        } in
         record {
           home_at = at.0;
           placed_here = at.1;
@@ -289,13 +289,21 @@ module _ (p : Program) (c : IsChecked p) where
         → AllByRecursion IsNumberedText (statement_texts here x) → AllByRecursion Has (statement_texts here x)
     statement_has j (equation xs e) l h g num =
         let t : Standing = as_side (clock_of_names here (map text_of xs)) in
-        let q = no_parts _ (expression_faults (scope_behind j) t e) h in
-        (text_has j t e q.1 (no_parts _ (clock_faults_of here (clock_of_names here (map text_of xs)) e) g).1
-        (λ _. side_has j xs e l (no_parts _ (sides_fit (scope_behind j) xs e) q.0).1) num.0, tt)
-    statement_has j (assertion e) l h g num = (text_has j (on_clock base) e (no_parts (needs_sort (scope_behind j) Flags e) _ h).1 g
-        (λ w. absurd (false≢true w)) num.0, tt)
-    statement_has j (property x) l h g num = (text_has j (on_clock base) x.value (no_parts (needs_sort (scope_behind j) Flags x.value) _ h).1 g
-        (λ w. absurd (false≢true w)) num.0, tt)
+        let q = no_parts _ (expression_faults (scope_behind j) t e) h in (
+          text_has j t e q.1 (no_parts _ (clock_faults_of here (clock_of_names here (map text_of xs)) e) g).1
+              (λ _. side_has j xs e l (no_parts _ (sides_fit (scope_behind j) xs e) q.0).1) num.0,
+          tt,
+        )
+    statement_has j (assertion e) l h g num = (
+      text_has j (on_clock base) e (no_parts (needs_sort (scope_behind j) Flags e) _ h).1 g
+          (λ w. absurd (false≢true w)) num.0,
+      tt,
+    )
+    statement_has j (property x) l h g num = (
+      text_has j (on_clock base) x.value (no_parts (needs_sort (scope_behind j) Flags x.value) _ h).1 g
+          (λ w. absurd (false≢true w)) num.0,
+      tt,
+    )
     statement_has j (main_mark q) l h g num = tt
 
     body_has : (j : ℕ) (xs : List Statement) → list_all has_left_name xs ≡ true → flat_map (statement_faults (scope_behind j)) xs ≡ []
@@ -321,10 +329,10 @@ module _ (p : Program) (c : IsChecked p) where
         let behind : AllByRecursion IsNumberedText (constant_texts here.constants ++ flat_map (statement_texts here) here.body) = right_part IsNumberedText
         (flat_map contract_statement_texts (contract_statements here)) (constant_texts here.constants ++ flat_map (statement_texts here) here.body) num in
         both_parts Has (flat_map contract_statement_texts (contract_statements here)) (constant_texts here.constants ++ flat_map (statement_texts here)
-            here.body)
+        here.body)
         r.its_texts (both_parts Has (constant_texts here.constants) (flat_map (statement_texts here) here.body)
         (constants_have 0 here.constants q.constants (left_part IsNumberedText (constant_texts here.constants) (flat_map (statement_texts here)
-            here.body) behind))
+        here.body) behind))
         (body_has (length here.constants) here.body q.lefts q.statements q.statement_clocks
         (right_part IsNumberedText (constant_texts here.constants) (flat_map (statement_texts here) here.body) behind)))
 

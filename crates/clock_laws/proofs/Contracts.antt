@@ -1,45 +1,20 @@
 -- In a frame whose names are on their clocks, the items of a contract, one after the other: each expression has its
 -- value exactly on its clock, and so have the modes.
-use Rattle.std.proofs.Common.{option_map, ◌≡◌, ℕ, zero, suc, ◌<◌, Bool, true, false, cond, not, ◌&&◌, ◌||◌, ◌==◌, List, [], ◌∷◌, ◌++◌, length, map, flat_map, refl, sym, ap, ◌∙◌, subst, arith, append_assoc, Option, Some, None}
-use Rattle.std.specs.Prelude.{Contains, filter, option_to_list}
-use Rattle.std.specs.List.{AllByRecursion}
-use Rattle.std.specs.Map.{lookup}
+use Rattle.std.proofs.Common.{option_map, ◌≡◌, ℕ, suc, Bool, true, false, cond, ◌&&◌, ◌||◌, ◌==◌, List, [], ◌∷◌, ◌++◌, length, map, refl, sym, ap, ◌∙◌, subst, arith, append_assoc, Option, Some, None}
+use Rattle.std.specs.Prelude.{filter, option_to_list}
 use Rattle.std.specs.Str.{bytes_eq}
-use Rattle.std.proofs.Math.Path.{fun_ext}
 use Rattle.std.proofs.lemmas.Bool.{false≢true, eqb-true}
-use Rattle.lus_tree.specs.declared.place.Sort.{Sort}
-use Rattle.lus_tree.specs.declared.place.Sort.TheVariants.{Bool as Flags, Int as Numbers}
-use Rattle.lus_tree.specs.Tree.{Name, Spelled, text_of, Expression, truth, number, name, negation, minus, pre, arrow, binary, choice, sampled, merged, call, condact, mode_name, Variable, Labelled, ContractStatement, assume, guarantee, ghost_variable, constant, mode, «import», Component, Program}
-use Rattle.lus_meaning.specs.Value.{Instants}
-use Rattle.lus_meaning.specs.Frame.{Frame, call_frame}
-use Rattle.lus_meaning.specs.Scene.{base, Site, Instance, Scene, component_of, call_instance, contract_statements}
-use Rattle.lus_meaning.specs.Meaning.{mode_key, mode_stream, head_stream, value}
-use Rattle.lus_meaning.specs.Contract.{ModeTerms, Terms, terms, terms_after, mode_streams, mode_terms, imported_mode, says, scene}
-use Rattle.lus_meaning.specs.Program.{import_site, instance_of}
-use Rattle.lus_meaning.specs.Run.{is_typed, sort_of, active}
+use Rattle.lus_tree.specs.Tree.{Name, Spelled, text_of, Expression, truth, number, name, negation, minus, pre, arrow, binary, choice, sampled, merged, call, condact, mode_name, Variable, ContractStatement, assume, guarantee, ghost_variable, constant, mode, «import», Component, Program}
+use Rattle.lus_meaning.specs.Scene.{Instance}
+use Rattle.lus_meaning.specs.Contract.{ModeTerms, Terms, terms_after, mode_terms, imported_mode}
 use Rattle.lus_meaning.specs.Depends.{named_in}
-use Rattle.lus_meaning.specs.Occurrences.{Standing, on_clock, as_side, Occurrence, occurs, on_base, Text, contract_statement_texts, begin}
-use Rattle.lus_meaning.specs.Scope.{Scope, type_of, node_named, contract_named, mode_names, import_names, contract_statement_scope}
-use Rattle.lus_meaning.specs.Faults.{if_so, differ}
-use Rattle.lus_meaning.specs.ExpressionFaults.{expression_faults, flag_faults, needs_sort, not_allowed, definition_faults, equation_faults, sides_fit, outputs_fit, has_one, has_mode, mode_is_known, is_imported_mode}
-use Rattle.lus_meaning.specs.NameFaults.{home, flags_of, contract_statement_faults, contract_faults}
-use Rattle.lus_meaning.specs.ClockFaults.{clock_faults_of, all_on_base, contract_statement_clock_faults}
-use Rattle.lus_meaning.specs.Refusals.{IsChecked}
-use Rattle.lus_meaning.proofs.EachPart.{Each}
-use Rattle.lus_meaning.proofs.Exists.{self_bytes}
-use Rattle.lus_meaning.proofs.Lists.{both_parts, append_none, named_append, or_left, or_true}
-use Rattle.lus_meaning.proofs.NamesOnce.{no_parts, not_nil, not_so}
-use Rattle.lus_meaning.proofs.Now.{left_part, right_part}
+use Rattle.lus_meaning.specs.Scope.{Scope, node_named, contract_named, mode_names, import_names}
+use Rattle.lus_meaning.specs.ExpressionFaults.{sides_fit, outputs_fit, has_one, has_mode, mode_is_known}
+use Rattle.lus_meaning.proofs.Lists.{append_none, named_append}
+use Rattle.lus_meaning.proofs.NamesOnce.{not_nil}
 use Rattle.lus_meaning.proofs.Unique.{same_bytes}
-use Rattle.rule_laws.specs.Laws.{placed, HasItsPlace}
-use Rattle.rule_laws.proofs.Known.{Shows, contract_statement_shows}
-use Rattle.rule_laws.proofs.Worths.{same_sorts}
-use Rattle.clock_laws.specs.Laws.{IsOnClocks, HasItsValue}
-use Rattle.clock_laws.proofs.Fixed.{constant_clocks}
-use Rattle.clock_laws.proofs.Modes.{has_key, ModesHave, found_mode, found_before, key_before, key_behind, SaysHave, mode_has, mode_named, imported_have, imported_named}
-use Rattle.clock_laws.proofs.Parts.{each_from}
-use Rattle.clock_laws.proofs.SameModes.{SameMode, SameModeIn, value_same}
-use Rattle.clock_laws.proofs.Texts.{HasOutputs, TopFits, IsCleanIn, IsNumberedIn, ModesOn, constant_apart, text_sort, text_on, call_on}
+use Rattle.clock_laws.proofs.Modes.{has_key, key_before, key_behind}
+use Rattle.clock_laws.proofs.Texts.{HasOutputs, TopFits}
 
 -- ---- whole right sides
 
@@ -97,7 +72,7 @@ both_true false b e = absurd (false≢true e)
 
 pub known_key : (p : Program) (own imports : List Name) (ms : List ModeTerms) → Covers p own imports ms → (sc : Scope) → sc.program ≡ p → sc.modes ≡ own
     → sc.imports ≡ imports → (d : Option Spelled) (x : Spelled) → mode_is_known sc d x ≡ true
-        → has_key (option_to_list (option_map text_of d), x.text) ms ≡ true
+    → has_key (option_to_list (option_map text_of d), x.text) ms ≡ true
 known_key p own imports ms v sc a b c None x e = v.by_name x.text (subst (λ xs. named_in x.text xs ≡ true) b e)
 known_key p own imports ms v sc a b c (Some w) x e =
     let h : (has_one (filter (bytes_eq w.text) sc.imports) ≡ true) × (has_mode x.text (contract_named sc.program w.text) ≡ true) =

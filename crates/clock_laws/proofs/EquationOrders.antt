@@ -1,6 +1,6 @@
 -- The equations of an instance have an order exactly where none needs itself, and then exactly one least order.
-use Rattle.std.proofs.Common.{◌≡◌, ℕ, zero, suc, ◌<◌, Bool, true, false, cond, ◌||◌, eqb, List, [], ◌∷◌, ◌++◌, map, length, refl, sym, ap, ◌∙◌, subst, arith}
-use Rattle.std.specs.List.{AllByRecursion, list_any}
+use Rattle.std.proofs.Common.{◌≡◌, ℕ, zero, suc, ◌<◌, Bool, true, false, ◌||◌, eqb, List, [], ◌∷◌, ◌++◌, length, refl, sym, ◌∙◌, subst, arith}
+use Rattle.std.specs.List.{AllByRecursion}
 use Rattle.std.proofs.Math.Logic.{◌⊎◌, inl, inr}
 use Rattle.std.proofs.lemmas.Bool.{false≢true, cases_Bool, eqb-true}
 use Rattle.std.proofs.lemmas.List.Folds.{list_any-append}
@@ -54,8 +54,11 @@ module _ (i : Instance) (distinct : AreDistinct (left_names (component_of i))) w
     by_test = least_order (length es) test never
 
     pub some_order : (ks : List ℕ) × IsEquationOrder i es ks
-    some_order = (by_test.0, fewer_order (length es) (NeedsEquation i es) (Passes test) (λ k j l h n. reaches_to i (lefts k) (lefts j) n) by_test.0
-        by_test.1.order)
+    some_order = (
+      by_test.0,
+      fewer_order (length es) (NeedsEquation i es) (Passes test) (λ k j l h n. reaches_to i (lefts k) (lefts j) n) by_test.0
+          by_test.1.order,
+    )
 
     to_least : (ks : List ℕ) → IsLeastOrder (length es) (Passes test) ks → IsLeastEquationOrder i es ks
     to_least ks o = far_least (length es) (Passes test) (NeedsEquation i es) (λ k j l h n. reaches_from i (lefts k) (lefts j) n)

@@ -1,15 +1,14 @@
 -- The expression of a constant breaks no rule of clocks.
-use Rattle.std.proofs.Common.{◌≡◌, List, [], ◌∷◌, ◌++◌, map, flat_map, true, None, Option, refl, subst}
+use Rattle.std.proofs.Common.{◌≡◌, List, [], ◌∷◌, map, flat_map, true, None, Option, refl, subst}
 use Rattle.std.specs.List.{AllByRecursion}
-use Rattle.lus_tree.specs.declared.place.Pos.{Pos}
 use Rattle.lus_tree.specs.Tree.{Name, Expression, truth, number, name, negation, minus, pre, arrow, binary, choice, sampled, merged, call, condact, mode_name, Component}
 use Rattle.lus_tree.specs.Reason.{not_constant}
 use Rattle.lus_meaning.specs.Scene.{Clock, base}
-use Rattle.lus_meaning.specs.Occurrences.{Standing, on_clock, within, Occurrence, occurs, occurrences}
+use Rattle.lus_meaning.specs.Occurrences.{Standing, on_clock, within, Occurrence, occurrences}
 use Rattle.lus_meaning.specs.Scope.{Scope, is_constant_name}
 use Rattle.lus_meaning.specs.Faults.{fault}
 use Rattle.lus_meaning.specs.ExpressionFaults.{hinders_constant, not_allowed}
-use Rattle.lus_meaning.specs.ClockFaults.{name_clock, or_else, clock_in, all_on, stands_on, clock_form_faults, clock_faults_of}
+use Rattle.lus_meaning.specs.ClockFaults.{name_clock, or_else, clock_in, all_on, clock_form_faults, clock_faults_of}
 use Rattle.lus_meaning.proofs.EachPart.{Each, each_part}
 use Rattle.lus_meaning.proofs.Flexible.{flexible}
 use Rattle.lus_meaning.proofs.NamesOnce.{not_nil}

@@ -1,24 +1,20 @@
 -- Where the left names of a declaration have no fault, each stands once.
-use Rattle.std.proofs.Common.{◌≡◌, ℕ, suc, ◌<◌, Bool, true, false, cond, not, ◌||◌, List, [], ◌∷◌, ◌++◌, map, flat_map, refl, sym, ap, ◌∙◌, subst, append_assoc}
-use Rattle.std.specs.Prelude.{Contains}
+use Rattle.std.proofs.Common.{◌≡◌, Bool, true, false, not, ◌||◌, List, [], ◌∷◌, ◌++◌, map, flat_map, refl, sym, ap, ◌∙◌, subst, append_assoc}
 use Rattle.std.specs.List.{AllByRecursion}
 use Rattle.std.specs.Str.{bytes_eq}
 use Rattle.std.proofs.lemmas.Bool.{false≢true, cases_Bool}
 use Rattle.std.proofs.Math.Logic.{◌⊎◌, inl, inr}
-use Rattle.lus_tree.specs.Tree.{Name, text_of, Spelled, Variable, Statement, equation, assertion, property, main_mark, ContractStatement, assume, guarantee, ghost_variable, constant, mode, «import», Component, Program}
+use Rattle.lus_tree.specs.Tree.{Name, text_of, Spelled, Variable, Statement, equation, assertion, property, main_mark, ContractStatement, assume, guarantee, ghost_variable, constant, mode, «import», Component}
 use Rattle.lus_tree.specs.Reason.{equation_twice, input_defined}
 use Rattle.lus_meaning.specs.Scene.{contract_statements, variables, ghosts}
-use Rattle.lus_meaning.specs.Run.{Equation, equations, ghost_equations, body_equations}
+use Rattle.lus_meaning.specs.Run.{Equation, ghost_equations, body_equations}
 use Rattle.lus_meaning.specs.Depends.{named_in, left_names}
 use Rattle.lus_meaning.specs.WellMade.{AreDistinct}
 use Rattle.lus_meaning.specs.Faults.{if_so, words_twice}
-use Rattle.lus_meaning.specs.ClockFaults.{components}
 use Rattle.lus_meaning.specs.EquationFaults.{body_sides, body_lefts, definable, left_faults}
-use Rattle.lus_meaning.specs.Refusals.{IsTyped}
-use Rattle.lus_meaning.proofs.Equal.{AreNamed}
 use Rattle.lus_meaning.proofs.Exists.{self_bytes}
 use Rattle.lus_meaning.proofs.Lists.{map_append, named_append, or_left, or_true}
-use Rattle.lus_meaning.proofs.NamesOnce.{no_parts, not_so, none_twice, instance_named}
+use Rattle.lus_meaning.proofs.NamesOnce.{no_parts, not_so, none_twice}
 use Rattle.lus_meaning.proofs.RulesFit.{none_mapped}
 use Rattle.lus_meaning.proofs.Unique.{same_bytes}
 
@@ -116,7 +112,7 @@ lefts_distinct n d e =
     let gs : List Name = names_of (ghosts (contract_statements n)) in
     let rest : AreDistinct (definable n ++ gs) = distinct_behind (names_of n.inputs) (definable n ++ gs) (subst AreDistinct (variables_apart n) d) in
     let body : AreDistinct (map text_of (body_lefts n)) = none_twice equation_twice (body_lefts n) (no_parts (words_twice equation_twice (body_lefts
-        n)) _ e).0 in
+    n)) _ e).0 in
     subst AreDistinct (sym (lefts_apart n)) (distinct_parts gs (map text_of (body_lefts n)) (distinct_behind (definable n) gs rest) body
     (λ z h. go z (cases_Bool (named_in z (map text_of (body_lefts n)))) h))
   where

@@ -1,7 +1,7 @@
 -- In a checked program each mode needs only calls that weigh no more than it, and what a call's arguments need of other
 -- calls is of calls of less weight.
-use Rattle.std.proofs.Common.{option_map, ◌≡◌, ℕ, zero, suc, pred, ◌+◌, ◌<◌, ◌≤◌, Bool, true, false, cond, not, ◌||◌, List, [], ◌∷◌, ◌++◌, map, flat_map, refl, sym, ap, ◌∙◌, subst, arith, append_assoc, Option, Some, None}
-use Rattle.std.specs.Prelude.{Contains, option_to_list}
+use Rattle.std.proofs.Common.{option_map, ◌≡◌, ℕ, suc, pred, ◌+◌, ◌≤◌, Bool, true, false, cond, not, ◌||◌, List, [], ◌∷◌, ◌++◌, map, flat_map, refl, sym, ap, ◌∙◌, subst, arith, append_assoc, Option, Some, None}
+use Rattle.std.specs.Prelude.{option_to_list}
 use Rattle.std.specs.List.{AllByRecursion, list_any}
 use Rattle.std.specs.Str.{bytes_eq}
 use Rattle.std.proofs.lemmas.Bool.{false≢true}
@@ -11,10 +11,10 @@ use Rattle.lus_tree.specs.Reason.{mode_unknown}
 use Rattle.lus_meaning.specs.Scene.{Clock, base, Manner, plain, while_true, as_import, Site, Instance, component_of, outputs_of, contract_statements}
 use Rattle.lus_meaning.specs.Meaning.{mode_key}
 use Rattle.lus_meaning.specs.Contract.{ModeTerms, Terms, mode_terms, imported_mode}
-use Rattle.lus_meaning.specs.Program.{listed, site_in, import_site, all_sites, in_order, instance_of}
+use Rattle.lus_meaning.specs.Program.{listed, site_in, import_site, all_sites}
 use Rattle.lus_meaning.specs.Run.{inputs_of}
-use Rattle.lus_meaning.specs.Occurrences.{Standing, on_clock, as_side, within, Occurrence, occurs, occurrences, on_base, Text, contract_statement_texts, texts, all_occurrences, gathered}
-use Rattle.lus_meaning.specs.Depends.{Need, the_beat, a_name, ModeNeeds, known_needs, clock_needs, needs, asked_needs, imported_needs, modes_after, modes_need, site_needs}
+use Rattle.lus_meaning.specs.Occurrences.{Standing, on_clock, within, Occurrence, occurs, occurrences, on_base, Text, contract_statement_texts, texts, all_occurrences, gathered}
+use Rattle.lus_meaning.specs.Depends.{a_name, ModeNeeds, known_needs, needs, asked_needs, imported_needs, modes_after, modes_need, site_needs}
 use Rattle.lus_meaning.specs.Cycle.{matching, shared_needs, caller_needs}
 use Rattle.lus_meaning.specs.Scope.{Scope, node_named, contract_named, mode_names, import_names, contract_statement_scope}
 use Rattle.lus_meaning.specs.ExpressionFaults.{expression_faults, part_faults, form_faults, weight_faults, flag_faults, needs_sort, has_mode, mode_is_known}
@@ -30,7 +30,7 @@ use Rattle.rule_laws.proofs.Lists.{all_flat}
 use Rattle.clock_laws.proofs.Contracts.{CoversAll, known_key, covers_more, covers_plain, covers_mode, covers_import, covers_names, covers_imports}
 use Rattle.clock_laws.proofs.Modes.{Key, has_key, mode_named, imported_named}
 use Rattle.clock_laws.proofs.Parts.{each_from, Whole, each_whole, each_occurrence}
-use Rattle.clock_laws.proofs.Weights.{Weights, weight_at, heft, hefts, heft_all, with_condition, site_heft, AllLight, Light, lighter, clock_light, two_light, LightIn, LightPart, light_needs, behind_clock, PairsLight, pair_light, pairs_joined, imported_weight, imported_light, SameWeight, SameWeightIn, same_heft, weight_listed, weight_before}
+use Rattle.clock_laws.proofs.Weights.{Weights, weight_at, heft, heft_all, with_condition, site_heft, AllLight, Light, lighter, clock_light, two_light, LightIn, LightPart, light_needs, behind_clock, PairsLight, pair_light, pairs_joined, imported_weight, imported_light, SameWeight, SameWeightIn, same_heft, weight_listed, weight_before}
 
 abbrev pub label_heft : Weights → List Labelled → ℕ
 label_heft ws [] = 0
@@ -177,8 +177,10 @@ module _ (p : Program) (k : ℕ) (i : Instance) (sub_terms : ℕ → Terms) (sub
 
     same_all : (as_ : List Expression) → flat_map (expression_faults (scope_at before) (on_clock base)) as_ ≡ [] → heft_all ws as_ ≡ heft_all all as_
     same_all [] h = refl
-    same_all (a ∷ as_) h = rw (same_text (on_clock base) a (no_parts (expression_faults (scope_at before) (on_clock base) a) _ h).0,
-        same_all as_ (no_parts (expression_faults (scope_at before) (on_clock base) a) _ h).1) refl
+    same_all (a ∷ as_) h = rw (
+      same_text (on_clock base) a (no_parts (expression_faults (scope_at before) (on_clock base) a) _ h).0,
+      same_all as_ (no_parts (expression_faults (scope_at before) (on_clock base) a) _ h).1,
+    ) refl
 
   weighed_plain : (before : List ContractStatement) (c : ContractStatement) (ms : List ModeTerms) (ns : ModeNeeds) (ws : Weights) → Weighed before ms ns ws
       → mode_names (c ∷ []) ≡ [] → import_names (c ∷ []) ≡ [] → Weighed (before ++ c ∷ []) ms ns ws
@@ -214,8 +216,11 @@ module _ (p : Program) (k : ℕ) (i : Instance) (sub_terms : ℕ → Terms) (sub
       } in
       let here_placed : AllByRecursion EachPlaced (on_base rs ++ on_base es) = left_part EachPlaced (on_base rs ++ on_base es)
       (flat_map contract_statement_texts cs) a in
-      let light : AllLight weigh (label_heft ws rs) (asked_needs i ns rs) = (tt, labels_light before ms ns ws w rs
-      (no_parts (flags_of (scope_at before) rs) (flags_of (scope_at before) es) z.0).0 (left_part EachPlaced (on_base rs) (on_base es) here_placed)) in
+      let light : AllLight weigh (label_heft ws rs) (asked_needs i ns rs) = (
+        tt,
+        labels_light before ms ns ws w rs
+            (no_parts (flags_of (scope_at before) rs) (flags_of (scope_at before) es) z.0).0 (left_part EachPlaced (on_base rs) (on_base es) here_placed),
+      ) in
       let t : ModeTerms = mode_terms i ms x.text rs es in
       let y : Key × ℕ = (([], x.text), label_heft ws rs) in
       walk_light (before ++ mode x rs es ∷ []) cs (ms ++ t ∷ []) (ns ++ (([], x.text), asked_needs i ns rs) ∷ []) (ws ++ y ∷ []) z.1
@@ -241,16 +246,16 @@ module _ (p : Program) (k : ℕ) (i : Instance) (sub_terms : ℕ → Terms) (sub
       let more_weights : Weights = map (imported_weight x.text b) (sub_needs j) in
       let texts_here : List Text = map (λ r. (on_clock base, r)) as_ in
       walk_light (before ++ «import» j x as_ xs ∷ []) cs (ms ++ more_terms) (ns ++ map (imported_needs (pred j) x.text) (sub_needs j)) (ws ++
-          more_weights) z.1
+      more_weights) z.1
       (right_part EachPlaced texts_here (flat_map contract_statement_texts cs) a) q.1 e
       (map_append (λ m. m.key) ms more_terms ∙ rw (keys, imported_keys j x.text b (sub_terms j).modes (sub_needs j) (sub_keys j)) refl
       ∙ sym (map_append (λ r. r.0) ws more_weights))
       (covers_more p before («import» j x as_ xs) (ms ++ more_terms) (covers_names p (mode_names before) (import_names before ++ x.text ∷ []) (ms ++
-          more_terms)
+      more_terms)
       (covers_import p (mode_names before) (import_names before) ms more_terms x.text v
       (λ u o. imported_named j x.text u (sub_terms j).modes (sub_named _ (contract_named p x.text) q.0 u o)))))
       (pairs_joined weigh ns (map (imported_needs (pred j) x.text) (sub_needs j)) ws more_weights pairs (imported_light weigh b (pred j) x.text light
-          (sub_needs j)))
+      (sub_needs j)))
 
   -- ---- what a call needs of its caller
 
@@ -311,9 +316,10 @@ module _ (p : Program) (k : ℕ) (i : Instance) (sub_terms : ℕ → Terms) (sub
     imports_light (constant x ∷ cs) a = imports_light cs a.1
     imports_light (mode x rs es ∷ cs) a = imports_light cs (right_part EachPlaced (on_base rs ++ on_base es) (flat_map contract_statement_texts cs) a)
     imports_light («import» j x as_ xs ∷ cs) a =
-        let texts_here : List Text = map (λ e. (on_clock base, e)) as_ in
-        (record { arguments = listed_light as_ (left_part EachPlaced texts_here (flat_map contract_statement_texts cs) a); condition = tt },
-        imports_light cs (right_part EachPlaced texts_here (flat_map contract_statement_texts cs) a))
+        let texts_here : List Text = map (λ e. (on_clock base, e)) as_ in (
+          record { arguments = listed_light as_ (left_part EachPlaced texts_here (flat_map contract_statement_texts cs) a); condition = tt },
+          imports_light cs (right_part EachPlaced texts_here (flat_map contract_statement_texts cs) a),
+        )
 
     pub sites_light : AllByRecursion EachPlaced (texts (component_of i)) → AllByRecursion SiteLight (all_sites (component_of i))
     sites_light a =

@@ -1,5 +1,5 @@
 -- Modes by their keys: one that is found has its value where the beat is on, and is found behind more modes too.
-use Rattle.std.proofs.Common.{◌≡◌, ℕ, suc, ◌<◌, Bool, true, false, cond, ◌&&◌, ◌||◌, List, [], ◌∷◌, ◌++◌, map, refl, sym, ap, ◌∙◌, subst, Option, Some, None}
+use Rattle.std.proofs.Common.{◌≡◌, ℕ, ◌<◌, Bool, true, false, cond, ◌&&◌, ◌||◌, List, [], ◌∷◌, ◌++◌, map, refl, ap, ◌∙◌, Some}
 use Rattle.std.specs.Prelude.{option_to_list}
 use Rattle.std.specs.List.{AllByRecursion, list_any}
 use Rattle.std.specs.Map.{lookup}
@@ -14,7 +14,6 @@ use Rattle.lus_meaning.specs.Scene.{Instance}
 use Rattle.lus_meaning.specs.Meaning.{mode_key, same_path, head_stream}
 use Rattle.lus_meaning.specs.Contract.{ModeTerms, mode_streams, mode_terms, all_true, says, imported_mode}
 use Rattle.lus_meaning.specs.Run.{is_typed}
-use Rattle.lus_meaning.specs.Depends.{named_in}
 use Rattle.lus_meaning.proofs.Exists.{self_bytes}
 use Rattle.lus_meaning.proofs.Lists.{or_true, or_left}
 use Rattle.lus_meaning.proofs.Typed.{flags_has, only_typed, on_has}

@@ -1,18 +1,18 @@
 -- The orders of the equations of a declaration.
-use Rattle.std.proofs.Common.{◌≡◌, ◌↔◌, ℕ, ◌<◌, true, false, List, [], ◌∷◌, ◌++◌, map, length, refl, sym, subst}
+use Rattle.std.proofs.Common.{◌≡◌, ◌↔◌, ℕ, List, [], ◌∷◌, map, length, refl, subst}
 use Rattle.std.specs.Prelude.{Contains}
 use Rattle.std.specs.List.{AllByRecursion}
 use Rattle.std.proofs.lemmas.Bool.{false≢true}
-use Rattle.lus_tree.specs.Tree.{Name, text_of, Spelled, Statement, equation, assertion, property, main_mark, ContractStatement, assume, guarantee, ghost_variable, constant, mode, «import», Component, Program}
+use Rattle.lus_tree.specs.Tree.{text_of, Spelled, Statement, equation, assertion, property, main_mark, ContractStatement, assume, guarantee, ghost_variable, constant, mode, «import», Component, Program}
 use Rattle.lus_meaning.specs.Scene.{Instance, component_of, contract_statements, variables}
 use Rattle.lus_meaning.specs.Program.{instance_of}
-use Rattle.lus_meaning.specs.Run.{Equation, equations, ghost_equations, body_equations}
+use Rattle.lus_meaning.specs.Run.{equations, ghost_equations, body_equations}
 use Rattle.lus_meaning.specs.Depends.{left_names}
 use Rattle.lus_meaning.specs.Cycle.{Reaches}
 use Rattle.lus_meaning.specs.Order.{IsEquationOrder, IsLeastEquationOrder, NeedsEquation}
 use Rattle.lus_meaning.specs.WellMade.{AreDistinct}
 use Rattle.lus_meaning.specs.ClockFaults.{components}
-use Rattle.lus_meaning.specs.EquationFaults.{ghost_sides, body_sides, sides, left_faults, DependsOnItself, of_equation, of_left, of_circle}
+use Rattle.lus_meaning.specs.EquationFaults.{ghost_sides, body_sides, sides, left_faults, of_equation, of_left, of_circle}
 use Rattle.lus_meaning.specs.Refusals.{IsTyped, IsChecked}
 use Rattle.lus_meaning.proofs.Lists.{both_parts}
 use Rattle.lus_meaning.proofs.NamesOnce.{at_one, empty_of, instance_named}

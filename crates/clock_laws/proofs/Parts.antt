@@ -1,5 +1,5 @@
 -- What holds of each occurrence in an expression: of the whole of each part, and in a list of all.
-use Rattle.std.proofs.Common.{◌≡◌, ℕ, zero, suc, ◌<◌, Bool, true, false, List, [], ◌∷◌, ◌++◌, flat_map, length, refl, sym, ◌∙◌, arith}
+use Rattle.std.proofs.Common.{◌≡◌, suc, ◌<◌, true, false, List, [], ◌∷◌, ◌++◌, flat_map, length, refl, arith}
 use Rattle.std.specs.Prelude.{Contains}
 use Rattle.std.specs.List.{AllByRecursion}
 use Rattle.std.proofs.lemmas.Bool.{false≢true}
@@ -109,14 +109,28 @@ module _ (Q : Expression → Type 0) (n : Component) where
     each_at_top s (pre p k e) h = (h, each_at_top (before s) e (λ w. absurd (false≢true w)))
     each_at_top s (arrow p k c d) h = (h, each_at_top (within s) c (λ w. absurd (false≢true w)), each_at_top (within s) d (λ w. absurd (false≢true w)))
     each_at_top s (binary p o c d) h = (h, each_at_top (within s) c (λ w. absurd (false≢true w)), each_at_top (within s) d (λ w. absurd (false≢true w)))
-    each_at_top s (choice p c d e) h = (h, each_at_top (within s) c (λ w. absurd (false≢true w)), each_at_top (within s) d (λ w. absurd (false≢true
-        w)), each_at_top (within s) e (λ w. absurd (false≢true w)))
+    each_at_top s (choice p c d e) h = (
+      h,
+      each_at_top (within s) c (λ w. absurd (false≢true w)),
+      each_at_top (within s) d (λ w. absurd (false≢true
+          w)),
+      each_at_top (within s) e (λ w. absurd (false≢true w)),
+    )
     each_at_top s (sampled p c b x) h = (h, each_at_top (moved (clock_of n x.text) s) c (λ w. absurd (false≢true w)))
-    each_at_top s (merged p x c d) h = (h, each_at_top (moved (sampled_by true x.text) s) c (λ w. absurd (false≢true w)), each_at_top (moved
-        (sampled_by false x.text) s) d (λ w. absurd (false≢true w)))
+    each_at_top s (merged p x c d) h = (
+      h,
+      each_at_top (moved (sampled_by true x.text) s) c (λ w. absurd (false≢true w)),
+      each_at_top (moved
+          (sampled_by false x.text) s) d (λ w. absurd (false≢true w)),
+    )
     each_at_top s (call p k f as_) h = (h, inner_among (within s) as_ (λ w. false≢true w))
-    each_at_top s (condact p k c f as_ ds) h = (h, each_at_top (within s) c (λ w. absurd (false≢true w)), inner_among (within s) as_ (λ w. false≢true
-        w), inner_among (within s) ds (λ w. false≢true w))
+    each_at_top s (condact p k c f as_ ds) h = (
+      h,
+      each_at_top (within s) c (λ w. absurd (false≢true w)),
+      inner_among (within s) as_ (λ w. false≢true
+          w),
+      inner_among (within s) ds (λ w. false≢true w),
+    )
     each_at_top s (mode_name p d m) h = h
 
     inner_among : (s : Standing) (as_ : Expressions) → (s.whole_side ≡ true → ⊥) → EachAmong AtTop n s as_

@@ -1,11 +1,9 @@
 -- Where nothing needs itself, each place has a rank above all that it needs: how many places it needs.
-use Rattle.std.proofs.Common.{◌≡◌, ℕ, zero, suc, ◌<◌, ◌≤◌, Bool, true, false, cond, ◌||◌, List, [], ◌∷◌, length, refl, sym, ap, ◌∙◌, subst, arith, Option, Some}
-use Rattle.std.specs.List.{list_any}
+use Rattle.std.proofs.Common.{◌≡◌, ℕ, suc, ◌<◌, ◌≤◌, Bool, true, false, cond, List, [], ◌∷◌, length, refl, sym, subst, arith}
 use Rattle.std.proofs.Math.Logic.{◌⊎◌, inl, inr}
 use Rattle.std.proofs.lemmas.Bool.{false≢true, cases_Bool}
-use Rattle.lus_tree.specs.Tree.{Name}
 use Rattle.lus_meaning.specs.Scene.{Instance}
-use Rattle.lus_meaning.specs.Cycle.{Place, next_places, IsAt, Lowers}
+use Rattle.lus_meaning.specs.Cycle.{Place, Lowers}
 use Rattle.lus_meaning.proofs.BooleanOrder.{IsIn}
 use Rattle.clock_laws.proofs.AllPlaces.{same_spot, spots_equal, all_places, is_member, member_in, spot_complete}
 use Rattle.clock_laws.proofs.Reaching.{RouteOf, needed_by, at_in}

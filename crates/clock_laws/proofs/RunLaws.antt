@@ -1,19 +1,17 @@
 -- A checked declaration has a rank, and so at most one run for given choices.
-use Rattle.std.proofs.Common.{◌≡◌, ℕ, suc, ◌<◌, List, [], ◌∷◌, length, sym, subst, Some}
+use Rattle.std.proofs.Common.{suc, List, length, sym, subst, Some}
 use Rattle.std.specs.Prelude.{Contains}
-use Rattle.lus_tree.specs.Tree.{Name, Component, Program}
-use Rattle.lus_meaning.specs.Value.{Instants}
-use Rattle.lus_meaning.specs.Frame.{Frame}
-use Rattle.lus_meaning.specs.Scene.{Instance, component_of}
+use Rattle.lus_tree.specs.Tree.{Component, Program}
+use Rattle.lus_meaning.specs.Scene.{Instance}
 use Rattle.lus_meaning.specs.Program.{instance_of}
-use Rattle.lus_meaning.specs.Cycle.{Place, IsWay, last_place}
+use Rattle.lus_meaning.specs.Cycle.{Place, last_place}
 use Rattle.lus_meaning.specs.ClockFaults.{components}
 use Rattle.lus_meaning.specs.Refusals.{IsChecked}
 use Rattle.lus_meaning.proofs.Equal.{unique_run}
 use Rattle.lus_meaning.proofs.NamesOnce.{instance_named}
 use Rattle.lus_meaning.proofs.Ranked.{as_rank, ranked_from}
 use Rattle.rule_laws.proofs.Unfolded.{component_within, each_unfolded}
-use Rattle.clock_laws.specs.Laws.{HasRank, NeverReturns, NothingNeedsItself, EachHasRank, OneRunAtMost}
+use Rattle.clock_laws.specs.Laws.{HasRank, NothingNeedsItself, EachHasRank, OneRunAtMost}
 use Rattle.clock_laws.proofs.AllPlaces.{all_places}
 use Rattle.clock_laws.proofs.Circles.{no_circle}
 use Rattle.clock_laws.proofs.Ranks.{rank_here, rank_lowers, rank_bound}

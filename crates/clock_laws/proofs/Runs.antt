@@ -1,11 +1,10 @@
 -- The names of a run are on their clocks.
-use Rattle.std.proofs.Common.{◌≡◌, ℕ, suc}
-use Rattle.lus_meaning.specs.Value.{Instants}
-use Rattle.lus_meaning.specs.Frame.{Frame, Frames, no_frames, with_frame, frame_at, calls_in}
-use Rattle.lus_meaning.specs.Scene.{Scene, Instance, Instances, instance, no_instances, with_instance}
+use Rattle.std.proofs.Common.{ℕ}
+use Rattle.lus_meaning.specs.Frame.{Frames, no_frames, with_frame, frame_at, calls_in}
+use Rattle.lus_meaning.specs.Scene.{Scene, Instances, instance, no_instances, with_instance}
 use Rattle.lus_meaning.specs.Contract.{scene}
-use Rattle.lus_meaning.specs.Run.{active, IsRun, CallsRun}
-use Rattle.clock_laws.specs.Laws.{IsOnClocks, CallsOnClocks, RunsOnClocks}
+use Rattle.lus_meaning.specs.Run.{active, CallsRun}
+use Rattle.clock_laws.specs.Laws.{CallsOnClocks, RunsOnClocks}
 
 mutual
   pub runs_on_clocks : RunsOnClocks

@@ -1,8 +1,8 @@
 -- Two instances of a declaration that are unfolded to their end are one.
-use Rattle.std.proofs.Common.{◌≡◌, List, [], ◌∷◌, Option, Some, None, unwrap_or, refl, sym, ap, ◌∙◌, subst}
+use Rattle.std.proofs.Common.{◌≡◌, List, [], ◌∷◌, Option, Some, unwrap_or, refl, sym, ap, ◌∙◌, subst}
 use Rattle.lus_tree.specs.Tree.{Component, Program}
 use Rattle.lus_meaning.specs.Scene.{Site, Instance, Instances, instance, no_instances, with_instance, component_of, no_component}
-use Rattle.lus_meaning.specs.Program.{all_sites, component_named, constants_in}
+use Rattle.lus_meaning.specs.Program.{all_sites, constants_in}
 use Rattle.rule_laws.specs.Laws.{IsUnfolded, AreUnfolded}
 
 pub some_same : (n m : Component) → Some n ≡ Some m → n ≡ m

@@ -1,9 +1,9 @@
 -- An expression has one value over two lists of modes that say the same of the modes in it.
-use Rattle.std.proofs.Common.{option_map, ◌≡◌, ℕ, ◌≤◌, Bool, true, false, cond, ◌&&◌, List, [], ◌∷◌, refl, ap, arith, Option}
+use Rattle.std.proofs.Common.{option_map, ◌≡◌, ℕ, true, false, ◌&&◌, refl, arith}
 use Rattle.std.specs.Map.{lookup}
 use Rattle.std.specs.Str.{bytes_eq}
-use Rattle.lus_tree.specs.Tree.{Name, text_of, Expression, Expressions, truth, number, name, negation, minus, pre, arrow, binary, choice, sampled, merged, call, condact, mode_name, no_more, more}
-use Rattle.lus_meaning.specs.Value.{Instants, Stream, is, latest}
+use Rattle.lus_tree.specs.Tree.{text_of, Expression, Expressions, truth, number, name, negation, minus, pre, arrow, binary, choice, sampled, merged, call, condact, mode_name, no_more, more}
+use Rattle.lus_meaning.specs.Value.{Instants, is, latest}
 use Rattle.lus_meaning.specs.Frame.{Frame, entry, first_value, call_frame}
 use Rattle.lus_meaning.specs.Scene.{Clock, base, sampled_by, Scene, Instance, ModeStreams, clock_of, component_of, constants_of, call_instance, outputs_of, is_on}
 use Rattle.lus_meaning.specs.Meaning.{value, values, mode_stream}

@@ -1,29 +1,25 @@
 -- In a frame whose names are on their clocks, an expression of a checked program without faults has its value exactly
 -- on its clock, and so has each part of it, where the modes in it have theirs.
-use Rattle.std.proofs.Common.{option_map, ◌≡◌, ℕ, zero, suc, pred, ◌<◌, ◌≤◌, Bool, true, false, cond, not, ◌&&◌, ◌||◌, ◌==◌, List, [], ◌∷◌, ◌++◌, length, map, flat_map, unwrap_or, refl, sym, ap, ◌∙◌, subst, arith, Option, Some, None}
-use Rattle.std.specs.Prelude.{Contains, find, is_none, option_and_then, option_to_list}
+use Rattle.std.proofs.Common.{option_map, ◌≡◌, ℕ, zero, suc, pred, ◌<◌, ◌≤◌, Bool, true, false, cond, not, ◌&&◌, ◌||◌, List, [], ◌∷◌, ◌++◌, map, flat_map, unwrap_or, refl, sym, ap, ◌∙◌, subst, arith, Option, Some, None}
+use Rattle.std.specs.Prelude.{Contains, find, is_none}
 use Rattle.std.specs.List.{AllByRecursion, list_all}
-use Rattle.std.specs.Map.{lookup}
 use Rattle.std.specs.Str.{bytes_eq}
 use Rattle.std.proofs.lemmas.Bool.{false≢true}
-use Rattle.lus_tree.specs.declared.place.Pos.{Pos}
-use Rattle.lus_tree.specs.declared.place.Sort.{Sort}
-use Rattle.lus_tree.specs.declared.place.Sort.TheVariants.{Bool as Flags, Int as Numbers}
+use Rattle.lus_tree.specs.declared.place.Sort.TheVariants.{Bool as Flags}
 use Rattle.lus_tree.specs.Tree.{Name, Spelled, Place, text_of, Expression, Expressions, truth, number, name, negation, minus, pre, arrow, binary, choice, sampled, merged, call, condact, mode_name, Variable, Component, declared_constant, declared_node, declared_contract, Program}
 use Rattle.lus_tree.specs.Reason.{name_unknown, mode_unknown}
 use Rattle.lus_meaning.specs.Value.{Value, Instants, is, has_sort}
 use Rattle.lus_meaning.specs.Frame.{Frame, frame_at, calls_in, firsts_of, entry, first_value, call_frame}
-use Rattle.lus_meaning.specs.Scene.{Clock, base, sampled_by, clock_from, Site, Instance, Instances, instance, no_instances, with_instance, component_of, constants_of, calls_of, instance_at, call_instance, instance_called, outputs_of, Scene, variables, contract_statements, clock_of, is_on}
-use Rattle.lus_meaning.specs.Meaning.{value, mode_stream, call_outputs, head_stream}
+use Rattle.lus_meaning.specs.Scene.{Clock, base, clock_from, Site, Instance, Instances, instance, no_instances, with_instance, component_of, calls_of, instance_at, call_instance, instance_called, outputs_of, Scene, variables, contract_statements, clock_of, is_on}
+use Rattle.lus_meaning.specs.Meaning.{mode_stream, call_outputs, head_stream}
 use Rattle.lus_meaning.specs.Contract.{scene}
-use Rattle.lus_meaning.specs.Program.{listed, site_in, component_named, instance_of}
+use Rattle.lus_meaning.specs.Program.{listed, site_in, instance_of}
 use Rattle.lus_meaning.specs.Run.{is_typed, sort_of, sort_of_name, output_sort, first_sort, first_sorts, have_sorts, active}
-use Rattle.lus_meaning.specs.Occurrences.{Standing, on_clock, Memory, memory_in, memories, gathered, Occurrence, occurs, occurrences, all_occurrences}
+use Rattle.lus_meaning.specs.Occurrences.{Standing, on_clock, memory_in, Occurrence, occurs, occurrences}
 use Rattle.lus_meaning.specs.Scope.{Scope, Entry, entry_of, is_constant_role, is_known, is_constant_name, sort_of_entry, type_of, node_named, component_where, node_if}
-use Rattle.lus_meaning.specs.ExpressionFaults.{expression_faults, part_faults, form_faults, weight_faults, used, used_as_clock, needs_sort, call_faults, default_faults, not_allowed, has_one, mode_is_known}
-use Rattle.lus_meaning.specs.NameFaults.{home}
+use Rattle.lus_meaning.specs.ExpressionFaults.{expression_faults, part_faults, form_faults, weight_faults, used_as_clock, needs_sort, call_faults, default_faults, not_allowed, has_one, mode_is_known}
 use Rattle.lus_meaning.specs.ClockFaults.{components, clock_in, name_clock, stands_on, clock_form_faults, clock_faults_of}
-use Rattle.lus_meaning.specs.Grammatical.{have_no_clock, ghost_names, IsGrammaticalComponent, IsGrammaticalDeclaration, IsGrammatical}
+use Rattle.lus_meaning.specs.Grammatical.{have_no_clock, ghost_names, IsGrammaticalComponent, IsGrammaticalDeclaration}
 use Rattle.lus_meaning.specs.Refusals.{IsChecked}
 use Rattle.lus_meaning.proofs.EachPart.{Each, each_part, each_of_both, each_elsewhere}
 use Rattle.lus_meaning.proofs.Flexible.{constant_flexible}
@@ -39,7 +35,7 @@ use Rattle.rule_laws.proofs.Known.{SameFound, Shows, agrees}
 use Rattle.rule_laws.proofs.Tables.{typed_tables}
 use Rattle.clock_laws.specs.Laws.{IsOnClocks, CallsOnClocks, HasItsValue}
 use Rattle.clock_laws.proofs.Parts.{each_from, Whole, each_whole, AtTop, each_at_top}
-use Rattle.clock_laws.proofs.Stands.{Stands, stands_there, ClockRight, StandsThere, DefaultsFlexible, each_stands}
+use Rattle.clock_laws.proofs.Stands.{stands_there, ClockRight, StandsThere, DefaultsFlexible, each_stands}
 use Rattle.clock_laws.proofs.Valued.{AnyCall, StreamOn, OwnOn, IsOwnOn, value_on}
 
 -- ---- declarations
@@ -486,7 +482,7 @@ module _ (p : Program) (c : IsChecked p) (k : ℕ) (i : Instance) (placed_here :
         let whole : Each (λ o. Good sc full AnyCall known o.standing o.expression) here t e = each_whole
         (GoodPart sc full AnyCall known) here t e (good num) in
         let own : Each (IsOwnOn full m) here t e = each_from IsPart (IsOwnOn full m) (λ o h. own_right o.standing o.expression h) here t e (parts_right
-            num) in
+        num) in
         let fit : Each (λ o. Good sc full AnyCall known o.standing o.expression × StandsThere here o) here t e = each_of_both
         (λ o. Good sc full AnyCall known o.standing o.expression) (StandsThere here)
         (λ o. Good sc full AnyCall known o.standing o.expression × StandsThere here o) (λ o a q. (a, q)) here t e whole (stands_each num) in

@@ -1,5 +1,5 @@
 -- In a checked program no name of a declaration needs itself, in whatever instances of its calls the needs go on.
-use Rattle.std.proofs.Common.{◌≡◌, ℕ, zero, suc, ◌<◌, Bool, true, false, cond, ◌||◌, List, [], ◌∷◌, ◌++◌, map, flat_map, length, unwrap_or, refl, sym, ap, ◌∙◌, subst, arith, Option, Some, None}
+use Rattle.std.proofs.Common.{◌≡◌, suc, ◌<◌, Bool, true, false, cond, ◌||◌, List, [], ◌∷◌, ◌++◌, map, flat_map, length, unwrap_or, refl, sym, ap, ◌∙◌, subst, arith, Some, None}
 use Rattle.std.specs.Prelude.{Contains, find, option_map}
 use Rattle.std.specs.List.{AllByRecursion}
 use Rattle.std.specs.Str.{bytes_eq}
@@ -9,7 +9,7 @@ use Rattle.lus_tree.specs.Tree.{Name, Variable, Component, Program}
 use Rattle.lus_meaning.specs.Scene.{Clock, base, sampled_by, Instance, instance, component_of, clock_from, clock_of, variables}
 use Rattle.lus_meaning.specs.Program.{instance_of}
 use Rattle.lus_meaning.specs.Run.{Equation, equations}
-use Rattle.lus_meaning.specs.Depends.{Need, the_beat, a_name, clock_needs, named_in, left_names}
+use Rattle.lus_meaning.specs.Depends.{Need, clock_needs, named_in, left_names}
 use Rattle.lus_meaning.specs.Cycle.{Place, place_of, next_places, Reaches, declared_needs, defined_needs, own_needs}
 use Rattle.lus_meaning.specs.WellMade.{AreDistinct}
 use Rattle.lus_meaning.specs.ClockFaults.{components}
@@ -172,8 +172,11 @@ module _ (p : Program) (c : IsChecked p) (i : Instance) (same : i ≡ instance_o
     where
       further : (w : Name) → clock_names (clock_of here x) ≡ w ∷ [] → named_in w (left_names here) ≡ false → RouteOf i (top x) [] (top w) → Along w z
           → Along x z
-      further w k h s (passes v l to from) = passes v l (([] ++ top w ∷ to.0), joined same_spot spots_equal (λ q. next_places i q.0 q.1)
-          (top x) (top w) (top v) [] to.0 s to.1) from
+      further w k h s (passes v l to from) = passes v l (
+        ([] ++ top w ∷ to.0),
+        joined same_spot spots_equal (λ q. next_places i q.0 q.1)
+            (top x) (top w) (top v) [] to.0 s to.1,
+      ) from
       further w k h s (by_clocks next rest chain end) = by_clocks w (next ∷ rest) (k, h, chain) end
 
       cases : (w : Name) → clock_names (clock_of here x) ≡ w ∷ [] → RouteOf i (top x) [] (top w) → RouteOf i (top w) ms (top z) → (b : Bool)

@@ -1,18 +1,18 @@
 -- An expression without faults has its value exactly on its clock, where its names, its calls and its modes have theirs.
-use Rattle.std.proofs.Common.{option_map, ◌≡◌, ℕ, zero, suc, ◌<◌, ◌≤◌, Bool, true, false, cond, ◌&&◌, List, [], ◌∷◌, pos, refl, sym, arith, Option, Some, None}
+use Rattle.std.proofs.Common.{option_map, ◌≡◌, ℕ, ◌<◌, true, false, cond, ◌&&◌, pos, refl, sym, arith, Option, Some, None}
 use Rattle.std.specs.Map.{lookup}
 use Rattle.std.specs.Str.{bytes_eq}
 use Rattle.lus_tree.specs.declared.place.Sort.{Sort}
 use Rattle.lus_tree.specs.declared.place.Sort.TheVariants.{Bool as Flags, Int as Numbers}
 use Rattle.lus_tree.specs.Tree.{Name, text_of, Expression, truth, number, name, negation, minus, pre, arrow, binary, choice, sampled, merged, call, condact, mode_name, no_more, more}
-use Rattle.lus_meaning.specs.Value.{Value, flag, whole, is, has_sort, not_value, minus_value, apply, choose, was_on, latest}
+use Rattle.lus_meaning.specs.Value.{Value, flag, whole, is, not_value, minus_value, apply, choose, was_on, latest}
 use Rattle.lus_meaning.specs.Frame.{entry, first_value}
-use Rattle.lus_meaning.specs.Scene.{Clock, base, sampled_by, Scene, clock_of, component_of, constants_of, instance_called, is_on}
-use Rattle.lus_meaning.specs.Meaning.{value, values, constant_or, mode_stream, call_outputs, head_stream, merge_values}
+use Rattle.lus_meaning.specs.Scene.{Clock, sampled_by, Scene, clock_of, component_of, constants_of, instance_called, is_on}
+use Rattle.lus_meaning.specs.Meaning.{value, values, constant_or, mode_stream, call_outputs, head_stream}
 use Rattle.lus_meaning.specs.Occurrences.{Standing, within, before, moved, Occurrence}
 use Rattle.lus_meaning.specs.Run.{is_typed, sort_of, sort_of_name, sort_of_operator, output_sort}
 use Rattle.lus_meaning.proofs.EachPart.{Each}
-use Rattle.lus_meaning.proofs.Typed.{Fits, FitsName, HeldAt, held_head, on_has, only_typed, not_has, minus_has, has_as, latest_has, either, apply_has, choose_has, on_from_is, merge_typed, typed_as}
+use Rattle.lus_meaning.proofs.Typed.{Fits, FitsName, held_head, on_has, only_typed, not_has, minus_has, has_as, latest_has, either, apply_has, choose_has, on_from_is, merge_typed, typed_as}
 
 -- the rules of calls ask no more of a frame here; that is among what is asked of each part
 abbrev pub AnyCall : Clock → ℕ → Name → Type 0

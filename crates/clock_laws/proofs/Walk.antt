@@ -1,21 +1,20 @@
 -- The items of a contract in turn, in a frame whose names are on their clocks: their expressions have their values
 -- exactly on their clocks, and what each says has a truth value exactly where the frame is active.
-use Rattle.std.proofs.Common.{option_map, ◌≡◌, ℕ, zero, suc, ◌<◌, Bool, true, false, cond, not, ◌&&◌, ◌||◌, List, [], ◌∷◌, ◌++◌, map, flat_map, refl, sym, ap, ◌∙◌, subst, append_assoc, Option, Some, None}
+use Rattle.std.proofs.Common.{option_map, ◌≡◌, ℕ, ◌<◌, Bool, true, false, not, ◌&&◌, ◌||◌, List, [], ◌∷◌, ◌++◌, map, flat_map, refl, sym, ap, ◌∙◌, subst, append_assoc, Option, Some}
 use Rattle.std.specs.Prelude.{Contains, option_to_list}
 use Rattle.std.specs.List.{AllByRecursion}
 use Rattle.std.specs.Map.{lookup}
 use Rattle.std.proofs.Math.Path.{fun_ext}
 use Rattle.std.proofs.lemmas.Bool.{false≢true}
 use Rattle.lus_tree.specs.declared.expression.Operator.TheVariants.{Implies}
-use Rattle.lus_tree.specs.declared.place.Sort.{Sort}
-use Rattle.lus_tree.specs.declared.place.Sort.TheVariants.{Bool as Flags, Int as Numbers}
+use Rattle.lus_tree.specs.declared.place.Sort.TheVariants.{Bool as Flags}
 use Rattle.lus_tree.specs.Tree.{Name, Spelled, text_of, Expression, truth, number, name, negation, minus, pre, arrow, binary, choice, sampled, merged, call, condact, mode_name, Labelled, ContractStatement, assume, guarantee, ghost_variable, constant, mode, «import», Component, Program}
 use Rattle.lus_tree.specs.Reason.{type_clash, mode_unknown}
 use Rattle.lus_meaning.specs.Value.{Value, absent, flag, whole, Instants, apply}
 use Rattle.lus_meaning.specs.Frame.{Frame, call_frame}
 use Rattle.lus_meaning.specs.Scene.{base, Site, Instance, Scene, component_of, call_instance}
 use Rattle.lus_meaning.specs.Meaning.{mode_key, head_stream, value}
-use Rattle.lus_meaning.specs.Contract.{Kind, ensured, assumed, guaranteed, Property, ModeTerms, Terms, terms, terms_after, mode_streams, mode_terms, imported, imported_mode, says, item, under, scene, scene_with}
+use Rattle.lus_meaning.specs.Contract.{ensured, Property, ModeTerms, Terms, terms, terms_after, mode_streams, mode_terms, imported, imported_mode, says, item, under, scene, scene_with}
 use Rattle.lus_meaning.specs.Program.{import_site, instance_of}
 use Rattle.lus_meaning.specs.Run.{is_typed, sort_of, active}
 use Rattle.lus_meaning.specs.Occurrences.{Standing, on_clock, as_side, Occurrence, occurs, occurrences, on_base, Text, contract_statement_texts, begin}
@@ -35,7 +34,7 @@ use Rattle.rule_laws.specs.Laws.{placed, HasItsPlace}
 use Rattle.rule_laws.proofs.Known.{contract_statement_shows}
 use Rattle.rule_laws.proofs.Worths.{same_sorts}
 use Rattle.clock_laws.specs.Laws.{IsOnClocks, HasItsValue, IsContractSaid}
-use Rattle.clock_laws.proofs.Contracts.{side_top, CoversAll, known_key, covers_more, covers_plain, covers_mode, covers_import, covers_names, covers_imports, Covers, Extends, extends}
+use Rattle.clock_laws.proofs.Contracts.{side_top, CoversAll, known_key, covers_more, covers_plain, covers_mode, covers_import, covers_names, covers_imports, Extends, extends}
 use Rattle.clock_laws.proofs.Fixed.{constant_clocks}
 use Rattle.clock_laws.proofs.Modes.{has_key, ModesHave, found_mode, found_before, SaysHave, mode_has, mode_named, imported_have, imported_named}
 use Rattle.clock_laws.proofs.Parts.{each_from}
@@ -76,9 +75,11 @@ ensures_has : (i : Instance) (ms : List ModeTerms) (m : ℕ) (b : Instants) (f :
     (mode_terms i ms x rs es ∷ []) → (ls : List Labelled) → AllByRecursion (SaysHave i ms m b f) ls → AllByRecursion (PropertyHas m b f)
     (map (λ l. under (mode_terms i ms x rs es).requires_all (item i ms (ensured x) l)) ls)
 ensures_has i ms m b f x rs es h [] a = tt
-ensures_has i ms m b f x rs es h (l ∷ ls) a =
-    ((λ t q. implied_has (b t) ((mode_terms i ms x rs es).requires_all b f t) (says i ms l b f t) (h.0 t q) (a.0 t q)), ensures_has i ms m b f x rs es
-        h ls a.1)
+ensures_has i ms m b f x rs es h (l ∷ ls) a = (
+  (λ t q. implied_has (b t) ((mode_terms i ms x rs es).requires_all b f t) (says i ms l b f t) (h.0 t q) (a.0 t q)),
+  ensures_has i ms m b f x rs es
+      h ls a.1,
+)
 
 imported_properties : (m : ℕ) (b : Instants) (f : Frame) (k : ℕ) (qs : List Property) → AllByRecursion (PropertyHas m b (call_frame f k)) qs
     → AllByRecursion (PropertyHas m b f) (map (imported k) qs)
@@ -314,7 +315,7 @@ module _ (p : Program) (c : IsChecked p) (k : ℕ) (i : Instance) (placed_here :
         (no_parts (contract_statement_clock_faults (component_of i) (assume l)) _ g).0 num.0 in
         let r : Walked (before ++ assume l ∷ []) cs ms = walk (before ++ assume l ∷ []) cs ms
         (no_parts (contract_statement_faults (scope_at before) (assume l)) _ h).1 (no_parts (contract_statement_clock_faults (component_of i) (assume
-            l)) _ g).1
+        l)) _ g).1
         num.1 q e (known_plain before (assume l) ms w refl refl) in
         let n = next before cs (assume l) ms ms (s.has, tt) r in
         record { known = n.0; texts = n.1; assumes = (s.says_has, r.assumes); guarantees = r.guarantees }
@@ -333,7 +334,7 @@ module _ (p : Program) (c : IsChecked p) (k : ℕ) (i : Instance) (placed_here :
         let two = no_parts _ (expression_faults (scope_at before) (as_side base) x) z.0 in
         let a : EachHas (as_side base, x) = clean_has before ms w (scope_at before) refl refl refl (as_side base) x
         (clean_at before (as_side base) x two.1 y.0 (λ _. side_top (scope_at before) v.name [] x (no_parts _ (sides_fit (scope_at before) (v.name ∷ [])
-            x) two.0).1))
+        x) two.0).1))
         num.0 in
         let r : Walked (before ++ ghost_variable v x ∷ []) cs ms = walk (before ++ ghost_variable v x ∷ []) cs ms z.1 y.1 num.1 q e
         (known_plain before (ghost_variable v x) ms w refl refl) in
@@ -358,10 +359,10 @@ module _ (p : Program) (c : IsChecked p) (k : ℕ) (i : Instance) (placed_here :
         let here_num : AllByRecursion EachNumbered (on_base rs ++ on_base es) = left_part EachNumbered (on_base rs ++ on_base es)
         (flat_map contract_statement_texts cs) num in
         let a : AllByRecursion (LabelRight ms) rs = labels_right before ms w rs (no_parts (flags_of (scope_at before) rs) (flags_of (scope_at before)
-            es) z.0).0
+        es) z.0).0
         (no_parts (all_on_base (component_of i) rs) (all_on_base (component_of i) es) y.0).0 (left_part EachNumbered (on_base rs) (on_base es) here_num) in
         let d : AllByRecursion (LabelRight ms) es = labels_right before ms w es (no_parts (flags_of (scope_at before) rs) (flags_of (scope_at before)
-            es) z.0).1
+        es) z.0).1
         (no_parts (all_on_base (component_of i) rs) (all_on_base (component_of i) es) y.0).1 (right_part EachNumbered (on_base rs) (on_base es) here_num) in
         let t : ModeTerms = mode_terms i ms x.text rs es in
         let have : ModesHave m b f (t ∷ []) = (mode_has i ms m b f x.text rs es (labels_say ms rs a), tt) in
@@ -379,7 +380,7 @@ module _ (p : Program) (c : IsChecked p) (k : ℕ) (i : Instance) (placed_here :
         let y = no_parts (contract_statement_clock_faults (component_of i) («import» j x as_ xs)) _ g in
         let texts_here : List Text = map (λ a. (on_clock base, a)) as_ in
         let a : AllByRecursion EachHas texts_here = arguments_have before ms w as_ (no_parts (flat_map (expression_faults (scope_at before) (on_clock
-            base)) as_) _ z.0).0
+        base)) as_) _ z.0).0
         y.0 (left_part EachNumbered texts_here (flat_map contract_statement_texts cs) num) in
         let its : IsContractSaid m b (call_frame f j) (sub j) = sub_have _ (contract_named p x.text) q.0
         (import_on _ (contract_named p x.text) (λ t. and_true (b t)) q.0) in

@@ -1,14 +1,14 @@
 -- A weight for each call of a declaration: what its arguments need of other calls is of calls of less weight.
-use Rattle.std.proofs.Common.{option_map, ◌≡◌, ℕ, zero, suc, pred, ◌+◌, ◌<◌, ◌≤◌, Bool, true, false, cond, ◌||◌, List, [], ◌∷◌, ◌++◌, map, flat_map, unwrap_or, refl, sym, ap, ◌∙◌, subst, arith, Option, Some, None}
+use Rattle.std.proofs.Common.{option_map, ◌≡◌, ℕ, zero, suc, pred, ◌+◌, ◌≤◌, Bool, true, false, cond, ◌||◌, List, [], ◌∷◌, ◌++◌, map, unwrap_or, refl, ap, ◌∙◌, subst, arith, Option, Some, None}
 use Rattle.std.specs.Prelude.{option_to_list}
 use Rattle.std.specs.List.{AllByRecursion, list_any}
 use Rattle.std.specs.Map.{lookup}
 use Rattle.std.proofs.lemmas.Bool.{false≢true}
-use Rattle.lus_tree.specs.Tree.{Name, text_of, Expression, Expressions, truth, number, name, negation, minus, pre, arrow, binary, choice, sampled, merged, call, condact, mode_name, no_more, more, Labelled, Component}
+use Rattle.lus_tree.specs.Tree.{Name, text_of, Expression, Expressions, truth, number, name, negation, minus, pre, arrow, binary, choice, sampled, merged, call, condact, mode_name, no_more, more, Component}
 use Rattle.lus_meaning.specs.Scene.{Clock, base, sampled_by, Manner, plain, while_true, as_import, Site, Instance, Instances, no_instances, with_instance, component_of, call_instance, outputs_of, clock_of}
 use Rattle.lus_meaning.specs.Meaning.{mode_key}
 use Rattle.lus_meaning.specs.Program.{listed}
-use Rattle.lus_meaning.specs.Occurrences.{Standing, within, before, moved, Occurrence}
+use Rattle.lus_meaning.specs.Occurrences.{Standing, within, moved, Occurrence}
 use Rattle.lus_meaning.specs.Depends.{Need, the_beat, a_name, inside, ModeNeeds, known_needs, clock_needs, output_needs, needs, needs_each, imported_needs}
 use Rattle.lus_meaning.proofs.EachPart.{Each, EachAmong}
 use Rattle.lus_meaning.proofs.Lists.{both_parts, all_from}
@@ -141,9 +141,12 @@ module _ (weigh : ℕ → ℕ) where
             (two_light (heft ws a) (heft ws b + heft ws d) (needs i ns c a) (needs i ns c b ++ needs i ns c d) (light_needs a (within t) c h.1)
             (two_light (heft ws b) (heft ws d) (needs i ns c b) (needs i ns c d) (light_needs b (within t) c h.2) (light_needs d (within t) c h.3)))
         light_needs (sampled p a b x) t c h = (tt, light_needs a (moved (clock_of (component_of i) x.text) t) (clock_of (component_of i) x.text) h.1)
-        light_needs (merged p x a b) t c h = (tt, two_light (heft ws a) (heft ws b) (needs i ns (sampled_by true x.text) a)
-            (needs i ns (sampled_by false x.text) b) (light_needs a (moved (sampled_by true x.text) t) (sampled_by true x.text) h.1)
-            (light_needs b (moved (sampled_by false x.text) t) (sampled_by false x.text) h.2))
+        light_needs (merged p x a b) t c h = (
+          tt,
+          two_light (heft ws a) (heft ws b) (needs i ns (sampled_by true x.text) a)
+              (needs i ns (sampled_by false x.text) b) (light_needs a (moved (sampled_by true x.text) t) (sampled_by true x.text) h.1)
+              (light_needs b (moved (sampled_by false x.text) t) (sampled_by false x.text) h.2),
+        )
         light_needs (call p k f as_) t c h =
             let e : weigh (pred k) ≡ suc (hefts ws as_) = h.0 ∙ ap suc (listed_heft ws as_) in
             outputs_light (suc (hefts ws as_)) (pred k) (omega arith) (outputs_of (call_instance i k))

@@ -1,7 +1,14 @@
 //! The laws of clocks, orders and runs.
 
 ghost use Rattle.clock_laws.specs.Laws.{
-    ExpressionsOnClocks, ContractsOnClocks, RunsOnClocks, OrderOrCircle, OneOrderOfEach, NothingNeedsItself, EachHasRank, OneRunAtMost,
+  ExpressionsOnClocks,
+  ContractsOnClocks,
+  RunsOnClocks,
+  OrderOrCircle,
+  OneOrderOfEach,
+  NothingNeedsItself,
+  EachHasRank,
+  OneRunAtMost,
 };
 
 /// In a checked program, in a frame whose names have their values exactly on their clocks, at every depth of calls,
