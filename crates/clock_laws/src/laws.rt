@@ -29,8 +29,8 @@ pub fn equation_orders()
     ensures least { OneOrderOfEach }
 {}
 
-/// In the tree of instances of a declaration of a checked program nothing needs itself at one instant, at whatever depth
-/// of calls; so each name has a rank above those of all that it needs.
+/// In the tree of instances of a declaration of a checked program nothing needs itself at one instant, at whatever
+/// depth of calls; so each name has a rank above those of all that it needs.
 pub fn ranks()
     ensures returns { NothingNeedsItself }
     ensures ranked { EachHasRank }
