@@ -94,11 +94,11 @@ placed_of j (declared_contract m ∷ ds) n (suc k, l, e) =
 -- a declaration whose items have no faults
 pub record IsFaultless (p : Program) (k : ℕ) (n : Component) : Type 0 where
   pub contract : contract_faults (home p k n) [] (contract_statements n) ≡ []
-  constants : local_constant_faults (home p k n) 0 n.constants ≡ []
-  statements : flat_map (statement_faults (body_scope (home p k n))) n.body ≡ []
-  contract_clocks : flat_map (contract_statement_clock_faults n) (contract_statements n) ≡ []
-  statement_clocks : flat_map (statement_clock_faults n) n.body ≡ []
-  lefts : list_all has_left_name n.body ≡ true
+  pub constants : local_constant_faults (home p k n) 0 n.constants ≡ []
+  pub statements : flat_map (statement_faults (body_scope (home p k n))) n.body ≡ []
+  pub contract_clocks : flat_map (contract_statement_clock_faults n) (contract_statements n) ≡ []
+  pub statement_clocks : flat_map (statement_clock_faults n) n.body ≡ []
+  pub lefts : list_all has_left_name n.body ≡ true
 
 pub faultless : (p : Program) → IsChecked p → (k : ℕ) (n : Component) → Contains (components p) n → Contains (placed 0 p) (k, n) → IsFaultless p k n
 faultless p c k n j h =

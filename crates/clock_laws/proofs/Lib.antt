@@ -22,3 +22,5 @@ pub mod TopCircles
 pub mod Circles
 pub mod Ranks
 pub mod RunLaws
+pub mod CleanAll
+pub mod Sites
