@@ -217,7 +217,7 @@ module _ (i : Instance) (is : Instances) (weigh : ℕ → ℕ)
 -- ---- the tree
 
 module _ (p : Program) (c : IsChecked p) where
-  placed_texts : (i : Instance) → Contains (components p) (component_of i) → i ≡ instance_of p (component_of i) → AllByRecursion
+  pub placed_texts : (i : Instance) → Contains (components p) (component_of i) → i ≡ instance_of p (component_of i) → AllByRecursion
       (λ x. Each (λ o. AllByRecursion (λ d. HasItsPlace i (node_named p d.callee) d) (site_in o.standing o.expression)) (component_of i) x.0 x.1)
       (texts (component_of i))
   placed_texts i j same =

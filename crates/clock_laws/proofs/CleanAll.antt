@@ -30,7 +30,8 @@ module _ (h : Home) where
   clean_flags s a b (l ∷ ls) q = (clean_flag s a b l.value (no_parts (flag_faults s l.value) (flags_of s ls) q).0,
       clean_flags s a b ls (no_parts (flag_faults s l.value) (flags_of s ls) q).1)
 
-  clean_arguments : (s : Scope) → s.program ≡ h.program → s.owner ≡ h.owner → (as_ : List Expression) → flat_map (expression_faults s (on_clock base)) as_ ≡ []
+  clean_arguments : (s : Scope) → s.program ≡ h.program → s.owner ≡ h.owner → (as_ : List Expression)
+      → flat_map (expression_faults s (on_clock base)) as_ ≡ []
       → AllByRecursion Clean (map (λ e. (on_clock base, e)) as_)
   clean_arguments s a b [] q = tt
   clean_arguments s a b (e ∷ as_) q = (
@@ -52,7 +53,8 @@ module _ (h : Home) where
     scope = contract_statement_scope h before;
     program = refl;
     owner = refl;
-    types = (no_parts (not_allowed (contract_statement_scope h before) c.value) (expression_faults (contract_statement_scope h before) (on_clock base) c.value)
+    types = (no_parts (not_allowed (contract_statement_scope h before) c.value) (expression_faults (contract_statement_scope h before) (on_clock base)
+        c.value)
         (no_parts _ _ q).0).1;
   }, tt)
   clean_statement before (mode m rs es) q = both_parts Clean (on_base rs) (on_base es)
@@ -75,7 +77,8 @@ module _ (h : Home) where
           scope = constant_scope h j;
           program = refl;
           owner = refl;
-          types = (no_parts (not_allowed (constant_scope h j) c.value) (expression_faults (constant_scope h j) (on_clock base) c.value) (no_parts _ _ z.0).0).1;
+          types = (no_parts (not_allowed (constant_scope h j) c.value) (expression_faults (constant_scope h j) (on_clock base) c.value) (no_parts _ _
+              z.0).0).1;
         },
         clean_constants (suc j) cs z.1,
       )

@@ -100,7 +100,7 @@ left_definable n e z h = go (body_lefts n) (none_mapped (λ w. if_so (not (named
         here (inr f) r = r (subst (λ c. (c || named_in z (map text_of ws)) ≡ true) f h)
 
 -- what may be defined, and behind it the ghost variables
-variables_apart : (n : Component) → names_of (variables n) ≡ names_of n.inputs ++ (definable n ++ names_of (ghosts (contract_statements n)))
+pub variables_apart : (n : Component) → names_of (variables n) ≡ names_of n.inputs ++ (definable n ++ names_of (ghosts (contract_statements n)))
 variables_apart n =
     map_append (λ (v : Variable). v.name.text) (n.inputs ++ n.outputs ++ n.locals) (ghosts (contract_statements n))
     ∙ ap (λ xs. xs ++ names_of (ghosts (contract_statements n)))

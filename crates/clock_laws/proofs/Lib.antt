@@ -24,3 +24,4 @@ pub mod Ranks
 pub mod RunLaws
 pub mod CleanAll
 pub mod Sites
+pub mod Made

@@ -67,7 +67,8 @@ held_fits : (sc : Scope) (w : Bool) (a : Expression) (f : Spelled) (as_ : List E
 held_fits sc w a f as_ None e = tt
 held_fits sc w a f as_ (Some m) e = counted sc w f as_ m e
 
-held_parts : (sc : Scope) (w : Bool) (q : Place) (j : ℕ) (a : Expression) (g : Spelled) (as_ ds : Expressions) → form_faults sc w (condact q j a g as_ ds) ≡ []
+held_parts : (sc : Scope) (w : Bool) (q : Place) (j : ℕ) (a : Expression) (g : Spelled) (as_ ds : Expressions)
+    → form_faults sc w (condact q j a g as_ ds) ≡ []
     → (call_faults sc w g (listed as_) (node_named sc.program g.text) ≡ []) × (default_faults sc g (listed ds) (node_named sc.program g.text) ≡ [])
 held_parts sc w q j a g as_ ds h =
     let three : needs_sort sc Flags a ++ call_faults sc w g (listed as_) (node_named sc.program g.text) ++ default_faults sc g (listed ds)
@@ -75,7 +76,8 @@ held_parts sc w q j a g as_ ds h =
     let two = no_parts _ (default_faults sc g (listed ds) (node_named sc.program g.text)) three in
     ((no_parts (needs_sort sc Flags a) _ two.0).1, two.1)
 
-site_fits : (p : Program) (sc : Scope) → sc.program ≡ p → (t : Standing) (e : Expression) → part_faults sc (occurs t e) ≡ [] → AllByRecursion (SiteFit p) (site_in t e)
+site_fits : (p : Program) (sc : Scope) → sc.program ≡ p → (t : Standing) (e : Expression) → part_faults sc (occurs t e) ≡ []
+    → AllByRecursion (SiteFit p) (site_in t e)
 site_fits p sc s t (call q k f as_) h = (plain_fits sc t.whole_side f (listed as_) (node_named p f.text)
     (subst (λ r. call_faults sc t.whole_side f (listed as_) (node_named r f.text) ≡ []) s
     (no_parts (form_faults sc t.whole_side (call q k f as_)) (weight_faults sc (call q k f as_)) h).0), tt)
@@ -107,7 +109,8 @@ same_lengths : (sc : Scope) (f : Spelled) (as_ : List Expression) (xs : List Spe
     (as_import (map text_of xs)) as_ o
 same_lengths sc f as_ xs None e = tt
 same_lengths sc f as_ xs (Some m) e =
-    let q : (length m.inputs == length as_) && (length m.outputs == length xs) ≡ true = not_false ((length m.inputs == length as_) && (length m.outputs == length xs))
+    let q : (length m.inputs == length as_) && (length m.outputs == length xs) ≡ true = not_false ((length m.inputs == length as_) && (length m.outputs
+        == length xs))
         (not_so (not ((length m.inputs == length as_) && (length m.outputs == length xs))) _ f.at (no_parts _ _ e).0) in
     let r = both_true (length m.inputs == length as_) (length m.outputs == length xs) q in
     (sym (eqb-true (length m.inputs) (length as_) r.0), mapped xs ∙ sym (eqb-true (length m.outputs) (length xs) r.1))
@@ -116,10 +119,12 @@ same_lengths sc f as_ xs (Some m) e =
     mapped [] = refl
     mapped (y ∷ ys) = ap suc (mapped ys)
 
-imports_fit : (p : Program) (k : ℕ) (n : Component) (before cs : List ContractStatement) → contract_faults (home p k n) before cs ≡ [] → AllByRecursion (SiteFit p)
+imports_fit : (p : Program) (k : ℕ) (n : Component) (before cs : List ContractStatement) → contract_faults (home p k n) before cs ≡ []
+    → AllByRecursion (SiteFit p)
     (flat_map import_site cs)
 imports_fit p k n before [] q = tt
-imports_fit p k n before (assume l ∷ cs) q = imports_fit p k n (before ++ assume l ∷ []) cs (no_parts _ (contract_faults (home p k n) (before ++ assume l ∷ []) cs) q).1
+imports_fit p k n before (assume l ∷ cs) q = imports_fit p k n (before ++ assume l ∷ []) cs (no_parts _ (contract_faults (home p k n) (before ++ assume
+    l ∷ []) cs) q).1
 imports_fit p k n before (guarantee l ∷ cs) q = imports_fit p k n (before ++ guarantee l ∷ []) cs
     (no_parts _ (contract_faults (home p k n) (before ++ guarantee l ∷ []) cs) q).1
 imports_fit p k n before (ghost_variable v e ∷ cs) q = imports_fit p k n (before ++ ghost_variable v e ∷ []) cs
@@ -133,7 +138,8 @@ imports_fit p k n before («import» j f as_ xs ∷ cs) q =
     let z = no_parts (contract_statement_faults sc («import» j f as_ xs)) (contract_faults (home p k n) (before ++ «import» j f as_ xs ∷ []) cs) q in
     let two = no_parts (flat_map (expression_faults sc (on_clock base)) as_) (flat_map (output_known sc) xs ++ import_fits sc f as_ xs
         (contract_named sc.program f.text)) z.0 in
-    (same_lengths sc f as_ xs (contract_named p f.text) (no_parts (flat_map (output_known sc) xs) (import_fits sc f as_ xs (contract_named p f.text)) two.1).1,
+    (same_lengths sc f as_ xs (contract_named p f.text) (no_parts (flat_map (output_known sc) xs) (import_fits sc f as_ xs (contract_named p f.text))
+        two.1).1,
     imports_fit p k n (before ++ «import» j f as_ xs ∷ []) cs z.1)
 
 pub all_sites_fit : (p : Program) (k : ℕ) (n : Component) → AllByRecursion (CleanText p n) (texts n)
@@ -166,7 +172,8 @@ outputs_length : (s : Scene) (k : ℕ) → length (call_outputs s k) ≡ length 
 outputs_length s k = mapped_length (λ x. entry (call_frame s.frame k) x) (outputs_of (call_instance s.place k))
     ∙ mapped_length (λ v. v.name.text) (component_of (call_instance s.place k)).outputs
 
-outputs_counted : (sc : Scope) (xs : List Spelled) (e : Expression) (f : Spelled) (m : Component) → outputs_fit sc xs e f (Some m) ≡ [] → length m.outputs ≡ length xs
+outputs_counted : (sc : Scope) (xs : List Spelled) (e : Expression) (f : Spelled) (m : Component) → outputs_fit sc xs e f (Some m) ≡ []
+    → length m.outputs ≡ length xs
 outputs_counted sc xs e f m h = eqb-true (length m.outputs) (length xs) (is_so (length m.outputs == length xs) _ _ _ h)
 
 defaults_counted : (sc : Scope) (f : Spelled) (ds : List Expression) (m : Component) → default_faults sc f ds (Some m) ≡ [] → length m.outputs ≡ length ds

@@ -12,6 +12,8 @@ use Rattle.lus_meaning.specs.Run.{sort_of, is_typed, first_sorts, have_sorts, ac
 use Rattle.lus_meaning.specs.Occurrences.{Occurrence, all_occurrences}
 use Rattle.lus_meaning.specs.Program.{instance_of}
 use Rattle.lus_meaning.specs.Depends.{Rank, IsRanked, SameChoices}
+use Rattle.lus_meaning.specs.WellMade.{IsWellMade}
+use Rattle.lus_meaning.specs.Laws.{ChoicesFit}
 use Rattle.lus_meaning.specs.Cycle.{Place, IsWay, last_place}
 use Rattle.lus_meaning.specs.Order.{IsEquationOrder, IsLeastEquationOrder}
 use Rattle.lus_meaning.specs.ClockFaults.{components}
@@ -107,3 +109,9 @@ abbrev pub OneRunAtMost : Type 0
 OneRunAtMost =
     OfEach (λ p n. (m : ℕ) (b : Instants) (f g : Frame) → IsRun (instance_of p n) m b f → IsRun (instance_of p n) m b g →
     SameChoices (instance_of p n) [] m f g → f ≡ g)
+
+-- the instance of each declaration is well made for choices that fit: what a run is computed from has the right numbers
+-- of names and values
+abbrev pub EachWellMade : Type 0
+EachWellMade =
+    OfEach (λ p n. (m : ℕ) (c : Frame) → ChoicesFit (instance_of p n) m c → IsWellMade (instance_of p n) [] c)

@@ -9,6 +9,7 @@ ghost use Rattle.clock_laws.specs.Laws.{
   NothingNeedsItself,
   EachHasRank,
   OneRunAtMost,
+  EachWellMade,
 };
 
 /// In a checked program, in a frame whose names have their values exactly on their clocks, at every depth of calls,
@@ -40,4 +41,11 @@ pub fn ranks()
 /// of its inputs and free names.
 pub fn one_run_at_most()
     ensures { OneRunAtMost }
+{}
+
+/// A declaration of a checked program is well made for choices that fit, and so is what it calls, at every depth: each
+/// name is given by the caller or defined at most once, equations have as many values as names, calls as many arguments
+/// as inputs, and first values have their types.
+pub fn well_made()
+    ensures { EachWellMade }
 {}

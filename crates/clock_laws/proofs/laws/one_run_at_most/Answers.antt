@@ -1,5 +1,3 @@
-use Rattle.clock_laws.proofs.Sites.{side_counted}
-use Rattle.clock_laws.proofs.CleanAll.{clean_texts}
 use Rattle.clock_laws.proofs.RunLaws.{one_run_at_most}
 use Rattle.clock_laws.proofs.laws.one_run_at_most.Goals as goal
 
