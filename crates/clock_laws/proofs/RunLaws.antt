@@ -10,10 +10,13 @@ use Rattle.lus_meaning.specs.Refusals.{IsChecked}
 use Rattle.lus_meaning.proofs.Equal.{unique_run}
 use Rattle.lus_meaning.proofs.NamesOnce.{instance_named}
 use Rattle.lus_meaning.proofs.Ranked.{as_rank, ranked_from}
+use Rattle.lus_meaning.proofs.Stable.{rounds}
+use Rattle.lus_meaning.proofs.UniqueFrame.{exists_run}
 use Rattle.rule_laws.proofs.Unfolded.{component_within, each_unfolded}
-use Rattle.clock_laws.specs.Laws.{HasRank, NothingNeedsItself, EachHasRank, OneRunAtMost}
+use Rattle.clock_laws.specs.Laws.{HasRank, NothingNeedsItself, EachHasRank, OneRunAtMost, ComputedRuns}
 use Rattle.clock_laws.proofs.AllPlaces.{all_places}
 use Rattle.clock_laws.proofs.Circles.{no_circle}
+use Rattle.clock_laws.proofs.Made.{each_well_made}
 use Rattle.clock_laws.proofs.Ranks.{rank_here, rank_lowers, rank_bound}
 use Rattle.clock_laws.proofs.Reaching.{RouteOf, way_routes}
 
@@ -39,3 +42,11 @@ pub one_run_at_most : OneRunAtMost
 one_run_at_most p c n j m b f g =
     let h : HasRank (instance_of p n) = each_has_rank p c n j in
     unique_run (instance_of p n) h.rank h.ranked (instance_named p c.rules.clocked.typed n j _) m b f g
+
+pub computed_runs : ComputedRuns
+computed_runs p c n j m b x h =
+    let r : HasRank (instance_of p n) = each_has_rank p c n j in
+    (
+      rounds r.bound m,
+      exists_run (instance_of p n) r.rank r.ranked r.bound r.below m b x (each_well_made p c n j m x h),
+    )

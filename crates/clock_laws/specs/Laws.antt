@@ -12,7 +12,8 @@ use Rattle.lus_meaning.specs.Run.{sort_of, is_typed, first_sorts, have_sorts, ac
 use Rattle.lus_meaning.specs.Occurrences.{Occurrence, all_occurrences}
 use Rattle.lus_meaning.specs.Program.{instance_of}
 use Rattle.lus_meaning.specs.Depends.{Rank, IsRanked, SameChoices}
-use Rattle.lus_meaning.specs.WellMade.{IsWellMade}
+use Rattle.lus_meaning.specs.Recompute.{recomputed}
+use Rattle.lus_meaning.specs.WellMade.{IsWellMade, HasTypes}
 use Rattle.lus_meaning.specs.Laws.{ChoicesFit}
 use Rattle.lus_meaning.specs.Cycle.{Place, IsWay, last_place}
 use Rattle.lus_meaning.specs.Order.{IsEquationOrder, IsLeastEquationOrder}
@@ -115,3 +116,13 @@ OneRunAtMost =
 abbrev pub EachWellMade : Type 0
 EachWellMade =
     OfEach (λ p n. (m : ℕ) (c : Frame) → ChoicesFit (instance_of p n) m c → IsWellMade (instance_of p n) [] c)
+
+-- what is computed from choices that fit, in a number of rounds, is a run of these choices where its names have values
+-- of their types exactly on their clocks
+abbrev pub IsRunWhereTyped : Instance → ℕ → Instants → Frame → Frame → Type 0
+IsRunWhereTyped i m b c f = HasTypes i m b f → IsRun i m b f × SameChoices i [] m f c
+
+abbrev pub ComputedRuns : Type 0
+ComputedRuns =
+    OfEach (λ p n. (m : ℕ) (b : Instants) (c : Frame) → ChoicesFit (instance_of p n) m c →
+    (k : ℕ) × IsRunWhereTyped (instance_of p n) m b c (recomputed k (instance_of p n) m b c))
