@@ -1,12 +1,12 @@
 -- In a checked program each expression of a declaration has a scope of the program in which it has no fault.
-use Rattle.std.proofs.Common.{◌≡◌, ℕ, suc, true, false, List, [], ◌∷◌, ◌++◌, map, flat_map, length, refl}
+use Rattle.std.proofs.Common.{◌≡◌, ℕ, suc, List, [], ◌∷◌, ◌++◌, map, flat_map, refl}
 use Rattle.std.specs.List.{AllByRecursion}
 use Rattle.lus_tree.specs.declared.place.Sort.TheVariants.{Bool as Flags}
 use Rattle.lus_tree.specs.Tree.{text_of, Expression, Constant, Labelled, Statement, equation, assertion, property, main_mark, ContractStatement, assume, guarantee, ghost_variable, constant, mode, «import», Component, Program}
 use Rattle.lus_meaning.specs.Scene.{base, contract_statements, clock_of_names}
 use Rattle.lus_meaning.specs.Occurrences.{on_clock, as_side, on_base, Text, contract_statement_texts, statement_texts, constant_texts, texts}
 use Rattle.lus_meaning.specs.Scope.{Scope, Home, contract_statement_scope, constant_scope, body_scope}
-use Rattle.lus_meaning.specs.ExpressionFaults.{expression_faults, flag_faults, needs_sort, not_allowed, definition_faults, sides_fit}
+use Rattle.lus_meaning.specs.ExpressionFaults.{expression_faults, flag_faults, needs_sort, not_allowed, definition_faults}
 use Rattle.lus_meaning.specs.NameFaults.{home, flags_of, contract_statement_faults, contract_faults, statement_faults, local_constant_faults}
 use Rattle.lus_meaning.proofs.Lists.{both_parts}
 use Rattle.lus_meaning.proofs.NamesOnce.{no_parts}
@@ -27,8 +27,10 @@ module _ (h : Home) where
 
   clean_flags : (s : Scope) → s.program ≡ h.program → s.owner ≡ h.owner → (ls : List Labelled) → flags_of s ls ≡ [] → AllByRecursion Clean (on_base ls)
   clean_flags s a b [] q = tt
-  clean_flags s a b (l ∷ ls) q = (clean_flag s a b l.value (no_parts (flag_faults s l.value) (flags_of s ls) q).0,
-      clean_flags s a b ls (no_parts (flag_faults s l.value) (flags_of s ls) q).1)
+  clean_flags s a b (l ∷ ls) q = (
+    clean_flag s a b l.value (no_parts (flag_faults s l.value) (flags_of s ls) q).0,
+    clean_flags s a b ls (no_parts (flag_faults s l.value) (flags_of s ls) q).1,
+  )
 
   clean_arguments : (s : Scope) → s.program ≡ h.program → s.owner ≡ h.owner → (as_ : List Expression)
       → flat_map (expression_faults s (on_clock base)) as_ ≡ []
@@ -43,20 +45,26 @@ module _ (h : Home) where
       → AllByRecursion Clean (contract_statement_texts c)
   clean_statement before (assume l) q = (clean_flag (contract_statement_scope h before) refl refl l.value q, tt)
   clean_statement before (guarantee l) q = (clean_flag (contract_statement_scope h before) refl refl l.value q, tt)
-  clean_statement before (ghost_variable v e) q = (record {
-    scope = contract_statement_scope h before;
-    program = refl;
-    owner = refl;
-    types = (no_parts _ (expression_faults (contract_statement_scope h before) (as_side base) e) q).1;
-  }, tt)
-  clean_statement before (constant c) q = (record {
-    scope = contract_statement_scope h before;
-    program = refl;
-    owner = refl;
-    types = (no_parts (not_allowed (contract_statement_scope h before) c.value) (expression_faults (contract_statement_scope h before) (on_clock base)
-        c.value)
-        (no_parts _ _ q).0).1;
-  }, tt)
+  clean_statement before (ghost_variable v e) q = (
+    record {
+      scope = contract_statement_scope h before;
+      program = refl;
+      owner = refl;
+      types = (no_parts _ (expression_faults (contract_statement_scope h before) (as_side base) e) q).1;
+    },
+    tt,
+  )
+  clean_statement before (constant c) q = (
+    record {
+      scope = contract_statement_scope h before;
+      program = refl;
+      owner = refl;
+      types = (no_parts (not_allowed (contract_statement_scope h before) c.value) (expression_faults (contract_statement_scope h before) (on_clock base)
+          c.value)
+          (no_parts _ _ q).0).1;
+    },
+    tt,
+  )
   clean_statement before (mode m rs es) q = both_parts Clean (on_base rs) (on_base es)
       (clean_flags (contract_statement_scope h before) refl refl rs (no_parts (flags_of (contract_statement_scope h before) rs) _ q).0)
       (clean_flags (contract_statement_scope h before) refl refl es (no_parts (flags_of (contract_statement_scope h before) rs) _ q).1)
@@ -84,12 +92,15 @@ module _ (h : Home) where
       )
 
   clean_item : (x : Statement) → statement_faults (body_scope h) x ≡ [] → AllByRecursion Clean (statement_texts h.owner x)
-  clean_item (equation xs e) q = (record {
-    scope = body_scope h;
-    program = refl;
-    owner = refl;
-    types = (no_parts _ (expression_faults (body_scope h) (as_side (clock_of_names h.owner (map text_of xs))) e) q).1;
-  }, tt)
+  clean_item (equation xs e) q = (
+    record {
+      scope = body_scope h;
+      program = refl;
+      owner = refl;
+      types = (no_parts _ (expression_faults (body_scope h) (as_side (clock_of_names h.owner (map text_of xs))) e) q).1;
+    },
+    tt,
+  )
   clean_item (assertion e) q = (clean_flag (body_scope h) refl refl e q, tt)
   clean_item (property l) q = (clean_flag (body_scope h) refl refl l.value q, tt)
   clean_item (main_mark p) q = tt

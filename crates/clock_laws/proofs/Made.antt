@@ -1,5 +1,5 @@
 -- The instance of each declaration of a checked program is well made for choices that fit.
-use Rattle.std.proofs.Common.{◌≡◌, ℕ, zero, suc, ◌<◌, Bool, true, false, cond, ◌||◌, List, [], ◌∷◌, ◌++◌, length, map, flat_map, refl, sym, ap, ◌∙◌, subst, append_assoc, Option, Some, None}
+use Rattle.std.proofs.Common.{◌≡◌, ℕ, suc, Bool, true, false, cond, ◌||◌, List, [], ◌∷◌, ◌++◌, length, map, flat_map, refl, sym, ap, ◌∙◌, subst, append_assoc, Option, Some, None}
 use Rattle.std.specs.Prelude.{Contains}
 use Rattle.std.specs.List.{AllByRecursion}
 use Rattle.std.specs.Str.{bytes_eq}
@@ -13,8 +13,8 @@ use Rattle.lus_meaning.specs.Contract.{scene}
 use Rattle.lus_meaning.specs.Program.{site_in, import_site, all_sites, component_named, instance_of}
 use Rattle.lus_meaning.specs.Run.{Equation, equations, ghost_equations, body_equations, right_values, inputs_of}
 use Rattle.lus_meaning.specs.Depends.{named_in, left_names, from_caller, outputs_given}
-use Rattle.lus_meaning.specs.Occurrences.{Standing, on_clock, as_side, on_base, Occurrence, occurs, occurrences, Text, texts, contract_statement_texts, statement_texts, constant_texts, all_occurrences, gathered}
-use Rattle.lus_meaning.specs.Scope.{Scope, node_named, contract_named, component_where, node_if, contract_statement_scope, body_scope}
+use Rattle.lus_meaning.specs.Occurrences.{Standing, on_clock, as_side, on_base, occurs, occurrences, Text, texts, contract_statement_texts, statement_texts, constant_texts, all_occurrences, gathered}
+use Rattle.lus_meaning.specs.Scope.{Scope, node_named, contract_named, component_where, contract_statement_scope, body_scope}
 use Rattle.lus_meaning.specs.ExpressionFaults.{expression_faults, part_faults, sides_fit}
 use Rattle.lus_meaning.specs.NameFaults.{home, is_declared, contract_statement_faults, contract_faults, statement_faults}
 use Rattle.lus_meaning.specs.WellMade.{AreDistinct, SharesArity, IsWellMade, CallsWellMade}
@@ -26,7 +26,7 @@ use Rattle.lus_meaning.specs.Refusals.{IsChecked}
 use Rattle.lus_meaning.proofs.BooleanOrder.{named_either}
 use Rattle.lus_meaning.proofs.EachPart.{Each, each_part}
 use Rattle.lus_meaning.proofs.InOrder.{in_order_all}
-use Rattle.lus_meaning.proofs.Lists.{both_parts, all_from, named_append, map_append, or_left, or_true, append_none}
+use Rattle.lus_meaning.proofs.Lists.{both_parts, all_from, named_append, or_left, or_true, append_none}
 use Rattle.lus_meaning.proofs.NamesOnce.{no_parts, distinct_left}
 use Rattle.lus_meaning.proofs.Now.{left_part, right_part}
 use Rattle.lus_meaning.proofs.Ranked.{all_named}
@@ -39,7 +39,7 @@ use Rattle.clock_laws.specs.Laws.{EachWellMade}
 use Rattle.clock_laws.proofs.Circles.{placed_texts}
 use Rattle.clock_laws.proofs.CleanAll.{clean_texts}
 use Rattle.clock_laws.proofs.Clocks.{placed_of, IsFaultless, faultless, unfolded_same, declared_at}
-use Rattle.clock_laws.proofs.Lefts.{distinct_parts, distinct_behind, not_in_both, lefts_apart, left_definable, variables_apart, lefts_distinct}
+use Rattle.clock_laws.proofs.Lefts.{distinct_parts, not_in_both, lefts_apart, left_definable, variables_apart, lefts_distinct}
 use Rattle.clock_laws.proofs.OrderLaws.{names_distinct, no_left_fault}
 use Rattle.clock_laws.proofs.Parts.{all_parts}
 use Rattle.clock_laws.proofs.Sites.{CalleeOf, NumbersFit, SiteFit, all_sites_fit, side_counted}
@@ -87,7 +87,7 @@ module _ (n : Component) (distinct : AreDistinct (map (λ v. v.name.text) (varia
     inputs_apart : AreDistinct (names_of n.inputs ++ left_names n)
     inputs_apart = distinct_parts (names_of n.inputs) (left_names n) (distinct_left (names_of n.inputs) (definable n ++ ghost_words n) apart) lefts
         (λ z h. not_named z (definable n ++ ghost_words n) (left_names n) (left_either f) (not_in_both z (names_of n.inputs) (definable n ++
-            ghost_words n) apart h))
+        ghost_words n) apart h))
 
     inputs_declared : AllByRecursion (λ x. named_in x (names_of (variables n)) ≡ true) (names_of n.inputs ++ left_names n)
     inputs_declared = all_named (λ x. named_in x (names_of (variables n)) ≡ true) (names_of n.inputs ++ left_names n)
@@ -164,12 +164,13 @@ module _ (p : Program) (k : ℕ) (i : Instance) where
   ghosts_made before (ghost_variable v e ∷ cs) q a =
       let sc : Scope = contract_statement_scope (home p k here) before in
       let z = no_parts (contract_statement_faults sc (ghost_variable v e)) (contract_faults (home p k here) (before ++ ghost_variable v e ∷ []) cs) q in
-      let two = no_parts _ (expression_faults sc (as_side base) e) z.0 in
-      ((λ b f. side_counted p i sc refl (v.name ∷ []) (as_side base) e (no_parts _ (sides_fit sc (v.name ∷ []) e) two.0).1
-          (top_right sc refl (as_side base) e two.1)
-          (at_whole (λ o. AllByRecursion (λ d. HasItsPlace i (node_named p d.callee) d) (site_in o.standing o.expression)) here (as_side base) e a.0)
-          (scene i b f) refl (clock_of_names here (v.name.text ∷ []))),
-      ghosts_made (before ++ ghost_variable v e ∷ []) cs z.1 a.1)
+      let two = no_parts _ (expression_faults sc (as_side base) e) z.0 in (
+        (λ b f. side_counted p i sc refl (v.name ∷ []) (as_side base) e (no_parts _ (sides_fit sc (v.name ∷ []) e) two.0).1
+            (top_right sc refl (as_side base) e two.1)
+            (at_whole (λ o. AllByRecursion (λ d. HasItsPlace i (node_named p d.callee) d) (site_in o.standing o.expression)) here (as_side base) e a.0)
+            (scene i b f) refl (clock_of_names here (v.name.text ∷ []))),
+        ghosts_made (before ++ ghost_variable v e ∷ []) cs z.1 a.1,
+      )
   ghosts_made before (constant c ∷ cs) q a = ghosts_made (before ++ constant c ∷ []) cs (no_parts _ (contract_faults (home p k here) (before ++
       constant c ∷ []) cs) q).1 a.1
   ghosts_made before (mode m rs es ∷ cs) q a = ghosts_made (before ++ mode m rs es ∷ []) cs
@@ -186,11 +187,12 @@ module _ (p : Program) (k : ℕ) (i : Instance) where
       let sc : Scope = body_scope (home p k here) in
       let t : Standing = as_side (clock_of_names here (map text_of xs)) in
       let z = no_parts (statement_faults sc (equation xs e)) (flat_map (statement_faults sc) ss) q in
-      let two = no_parts _ (expression_faults sc t e) z.0 in
-      ((λ b f. side_counted p i sc refl xs t e (no_parts _ (sides_fit sc xs e) two.0).1 (top_right sc refl t e two.1)
-          (at_whole (λ o. AllByRecursion (λ d. HasItsPlace i (node_named p d.callee) d) (site_in o.standing o.expression)) here t e a.0)
-          (scene i b f) refl (clock_of_names here (map text_of xs)) ∙ sym (mapped_names xs)),
-      body_made ss z.1 a.1)
+      let two = no_parts _ (expression_faults sc t e) z.0 in (
+        (λ b f. side_counted p i sc refl xs t e (no_parts _ (sides_fit sc xs e) two.0).1 (top_right sc refl t e two.1)
+            (at_whole (λ o. AllByRecursion (λ d. HasItsPlace i (node_named p d.callee) d) (site_in o.standing o.expression)) here t e a.0)
+            (scene i b f) refl (clock_of_names here (map text_of xs)) ∙ sym (mapped_names xs)),
+        body_made ss z.1 a.1,
+      )
   body_made (assertion e ∷ ss) q a = body_made ss (no_parts _ (flat_map (statement_faults (body_scope (home p k here))) ss) q).1 a.1
   body_made (property l ∷ ss) q a = body_made ss (no_parts _ (flat_map (statement_faults (body_scope (home p k here))) ss) q).1 a.1
   body_made (main_mark w ∷ ss) q a = body_made ss q a
@@ -200,7 +202,7 @@ module _ (p : Program) (k : ℕ) (i : Instance) where
   equations_made f a =
       let cs : List ContractStatement = contract_statements here in
       let behind : AllByRecursion PlacedText (constant_texts here.constants ++ flat_map (statement_texts here) here.body) = right_part PlacedText
-          (flat_map contract_statement_texts cs) (constant_texts here.constants ++ flat_map (statement_texts here) here.body) a in
+      (flat_map contract_statement_texts cs) (constant_texts here.constants ++ flat_map (statement_texts here) here.body) a in
       both_parts EquationMade (ghost_equations cs) (body_equations here.body)
       (ghosts_made [] cs f.contract (left_part PlacedText (flat_map contract_statement_texts cs) _ a))
       (body_made here.body f.statements (right_part PlacedText (constant_texts here.constants) (flat_map (statement_texts here) here.body) behind))
@@ -242,10 +244,10 @@ module _ (p : Program) (c : IsChecked p) where
   callees_of : (n : Component) → Contains (components p) n → AllByRecursion IsCalleeOf (all_sites n)
   callees_of n j =
       let calls : AllByRecursion (λ o. AllByRecursion IsCalleeOf (site_in o.standing o.expression)) (all_occurrences n) =
-          all_from (λ o. AllByRecursion (λ s. is_declared (node_named p s.callee) ≡ true) (site_in o.standing o.expression))
-          (λ o. AllByRecursion IsCalleeOf (site_in o.standing o.expression)) (λ o a. called_here o.standing o.expression a) (all_occurrences n)
-          (all_parts (λ s. is_declared (node_named p s.callee) ≡ true) (λ o. site_in o.standing o.expression) (all_occurrences n)
-          (each_call p c.rules.clocked.typed n j)) in
+      all_from (λ o. AllByRecursion (λ s. is_declared (node_named p s.callee) ≡ true) (site_in o.standing o.expression))
+      (λ o. AllByRecursion IsCalleeOf (site_in o.standing o.expression)) (λ o a. called_here o.standing o.expression a) (all_occurrences n)
+      (all_parts (λ s. is_declared (node_named p s.callee) ≡ true) (λ o. site_in o.standing o.expression) (all_occurrences n)
+      (each_call p c.rules.clocked.typed n j)) in
       in_order_all (λ s. s.number) IsCalleeOf (gathered site_in n ++ flat_map import_site (contract_statements n))
       (both_parts IsCalleeOf (gathered site_in n) (flat_map import_site (contract_statements n))
       (all_flat IsCalleeOf (λ o. site_in o.standing o.expression) (all_occurrences n) calls)
@@ -269,7 +271,7 @@ module _ (p : Program) (c : IsChecked p) where
       → GivenRight (map (λ v. v.name.text) n.inputs ++ map (λ v. v.name.text) n.outputs) n
   contract_given n j k =
       let same : names_of (variables n) ≡ (names_of n.inputs ++ names_of n.outputs) ++ left_names n = contract_variables n k.locals
-          ∙ ap (λ xs. (names_of n.inputs ++ names_of n.outputs) ++ xs) (sym (contract_lefts n k.body)) in
+      ∙ ap (λ xs. (names_of n.inputs ++ names_of n.outputs) ++ xs) (sym (contract_lefts n k.body)) in
       record {
         once = subst AreDistinct same (names_distinct p c.rules.clocked.typed n j);
         declared = subst (λ xs. AllByRecursion (λ x. named_in x (names_of (variables n)) ≡ true) xs) same
@@ -323,8 +325,7 @@ module _ (p : Program) (c : IsChecked p) where
     made (instance n cs is) u j given g m x h =
         let i : Instance = instance n cs is in
         let at : (k : ℕ) × Contains (placed 0 p) (k, n) = placed_of 0 p n j in
-        let f : IsFaultless p at.0 n = faultless p c at.0 n j at.1 in
-        (
+        let f : IsFaultless p at.0 n = faultless p c at.0 n j at.1 in (
           g.once,
           g.declared,
           equations_made p at.0 i f (placed_texts p c i j (unfolded_same p c i u j)),
@@ -343,8 +344,7 @@ module _ (p : Program) (c : IsChecked p) where
         let j : Contains (components p) (component_of k) = declared_at p c n s k a.0 u.1 in
         let e : CalleeOf p s.manner s.callee ≡ Some (component_of k) = d.0 ∙ u.1 in
         let fit : NumbersFit s.manner s.arguments (component_of k) = fits_callee s (component_of k) b.0 e in
-        let given : GivenRight (from_caller s k) (component_of k) = given_right s k j s.manner e in
-        (
+        let given : GivenRight (from_caller s k) (component_of k) = given_right s k j s.manner e in (
           subst (λ z. length z.arguments ≡ length (inputs_of k)) (sym u.0) (counted s k s.manner s.arguments fit),
           subst (λ z. SharesArity z.manner (outputs_of k)) (sym u.0) (shares k s.manner s.arguments fit),
           made k u.2 j (from_caller t k) (subst (λ z. GivenRight (from_caller z k) (component_of k)) (sym u.0) given) m (g 0) h.0,

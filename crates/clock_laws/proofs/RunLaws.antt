@@ -45,8 +45,7 @@ one_run_at_most p c n j m b f g =
 
 pub computed_runs : ComputedRuns
 computed_runs p c n j m b x h =
-    let r : HasRank (instance_of p n) = each_has_rank p c n j in
-    (
+    let r : HasRank (instance_of p n) = each_has_rank p c n j in (
       rounds r.bound m,
       exists_run (instance_of p n) r.rank r.ranked r.bound r.below m b x (each_well_made p c n j m x h),
     )

@@ -1,20 +1,18 @@
 -- In a checked program a call has as many arguments as its callee inputs, and an equation as many values as names.
-use Rattle.std.proofs.Common.{option_map, ◌≡◌, ℕ, zero, suc, pred, ◌<◌, Bool, true, false, cond, not, ◌&&◌, ◌==◌, List, [], ◌∷◌, ◌++◌, length, map, flat_map, unwrap_or, refl, sym, ap, ◌∙◌, subst, arith, Option, Some, None}
-use Rattle.std.specs.Prelude.{Contains}
+use Rattle.std.proofs.Common.{◌≡◌, ℕ, suc, Bool, true, false, cond, not, ◌&&◌, ◌==◌, List, [], ◌∷◌, ◌++◌, length, map, flat_map, refl, sym, ap, ◌∙◌, subst, arith, Option, Some, None}
 use Rattle.std.specs.List.{AllByRecursion}
-use Rattle.std.specs.Str.{bytes_eq}
 use Rattle.std.proofs.lemmas.Bool.{false≢true, eqb-true}
 use Rattle.lus_tree.specs.declared.place.Sort.TheVariants.{Bool as Flags}
-use Rattle.lus_tree.specs.Tree.{Name, Spelled, Place, text_of, Expression, Expressions, truth, number, name, negation, minus, pre, arrow, binary, choice, sampled, merged, call, condact, mode_name, no_more, more, Variable, Statement, equation, assertion, property, main_mark, ContractStatement, assume, guarantee, ghost_variable, constant, mode, «import», Component, declared_constant, declared_node, declared_contract, Program}
+use Rattle.lus_tree.specs.Tree.{Name, Spelled, Place, text_of, Expression, Expressions, truth, number, name, negation, minus, pre, arrow, binary, choice, sampled, merged, call, condact, mode_name, no_more, more, ContractStatement, assume, guarantee, ghost_variable, constant, mode, «import», Component, Program}
 use Rattle.lus_meaning.specs.Value.{Stream, Instants, is}
 use Rattle.lus_meaning.specs.Frame.{entry, call_frame}
 use Rattle.lus_meaning.specs.Scene.{Clock, base, Manner, plain, while_true, as_import, Site, Instance, component_of, call_instance, outputs_of, Scene, contract_statements, is_on}
 use Rattle.lus_meaning.specs.Meaning.{value, values, call_outputs, held_outputs}
 use Rattle.lus_meaning.specs.Program.{listed, site_in, import_site, all_sites}
 use Rattle.lus_meaning.specs.Run.{right_values}
-use Rattle.lus_meaning.specs.Occurrences.{Standing, on_clock, as_side, Occurrence, occurs, occurrences, texts, all_occurrences, gathered, Text}
+use Rattle.lus_meaning.specs.Occurrences.{Standing, on_clock, Occurrence, occurs, occurrences, texts, all_occurrences, gathered, Text}
 use Rattle.lus_meaning.specs.Scope.{Scope, node_named, contract_named, contract_statement_scope}
-use Rattle.lus_meaning.specs.ExpressionFaults.{expression_faults, part_faults, form_faults, weight_faults, needs_sort, call_faults, default_faults, not_allowed, arguments_fit, sides_fit, outputs_fit, value_fits}
+use Rattle.lus_meaning.specs.ExpressionFaults.{expression_faults, part_faults, form_faults, weight_faults, needs_sort, call_faults, default_faults, sides_fit, outputs_fit, value_fits}
 use Rattle.lus_meaning.specs.NameFaults.{home, contract_statement_faults, contract_faults, import_fits, output_known}
 use Rattle.lus_meaning.proofs.InOrder.{in_order_all}
 use Rattle.lus_meaning.proofs.Lists.{both_parts, all_from}
@@ -72,19 +70,25 @@ held_parts : (sc : Scope) (w : Bool) (q : Place) (j : ℕ) (a : Expression) (g :
     → (call_faults sc w g (listed as_) (node_named sc.program g.text) ≡ []) × (default_faults sc g (listed ds) (node_named sc.program g.text) ≡ [])
 held_parts sc w q j a g as_ ds h =
     let three : needs_sort sc Flags a ++ call_faults sc w g (listed as_) (node_named sc.program g.text) ++ default_faults sc g (listed ds)
-        (node_named sc.program g.text) ≡ [] = (no_parts _ _ h).0 in
+    (node_named sc.program g.text) ≡ [] = (no_parts _ _ h).0 in
     let two = no_parts _ (default_faults sc g (listed ds) (node_named sc.program g.text)) three in
     ((no_parts (needs_sort sc Flags a) _ two.0).1, two.1)
 
 site_fits : (p : Program) (sc : Scope) → sc.program ≡ p → (t : Standing) (e : Expression) → part_faults sc (occurs t e) ≡ []
     → AllByRecursion (SiteFit p) (site_in t e)
-site_fits p sc s t (call q k f as_) h = (plain_fits sc t.whole_side f (listed as_) (node_named p f.text)
-    (subst (λ r. call_faults sc t.whole_side f (listed as_) (node_named r f.text) ≡ []) s
-    (no_parts (form_faults sc t.whole_side (call q k f as_)) (weight_faults sc (call q k f as_)) h).0), tt)
-site_fits p sc s t (condact q k a f as_ ds) h = (held_fits sc t.whole_side a f (listed as_) (node_named p f.text)
-    (subst (λ r. call_faults sc t.whole_side f (listed as_) (node_named r f.text) ≡ []) s
-    (held_parts sc t.whole_side q k a f as_ ds (no_parts (form_faults sc t.whole_side (condact q k a f as_ ds))
-    (weight_faults sc (condact q k a f as_ ds)) h).0).0), tt)
+site_fits p sc s t (call q k f as_) h = (
+  plain_fits sc t.whole_side f (listed as_) (node_named p f.text)
+      (subst (λ r. call_faults sc t.whole_side f (listed as_) (node_named r f.text) ≡ []) s
+      (no_parts (form_faults sc t.whole_side (call q k f as_)) (weight_faults sc (call q k f as_)) h).0),
+  tt,
+)
+site_fits p sc s t (condact q k a f as_ ds) h = (
+  held_fits sc t.whole_side a f (listed as_) (node_named p f.text)
+      (subst (λ r. call_faults sc t.whole_side f (listed as_) (node_named r f.text) ≡ []) s
+      (held_parts sc t.whole_side q k a f as_ ds (no_parts (form_faults sc t.whole_side (condact q k a f as_ ds))
+      (weight_faults sc (condact q k a f as_ ds)) h).0).0),
+  tt,
+)
 site_fits p sc s t (truth q b) h = tt
 site_fits p sc s t (number q b) h = tt
 site_fits p sc s t (name q b) h = tt
@@ -110,8 +114,8 @@ same_lengths : (sc : Scope) (f : Spelled) (as_ : List Expression) (xs : List Spe
 same_lengths sc f as_ xs None e = tt
 same_lengths sc f as_ xs (Some m) e =
     let q : (length m.inputs == length as_) && (length m.outputs == length xs) ≡ true = not_false ((length m.inputs == length as_) && (length m.outputs
-        == length xs))
-        (not_so (not ((length m.inputs == length as_) && (length m.outputs == length xs))) _ f.at (no_parts _ _ e).0) in
+    == length xs))
+    (not_so (not ((length m.inputs == length as_) && (length m.outputs == length xs))) _ f.at (no_parts _ _ e).0) in
     let r = both_true (length m.inputs == length as_) (length m.outputs == length xs) q in
     (sym (eqb-true (length m.inputs) (length as_) r.0), mapped xs ∙ sym (eqb-true (length m.outputs) (length xs) r.1))
   where
@@ -137,17 +141,18 @@ imports_fit p k n before («import» j f as_ xs ∷ cs) q =
     let sc : Scope = contract_statement_scope (home p k n) before in
     let z = no_parts (contract_statement_faults sc («import» j f as_ xs)) (contract_faults (home p k n) (before ++ «import» j f as_ xs ∷ []) cs) q in
     let two = no_parts (flat_map (expression_faults sc (on_clock base)) as_) (flat_map (output_known sc) xs ++ import_fits sc f as_ xs
-        (contract_named sc.program f.text)) z.0 in
-    (same_lengths sc f as_ xs (contract_named p f.text) (no_parts (flat_map (output_known sc) xs) (import_fits sc f as_ xs (contract_named p f.text))
-        two.1).1,
-    imports_fit p k n (before ++ «import» j f as_ xs ∷ []) cs z.1)
+    (contract_named sc.program f.text)) z.0 in (
+      same_lengths sc f as_ xs (contract_named p f.text) (no_parts (flat_map (output_known sc) xs) (import_fits sc f as_ xs (contract_named p f.text))
+          two.1).1,
+      imports_fit p k n (before ++ «import» j f as_ xs ∷ []) cs z.1,
+    )
 
 pub all_sites_fit : (p : Program) (k : ℕ) (n : Component) → AllByRecursion (CleanText p n) (texts n)
     → contract_faults (home p k n) [] (contract_statements n) ≡ [] → AllByRecursion (SiteFit p) (all_sites n)
 all_sites_fit p k n a q =
     let P : Occurrence → Type 0 = λ o. AllByRecursion (SiteFit p) (site_in o.standing o.expression) in
     let each : AllByRecursion P (all_occurrences n) = all_flat P (λ x. occurrences n x.0 x.1) (texts n)
-        (all_from (CleanText p n) (λ x. AllByRecursion P (occurrences n x.0 x.1)) (text_sites p n) (texts n) a) in
+    (all_from (CleanText p n) (λ x. AllByRecursion P (occurrences n x.0 x.1)) (text_sites p n) (texts n) a) in
     in_order_all (λ d. d.number) (SiteFit p) (gathered site_in n ++ flat_map import_site (contract_statements n))
     (both_parts (SiteFit p) (gathered site_in n) (flat_map import_site (contract_statements n))
     (all_flat (SiteFit p) (λ o. site_in o.standing o.expression) (all_occurrences n) each) (imports_fit p k n [] (contract_statements n) q))
@@ -199,8 +204,8 @@ side_counted p i sc a xs t (condact q k b f as_ ds) h g u s w c =
     let there : node_named sc.program f.text ≡ Some m = ap (λ r. node_named r f.text) a ∙ u.0.callee in
     let outs : length (call_outputs s k) ≡ length m.outputs = outputs_length s k ∙ ap (λ j. length (component_of (call_instance j k)).outputs) w in
     let defaults : length m.outputs ≡ length (listed ds) = defaults_counted sc f (listed ds) m (subst (λ o. default_faults sc f (listed ds) o ≡ []) there
-        (held_parts sc t.whole_side q k b f as_ ds (no_parts (form_faults sc t.whole_side (condact q k b f as_ ds))
-        (weight_faults sc (condact q k b f as_ ds)) g).0).1) in
+    (held_parts sc t.whole_side q k b f as_ ds (no_parts (form_faults sc t.whole_side (condact q k b f as_ ds))
+    (weight_faults sc (condact q k b f as_ ds)) g).0).1) in
     held_length (is_on s c) (λ v. is_on s c v && is true (value s c b v)) (call_outputs s k) (values s c ds) (outs ∙ defaults ∙ sym (values_length s c ds))
     ∙ outs ∙ outputs_counted sc xs (condact q k b f as_ ds) f m (subst (λ o. outputs_fit sc xs (condact q k b f as_ ds) f o ≡ []) there h)
 side_counted p i sc a xs t (truth q b) h g u s w c = one_value sc xs (truth q b) h
