@@ -37,6 +37,7 @@ pub mod Places
 pub mod Sparse
 pub mod Kept
 pub mod Crossings
+pub mod Holding
 pub mod Sorting
 pub mod OnRows
 pub mod Calls

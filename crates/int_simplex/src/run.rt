@@ -11,6 +11,7 @@ ghost use Rattle.int_simplex.specs.Running.{IsKept, IsReady, AreTables, AreFirst
 
 use crate::answers::Farkas;
 use crate::bounds::place_in;
+use crate::holders::listed;
 use crate::moving::{Move, next_move, turn};
 use crate::table::Asserted;
 use crate::trouble::Stopped;
@@ -149,6 +150,7 @@ pub(crate) fn walk(
         (length lowers.now) numbers e) }
 {
     *values = values_of(alloc, given, basis, rows, places)?;
+    let mut lists = listed(alloc, columns, rows)?;
     let mut left = pivots;
     loop {
         match next_move(alloc, given, lowers, uppers, basis, rows, values, places)? {
@@ -160,7 +162,7 @@ pub(crate) fn walk(
                 }
                 left -= 1;
                 turn(
-                    alloc, columns, given, basis, rows, values, places, out, column,
+                    alloc, columns, given, basis, rows, &mut lists, values, places, out, column,
                 )?;
             }
         }
