@@ -29,7 +29,7 @@ zero-or (pos zero) = inl refl
 zero-or (pos (suc n)) = inr (λ e. cc)
 zero-or (negsuc n) = inr (λ e. cc)
 
-eq_or : (i j : ℕ) → (i ≡ j) ⊎ (i ≢ j)
+pub eq_or : (i j : ℕ) → (i ≡ j) ⊎ (i ≢ j)
 eq_or i j = grind arith
 
 -- the rows that hold the column are to come
@@ -79,9 +79,9 @@ set_mapped f (x ∷ xs) zero v = refl
 set_mapped f (x ∷ xs) (suc i) v = ap (λ z. f x ∷ z) (set_mapped f xs i v)
 
 -- the first one of those that are to come is this one, or another
-first-or : (k j : ℕ) (rest : List ℕ) → Contains (k ∷ rest) j → (j ≡ k) ⊎ Contains rest j
-first-or k j rest (zero, h, e) = inl (sym e)
-first-or k j rest (suc i, h, e) = inr (i, omega arith, e)
+pub first_or : (k j : ℕ) (rest : List ℕ) → Contains (k ∷ rest) j → (j ≡ k) ⊎ Contains rest j
+first_or k j rest (zero, h, e) = inl (sym e)
+first_or k j rest (suc i, h, e) = inr (i, omega arith, e)
 
 module _ (n at entering : ℕ) (other : List (ℕ × ℤ)) (rows news : List (List (ℕ × ℤ))) (all todo rest : List ℕ) (k : ℕ) (head : todo ≡ k ∷ rest)
     (listed : Contains all k) (a : AreNextBut n at entering other rows news all todo) where
@@ -91,7 +91,7 @@ module _ (n at entering : ℕ) (other : List (ℕ × ℤ)) (rows news : List (Li
   next_kept f = record {
     count = a.count;
     each = λ j row new e g. elim (a.each j row new e g) [
-      | inl w ↦ elim (first-or k j rest (let P : List ℕ → Type 0 = λ x. Contains x j in subst P head w.1)) [
+      | inl w ↦ elim (first_or k j rest (let P : List ℕ → Type 0 = λ x. Contains x j in subst P head w.1)) [
         | inl q ↦
             let P : ℕ → Type 0 = λ z. (z ≡ at) ⊎ (entry row entering ≡ pos 0) in
             let Q : List (ℕ × ℤ) → Type 0 = λ z. (k ≡ at) ⊎ (entry z entering ≡ pos 0) in
@@ -125,7 +125,7 @@ module _ (n at entering : ℕ) (other : List (ℕ × ℤ)) (rows news : List (Li
           let R : List (ℕ × ℤ) → Type 0 = λ z. IsPivoted n entering row other z in
           inr (inr ((λ z. m (sym q ∙ z)), subst Q t (subst R s p)))
       | inr q ↦ elim (a.each j r v e (sym (set_other news k j new q) ∙ g)) [
-        | inl w ↦ elim (first-or k j rest (let P : List ℕ → Type 0 = λ x. Contains x j in subst P head w.1)) [
+        | inl w ↦ elim (first_or k j rest (let P : List ℕ → Type 0 = λ x. Contains x j in subst P head w.1)) [
           | inl z ↦ absurd (q z)
           | inr i ↦ inl (w.0, i)
         ]
