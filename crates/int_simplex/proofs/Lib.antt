@@ -20,6 +20,7 @@ pub mod Tables
 pub mod Certificates
 pub mod Stops
 pub mod Turns
+pub mod Touched
 pub mod Walks
 pub mod Ends
 pub mod Asserts

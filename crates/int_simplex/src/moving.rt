@@ -89,5 +89,6 @@ pub(crate) fn turn(
     basis[out.at] = column;
     places[out.column as usize] = out.limit;
     values[out.column as usize] = (out.limit, 1);
-    update_values(alloc, given, basis, rows, places, &touched, values)
+    update_values(alloc, given, basis, rows, places, &touched, values)?;
+    Ok(())
 }
