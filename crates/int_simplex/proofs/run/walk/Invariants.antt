@@ -7,8 +7,8 @@ use Rattle.int_simplex.specs.Running.{IsKept, AreTables, ArePlacesOf, AreLimitsO
 use Rattle.int_simplex.proofs.Walks.{IsOnWay}
 use Rattle.int_simplex.proofs.run.walk.Given as goal
 
-abbrev pub invariant-loop-lists : goal.invariant-loop-lists
-invariant-loop-lists l = record {
+abbrev pub invariant-loop-farkas : goal.invariant-loop-farkas
+invariant-loop-farkas l = record {
   kept : IsKept (map row_view l.given) (length l.lowers) l.basis.items (map row_view l.rows.items) l.places.items l.values.items;
   listed : AreListed l.columns (map row_view l.rows.items) (lists_of l.lists.items);
   way : (bounds : List Standing) → AreTables (length l.lowers) bounds l.lowers l.uppers
@@ -16,5 +16,5 @@ invariant-loop-lists l = record {
   allowed : (numbers : List ℤ) → ArePlacesOf numbers l.fn.places.items → AreLimitsOf numbers l.lowers l.uppers → ArePlacesOf numbers l.places.items;
 }
 
-abbrev pub decreases-loop-lists : goal.decreases-loop-lists
-decreases-loop-lists l = l.left
+abbrev pub decreases-loop-farkas : goal.decreases-loop-farkas
+decreases-loop-farkas l = l.left
