@@ -1,17 +1,17 @@
 -- The places of the rows that hold a column, when a row changes.
-use Rattle.std.specs.Prelude.{ℕ, zero, suc, min, ◌≡◌, ◌≢◌, ◌⊎◌, ◌<◌, ◌≤◌, ◌+◌, ◌-◌, List, [], ◌∷◌, ◌++◌, length, map, Some, Contains, Result, Ok, Err, IfOk, get_or, slice_get, slice_set, slice_index_or}
+use Rattle.std.specs.Prelude.{ℕ, zero, suc, min, ◌≡◌, ◌≢◌, ◌⊎◌, ◌<◌, ◌≤◌, ◌+◌, ◌-◌, List, [], ◌∷◌, ◌++◌, length, Some, Contains, Result, Ok, Err, IfOk, get_or, slice_get, slice_set, slice_index_or}
 use Rattle.std.specs.declared.vec.Vec.{Vec}
 use Rattle.std.specs.declared.alloc.Global.{Global}
 use Rattle.std.proofs.Common.{sym, ◌∙◌, ap, subst, arith, refl, inl, inr}
 use Rattle.std.proofs.lemmas.Bool.{cases_lt}
 use Rattle.std.proofs.lemmas.List.{length-map, length-set}
 use Rattle.std.proofs.lemmas.List.Elements.{Contains-append_left, Contains-append_right, Contains-append_cases}
-use Rattle.std.proofs.lemmas.Option.{slice_get_within, slice_get-get_or, get_or_from_slice_get}
+use Rattle.std.proofs.lemmas.Option.{slice_get_within, get_or_from_slice_get}
 use lib.IntN.{ℤ, pos}
 use Rattle.proof_steps.specs.Rows.{entry}
-use Rattle.int_simplex.specs.Sparse.{IsSparse, IsFrom, head_at, rest_at, first_column}
+use Rattle.int_simplex.specs.Sparse.{IsSparse, head_at, rest_at, first_column}
 use Rattle.int_simplex.specs.Holding.{lists_of, holders, IsHeld, IsOnly, IsPut, IsTaken, IsNoted, AreEmpty, AreListed}
-use Rattle.int_simplex.proofs.Places.{same_some, listed_at, at_listed, any_default}
+use Rattle.int_simplex.proofs.Places.{same_some}
 use Rattle.int_simplex.proofs.Sparse.{first_from}
 use Rattle.int_simplex.proofs.Crossings.{IsLeft, left_all, left_later, left_none, left_next, left_head, left_end}
 
@@ -110,10 +110,6 @@ taken_is lists c k at v w n h e t q f moved kept =
       elsewhere = λ x d. holders-other lists c w x d;
     }
 
--- the place is not there
-pub taken_none : (lists : List (Vec ℕ Global)) (c k : ℕ) → IsTaken c k (lists_of lists) (lists_of lists)
-taken_none lists c k = record { count = refl; stays = λ j d i. i; left = λ j i. i; elsewhere = λ q n. refl }
-
 -- one column is noted
 only-by : (column k : ℕ) (old new : List (List ℕ)) → length new ≡ length old → ((c : ℕ) → c ≢ column → holders new c ≡ holders old c)
     → ((j : ℕ) → j ≢ k → Contains (holders old column) j → Contains (holders new column) j)
@@ -134,7 +130,7 @@ only-by column k old new n f stays comes = record {
   ];
 }
 
-pub noted_put : (column k : ℕ) (was z : ℤ) (old new : List (List ℕ)) → IsPut column k old new → IsNoted column k was z old new
+noted_put : (column k : ℕ) (was z : ℤ) (old new : List (List ℕ)) → IsPut column k old new → IsNoted column k was z old new
 noted_put column k was z old new p = record {
   only = only-by column k old new p.count p.elsewhere
       (λ j d i. let P : List ℕ → Type 0 = λ x. Contains x j in subst P (sym p.here) (Contains-append_left (holders old column) (k ∷ []) j i))
@@ -270,10 +266,6 @@ relisted_more columns next k c was z old new left right rest1 rest2 first lists 
       todo = λ y l. n.elsewhere y (λ q. absurd (omega arith)) ∙ x.todo y (omega arith);
     }
 
--- no column has a list
-pub empty_none : AreEmpty 0 []
-empty_none = record { count = refl; none = λ c. refl }
-
 length-snoc : {X : Type 0} (xs : List X) (x : X) → length (xs ++ x ∷ []) ≡ length xs + 1
 length-snoc [] x = refl
 length-snoc (y ∷ xs) x = let e : length (xs ++ x ∷ []) ≡ length xs + 1 = length-snoc xs x in omega arith
@@ -305,10 +297,6 @@ listed_none n rows lists a = record {
 
 split : (k i : ℕ) → k < i + 1 → (k < i) ⊎ (k ≡ i)
 split k i h = grind arith
-
--- a row without entries is held
-pub held_empty : (lists : List (List ℕ)) (k : ℕ) → IsHeld lists k []
-held_empty lists k = λ c n. absurd (n refl)
 
 pub listed_more : (n : ℕ) (rows : List (List (ℕ × ℤ))) (lists news : List (List ℕ)) (i : ℕ) (row : List (ℕ × ℤ)) → slice_get rows i ≡ Some row
     → IsOnly i lists news → IsHeld news i row → AreListedTo n rows lists i → AreListedTo n rows news (i + 1)

@@ -96,7 +96,9 @@ pub(crate) fn turn_rows(
     let other = Vec::from_slice(alloc, &rows[at])?;
     let touched = Vec::from_slice(alloc, &lists[entering as usize])?;
     for i in 0..touched.len() {
-        turn_row(alloc, columns, rows, lists, at, entering, &other, touched[i])?;
+        turn_row(
+            alloc, columns, rows, lists, at, entering, &other, touched[i],
+        )?;
     }
     Ok(touched)
 }

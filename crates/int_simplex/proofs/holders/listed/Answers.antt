@@ -1,12 +1,12 @@
-use Rattle.std.specs.Prelude.{◌≡◌, ℕ, List, Some, length, map, slice_get}
-use Rattle.std.proofs.Common.{◌∙◌, ap, arith, subst, sym}
+use Rattle.std.specs.Prelude.{◌≡◌, ℕ, List, length, map}
+use Rattle.std.proofs.Common.{arith, subst, sym}
 use Rattle.std.proofs.lemmas.List.{length-map}
 use lib.IntN.{ℤ}
 use Rattle.proof_steps.specs.View.{row_view}
 use Rattle.int_simplex.specs.Sparse.{IsSparse}
 use Rattle.int_simplex.specs.Holding.{lists_of, IsHeld}
 use Rattle.int_simplex.proofs.Nexts.{row_there}
-use Rattle.int_simplex.proofs.Holding.{held_empty, listed_none, listed_more, listed_all}
+use Rattle.int_simplex.proofs.Holding.{listed_none, listed_more, listed_all}
 use Rattle.int_simplex.proofs.holders.listed.Goals as goal
 
 pub loop-k-init : goal.loop-k-init

@@ -1,9 +1,8 @@
 use Rattle.std.specs.Int.{w128}
-use Rattle.std.specs.Prelude.{◌≡◌, ◌+◌, ℕ, List, suc, drop, min}
-use Rattle.std.proofs.Common.{rules, arith, subst, sym, ap, ◌∙◌}
+use Rattle.std.specs.Prelude.{◌≡◌, ◌+◌, ℕ, suc, drop, min}
+use Rattle.std.proofs.Common.{rules, arith, subst, ap, ◌∙◌}
 use Rattle.std.proofs.lemmas.Int.{to_z-of_z}
-use mir.Val.{SFits, to_z}
-use lib.IntN.{ℤ, pos}
+use mir.Val.{SFits}
 use Rattle.int_simplex.specs.Sparse.{first_column}
 use Rattle.int_simplex.specs.Holding.{lists_of}
 use Rattle.int_simplex.proofs.Holding.{IsRelistedTo, relisted_none, relisting_at, relisted_more, relisted_end, relisted_done}

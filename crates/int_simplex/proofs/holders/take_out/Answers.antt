@@ -1,8 +1,5 @@
 use Rattle.std.specs.Prelude.{◌≡◌, ◌+◌, ℕ, List, Some, length, slice_get}
-use Rattle.std.proofs.Common.{◌∙◌, ap, arith, subst, sym}
-use Rattle.std.specs.declared.vec.Vec.{Vec}
-use Rattle.std.specs.declared.alloc.Global.{Global}
-use Rattle.std.proofs.Common.{get_or}
+use Rattle.std.proofs.Common.{◌∙◌, arith, subst}
 use Rattle.int_simplex.proofs.Holding.{taken_is, same_read}
 use Rattle.int_simplex.proofs.holders.take_out.Goals as goal
 

@@ -15,7 +15,6 @@ use Rattle.int_simplex.specs.Pivoting.{AreTurned}
 use Rattle.int_simplex.specs.Sparse.{IsSparse}
 use Rattle.int_simplex.specs.Valued.{place_at, AreValues, AreValuesBut, IsValuesPast}
 use Rattle.int_simplex.specs.Running.{IsReady}
-use Rattle.int_simplex.specs.Holding.{lists_of, holders}
 use Rattle.int_simplex.proofs.Turned.{there}
 use Rattle.int_simplex.proofs.Turns.{ready_after, set_exchanged, in-list, turn_stopped, values_stopped}
 use Rattle.int_simplex.proofs.Touched.{values_but, all_below}
@@ -38,12 +37,14 @@ index_mut-requires c =
 
 pub index_mut-requires-2 : goal.index_mut-requires-2
 index_mut-requires-2 c =
-    let h = in-list (length c.args.places.now.items) c.args.basis.now.items c.args.out.at c.args.out.column c.requires.kept.ready.in_range c.requires.turn.stands in
+    let h = in-list (length c.args.places.now.items) c.args.basis.now.items c.args.out.at c.args.out.column c.requires.kept.ready.in_range
+    c.requires.turn.stands in
     let k = c.args.places.now.ok.0 in omega arith
 
 pub index_mut-requires-3 : goal.index_mut-requires-3
 index_mut-requires-3 c =
-    let h = in-list (length c.args.places.now.items) c.args.basis.now.items c.args.out.at c.args.out.column c.requires.kept.ready.in_range c.requires.turn.stands in
+    let h = in-list (length c.args.places.now.items) c.args.basis.now.items c.args.out.at c.args.out.column c.requires.kept.ready.in_range
+    c.requires.turn.stands in
     let n = c.requires.kept.are_values.count in
     let k = c.args.values.now.ok.0 in omega arith
 
@@ -115,7 +116,8 @@ update_values-requires-clause-touched c =
     c.args.out c.args.column o.0 r t o.1 tu.next in
     let sb = set_exchanged c.args.basis.now.items c.args.out.at c.args.out.column c.args.column r.different t.stands in
     let n = ra.are_rows.count in let m = tu.next.count in
-    let e : length (map (exchanged c.args.out.column c.args.column) c.args.basis.now.items) ≡ length c.deref.result.now = ap length (sym (c.deref.ensures.value ∙ sb)) in
+    let e : length (map (exchanged c.args.out.column c.args.column) c.args.basis.now.items) ≡ length c.deref.result.now = ap length (sym
+    (c.deref.ensures.value ∙ sb)) in
     let P : List ℕ → Type 0 = λ xs. All (λ k. k < length c.deref.result.now) xs in
     subst P (sym c.deref-4.ensures.value) (all_below (length c.deref.result.now) c.in_ok-touched.touched.items
     (λ k i.
@@ -144,11 +146,14 @@ update_values-requires-clause-others c =
     c.args.places.now.items c.args.values.now.items c.args.out.limit h c.requires.kept.are_values in
     let v3 = simp to_z-of_z at c.deref-3.ensures.value in
     simp to_z-of_z
-    (subst (λ (ts : List ℕ). AreValuesBut c.deref.result.now (map row_view c.deref-2.result.now) c.deref-3.result.now (slice_set c.args.values.now.items c.args.out.column (c.args.out.limit, pos 1)) ts)
+    (subst (λ (ts : List ℕ). AreValuesBut c.deref.result.now (map row_view c.deref-2.result.now) c.deref-3.result.now (slice_set
+    c.args.values.now.items c.args.out.column (c.args.out.limit, pos 1)) ts)
     (sym c.deref-4.ensures.value)
-    (subst (λ (ps : List ℤ). AreValuesBut c.deref.result.now (map row_view c.deref-2.result.now) ps (slice_set c.args.values.now.items c.args.out.column (c.args.out.limit, pos 1)) c.in_ok-touched.touched.items)
+    (subst (λ (ps : List ℤ). AreValuesBut c.deref.result.now (map row_view c.deref-2.result.now) ps (slice_set c.args.values.now.items
+    c.args.out.column (c.args.out.limit, pos 1)) c.in_ok-touched.touched.items)
     (sym v3)
-    (subst (λ (xs : List (Vec (ℕ × ℤ) Global)). AreValuesBut c.deref.result.now (map row_view xs) (slice_set c.args.places.now.items c.args.out.column c.args.out.limit)
+    (subst (λ (xs : List (Vec (ℕ × ℤ) Global)). AreValuesBut c.deref.result.now (map row_view xs) (slice_set c.args.places.now.items
+    c.args.out.column c.args.out.limit)
     (slice_set c.args.values.now.items c.args.out.column (c.args.out.limit, pos 1)) c.in_ok-touched.touched.items) (sym c.deref-2.ensures.value)
     (subst (λ (b : List ℕ). AreValuesBut b (map row_view c.turn_rows.new.rows.items) (slice_set c.args.places.now.items c.args.out.column c.args.out.limit)
     (slice_set c.args.values.now.items c.args.out.column (c.args.out.limit, pos 1)) c.in_ok-touched.touched.items) (sym (c.deref.ensures.value ∙ sb)) v))))
@@ -212,4 +217,5 @@ returns-clause-kept c =
     }
 
 pub returns-clause-basis : goal.returns-clause-basis
-returns-clause-basis c = set_exchanged c.args.basis.now.items c.args.out.at c.args.out.column c.args.column c.requires.kept.ready.different c.requires.turn.stands
+returns-clause-basis c = set_exchanged c.args.basis.now.items c.args.out.at c.args.out.column c.args.column c.requires.kept.ready.different
+    c.requires.turn.stands

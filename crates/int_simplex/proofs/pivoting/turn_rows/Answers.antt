@@ -1,6 +1,5 @@
-use Rattle.std.specs.Prelude.{ℕ, ◌≡◌, ◌≤◌, ◌+◌, List, Contains, drop, length, map, Some}
+use Rattle.std.specs.Prelude.{ℕ, ◌≡◌, ◌+◌, List, Contains, drop, map, Some}
 use Rattle.std.proofs.Common.{ap, ◌∙◌, sym, subst, refl}
-use Rattle.std.proofs.lemmas.List.{length-map}
 use lib.IntN.{ℤ}
 use Rattle.proof_steps.specs.View.{row_view}
 use Rattle.int_simplex.specs.Sparse.{IsSparse}

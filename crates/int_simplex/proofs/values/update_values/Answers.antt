@@ -3,7 +3,7 @@ use Rattle.std.specs.Prelude.{ℕ, List, length, map, drop, ◌+◌}
 use Rattle.std.proofs.Common.{rules, ◌∙◌, sym, subst, arith, get_or, refl}
 use Rattle.std.proofs.lemmas.Option.{slice_get-get_or}
 use mir.Val.{SFits}
-use lib.IntN.{ℤ, pos}
+use lib.IntN.{ℤ}
 use Rattle.proof_steps.specs.View.{row_view}
 use Rattle.int_simplex.specs.Sparse.{IsSparse}
 use Rattle.int_simplex.specs.Valued.{place_at, IsRowValue, IsValuePast}
@@ -28,10 +28,12 @@ returns-in-Err-clause-past c =
     let m = c.requires.given in
     let f = row_there c.args.rows.now (get_or c.args.touched.now c.loop-i.i 0) c.index-rows-k-in-Err.result (omega arith) c.index-rows-k-in-Err.is in
     let g = row_there c.args.given.now 0 c.index-given-0.result (omega arith) c.index-given-0.is in
-    values_past (map row_view c.args.given.now) c.args.basis.now (map row_view c.args.rows.now) (place_at c.args.places.now) (get_or c.args.touched.now c.loop-i.i 0)
+    values_past (map row_view c.args.given.now) c.args.basis.now (map row_view c.args.rows.now) (place_at c.args.places.now) (get_or
+    c.args.touched.now c.loop-i.i 0)
     (get_or c.args.basis.now (get_or c.args.touched.now c.loop-i.i 0) 0)
     c.index-rows-k-in-Err.result.items c.index-given-0.result.items c.deref-in-Err.result.now c.deref-in-Err-2.result.now c.in-Err.past c.past_over.result
-    (slice_get-get_or c.args.basis.now (get_or c.args.touched.now c.loop-i.i 0) 0 h) f g c.deref-in-Err.ensures.value c.deref-in-Err-2.ensures.value c.past_over.ensures
+    (slice_get-get_or c.args.basis.now (get_or c.args.touched.now c.loop-i.i 0) 0 h) f g c.deref-in-Err.ensures.value c.deref-in-Err-2.ensures.value
+    c.past_over.ensures
     (subst (λ (r : List (ℕ × ℤ)). IsValuePast (get_or c.args.basis.now (get_or c.args.touched.now c.loop-i.i 0) 0) (place_at c.args.places.now) r c.in-Err.past)
     (c.deref.ensures.value ∙ same_some c.index-rows-k.result.items c.index-rows-k-in-Err.result.items (sym e ∙ f))
     c.in-Err.ensures.past)
@@ -49,7 +51,8 @@ loop-i-preserved c =
     (get_or c.args.basis.now (get_or c.args.touched.now c.loop-i.i 0) 0) c.index-rows-k.result.items c.in-Ok.v
     (next_in c.args.touched.now c.loop-i.i (get_or c.args.touched.now c.loop-i.i 0) c.loop-i-test.true
     (any_default c.args.touched.now c.loop-i.i 0 (get_or c.args.touched.now c.loop-i.i 0) c.loop-i-test.true))
-    c.requires.different (slice_get-get_or c.args.basis.now (get_or c.args.touched.now c.loop-i.i 0) 0 h) e (c.requires.in_range (get_or c.args.touched.now c.loop-i.i 0) 0 h)
+    c.requires.different (slice_get-get_or c.args.basis.now (get_or c.args.touched.now c.loop-i.i 0) 0 h) e (c.requires.in_range (get_or
+    c.args.touched.now c.loop-i.i 0) 0 h)
     (subst (λ (r : List (ℕ × ℤ)). IsRowValue (length c.args.places.now) (get_or c.args.basis.now (get_or c.args.touched.now c.loop-i.i 0) 0)
     (place_at c.args.places.now) r c.in-Ok.v) c.deref.ensures.value q)
     c.loop-i.invariant
