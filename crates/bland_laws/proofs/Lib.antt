@@ -1,0 +1,4 @@
+pub mod Combos
+pub mod Listed
+pub mod Free
+pub mod Sums

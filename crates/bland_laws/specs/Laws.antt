@@ -1,0 +1,44 @@
+-- The laws of the runs by Bland's rule.
+use Rattle.std.specs.Prelude.{ℕ, zero, suc, ◌≡◌, ◌<◌, Bool, List, Option, Some, Contains, ◌↔◌}
+use lib.IntN.{ℤ}
+use lib.Signed.{◌≤ℤ◌}
+use Rattle.proof_steps.specs.Rows.{IsBasis}
+use Rattle.proof_steps.specs.Pivots.{Position, Pivots, lower, upper}
+
+-- n pivots lead from s to t
+abbrev pub Leads : List (List (ℕ × ℤ)) → ℕ → List (ℕ × Bool × ℤ) → ℕ → Position → Position → Type 0
+Leads given columns bounds zero s t = s ≡ t
+Leads given columns bounds (suc n) s t =
+    (u : Position) × Pivots given columns bounds s u × Leads given columns bounds n u t
+
+-- no column's bounds cross
+abbrev pub LeaveRoom : List (ℕ × Bool × ℤ) → Type 0
+LeaveRoom bounds = (c : ℕ) (l u : ℤ) → lower bounds c ≡ Some l → upper bounds c ≡ Some u → l ≤ℤ u
+
+pub record IsWithin (bounds : List (ℕ × Bool × ℤ)) (c : ℕ) (z : ℤ) : Type 0 where
+  pub from_below : (l : ℤ) → lower bounds c ≡ Some l → l ≤ℤ z
+  pub from_above : (u : ℤ) → upper bounds c ≡ Some u → z ≤ℤ u
+
+-- a basis, outside which the columns stand within their bounds
+pub record CanBegin (given : List (List (ℕ × ℤ))) (columns : ℕ) (bounds : List (ℕ × Bool × ℤ)) (s : Position) : Type 0 where
+  pub basis : IsBasis given columns s.basis
+  pub within : (c : ℕ) → c < columns → (¬ Contains s.basis c) → IsWithin bounds c (s.places c)
+
+-- the same columns in the basis, and the others at the same places
+pub record IsSame (columns : ℕ) (s t : Position) : Type 0 where
+  pub basis : (c : ℕ) → Contains s.basis c ↔ Contains t.basis c
+  pub places : (c : ℕ) → c < columns → (¬ Contains s.basis c) → s.places c ≡ t.places c
+
+-- What a run begins with holds after each of its pivots, too.
+abbrev pub PremisesPassOn : Type 0
+PremisesPassOn =
+    (given : List (List (ℕ × ℤ))) (columns : ℕ) (bounds : List (ℕ × Bool × ℤ)) → LeaveRoom bounds
+    → (n : ℕ) (s t : Position) → CanBegin given columns bounds s → Leads given columns bounds n s t
+    → CanBegin given columns bounds t
+
+-- One or more pivots never lead back.
+abbrev pub NoStateTwice : Type 0
+NoStateTwice =
+    (given : List (List (ℕ × ℤ))) (columns : ℕ) (bounds : List (ℕ × Bool × ℤ)) → LeaveRoom bounds
+    → (n : ℕ) (s t : Position) → CanBegin given columns bounds s → Leads given columns bounds (suc n) s t
+    → ¬ IsSame columns s t

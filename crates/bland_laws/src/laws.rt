@@ -1,0 +1,15 @@
+//! The laws of the runs by Bland's rule.
+
+ghost use Rattle.bland_laws.specs.Laws.{NoStateTwice, PremisesPassOn};
+
+/// What a run by Bland's rule begins with holds after each of its pivots, too.
+pub fn premises_pass_on()
+    ensures { PremisesPassOn }
+{}
+
+/// No basis stands twice in one run by Bland's rule with the same places of the columns outside it, so no run goes on
+/// forever (R. G. Bland, New finite pivoting rules for the simplex method, 1977; B. Dutertre, L. de Moura, A fast
+/// linear-arithmetic solver for DPLL(T), 2006).
+pub fn no_state_twice()
+    ensures { NoStateTwice }
+{}
