@@ -12,7 +12,7 @@ zero-or (pos zero) = inl refl
 zero-or (pos (suc n)) = inr (λ e. absurd (omega (arith, ints)))
 zero-or (negsuc n) = inr (λ e. absurd (omega (arith, ints)))
 
-abs-zero : (z : ℤ) → unsigned_abs z ≡ 0 → z ≡ pos 0
+pub abs-zero : (z : ℤ) → unsigned_abs z ≡ 0 → z ≡ pos 0
 abs-zero (pos zero) e = refl
 abs-zero (pos (suc n)) e = absurd (omega arith)
 abs-zero (negsuc n) e = absurd (omega arith)
