@@ -5,3 +5,5 @@ pub mod Sums
 pub mod Points
 pub mod Coprime
 pub mod Begun
+pub mod Orders
+pub mod Returning
