@@ -7,3 +7,4 @@ pub mod Coprime
 pub mod Begun
 pub mod Orders
 pub mod Returning
+pub mod Runs

@@ -42,3 +42,10 @@ NoStateTwice =
     (given : List (List (ℕ × ℤ))) (columns : ℕ) (bounds : List (ℕ × Bool × ℤ)) → LeaveRoom bounds
     → (n : ℕ) (s t : Position) → CanBegin given columns bounds s → Leads given columns bounds (suc n) s t
     → ¬ IsSame columns s t
+
+-- The positions of one run differ pairwise.
+abbrev pub StatesDiffer : Type 0
+StatesDiffer =
+    (given : List (List (ℕ × ℤ))) (columns : ℕ) (bounds : List (ℕ × Bool × ℤ)) → LeaveRoom bounds
+    → (k n : ℕ) (s u t : Position) → CanBegin given columns bounds s → Leads given columns bounds k s u
+    → Leads given columns bounds (suc n) u t → ¬ IsSame columns u t

@@ -1,6 +1,6 @@
 //! The laws of the runs by Bland's rule.
 
-ghost use Rattle.bland_laws.specs.Laws.{NoStateTwice, PremisesPassOn};
+ghost use Rattle.bland_laws.specs.Laws.{NoStateTwice, PremisesPassOn, StatesDiffer};
 
 /// What a run by Bland's rule begins with holds after each of its pivots, too.
 pub fn premises_pass_on()
@@ -12,4 +12,9 @@ pub fn premises_pass_on()
 /// linear-arithmetic solver for DPLL(T), 2006).
 pub fn no_state_twice()
     ensures { NoStateTwice }
+{}
+
+/// The positions of one run by Bland's rule differ pairwise, in the basis or in the place of a column outside it.
+pub fn states_differ()
+    ensures { StatesDiffer }
 {}
