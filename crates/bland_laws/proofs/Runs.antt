@@ -1,9 +1,10 @@
 -- A run by Bland's rule never comes back.
-use Rattle.std.specs.Prelude.{ℕ, zero, suc, ◌≡◌, ◌≢◌, ◌⊎◌, ◌<◌, ◌≤◌, Bool, List, map, Contains}
+use Rattle.std.specs.Prelude.{ℕ, zero, suc, ◌≡◌, ◌≢◌, ◌⊎◌, ◌+◌, ◌*◌, ◌^◌, ◌<◌, ◌≤◌, Bool, List, map, Contains}
 use Rattle.std.proofs.Common.{sym, ◌∙◌, ap, subst, arith, refl, inl, inr}
+use Rattle.std.proofs.Math.Nat.{pow-suc}
 use lib.IntN.{ℤ}
-use Rattle.proof_steps.specs.Pivots.{Position, Pivots, exchanged}
-use Rattle.bland_laws.specs.Laws.{Leads, LeaveRoom, CanBegin, IsSame, NoStateTwice, StatesDiffer}
+use Rattle.proof_steps.specs.Pivots.{Position, Pivots, CanPivot, exchanged}
+use Rattle.bland_laws.specs.Laws.{Leads, LeaveRoom, CanBegin, IsSame, NoStateTwice, StatesDiffer, RunsEnd}
 use Rattle.bland_laws.proofs.Listed.{same-or, listed-or, at-all, kept-in, entered, after-or}
 use Rattle.bland_laws.proofs.Begun.{begun_after, premises_pass_on}
 use Rattle.bland_laws.proofs.Returning.{no_return}
@@ -74,16 +75,31 @@ module _ (given : List (List (ℕ × ℤ))) (columns : ℕ) (bounds : List (ℕ 
   stays-out : (r : ℕ) (s p p' : Position) → CanBegin given columns bounds p → (goes : Pivots given columns bounds p p')
       → IsAlike r s p → goes.leaving ≡ r → (n : ℕ) (u t : Position) (run : Leads given columns bounds n u t) → AreBelow (suc r) n u t run
       → CanBegin given columns bounds u → IsAlike r s u → (¬ Contains u.basis r) → u.places r ≡ goes.limit
-      → (¬ Contains t.basis r) × (t.places r ≡ goes.limit)
+      → (¬ Contains t.basis r) × (t.places r ≡ goes.limit) × AreBelow r n u t run
   stays-out r s p p' hp goes a l zero u t run b h au out at =
-      subst (λ (v : Position). (¬ Contains v.basis r) × (v.places r ≡ goes.limit)) run (out, at)
+      let w = subst (λ (v : Position). (¬ Contains v.basis r) × (v.places r ≡ goes.limit)) run (out, at) in (w.0, w.1, tt)
   stays-out r s p p' hp goes a l (suc n) u t run b h au out at = elim (same-or run.1.entering r) [
     | inl e ↦ absurd (meets r s p p' u run.0 hp h goes run.1 a au l e b.0 at)
-    | inr m ↦ stays-out r s p p' hp goes a l n run.0 t run.2 b.2 (begun_after given columns bounds u run.0 room h run.1)
+    | inr m ↦
+        let f : run.1.leaving ≢ r = not-leaving u run.0 run.1 r out in
+        let y : run.1.leaving < suc r = b.0 in
+        let z : run.1.entering < suc r = b.1 in
+        let w = stays-out r s p p' hp goes a l n run.0 t run.2 b.2 (begun_after given columns bounds u run.0 room h run.1)
         (alike-after r s u run.0 run.1 b.0 b.1 au)
         (λ i. elim (was-in u run.0 run.1 r i) [ inl e ↦ m (sym e) | inr t ↦ out t.0 ])
-        (run.1.others r (λ e. not-leaving u run.0 run.1 r out (sym e)) ∙ at)
+        (run.1.others r (λ e. f (sym e)) ∙ at) in
+        (w.0, w.1, (omega arith, omega arith, w.2))
   ]
+
+  after-leaving : (r : ℕ) (s u v : Position) (p : Pivots given columns bounds u v) → CanBegin given columns bounds u → IsAlike r s u
+      → p.leaving ≡ r → p.leaving < suc r → p.entering < suc r → (n : ℕ) (t : Position) (run : Leads given columns bounds n v t)
+      → AreBelow (suc r) n v t run → (¬ Contains t.basis r) × (t.places r ≡ p.limit) × AreBelow r n v t run
+  after-leaving r s u v p h a e y z n t run b =
+      stays-out r s u v h p a e n v t run b (begun_after given columns bounds u v room h p) (alike-after r s u v p y z a)
+      (λ j. elim (was-in u v p r j) [ inl q ↦ not-entering u v p r inside (sym q) | inr k ↦ k.1 (sym e) ])
+      (ap v.places (sym e) ∙ p.left) where
+        inside : Contains u.basis r
+        inside = subst (λ (c : ℕ). Contains u.basis c) e p.misses.value.row.in_basis
 
   -- r has left in the run, and stands at its end where it left to
   record HasLeft (r : ℕ) (s t : Position) : Type 0 where
@@ -107,10 +123,7 @@ module _ (given : List (List (ℕ × ℤ))) (columns : ℕ) (bounds : List (ℕ 
   ] where
     left : run.1.leaving ≡ r → HasLeft r s t
     left e =
-        let w = stays-out r s u run.0 h run.1 a e n run.0 t run.2 b.2 (begun_after given columns bounds u run.0 room h run.1)
-        (alike-after r s u run.0 run.1 b.0 b.1 a)
-        (λ j. elim (was-in u run.0 run.1 r j) [ inl q ↦ not-entering u run.0 run.1 r i (sym q) | inr k ↦ k.1 (sym e) ])
-        (ap run.0.places (sym e) ∙ run.1.left) in
+        let w = after-leaving r s u run.0 run.1 h a e b.0 b.1 n t run.2 b.2 in
         record { from = u; to = run.0; pivot = run.1; begun = h; alike_there = a; leaves = e; out = w.0; place = w.1 }
 
     kept : run.1.leaving ≢ r → (Contains t.basis r × AreBelow r n run.0 t run.2) ⊎ HasLeft r s t
@@ -154,6 +167,154 @@ module _ (given : List (List (ℕ × ℤ))) (columns : ℕ) (bounds : List (ℕ 
         → (Contains t.basis r × AreBelow r (suc n) s t run) ⊎ HasLeft r s t → ⊥
     inside i lower (inl w) = lower w.1
     inside i lower (inr w) = w.out ((e.basis r).0 i)
+
+  -- the first pivot of the run that moves r
+  record Cut (r n : ℕ) (u t : Position) : Type 0 where
+    before : ℕ
+    later : ℕ
+    mid : Position
+    next : Position
+    head : Leads given columns bounds before u mid
+    lesser : AreBelow r before u mid head
+    pivot : Pivots given columns bounds mid next
+    leaving_within : pivot.leaving < suc r
+    entering_within : pivot.entering < suc r
+    moves : (pivot.leaving ≡ r) ⊎ (pivot.entering ≡ r)
+    tail : Leads given columns bounds later next t
+    within : AreBelow (suc r) later next t tail
+    count : n ≡ before + suc later
+
+  cut : (r n : ℕ) (u t : Position) (run : Leads given columns bounds n u t) → AreBelow (suc r) n u t run
+      → AreBelow r n u t run ⊎ Cut r n u t
+  cut r zero u t run b = inl tt
+  cut r (suc n) u t run b = elim (same-or run.1.leaving r) [
+    | inl e ↦ inr (here (inl e))
+    | inr m ↦ elim (same-or run.1.entering r) [
+      | inl e ↦ inr (here (inr e))
+      | inr k ↦ there m k (cut r n run.0 t run.2 b.2)
+    ]
+  ] where
+    here : (run.1.leaving ≡ r) ⊎ (run.1.entering ≡ r) → Cut r (suc n) u t
+    here e = record {
+      before = 0;
+      later = n;
+      mid = u;
+      next = run.0;
+      head = refl;
+      lesser = tt;
+      pivot = run.1;
+      leaving_within = b.0;
+      entering_within = b.1;
+      moves = e;
+      tail = run.2;
+      within = b.2;
+      count = omega arith;
+    }
+
+    there : run.1.leaving ≢ r → run.1.entering ≢ r → AreBelow r n run.0 t run.2 ⊎ Cut r n run.0 t
+        → AreBelow r (suc n) u t run ⊎ Cut r (suc n) u t
+    there m k (inl w) =
+        let y : run.1.leaving < suc r = b.0 in
+        let z : run.1.entering < suc r = b.1 in
+        inl (omega arith, omega arith, w)
+    there m k (inr c) =
+        let y : run.1.leaving < suc r = b.0 in
+        let z : run.1.entering < suc r = b.1 in
+        inr (record {
+          before = suc c.before;
+          later = c.later;
+          mid = c.mid;
+          next = c.next;
+          head = (run.0, run.1, c.head);
+          lesser = (omega arith, omega arith, c.lesser);
+          pivot = c.pivot;
+          leaving_within = c.leaving_within;
+          entering_within = c.entering_within;
+          moves = c.moves;
+          tail = c.tail;
+          within = c.within;
+          count = let k : n ≡ c.before + suc c.later = c.count in omega arith;
+        })
+
+  -- where no pivot moves r it is in the basis at the end if it was at the start
+  kept-through : (r n : ℕ) (u t : Position) (run : Leads given columns bounds n u t) → AreBelow r n u t run
+      → (Contains u.basis r → Contains t.basis r) × (Contains t.basis r → Contains u.basis r)
+  kept-through r zero u t run b =
+      subst (λ (v : Position). (Contains u.basis r → Contains v.basis r) × (Contains v.basis r → Contains u.basis r)) run (λ i. i, λ i. i)
+  kept-through r (suc n) u t run b =
+      let y : run.1.leaving < r = b.0 in
+      let z : run.1.entering < r = b.1 in
+      let w = kept-through r n run.0 t run.2 b.2 in
+      (
+        λ i. w.0 (stays-in u run.0 run.1 r i (λ e. absurd (omega arith))),
+        λ i. elim (was-in u run.0 run.1 r (w.1 i)) [ inl e ↦ absurd (omega arith) | inr t ↦ t.0 ],
+      )
+
+  -- a run of columns below r has fewer pivots than m
+  abbrev HasFewer : ℕ → ℕ → Type 0
+  HasFewer r m = (n : ℕ) (u t : Position) (run : Leads given columns bounds n u t) → AreBelow r n u t run
+      → CanBegin given columns bounds u → n < m
+
+  -- r leaves at most once, and then stays out
+  count-inside : (r m : ℕ) → HasFewer r m → (n : ℕ) (u t : Position) (run : Leads given columns bounds n u t)
+      → AreBelow (suc r) n u t run → CanBegin given columns bounds u → Contains u.basis r → n < m + m
+  count-inside r m f n u t run b h i = elim (cut r n u t run b) [
+    | inl w ↦ let l : n < m = f n u t run w h in omega arith
+    | inr c ↦ split c
+  ] where
+    split : Cut r n u t → n < m + m
+    split c =
+        let hm : CanBegin given columns bounds c.mid = premises_pass_on given columns bounds room c.before u c.mid h c.head in
+        let j : Contains c.mid.basis r = (kept-through r c.before u c.mid c.head c.lesser).0 i in
+        let e : c.pivot.leaving ≡ r =
+        elim c.moves [ inl e ↦ e | inr e ↦ absurd (not-entering c.mid c.next c.pivot r j e) ] in
+        let w = after-leaving r c.mid c.mid c.next c.pivot hm (alike r c.mid) e c.leaving_within c.entering_within
+        c.later t c.tail c.within in
+        let x : c.before < m = f c.before u c.mid c.head c.lesser h in
+        let y : c.later < m = f c.later c.next t c.tail w.2 (begun_after given columns bounds c.mid c.next room hm c.pivot) in
+        let k : n ≡ c.before + suc c.later = c.count in
+        omega arith
+
+  -- r enters at most once before that
+  count-outside : (r m : ℕ) → HasFewer r m → (n : ℕ) (u t : Position) (run : Leads given columns bounds n u t)
+      → AreBelow (suc r) n u t run → CanBegin given columns bounds u → (¬ Contains u.basis r) → n < m + (m + m)
+  count-outside r m f n u t run b h out = elim (cut r n u t run b) [
+    | inl w ↦ let l : n < m = f n u t run w h in omega arith
+    | inr c ↦ split c
+  ] where
+    split : Cut r n u t → n < m + (m + m)
+    split c =
+        let hm : CanBegin given columns bounds c.mid = premises_pass_on given columns bounds room c.before u c.mid h c.head in
+        let o : ¬ Contains c.mid.basis r = λ j. out ((kept-through r c.before u c.mid c.head c.lesser).1 j) in
+        let e : c.pivot.entering ≡ r =
+        elim c.moves [ inl e ↦ absurd (not-leaving c.mid c.next c.pivot r o e) | inr e ↦ e ] in
+        let x : c.before < m = f c.before u c.mid c.head c.lesser h in
+        let y : c.later < m + m = count-inside r m f c.later c.next t c.tail c.within
+        (begun_after given columns bounds c.mid c.next room hm c.pivot)
+        (subst (λ (z : ℕ). Contains c.next.basis z) e (came-in c.mid c.next c.pivot)) in
+        let k : n ≡ c.before + suc c.later = c.count in
+        omega arith
+
+  counted : (k : ℕ) → HasFewer k (3 ^ k)
+  counted zero zero u t run b h = omega arith
+  counted zero (suc n) u t run b h = let z : run.1.leaving < 0 = b.0 in absurd (omega arith)
+  counted (suc r) n u t run b h =
+      let p : 3 ^ suc r ≡ 3 ^ r * 3 = pow-suc 3 r in
+      elim (listed-or u.basis r) [
+        | inl i ↦ let l : n < 3 ^ r + 3 ^ r = count-inside r (3 ^ r) (counted r) n u t run b h i in omega arith
+        | inr out ↦ let l : n < 3 ^ r + (3 ^ r + 3 ^ r) = count-outside r (3 ^ r) (counted r) n u t run b h out in omega arith
+      ]
+
+-- where n pivots can be made they lead somewhere
+leads : (given : List (List (ℕ × ℤ))) (columns : ℕ) (bounds : List (ℕ × Bool × ℤ)) (n : ℕ) (s : Position)
+    → CanPivot given columns bounds n s → (t : Position) × Leads given columns bounds n s t
+leads given columns bounds zero s h = (s, refl)
+leads given columns bounds (suc n) s h = let w = leads given columns bounds n h.0 h.2 in (w.0, (h.0, h.1, w.1))
+
+pub runs_end : RunsEnd
+runs_end given columns bounds room n s h c =
+    let w = leads given columns bounds n s c in
+    counted given columns bounds room columns n s w.0 w.1 (all-below given columns bounds room n s w.0 w.1 h) h
 
 pub no_state_twice : NoStateTwice
 no_state_twice given columns bounds room n s t h run =

@@ -1,9 +1,9 @@
 -- The laws of the runs by Bland's rule.
-use Rattle.std.specs.Prelude.{ℕ, zero, suc, ◌≡◌, ◌<◌, Bool, List, Option, Some, Contains, ◌↔◌}
+use Rattle.std.specs.Prelude.{ℕ, zero, suc, ◌≡◌, ◌<◌, ◌^◌, Bool, List, Option, Some, Contains, ◌↔◌}
 use lib.IntN.{ℤ}
 use lib.Signed.{◌≤ℤ◌}
 use Rattle.proof_steps.specs.Rows.{IsBasis}
-use Rattle.proof_steps.specs.Pivots.{Position, Pivots, lower, upper}
+use Rattle.proof_steps.specs.Pivots.{Position, Pivots, CanPivot, lower, upper}
 
 -- n pivots lead from s to t
 abbrev pub Leads : List (List (ℕ × ℤ)) → ℕ → List (ℕ × Bool × ℤ) → ℕ → Position → Position → Type 0
@@ -49,3 +49,10 @@ StatesDiffer =
     (given : List (List (ℕ × ℤ))) (columns : ℕ) (bounds : List (ℕ × Bool × ℤ)) → LeaveRoom bounds
     → (k n : ℕ) (s u t : Position) → CanBegin given columns bounds s → Leads given columns bounds k s u
     → Leads given columns bounds (suc n) u t → ¬ IsSame columns u t
+
+-- A run has fewer pivots than 3 to the power of the columns: the greatest column that moves enters at most once and
+-- leaves at most once, and before, between and after these only less columns move.
+abbrev pub RunsEnd : Type 0
+RunsEnd =
+    (given : List (List (ℕ × ℤ))) (columns : ℕ) (bounds : List (ℕ × Bool × ℤ)) → LeaveRoom bounds
+    → (n : ℕ) (s : Position) → CanBegin given columns bounds s → CanPivot given columns bounds n s → n < 3 ^ columns

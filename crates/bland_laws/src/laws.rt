@@ -1,6 +1,6 @@
 //! The laws of the runs by Bland's rule.
 
-ghost use Rattle.bland_laws.specs.Laws.{NoStateTwice, PremisesPassOn, StatesDiffer};
+ghost use Rattle.bland_laws.specs.Laws.{NoStateTwice, PremisesPassOn, RunsEnd, StatesDiffer};
 
 /// What a run by Bland's rule begins with holds after each of its pivots, too.
 pub fn premises_pass_on()
@@ -17,4 +17,9 @@ pub fn no_state_twice()
 /// The positions of one run by Bland's rule differ pairwise, in the basis or in the place of a column outside it.
 pub fn states_differ()
     ensures { StatesDiffer }
+{}
+
+/// Each run by Bland's rule ends, after fewer pivots than 3 to the power of the columns.
+pub fn runs_end()
+    ensures { RunsEnd }
 {}
