@@ -8,3 +8,4 @@ pub mod Begun
 pub mod Orders
 pub mod Returning
 pub mod Runs
+pub mod Firsts

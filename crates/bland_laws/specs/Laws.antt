@@ -2,8 +2,10 @@
 use Rattle.std.specs.Prelude.{ℕ, zero, suc, ◌≡◌, ◌<◌, ◌^◌, Bool, List, Option, Some, Contains, ◌↔◌}
 use lib.IntN.{ℤ}
 use lib.Signed.{◌≤ℤ◌}
-use Rattle.proof_steps.specs.Rows.{IsBasis}
-use Rattle.proof_steps.specs.Pivots.{Position, Pivots, CanPivot, lower, upper}
+use Rattle.proof_steps.specs.StopView.{Beginning}
+use Rattle.proof_steps.specs.Rows.{Form, IsBasis, columns_of}
+use Rattle.proof_steps.specs.Pivots.{Position, Pivots, CanPivot, first_position, lower, upper}
+use Rattle.proof_steps.specs.Stopped.{IsLong}
 
 -- n pivots lead from s to t
 abbrev pub Leads : List (List (ℕ × ℤ)) → ℕ → List (ℕ × Bool × ℤ) → ℕ → Position → Position → Type 0
@@ -56,3 +58,15 @@ abbrev pub RunsEnd : Type 0
 RunsEnd =
     (given : List (List (ℕ × ℤ))) (columns : ℕ) (bounds : List (ℕ × Bool × ℤ)) → LeaveRoom bounds
     → (n : ℕ) (s : Position) → CanBegin given columns bounds s → CanPivot given columns bounds n s → n < 3 ^ columns
+
+-- So does the run that a check begins: it begins with each column outside the basis moved into its bounds.
+abbrev pub ChecksEnd : Type 0
+ChecksEnd =
+    (given : List (List (ℕ × ℤ))) (columns : ℕ) (b : Beginning) → IsBasis given columns b.basis → LeaveRoom b.bounds
+    → (n : ℕ) → CanPivot given columns b.bounds n (first_position b) → n < 3 ^ columns
+
+-- So a budget that a stop truly says was too small, where no bounds cross, is less than that.
+abbrev pub BudgetsSuffice : Type 0
+BudgetsSuffice =
+    (f : Form) (pairs : List (ℕ × ℤ)) (start : Beginning) → LeaveRoom start.bounds → IsLong f pairs start
+    → suc start.pivots < 3 ^ columns_of f
