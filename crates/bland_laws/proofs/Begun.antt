@@ -1,13 +1,12 @@
 -- What a run begins with holds after a pivot.
-use Rattle.std.specs.Prelude.{ℕ, zero, suc, ◌≡◌, ◌≢◌, ◌<◌, Bool, true, false, List, map, length, Option, Some, Contains}
-use Rattle.std.proofs.Common.{sym, ◌∙◌, ap, subst, arith, refl, inl, inr}
+use Rattle.std.specs.Prelude.{ℕ, zero, suc, ◌≡◌, ◌≢◌, ◌<◌, Bool, true, false, List, map, length, Some, Contains}
+use Rattle.std.proofs.Common.{sym, ◌∙◌, ap, subst, arith, inl, inr}
 use Rattle.std.proofs.lemmas.List.{length-map}
 use Rattle.std.proofs.lemmas.Int.{ints}
 use lib.IntN.{ℤ, pos, ◌-ℤ◌, ◌*ℤ◌}
-use lib.Signed.{◌≤ℤ◌, ◌<ℤ◌}
 use Rattle.proof_steps.specs.Rows.{combined, IsRow, IsBasis}
 use Rattle.proof_steps.specs.Pivots.{Position, Pivots, HasRoom, exchanged, bound_on}
-use Rattle.bland_laws.specs.Laws.{Leads, LeaveRoom, IsWithin, CanBegin, PremisesPassOn}
+use Rattle.bland_laws.specs.Laws.{LeaveRoom, IsWithin, CanBegin, PremisesPassOn}
 use Rattle.bland_laws.proofs.Combos.{swapped_less, still_there, both_gone, crossed, length-crossed, combined-crossed}
 use Rattle.bland_laws.proofs.Listed.{same-or, kept-in, entered, after-or, still-differ, all-after}
 use Rattle.bland_laws.proofs.Coprime.{coprime_row}

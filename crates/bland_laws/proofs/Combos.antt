@@ -4,7 +4,7 @@ use Rattle.std.proofs.Common.{sym, ◌∙◌, ap, arith, refl, inl, inr}
 use Rattle.std.proofs.lemmas.Int.{ints, unsigned_abs-mul}
 use Rattle.std.proofs.Math.Nat.{eq_of_mul-eq-mul_left}
 use lib.IntN.{ℤ, pos, negsuc, ◌+ℤ◌, ◌-ℤ◌, ◌*ℤ◌, neg_ℤ, *ℤ-zero, zero-*ℤ, *ℤ_comm}
-use Rattle.kind_num.proofs.Ring.{times_sum, sum_times, neg_times, times_neg, times_times}
+use Rattle.kind_num.proofs.Ring.{times_sum, sum_times, neg_times, times_times}
 use Rattle.proof_steps.specs.Rows.{entry, combined}
 
 pub zero-or : (z : ℤ) → (z ≡ pos 0) ⊎ (z ≢ pos 0)
@@ -125,9 +125,11 @@ fewer_rows (g ∷ given) (m ∷ ms) x l n = elim (zero-or m) [
         × ((c : ℕ) → combined ks given c ≡ m *ℤ combined ns (g ∷ given) c -ℤ q *ℤ combined (m ∷ ms) (g ∷ given) c)
     rest [] k = absurd (omega arith)
     rest (n ∷ ns) k = (
-      crossed m n ns ms, n, length-crossed m n ns ms (length given) (omega arith) (omega arith),
+      crossed m n ns ms,
+      n,
+      length-crossed m n ns ms (length given) (omega arith) (omega arith),
       λ c. combined-crossed m n ns ms given c (omega arith) (omega arith)
-      ∙ head-gone m n (entry g c) (combined ns given c) (combined ms given c),
+          ∙ head-gone m n (entry g c) (combined ns given c) (combined ms given c),
     )
 
   later : m ≡ pos 0 → Fewer given ms → Fewer (g ∷ given) (m ∷ ms)
@@ -142,7 +144,11 @@ fewer_rows (g ∷ given) (m ∷ ms) x l n = elim (zero-or m) [
         × ((c : ℕ) → combined ks (g ∷ r.left) c ≡ r.factor *ℤ combined ns (g ∷ given) c -ℤ q *ℤ combined (m ∷ ms) (g ∷ given) c)
     rest [] k = absurd (omega arith)
     rest (n ∷ ns) k =
-        let o = r.others ns (omega arith) in
-        ((r.factor *ℤ n) ∷ o.0, o.1, ap suc o.2, λ c.
-        ap (λ w. (r.factor *ℤ n) *ℤ entry g c +ℤ w) (o.3 c)
-        ∙ head-kept r.factor n (entry g c) (combined ns given c) o.1 m (combined ms given c) z)
+        let o = r.others ns (omega arith) in (
+          (r.factor *ℤ n) ∷ o.0,
+          o.1,
+          ap suc o.2,
+          λ c.
+              ap (λ w. (r.factor *ℤ n) *ℤ entry g c +ℤ w) (o.3 c)
+              ∙ head-kept r.factor n (entry g c) (combined ns given c) o.1 m (combined ms given c) z,
+        )

@@ -1,7 +1,7 @@
 -- A row without a common factor, and with a negative entry in its column.
 use Prim.Native.Nat.{◌∣◌}
-use Rattle.std.specs.Prelude.{ℕ, zero, suc, ◌≡◌, ◌≢◌, ◌⊎◌, ◌<◌, ◌≤◌, ◌*◌, ◌/◌, ◌%◌, List, [], ◌∷◌, map, length, Contains, All, unsigned_abs}
-use Rattle.std.proofs.Common.{sym, ◌∙◌, ap, subst, arith, refl, get_or, inl, inr}
+use Rattle.std.specs.Prelude.{ℕ, zero, suc, ◌≡◌, ◌≢◌, ◌⊎◌, ◌<◌, ◌*◌, ◌/◌, ◌%◌, List, [], ◌∷◌, length, Contains, All, unsigned_abs}
+use Rattle.std.proofs.Common.{sym, ◌∙◌, ap, subst, arith, refl, inl, inr}
 use Rattle.std.proofs.Math.Nat.{mul-dvd-mul_left, dvd_of_mul-dvd-mul_left, eq-one_of_dvd-one}
 use Rattle.std.proofs.lemmas.Int.{ints, unsigned_abs-mul}
 use Rattle.std.proofs.lemmas.Nat.Gcd.{IsGcd-from_zero, IsGcd-from_mod, dvd-zero, dvd_antisymm, dvd_trans, mod-eq-zero_of_dvd}
@@ -86,12 +86,14 @@ part : (g : ℕ) (ms : List ℤ) → 0 < g → Divides g ms → (ns : List ℤ) 
 part g [] h d = ([], record { count = refl; entries = λ rows c. sym (*ℤ-zero (pos g)); factors = λ k f. tt })
 part g (m ∷ ms) h d =
     let w = whole-part g m h d.0 in
-    let r = part g ms h d.1 in
-    (w.0 ∷ r.0, record {
-      count = ap suc r.1.count;
-      entries = both w.0 r.0 w.1 r.1;
-      factors = λ k f. (factor-of g k w.0 m w.1 f.0, r.1.factors k f.1);
-    }) where
+    let r = part g ms h d.1 in (
+      w.0 ∷ r.0,
+      record {
+        count = ap suc r.1.count;
+        entries = both w.0 r.0 w.1 r.1;
+        factors = λ k f. (factor-of g k w.0 m w.1 f.0, r.1.factors k f.1);
+      },
+    ) where
       both : (n : ℤ) (ns : List ℤ) → pos g *ℤ n ≡ m → IsPart g ms ns → (rows : List (List (ℕ × ℤ))) (c : ℕ)
           → combined (m ∷ ms) rows c ≡ pos g *ℤ combined (n ∷ ns) rows c
       both n ns e p [] c = sym (*ℤ-zero (pos g))
@@ -104,19 +106,21 @@ coprime_row given basis x ms i o = let c = content ms in reduced c.0 c.1 c.2 whe
   reduced : (g : ℕ) → Divides g ms → ((d : ℕ) → Divides d ms → d ∣ g) → (ns : List ℤ) × IsRow given basis x ns
   reduced zero h all = absurd (o.has_entry (all-null ms given x h))
   reduced (suc k) h all =
-      let r = part (suc k) ms (omega arith) h in
-      (r.0, record {
-        multipliers = r.1.count ∙ o.multipliers;
-        in_basis = i;
-        has_entry = λ z. o.has_entry (r.1.entries given x ∙ ap (λ w. pos (suc k) *ℤ w) z ∙ *ℤ-zero (pos (suc k)));
-        alone = λ b j m. null_factor (pos (suc k)) (combined r.0 given b) (λ e. absurd (omega (arith, ints)))
-            (sym (r.1.entries given b) ∙ o.alone b j m);
-        coprime = λ d f e.
-            let a : suc k * d ∣ suc k = all (suc k * d) (r.1.factors d (divides-all d r.0 f)) in
-            let P : ℕ → Type 0 = λ z. suc k * d ∣ z in
-            let b : suc k * d ∣ suc k * 1 = subst P (omega arith) a in
-            eq-one_of_dvd-one (dvd_of_mul-dvd-mul_left d (omega arith) b);
-      })
+      let r = part (suc k) ms (omega arith) h in (
+        r.0,
+        record {
+          multipliers = r.1.count ∙ o.multipliers;
+          in_basis = i;
+          has_entry = λ z. o.has_entry (r.1.entries given x ∙ ap (λ w. pos (suc k) *ℤ w) z ∙ *ℤ-zero (pos (suc k)));
+          alone = λ b j m. null_factor (pos (suc k)) (combined r.0 given b) (λ e. absurd (omega (arith, ints)))
+              (sym (r.1.entries given b) ∙ o.alone b j m);
+          coprime = λ d f e.
+              let a : suc k * d ∣ suc k = all (suc k * d) (r.1.factors d (divides-all d r.0 f)) in
+              let P : ℕ → Type 0 = λ z. suc k * d ∣ z in
+              let b : suc k * d ∣ suc k * 1 = subst P (omega arith) a in
+              eq-one_of_dvd-one (dvd_of_mul-dvd-mul_left d (omega arith) b);
+        },
+      )
 
 abbrev negated : List ℤ → List ℤ
 negated [] = []

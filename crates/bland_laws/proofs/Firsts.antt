@@ -1,14 +1,14 @@
 -- A check begins with a position from which a run can begin.
-use Rattle.std.specs.Prelude.{ℕ, suc, ◌≡◌, ◌<◌, Bool, List, Option, None, Some}
+use Rattle.std.specs.Prelude.{ℕ, suc, ◌≡◌, List, Option, None, Some}
 use Rattle.std.specs.Int.{int_max, int_min}
-use Rattle.std.proofs.Common.{sym, ◌∙◌, refl, arith}
+use Rattle.std.proofs.Common.{refl, arith}
 use Rattle.std.proofs.lemmas.Int.{ints}
 use lib.IntN.{ℤ}
 use lib.Signed.{◌≤ℤ◌}
 use Rattle.proof_steps.specs.StopView.{Beginning}
 use Rattle.proof_steps.specs.Rows.{IsBasis, rows_of, columns_of}
-use Rattle.proof_steps.specs.Pivots.{Position, first_position, lower, upper, raised, lowered, place_of}
-use Rattle.bland_laws.specs.Laws.{LeaveRoom, IsWithin, CanBegin, ChecksEnd, BudgetsSuffice}
+use Rattle.proof_steps.specs.Pivots.{first_position, lower, upper, raised, lowered, place_of}
+use Rattle.bland_laws.specs.Laws.{LeaveRoom, CanBegin, ChecksEnd, SmallBudgets}
 use Rattle.bland_laws.proofs.Runs.{runs_end}
 
 same-some : (a b : ℤ) → Some a ≡ Some b → a ≡ b
@@ -45,5 +45,5 @@ pub checks_end : ChecksEnd
 checks_end given columns b h room n can =
     runs_end given columns b.bounds room n (first_position b) (first-begins given columns b h room) can
 
-pub budgets_suffice : BudgetsSuffice
-budgets_suffice f pairs start room long = checks_end (rows_of f) (columns_of f) start long.is_basis room (suc start.pivots) long.more
+pub small_budgets : SmallBudgets
+small_budgets f pairs start room long = checks_end (rows_of f) (columns_of f) start long.is_basis room (suc start.pivots) long.more

@@ -1,11 +1,10 @@
 -- The rows of a basis determine each combination.
-use Rattle.std.specs.Prelude.{ℕ, zero, suc, ◌≡◌, ◌≢◌, ◌≤◌, List, [], ◌∷◌, length, Contains}
-use Rattle.std.proofs.Common.{sym, ◌∙◌, ap, subst, arith, refl, inl, inr}
-use Rattle.std.proofs.lemmas.Int.{ints}
+use Rattle.std.specs.Prelude.{ℕ, suc, ◌≡◌, ◌≢◌, ◌≤◌, List, [], ◌∷◌, length, Contains}
+use Rattle.std.proofs.Common.{sym, ◌∙◌, ap, subst, arith, inl, inr}
 use lib.IntN.{ℤ, pos, ◌-ℤ◌, ◌*ℤ◌}
 use Rattle.proof_steps.specs.Rows.{combined, AllDiffer, IsRow, IsBasis}
 use Rattle.bland_laws.proofs.Combos.{zero-or, swapped_less, still_there, both_gone, crossed, length-crossed, combined-crossed, Fewer, fewer_rows}
-use Rattle.bland_laws.proofs.Listed.{same-or, in-head, in-tail, head-or, in-nothing}
+use Rattle.bland_laws.proofs.Listed.{in-head, in-tail, head-or}
 
 -- of these columns x alone has an entry in the combination
 pub record IsOwn (given : List (List (ℕ × ℤ))) (bs : List ℕ) (x : ℕ) (ms : List ℤ) : Type 0 where
@@ -38,14 +37,16 @@ not_more given (x ∷ rest) d h =
       left-own ms o f y i =
           let w = h y (in-tail x y rest i) in
           let k = f.others w.0 w.1.multipliers in
-          let n : y ≢ x = other-there rest x y d.0 i in
-          (k.0, record {
-            multipliers = k.2;
-            has_entry = λ z. still_there f.factor k.1 (combined w.0 given y) (combined ms given y) f.not_zero w.1.has_entry
-                (o.alone y (in-tail x y rest i) n) (sym (k.3 y) ∙ z);
-            alone = λ b j m. k.3 b ∙ both_gone f.factor k.1 (combined w.0 given b) (combined ms given b)
-                (w.1.alone b (in-tail x b rest j) m) (o.alone b (in-tail x b rest j) (other-there rest x b d.0 j));
-          })
+          let n : y ≢ x = other-there rest x y d.0 i in (
+            k.0,
+            record {
+              multipliers = k.2;
+              has_entry = λ z. still_there f.factor k.1 (combined w.0 given y) (combined ms given y) f.not_zero w.1.has_entry
+                  (o.alone y (in-tail x y rest i) n) (sym (k.3 y) ∙ z);
+              alone = λ b j m. k.3 b ∙ both_gone f.factor k.1 (combined w.0 given b) (combined ms given b)
+                  (w.1.alone b (in-tail x b rest j) m) (o.alone b (in-tail x b rest j) (other-there rest x b d.0 j));
+            },
+          )
 
 -- a combination without an entry in the basis is 0
 pub free : (given : List (List (ℕ × ℤ))) (bs : List ℕ) → length bs ≡ length given → AllDiffer bs → HaveOwn given bs
@@ -60,25 +61,30 @@ free given bs l d h ms k z c = elim (zero-or (combined ms given c)) [
       let w = h y i in
       let ks = crossed (combined ms given c) (combined w.0 given c) w.0 ms in
       let eq : (b : ℕ) → combined ks given b ≡ combined ms given c *ℤ combined w.0 given b -ℤ combined w.0 given c *ℤ combined ms given b =
-      λ b. combined-crossed (combined ms given c) (combined w.0 given c) w.0 ms given b w.1.multipliers k in
-      (ks, record {
-        multipliers = length-crossed (combined ms given c) (combined w.0 given c) w.0 ms (length given) w.1.multipliers k;
-        has_entry = λ e. still_there (combined ms given c) (combined w.0 given c) (combined w.0 given y) (combined ms given y)
-            n w.1.has_entry (z y i) (sym (eq y) ∙ e);
-        alone = λ b j m. eq b ∙ elim (head-or c b bs j) [
-          | inl e ↦ ap (λ x. combined ms given c *ℤ combined w.0 given x -ℤ combined w.0 given c *ℤ combined ms given x) e
-              ∙ swapped_less (combined ms given c) (combined w.0 given c)
-          | inr q ↦ both_gone (combined ms given c) (combined w.0 given c) (combined w.0 given b) (combined ms given b)
-              (w.1.alone b q m) (z b q)
-        ];
-      })
+      λ b. combined-crossed (combined ms given c) (combined w.0 given c) w.0 ms given b w.1.multipliers k in (
+        ks,
+        record {
+          multipliers = length-crossed (combined ms given c) (combined w.0 given c) w.0 ms (length given) w.1.multipliers k;
+          has_entry = λ e. still_there (combined ms given c) (combined w.0 given c) (combined w.0 given y) (combined ms given y)
+              n w.1.has_entry (z y i) (sym (eq y) ∙ e);
+          alone = λ b j m. eq b ∙ elim (head-or c b bs j) [
+            | inl e ↦ ap (λ x. combined ms given c *ℤ combined w.0 given x -ℤ combined w.0 given c *ℤ combined ms given x) e
+                ∙ swapped_less (combined ms given c) (combined w.0 given c)
+            | inr q ↦ both_gone (combined ms given c) (combined w.0 given c) (combined w.0 given b) (combined ms given b)
+                (w.1.alone b q m) (z b q)
+          ];
+        },
+      )
 
   more-own : combined ms given c ≢ pos 0 → HaveOwn given (c ∷ bs)
   more-own n y i = elim (head-or c y bs i) [
-    | inl e ↦ subst (λ (x : ℕ). (ns : List ℤ) × IsOwn given (c ∷ bs) x ns) (sym e) (ms, record {
-      multipliers = k;
-      has_entry = n;
-      alone = λ b j m. elim (head-or c b bs j) [ inl q ↦ absurd (m q) | inr q ↦ z b q ];
-    })
+    | inl e ↦ subst (λ (x : ℕ). (ns : List ℤ) × IsOwn given (c ∷ bs) x ns) (sym e) (
+      ms,
+      record {
+        multipliers = k;
+        has_entry = n;
+        alone = λ b j m. elim (head-or c b bs j) [ inl q ↦ absurd (m q) | inr q ↦ z b q ];
+      },
+    )
     | inr j ↦ own-of n y j
   ]

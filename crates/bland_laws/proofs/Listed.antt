@@ -103,9 +103,9 @@ pub still-differ : (x c : ℕ) (basis : List ℕ) → AllDiffer basis → (¬ Co
 still-differ x c [] d n = tt
 still-differ x c (b ∷ basis) d n = (
   λ i. let r = from-map (exchanged x c) basis (exchanged x c b) i in
-  let e : b ≡ r.0 = one-to-one x c b r.0 (λ q. n (subst (λ (z : ℕ). Contains (b ∷ basis) z) q (in-head b basis)))
-  (λ q. n (subst (λ (z : ℕ). Contains (b ∷ basis) z) q (in-tail b r.0 basis r.1))) r.2 in
-  d.0 (subst (λ (z : ℕ). Contains basis z) (sym e) r.1),
+      let e : b ≡ r.0 = one-to-one x c b r.0 (λ q. n (subst (λ (z : ℕ). Contains (b ∷ basis) z) q (in-head b basis)))
+      (λ q. n (subst (λ (z : ℕ). Contains (b ∷ basis) z) q (in-tail b r.0 basis r.1))) r.2 in
+      d.0 (subst (λ (z : ℕ). Contains basis z) (sym e) r.1),
   still-differ x c basis d.1 (λ i. n (in-tail b c basis i)),
 )
 

@@ -1,6 +1,6 @@
 -- Products of whole numbers in their order.
-use Rattle.std.specs.Prelude.{ℕ, zero, suc, ◌≡◌, ◌⊎◌, Bool, true, false}
-use Rattle.std.proofs.Common.{sym, ◌∙◌, ap, arith, refl, inl, inr}
+use Rattle.std.specs.Prelude.{zero, suc, ◌≡◌, Bool, true, false}
+use Rattle.std.proofs.Common.{sym, ◌∙◌, ap, arith}
 use Rattle.std.proofs.lemmas.Int.{ints, by_lt_z}
 use lib.IntN.{ℤ, pos, negsuc, ◌+ℤ◌, ◌-ℤ◌, ◌*ℤ◌, neg_ℤ, *ℤ-zero, zero-*ℤ, *ℤ_comm}
 use lib.Signed.{◌≤ℤ◌, ◌<ℤ◌}

@@ -2,14 +2,14 @@
 -- put them, all over one denominator.
 use Rattle.std.specs.Prelude.{ℕ, zero, suc, ◌≡◌, ◌≢◌, ◌<◌, ◌==◌, cond, List, [], ◌∷◌, length, Contains}
 use Rattle.std.proofs.Common.{sym, ◌∙◌, ap, subst, arith, refl, inl, inr}
-use Rattle.std.proofs.lemmas.Int.{ints, by_lt_z}
+use Rattle.std.proofs.lemmas.Int.{ints}
 use lib.IntN.{ℤ, pos, negsuc, ◌+ℤ◌, ◌-ℤ◌, ◌*ℤ◌, neg_ℤ, *ℤ-zero, zero-*ℤ, *ℤ_comm}
 use lib.Signed.{◌≤ℤ◌, ◌<ℤ◌}
-use Rattle.kind_num.proofs.Ring.{times_times, times_le, neg_times, times_neg}
+use Rattle.kind_num.proofs.Ring.{times_times, times_le, neg_times}
 use Rattle.proof_steps.specs.Rows.{combined, AllDiffer, HasValue, rest_below}
-use Rattle.bland_laws.proofs.Combos.{null_factor, zero_less, swapped_less, both_gone, crossed, length-crossed, combined-crossed}
+use Rattle.bland_laws.proofs.Combos.{null_factor, swapped_less, both_gone, crossed, length-crossed, combined-crossed}
 use Rattle.bland_laws.proofs.Listed.{same-or, tests-same, tests-other, in-head, in-tail, head-or, in-nothing, listed-or}
-use Rattle.bland_laws.proofs.Free.{IsOwn, HaveOwn, free}
+use Rattle.bland_laws.proofs.Free.{IsOwn, free}
 use Rattle.bland_laws.proofs.Sums.{sum_below, sum_apart, rest_scaled, sum_scaled, sum_nothing, sum_crossed}
 
 pub record IsPoint (given : List (List (ℕ × ℤ))) (columns : ℕ) (basis : List ℕ) (places : ℕ → ℤ) : Type 0 where
@@ -110,9 +110,12 @@ module _ (given : List (List (ℕ × ℤ))) (columns : ℕ) (basis : List ℕ) (
               × (sum_below (combined ms given) (moved b (rest_below (combined w.0 given) h.tops b columns) w.1 h.tops) columns ≡ pos 0))
               (sym e) (w.0, w.2, own-null (combined w.0 given) h.tops b columns w.1 (range b i) w.4)
           | inr k ↦ let r = h.rows y k in
-              let m : b ≢ y = λ e. fresh (subst (λ (z : ℕ). Contains rest z) (sym e) k) in
-              (r.0, r.1, other-null (combined r.0 given) h.tops b columns (rest_below (combined w.0 given) h.tops b columns) w.1
-              (r.1.alone b i m) r.2)
+              let m : b ≢ y = λ e. fresh (subst (λ (z : ℕ). Contains rest z) (sym e) k) in (
+                r.0,
+                r.1,
+                other-null (combined r.0 given) h.tops b columns (rest_below (combined w.0 given) h.tops b columns) w.1
+                    (r.1.alone b i m) r.2,
+              )
         ];
       }
 

@@ -1,15 +1,15 @@
 -- The greatest column that moves cannot come back: where it enters, the column that leaves would have missed its bound
 -- where the greatest one left, though it is less (R. G. Bland, New finite pivoting rules for the simplex method, 1977).
-use Rattle.std.specs.Prelude.{ℕ, zero, suc, ◌≡◌, ◌≢◌, ◌⊎◌, ◌<◌, Bool, true, false, List, length, Option, None, Some, Contains}
+use Rattle.std.specs.Prelude.{ℕ, ◌≡◌, ◌≢◌, ◌⊎◌, ◌<◌, Bool, true, false, List, Option, None, Some, Contains}
 use Rattle.std.proofs.Common.{sym, ◌∙◌, ap, subst, arith, refl, inl, inr}
 use Rattle.std.proofs.lemmas.Int.{ints, by_lt_z}
-use lib.IntN.{ℤ, pos, negsuc, ◌+ℤ◌, ◌-ℤ◌, ◌*ℤ◌, neg_ℤ, *ℤ-zero, zero-*ℤ, *ℤ_comm}
+use lib.IntN.{ℤ, pos, negsuc, ◌+ℤ◌, ◌*ℤ◌, neg_ℤ, *ℤ_comm}
 use lib.Signed.{◌≤ℤ◌, ◌<ℤ◌}
 use Rattle.kind_num.proofs.Ring.{neg_times, times_neg}
-use Rattle.proof_steps.specs.Rows.{combined, IsRow, IsBasis, HasValue, rest_below}
-use Rattle.proof_steps.specs.Pivots.{Position, Pivots, Misses, CanEnter, HasRoom, CanRise, CanFall, IsPast, bound_on, lower, upper}
+use Rattle.proof_steps.specs.Rows.{combined, IsBasis, HasValue, rest_below}
+use Rattle.proof_steps.specs.Pivots.{Position, Pivots, HasRoom, CanRise, CanFall, IsPast, bound_on, lower, upper}
 use Rattle.bland_laws.specs.Laws.{CanBegin}
-use Rattle.bland_laws.proofs.Listed.{same-or, listed-or, at-all}
+use Rattle.bland_laws.proofs.Listed.{listed-or, at-all}
 use Rattle.bland_laws.proofs.Free.{own_row}
 use Rattle.bland_laws.proofs.Coprime.{turned_row}
 use Rattle.bland_laws.proofs.Sums.{sum_below, sum_apart, rest_scaled, rest_at_most}

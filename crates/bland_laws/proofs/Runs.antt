@@ -1,9 +1,9 @@
 -- A run by Bland's rule never comes back.
-use Rattle.std.specs.Prelude.{ℕ, zero, suc, ◌≡◌, ◌≢◌, ◌⊎◌, ◌+◌, ◌*◌, ◌^◌, ◌<◌, ◌≤◌, Bool, List, map, Contains}
+use Rattle.std.specs.Prelude.{ℕ, zero, suc, ◌≡◌, ◌≢◌, ◌⊎◌, ◌+◌, ◌*◌, ◌^◌, ◌<◌, ◌≤◌, Bool, List, Contains}
 use Rattle.std.proofs.Common.{sym, ◌∙◌, ap, subst, arith, refl, inl, inr}
 use Rattle.std.proofs.Math.Nat.{pow-suc}
 use lib.IntN.{ℤ}
-use Rattle.proof_steps.specs.Pivots.{Position, Pivots, CanPivot, exchanged}
+use Rattle.proof_steps.specs.Pivots.{Position, Pivots, CanPivot}
 use Rattle.bland_laws.specs.Laws.{Leads, LeaveRoom, CanBegin, IsSame, NoStateTwice, StatesDiffer, RunsEnd}
 use Rattle.bland_laws.proofs.Listed.{same-or, listed-or, at-all, kept-in, entered, after-or}
 use Rattle.bland_laws.proofs.Begun.{begun_after, premises_pass_on}
@@ -145,11 +145,14 @@ module _ (given : List (List (ℕ × ℤ))) (columns : ℕ) (bounds : List (ℕ 
     | inr m ↦
         let f : run.1.leaving ≢ r = not-leaving u run.0 run.1 r out in
         let l : run.1.leaving < suc r = b.0 in
-        let k : run.1.entering < suc r = b.1 in
-        (omega arith, omega arith, if-outside r s n run.0 t run.2 b.2 (begun_after given columns bounds u run.0 room h run.1)
-        (alike-after r s u run.0 run.1 b.0 b.1 a)
-        (λ i. elim (was-in u run.0 run.1 r i) [ inl e ↦ m (sym e) | inr t ↦ out t.0 ]) end
-        (at ∙ sym (run.1.others r (λ e. f (sym e)))))
+        let k : run.1.entering < suc r = b.1 in (
+          omega arith,
+          omega arith,
+          if-outside r s n run.0 t run.2 b.2 (begun_after given columns bounds u run.0 room h run.1)
+              (alike-after r s u run.0 run.1 b.0 b.1 a)
+              (λ i. elim (was-in u run.0 run.1 r i) [ inl e ↦ m (sym e) | inr t ↦ out t.0 ]) end
+              (at ∙ sym (run.1.others r (λ e. f (sym e)))),
+        )
   ] where
     comes : run.1.entering ≡ r → (Contains t.basis r × AreBelow r n run.0 t run.2) ⊎ HasLeft r s t → ⊥
     comes e (inl w) = end w.0
@@ -244,8 +247,7 @@ module _ (given : List (List (ℕ × ℤ))) (columns : ℕ) (bounds : List (ℕ 
   kept-through r (suc n) u t run b =
       let y : run.1.leaving < r = b.0 in
       let z : run.1.entering < r = b.1 in
-      let w = kept-through r n run.0 t run.2 b.2 in
-      (
+      let w = kept-through r n run.0 t run.2 b.2 in (
         λ i. w.0 (stays-in u run.0 run.1 r i (λ e. absurd (omega arith))),
         λ i. elim (was-in u run.0 run.1 r (w.1 i)) [ inl e ↦ absurd (omega arith) | inr t ↦ t.0 ],
       )

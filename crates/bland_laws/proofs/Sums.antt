@@ -1,10 +1,10 @@
 -- Sums over columns.
-use Rattle.std.specs.Prelude.{ℕ, zero, suc, ◌≡◌, ◌≢◌, ◌<◌, ◌≤◌, ◌==◌, true, false, cond, List, length}
-use Rattle.std.proofs.Common.{sym, ◌∙◌, ap, subst, arith, refl, inl, inr}
+use Rattle.std.specs.Prelude.{ℕ, zero, suc, ◌≡◌, ◌≢◌, ◌<◌, ◌≤◌, ◌==◌, cond}
+use Rattle.std.proofs.Common.{sym, ◌∙◌, ap, arith, refl, inl, inr}
 use Rattle.std.proofs.lemmas.Int.{ints}
 use lib.IntN.{ℤ, pos, ◌+ℤ◌, ◌-ℤ◌, ◌*ℤ◌, neg_ℤ, *ℤ-zero, zero-*ℤ}
-use lib.Signed.{◌≤ℤ◌, ◌<ℤ◌}
-use Rattle.kind_num.proofs.Ring.{times_sum, sum_times, neg_times, times_neg, times_times}
+use lib.Signed.{◌≤ℤ◌}
+use Rattle.kind_num.proofs.Ring.{times_sum, sum_times, neg_times, times_times}
 use Rattle.proof_steps.specs.Rows.{rest_below}
 use Rattle.bland_laws.proofs.Listed.{same-or, tests-same, tests-other}
 

@@ -1,5 +1,5 @@
 -- The laws of the runs by Bland's rule.
-use Rattle.std.specs.Prelude.{ℕ, zero, suc, ◌≡◌, ◌<◌, ◌^◌, Bool, List, Option, Some, Contains, ◌↔◌}
+use Rattle.std.specs.Prelude.{ℕ, zero, suc, ◌≡◌, ◌<◌, ◌^◌, Bool, List, Some, Contains, ◌↔◌}
 use lib.IntN.{ℤ}
 use lib.Signed.{◌≤ℤ◌}
 use Rattle.proof_steps.specs.StopView.{Beginning}
@@ -53,20 +53,20 @@ StatesDiffer =
     → Leads given columns bounds (suc n) u t → ¬ IsSame columns u t
 
 -- A run has fewer pivots than 3 to the power of the columns: the greatest column that moves enters at most once and
--- leaves at most once, and before, between and after these only less columns move.
+-- leaves at most once, and before, between and after these two only columns below it move.
 abbrev pub RunsEnd : Type 0
 RunsEnd =
     (given : List (List (ℕ × ℤ))) (columns : ℕ) (bounds : List (ℕ × Bool × ℤ)) → LeaveRoom bounds
     → (n : ℕ) (s : Position) → CanBegin given columns bounds s → CanPivot given columns bounds n s → n < 3 ^ columns
 
--- So does the run that a check begins: it begins with each column outside the basis moved into its bounds.
+-- So has the run that a check begins: it begins with each column outside the basis moved into its bounds.
 abbrev pub ChecksEnd : Type 0
 ChecksEnd =
     (given : List (List (ℕ × ℤ))) (columns : ℕ) (b : Beginning) → IsBasis given columns b.basis → LeaveRoom b.bounds
     → (n : ℕ) → CanPivot given columns b.bounds n (first_position b) → n < 3 ^ columns
 
--- So a budget that a stop truly says was too small, where no bounds cross, is less than that.
-abbrev pub BudgetsSuffice : Type 0
-BudgetsSuffice =
+-- So a budget that a stop truly says was too small, where no bounds cross, is below that.
+abbrev pub SmallBudgets : Type 0
+SmallBudgets =
     (f : Form) (pairs : List (ℕ × ℤ)) (start : Beginning) → LeaveRoom start.bounds → IsLong f pairs start
     → suc start.pivots < 3 ^ columns_of f

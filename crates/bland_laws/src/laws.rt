@@ -1,6 +1,6 @@
 //! The laws of the runs by Bland's rule.
 
-ghost use Rattle.bland_laws.specs.Laws.{BudgetsSuffice, ChecksEnd, NoStateTwice, PremisesPassOn, RunsEnd, StatesDiffer};
+ghost use Rattle.bland_laws.specs.Laws.{ChecksEnd, NoStateTwice, PremisesPassOn, RunsEnd, SmallBudgets, StatesDiffer};
 
 /// What a run by Bland's rule begins with holds after each of its pivots, too.
 pub fn premises_pass_on()
@@ -20,14 +20,14 @@ pub fn states_differ()
 {}
 
 /// Each run by Bland's rule ends, after fewer pivots than 3 to the power of the columns: the greatest column that moves
-/// enters at most once and leaves at most once, and in the three parts of the run between only less columns move.
+/// enters at most once and leaves at most once, and before, between and after these two only columns below it move.
 pub fn runs_end()
     ensures { RunsEnd }
 {}
 
-/// A check makes fewer pivots than that, too, where no column's bounds cross. So a stop that truly says that a budget of
-/// pivots was too small names a smaller budget.
+/// A check makes fewer pivots than that, too, where no column's bounds cross. So a stop that truly says that a budget
+/// of pivots was too small names a budget below that.
 pub fn checks_end()
     ensures run { ChecksEnd }
-    ensures budget { BudgetsSuffice }
+    ensures budget { SmallBudgets }
 {}
