@@ -74,7 +74,13 @@ fn keeps_points(numbers: &[i128], atom: &Atom) -> bool {
 }
 
 /// The tableau with one more bound, where it has the column.
-pub fn held(alloc: Global, tableau: Tableau, upper: bool, column: u32, limit: i128) -> Result<Tableau>
+pub fn held(
+    alloc: Global,
+    tableau: Tableau,
+    upper: bool,
+    column: u32,
+    limit: i128,
+) -> Result<Tableau>
     requires { tableau.usable ≡ true }
     ensures { IfOk result (λ t. t.usable ≡ true) }
 {
