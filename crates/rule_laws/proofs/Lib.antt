@@ -10,3 +10,5 @@ pub mod Tables
 pub mod Numbered
 pub mod Places
 pub mod Known
+pub mod Parts
+pub mod Fitted

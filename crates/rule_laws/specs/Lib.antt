@@ -1,1 +1,3 @@
 pub mod Laws
+pub mod Fitting
+pub mod Types

@@ -1,0 +1,47 @@
+-- The law of types: in a frame whose names and first values have their types, every expression's value has its own.
+use Rattle.std.specs.Prelude.{◌≡◌, ℕ, suc, ◌<◌, true, Contains}
+use Rattle.lus_tree.specs.declared.place.Sort.TheVariants.{Bool as Flags}
+use Rattle.lus_meaning.specs.Value.{Instants}
+use Rattle.lus_meaning.specs.Frame.{Frame, frame_at, calls_in, firsts_of}
+use Rattle.lus_meaning.specs.Scene.{Instance, Instances, instance, no_instances, with_instance, is_on}
+use Rattle.lus_meaning.specs.Meaning.{value}
+use Rattle.lus_meaning.specs.Contract.{ModeTerms, terms, scene}
+use Rattle.lus_meaning.specs.Program.{instance_of}
+use Rattle.lus_meaning.specs.Run.{sort_of, first_sorts, have_sorts, is_typed}
+use Rattle.lus_meaning.specs.Occurrences.{Occurrence, all_occurrences}
+use Rattle.lus_meaning.specs.RuleLaws.{OfEach}
+use Rattle.lus_meaning.specs.WellMade.{HasTypes}
+
+-- the first values of a frame, and of those of its calls, have their types
+abbrev mutual
+  pub HasTypedFirsts : Instance → Frame → Type 0
+  HasTypedFirsts (instance d cs is) f =
+      (have_sorts (first_sorts (instance d cs is)) (firsts_of f) ≡ true) × CallsHaveTypedFirsts is (frame_at (calls_in f))
+
+  pub CallsHaveTypedFirsts : Instances → (ℕ → Frame) → Type 0
+  CallsHaveTypedFirsts no_instances g = Unit {0}
+  CallsHaveTypedFirsts (with_instance c k is) g = HasTypedFirsts k (g 0) × CallsHaveTypedFirsts is (λ j. g (suc j))
+
+-- before instant n each name of a frame has a value of its type exactly where its clock is on, and so in the frames of its
+-- calls; and first values have their types
+pub record IsTypedFrame (i : Instance) (n : ℕ) (b : Instants) (f : Frame) : Type 0 where
+  pub names : HasTypes i n b f
+  pub firsts : HasTypedFirsts i f
+
+-- the value is of the expression's type exactly where the clock of its place is on, and absent elsewhere
+abbrev pub IsTypedThere : Instance → ℕ → Instants → Frame → Occurrence → Type 0
+IsTypedThere i n b f o = (t : ℕ) → t < n →
+    is_typed (sort_of i o.expression) (is_on (scene i b f) o.standing.clock t) (value (scene i b f) o.standing.clock o.expression t) ≡ true
+
+-- The law of types, of each declaration of a checked program and each expression in it.
+abbrev pub TypesOfValues : Type 0
+TypesOfValues =
+    OfEach (λ p n. (m : ℕ) (b : Instants) (f : Frame) → IsTypedFrame (instance_of p n) m b f →
+    (o : Occurrence) → Contains (all_occurrences n) o → IsTypedThere (instance_of p n) m b f o)
+
+-- What a mode requires, of the contract or of an import, is a truth value exactly where the beat is on.
+abbrev pub TypesOfModes : Type 0
+TypesOfModes =
+    OfEach (λ p n. (k : ℕ) (b : Instants) (f : Frame) → IsTypedFrame (instance_of p n) k b f →
+    (m : ModeTerms) → Contains (terms (instance_of p n)).modes m → (t : ℕ) → t < k →
+    is_typed Flags (b t) (m.requires_all b f t) ≡ true)
