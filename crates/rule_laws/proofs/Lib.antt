@@ -12,3 +12,4 @@ pub mod Places
 pub mod Known
 pub mod Parts
 pub mod Fitted
+pub mod ValuesTyped
