@@ -13,3 +13,4 @@ pub mod Known
 pub mod Parts
 pub mod Fitted
 pub mod ValuesTyped
+pub mod Texts
