@@ -14,3 +14,4 @@ pub mod Parts
 pub mod Fitted
 pub mod ValuesTyped
 pub mod Texts
+pub mod Covered
