@@ -35,7 +35,7 @@ use Rattle.rule_laws.proofs.Parts.{nested}
 
 -- ---- truth values
 
-not_false : (b : Bool) → not b ≡ false → b ≡ true
+pub not_false : (b : Bool) → not b ≡ false → b ≡ true
 not_false true e = refl
 not_false false e = absurd (false≢true (sym e))
 
@@ -108,7 +108,7 @@ no_dispute s q r a b h t u = sym (same_sorts q r (subst (λ k. differ (Some q) k
 is_known_here : (s : Scope) (x : Name) (at : Pos) → used s x at ≡ [] → is_known s x ≡ true
 is_known_here s x at e = not_false (is_known s x) (not_so (not (is_known s x)) name_unknown at e)
 
-stands_there : (n : Component) (c : Clock) (e : Expression) → stands_on n c e ≡ [] → is_other c (clock_in n e) ≡ false
+pub stands_there : (n : Component) (c : Clock) (e : Expression) → stands_on n c e ≡ [] → is_other c (clock_in n e) ≡ false
 stands_there n c e h = not_so (is_other c (clock_in n e)) clock_clash (begin e) h
 
 -- ---- operands of one clock
@@ -182,12 +182,12 @@ some_output [] e = absurd (false≢true e)
 some_output (x ∷ xs) e = tt
 
 -- the parts of a call's faults
-record CallRight (sc : Scope) (w : Bool) (f : Spelled) (as_ : List Expression) (m : Component) : Type 0 where
-  count : (length m.inputs == length as_) ≡ true
-  arguments : arguments_fit sc m.inputs as_ ≡ []
-  outputs : (not w && not (has_one m.outputs)) ≡ false
+pub record CallRight (sc : Scope) (w : Bool) (f : Spelled) (as_ : List Expression) (m : Component) : Type 0 where
+  pub count : (length m.inputs == length as_) ≡ true
+  pub arguments : arguments_fit sc m.inputs as_ ≡ []
+  pub outputs : (not w && not (has_one m.outputs)) ≡ false
 
-call_right : (sc : Scope) (w : Bool) (f : Spelled) (as_ : List Expression) (m : Component) → call_faults sc w f as_ (Some m) ≡ [] → CallRight sc w f as_ m
+pub call_right : (sc : Scope) (w : Bool) (f : Spelled) (as_ : List Expression) (m : Component) → call_faults sc w f as_ (Some m) ≡ [] → CallRight sc w f as_ m
 call_right sc w f as_ m h =
     let counted : Bool = length m.inputs == length as_ in
     let last : List Refused = if_so (not w && not (has_one m.outputs)) arity_clash f.at in
@@ -278,7 +278,7 @@ module _ (sc : Scope) (i : Instance) (shown : Shown sc i) where
     pub defaults : default_faults sc f (listed ds) (node_named sc.program f.text) ≡ []
     pub constant : flat_map (not_allowed sc) (listed ds) ≡ []
 
-  held_right : (t : Standing) (a : Expression) (f : Spelled) (as_ ds : Expressions) (w : Bool) → ((needs_sort sc Flags a
+  pub held_right : (t : Standing) (a : Expression) (f : Spelled) (as_ ds : Expressions) (w : Bool) → ((needs_sort sc Flags a
       ++ call_faults sc t.whole_side f (listed as_) (node_named sc.program f.text))
       ++ default_faults sc f (listed ds) (node_named sc.program f.text)) ++ flat_map (not_allowed sc) (listed ds) ≡ [] → HeldRight t a f as_ ds
   held_right t a f as_ ds w h =

@@ -15,3 +15,5 @@ pub mod Fitted
 pub mod ValuesTyped
 pub mod Texts
 pub mod Covered
+pub mod Goods
+pub mod SameModes

@@ -31,13 +31,13 @@ use Rattle.rule_laws.proofs.Unfolded.{component_within, each_unfolded}
 
 -- ---- numbers
 
-all_grammatical : (ds : Program) → AllByRecursion IsGrammaticalDeclaration ds → AllByRecursion IsGrammaticalComponent (components ds)
+pub all_grammatical : (ds : Program) → AllByRecursion IsGrammaticalDeclaration ds → AllByRecursion IsGrammaticalComponent (components ds)
 all_grammatical [] a = tt
 all_grammatical (declared_constant c ∷ ds) a = all_grammatical ds a.1
 all_grammatical (declared_node n ∷ ds) a = (a.0, all_grammatical ds a.1)
 all_grammatical (declared_contract n ∷ ds) a = (a.0.0, all_grammatical ds a.1)
 
-numbered : (p : Program) → IsGrammatical p → (n : Component) → Contains (components p) n → IsNumbered n
+pub numbered : (p : Program) → IsGrammatical p → (n : Component) → Contains (components p) n → IsNumbered n
 numbered p g n i = (at_one IsGrammaticalComponent (components p) n (all_grammatical p g) i).numbered
 
 no_imports : (cs : List ContractStatement) → flat_map (import_number a_pre) cs ≡ []
@@ -126,7 +126,7 @@ first_call p (c ∷ ss) (with_instance d i is) (suc k) s u a = go (bytes_eq s.ca
 calls_unfolded : (p : Program) (i : Instance) (n : Component) → component_of i ≡ n → IsUnfolded p i → AreUnfolded p (all_sites n) (calls_of i)
 calls_unfolded p (instance m cs is) n e u = subst (λ k. AreUnfolded p (all_sites k) is) e u.1
 
-by_number : (i : Instance) (k : ℕ) → 1 ≤ k → instance_at (calls_of i) (pred k) ≡ call_instance i k
+pub by_number : (i : Instance) (k : ℕ) → 1 ≤ k → instance_at (calls_of i) (pred k) ≡ call_instance i k
 by_number i zero l = absurd (omega arith)
 by_number i (suc k) l = refl
 

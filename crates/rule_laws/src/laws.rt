@@ -1,5 +1,6 @@
 //! The laws of the programs that follow the rules.
 
+ghost use Rattle.rule_laws.specs.Fitting.{ExpressionsFit};
 ghost use Rattle.rule_laws.specs.Laws.{CallsInPlace, FirstsInPlace, ImportsInPlace, TablesAgree, Unfolding};
 
 /// In a checked program the instance of each declaration is unfolded to its end: each call occurrence and each import,
@@ -20,4 +21,11 @@ pub fn numbered_places()
     ensures calls { CallsInPlace }
     ensures imports { ImportsInPlace }
     ensures firsts { FirstsInPlace }
+{}
+
+/// In a checked program each expression of a declaration, parts included, fits where it stands: its operands have the types
+/// that it takes, a name is a constant or a stream on the clock of its place, a call has the place of its number with
+/// arguments and defaults of the types that its callee says, and a mode is one of the contract or of an import.
+pub fn expressions_fit()
+    ensures { ExpressionsFit }
 {}
