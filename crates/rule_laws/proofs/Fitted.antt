@@ -311,7 +311,7 @@ module _ (sc : Scope) (i : Instance) (shown : Shown sc i) where
       (held_right t a f as_ ds true (form_right (occurs t (condact p k a f as_ ds)) g.0)).call)
   typed (mode_name p c m) t w g = refl
 
-  needed : (e : Expression) (t : Standing) (q : Sort) → t.whole_side ≡ false → Good t e → needs_sort sc q e ≡ [] → sort_of i e ≡ q
+  pub needed : (e : Expression) (t : Standing) (q : Sort) → t.whole_side ≡ false → Good t e → needs_sort sc q e ≡ [] → sort_of i e ≡ q
   needed e t q w g h = no_clash sc q (sort_of i e) e h (typed e t w g)
 
   one_sort : (a b : Expression) (t u : Standing) → t.whole_side ≡ false → u.whole_side ≡ false → Good t a → Good u b → agree sc a b ≡ []

@@ -16,7 +16,7 @@ use Rattle.lus_meaning.specs.Scope.{Entry, is_constant_role, Scope, is_constant_
 use Rattle.lus_meaning.specs.Faults.{words_twice}
 use Rattle.lus_meaning.specs.ExpressionFaults.{call_faults, has_one, has_mode, mode_is_known, form_faults, weight_faults, part_faults, expression_faults}
 use Rattle.lus_meaning.specs.NameFaults.{declaration_word, home, component_faults, constant_words, own_words, outer_twice, mode_words, labels_twice, contract_faults, body_faults, local_constant_faults, statement_faults, state_faults, recursion_faults, assumption_faults, declaration_faults, typing_faults}
-use Rattle.lus_meaning.specs.ClockFaults.{components, component_clock_faults, clock_faults, contract_statement_clock_faults, statement_clock_faults, name_clock, stands_on, clock_form_faults, clock_faults_of}
+use Rattle.lus_meaning.specs.ClockFaults.{components, component_clock_faults, clock_faults, contract_statement_clock_faults, statement_clock_faults, name_clock, clock_in, is_other, stands_on, clock_form_faults, clock_faults_of}
 use Rattle.lus_meaning.specs.Grammatical.{has_left_name, IsGrammaticalComponent, ghost_names}
 use Rattle.lus_meaning.specs.Refusals.{IsTyped, IsChecked}
 use Rattle.lus_meaning.proofs.EachPart.{Each, each_part, each_of_both, each_elsewhere}
@@ -100,7 +100,7 @@ module _ (p : Program) (c : IsChecked p) (h : ℕ × Component) (place : Contain
   abbrev own_component : component_of there ≡ h.1
   own_component = component_within (length p) p h.1
 
-  holds_apart : (s : Scope) → ScopeOf p h s → HoldsApart s
+  pub holds_apart : (s : Scope) → ScopeOf p h s → HoldsApart s
   holds_apart s o x e =
       let q : (d : Entry) × (find (is_word x) (table p h) ≡ Some d) × (is_constant_role d.role ≡ true) =
       fixed_entry (entry_of s x) (find (is_word x) (table p h)) (o.shows x) e in
@@ -163,7 +163,7 @@ outputs_on_base n g =
     without_clocks n.outputs (left_part (λ v. is_none v.clock ≡ true) n.outputs (flat_map ghost_names (contract_statements n))
     (right_part (λ v. is_none v.clock ≡ true) n.inputs (n.outputs ++ flat_map ghost_names (contract_statements n)) all))
 
-calls_placed : (p : Program) → IsChecked p → (n : Component) → Contains (components p) n → AllByRecursion (PlacedCall p (instance_of p n)) (gathered site_in n)
+pub calls_placed : (p : Program) → IsChecked p → (n : Component) → Contains (components p) n → AllByRecursion (PlacedCall p (instance_of p n)) (gathered site_in n)
 calls_placed p c n i = all_contained (PlacedCall p (instance_of p n)) (gathered site_in n) one
   where
     one : (s : Site) → Contains (gathered site_in n) s → PlacedCall p (instance_of p n) s
@@ -175,10 +175,10 @@ calls_placed p c n i = all_contained (PlacedCall p (instance_of p n)) (gathered 
 -- ---- one text
 
 module _ (p : Program) (i : Instance) (sc : Scope) (program : sc.program ≡ p) (shown : Shown sc i) where
-  abbrev CallsPlaced : Occurrence → Type 0
+  abbrev pub CallsPlaced : Occurrence → Type 0
   CallsPlaced o = AllByRecursion (PlacedCall p i) (site_in o.standing o.expression)
 
-  abbrev NoFault : Occurrence → Type 0
+  abbrev pub NoFault : Occurrence → Type 0
   NoFault o = part_faults sc o ≡ []
 
   abbrev NoClockFault : Expression → Type 0
@@ -238,15 +238,25 @@ module _ (p : Program) (i : Instance) (sc : Scope) (program : sc.program ≡ p) 
   sites_fit t (merged p x b d) a o = tt
   sites_fit t (mode_name p c m) a o = tt
 
-  text_fits : (x : Text) → IsClean sc x → AllByRecursion CallsPlaced (occurrences (component_of i) x.0 x.1) → Each (FitsThere i) (component_of i) x.0 x.1
-  text_fits x k calls =
+  -- whether its clock is that of its place
+  pub text_stands : (x : Text) → IsClean sc x → is_other x.0.clock (clock_in (component_of i) x.1) ≡ false
+  text_stands x k =
+      let own : clock_faults_of (component_of i) x.0.clock x.1 ≡ [] = subst (λ m. clock_faults_of m x.0.clock x.1 ≡ []) shown.owner k.clocks in
+      stands_there (component_of i) x.0.clock x.1 (no_parts (stands_on (component_of i) x.0.clock x.1) _ own).0
+
+  pub no_faults : (x : Text) → IsClean sc x → Each NoFault (component_of i) x.0 x.1
+  no_faults x k = each_part NoFault (component_of i) x.0 x.1 (none_mapped (part_faults sc) (occurrences (component_of i) x.0 x.1)
+      (subst (λ m. flat_map (part_faults sc) (occurrences m x.0 x.1) ≡ []) shown.owner k.types))
+
+  pub text_good : (x : Text) → IsClean sc x → AllByRecursion CallsPlaced (occurrences (component_of i) x.0 x.1)
+      → Each (GoodPart sc i) (component_of i) x.0 x.1
+  text_good x k calls =
       let n : Component = component_of i in
       let t : Standing = x.0 in
       let e : Expression = x.1 in
       let own : clock_faults_of n t.clock e ≡ [] = subst (λ m. clock_faults_of m t.clock e ≡ []) shown.owner k.clocks in
       let parts = no_parts (stands_on n t.clock e) (flat_map (λ o. clock_form_faults n o.expression) (occurrences n (on_clock t.clock) e)) own in
-      let types : Each NoFault n t e = each_part NoFault n t e (none_mapped (part_faults sc) (occurrences n t e)
-      (subst (λ m. flat_map (part_faults sc) (occurrences m t e) ≡ []) shown.owner k.types)) in
+      let types : Each NoFault n t e = no_faults x k in
       let clocks : Each (λ o. NoClockFault o.expression) n t e = each_elsewhere NoClockFault n (on_clock t.clock) t e
       (each_part (λ o. NoClockFault o.expression) n (on_clock t.clock) e
       (none_mapped (λ o. clock_form_faults n o.expression) (occurrences n (on_clock t.clock) e) parts.1)) in
@@ -258,10 +268,11 @@ module _ (p : Program) (i : Instance) (sc : Scope) (program : sc.program ≡ p) 
       each_of_both (λ o. NoFault o × HasOutputs sc o.expression) CallsPlaced
       (λ o. NoFault o × AllByRecursion (SiteFits (node_named sc.program) i) (site_in o.standing o.expression))
       (λ o a b. (a.0, sites_fit o.standing o.expression b a.1)) n t e some (each_part CallsPlaced n t e calls) in
-      let good : Each (GoodPart sc i) n t e =
       each_of_both (λ o. NoFault o × AllByRecursion (SiteFits (node_named sc.program) i) (site_in o.standing o.expression))
-      (λ o. NoClockFault o.expression) (GoodPart sc i) (λ o a b. record { types = a.0; clocks = b; sites = a.1 }) n t e sites clocks in
-      fit_parts sc i shown t e good (stands_there n t.clock e parts.0)
+      (λ o. NoClockFault o.expression) (GoodPart sc i) (λ o a b. record { types = a.0; clocks = b; sites = a.1 }) n t e sites clocks
+
+  pub text_fits : (x : Text) → IsClean sc x → AllByRecursion CallsPlaced (occurrences (component_of i) x.0 x.1) → Each (FitsThere i) (component_of i) x.0 x.1
+  text_fits x k calls = fit_parts sc i shown x.0 x.1 (text_good x k calls) (text_stands x k)
 
 -- ---- a declaration
 

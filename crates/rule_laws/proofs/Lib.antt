@@ -17,3 +17,4 @@ pub mod Texts
 pub mod Covered
 pub mod Goods
 pub mod SameModes
+pub mod TypedFrames
