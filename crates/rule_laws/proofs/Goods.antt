@@ -50,7 +50,7 @@ pub all_of_each : {A B : Type 0} (P : B → Type 0) (f : A → List B) (xs : Lis
 all_of_each P f [] a = tt
 all_of_each P f (x ∷ xs) a = (left_part P (f x) (flat_map f xs) a, all_of_each P f xs (right_part P (f x) (flat_map f xs) a))
 
-some_named : (x : Name) (xs : List Name) → has_one (filter (bytes_eq x) xs) ≡ true → named_in x xs ≡ true
+pub some_named : (x : Name) (xs : List Name) → has_one (filter (bytes_eq x) xs) ≡ true → named_in x xs ≡ true
 some_named x [] e = absurd (false≢true e)
 some_named x (y ∷ ys) e = go (bytes_eq x y) (some_named x ys) e
   where
@@ -279,9 +279,17 @@ module _ (p : Program) (i : Instance) (sc : Scope) (program : sc.program ≡ p) 
 abbrev pub TextFits : Instance → Text → Type 0
 TextFits i x = Each (FitsThere i) (component_of i) x.0 x.1
 
-declaration_texts : (p : Program) (c : IsChecked p) (h : ℕ × Component) → Contains (placed 0 p) h → Contains (components p) h.1
-    → AllByRecursion (CleanText p h) (texts h.1)
-declaration_texts p c h place i =
+-- a declaration without faults
+pub record CleanDeclaration (p : Program) (h : ℕ × Component) : Type 0 where
+  pub contract : contract_faults (home p h.0 h.1) [] (contract_statements h.1) ≡ []
+  pub contract_clocks : flat_map (contract_statement_clock_faults h.1) (contract_statements h.1) ≡ []
+  pub constants : local_constant_faults (home p h.0 h.1) 0 h.1.constants ≡ []
+  pub lefts : list_all has_left_name h.1.body ≡ true
+  pub body : flat_map (statement_faults (body_scope (home p h.0 h.1))) h.1.body ≡ []
+  pub body_clocks : flat_map (statement_clock_faults h.1) h.1.body ≡ []
+
+pub clean_declaration : (p : Program) → IsChecked p → (h : ℕ × Component) → Contains (placed 0 p) h → Contains (components p) h.1 → CleanDeclaration p h
+clean_declaration p c h place i =
     let n : Component = h.1 in
     let faults = no_parts (words_twice name_twice (map declaration_word p)) (declaration_faults p 0 p)
     (no_parts _ (words_twice name_twice (map declaration_word p) ++ declaration_faults p 0 p) (empty_of (typing_faults p) c.rules.clocked.typed)).1 in
@@ -296,9 +304,28 @@ declaration_texts p c h place i =
     let clocks = no_parts (flat_map (contract_statement_clock_faults n) (contract_statements n)) (flat_map (statement_clock_faults n) n.body)
     (at_one (λ m. component_clock_faults m ≡ []) (components p) n
     (none_mapped component_clock_faults (components p) (empty_of (clock_faults p) c.rules.clocked.clocks)) i) in
-    let lefts : list_all has_left_name n.body ≡ true =
-    (at_one IsGrammaticalComponent (components p) n (all_grammatical p c.grammatical) i).lefts in
-    texts_clean p h (holds_apart p c h place) rest.0 clocks.0 body.0 lefts body.1 clocks.1
+    record {
+      contract = rest.0;
+      contract_clocks = clocks.0;
+      constants = body.0;
+      lefts = (at_one IsGrammaticalComponent (components p) n (all_grammatical p c.grammatical) i).lefts;
+      body = body.1;
+      body_clocks = clocks.1;
+    }
+
+pub declaration_texts : (p : Program) (c : IsChecked p) (h : ℕ × Component) → Contains (placed 0 p) h → Contains (components p) h.1
+    → AllByRecursion (CleanText p h) (texts h.1)
+declaration_texts p c h place i =
+    let q : CleanDeclaration p h = clean_declaration p c h place i in
+    texts_clean p h (holds_apart p c h place) q.contract q.contract_clocks q.constants q.lefts q.body q.body_clocks
+
+-- the modes of the instance of a declaration
+pub own_covered : (p : Program) → IsChecked p → (n : Component) → Contains (components p) n
+    → Covers p (contract_statements n) (terms (instance_of p n)).modes
+own_covered p c n d =
+    let own : component_of (instance_of p n) ≡ n = component_within (length p) p n in
+    subst (λ m. Covers p (contract_statements m) (terms (instance_of p n)).modes) own
+    (covered p c (instance_of p n) (each_unfolded p c n d) (subst (Contains (components p)) (sym own) d))
 
 pub texts_fit : (p : Program) → IsChecked p → (n : Component) → Contains (components p) n → AllByRecursion (TextFits (instance_of p n)) (texts n)
 texts_fit p c n d =
@@ -306,8 +333,7 @@ texts_fit p c n d =
     let h : ℕ × Component = (q.before, n) in
     let i : Instance = instance_of p n in
     let own : component_of i ≡ n = component_within (length p) p n in
-    let covers : Covers p (contract_statements n) (terms i).modes = subst (λ m. Covers p (contract_statements m) (terms i).modes) own
-    (covered p c i (each_unfolded p c n d) (subst (Contains (components p)) (sym own) d)) in
+    let covers : Covers p (contract_statements n) (terms i).modes = own_covered p c n d in
     let calls : AllByRecursion (λ o. AllByRecursion (PlacedCall p i) (site_in o.standing o.expression)) (all_occurrences n) =
     all_of_each (PlacedCall p i) (λ o. site_in o.standing o.expression) (all_occurrences n) (calls_placed p c n d) in
     let Calls : Text → Type 0 = λ x. AllByRecursion (λ o. AllByRecursion (PlacedCall p i) (site_in o.standing o.expression)) (occurrences n x.0 x.1) in

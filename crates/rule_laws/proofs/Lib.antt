@@ -18,3 +18,4 @@ pub mod Covered
 pub mod Goods
 pub mod SameModes
 pub mod TypedFrames
+pub mod TypedModes

@@ -41,7 +41,7 @@ taken Mul q e = e
 taken Div q e = e
 taken Mod q e = e
 
-and_true : (b : Bool) → (b && true) ≡ b
+pub and_true : (b : Bool) → (b && true) ≡ b
 and_true true = refl
 and_true false = refl
 

@@ -1,0 +1,259 @@
+-- In a typed frame of a checked program what modes require is a truth value, and every expression's value is of its type.
+use Rattle.std.proofs.Common.{◌≡◌, ℕ, zero, suc, pred, ◌<◌, ◌≤◌, Bool, true, false, cond, not, ◌&&◌, ◌||◌, List, [], ◌∷◌, ◌++◌, map, flat_map, length, Option, Some, None, option_map, option_to_list, refl, sym, ap, ◌∙◌, subst, arith, get_or, slice_index_or}
+use Rattle.std.specs.Prelude.{Contains, filter}
+use Rattle.std.specs.List.{AllByRecursion, list_any}
+use Rattle.std.specs.Map.{lookup}
+use Rattle.std.specs.Str.{bytes_eq}
+use Rattle.std.proofs.lemmas.Bool.{false≢true}
+use Rattle.lus_tree.specs.declared.expression.Operator.TheVariants.{And}
+use Rattle.lus_tree.specs.declared.place.Sort.TheVariants.{Bool as Flags}
+use Rattle.lus_tree.specs.Tree.{Name, text_of, Spelled, Expression, truth, number, name, negation, minus, pre, arrow, binary, choice, sampled, merged, call, condact, mode_name, Labelled, ContractStatement, assume, guarantee, ghost_variable, constant, mode, «import», Component, Program}
+use Rattle.lus_tree.specs.Reason.{mode_unknown}
+use Rattle.lus_meaning.specs.Value.{Instants, Stream, has_sort}
+use Rattle.lus_meaning.specs.Frame.{Frame, firsts_of, first_value, call_frame}
+use Rattle.lus_meaning.specs.Scene.{Clock, base, Scene, Site, Instance, Instances, instance, no_instances, with_instance, component_of, calls_of, instance_at, call_instance, contract_statements}
+use Rattle.lus_meaning.specs.Meaning.{value, mode_key, mode_stream, head_stream}
+use Rattle.lus_meaning.specs.Contract.{ModeTerms, Terms, no_terms, mode_streams, scene_with, scene, all_true, says, mode_terms, imported_mode, terms_after, terms, terms_each}
+use Rattle.lus_meaning.specs.Program.{site_in, import_site, all_sites, instance_of}
+use Rattle.lus_meaning.specs.Run.{is_typed, sort_of, first_sorts, have_sorts, active}
+use Rattle.lus_meaning.specs.Occurrences.{Standing, on_clock, Occurrence, occurs, occurrences, Text, on_base, contract_statement_texts, texts, all_occurrences, gathered, Memory, memory_in, memories}
+use Rattle.lus_meaning.specs.Scope.{Scope, Home, mode_names, import_names, contract_statement_scope, contract_named, node_named}
+use Rattle.lus_meaning.specs.ExpressionFaults.{needs_sort, flag_faults, expression_faults, has_one, has_mode, mode_is_known, form_faults, weight_faults, part_faults}
+use Rattle.lus_meaning.specs.NameFaults.{home, flags_of, contract_statement_faults, contract_faults}
+use Rattle.lus_meaning.specs.ClockFaults.{components, all_on_base, contract_statement_clock_faults}
+use Rattle.lus_meaning.specs.Refusals.{IsChecked}
+use Rattle.lus_meaning.proofs.Causal.{CausalMode, CausalTerms, SameFrames, all_append, all_at, terms_each_causal}
+use Rattle.lus_meaning.proofs.EachPart.{Each, each_part, each_of_both}
+use Rattle.lus_meaning.proofs.Lists.{all_from, all_from_both, both_parts}
+use Rattle.lus_meaning.proofs.NamesOnce.{no_parts, not_so, at_one}
+use Rattle.lus_meaning.proofs.Now.{left_part, right_part}
+use Rattle.lus_meaning.proofs.Typed.{on_has, only_typed, apply_has, typed_as}
+use Rattle.rule_laws.specs.Laws.{IsUnfolded, AreUnfolded, HasItsPlace, placed}
+use Rattle.rule_laws.specs.Fitting.{has_key, FitsThere}
+use Rattle.rule_laws.specs.Types.{IsTypedFrame, IsTypedThere, TypesOfValues, TypesOfModes}
+use Rattle.rule_laws.proofs.Covered.{all_contained, found_declared, is_instance, has_left, Covers, covers_none, covers_plain, covers_mode, covers_import, moved_on, ImportPlaced, imports_placed}
+use Rattle.rule_laws.proofs.Fitted.{not_false, Shown, needed}
+use Rattle.rule_laws.proofs.Goods.{PlaceOf, place_of, all_of_each, some_named, shown_of, PlacedCall, calls_placed, no_faults, text_good, text_fits, CleanDeclaration, clean_declaration, declaration_texts, own_covered}
+use Rattle.rule_laws.proofs.Lists.{all_flat}
+use Rattle.rule_laws.proofs.Parts.{all_parts, nested}
+use Rattle.rule_laws.proofs.Places.{firsts_in_place}
+use Rattle.rule_laws.proofs.SameModes.{SameMode, IsSame, same_value}
+use Rattle.rule_laws.proofs.Texts.{IsClean, clean_flags, ScopeOf, CleanText, contract_scope_of}
+use Rattle.rule_laws.proofs.TypedFrames.{own_firsts, called_frame, names_ready}
+use Rattle.rule_laws.proofs.Unfolded.{component_within, each_unfolded}
+use Rattle.rule_laws.proofs.ValuesTyped.{and_true, HasRest, Ready, all_typed}
+
+-- ---- modes that are found
+
+-- what a mode requires is a truth value exactly where the beat is on
+abbrev pub TypedMode : ℕ → Instants → Frame → ModeTerms → Type 0
+TypedMode n b f m = (t : ℕ) → t < n → is_typed Flags (b t) (m.requires_all b f t) ≡ true
+
+abbrev at_key : List Name × Name → List ModeTerms → Instants → Frame → Option Stream
+at_key key ms b f = lookup (mode_key key) (mode_streams ms b f)
+
+found_typed : (key : List Name × Name) (n : ℕ) (b : Instants) (f : Frame) (ms : List ModeTerms) → AllByRecursion (TypedMode n b f) ms
+    → has_key key ms → (t : ℕ) → t < n → is_typed Flags (b t) (head_stream (option_to_list (at_key key ms b f)) t) ≡ true
+found_typed key n b f [] a h t l = absurd (false≢true h)
+found_typed key n b f (m ∷ ms) a h t l = go (mode_key key m.key) h (found_typed key n b f ms a.1)
+  where
+    go : (c : Bool) → (c || list_any (λ m. mode_key key m.key) ms) ≡ true → (has_key key ms → (t : ℕ) → t < n
+        → is_typed Flags (b t) (head_stream (option_to_list (at_key key ms b f)) t) ≡ true)
+        → is_typed Flags (b t) (head_stream (option_to_list (cond c (Some (m.requires_all b f)) (at_key key ms b f))) t) ≡ true
+    go true g r = a.0 t l
+    go false g r = r g t l
+
+found_first : (key : List Name × Name) (b : Instants) (f : Frame) (ms ns : List ModeTerms) → has_key key ms → at_key key (ms ++ ns) b f ≡ at_key key ms b f
+found_first key b f [] ns h = absurd (false≢true h)
+found_first key b f (m ∷ ms) ns h = go (mode_key key m.key) h (found_first key b f ms ns)
+  where
+    go : (c : Bool) → (c || list_any (λ m. mode_key key m.key) ms) ≡ true → (has_key key ms → at_key key (ms ++ ns) b f ≡ at_key key ms b f)
+        → cond c (Some (m.requires_all b f)) (at_key key (ms ++ ns) b f) ≡ cond c (Some (m.requires_all b f)) (at_key key ms b f)
+    go true g r = refl
+    go false g r = r g
+
+-- modes that stand behind it don't change what a key finds
+found_before : (i : Instance) (sub : ℕ → Terms) (key : List Name × Name) (b : Instants) (f : Frame) (ms : List ModeTerms)
+    (cs : List ContractStatement) → has_key key ms → at_key key (terms_after i sub ms cs).modes b f ≡ at_key key ms b f
+found_before i sub key b f ms [] h = refl
+found_before i sub key b f ms (assume l ∷ cs) h = found_before i sub key b f ms cs h
+found_before i sub key b f ms (guarantee l ∷ cs) h = found_before i sub key b f ms cs h
+found_before i sub key b f ms (ghost_variable x e ∷ cs) h = found_before i sub key b f ms cs h
+found_before i sub key b f ms (constant c ∷ cs) h = found_before i sub key b f ms cs h
+found_before i sub key b f ms (mode m rs es ∷ cs) h =
+    found_before i sub key b f (ms ++ mode_terms i ms m.text rs es ∷ []) cs (has_left key ms (mode_terms i ms m.text rs es ∷ []) h)
+    ∙ found_first key b f ms (mode_terms i ms m.text rs es ∷ []) h
+found_before i sub key b f ms («import» k c as_ xs ∷ cs) h =
+    found_before i sub key b f (ms ++ map (imported_mode k c.text) (sub k).modes) cs
+    (has_left key ms (map (imported_mode k c.text) (sub k).modes) h)
+    ∙ found_first key b f ms (map (imported_mode k c.text) (sub k).modes) h
+
+-- ---- conjunctions
+
+all_true_has : (xss : List Stream) (t : ℕ) → AllByRecursion (λ xs. has_sort Flags (xs t) ≡ true) xss → has_sort Flags (all_true xss t) ≡ true
+all_true_has [] t a = refl
+all_true_has (xs ∷ []) t a = a.0
+all_true_has (xs ∷ ys ∷ yss) t a = apply_has And Flags (xs t) (all_true (ys ∷ yss) t) refl a.0 (all_true_has (ys ∷ yss) t a.1)
+
+asked_typed : (i : Instance) (ms : List ModeTerms) (m : Name) (rs es : List Labelled) (b : Instants) (f : Frame) (t : ℕ)
+    → AllByRecursion (λ r. is_typed Flags (b t) (says i ms r b f t) ≡ true) rs
+    → is_typed Flags (b t) ((mode_terms i ms m rs es).requires_all b f t) ≡ true
+asked_typed i ms m rs es b f t a =
+    only_typed Flags (b t) (all_true (map (λ r. says i ms r b f) rs) t) (λ k. all_true_has (map (λ r. says i ms r b f) rs) t (each k rs a))
+  where
+    each : b t ≡ true → (ls : List Labelled) → AllByRecursion (λ r. is_typed Flags (b t) (says i ms r b f t) ≡ true) ls
+        → AllByRecursion (λ xs. has_sort Flags (xs t) ≡ true) (map (λ r. says i ms r b f) ls)
+    each k [] a = tt
+    each k (l ∷ ls) a = (on_has Flags (b t) (says i ms l b f t) a.0 k, each k ls a.1)
+
+-- an import's modes, in the importing frame
+imported_typed : (k : ℕ) (c : Name) (n : ℕ) (b act : Instants) (f : Frame) → ((u : ℕ) → act u ≡ b u) → (ms : List ModeTerms)
+    → AllByRecursion CausalMode ms → AllByRecursion (TypedMode n act (call_frame f k)) ms → AllByRecursion (TypedMode n b f) (map (imported_mode k c) ms)
+imported_typed k c n b act f e [] q a = tt
+imported_typed k c n b act f e (m ∷ ms) q a = (one, imported_typed k c n b act f e ms q.1 a.1)
+  where
+    same : (t : ℕ) → m.requires_all act (call_frame f k) t ≡ m.requires_all b (call_frame f k) t
+    same t = q.0.asked t act b (call_frame f k) (call_frame f k) (λ u l. e u) record { names = λ ks x u l. refl; firsts = λ ks j. refl }
+
+    one : (t : ℕ) → t < n → is_typed Flags (b t) (m.requires_all b (call_frame f k) t) ≡ true
+    one t l = subst (λ o. is_typed Flags o (m.requires_all b (call_frame f k) t) ≡ true) (e t)
+        (subst (λ v. is_typed Flags (act t) v ≡ true) (same t) (a.0 t l))
+
+-- ---- texts
+
+module _ (p : Program) (c : IsChecked p) (h : ℕ × Component) (place : Contains (placed 0 p) h) (d : Contains (components p) h.1) (i : Instance) (own : instance_of p h.1 ≡ i) where
+  component : component_of i ≡ h.1
+  component = ap component_of (sym own) ∙ component_within (length p) p h.1
+
+  covers : Covers p (contract_statements h.1) (terms i).modes
+  covers = subst (λ j. Covers p (contract_statements h.1) (terms j).modes) own (own_covered p c h.1 d)
+
+  shown : (s : Scope) → ScopeOf p h s → Shown s i
+  shown s o = subst (Shown s) own (shown_of p c h place s o (own_covered p c h.1 d))
+
+  abbrev TextPlaced : Text → Type 0
+  TextPlaced x = AllByRecursion (λ o. AllByRecursion (PlacedCall p i) (site_in o.standing o.expression)) (occurrences (component_of i) x.0 x.1)
+
+  texts_placed : AllByRecursion TextPlaced (texts h.1)
+  texts_placed =
+      let calls : AllByRecursion (PlacedCall p i) (gathered site_in h.1) =
+      subst (λ j. AllByRecursion (PlacedCall p j) (gathered site_in h.1)) own (calls_placed p c h.1 d) in
+      let each = all_of_each (PlacedCall p i) (λ o. site_in o.standing o.expression) (all_occurrences h.1) calls in
+      subst (λ m. AllByRecursion (λ x. AllByRecursion (λ o. AllByRecursion (PlacedCall p i) (site_in o.standing o.expression))
+      (occurrences m x.0 x.1)) (texts h.1)) (sym component)
+      (all_of_each (λ o. AllByRecursion (PlacedCall p i) (site_in o.standing o.expression)) (λ x. occurrences h.1 x.0 x.1) (texts h.1) each)
+
+  abbrev MemoryTyped : Frame → Memory → Type 0
+  MemoryTyped f m = has_sort (sort_of i m.operand) (first_value f m.number) ≡ true
+
+  abbrev TextFirsts : Frame → Text → Type 0
+  TextFirsts f x = AllByRecursion (λ o. AllByRecursion (MemoryTyped f) (memory_in o.standing o.expression)) (occurrences (component_of i) x.0 x.1)
+
+  texts_firsts : (f : Frame) → have_sorts (first_sorts i) (firsts_of f) ≡ true → AllByRecursion (TextFirsts f) (texts h.1)
+  texts_firsts f k =
+      let all : AllByRecursion (MemoryTyped f) (memories h.1) = all_contained (MemoryTyped f) (memories h.1)
+      (λ m q. subst (λ j. has_sort (sort_of j m.operand) (first_value f m.number) ≡ true) own
+      (firsts_in_place p c h.1 d f (subst (λ j. have_sorts (first_sorts j) (firsts_of f) ≡ true) (sym own) k) m q)) in
+      let each = all_of_each (MemoryTyped f) (λ o. memory_in o.standing o.expression) (all_occurrences h.1) all in
+      subst (λ m. AllByRecursion (λ x. AllByRecursion (λ o. AllByRecursion (MemoryTyped f) (memory_in o.standing o.expression))
+      (occurrences m x.0 x.1)) (texts h.1)) (sym component)
+      (all_of_each (λ o. AllByRecursion (MemoryTyped f) (memory_in o.standing o.expression)) (λ x. occurrences h.1 x.0 x.1) (texts h.1) each)
+
+  -- the modes that a scope knows are truth values
+  abbrev ModesTyped : Scope → ℕ → Instants → Frame → Type 0
+  ModesTyped sc n b f = (x : Option Spelled) (m : Spelled) → mode_is_known sc x m ≡ true → (u : ℕ) → u < n
+      → is_typed Flags (b u) (mode_stream (scene i b f) (option_map text_of x) m.text u) ≡ true
+
+  known_mode : (sc : Scope) (t : Standing) (q : Expression) → part_faults sc (occurs t q) ≡ [] → form_faults sc t.whole_side q ≡ []
+  known_mode sc t q e = (no_parts (form_faults sc t.whole_side q) (weight_faults sc q) e).0
+
+  rest_of : (sc : Scope) (n : ℕ) (b : Instants) (f : Frame) → ModesTyped sc n b f → (t : Standing) (e : Expression)
+      → part_faults sc (occurs t e) ≡ [] → AllByRecursion (MemoryTyped f) (memory_in t e) → HasRest (scene i b f) n e
+  rest_of sc n b f g t (mode_name q x m) e a =
+      g x m (not_false (mode_is_known sc x m) (not_so (not (mode_is_known sc x m)) mode_unknown m.at (known_mode sc t (mode_name q x m) e)))
+  rest_of sc n b f g t (pre q k x) e a = a.0
+  rest_of sc n b f g t (truth q x) e a = tt
+  rest_of sc n b f g t (number q k) e a = tt
+  rest_of sc n b f g t (name q x) e a = tt
+  rest_of sc n b f g t (negation q x) e a = tt
+  rest_of sc n b f g t (minus q x) e a = tt
+  rest_of sc n b f g t (arrow q k x y) e a = tt
+  rest_of sc n b f g t (binary q o x y) e a = tt
+  rest_of sc n b f g t (choice q x y z) e a = tt
+  rest_of sc n b f g t (sampled q x y z) e a = tt
+  rest_of sc n b f g t (merged q x y z) e a = tt
+  rest_of sc n b f g t (call q k x as_) e a = tt
+  rest_of sc n b f g t (condact q k x y as_ ds) e a = tt
+
+  text_ready : (sc : Scope) → ScopeOf p h sc → (x : Text) → IsClean sc x → TextPlaced x → (n : ℕ) (b : Instants) (f : Frame) → TextFirsts f x
+      → ModesTyped sc n b f → Each (Ready (scene i b f) n) (component_of i) x.0 x.1
+  text_ready sc o x k a n b f m g =
+      let firsts : Each (λ o. AllByRecursion (MemoryTyped f) (memory_in o.standing o.expression)) (component_of i) x.0 x.1 =
+      each_part (λ o. AllByRecursion (MemoryTyped f) (memory_in o.standing o.expression)) (component_of i) x.0 x.1 m in
+      let rests : Each (λ o. HasRest (scene i b f) n o.expression) (component_of i) x.0 x.1 =
+      each_of_both (λ o. part_faults sc o ≡ []) (λ o. AllByRecursion (MemoryTyped f) (memory_in o.standing o.expression))
+      (λ o. HasRest (scene i b f) n o.expression) (λ o e q. rest_of sc n b f g o.standing o.expression e q) (component_of i) x.0 x.1
+      (no_faults p i sc o.program (shown sc o) x k) firsts in
+      each_of_both (FitsThere i) (λ o. HasRest (scene i b f) n o.expression) (Ready (scene i b f) n)
+      (λ o e q. record { fits = e; rest = q }) (component_of i) x.0 x.1 (text_fits p i sc o.program (shown sc o) x k a) rests
+
+  -- ---- what modes require
+
+  abbrev FlagSays : List ModeTerms → Instants → Frame → ℕ → Labelled → Type 0
+  FlagSays ms b f t r = is_typed Flags (b t) (says i ms r b f t) ≡ true
+
+  -- a flag of the contract, where these modes are known
+  flag_says : (sc : Scope) → ScopeOf p h sc → (ms : List ModeTerms) (r : Labelled) → IsClean sc (on_clock base, r.value)
+      → needs_sort sc Flags r.value ≡ [] → TextPlaced (on_clock base, r.value) → (n : ℕ) (b : Instants) (f : Frame) → IsTypedFrame i n b f
+      → TextFirsts f (on_clock base, r.value) → ModesTyped sc n b f
+      → ((x : Option Spelled) (m : Spelled) → mode_is_known sc x m ≡ true → (u : ℕ)
+      → mode_stream (scene_with i ms b f) (option_map text_of x) m.text u ≡ mode_stream (scene i b f) (option_map text_of x) m.text u)
+      → (t : ℕ) → t < n → FlagSays ms b f t r
+  flag_says sc o ms r k e a n b f w m g s t l =
+      let x : Text = (on_clock base, r.value) in
+      let sort : sort_of i r.value ≡ Flags =
+      needed sc i (shown sc o) r.value (on_clock base) Flags refl (text_good p i sc o.program (shown sc o) x k a) e in
+      let full : is_typed (sort_of i r.value) (b t) (value (scene i b f) base r.value t) ≡ true =
+      all_typed (scene i b f) n (names_ready i n b f w) t l r.value (on_clock base) (text_ready sc o x k a n b f m g) in
+      let modes : Each (SameMode i f b (mode_streams ms b f) (mode_streams (terms i).modes b f)) (component_of i) (on_clock base) r.value =
+      each_same (on_clock base) r.value (no_faults p i sc o.program (shown sc o) x k) in
+      subst (λ v. is_typed Flags (b t) v ≡ true)
+      (sym (same_value i f b (mode_streams ms b f) (mode_streams (terms i).modes b f) r.value (on_clock base) modes t))
+      (typed_as (sort_of i r.value) Flags (b t) (value (scene i b f) base r.value t) sort full)
+    where
+      one_same : (t : Standing) (q : Expression) → part_faults sc (occurs t q) ≡ [] → IsSame i f b (mode_streams ms b f) (mode_streams (terms i).modes b f) q
+      one_same t (mode_name q x m) e = s x m (not_false (mode_is_known sc x m)
+          (not_so (not (mode_is_known sc x m)) mode_unknown m.at (known_mode sc t (mode_name q x m) e)))
+      one_same t (pre q k x) e = tt
+      one_same t (truth q x) e = tt
+      one_same t (number q k) e = tt
+      one_same t (name q x) e = tt
+      one_same t (negation q x) e = tt
+      one_same t (minus q x) e = tt
+      one_same t (arrow q k x y) e = tt
+      one_same t (binary q o x y) e = tt
+      one_same t (choice q x y z) e = tt
+      one_same t (sampled q x y z) e = tt
+      one_same t (merged q x y z) e = tt
+      one_same t (call q k x as_) e = tt
+      one_same t (condact q k x y as_ ds) e = tt
+
+      each_same : (t : Standing) (q : Expression) → Each (λ o. part_faults sc o ≡ []) (component_of i) t q
+          → Each (SameMode i f b (mode_streams ms b f) (mode_streams (terms i).modes b f)) (component_of i) t q
+      each_same t q e = each_of_both (λ o. part_faults sc o ≡ []) (λ o. part_faults sc o ≡ [])
+          (SameMode i f b (mode_streams ms b f) (mode_streams (terms i).modes b f)) (λ o e z. one_same o.standing o.expression e)
+          (component_of i) t q e e
+
+  flags_say : (sc : Scope) → ScopeOf p h sc → (ms : List ModeTerms) (rs : List Labelled) → flags_of sc rs ≡ [] → all_on_base sc.owner rs ≡ []
+      → AllByRecursion TextPlaced (on_base rs) → (n : ℕ) (b : Instants) (f : Frame) → IsTypedFrame i n b f
+      → AllByRecursion (TextFirsts f) (on_base rs) → ModesTyped sc n b f
+      → ((x : Option Spelled) (m : Spelled) → mode_is_known sc x m ≡ true → (u : ℕ)
+      → mode_stream (scene_with i ms b f) (option_map text_of x) m.text u ≡ mode_stream (scene i b f) (option_map text_of x) m.text u)
+      → (t : ℕ) → t < n → AllByRecursion (FlagSays ms b f t) rs
+  flags_say sc o ms [] e q a n b f w m g s t l = tt
+  flags_say sc o ms (r ∷ rs) e q a n b f w m g s t l =
+      let types = no_parts (flag_faults sc r.value) (flags_of sc rs) e in
+      let clocks = no_parts _ (all_on_base sc.owner rs) q in
+      let clean = clean_flags sc (r ∷ rs) e q in
+      (flag_says sc o ms r clean.0 (no_parts (needs_sort sc Flags r.value) (expression_faults sc (on_clock base) r.value) types.0).0 a.0 n b f w m.0 g s t l,
+      flags_say sc o ms rs types.1 clocks.1 a.1 n b f w m.1 g s t l)
