@@ -256,7 +256,7 @@ mutual
       below is f zero l = absurd (omega arith)
       below is f (suc k) l = f k
 
-  covered_each : (p : Program) → IsChecked p → (ss : List Site) (is : Instances) → AreUnfolded p ss is → (j : ℕ)
+  pub covered_each : (p : Program) → IsChecked p → (ss : List Site) (is : Instances) → AreUnfolded p ss is → (j : ℕ)
       → Covers p (contract_statements (component_of (instance_at is j))) (get_or (terms_each is) j no_terms).modes
   covered_each p c ss no_instances u j = covers_none p []
   covered_each p c [] (with_instance x i is) u j = absurd u

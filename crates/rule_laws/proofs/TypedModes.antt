@@ -11,7 +11,7 @@ use Rattle.lus_tree.specs.Tree.{Name, text_of, Spelled, Expression, truth, numbe
 use Rattle.lus_tree.specs.Reason.{mode_unknown}
 use Rattle.lus_meaning.specs.Value.{Instants, Stream, has_sort}
 use Rattle.lus_meaning.specs.Frame.{Frame, firsts_of, first_value, call_frame}
-use Rattle.lus_meaning.specs.Scene.{Clock, base, Scene, Site, Instance, Instances, instance, no_instances, with_instance, component_of, calls_of, instance_at, call_instance, contract_statements}
+use Rattle.lus_meaning.specs.Scene.{as_import, Clock, base, Scene, Site, Instance, Instances, instance, no_instances, with_instance, component_of, calls_of, instance_at, call_instance, contract_statements}
 use Rattle.lus_meaning.specs.Meaning.{value, mode_key, mode_stream, head_stream}
 use Rattle.lus_meaning.specs.Contract.{ModeTerms, Terms, no_terms, mode_streams, scene_with, scene, all_true, says, mode_terms, imported_mode, terms_after, terms, terms_each}
 use Rattle.lus_meaning.specs.Program.{site_in, import_site, all_sites, instance_of}
@@ -24,14 +24,14 @@ use Rattle.lus_meaning.specs.ClockFaults.{components, all_on_base, contract_stat
 use Rattle.lus_meaning.specs.Refusals.{IsChecked}
 use Rattle.lus_meaning.proofs.Causal.{CausalMode, CausalTerms, SameFrames, all_append, all_at, terms_each_causal}
 use Rattle.lus_meaning.proofs.EachPart.{Each, each_part, each_of_both}
-use Rattle.lus_meaning.proofs.Lists.{all_from, all_from_both, both_parts}
+use Rattle.lus_meaning.proofs.Lists.{all_from, all_from_three}
 use Rattle.lus_meaning.proofs.NamesOnce.{no_parts, not_so, at_one}
 use Rattle.lus_meaning.proofs.Now.{left_part, right_part}
 use Rattle.lus_meaning.proofs.Typed.{on_has, only_typed, apply_has, typed_as}
 use Rattle.rule_laws.specs.Laws.{IsUnfolded, AreUnfolded, HasItsPlace, placed}
 use Rattle.rule_laws.specs.Fitting.{has_key, FitsThere}
 use Rattle.rule_laws.specs.Types.{IsTypedFrame, IsTypedThere, TypesOfValues, TypesOfModes}
-use Rattle.rule_laws.proofs.Covered.{all_contained, found_declared, is_instance, has_left, Covers, covers_none, covers_plain, covers_mode, covers_import, moved_on, ImportPlaced, imports_placed}
+use Rattle.rule_laws.proofs.Covered.{covered_each, all_contained, found_declared, is_instance, has_left, Covers, covers_none, covers_plain, covers_mode, covers_import, moved_on, ImportPlaced, imports_placed}
 use Rattle.rule_laws.proofs.Fitted.{not_false, Shown, needed}
 use Rattle.rule_laws.proofs.Goods.{PlaceOf, place_of, all_of_each, some_named, shown_of, PlacedCall, calls_placed, no_faults, text_good, text_fits, CleanDeclaration, clean_declaration, declaration_texts, own_covered}
 use Rattle.rule_laws.proofs.Lists.{all_flat}
@@ -42,6 +42,10 @@ use Rattle.rule_laws.proofs.Texts.{IsClean, clean_flags, ScopeOf, CleanText, con
 use Rattle.rule_laws.proofs.TypedFrames.{own_firsts, called_frame, names_ready}
 use Rattle.rule_laws.proofs.Unfolded.{component_within, each_unfolded}
 use Rattle.rule_laws.proofs.ValuesTyped.{and_true, HasRest, Ready, all_typed}
+
+both_true : (a b : Bool) → (a && b) ≡ true → (a ≡ true) × (b ≡ true)
+both_true true b e = (refl, e)
+both_true false b e = absurd (false≢true e)
 
 -- ---- modes that are found
 
@@ -257,3 +261,195 @@ module _ (p : Program) (c : IsChecked p) (h : ℕ × Component) (place : Contain
       let clean = clean_flags sc (r ∷ rs) e q in
       (flag_says sc o ms r clean.0 (no_parts (needs_sort sc Flags r.value) (expression_faults sc (on_clock base) r.value) types.0).0 a.0 n b f w m.0 g s t l,
       flags_say sc o ms rs types.1 clocks.1 a.1 n b f w m.1 g s t l)
+
+  -- ---- the contract
+
+  abbrev place_of_contract : Home
+  place_of_contract = home p h.0 h.1
+
+  known_key : (before : List ContractStatement) (ms : List ModeTerms) → Covers p before ms → (x : Option Spelled) (m : Spelled)
+      → mode_is_known (contract_statement_scope place_of_contract before) x m ≡ true → has_key (option_to_list (option_map text_of x), m.text) ms
+  known_key before ms v None m e = v.own m.text e
+  known_key before ms v (Some x) m e =
+      let q = both_true (has_one (filter (bytes_eq x.text) (import_names before))) (has_mode m.text (contract_named p x.text)) e in
+      v.imported x.text m.text (some_named x.text (import_names before) q.0) q.1
+
+  module _ (n : ℕ) (b : Instants) (f : Frame) (typed : IsTypedFrame i n b f) (sub : ℕ → Terms) (causal : (k : ℕ) → CausalTerms (sub k)) (covered : (k : ℕ) → 1 ≤ k → Covers p (contract_statements (component_of (call_instance i k))) (sub k).modes) (below : (k : ℕ) → 1 ≤ k → (a : Instants) (g : Frame) → IsTypedFrame (call_instance i k) n a g → AllByRecursion (TypedMode n a g) (sub k).modes) where
+    -- a mode of this scope, among all modes of the contract
+    same_mode : (before : List ContractStatement) (ms : List ModeTerms) (cs : List ContractStatement) → (terms i).modes ≡ (terms_after i sub ms cs).modes
+        → Covers p before ms → (x : Option Spelled) (m : Spelled) → mode_is_known (contract_statement_scope place_of_contract before) x m ≡ true
+        → (u : ℕ) → mode_stream (scene_with i ms b f) (option_map text_of x) m.text u ≡ mode_stream (scene i b f) (option_map text_of x) m.text u
+    same_mode before ms cs e v x m k u =
+        let key : List Name × Name = (option_to_list (option_map text_of x), m.text) in
+        let same : at_key key (terms i).modes b f ≡ at_key key ms b f =
+        subst (λ ns. at_key key ns b f ≡ at_key key ms b f) (sym e) (found_before i sub key b f ms cs (known_key before ms v x m k)) in
+        ap (λ o. head_stream (option_to_list o) u) (sym same)
+
+    typed_mode : (before : List ContractStatement) (ms : List ModeTerms) (cs : List ContractStatement) → (terms i).modes ≡ (terms_after i sub ms cs).modes
+        → Covers p before ms → AllByRecursion (TypedMode n b f) ms → ModesTyped (contract_statement_scope place_of_contract before) n b f
+    typed_mode before ms cs e v a x m k u l =
+        subst (λ w. is_typed Flags (b u) w ≡ true) (same_mode before ms cs e v x m k u)
+        (found_typed (option_to_list (option_map text_of x), m.text) n b f ms a (known_key before ms v x m k) u l)
+
+    -- what stands behind these statements, and of each text what the instance and the frame give
+    record Behind (before : List ContractStatement) (ms : List ModeTerms) (cs : List ContractStatement) : Type 0 where
+      all : contract_statements h.1 ≡ before ++ cs
+      modes : (terms i).modes ≡ (terms_after i sub ms cs).modes
+      faults : contract_faults place_of_contract before cs ≡ []
+      clocks : flat_map (contract_statement_clock_faults h.1) cs ≡ []
+      texts : AllByRecursion TextPlaced (flat_map contract_statement_texts cs)
+      firsts : AllByRecursion (TextFirsts f) (flat_map contract_statement_texts cs)
+      imports : AllByRecursion (ImportPlaced p i) (flat_map import_site cs)
+      covers : Covers p before ms
+      known : AllByRecursion (TypedMode n b f) ms
+
+    onward : (before : List ContractStatement) (ms ns : List ModeTerms) (x : ContractStatement) (cs : List ContractStatement) → Behind before ms (x ∷ cs)
+        → (terms_after i sub ms (x ∷ cs)).modes ≡ (terms_after i sub ns cs).modes → Covers p (before ++ x ∷ []) ns
+        → AllByRecursion (TypedMode n b f) ns → Behind (before ++ x ∷ []) ns cs
+    onward before ms ns x cs q e v a = record {
+      all = q.all ∙ moved_on before cs x;
+      modes = q.modes ∙ e;
+      faults = (no_parts (contract_statement_faults (contract_statement_scope place_of_contract before) x)
+          (contract_faults place_of_contract (before ++ x ∷ []) cs) q.faults).1;
+      clocks = (no_parts (contract_statement_clock_faults h.1 x) (flat_map (contract_statement_clock_faults h.1) cs) q.clocks).1;
+      texts = right_part TextPlaced (contract_statement_texts x) (flat_map contract_statement_texts cs) q.texts;
+      firsts = right_part (TextFirsts f) (contract_statement_texts x) (flat_map contract_statement_texts cs) q.firsts;
+      imports = right_part (ImportPlaced p i) (import_site x) (flat_map import_site cs) q.imports;
+      covers = v;
+      known = a;
+    }
+
+    asked : (before : List ContractStatement) (ms : List ModeTerms) (m : Spelled) (rs es : List Labelled) (cs : List ContractStatement)
+        → Behind before ms (mode m rs es ∷ cs) → TypedMode n b f (mode_terms i ms m.text rs es)
+    asked before ms m rs es cs q t l =
+        let sc : Scope = contract_statement_scope place_of_contract before in
+        let faults = no_parts (flags_of sc rs) (flags_of sc es)
+        (no_parts (contract_statement_faults sc (mode m rs es)) (contract_faults place_of_contract (before ++ mode m rs es ∷ []) cs) q.faults).0 in
+        let clocks = no_parts (all_on_base h.1 rs) (all_on_base h.1 es)
+        (no_parts (contract_statement_clock_faults h.1 (mode m rs es)) (flat_map (contract_statement_clock_faults h.1) cs) q.clocks).0 in
+        let placed = left_part TextPlaced (on_base rs) (on_base es)
+        (left_part TextPlaced (contract_statement_texts (mode m rs es)) (flat_map contract_statement_texts cs) q.texts) in
+        let firsts = left_part (TextFirsts f) (on_base rs) (on_base es)
+        (left_part (TextFirsts f) (contract_statement_texts (mode m rs es)) (flat_map contract_statement_texts cs) q.firsts) in
+        asked_typed i ms m.text rs es b f t
+        (flags_say sc (contract_scope_of p h before (mode m rs es ∷ cs) q.all) ms rs faults.0 clocks.0 placed n b f typed firsts
+        (typed_mode before ms (mode m rs es ∷ cs) q.modes q.covers q.known) (same_mode before ms (mode m rs es ∷ cs) q.modes q.covers) t l)
+
+    after_typed : (before : List ContractStatement) (ms : List ModeTerms) (cs : List ContractStatement) → Behind before ms cs
+        → AllByRecursion (TypedMode n b f) (terms_after i sub ms cs).modes
+    after_typed before ms [] q = q.known
+    after_typed before ms (assume l ∷ cs) q =
+        after_typed (before ++ assume l ∷ []) ms cs (onward before ms ms (assume l) cs q refl (covers_plain p before (assume l) ms tt q.covers) q.known)
+    after_typed before ms (guarantee l ∷ cs) q =
+        after_typed (before ++ guarantee l ∷ []) ms cs
+        (onward before ms ms (guarantee l) cs q refl (covers_plain p before (guarantee l) ms tt q.covers) q.known)
+    after_typed before ms (ghost_variable x e ∷ cs) q =
+        after_typed (before ++ ghost_variable x e ∷ []) ms cs
+        (onward before ms ms (ghost_variable x e) cs q refl (covers_plain p before (ghost_variable x e) ms tt q.covers) q.known)
+    after_typed before ms (constant x ∷ cs) q =
+        after_typed (before ++ constant x ∷ []) ms cs
+        (onward before ms ms (constant x) cs q refl (covers_plain p before (constant x) ms tt q.covers) q.known)
+    after_typed before ms (mode m rs es ∷ cs) q =
+        let ns : List ModeTerms = mode_terms i ms m.text rs es ∷ [] in
+        after_typed (before ++ mode m rs es ∷ []) (ms ++ ns) cs (onward before ms (ms ++ ns) (mode m rs es) cs q refl
+        (covers_mode p i before ms m.text (mode m rs es) rs es refl refl q.covers)
+        (all_append (TypedMode n b f) ms ns q.known (asked before ms m rs es cs q, tt)))
+    after_typed before ms («import» k x as_ ws ∷ cs) q =
+        let s : Site = record { number = k; callee = x.text; clock = base; arguments = as_; defaults = []; manner = as_import (map text_of ws) } in
+        let at : HasItsPlace i (contract_named p x.text) s = q.imports.0 in
+        let ns : List ModeTerms = map (imported_mode k x.text) (sub k).modes in
+        let frame : IsTypedFrame (call_instance i k) n (active (scene i b f) s) (call_frame f k) = called_frame i n b f typed s at.number at.site in
+        let known : AllByRecursion (TypedMode n b f) ns = imported_typed k x.text n b (active (scene i b f) s) f (λ u. and_true (b u)) (sub k).modes
+        (causal k).modes (below k at.number (active (scene i b f) s) (call_frame f k) frame) in
+        after_typed (before ++ «import» k x as_ ws ∷ []) (ms ++ ns) cs (onward before ms (ms ++ ns) («import» k x as_ ws) cs q refl
+        (covers_import p before ms (sub k).modes k x.text («import» k x as_ ws) (component_of (call_instance i k)) refl refl at.callee
+        (covered k at.number) q.covers) (all_append (TypedMode n b f) ms ns q.known known))
+
+    contract_typed : (terms i).modes ≡ (terms_after i sub [] (contract_statements h.1)).modes → AllByRecursion (ImportPlaced p i)
+        (flat_map import_site (contract_statements h.1)) → AllByRecursion (TypedMode n b f) (terms_after i sub [] (contract_statements h.1)).modes
+    contract_typed e imports =
+        let q : CleanDeclaration p h = clean_declaration p c h place d in
+        after_typed [] [] (contract_statements h.1) record {
+          all = refl;
+          modes = e;
+          faults = q.contract;
+          clocks = q.contract_clocks;
+          texts = left_part TextPlaced (flat_map contract_statement_texts (contract_statements h.1)) _ texts_placed;
+          firsts = left_part (TextFirsts f) (flat_map contract_statement_texts (contract_statements h.1)) _
+              (texts_firsts f (own_firsts i f typed.firsts));
+          imports = imports;
+          covers = covers_none p [];
+          known = tt;
+        }
+
+  -- ---- every expression
+
+  -- where all modes are truth values
+  text_typed : (n : ℕ) (b : Instants) (f : Frame) → IsTypedFrame i n b f → AllByRecursion (TypedMode n b f) (terms i).modes → (x : Text)
+      → CleanText p h x → TextPlaced x → TextFirsts f x → AllByRecursion (IsTypedThere i n b f) (occurrences (component_of i) x.0 x.1)
+  text_typed n b f w a x k q m =
+      let g : ModesTyped k.scope n b f = λ o y e u l. found_typed (option_to_list (option_map text_of o), y.text) n b f (terms i).modes a
+      ((shown k.scope k.of).modes o y e) u l in
+      let ready : Each (Ready (scene i b f) n) (component_of i) x.0 x.1 = text_ready k.scope k.of x k.clean q n b f m g in
+      all_from (λ o. Each (Ready (scene i b f) n) (component_of i) o.standing o.expression) (IsTypedThere i n b f)
+      (λ o r t l. all_typed (scene i b f) n (names_ready i n b f w) t l o.expression o.standing r) (occurrences (component_of i) x.0 x.1)
+      (all_parts (λ o. Each (Ready (scene i b f) n) (component_of i) o.standing o.expression) (component_of i) x.0 x.1
+      (nested (Ready (scene i b f) n) (component_of i) x.0 x.1 ready))
+
+  pub texts_typed : (n : ℕ) (b : Instants) (f : Frame) → IsTypedFrame i n b f → AllByRecursion (TypedMode n b f) (terms i).modes
+      → AllByRecursion (IsTypedThere i n b f) (all_occurrences h.1)
+  texts_typed n b f w a =
+      let each : AllByRecursion (λ x. AllByRecursion (IsTypedThere i n b f) (occurrences (component_of i) x.0 x.1)) (texts h.1) =
+      all_from_three (CleanText p h) TextPlaced (TextFirsts f) (λ x. AllByRecursion (IsTypedThere i n b f) (occurrences (component_of i) x.0 x.1))
+      (text_typed n b f w a) (texts h.1) (declaration_texts p c h place d) texts_placed (texts_firsts f (own_firsts i f w.firsts)) in
+      all_flat (IsTypedThere i n b f) (λ x. occurrences h.1 x.0 x.1) (texts h.1)
+      (subst (λ m. AllByRecursion (λ x. AllByRecursion (IsTypedThere i n b f) (occurrences m x.0 x.1)) (texts h.1)) component each)
+
+-- ---- declarations
+
+mutual
+  pub modes_typed : (p : Program) → IsChecked p → (i : Instance) → IsUnfolded p i → Contains (components p) (component_of i) → (n : ℕ) (b : Instants)
+      (f : Frame) → IsTypedFrame i n b f → AllByRecursion (TypedMode n b f) (terms i).modes
+  modes_typed p c (instance m cs is) u d n b f w =
+      let q : PlaceOf (placed 0 p) m = place_of 0 p m d in
+      contract_typed p c (q.before, m) q.is d (instance m cs is) (is_instance p c (instance m cs is) u d) n b f w
+      (λ k. slice_index_or (terms_each is) (pred k) no_terms)
+      (λ k. all_at CausalTerms (terms_each is) (pred k) no_terms (terms_each_causal is) record { assumes = tt; guarantees = tt; modes = tt })
+      (by_number (covered_each p c (all_sites m) is u.1)) (typed_by_number (modes_typed_each p c (all_sites m) is u.1 n)) refl
+      (imports_placed p c (instance m cs is) u d)
+    where
+      by_number : ((j : ℕ) → Covers p (contract_statements (component_of (instance_at is j))) (get_or (terms_each is) j no_terms).modes)
+          → (k : ℕ) → 1 ≤ k → Covers p (contract_statements (component_of (call_instance (instance m cs is) k)))
+          (slice_index_or (terms_each is) (pred k) no_terms).modes
+      by_number g zero l = absurd (omega arith)
+      by_number g (suc k) l = g k
+
+      typed_by_number : ((j : ℕ) (a : Instants) (g : Frame) → IsTypedFrame (instance_at is j) n a g
+          → AllByRecursion (TypedMode n a g) (get_or (terms_each is) j no_terms).modes)
+          → (k : ℕ) → 1 ≤ k → (a : Instants) (g : Frame) → IsTypedFrame (call_instance (instance m cs is) k) n a g
+          → AllByRecursion (TypedMode n a g) (slice_index_or (terms_each is) (pred k) no_terms).modes
+      typed_by_number g zero l a e w = absurd (omega arith)
+      typed_by_number g (suc k) l a e w = g k a e w
+
+  pub modes_typed_each : (p : Program) → IsChecked p → (ss : List Site) (is : Instances) → AreUnfolded p ss is → (n j : ℕ) (b : Instants) (f : Frame)
+      → IsTypedFrame (instance_at is j) n b f → AllByRecursion (TypedMode n b f) (get_or (terms_each is) j no_terms).modes
+  modes_typed_each p c ss no_instances u n j b f w = tt
+  modes_typed_each p c [] (with_instance x i is) u n j b f w = absurd u
+  modes_typed_each p c (s ∷ ss) (with_instance x i is) u n zero b f w =
+      modes_typed p c i u.2 (found_declared p s.callee (component_of i) u.1) n b f w
+  modes_typed_each p c (s ∷ ss) (with_instance x i is) u n (suc j) b f w = modes_typed_each p c ss is u.3 n j b f w
+
+own_modes : (p : Program) → IsChecked p → (n : Component) → Contains (components p) n → (k : ℕ) (b : Instants) (f : Frame)
+    → IsTypedFrame (instance_of p n) k b f → AllByRecursion (TypedMode k b f) (terms (instance_of p n)).modes
+own_modes p c n d k b f w =
+    modes_typed p c (instance_of p n) (each_unfolded p c n d)
+    (subst (Contains (components p)) (sym (component_within (length p) p n)) d) k b f w
+
+pub types_of_modes : TypesOfModes
+types_of_modes p c n d k b f w m q = at_one (TypedMode k b f) (terms (instance_of p n)).modes m (own_modes p c n d k b f w) q
+
+pub types_of_values : TypesOfValues
+types_of_values p c n d k b f w o q =
+    let h : PlaceOf (placed 0 p) n = place_of 0 p n d in
+    at_one (IsTypedThere (instance_of p n) k b f) (all_occurrences n) o
+    (texts_typed p c (h.before, n) h.is d (instance_of p n) refl k b f w (own_modes p c n d k b f w)) q
