@@ -8,11 +8,11 @@ use Rattle.std.proofs.lemmas.Option.{none-some}
 use Rattle.lus_tree.specs.declared.place.Sort.{Sort}
 use Rattle.lus_tree.specs.Tree.{Name, Spelled, Variable, Component}
 use Rattle.lus_meaning.specs.Value.{Instants, Stream}
-use Rattle.lus_meaning.specs.Frame.{Frame, frame_at, calls_in, firsts_of, call_frame, entry}
+use Rattle.lus_meaning.specs.Frame.{Frame, Frames, no_frames, with_frame, frame_at, calls_in, firsts_of, call_frame, entry}
 use Rattle.lus_meaning.specs.Scene.{Clock, base, Scene, Site, Instance, Instances, instance, no_instances, with_instance, component_of, constants_of, calls_of, instance_at, call_instance, outputs_of, clock_from, contract_statements, ghosts, variables, is_on}
 use Rattle.lus_meaning.specs.Meaning.{head_stream, call_outputs}
 use Rattle.lus_meaning.specs.Contract.{scene}
-use Rattle.lus_meaning.specs.Run.{is_typed, sort_of_name, first_sort, output_sort, first_sorts, have_sorts, active}
+use Rattle.lus_meaning.specs.Run.{IsRun, CallsRun, is_typed, sort_of_name, first_sort, output_sort, first_sorts, have_sorts, active}
 use Rattle.lus_meaning.specs.WellMade.{HasTypes, CallsHaveTypes}
 use Rattle.lus_meaning.proofs.Now.{left_part, right_part}
 use Rattle.lus_meaning.proofs.Unique.{same_bytes}
@@ -103,3 +103,29 @@ names_ready i n b f h = record {
   calls = λ c k t l. head_ready (call_instance i c.number) n (active (scene i b f) c) (call_frame f c.number)
       (called_frame i n b f h c k.number k.site).names k.outputs k.on_base t l;
 }
+
+-- ---- runs
+
+mutual
+  run_types : (i : Instance) (n : ℕ) (b : Instants) (f : Frame) → IsRun i n b f → HasTypes i n b f
+  run_types (instance d cs is) n b f r = (r.0.types, runs_types is n (scene (instance d cs is) b f) (calls_in f) r.1)
+
+  runs_types : (is : Instances) (n : ℕ) (s : Scene) (fs : Frames) → CallsRun n s is fs → CallsHaveTypes is n s (frame_at fs)
+  runs_types no_instances n s no_frames r = tt
+  runs_types no_instances n s (with_frame f fs) r = absurd r
+  runs_types (with_instance c i is) n s no_frames r = absurd r
+  runs_types (with_instance c i is) n s (with_frame f fs) r = (run_types i n (active s c) f r.1, runs_types is n s fs r.2)
+
+mutual
+  run_firsts : (i : Instance) (n : ℕ) (b : Instants) (f : Frame) → IsRun i n b f → HasTypedFirsts i f
+  run_firsts (instance d cs is) n b f r = (r.0.firsts, runs_firsts is n (scene (instance d cs is) b f) (calls_in f) r.1)
+
+  runs_firsts : (is : Instances) (n : ℕ) (s : Scene) (fs : Frames) → CallsRun n s is fs → CallsHaveTypedFirsts is (frame_at fs)
+  runs_firsts no_instances n s no_frames r = tt
+  runs_firsts no_instances n s (with_frame f fs) r = absurd r
+  runs_firsts (with_instance c i is) n s no_frames r = absurd r
+  runs_firsts (with_instance c i is) n s (with_frame f fs) r = (run_firsts i n (active s c) f r.1, runs_firsts is n s fs r.2)
+
+-- the frame of a run is typed
+pub typed_run : (i : Instance) (n : ℕ) (b : Instants) (f : Frame) → IsRun i n b f → IsTypedFrame i n b f
+typed_run i n b f r = record { names = run_types i n b f r; firsts = run_firsts i n b f r }

@@ -30,7 +30,7 @@ use Rattle.lus_meaning.proofs.Now.{left_part, right_part}
 use Rattle.lus_meaning.proofs.Typed.{on_has, only_typed, apply_has, typed_as}
 use Rattle.rule_laws.specs.Laws.{IsUnfolded, AreUnfolded, HasItsPlace, placed}
 use Rattle.rule_laws.specs.Fitting.{has_key, FitsThere}
-use Rattle.rule_laws.specs.Types.{IsTypedFrame, IsTypedThere, TypesOfValues, TypesOfModes}
+use Rattle.rule_laws.specs.Types.{IsTypedFrame, IsTypedThere, TypesOfValues, TypesInRuns, TypesOfModes}
 use Rattle.rule_laws.proofs.Covered.{covered_each, all_contained, found_declared, is_instance, has_left, Covers, covers_none, covers_plain, covers_mode, covers_import, moved_on, ImportPlaced, imports_placed}
 use Rattle.rule_laws.proofs.Fitted.{not_false, Shown, needed}
 use Rattle.rule_laws.proofs.Goods.{PlaceOf, place_of, all_of_each, some_named, shown_of, PlacedCall, calls_placed, no_faults, text_good, text_fits, CleanDeclaration, clean_declaration, declaration_texts, own_covered}
@@ -39,7 +39,7 @@ use Rattle.rule_laws.proofs.Parts.{all_parts, nested}
 use Rattle.rule_laws.proofs.Places.{firsts_in_place}
 use Rattle.rule_laws.proofs.SameModes.{SameMode, IsSame, same_value}
 use Rattle.rule_laws.proofs.Texts.{IsClean, clean_flags, ScopeOf, CleanText, contract_scope_of}
-use Rattle.rule_laws.proofs.TypedFrames.{own_firsts, called_frame, names_ready}
+use Rattle.rule_laws.proofs.TypedFrames.{typed_run, own_firsts, called_frame, names_ready}
 use Rattle.rule_laws.proofs.Unfolded.{component_within, each_unfolded}
 use Rattle.rule_laws.proofs.ValuesTyped.{and_true, HasRest, Ready, all_typed}
 
@@ -453,3 +453,6 @@ types_of_values p c n d k b f w o q =
     let h : PlaceOf (placed 0 p) n = place_of 0 p n d in
     at_one (IsTypedThere (instance_of p n) k b f) (all_occurrences n) o
     (texts_typed p c (h.before, n) h.is d (instance_of p n) refl k b f w (own_modes p c n d k b f w)) q
+
+pub types_in_runs : TypesInRuns
+types_in_runs p c n d k b f r = types_of_values p c n d k b f (typed_run (instance_of p n) k b f r)

@@ -7,7 +7,7 @@ use Rattle.lus_meaning.specs.Scene.{Instance, Instances, instance, no_instances,
 use Rattle.lus_meaning.specs.Meaning.{value}
 use Rattle.lus_meaning.specs.Contract.{ModeTerms, terms, scene}
 use Rattle.lus_meaning.specs.Program.{instance_of}
-use Rattle.lus_meaning.specs.Run.{sort_of, first_sorts, have_sorts, is_typed}
+use Rattle.lus_meaning.specs.Run.{sort_of, first_sorts, have_sorts, is_typed, IsRun}
 use Rattle.lus_meaning.specs.Occurrences.{Occurrence, all_occurrences}
 use Rattle.lus_meaning.specs.RuleLaws.{OfEach}
 use Rattle.lus_meaning.specs.WellMade.{HasTypes}
@@ -37,6 +37,12 @@ IsTypedThere i n b f o = (t : ℕ) → t < n →
 abbrev pub TypesOfValues : Type 0
 TypesOfValues =
     OfEach (λ p n. (m : ℕ) (b : Instants) (f : Frame) → IsTypedFrame (instance_of p n) m b f →
+    (o : Occurrence) → Contains (all_occurrences n) o → IsTypedThere (instance_of p n) m b f o)
+
+-- so in each run
+abbrev pub TypesInRuns : Type 0
+TypesInRuns =
+    OfEach (λ p n. (m : ℕ) (b : Instants) (f : Frame) → IsRun (instance_of p n) m b f →
     (o : Occurrence) → Contains (all_occurrences n) o → IsTypedThere (instance_of p n) m b f o)
 
 -- What a mode requires, of the contract or of an import, is a truth value exactly where the beat is on.

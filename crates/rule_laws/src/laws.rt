@@ -2,7 +2,7 @@
 
 ghost use Rattle.rule_laws.specs.Fitting.{ExpressionsFit};
 ghost use Rattle.rule_laws.specs.Laws.{CallsInPlace, FirstsInPlace, ImportsInPlace, TablesAgree, Unfolding};
-ghost use Rattle.rule_laws.specs.Types.{TypesOfModes, TypesOfValues};
+ghost use Rattle.rule_laws.specs.Types.{TypesInRuns, TypesOfModes, TypesOfValues};
 
 /// In a checked program the instance of each declaration is unfolded to its end: each call occurrence and each import,
 /// at every depth, has an instance of the declaration that it names.
@@ -33,8 +33,9 @@ pub fn expressions_fit()
 
 /// The law of types. In a checked program, in every frame whose names and first values have their types, those of the
 /// frames of its calls too, each expression's value is of its type exactly where the clock of its place is on, and what each
-/// mode requires is a truth value exactly where the beat is on.
+/// mode requires is a truth value exactly where the beat is on. The frames of runs are such frames.
 pub fn types_of_values()
     ensures values { TypesOfValues }
+    ensures runs { TypesInRuns }
     ensures modes { TypesOfModes }
 {}

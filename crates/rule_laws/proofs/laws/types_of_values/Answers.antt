@@ -1,4 +1,4 @@
-use Rattle.rule_laws.proofs.TypedModes.{types_of_values, types_of_modes}
+use Rattle.rule_laws.proofs.TypedModes.{types_of_values, types_in_runs, types_of_modes}
 use Rattle.rule_laws.proofs.laws.types_of_values.Goals as goal
 
 pub returns-clause-values : goal.returns-clause-values
@@ -6,3 +6,6 @@ returns-clause-values c = types_of_values
 
 pub returns-clause-modes : goal.returns-clause-modes
 returns-clause-modes c = types_of_modes
+
+pub returns-clause-runs : goal.returns-clause-runs
+returns-clause-runs c = types_in_runs
