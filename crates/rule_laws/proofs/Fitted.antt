@@ -18,7 +18,7 @@ use Rattle.lus_meaning.specs.Frame.{empty_frame}
 use Rattle.lus_meaning.specs.Scene.{Clock, base, sampled_by, Scene, Site, plain, while_true, Instance, clock_of, component_of, constants_of, call_instance, instance_called}
 use Rattle.lus_meaning.specs.Contract.{terms}
 use Rattle.lus_meaning.specs.Program.{listed, site_in}
-use Rattle.lus_meaning.specs.Run.{sort_of, sort_of_name, output_sort, first_sort}
+use Rattle.lus_meaning.specs.Run.{Takes, sort_of, sort_of_name, output_sort, first_sort}
 use Rattle.lus_meaning.specs.Occurrences.{Standing, within, before, moved, Occurrence, occurs, begin}
 use Rattle.lus_meaning.specs.Scope.{Scope, is_known, is_constant_name, sort_of_entry, type_of, node_named, only_sort}
 use Rattle.lus_meaning.specs.Faults.{if_so, differ}
@@ -30,7 +30,7 @@ use Rattle.lus_meaning.proofs.NamesOnce.{not_nil, no_parts, not_so}
 use Rattle.lus_meaning.proofs.RulesFit.{KnownName, fixed_name, stream_name, none_mapped}
 use Rattle.lus_meaning.proofs.Unique.{same_bytes}
 use Rattle.rule_laws.specs.Laws.{HasItsPlace}
-use Rattle.rule_laws.specs.Fitting.{Takes, sorts_of, NameFits, IsFlagOn, NotEmpty, OnBase, CallFits, has_key, Fits, FitsThere}
+use Rattle.rule_laws.specs.Fitting.{sorts_of, NameFits, IsFlagOn, NotEmpty, OnBase, CallFits, has_key, Fits, FitsThere}
 use Rattle.rule_laws.proofs.Parts.{nested}
 
 -- ---- truth values

@@ -3,8 +3,6 @@ use Rattle.std.proofs.Common.{◌≡◌, ℕ, zero, suc, ◌<◌, ◌≤◌, Boo
 use Rattle.std.specs.Map.{lookup}
 use Rattle.std.specs.Str.{bytes_eq}
 use Rattle.std.proofs.lemmas.Bool.{false≢true}
-use Rattle.lus_tree.specs.declared.expression.Operator.{Operator}
-use Rattle.lus_tree.specs.declared.expression.Operator.TheVariants.{Implies, Or, Xor, And, Less, AtMost, Equal, Differs, AtLeast, More, Add, Sub, Mul, Div, Mod}
 use Rattle.lus_tree.specs.declared.place.Sort.{Sort}
 use Rattle.lus_tree.specs.declared.place.Sort.TheVariants.{Bool as Flags, Int as Numbers}
 use Rattle.lus_tree.specs.Tree.{Name, text_of, Expression, Expressions, truth, number, name, negation, minus, pre, arrow, binary, choice, sampled, merged, call, condact, mode_name, no_more, more, Variable, Component}
@@ -20,26 +18,9 @@ use Rattle.lus_meaning.proofs.EachPart.{Each}
 use Rattle.lus_meaning.proofs.Settled.{below_suc}
 use Rattle.lus_meaning.proofs.Typed.{on_has, only_typed, not_has, minus_has, has_as, apply_has, choose_has, latest_has, on_from_is, merge_typed, typed_as, either, held_head}
 use Rattle.lus_meaning.proofs.Typed as typed
-use Rattle.rule_laws.specs.Fitting.{Takes, sorts_of, NameFits, IsFlagOn, NotEmpty, CallFits, FitsThere}
+use Rattle.rule_laws.specs.Fitting.{sorts_of, NameFits, IsFlagOn, NotEmpty, CallFits, FitsThere}
 
 -- ---- operators and outputs
-
-taken : (o : Operator) (q : Sort) → Takes o q → typed.Takes o q
-taken Implies q e = e
-taken Or q e = e
-taken Xor q e = e
-taken And q e = e
-taken Equal q e = e
-taken Differs q e = e
-taken Less q e = e
-taken AtMost q e = e
-taken AtLeast q e = e
-taken More q e = e
-taken Add q e = e
-taken Sub q e = e
-taken Mul q e = e
-taken Div q e = e
-taken Mod q e = e
 
 pub and_true : (b : Bool) → (b && true) ≡ b
 and_true true = refl
@@ -131,7 +112,7 @@ module _ (s : Scene) (n : ℕ) where
         (λ o. either (was_on (is_on s t.clock) u) (type_here a) (value s t.clock d u) (value s t.clock a u)
         (has_value d t.clock (type_here a) h.0.fits (value_typed d (within t) h.2) o) (has_value a t.clock (type_here a) refl (value_typed a (within t) h.1) o))
     value_typed (binary p o a d) t h = only_typed (sort_of_operator o) (is_on s t.clock u) (apply o (value s t.clock a u) (value s t.clock d u))
-        (λ k. apply_has o (type_here a) (value s t.clock a u) (value s t.clock d u) (taken o (type_here a) h.0.fits.0)
+        (λ k. apply_has o (type_here a) (value s t.clock a u) (value s t.clock d u) h.0.fits.0
         (has_value a t.clock (type_here a) refl (value_typed a (within t) h.1) k) (has_value d t.clock (type_here a) h.0.fits.1 (value_typed d (within t) h.2) k))
     value_typed (choice p a b d) t h = only_typed (type_here b) (is_on s t.clock u)
         (choose (value s t.clock a u) (value s t.clock b u) (value s t.clock d u))

@@ -1,10 +1,8 @@
 -- What the rules of types and clocks give of each expression of a checked program where it stands.
-use Rattle.std.specs.Prelude.{◌≡◌, ℕ, pred, ◌≤◌, true, List, [], ◌∷◌, map, Option, Some, None, option_map, option_to_list}
+use Rattle.std.specs.Prelude.{◌≡◌, pred, ◌≤◌, true, Contains, List, [], ◌∷◌, map, Option, Some, None, option_map, option_to_list}
 use Rattle.std.specs.List.{AllByRecursion, list_any}
 use Rattle.std.specs.Map.{lookup}
 use Rattle.std.specs.Str.{bytes_eq}
-use Rattle.lus_tree.specs.declared.expression.Operator.{Operator}
-use Rattle.lus_tree.specs.declared.expression.Operator.TheVariants.{Implies, Or, Xor, And, Less, AtMost, Equal, Differs, AtLeast, More, Add, Sub, Mul, Div, Mod}
 use Rattle.lus_tree.specs.declared.place.Sort.{Sort}
 use Rattle.lus_tree.specs.declared.place.Sort.TheVariants.{Bool as Flags, Int as Numbers}
 use Rattle.lus_tree.specs.Tree.{Name, text_of, Expression, truth, number, name, negation, minus, pre, arrow, binary, choice, sampled, merged, call, condact, mode_name, Variable}
@@ -12,32 +10,12 @@ use Rattle.lus_meaning.specs.Value.{Value, has_sort}
 use Rattle.lus_meaning.specs.Scene.{Clock, base, sampled_by, plain, while_true, Site, Instance, component_of, constants_of, calls_of, call_instance, instance_called, clock_of}
 use Rattle.lus_meaning.specs.Meaning.{mode_key}
 use Rattle.lus_meaning.specs.Contract.{ModeTerms, terms}
-use Rattle.lus_meaning.specs.Program.{listed}
-use Rattle.lus_meaning.specs.Run.{sort_of, sort_of_name}
+use Rattle.lus_meaning.specs.Program.{listed, instance_of}
+use Rattle.lus_meaning.specs.Run.{Takes, sort_of, sort_of_name}
 use Rattle.lus_meaning.specs.Occurrences.{Standing, Occurrence, all_occurrences}
 use Rattle.lus_meaning.specs.ClockFaults.{name_clock}
 use Rattle.lus_meaning.specs.RuleLaws.{OfEach}
-use Rattle.std.specs.Prelude.{Contains}
-use Rattle.lus_meaning.specs.Program.{instance_of}
 use Rattle.rule_laws.specs.Laws.{site_at}
-
--- the type that an operator takes; those that compare for equality take both
-abbrev pub Takes : Operator → Sort → Type 0
-Takes Implies s = s ≡ Flags
-Takes Or s = s ≡ Flags
-Takes Xor s = s ≡ Flags
-Takes And s = s ≡ Flags
-Takes Equal s = Unit {0}
-Takes Differs s = Unit {0}
-Takes Less s = s ≡ Numbers
-Takes AtMost s = s ≡ Numbers
-Takes AtLeast s = s ≡ Numbers
-Takes More s = s ≡ Numbers
-Takes Add s = s ≡ Numbers
-Takes Sub s = s ≡ Numbers
-Takes Mul s = s ≡ Numbers
-Takes Div s = s ≡ Numbers
-Takes Mod s = s ≡ Numbers
 
 abbrev pub sorts_of : List Variable → List Sort
 sorts_of vs = map (λ v. v.sort) vs
