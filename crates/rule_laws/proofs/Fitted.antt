@@ -60,7 +60,7 @@ same_some a b e = ap (some_is a) e
 
 -- ---- types and clocks that do not differ
 
-same_sorts : (q r : Sort) → differ (Some q) (Some r) ≡ false → q ≡ r
+pub same_sorts : (q r : Sort) → differ (Some q) (Some r) ≡ false → q ≡ r
 same_sorts Flags Flags e = refl
 same_sorts Numbers Numbers e = refl
 same_sorts Flags Numbers e = absurd (false≢true (sym e))
@@ -72,7 +72,7 @@ same_truth false false e = refl
 same_truth true false e = absurd (false≢true e)
 same_truth false true e = absurd (false≢true e)
 
-same_clocks : (c d : Clock) → same_clock c d ≡ true → c ≡ d
+pub same_clocks : (c d : Clock) → same_clock c d ≡ true → c ≡ d
 same_clocks base base e = refl
 same_clocks base (sampled_by b x) e = absurd (false≢true e)
 same_clocks (sampled_by b x) base e = absurd (false≢true e)
@@ -97,7 +97,7 @@ second_none (Some c) b e = absurd (false≢true (sym (ap is_some e)))
 
 -- ---- single faults that are not there
 
-no_clash : (s : Scope) (q r : Sort) (e : Expression) → needs_sort s q e ≡ [] → type_of s e ≡ Some r → r ≡ q
+pub no_clash : (s : Scope) (q r : Sort) (e : Expression) → needs_sort s q e ≡ [] → type_of s e ≡ Some r → r ≡ q
 no_clash s q r e h t =
     sym (same_sorts q r (subst (λ k. differ (Some q) k ≡ false) t (not_so (differ (Some q) (type_of s e)) type_clash (begin e) h)))
 
@@ -105,7 +105,7 @@ no_dispute : (s : Scope) (q r : Sort) (a b : Expression) → agree s a b ≡ [] 
 no_dispute s q r a b h t u = sym (same_sorts q r (subst (λ k. differ (Some q) k ≡ false) u
     (subst (λ k. differ k (type_of s b) ≡ false) t (not_so (differ (type_of s a) (type_of s b)) type_clash (begin b) h))))
 
-is_known_here : (s : Scope) (x : Name) (at : Pos) → used s x at ≡ [] → is_known s x ≡ true
+pub is_known_here : (s : Scope) (x : Name) (at : Pos) → used s x at ≡ [] → is_known s x ≡ true
 is_known_here s x at e = not_false (is_known s x) (not_so (not (is_known s x)) name_unknown at e)
 
 pub stands_there : (n : Component) (c : Clock) (e : Expression) → stands_on n c e ≡ [] → is_other c (clock_in n e) ≡ false
@@ -245,13 +245,13 @@ module _ (sc : Scope) (i : Instance) (shown : Shown sc i) where
 
   -- ---- calls
 
-  abbrev callee : ℕ → Component
+  abbrev pub callee : ℕ → Component
   callee k = component_of (call_instance i k)
 
   same_callee : (s : Site) → SiteFits (node_named sc.program) i s → component_of (instance_called i s.callee) ≡ callee s.number
   same_callee s h = same_some (component_of (instance_called i s.callee)) (callee s.number) (sym h.place.by_name ∙ h.place.callee)
 
-  no_call_faults : (w : Bool) (f : Spelled) (k : ℕ) (as_ : List Expression) (o : Option Component) → o ≡ Some (callee k)
+  pub no_call_faults : (w : Bool) (f : Spelled) (k : ℕ) (as_ : List Expression) (o : Option Component) → o ≡ Some (callee k)
       → call_faults sc w f as_ o ≡ [] → call_faults sc w f as_ (Some (callee k)) ≡ []
   no_call_faults w f k as_ o e h = subst (λ q. call_faults sc w f as_ q ≡ []) e h
 
@@ -458,7 +458,7 @@ module _ (sc : Scope) (i : Instance) (shown : Shown sc i) where
   flag_stream x (stream_name e k) n s = record { stream = e; clock = k; sort = s }
 
   -- a word behind `when` or of a merge is a stream of truth values
-  clock_word : (x : Spelled) → used_as_clock sc x ≡ [] → IsFlagOn i (clock_of here x.text) x.text
+  pub clock_word : (x : Spelled) → used_as_clock sc x ≡ [] → IsFlagOn i (clock_of here x.text) x.text
   clock_word x h =
       let u : (not (is_known sc x.text) || is_constant_name sc x.text) ≡ false = not_so
       (not (is_known sc x.text) || is_constant_name sc x.text) name_unknown x.at (no_parts _ _ h).0 in

@@ -14,8 +14,8 @@ use Rattle.lus_meaning.specs.Occurrences.{Standing, on_clock, Occurrence, occurs
 use Rattle.lus_meaning.specs.Depends.{named_in}
 use Rattle.lus_meaning.specs.Scope.{Entry, is_constant_role, Scope, is_constant_name, entry_of, mode_names, node_if, component_where, node_named, contract_named, body_scope, own_names, outer_names}
 use Rattle.lus_meaning.specs.Faults.{words_twice}
-use Rattle.lus_meaning.specs.ExpressionFaults.{call_faults, has_one, has_mode, mode_is_known, form_faults, weight_faults, part_faults, expression_faults}
-use Rattle.lus_meaning.specs.NameFaults.{declaration_word, home, component_faults, constant_words, own_words, outer_twice, mode_words, labels_twice, contract_faults, body_faults, local_constant_faults, statement_faults, state_faults, recursion_faults, assumption_faults, declaration_faults, typing_faults}
+use Rattle.lus_meaning.specs.ExpressionFaults.{used_as_clock, call_faults, has_one, has_mode, mode_is_known, form_faults, weight_faults, part_faults, expression_faults}
+use Rattle.lus_meaning.specs.NameFaults.{clock_words, declaration_word, home, component_faults, constant_words, own_words, outer_twice, mode_words, labels_twice, contract_faults, body_faults, local_constant_faults, statement_faults, state_faults, recursion_faults, assumption_faults, declaration_faults, typing_faults}
 use Rattle.lus_meaning.specs.ClockFaults.{components, component_clock_faults, clock_faults, contract_statement_clock_faults, statement_clock_faults, name_clock, clock_in, is_other, stands_on, clock_form_faults, clock_faults_of}
 use Rattle.lus_meaning.specs.Grammatical.{has_left_name, IsGrammaticalComponent, ghost_names}
 use Rattle.lus_meaning.specs.Refusals.{IsTyped, IsChecked}
@@ -144,11 +144,11 @@ named_declared (declared_constant c ∷ ds) x m e = named_declared ds x m e
 named_declared (declared_node n ∷ ds) x m e = one_named n ds x m (bytes_eq x n.name.text) true e (named_declared ds x m)
 named_declared (declared_contract n ∷ ds) x m e = one_named n ds x m (bytes_eq x n.name.text) false e (named_declared ds x m)
 
-each_passes : {A : Type 0} (test : A → Bool) (xs : List A) → list_all test xs ≡ true → AllByRecursion (λ x. test x ≡ true) xs
+pub each_passes : {A : Type 0} (test : A → Bool) (xs : List A) → list_all test xs ≡ true → AllByRecursion (λ x. test x ≡ true) xs
 each_passes test [] e = tt
 each_passes test (x ∷ xs) e = let q = both_true (test x) (list_all test xs) e in (q.0, each_passes test xs q.1)
 
-without_clocks : (vs : List Variable) → AllByRecursion (λ v. is_none v.clock ≡ true) vs → OnBase vs
+pub without_clocks : (vs : List Variable) → AllByRecursion (λ v. is_none v.clock ≡ true) vs → OnBase vs
 without_clocks [] a = tt
 without_clocks (v ∷ vs) a = (is_base v.clock a.0, without_clocks vs a.1)
   where
@@ -283,6 +283,7 @@ TextFits i x = Each (FitsThere i) (component_of i) x.0 x.1
 pub record CleanDeclaration (p : Program) (h : ℕ × Component) : Type 0 where
   pub contract : contract_faults (home p h.0 h.1) [] (contract_statements h.1) ≡ []
   pub contract_clocks : flat_map (contract_statement_clock_faults h.1) (contract_statements h.1) ≡ []
+  pub clocks : flat_map (used_as_clock (body_scope (home p h.0 h.1))) (flat_map clock_words h.1.locals) ≡ []
   pub constants : local_constant_faults (home p h.0 h.1) 0 h.1.constants ≡ []
   pub lefts : list_all has_left_name h.1.body ≡ true
   pub body : flat_map (statement_faults (body_scope (home p h.0 h.1))) h.1.body ≡ []
@@ -299,14 +300,16 @@ clean_declaration p c h place i =
     (no_parts (labels_twice n) _ (no_parts (words_twice name_twice (mode_words (contract_statements n))) _
     (no_parts (outer_twice (constant_words p) (own_words n)) _ (no_parts (words_twice name_twice (own_words n)) _ clean).1).1).1).1 in
     let bodies : body_faults (home p h.0 n) ≡ [] = (no_parts (body_faults (home p h.0 n)) _ rest.1).0 in
-    let body = no_parts (local_constant_faults (home p h.0 n) 0 n.constants) (flat_map (statement_faults (body_scope (home p h.0 n))) n.body)
-    (no_parts _ (local_constant_faults (home p h.0 n) 0 n.constants ++ flat_map (statement_faults (body_scope (home p h.0 n))) n.body) bodies).1 in
+    let behind = no_parts (flat_map (used_as_clock (body_scope (home p h.0 n))) (flat_map clock_words n.locals))
+    (local_constant_faults (home p h.0 n) 0 n.constants ++ flat_map (statement_faults (body_scope (home p h.0 n))) n.body) bodies in
+    let body = no_parts (local_constant_faults (home p h.0 n) 0 n.constants) (flat_map (statement_faults (body_scope (home p h.0 n))) n.body) behind.1 in
     let clocks = no_parts (flat_map (contract_statement_clock_faults n) (contract_statements n)) (flat_map (statement_clock_faults n) n.body)
     (at_one (λ m. component_clock_faults m ≡ []) (components p) n
     (none_mapped component_clock_faults (components p) (empty_of (clock_faults p) c.rules.clocked.clocks)) i) in
     record {
       contract = rest.0;
       contract_clocks = clocks.0;
+      clocks = behind.0;
       constants = body.0;
       lefts = (at_one IsGrammaticalComponent (components p) n (all_grammatical p c.grammatical) i).lefts;
       body = body.1;

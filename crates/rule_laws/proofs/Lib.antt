@@ -19,3 +19,4 @@ pub mod Goods
 pub mod SameModes
 pub mod TypedFrames
 pub mod TypedModes
+pub mod Items

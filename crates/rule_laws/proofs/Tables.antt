@@ -255,9 +255,9 @@ own_good p h d e a o =
 -- ---- streams
 
 -- a stream of a declaration is the one of its name, and no constant has its name
-record IsStream (n : Component) (cs : Values) (v : Variable) : Type 0 where
-  found : find (λ w. bytes_eq v.name.text w.name.text) (variables n) ≡ Some v
-  none : lookup (bytes_eq v.name.text) cs ≡ None
+pub record IsStream (n : Component) (cs : Values) (v : Variable) : Type 0 where
+  pub found : find (λ w. bytes_eq v.name.text w.name.text) (variables n) ≡ Some v
+  pub none : lookup (bytes_eq v.name.text) cs ≡ None
 
 own_found : (vs : List Variable) → AreDistinct (map (λ v. v.name.text) vs) → AllByRecursion (λ v. find (λ w. bytes_eq v.name.text w.name.text) vs ≡ Some v) vs
 own_found [] d = tt
@@ -423,6 +423,16 @@ typed_tables p t h i x e f =
     let r : (x ≡ e.word.text) × Says h.1 (constants_in p h.1) e = found_entry (Says h.1 (constants_in p h.1)) x e (table p h)
     (table_says p h (streams_of p h.1 a) g) f in
     to_any (length p) p h.1 x e (subst (λ y. Agrees (alone h.1 (constants_in p h.1)) y e) (sym r.0) r.1)
+
+-- the streams of a declaration
+pub declared_streams : (p : Program) → IsTyped p → (h : ℕ × Component) → Contains (placed 0 p) h
+    → AllByRecursion (IsStream h.1 (constants_in p h.1)) (variables h.1)
+declared_streams p t h i =
+    let none : words_twice name_twice (map declaration_word p) ++ declaration_faults p 0 p ≡ [] =
+    (no_parts _ (words_twice name_twice (map declaration_word p) ++ declaration_faults p 0 p) (empty_of (typing_faults p) t)).1 in
+    let q : (words_twice name_twice (map declaration_word p) ≡ []) × (declaration_faults p 0 p ≡ []) = no_parts
+    (words_twice name_twice (map declaration_word p)) (declaration_faults p 0 p) none in
+    streams_of p h.1 (names_apart p h (at_one (CleanHome p) (placed 0 p) h (homes_clean p 0 p q.1) i))
 
 pub tables_agree : TablesAgree
 tables_agree p c h i x e f = typed_tables p c.rules.clocked.typed h i x e f

@@ -124,18 +124,18 @@ side_outputs s x xs (mode_name p c m) h = tt
 abbrev pub AreClean : Scope → List Text → Type 0
 AreClean s xs = AllByRecursion (IsClean s) xs
 
-clean_side : (s : Scope) (c : Clock) (x : Spelled) (xs : List Spelled) (e : Expression) → equation_faults s c (x ∷ xs) e ≡ []
+pub clean_side : (s : Scope) (c : Clock) (x : Spelled) (xs : List Spelled) (e : Expression) → equation_faults s c (x ∷ xs) e ≡ []
     → clock_faults_of s.owner c e ≡ [] → IsClean s (as_side c, e)
 clean_side s c x xs e h g =
     let two = no_parts (flat_map (λ (y : Spelled). used s y.text y.at) (x ∷ xs) ++ sides_fit s (x ∷ xs) e) (expression_faults s (as_side c) e) h in
     let one = no_parts (flat_map (λ (y : Spelled). used s y.text y.at) (x ∷ xs)) (sides_fit s (x ∷ xs) e) two.0 in
     record { types = two.1; clocks = g; root = λ w. side_outputs s x xs e one.1 }
 
-clean_plain : (s : Scope) (e : Expression) → expression_faults s (on_clock base) e ≡ [] → clock_faults_of s.owner base e ≡ []
+pub clean_plain : (s : Scope) (e : Expression) → expression_faults s (on_clock base) e ≡ [] → clock_faults_of s.owner base e ≡ []
     → IsClean s (on_clock base, e)
 clean_plain s e h g = record { types = h; clocks = g; root = λ w. absurd (false≢true w) }
 
-clean_flag : (s : Scope) (e : Expression) → flag_faults s e ≡ [] → clock_faults_of s.owner base e ≡ [] → IsClean s (on_clock base, e)
+pub clean_flag : (s : Scope) (e : Expression) → flag_faults s e ≡ [] → clock_faults_of s.owner base e ≡ [] → IsClean s (on_clock base, e)
 clean_flag s e h g = clean_plain s e (no_parts _ (expression_faults s (on_clock base) e) h).1 g
 
 pub clean_flags : (s : Scope) (ls : List Labelled) → flags_of s ls ≡ [] → all_on_base s.owner ls ≡ [] → AreClean s (on_base ls)
@@ -145,7 +145,7 @@ clean_flags s (l ∷ ls) h g =
     let clocks = no_parts (clock_faults_of s.owner base l.value) (all_on_base s.owner ls) g in
     (clean_flag s l.value types.0 clocks.0, clean_flags s ls types.1 clocks.1)
 
-clean_arguments : (s : Scope) (as_ : List Expression) → flat_map (expression_faults s (on_clock base)) as_ ≡ [] → flat_map
+pub clean_arguments : (s : Scope) (as_ : List Expression) → flat_map (expression_faults s (on_clock base)) as_ ≡ [] → flat_map
     (clock_faults_of s.owner base) as_ ≡ [] → AreClean s (map (λ a. (on_clock base, a)) as_)
 clean_arguments s [] h g = tt
 clean_arguments s (a ∷ as_) h g =
@@ -236,7 +236,7 @@ contract_scope_of p h before cs e = record {
   imports = λ x k. subst (λ ds. named_in x (import_names ds) ≡ true) (sym e) (imports_before x before cs k);
 }
 
-constant_scope_of : (p : Program) (h : ℕ × Component) (k : ℕ) → ScopeOf p h (constant_scope (home p h.0 h.1) k)
+pub constant_scope_of : (p : Program) (h : ℕ × Component) (k : ℕ) → ScopeOf p h (constant_scope (home p h.0 h.1) k)
 constant_scope_of p h k = record { program = refl; owner = refl; shows = constant_shows p h k; modes = λ x e. e; imports = λ x e. e }
 
 -- ---- a declaration

@@ -126,19 +126,19 @@ imported_typed k c n b act f e (m ∷ ms) q a = (one, imported_typed k c n b act
 -- ---- texts
 
 module _ (p : Program) (c : IsChecked p) (h : ℕ × Component) (place : Contains (placed 0 p) h) (d : Contains (components p) h.1) (i : Instance) (own : instance_of p h.1 ≡ i) where
-  component : component_of i ≡ h.1
+  pub component : component_of i ≡ h.1
   component = ap component_of (sym own) ∙ component_within (length p) p h.1
 
   covers : Covers p (contract_statements h.1) (terms i).modes
   covers = subst (λ j. Covers p (contract_statements h.1) (terms j).modes) own (own_covered p c h.1 d)
 
-  shown : (s : Scope) → ScopeOf p h s → Shown s i
+  pub shown : (s : Scope) → ScopeOf p h s → Shown s i
   shown s o = subst (Shown s) own (shown_of p c h place s o (own_covered p c h.1 d))
 
-  abbrev TextPlaced : Text → Type 0
+  abbrev pub TextPlaced : Text → Type 0
   TextPlaced x = AllByRecursion (λ o. AllByRecursion (PlacedCall p i) (site_in o.standing o.expression)) (occurrences (component_of i) x.0 x.1)
 
-  texts_placed : AllByRecursion TextPlaced (texts h.1)
+  pub texts_placed : AllByRecursion TextPlaced (texts h.1)
   texts_placed =
       let calls : AllByRecursion (PlacedCall p i) (gathered site_in h.1) =
       subst (λ j. AllByRecursion (PlacedCall p j) (gathered site_in h.1)) own (calls_placed p c h.1 d) in

@@ -25,11 +25,14 @@ abbrev pub NameFits : Instance → Option Value → Clock → Name → Type 0
 NameFits i None c x = name_clock (component_of i) x ≡ Some c
 NameFits i (Some v) c x = has_sort (sort_of_name i x) v ≡ true
 
--- a declared stream on that clock, of truth values
-pub record IsFlagOn (i : Instance) (c : Clock) (x : Name) : Type 0 where
+-- a declared stream on that clock, of that type
+pub record IsStreamOn (i : Instance) (c : Clock) (q : Sort) (x : Name) : Type 0 where
   pub stream : lookup (bytes_eq x) (constants_of i) ≡ None
   pub clock : name_clock (component_of i) x ≡ Some c
-  pub sort : sort_of_name i x ≡ Flags
+  pub sort : sort_of_name i x ≡ q
+
+abbrev pub IsFlagOn : Instance → Clock → Name → Type 0
+IsFlagOn i c x = IsStreamOn i c Flags x
 
 abbrev pub NotEmpty : {A : Type 0} → List A → Type 0
 NotEmpty [] = ⊥
