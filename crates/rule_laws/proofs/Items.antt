@@ -5,6 +5,7 @@ use Rattle.std.specs.List.{AllByRecursion, list_any, list_all}
 use Rattle.std.specs.Map.{lookup}
 use Rattle.std.specs.Str.{bytes_eq}
 use Rattle.std.proofs.lemmas.Bool.{false≢true, eqb-true}
+use Rattle.std.proofs.lemmas.Grind.{flat_map-append}
 use Rattle.std.proofs.lemmas.Option.{none-some}
 use Rattle.lus_tree.specs.declared.place.Sort.{Sort}
 use Rattle.lus_tree.specs.declared.place.Sort.TheVariants.{Bool as Flags}
@@ -78,14 +79,6 @@ at_named P x (y ∷ xs) a e = go (bytes_eq x y) refl e (at_named P x xs a.1)
     go : (c : Bool) → bytes_eq x y ≡ c → (c || named_in x xs) ≡ true → (named_in x xs ≡ true → P x) → P x
     go true m h r = subst P (sym (same_bytes x y m)) a.0
     go false m h r = r h
-
-append_append : {A : Type 0} (xs ys zs : List A) → xs ++ (ys ++ zs) ≡ (xs ++ ys) ++ zs
-append_append [] ys zs = refl
-append_append (x ∷ xs) ys zs = ap (λ ws. x ∷ ws) (append_append xs ys zs)
-
-flat_append : {A B : Type 0} (f : A → List B) (xs ys : List A) → flat_map f (xs ++ ys) ≡ flat_map f xs ++ flat_map f ys
-flat_append f [] ys = refl
-flat_append f (x ∷ xs) ys = ap (λ zs. f x ++ zs) (flat_append f xs ys) ∙ append_append (f x) (flat_map f xs) (flat_map f ys)
 
 -- ---- streams
 
@@ -211,7 +204,7 @@ module _ (p : Program) (c : IsChecked p) (h : ℕ × Component) (place : Contain
   locals_fit (v ∷ vs) e =
       let sc : Scope = body_scope (home p h.0 h.1) in
       let q = no_parts (flat_map (used_as_clock sc) (clock_words v)) (flat_map (used_as_clock sc) (flat_map clock_words vs))
-      (sym (flat_append (used_as_clock sc) (clock_words v) (flat_map clock_words vs)) ∙ e) in
+      (sym (flat_map-append (used_as_clock sc) (clock_words v) (flat_map clock_words vs)) ∙ e) in
       (one v.clock q.0, locals_fit vs q.1)
     where
       one : (o : Option (Bool × Spelled)) → flat_map (used_as_clock (body_scope (home p h.0 h.1))) (option_to_list (option_map (λ k. k.1) o)) ≡ [] → ClockFits i o
@@ -390,3 +383,215 @@ module _ (p : Program) (c : IsChecked p) (h : ℕ × Component) (place : Contain
         same_sorts v.sort (sort_of_name i w.text) (subst (λ r. differ (Some v.sort) r ≡ false) a.0.sort one),
         outputs_sorted s o vs ws a.1 (omega arith) q.1,
       ) refl
+
+  outputs_listed : (s : Scope) → ScopeOf p h s → (ws : List Spelled) → flat_map (output_known s) ws ≡ [] → AllByRecursion (λ w. OutputHere s w.text) ws
+  outputs_listed s o [] e = tt
+  outputs_listed s o (w ∷ ws) e =
+      let known : Bool = holds_of (λ e. is_output_role e.role) s w.text in
+      let q = no_parts (output_known s w) (flat_map (output_known s) ws) e in
+      (output_here s o w.text (not_false known (not_so (not known) name_unknown w.at q.0)), outputs_listed s o ws q.1)
+
+  streams_listed : (s : Scope) (ws : List Spelled) → AllByRecursion (λ w. OutputHere s w.text) ws → AllByRecursion IsStreamHere (map text_of ws)
+  streams_listed s [] a = tt
+  streams_listed s (w ∷ ws) a = (a.0.stream, streams_listed s ws a.1)
+
+  -- the parts of an import's faults
+  record ImportRight (s : Scope) (m : Component) (as_ : List Expression) (ws : List Spelled) : Type 0 where
+    inputs : length m.inputs ≡ length as_
+    outputs : length m.outputs ≡ length ws
+    arguments : sorts_fit s m.inputs as_ ≡ []
+    shared : output_sorts s m.outputs ws ≡ []
+
+  import_right : (s : Scope) (x : Spelled) (as_ : List Expression) (ws : List Spelled) (m : Component) → import_fits s x as_ ws (Some m) ≡ []
+      → ImportRight s m as_ ws
+  import_right s x as_ ws m e =
+      let ins : Bool = length m.inputs == length as_ in
+      let outs : Bool = length m.outputs == length ws in
+      let two = no_parts (if_so (not (ins && outs)) arity_clash x.at) (arguments_fit s m.inputs as_ ++ cond outs (output_sorts s m.outputs ws) []) e in
+      let one = no_parts (arguments_fit s m.inputs as_) (cond outs (output_sorts s m.outputs ws) []) two.1 in
+      let count : (ins ≡ true) × (outs ≡ true) = both_true ins outs (not_false (ins && outs) (not_so (not (ins && outs)) arity_clash x.at two.0)) in
+      record {
+        inputs = eqb-true (length m.inputs) (length as_) count.0;
+        outputs = eqb-true (length m.outputs) (length ws) count.1;
+        arguments = subst (λ b. cond b (sorts_fit s m.inputs as_) [] ≡ []) count.0 one.0;
+        shared = subst (λ b. cond b (output_sorts s m.outputs ws) [] ≡ []) count.1 one.1;
+      }
+
+  import_fits_here : (s : Scope) (o : ScopeOf p h s) (k : ℕ) (x : Spelled) (as_ : List Expression) (ws : List Spelled)
+      → contract_statement_faults s («import» k x as_ ws) ≡ [] → flat_map (clock_faults_of s.owner base) as_ ≡ []
+      → AllByRecursion Placed (map (λ a. (on_clock base, a)) as_) → contract_named s.program x.text ≡ Some (component_of (call_instance i k))
+      → ImportFits i record { number = k; callee = x.text; clock = base; arguments = as_; defaults = []; manner = as_import (map text_of ws) }
+  import_fits_here s o k x as_ ws f g a e =
+      let m : Component = component_of (call_instance i k) in
+      let two = no_parts (flat_map (expression_faults s (on_clock base)) as_) (flat_map (output_known s) ws
+      ++ import_fits s x as_ ws (contract_named s.program x.text)) f in
+      let one = no_parts (flat_map (output_known s) ws) (import_fits s x as_ ws (contract_named s.program x.text)) two.1 in
+      let r : ImportRight s m as_ ws = import_right s x as_ ws m (subst (λ w. import_fits s x as_ ws w ≡ []) e one.1) in
+      let listed : AllByRecursion (λ w. OutputHere s w.text) ws = outputs_listed s o ws one.0 in
+      record {
+        arguments = list_sorts s o m.inputs as_ (all_good s o as_ (clean_arguments s as_ two.0 g) a) r.inputs r.arguments;
+        outputs = (outputs_sorted s o m.outputs ws listed r.outputs r.shared, streams_listed s ws listed);
+      }
+
+  -- ---- the contract
+
+  -- what the statements of a contract have
+  record ContractFits (cs : List ContractStatement) : Type 0 where
+    equations : AllByRecursion (EquationFits i) (ghost_equations cs)
+    flags : AllByRecursion IsFlagHere (flat_map contract_flags cs)
+    imports : AllByRecursion (ImportFits i) (flat_map import_site cs)
+
+  -- a ghost variable is a stream on the base clock
+  abbrev GhostHere : Variable → Type 0
+  GhostHere v = IsStreamHere v.name.text × (clock_of (component_of i) v.name.text ≡ base)
+
+  ghosts_here : (vs : List Variable) → AllByRecursion (λ v. IsStreamOn i (clock_from v.clock) v.sort v.name.text) vs → OnBase vs
+      → AllByRecursion GhostHere vs
+  ghosts_here [] a b = tt
+  ghosts_here (v ∷ vs) a b = (
+    (here v.name.text (clock_from v.clock) v.sort a.0,
+    sym (clock_is (component_of i) v.name.text (clock_from v.clock) a.0.clock) ∙ ap clock_from b.0),
+    ghosts_here vs a.1 b.1,
+  )
+
+  statement_items : (x : ContractStatement) (cs : List ContractStatement) (s : Scope) (o : ScopeOf p h s) → contract_statement_faults s x ≡ []
+      → contract_statement_clock_faults s.owner x ≡ [] → AllByRecursion Placed (contract_statement_texts x)
+      → AllByRecursion (ImportPlaced p i) (flat_map import_site (x ∷ cs)) → AllByRecursion GhostHere (ghosts (x ∷ cs))
+      → (AllByRecursion (ImportPlaced p i) (flat_map import_site cs) → AllByRecursion GhostHere (ghosts cs) → ContractFits cs) → ContractFits (x ∷ cs)
+  statement_items (assume l) cs s o f g a m v r =
+      let q : ContractFits cs = r m v in record { equations = q.equations; flags = (flag_fits s o l.value f g a.0, q.flags); imports = q.imports }
+  statement_items (guarantee l) cs s o f g a m v r =
+      let q : ContractFits cs = r m v in record { equations = q.equations; flags = (flag_fits s o l.value f g a.0, q.flags); imports = q.imports }
+  statement_items (ghost_variable x e) cs s o f g a m v r =
+      let q : ContractFits cs = r m v.1 in
+      record { equations = (equation_fits s o base x.name [] e f g a.0 v.0.1 (v.0, tt), q.equations); flags = q.flags; imports = q.imports }
+  statement_items (constant x) cs s o f g a m v r =
+      let q : ContractFits cs = r m v in record { equations = q.equations; flags = q.flags; imports = q.imports }
+  statement_items (mode x rs es) cs s o f g a m v r =
+      let q : ContractFits cs = r m v in
+      let types = no_parts (flags_of s rs) (flags_of s es) f in
+      let clocks = no_parts (all_on_base s.owner rs) (all_on_base s.owner es) g in
+      record {
+        equations = q.equations;
+        flags = both_parts IsFlagHere (values_of rs ++ values_of es) (flat_map contract_flags cs)
+            (both_parts IsFlagHere (values_of rs) (values_of es)
+            (flags_fit s o rs types.0 clocks.0 (left_part Placed (on_base rs) (on_base es) a))
+            (flags_fit s o es types.1 clocks.1 (right_part Placed (on_base rs) (on_base es) a))) q.flags;
+        imports = q.imports;
+      }
+  statement_items («import» k x as_ ws) cs s o f g a m v r =
+      let q : ContractFits cs = r m.1 v in
+      let e : contract_named s.program x.text ≡ Some (component_of (call_instance i k)) =
+      ap (λ w. contract_named w x.text) o.program ∙ m.0.callee in
+      record { equations = q.equations; flags = q.flags; imports = (import_fits_here s o k x as_ ws f g a e, q.imports) }
+
+  contract_items : (before cs : List ContractStatement) → contract_statements h.1 ≡ before ++ cs → contract_faults (home p h.0 h.1) before cs ≡ []
+      → flat_map (contract_statement_clock_faults h.1) cs ≡ [] → AllByRecursion Placed (flat_map contract_statement_texts cs)
+      → AllByRecursion (ImportPlaced p i) (flat_map import_site cs) → AllByRecursion GhostHere (ghosts cs) → ContractFits cs
+  contract_items before [] e f g a m v = record { equations = tt; flags = tt; imports = tt }
+  contract_items before (x ∷ cs) e f g a m v =
+      let s : Scope = contract_statement_scope (home p h.0 h.1) before in
+      let types = no_parts (contract_statement_faults s x) (contract_faults (home p h.0 h.1) (before ++ x ∷ []) cs) f in
+      let clocks = no_parts (contract_statement_clock_faults h.1 x) (flat_map (contract_statement_clock_faults h.1) cs) g in
+      statement_items x cs s (contract_scope_of p h before (x ∷ cs) e) types.0 clocks.0
+      (left_part Placed (contract_statement_texts x) (flat_map contract_statement_texts cs) a) m v
+      (contract_items (before ++ x ∷ []) cs (e ∙ moved_on before cs x) types.1 clocks.1
+      (right_part Placed (contract_statement_texts x) (flat_map contract_statement_texts cs) a))
+
+  -- ---- the body
+
+  record BodyFits (xs : List Statement) : Type 0 where
+    equations : AllByRecursion (EquationFits i) (body_equations xs)
+    flags : AllByRecursion IsFlagHere (flat_map statement_flags xs)
+
+  abbrev IsDefined : Spelled → Type 0
+  IsDefined w = named_in w.text (definable h.1) ≡ true
+
+  same_lefts : (k : Clock) (ws : List Spelled) → list_any (λ x. not (same_clock k (clock_of h.1 x))) (map text_of ws) ≡ false → AllByRecursion IsDefined ws
+      → AllByRecursion (λ y. IsStreamHere y.text × (clock_of (component_of i) y.text ≡ k)) ws
+  same_lefts k [] e a = tt
+  same_lefts k (w ∷ ws) e a =
+      let other : Bool = not (same_clock k (clock_of h.1 w.text)) in
+      let rest : Bool = list_any (λ x. not (same_clock k (clock_of h.1 x))) (map text_of ws) in
+      let same : k ≡ clock_of h.1 w.text = same_clocks k (clock_of h.1 w.text)
+      (not_false (same_clock k (clock_of h.1 w.text)) (first_false other rest e)) in (
+        (defined_here w.text a.0, ap (λ n. clock_of n w.text) own ∙ sym same),
+        same_lefts k ws (second_false other rest e) a.1,
+      )
+
+  body_items : (xs : List Statement) → list_all has_left_name xs ≡ true → flat_map (statement_faults (body_scope (home p h.0 h.1))) xs ≡ []
+      → flat_map (statement_clock_faults h.1) xs ≡ [] → AllByRecursion Placed (flat_map (statement_texts h.1) xs)
+      → AllByRecursion IsDefined (flat_map (λ ys. ys) (body_sides xs)) → BodyFits xs
+  body_items [] l f g a v = record { equations = tt; flags = tt }
+  body_items (x ∷ xs) l f g a v =
+      let s : Scope = body_scope (home p h.0 h.1) in
+      let types = no_parts (statement_faults s x) (flat_map (statement_faults s) xs) f in
+      let clocks = no_parts (statement_clock_faults h.1 x) (flat_map (statement_clock_faults h.1) xs) g in
+      let lefts : (has_left_name x ≡ true) × (list_all has_left_name xs ≡ true) = both_true (has_left_name x) (list_all has_left_name xs) l in
+      one x s (constant_scope_of p h (length h.1.constants)) refl lefts.0 types.0 clocks.0
+      (left_part Placed (statement_texts h.1 x) (flat_map (statement_texts h.1) xs) a) v
+      (body_items xs lefts.1 types.1 clocks.1 (right_part Placed (statement_texts h.1 x) (flat_map (statement_texts h.1) xs) a))
+    where
+      one : (x : Statement) (s : Scope) (o : ScopeOf p h s) → s.owner ≡ h.1 → has_left_name x ≡ true → statement_faults s x ≡ []
+          → statement_clock_faults h.1 x ≡ [] → AllByRecursion Placed (statement_texts h.1 x)
+          → AllByRecursion IsDefined (flat_map (λ ys. ys) (body_sides (x ∷ xs)))
+          → (AllByRecursion IsDefined (flat_map (λ ys. ys) (body_sides xs)) → BodyFits xs) → BodyFits (x ∷ xs)
+      one (equation [] e) s o j l f g a v r = absurd (false≢true l)
+      one (equation (w ∷ ws) e) s o j l f g a v r =
+          let k : Clock = clock_of_names h.1 (map text_of (w ∷ ws)) in
+          let q : BodyFits xs = r (right_part IsDefined (w ∷ ws) (flat_map (λ ys. ys) (body_sides xs)) v) in
+          let clocks = no_parts (if_so (list_any (λ x. not (same_clock k (clock_of h.1 x))) (map text_of (w ∷ ws))) clock_clash (begin e))
+          (clock_faults_of h.1 k e) g in
+          let lefts : AllByRecursion (λ y. IsStreamHere y.text × (clock_of (component_of i) y.text ≡ k)) (w ∷ ws) =
+          same_lefts k (w ∷ ws) (not_so (list_any (λ x. not (same_clock k (clock_of h.1 x))) (map text_of (w ∷ ws))) clock_clash (begin e) clocks.0)
+          (left_part IsDefined (w ∷ ws) (flat_map (λ ys. ys) (body_sides xs)) v) in
+          record {
+            equations = (
+              equation_fits s o k w ws e (subst (λ n. equation_faults s (clock_of_names n (map text_of (w ∷ ws))) (w ∷ ws) e ≡ []) j f)
+                  (subst (λ n. clock_faults_of n k e ≡ []) (sym j) clocks.1) a.0 (ap (λ n. clock_of_names n (map text_of (w ∷ ws))) own) lefts,
+              q.equations,
+            );
+            flags = q.flags;
+          }
+      one (assertion e) s o j l f g a v r =
+          let q : BodyFits xs = r v in
+          record { equations = q.equations; flags = (flag_fits s o e f (subst (λ n. clock_faults_of n base e ≡ []) (sym j) g) a.0, q.flags) }
+      one (property m) s o j l f g a v r =
+          let q : BodyFits xs = r v in
+          record { equations = q.equations; flags = (flag_fits s o m.value f (subst (λ n. clock_faults_of n base m.value ≡ []) (sym j) g) a.0, q.flags) }
+      one (main_mark q) s o j l f g a v r = let q : BodyFits xs = r v in record { equations = q.equations; flags = q.flags }
+
+  lefts_defined : AllByRecursion IsDefined (body_lefts h.1)
+  lefts_defined =
+      let none : left_faults h.1 ≡ [] = at_one (λ n. left_faults n ≡ []) (components p) h.1 (none_mapped left_faults (components p)
+      (empty_of (flat_map left_faults (components p)) (λ r k. c.rules.equations r (of_left k)))) d in
+      let each : AllByRecursion (λ w. if_so (not (named_in w.text (definable h.1))) input_defined w.at ≡ []) (body_lefts h.1) =
+      none_mapped (λ w. if_so (not (named_in w.text (definable h.1))) input_defined w.at) (body_lefts h.1) (no_parts _ _ none).1 in
+      all_from (λ w. if_so (not (named_in w.text (definable h.1))) input_defined w.at ≡ []) IsDefined
+      (λ w e. not_false (named_in w.text (definable h.1)) (not_so (not (named_in w.text (definable h.1))) input_defined w.at e)) (body_lefts h.1) each
+
+  declaration_fits : DeclarationFits i
+  declaration_fits =
+      let all : AllByRecursion Placed (texts h.1) = texts_placed p c h place d i refl in
+      let behind : AllByRecursion Placed (constant_texts h.1.constants ++ flat_map (statement_texts h.1) h.1.body) =
+      right_part Placed (flat_map contract_statement_texts (contract_statements h.1)) _ all in
+      let ghosted : AllByRecursion GhostHere (ghosts (contract_statements h.1)) = ghosts_here (ghosts (contract_statements h.1))
+      (parts_of (λ v. IsStreamOn i (clock_from v.clock) v.sort v.name.text) h.1 streams_on).others (others_on_base h.1 grammatical).ghosts in
+      let imports : AllByRecursion (ImportPlaced p i) (flat_map import_site (contract_statements h.1)) =
+      subst (λ n. AllByRecursion (ImportPlaced p i) (flat_map import_site (contract_statements n))) own
+      (imports_placed p c i (each_unfolded p c h.1 d) (subst (Contains (components p)) (sym own) d)) in
+      let contract : ContractFits (contract_statements h.1) = contract_items [] (contract_statements h.1) refl clean.contract clean.contract_clocks
+      (left_part Placed (flat_map contract_statement_texts (contract_statements h.1)) _ all) imports ghosted in
+      let body : BodyFits h.1.body = body_items h.1.body clean.lefts clean.body clean.body_clocks
+      (right_part Placed (constant_texts h.1.constants) (flat_map (statement_texts h.1) h.1.body) behind) lefts_defined in
+      record {
+        streams = subst (λ n. AllByRecursion (StreamFits i) (variables n)) (sym own) streams_fit;
+        equations = subst (λ n. AllByRecursion (EquationFits i) (equations n)) (sym own)
+            (both_parts (EquationFits i) (ghost_equations (contract_statements h.1)) (body_equations h.1.body) contract.equations body.equations);
+        flags = subst (λ n. AllByRecursion IsFlagHere (flags_in n)) (sym own)
+            (both_parts IsFlagHere (flat_map contract_flags (contract_statements h.1)) (flat_map statement_flags h.1.body) contract.flags body.flags);
+        imports = subst (λ n. AllByRecursion (ImportFits i) (flat_map import_site (contract_statements n))) (sym own) contract.imports;
+      }
+
+pub declarations_fit : DeclarationsFit
+declarations_fit p c n d = let q : PlaceOf (placed 0 p) n = place_of 0 p n d in declaration_fits p c (q.before, n) q.is d

@@ -1,5 +1,6 @@
 //! The laws of the programs that follow the rules.
 
+ghost use Rattle.rule_laws.specs.Declarations.{DeclarationsFit};
 ghost use Rattle.rule_laws.specs.Fitting.{ExpressionsFit};
 ghost use Rattle.rule_laws.specs.Laws.{CallsInPlace, FirstsInPlace, ImportsInPlace, TablesAgree, Unfolding};
 ghost use Rattle.rule_laws.specs.Types.{TypesInRuns, TypesOfModes, TypesOfValues};
@@ -29,6 +30,13 @@ pub fn numbered_places()
 /// arguments and defaults of the types that its callee says, and a mode is one of the contract or of an import.
 pub fn expressions_fit()
     ensures { ExpressionsFit }
+{}
+
+/// In a checked program the items of each declaration have their types and clocks: its streams under their names, the two
+/// sides of its equations, what it assumes, guarantees, requires, ensures, asserts and checks, and the arguments and outputs
+/// of its imports.
+pub fn declarations_fit()
+    ensures { DeclarationsFit }
 {}
 
 /// The law of types. In a checked program, in every frame whose names and first values have their types, those of the
