@@ -41,7 +41,7 @@ use Rattle.rule_laws.proofs.Goods.{PlaceOf, place_of, text_good, each_passes, wi
 use Rattle.rule_laws.proofs.Known.{SameFound}
 use Rattle.rule_laws.proofs.Lists.{all_mapped}
 use Rattle.rule_laws.proofs.Places.{all_grammatical}
-use Rattle.rule_laws.proofs.Tables.{IsStream, declared_streams, typed_tables}
+use Rattle.rule_laws.proofs.Tables.{outputs_on_base, IsStream, declared_streams, typed_tables}
 use Rattle.rule_laws.proofs.Texts.{IsClean, AreClean, clean_flag, clean_side, clean_arguments, ScopeOf, contract_scope_of, constant_scope_of}
 use Rattle.rule_laws.proofs.TypedModes.{component, shown, TextPlaced, texts_placed}
 use Rattle.rule_laws.proofs.Unfolded.{component_within, each_unfolded}
@@ -354,7 +354,7 @@ module _ (p : Program) (c : IsChecked p) (h : ℕ × Component) (place : Contain
 
   -- an output of the declaration, and its type in a scope
   record OutputHere (s : Scope) (x : Name) : Type 0 where
-    stream : IsStreamHere x
+    stream : IsStreamOn i base (sort_of_name i x) x
     sort : sort_of_entry s x ≡ Some (sort_of_name i x)
 
   output_here : (s : Scope) → ScopeOf p h s → (x : Name) → holds_of (λ e. is_output_role e.role) s x ≡ true → OutputHere s x
@@ -365,7 +365,8 @@ module _ (p : Program) (c : IsChecked p) (h : ℕ × Component) (place : Contain
       let no : is_constant_role q.0.role ≡ false = no_constant q.0.role q.2 in record {
         stream = record {
           stream = a.constant ∙ ap (λ b. cond b (Some q.0.value) None) no;
-          clock = a.stream ∙ ap (λ b. cond b None (Some q.0.clock)) no ∙ ap (λ k. Some k) a.clock;
+          clock = a.stream ∙ ap (λ b. cond b None (Some q.0.clock)) no
+              ∙ ap (λ k. Some k) (outputs_on_base p h (others_on_base h.1 grammatical).outputs x q.0 q.1 q.2);
           sort = refl;
         };
         sort = (o.shows x).sort ∙ ap (option_and_then (λ w. w.sort)) q.1 ∙ a.sort;
@@ -391,7 +392,8 @@ module _ (p : Program) (c : IsChecked p) (h : ℕ × Component) (place : Contain
       let q = no_parts (output_known s w) (flat_map (output_known s) ws) e in
       (output_here s o w.text (not_false known (not_so (not known) name_unknown w.at q.0)), outputs_listed s o ws q.1)
 
-  streams_listed : (s : Scope) (ws : List Spelled) → AllByRecursion (λ w. OutputHere s w.text) ws → AllByRecursion IsStreamHere (map text_of ws)
+  streams_listed : (s : Scope) (ws : List Spelled) → AllByRecursion (λ w. OutputHere s w.text) ws
+      → AllByRecursion (λ x. IsStreamOn i base (sort_of_name i x) x) (map text_of ws)
   streams_listed s [] a = tt
   streams_listed s (w ∷ ws) a = (a.0.stream, streams_listed s ws a.1)
 

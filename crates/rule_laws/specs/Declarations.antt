@@ -57,10 +57,10 @@ flags_in n = flat_map contract_flags (contract_statements n) ++ flat_map stateme
 
 -- ---- imports
 
--- names that stand for outputs of an import are streams of their types
+-- names that stand for outputs of an import are streams of their types on the base clock
 abbrev pub OutputsFit : Instance → Manner → List Variable → Type 0
 OutputsFit i (as_import xs) vs =
-    (map (sort_of_name i) xs ≡ sorts_of vs) × AllByRecursion (λ x. IsStreamOn i (clock_of (component_of i) x) (sort_of_name i x) x) xs
+    (map (sort_of_name i) xs ≡ sorts_of vs) × AllByRecursion (λ x. IsStreamOn i base (sort_of_name i x) x) xs
 OutputsFit i plain vs = Unit {0}
 OutputsFit i (while_true a) vs = Unit {0}
 
