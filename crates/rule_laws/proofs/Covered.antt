@@ -1,11 +1,11 @@
 -- The modes that a contract names are among the terms of its instance, those of imports too.
-use Rattle.std.proofs.Common.{◌≡◌, ℕ, zero, suc, pred, ◌≤◌, ◌<◌, Bool, true, false, cond, ◌&&◌, ◌||◌, List, [], ◌∷◌, ◌++◌, map, flat_map, length, Option, Some, None, refl, sym, ap, ◌∙◌, subst, arith, get_or, slice_index_or}
+use Rattle.std.proofs.Common.{◌≡◌, ℕ, zero, suc, pred, ◌≤◌, Bool, true, false, cond, ◌||◌, List, [], ◌∷◌, ◌++◌, map, flat_map, length, Option, Some, None, refl, sym, ap, ◌∙◌, subst, arith, get_or, slice_index_or}
 use Rattle.std.specs.Prelude.{Contains}
 use Rattle.std.specs.List.{AllByRecursion, list_any}
 use Rattle.std.specs.Str.{bytes_eq}
 use Rattle.std.proofs.lemmas.Bool.{false≢true}
-use Rattle.lus_tree.specs.Tree.{Name, text_of, Labelled, ContractStatement, assume, guarantee, ghost_variable, constant, mode, «import», Component, declared_constant, declared_node, declared_contract, Program}
-use Rattle.lus_meaning.specs.Scene.{Site, Instance, Instances, instance, no_instances, with_instance, component_of, calls_of, instance_at, call_instance, contract_statements}
+use Rattle.lus_tree.specs.Tree.{Name, Labelled, ContractStatement, assume, guarantee, ghost_variable, constant, mode, «import», Component, declared_constant, declared_node, declared_contract, Program}
+use Rattle.lus_meaning.specs.Scene.{Site, Instance, Instances, instance, no_instances, with_instance, component_of, instance_at, call_instance, contract_statements}
 use Rattle.lus_meaning.specs.Meaning.{mode_key}
 use Rattle.lus_meaning.specs.Contract.{ModeTerms, Terms, no_terms, mode_terms, imported_mode, terms_after, terms, terms_each}
 use Rattle.lus_meaning.specs.Program.{import_site, all_sites, component_named, first_of_two, constants_in, instance_of}
@@ -183,7 +183,8 @@ through_import k d c x e (m ∷ ms) h = go (mode_key ([], x) m.key) refl h (thro
     same = rw e refl
 
     go : (b : Bool) → mode_key ([], x) m.key ≡ b → (b || list_any (λ m. mode_key ([], x) m.key) ms) ≡ true
-        → (has_key ([], x) ms → has_key (d ∷ [], x) (map (imported_mode k c) ms)) → (mode_key (d ∷ [], x) (c ∷ m.key.0, m.key.1) || list_any (λ m. mode_key (d ∷ [], x) m.key) (map (imported_mode k c) ms)) ≡ true
+        → (has_key ([], x) ms → has_key (d ∷ [], x) (map (imported_mode k c) ms))
+        → (mode_key (d ∷ [], x) (c ∷ m.key.0, m.key.1) || list_any (λ m. mode_key (d ∷ [], x) m.key) (map (imported_mode k c) ms)) ≡ true
     go true f g r = or_left _ _ (same ∙ f)
     go false f g r = or_true _ _ (r g)
 
@@ -214,7 +215,11 @@ moved_on (b ∷ bs) cs c = ap (λ xs. b ∷ xs) (moved_on bs cs c)
 abbrev pub ImportPlaced : Program → Instance → Site → Type 0
 ImportPlaced p i s = HasItsPlace i (contract_named p s.callee) s
 
-module _ (p : Program) (i : Instance) (sub : ℕ → Terms) (below : (k : ℕ) → 1 ≤ k → Covers p (contract_statements (component_of (call_instance i k))) (sub k).modes) where
+-- the modes of each import of an instance are covered
+abbrev pub ImportsCovered : Program → Instance → (ℕ → Terms) → Type 0
+ImportsCovered p i sub = (k : ℕ) → 1 ≤ k → Covers p (contract_statements (component_of (call_instance i k))) (sub k).modes
+
+module _ (p : Program) (i : Instance) (sub : ℕ → Terms) (below : ImportsCovered p i sub) where
   after_covers : (all before : List ContractStatement) (ms : List ModeTerms) (cs : List ContractStatement) → all ≡ before ++ cs
       → Covers p before ms → AllByRecursion (ImportPlaced p i) (flat_map import_site cs) → Covers p all (terms_after i sub ms cs).modes
   after_covers all before ms [] e a h = subst (λ xs. Covers p xs ms) (sym (e ∙ append_none before)) a

@@ -1,6 +1,6 @@
 -- Expressions that break no rule of types and clocks fit where they stand.
 use Rattle.std.proofs.Common.{◌≡◌, ℕ, suc, arith, Bool, true, false, cond, not, ◌&&◌, ◌||◌, ◌==◌, List, [], ◌∷◌, ◌++◌, map, length, flat_map, Option, Some, None, refl, sym, ap, ◌∙◌, subst, option_map, option_to_list}
-use Rattle.std.specs.Prelude.{Contains, option_and_then, unwrap_or}
+use Rattle.std.specs.Prelude.{option_and_then, unwrap_or}
 use Rattle.std.specs.List.{AllByRecursion}
 use Rattle.std.specs.Map.{lookup}
 use Rattle.std.specs.Bool.{beq}
@@ -13,9 +13,8 @@ use Rattle.lus_tree.specs.declared.place.Sort.{Sort}
 use Rattle.lus_tree.specs.declared.place.Sort.TheVariants.{Bool as Flags, Int as Numbers}
 use Rattle.lus_tree.specs.Tree.{Name, text_of, Spelled, Expression, Expressions, truth, number, name, negation, minus, pre, arrow, binary, choice, sampled, merged, call, condact, mode_name, no_more, more, Variable, Component}
 use Rattle.lus_tree.specs.Reason.{Refused, name_unknown, type_clash, arity_clash, clock_clash, mode_unknown}
-use Rattle.lus_meaning.specs.Value.{Value, has_sort}
 use Rattle.lus_meaning.specs.Frame.{empty_frame}
-use Rattle.lus_meaning.specs.Scene.{Clock, base, sampled_by, Scene, Site, plain, while_true, Instance, clock_of, component_of, constants_of, call_instance, instance_called}
+use Rattle.lus_meaning.specs.Scene.{Clock, base, sampled_by, Scene, Site, Instance, clock_of, component_of, constants_of, call_instance, instance_called}
 use Rattle.lus_meaning.specs.Contract.{terms}
 use Rattle.lus_meaning.specs.Program.{listed, site_in}
 use Rattle.lus_meaning.specs.Run.{Takes, sort_of, sort_of_name, output_sort, first_sort}
@@ -26,8 +25,8 @@ use Rattle.lus_meaning.specs.ExpressionFaults.{used, used_as_clock, needs_sort, 
 use Rattle.lus_meaning.specs.ClockFaults.{same_clock, name_clock, or_else, clock_in, clock_among, is_other, stands_on, all_on, clock_form_faults}
 use Rattle.lus_meaning.proofs.EachPart.{Each, EachAmong, each_of_both}
 use Rattle.lus_meaning.proofs.Flexible.{constant_flexible}
-use Rattle.lus_meaning.proofs.NamesOnce.{not_nil, no_parts, not_so}
-use Rattle.lus_meaning.proofs.RulesFit.{KnownName, fixed_name, stream_name, none_mapped}
+use Rattle.lus_meaning.proofs.NamesOnce.{no_parts, not_so}
+use Rattle.lus_meaning.proofs.RulesFit.{KnownName, fixed_name, stream_name}
 use Rattle.lus_meaning.proofs.Unique.{same_bytes}
 use Rattle.rule_laws.specs.Laws.{HasItsPlace}
 use Rattle.rule_laws.specs.Fitting.{sorts_of, NameFits, IsFlagOn, NotEmpty, OnBase, CallFits, has_key, Fits, FitsThere}

@@ -1,5 +1,5 @@
 -- In a checked program each expression of a declaration fits where it stands.
-use Rattle.std.proofs.Common.{◌≡◌, ℕ, zero, suc, ◌<◌, Bool, true, false, cond, not, ◌&&◌, ◌||◌, ◌==◌, List, [], ◌∷◌, ◌++◌, map, flat_map, length, Option, Some, None, refl, sym, ap, ◌∙◌, subst, arith, option_map, option_to_list}
+use Rattle.std.proofs.Common.{◌≡◌, ℕ, zero, suc, ◌<◌, Bool, true, false, cond, ◌&&◌, ◌||◌, List, [], ◌∷◌, ◌++◌, map, flat_map, length, Option, Some, None, refl, sym, ap, ◌∙◌, subst, arith, option_map, option_to_list}
 use Rattle.std.specs.Prelude.{Contains, filter, find, unwrap_or, is_none}
 use Rattle.std.specs.List.{AllByRecursion, list_all}
 use Rattle.std.specs.Str.{bytes_eq}
@@ -7,31 +7,31 @@ use Rattle.std.proofs.lemmas.Bool.{false≢true}
 use Rattle.std.proofs.lemmas.Option.{none-some}
 use Rattle.lus_tree.specs.Tree.{Name, text_of, Spelled, Expression, truth, number, name, negation, minus, pre, arrow, binary, choice, sampled, merged, call, condact, mode_name, Variable, Component, declared_constant, declared_node, declared_contract, Program}
 use Rattle.lus_tree.specs.Reason.{name_twice}
-use Rattle.lus_meaning.specs.Scene.{Clock, Site, Instance, component_of, call_instance, contract_statements}
+use Rattle.lus_meaning.specs.Scene.{Site, Instance, component_of, call_instance, contract_statements}
 use Rattle.lus_meaning.specs.Contract.{terms}
 use Rattle.lus_meaning.specs.Program.{listed, site_in, instance_of}
 use Rattle.lus_meaning.specs.Occurrences.{Standing, on_clock, Occurrence, occurs, occurrences, Text, texts, all_occurrences, gathered}
 use Rattle.lus_meaning.specs.Depends.{named_in}
-use Rattle.lus_meaning.specs.Scope.{Entry, is_constant_role, Scope, is_constant_name, entry_of, mode_names, node_if, component_where, node_named, contract_named, body_scope, own_names, outer_names}
+use Rattle.lus_meaning.specs.Scope.{Entry, is_constant_role, Scope, entry_of, node_if, component_where, node_named, contract_named, body_scope}
 use Rattle.lus_meaning.specs.Faults.{words_twice}
-use Rattle.lus_meaning.specs.ExpressionFaults.{used_as_clock, call_faults, has_one, has_mode, mode_is_known, form_faults, weight_faults, part_faults, expression_faults}
-use Rattle.lus_meaning.specs.NameFaults.{clock_words, declaration_word, home, component_faults, constant_words, own_words, outer_twice, mode_words, labels_twice, contract_faults, body_faults, local_constant_faults, statement_faults, state_faults, recursion_faults, assumption_faults, declaration_faults, typing_faults}
+use Rattle.lus_meaning.specs.ExpressionFaults.{used_as_clock, call_faults, has_one, has_mode, mode_is_known, form_faults, weight_faults, part_faults}
+use Rattle.lus_meaning.specs.NameFaults.{clock_words, declaration_word, home, constant_words, own_words, outer_twice, mode_words, labels_twice, contract_faults, body_faults, local_constant_faults, statement_faults, state_faults, recursion_faults, assumption_faults, declaration_faults, typing_faults}
 use Rattle.lus_meaning.specs.ClockFaults.{components, component_clock_faults, clock_faults, contract_statement_clock_faults, statement_clock_faults, name_clock, clock_in, is_other, stands_on, clock_form_faults, clock_faults_of}
 use Rattle.lus_meaning.specs.Grammatical.{has_left_name, IsGrammaticalComponent, ghost_names}
-use Rattle.lus_meaning.specs.Refusals.{IsTyped, IsChecked}
+use Rattle.lus_meaning.specs.Refusals.{IsChecked}
 use Rattle.lus_meaning.proofs.EachPart.{Each, each_part, each_of_both, each_elsewhere}
 use Rattle.lus_meaning.proofs.Lists.{all_from, all_from_both}
-use Rattle.lus_meaning.proofs.NamesOnce.{no_parts, not_nil, at_one, empty_of}
+use Rattle.lus_meaning.proofs.NamesOnce.{no_parts, at_one, empty_of}
 use Rattle.lus_meaning.proofs.Now.{left_part, right_part}
 use Rattle.lus_meaning.proofs.RulesFit.{none_mapped}
 use Rattle.rule_laws.specs.Laws.{placed, table, Agrees, HasItsPlace}
 use Rattle.rule_laws.specs.Fitting.{NotEmpty, OnBase, has_key, FitsThere, ExpressionsFit}
 use Rattle.rule_laws.proofs.Cleaned.{CleanHome, homes_clean}
 use Rattle.rule_laws.proofs.Constants.{is_word}
-use Rattle.rule_laws.proofs.Covered.{all_contained, same_some, found_declared, Covers, covered}
+use Rattle.rule_laws.proofs.Covered.{all_contained, same_some, Covers, covered}
 use Rattle.rule_laws.proofs.Fitted.{not_false, stands_there, still, some_output, call_right, SiteFits, Shown, GoodPart, held_right, fit_parts}
 use Rattle.rule_laws.proofs.Lists.{all_flat}
-use Rattle.rule_laws.proofs.Known.{SameFound, Shows, agrees}
+use Rattle.rule_laws.proofs.Known.{SameFound, agrees}
 use Rattle.rule_laws.proofs.Parts.{all_parts, from_root}
 use Rattle.rule_laws.proofs.Places.{all_grammatical, calls_in_place}
 use Rattle.rule_laws.proofs.Tables.{typed_tables}
@@ -163,7 +163,8 @@ outputs_on_base n g =
     without_clocks n.outputs (left_part (λ v. is_none v.clock ≡ true) n.outputs (flat_map ghost_names (contract_statements n))
     (right_part (λ v. is_none v.clock ≡ true) n.inputs (n.outputs ++ flat_map ghost_names (contract_statements n)) all))
 
-pub calls_placed : (p : Program) → IsChecked p → (n : Component) → Contains (components p) n → AllByRecursion (PlacedCall p (instance_of p n)) (gathered site_in n)
+pub calls_placed : (p : Program) → IsChecked p → (n : Component) → Contains (components p) n
+    → AllByRecursion (PlacedCall p (instance_of p n)) (gathered site_in n)
 calls_placed p c n i = all_contained (PlacedCall p (instance_of p n)) (gathered site_in n) one
   where
     one : (s : Site) → Contains (gathered site_in n) s → PlacedCall p (instance_of p n) s

@@ -1,5 +1,5 @@
 -- In a checked program streams, equations, flags and imports of a declaration have their types and clocks.
-use Rattle.std.proofs.Common.{◌≡◌, ℕ, zero, suc, ◌≤◌, Bool, true, false, cond, not, ◌&&◌, ◌||◌, ◌==◌, List, [], ◌∷◌, ◌++◌, map, flat_map, length, Option, Some, None, option_map, option_to_list, unwrap_or, refl, sym, ap, ◌∙◌, subst, arith}
+use Rattle.std.proofs.Common.{◌≡◌, ℕ, zero, suc, Bool, true, false, cond, not, ◌&&◌, ◌||◌, ◌==◌, List, [], ◌∷◌, ◌++◌, map, flat_map, length, Option, Some, None, option_map, option_to_list, unwrap_or, refl, sym, ap, ◌∙◌, subst, arith}
 use Rattle.std.specs.Prelude.{Contains, find, is_none, option_and_then}
 use Rattle.std.specs.List.{AllByRecursion, list_any, list_all}
 use Rattle.std.specs.Map.{lookup}
@@ -10,33 +10,33 @@ use Rattle.std.proofs.lemmas.Option.{none-some}
 use Rattle.lus_tree.specs.declared.place.Sort.{Sort}
 use Rattle.lus_tree.specs.declared.place.Sort.TheVariants.{Bool as Flags}
 use Rattle.lus_tree.specs.Tree.{Name, text_of, Spelled, Expression, truth, number, name, negation, minus, pre, arrow, binary, choice, sampled, merged, call, condact, mode_name, Variable, Labelled, Statement, equation, assertion, property, main_mark, ContractStatement, assume, guarantee, ghost_variable, constant, mode, «import», Component, Program}
-use Rattle.lus_tree.specs.Reason.{Refused, name_unknown, type_clash, arity_clash, clock_clash, input_defined}
+use Rattle.lus_tree.specs.Reason.{name_unknown, type_clash, arity_clash, clock_clash, input_defined}
 use Rattle.lus_meaning.specs.Value.{absent}
-use Rattle.lus_meaning.specs.Scene.{Clock, base, sampled_by, as_import, Site, Instance, component_of, constants_of, call_instance, clock_from, clock_of, clock_of_names, contract_statements, ghosts, variables}
+use Rattle.lus_meaning.specs.Scene.{Clock, base, sampled_by, as_import, Instance, component_of, constants_of, call_instance, clock_from, clock_of, clock_of_names, contract_statements, ghosts, variables}
 use Rattle.lus_meaning.specs.Program.{import_site, constants_in, instance_within, instance_of}
-use Rattle.lus_meaning.specs.Run.{Equation, equations, ghost_equations, body_equations, sort_of, sort_of_name, sort_of_value}
-use Rattle.lus_meaning.specs.Occurrences.{Standing, on_clock, as_side, within, before, moved, Occurrence, occurs, Text, on_base, contract_statement_texts, statement_texts, constant_texts, texts, begin}
+use Rattle.lus_meaning.specs.Run.{equations, ghost_equations, body_equations, sort_of, sort_of_name, sort_of_value}
+use Rattle.lus_meaning.specs.Occurrences.{Standing, on_clock, as_side, within, before, moved, Text, on_base, contract_statement_texts, statement_texts, constant_texts, texts, begin}
 use Rattle.lus_meaning.specs.Depends.{named_in}
-use Rattle.lus_meaning.specs.Scope.{Role, an_input, an_output, a_local, a_ghost, a_constant, Entry, is_constant_role, is_output_role, Scope, Home, holds_of, entry_of, is_known, sort_of_entry, type_of, node_named, contract_named, contract_statement_scope, body_scope}
+use Rattle.lus_meaning.specs.Scope.{Role, an_input, an_output, a_local, a_ghost, a_constant, Entry, is_constant_role, is_output_role, Scope, holds_of, entry_of, is_known, sort_of_entry, type_of, node_named, contract_named, contract_statement_scope, body_scope}
 use Rattle.lus_meaning.specs.Faults.{if_so, fault, differ}
 use Rattle.lus_meaning.specs.ExpressionFaults.{used, used_as_clock, needs_sort, sorts_fit, arguments_fit, flag_faults, expression_faults, differs_from, some_differ, outputs_fit, value_fits, sides_fit, equation_faults}
 use Rattle.lus_meaning.specs.NameFaults.{home, clock_words, flags_of, output_known, output_sorts, import_fits, contract_statement_faults, contract_faults, statement_faults}
-use Rattle.lus_meaning.specs.ClockFaults.{components, same_clock, name_clock, clock_faults_of, side_faults, all_on_base, contract_statement_clock_faults, statement_clock_faults}
+use Rattle.lus_meaning.specs.ClockFaults.{components, same_clock, name_clock, clock_faults_of, all_on_base, contract_statement_clock_faults, statement_clock_faults}
 use Rattle.lus_meaning.specs.EquationFaults.{body_sides, body_lefts, definable, left_faults, of_left}
 use Rattle.lus_meaning.specs.Grammatical.{IsGrammaticalComponent, ghost_names, has_left_name}
 use Rattle.lus_meaning.specs.Refusals.{IsChecked}
 use Rattle.lus_meaning.proofs.EachPart.{Each}
-use Rattle.lus_meaning.proofs.Lists.{all_from, all_from_both, both_parts, mapped_all}
+use Rattle.lus_meaning.proofs.Lists.{all_from, all_from_both, both_parts}
 use Rattle.lus_meaning.proofs.NamesOnce.{no_parts, not_nil, not_so, at_one, empty_of}
 use Rattle.lus_meaning.proofs.Now.{left_part, right_part}
-use Rattle.lus_meaning.proofs.RulesFit.{KnownName, none_mapped}
+use Rattle.lus_meaning.proofs.RulesFit.{none_mapped}
 use Rattle.lus_meaning.proofs.Unique.{same_bytes}
-use Rattle.rule_laws.specs.Laws.{placed, table, Agrees, HasItsPlace}
-use Rattle.rule_laws.specs.Fitting.{sorts_of, IsStreamOn, IsFlagOn, OnBase}
+use Rattle.rule_laws.specs.Laws.{placed, table, Agrees}
+use Rattle.rule_laws.specs.Fitting.{sorts_of, IsStreamOn, OnBase}
 use Rattle.rule_laws.specs.Declarations.{ClockFits, StreamFits, right_sorts, EquationFits, contract_flags, statement_flags, flags_in, values_of, ImportFits, DeclarationFits, DeclarationsFit}
 use Rattle.rule_laws.proofs.Constants.{is_word}
 use Rattle.rule_laws.proofs.Covered.{same_some, moved_on, ImportPlaced, imports_placed}
-use Rattle.rule_laws.proofs.Fitted.{not_false, same_sorts, same_clocks, is_known_here, no_clash, SiteFits, Shown, GoodPart, typed, needed, clock_word}
+use Rattle.rule_laws.proofs.Fitted.{not_false, same_sorts, same_clocks, is_known_here, Shown, GoodPart, typed, needed, clock_word}
 use Rattle.rule_laws.proofs.Goods.{PlaceOf, place_of, text_good, each_passes, without_clocks, CleanDeclaration, clean_declaration}
 use Rattle.rule_laws.proofs.Known.{SameFound}
 use Rattle.rule_laws.proofs.Lists.{all_mapped}
@@ -44,7 +44,7 @@ use Rattle.rule_laws.proofs.Places.{all_grammatical}
 use Rattle.rule_laws.proofs.Tables.{outputs_on_base, IsStream, declared_streams, typed_tables}
 use Rattle.rule_laws.proofs.Texts.{IsClean, AreClean, clean_flag, clean_side, clean_arguments, ScopeOf, contract_scope_of, constant_scope_of}
 use Rattle.rule_laws.proofs.TypedModes.{component, shown, TextPlaced, texts_placed}
-use Rattle.rule_laws.proofs.Unfolded.{component_within, each_unfolded}
+use Rattle.rule_laws.proofs.Unfolded.{each_unfolded}
 
 both_true : (a b : Bool) → (a && b) ≡ true → (a ≡ true) × (b ≡ true)
 both_true true b e = (refl, e)
@@ -207,7 +207,8 @@ module _ (p : Program) (c : IsChecked p) (h : ℕ × Component) (place : Contain
       (sym (flat_map-append (used_as_clock sc) (clock_words v) (flat_map clock_words vs)) ∙ e) in
       (one v.clock q.0, locals_fit vs q.1)
     where
-      one : (o : Option (Bool × Spelled)) → flat_map (used_as_clock (body_scope (home p h.0 h.1))) (option_to_list (option_map (λ k. k.1) o)) ≡ [] → ClockFits i o
+      one : (o : Option (Bool × Spelled)) → flat_map (used_as_clock (body_scope (home p h.0 h.1))) (option_to_list (option_map (λ k. k.1) o)) ≡ []
+          → ClockFits i o
       one None f = tt
       one (Some k) f = clock_word (body_scope (home p h.0 h.1)) i (sees (body_scope (home p h.0 h.1)) (constant_scope_of p h (length h.1.constants))) k.1
           (no_parts (used_as_clock (body_scope (home p h.0 h.1)) k.1) [] f).0
@@ -451,8 +452,10 @@ module _ (p : Program) (c : IsChecked p) (h : ℕ × Component) (place : Contain
       → AllByRecursion GhostHere vs
   ghosts_here [] a b = tt
   ghosts_here (v ∷ vs) a b = (
-    (here v.name.text (clock_from v.clock) v.sort a.0,
-    sym (clock_is (component_of i) v.name.text (clock_from v.clock) a.0.clock) ∙ ap clock_from b.0),
+    (
+      here v.name.text (clock_from v.clock) v.sort a.0,
+      sym (clock_is (component_of i) v.name.text (clock_from v.clock) a.0.clock) ∙ ap clock_from b.0,
+    ),
     ghosts_here vs a.1 b.1,
   )
 

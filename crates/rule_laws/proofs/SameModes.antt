@@ -1,9 +1,9 @@
 -- The value of an expression depends on no other modes than those that it names.
-use Rattle.std.proofs.Common.{◌≡◌, ℕ, suc, ◌≤◌, true, false, ◌&&◌, List, map, refl, ap, arith, Option, option_map}
+use Rattle.std.proofs.Common.{◌≡◌, ℕ, true, false, ◌&&◌, refl, arith, option_map}
 use Rattle.std.specs.Map.{lookup}
 use Rattle.std.specs.Str.{bytes_eq}
-use Rattle.lus_tree.specs.Tree.{Name, text_of, Expression, Expressions, truth, number, name, negation, minus, pre, arrow, binary, choice, sampled, merged, call, condact, mode_name, no_more, more}
-use Rattle.lus_meaning.specs.Value.{Stream, Instants, is, latest}
+use Rattle.lus_tree.specs.Tree.{text_of, Expression, Expressions, truth, number, name, negation, minus, pre, arrow, binary, choice, sampled, merged, call, condact, mode_name, no_more, more}
+use Rattle.lus_meaning.specs.Value.{Instants, is, latest}
 use Rattle.lus_meaning.specs.Frame.{Frame, entry, first_value, call_frame}
 use Rattle.lus_meaning.specs.Scene.{Clock, base, sampled_by, Scene, Instance, ModeStreams, clock_of, component_of, constants_of, call_instance, outputs_of, is_on}
 use Rattle.lus_meaning.specs.Meaning.{value, values, mode_stream}

@@ -1,28 +1,26 @@
 -- In a checked program each text of a declaration breaks no rule of types and clocks in the scope where it stands.
-use Rattle.std.proofs.Common.{◌≡◌, ℕ, zero, suc, ◌<◌, ◌+◌, Bool, true, false, cond, not, ◌&&◌, ◌||◌, ◌==◌, List, [], ◌∷◌, ◌++◌, map, length, flat_map, Option, Some, None, refl, sym, ap, ◌∙◌, subst, arith}
-use Rattle.std.specs.Prelude.{Contains, find, option_map, unwrap_or}
+use Rattle.std.proofs.Common.{◌≡◌, ℕ, suc, Bool, true, false, cond, ◌&&◌, ◌||◌, ◌==◌, List, [], ◌∷◌, ◌++◌, map, length, flat_map, Option, Some, None, refl, sym, ap, ◌∙◌, subst, arith}
 use Rattle.std.specs.List.{AllByRecursion, list_all}
 use Rattle.std.specs.Str.{bytes_eq}
 use Rattle.std.proofs.lemmas.Bool.{false≢true, eqb-true}
-use Rattle.lus_tree.specs.Tree.{Name, text_of, Spelled, Expression, Expressions, truth, number, name, negation, minus, pre, arrow, binary, choice, sampled, merged, call, condact, mode_name, Variable, Constant, Labelled, Statement, equation, assertion, property, main_mark, ContractStatement, assume, guarantee, ghost_variable, constant, mode, «import», Component, declared_constant, declared_node, declared_contract, Program}
-use Rattle.lus_tree.specs.Reason.{Refused, type_clash, arity_clash, not_constant, clock_clash}
-use Rattle.lus_meaning.specs.Scene.{Clock, base, Instance, component_of, contract_statements, clock_of_names}
+use Rattle.lus_tree.specs.Tree.{Name, text_of, Spelled, Expression, truth, number, name, negation, minus, pre, arrow, binary, choice, sampled, merged, call, condact, mode_name, Variable, Constant, Labelled, Statement, equation, assertion, property, main_mark, ContractStatement, assume, guarantee, ghost_variable, constant, mode, «import», Component, Program}
+use Rattle.lus_tree.specs.Reason.{type_clash, arity_clash, not_constant}
+use Rattle.lus_meaning.specs.Scene.{Clock, base, contract_statements, clock_of_names}
 use Rattle.lus_meaning.specs.Occurrences.{Standing, on_clock, as_side, Occurrence, occurrences, Text, on_base, contract_statement_texts, statement_texts, constant_texts, texts, begin}
 use Rattle.lus_meaning.specs.Depends.{named_in}
 use Rattle.lus_meaning.specs.Scope.{Scope, Home, is_constant_name, mode_names, import_names, contract_statement_scope, constant_scope, body_scope, node_named}
 use Rattle.lus_meaning.specs.Faults.{fault, if_so}
-use Rattle.lus_meaning.specs.ExpressionFaults.{used, hinders_constant, not_allowed, flag_faults, needs_sort, expression_faults, outputs_fit, sides_fit, some_differ, equation_faults, definition_faults}
+use Rattle.lus_meaning.specs.ExpressionFaults.{used, hinders_constant, not_allowed, flag_faults, expression_faults, outputs_fit, sides_fit, some_differ, equation_faults, definition_faults}
 use Rattle.lus_meaning.specs.NameFaults.{contract_statement_faults, flags_of, contract_faults, local_constant_faults, statement_faults, home}
-use Rattle.lus_meaning.specs.ClockFaults.{name_clock, or_else, clock_in, is_other, stands_on, all_on, clock_form_faults, clock_faults_of, side_faults, all_on_base, contract_statement_clock_faults, statement_clock_faults}
+use Rattle.lus_meaning.specs.ClockFaults.{name_clock, clock_in, clock_form_faults, clock_faults_of, all_on_base, contract_statement_clock_faults, statement_clock_faults}
 use Rattle.lus_meaning.specs.Grammatical.{has_left_name}
 use Rattle.lus_meaning.proofs.EachPart.{Each, each_part}
-use Rattle.lus_meaning.proofs.Flexible.{flexible, constant_flexible}
+use Rattle.lus_meaning.proofs.Flexible.{flexible}
 use Rattle.lus_meaning.proofs.Lists.{both_parts}
-use Rattle.lus_meaning.proofs.NamesOnce.{no_parts, not_nil, not_so}
+use Rattle.lus_meaning.proofs.NamesOnce.{no_parts, not_nil}
 use Rattle.lus_meaning.proofs.RulesFit.{none_mapped}
 use Rattle.rule_laws.specs.Fitting.{NotEmpty}
 use Rattle.rule_laws.proofs.Known.{Shows, constant_shows, contract_statement_shows}
-use Rattle.rule_laws.proofs.Lists.{all_mapped}
 use Rattle.rule_laws.proofs.Parts.{all_parts, nested}
 
 -- ---- constants hold no clock
@@ -181,7 +179,7 @@ clean_statement : (s : Scope) (x : Statement) → has_left_name x ≡ true → s
     → AreClean s (statement_texts s.owner x)
 clean_statement s (equation [] e) l h g = absurd (false≢true l)
 clean_statement s (equation (x ∷ xs) e) l h g =
-    (clean_side s (clock_of_names s.owner (map text_of (x ∷ xs))) x xs e h (no_parts _ (clock_faults_of s.owner (clock_of_names s.owner (map text_of (x ∷ xs))) e) g).1, tt)
+    let k : Clock = clock_of_names s.owner (map text_of (x ∷ xs)) in (clean_side s k x xs e h (no_parts _ (clock_faults_of s.owner k e) g).1, tt)
 clean_statement s (assertion e) l h g = (clean_flag s e h g, tt)
 clean_statement s (property l) k h g = (clean_flag s l.value h g, tt)
 clean_statement s (main_mark p) l h g = tt
@@ -269,9 +267,10 @@ module _ (p : Program) (h : ℕ × Component) (apart : (s : Scope) → ScopeOf p
   constants_clean k [] f = tt
   constants_clean k (c ∷ cs) f =
       let s : Scope = constant_scope place k in
-      let q = no_parts (definition_faults s c.sort c.value) (local_constant_faults place (suc k) cs) f in
-      (record { scope = s; of = constant_scope_of p h k; clean = clean_constant s (apart s (constant_scope_of p h k)) c q.0 },
-      constants_clean (suc k) cs q.1)
+      let q = no_parts (definition_faults s c.sort c.value) (local_constant_faults place (suc k) cs) f in (
+        record { scope = s; of = constant_scope_of p h k; clean = clean_constant s (apart s (constant_scope_of p h k)) c q.0 },
+        constants_clean (suc k) cs q.1,
+      )
 
   body_clean : (xs : List Statement) → list_all has_left_name xs ≡ true → flat_map (statement_faults (body_scope place)) xs ≡ []
       → flat_map (statement_clock_faults h.1) xs ≡ [] → AllByRecursion (CleanText p h) (flat_map (statement_texts h.1) xs)

@@ -1,23 +1,22 @@
 -- In a frame whose names and first values have their types, names and calls have what the values of expressions ask of them.
-use Rattle.std.proofs.Common.{◌≡◌, ℕ, zero, suc, pred, ◌<◌, ◌≤◌, Bool, true, false, cond, ◌&&◌, List, [], ◌∷◌, ◌++◌, map, Option, Some, None, unwrap_or, option_map, refl, sym, ap, ◌∙◌, subst, arith}
+use Rattle.std.proofs.Common.{◌≡◌, ℕ, zero, suc, pred, ◌<◌, ◌≤◌, Bool, true, false, cond, List, [], ◌∷◌, ◌++◌, map, Option, Some, unwrap_or, option_map, refl, sym, subst}
 use Rattle.std.specs.Prelude.{find}
 use Rattle.std.specs.List.{AllByRecursion}
-use Rattle.std.specs.Map.{lookup}
 use Rattle.std.specs.Str.{bytes_eq}
 use Rattle.std.proofs.lemmas.Option.{none-some}
 use Rattle.lus_tree.specs.declared.place.Sort.{Sort}
 use Rattle.lus_tree.specs.Tree.{Name, Spelled, Variable, Component}
-use Rattle.lus_meaning.specs.Value.{Instants, Stream}
+use Rattle.lus_meaning.specs.Value.{Instants}
 use Rattle.lus_meaning.specs.Frame.{Frame, Frames, no_frames, with_frame, frame_at, calls_in, firsts_of, call_frame, entry}
-use Rattle.lus_meaning.specs.Scene.{Clock, base, Scene, Site, Instance, Instances, instance, no_instances, with_instance, component_of, constants_of, calls_of, instance_at, call_instance, outputs_of, clock_from, contract_statements, ghosts, variables, is_on}
-use Rattle.lus_meaning.specs.Meaning.{head_stream, call_outputs}
+use Rattle.lus_meaning.specs.Scene.{Clock, Scene, Site, Instance, Instances, instance, no_instances, with_instance, component_of, calls_of, instance_at, call_instance, outputs_of, clock_from, contract_statements, ghosts, variables, is_on}
+use Rattle.lus_meaning.specs.Meaning.{head_stream}
 use Rattle.lus_meaning.specs.Contract.{scene}
-use Rattle.lus_meaning.specs.Run.{IsRun, CallsRun, is_typed, sort_of_name, first_sort, output_sort, first_sorts, have_sorts, active}
+use Rattle.lus_meaning.specs.Run.{IsRun, CallsRun, is_typed, first_sort, output_sort, first_sorts, have_sorts, active}
 use Rattle.lus_meaning.specs.WellMade.{HasTypes, CallsHaveTypes}
 use Rattle.lus_meaning.proofs.Now.{left_part, right_part}
 use Rattle.lus_meaning.proofs.Unique.{same_bytes}
 use Rattle.rule_laws.specs.Laws.{site_at}
-use Rattle.rule_laws.specs.Fitting.{NotEmpty, OnBase, CallFits}
+use Rattle.rule_laws.specs.Fitting.{NotEmpty, OnBase}
 use Rattle.rule_laws.specs.Types.{HasTypedFirsts, CallsHaveTypedFirsts, IsTypedFrame}
 use Rattle.rule_laws.proofs.Covered.{same_some}
 use Rattle.rule_laws.proofs.Places.{by_number}

@@ -11,18 +11,18 @@ use Rattle.lus_tree.specs.Tree.{Name, text_of, Spelled, Expression, truth, numbe
 use Rattle.lus_tree.specs.Reason.{mode_unknown}
 use Rattle.lus_meaning.specs.Value.{Instants, Stream, has_sort}
 use Rattle.lus_meaning.specs.Frame.{Frame, firsts_of, first_value, call_frame}
-use Rattle.lus_meaning.specs.Scene.{as_import, Clock, base, Scene, Site, Instance, Instances, instance, no_instances, with_instance, component_of, calls_of, instance_at, call_instance, contract_statements}
+use Rattle.lus_meaning.specs.Scene.{as_import, base, Site, Instance, Instances, instance, no_instances, with_instance, component_of, instance_at, call_instance, contract_statements}
 use Rattle.lus_meaning.specs.Meaning.{value, mode_key, mode_stream, head_stream}
 use Rattle.lus_meaning.specs.Contract.{ModeTerms, Terms, no_terms, mode_streams, scene_with, scene, all_true, says, mode_terms, imported_mode, terms_after, terms, terms_each}
 use Rattle.lus_meaning.specs.Program.{site_in, import_site, all_sites, instance_of}
 use Rattle.lus_meaning.specs.Run.{is_typed, sort_of, first_sorts, have_sorts, active}
-use Rattle.lus_meaning.specs.Occurrences.{Standing, on_clock, Occurrence, occurs, occurrences, Text, on_base, contract_statement_texts, texts, all_occurrences, gathered, Memory, memory_in, memories}
-use Rattle.lus_meaning.specs.Scope.{Scope, Home, mode_names, import_names, contract_statement_scope, contract_named, node_named}
+use Rattle.lus_meaning.specs.Occurrences.{Standing, on_clock, occurs, occurrences, Text, on_base, contract_statement_texts, texts, all_occurrences, gathered, Memory, memory_in, memories}
+use Rattle.lus_meaning.specs.Scope.{Scope, Home, import_names, contract_statement_scope, contract_named}
 use Rattle.lus_meaning.specs.ExpressionFaults.{needs_sort, flag_faults, expression_faults, has_one, has_mode, mode_is_known, form_faults, weight_faults, part_faults}
 use Rattle.lus_meaning.specs.NameFaults.{home, flags_of, contract_statement_faults, contract_faults}
 use Rattle.lus_meaning.specs.ClockFaults.{components, all_on_base, contract_statement_clock_faults}
 use Rattle.lus_meaning.specs.Refusals.{IsChecked}
-use Rattle.lus_meaning.proofs.Causal.{CausalMode, CausalTerms, SameFrames, all_append, all_at, terms_each_causal}
+use Rattle.lus_meaning.proofs.Causal.{CausalMode, CausalTerms, all_append, all_at, terms_each_causal}
 use Rattle.lus_meaning.proofs.EachPart.{Each, each_part, each_of_both}
 use Rattle.lus_meaning.proofs.Lists.{all_from, all_from_three}
 use Rattle.lus_meaning.proofs.NamesOnce.{no_parts, not_so, at_one}
@@ -31,7 +31,7 @@ use Rattle.lus_meaning.proofs.Typed.{on_has, only_typed, apply_has, typed_as}
 use Rattle.rule_laws.specs.Laws.{IsUnfolded, AreUnfolded, HasItsPlace, placed}
 use Rattle.rule_laws.specs.Fitting.{has_key, FitsThere}
 use Rattle.rule_laws.specs.Types.{IsTypedFrame, IsTypedThere, TypesOfValues, TypesInRuns, TypesOfModes}
-use Rattle.rule_laws.proofs.Covered.{covered_each, all_contained, found_declared, is_instance, has_left, Covers, covers_none, covers_plain, covers_mode, covers_import, moved_on, ImportPlaced, imports_placed}
+use Rattle.rule_laws.proofs.Covered.{ImportsCovered, covered_each, all_contained, found_declared, is_instance, has_left, Covers, covers_none, covers_plain, covers_mode, covers_import, moved_on, ImportPlaced, imports_placed}
 use Rattle.rule_laws.proofs.Fitted.{not_false, Shown, needed}
 use Rattle.rule_laws.proofs.Goods.{PlaceOf, place_of, all_of_each, some_named, shown_of, PlacedCall, calls_placed, no_faults, text_good, text_fits, CleanDeclaration, clean_declaration, declaration_texts, own_covered}
 use Rattle.rule_laws.proofs.Lists.{all_flat}
@@ -125,7 +125,14 @@ imported_typed k c n b act f e (m ∷ ms) q a = (one, imported_typed k c n b act
 
 -- ---- texts
 
-module _ (p : Program) (c : IsChecked p) (h : ℕ × Component) (place : Contains (placed 0 p) h) (d : Contains (components p) h.1) (i : Instance) (own : instance_of p h.1 ≡ i) where
+-- a declaration of a program, with its place
+abbrev pub IsPlaced : Program → ℕ × Component → Type 0
+IsPlaced p h = Contains (placed 0 p) h
+
+abbrev pub IsListed : Program → ℕ × Component → Type 0
+IsListed p h = Contains (components p) h.1
+
+module _ (p : Program) (c : IsChecked p) (h : ℕ × Component) (place : IsPlaced p h) (d : IsListed p h) (i : Instance) (own : instance_of p h.1 ≡ i) where
   pub component : component_of i ≡ h.1
   component = ap component_of (sym own) ∙ component_within (length p) p h.1
 
@@ -258,9 +265,10 @@ module _ (p : Program) (c : IsChecked p) (h : ℕ × Component) (place : Contain
   flags_say sc o ms (r ∷ rs) e q a n b f w m g s t l =
       let types = no_parts (flag_faults sc r.value) (flags_of sc rs) e in
       let clocks = no_parts _ (all_on_base sc.owner rs) q in
-      let clean = clean_flags sc (r ∷ rs) e q in
-      (flag_says sc o ms r clean.0 (no_parts (needs_sort sc Flags r.value) (expression_faults sc (on_clock base) r.value) types.0).0 a.0 n b f w m.0 g s t l,
-      flags_say sc o ms rs types.1 clocks.1 a.1 n b f w m.1 g s t l)
+      let clean = clean_flags sc (r ∷ rs) e q in (
+        flag_says sc o ms r clean.0 (no_parts (needs_sort sc Flags r.value) (expression_faults sc (on_clock base) r.value) types.0).0 a.0 n b f w m.0 g s t l,
+        flags_say sc o ms rs types.1 clocks.1 a.1 n b f w m.1 g s t l,
+      )
 
   -- ---- the contract
 
@@ -274,7 +282,13 @@ module _ (p : Program) (c : IsChecked p) (h : ℕ × Component) (place : Contain
       let q = both_true (has_one (filter (bytes_eq x.text) (import_names before))) (has_mode m.text (contract_named p x.text)) e in
       v.imported x.text m.text (some_named x.text (import_names before) q.0) q.1
 
-  module _ (n : ℕ) (b : Instants) (f : Frame) (typed : IsTypedFrame i n b f) (sub : ℕ → Terms) (causal : (k : ℕ) → CausalTerms (sub k)) (covered : (k : ℕ) → 1 ≤ k → Covers p (contract_statements (component_of (call_instance i k))) (sub k).modes) (below : (k : ℕ) → 1 ≤ k → (a : Instants) (g : Frame) → IsTypedFrame (call_instance i k) n a g → AllByRecursion (TypedMode n a g) (sub k).modes) where
+  -- what is known of imports: what their modes require is causal, they have the modes of their contracts, and these are typed
+  record ImportsTyped (n : ℕ) (sub : ℕ → Terms) : Type 0 where
+    causal : (k : ℕ) → CausalTerms (sub k)
+    covered : ImportsCovered p i sub
+    below : (k : ℕ) → 1 ≤ k → (a : Instants) (g : Frame) → IsTypedFrame (call_instance i k) n a g → AllByRecursion (TypedMode n a g) (sub k).modes
+
+  module _ (n : ℕ) (b : Instants) (f : Frame) (typed : IsTypedFrame i n b f) (sub : ℕ → Terms) (below_it : ImportsTyped n sub) where
     -- a mode of this scope, among all modes of the contract
     same_mode : (before : List ContractStatement) (ms : List ModeTerms) (cs : List ContractStatement) → (terms i).modes ≡ (terms_after i sub ms cs).modes
         → Covers p before ms → (x : Option Spelled) (m : Spelled) → mode_is_known (contract_statement_scope place_of_contract before) x m ≡ true
@@ -359,11 +373,11 @@ module _ (p : Program) (c : IsChecked p) (h : ℕ × Component) (place : Contain
         let at : HasItsPlace i (contract_named p x.text) s = q.imports.0 in
         let ns : List ModeTerms = map (imported_mode k x.text) (sub k).modes in
         let frame : IsTypedFrame (call_instance i k) n (active (scene i b f) s) (call_frame f k) = called_frame i n b f typed s at.number at.site in
-        let known : AllByRecursion (TypedMode n b f) ns = imported_typed k x.text n b (active (scene i b f) s) f (λ u. and_true (b u)) (sub k).modes
-        (causal k).modes (below k at.number (active (scene i b f) s) (call_frame f k) frame) in
+        let more : AllByRecursion (TypedMode n b f) ns = imported_typed k x.text n b (active (scene i b f) s) f (λ u. and_true (b u)) (sub k).modes
+        (below_it.causal k).modes (below_it.below k at.number (active (scene i b f) s) (call_frame f k) frame) in
         after_typed (before ++ «import» k x as_ ws ∷ []) (ms ++ ns) cs (onward before ms (ms ++ ns) («import» k x as_ ws) cs q refl
         (covers_import p before ms (sub k).modes k x.text («import» k x as_ ws) (component_of (call_instance i k)) refl refl at.callee
-        (covered k at.number) q.covers) (all_append (TypedMode n b f) ms ns q.known known))
+        (below_it.covered k at.number) q.covers) (all_append (TypedMode n b f) ms ns q.known more))
 
     contract_typed : (terms i).modes ≡ (terms_after i sub [] (contract_statements h.1)).modes → AllByRecursion (ImportPlaced p i)
         (flat_map import_site (contract_statements h.1)) → AllByRecursion (TypedMode n b f) (terms_after i sub [] (contract_statements h.1)).modes
@@ -414,8 +428,11 @@ mutual
       let q : PlaceOf (placed 0 p) m = place_of 0 p m d in
       contract_typed p c (q.before, m) q.is d (instance m cs is) (is_instance p c (instance m cs is) u d) n b f w
       (λ k. slice_index_or (terms_each is) (pred k) no_terms)
-      (λ k. all_at CausalTerms (terms_each is) (pred k) no_terms (terms_each_causal is) record { assumes = tt; guarantees = tt; modes = tt })
-      (by_number (covered_each p c (all_sites m) is u.1)) (typed_by_number (modes_typed_each p c (all_sites m) is u.1 n)) refl
+      record {
+        causal = λ k. all_at CausalTerms (terms_each is) (pred k) no_terms (terms_each_causal is) record { assumes = tt; guarantees = tt; modes = tt };
+        covered = by_number (covered_each p c (all_sites m) is u.1);
+        below = typed_by_number (modes_typed_each p c (all_sites m) is u.1 n);
+      } refl
       (imports_placed p c (instance m cs is) u d)
     where
       by_number : ((j : ℕ) → Covers p (contract_statements (component_of (instance_at is j))) (get_or (terms_each is) j no_terms).modes)

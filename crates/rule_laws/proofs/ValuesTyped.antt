@@ -1,15 +1,15 @@
 -- An expression that fits has a value of its type exactly where the clock of its place is on, where names, calls and modes have.
-use Rattle.std.proofs.Common.{◌≡◌, ℕ, zero, suc, ◌<◌, ◌≤◌, Bool, true, false, cond, ◌&&◌, List, [], ◌∷◌, map, pos, Option, Some, None, option_map, refl, sym, ap, ◌∙◌, subst, arith}
+use Rattle.std.proofs.Common.{◌≡◌, ℕ, zero, suc, ◌<◌, ◌≤◌, Bool, true, false, cond, ◌&&◌, List, [], ◌∷◌, map, pos, Option, Some, None, option_map, refl, sym, ap, subst, arith}
 use Rattle.std.specs.Map.{lookup}
 use Rattle.std.specs.Str.{bytes_eq}
 use Rattle.std.proofs.lemmas.Bool.{false≢true}
 use Rattle.lus_tree.specs.declared.place.Sort.{Sort}
 use Rattle.lus_tree.specs.declared.place.Sort.TheVariants.{Bool as Flags, Int as Numbers}
-use Rattle.lus_tree.specs.Tree.{Name, text_of, Expression, Expressions, truth, number, name, negation, minus, pre, arrow, binary, choice, sampled, merged, call, condact, mode_name, no_more, more, Variable, Component}
+use Rattle.lus_tree.specs.Tree.{Name, text_of, Expression, truth, number, name, negation, minus, pre, arrow, binary, choice, sampled, merged, call, condact, mode_name, no_more, more, Variable, Component}
 use Rattle.lus_meaning.specs.Value.{Value, flag, whole, Stream, is, has_sort, not_value, minus_value, apply, choose, was_on, latest}
 use Rattle.lus_meaning.specs.Frame.{entry, first_value, call_frame}
-use Rattle.lus_meaning.specs.Scene.{Clock, base, sampled_by, Site, plain, while_true, Scene, Instance, clock_of, component_of, constants_of, call_instance, instance_called, is_on}
-use Rattle.lus_meaning.specs.Meaning.{value, values, constant_or, mode_stream, call_outputs, held_outputs, head_stream}
+use Rattle.lus_meaning.specs.Scene.{Clock, sampled_by, Site, Scene, clock_of, component_of, constants_of, call_instance, instance_called, is_on}
+use Rattle.lus_meaning.specs.Meaning.{value, values, constant_or, mode_stream, call_outputs, head_stream}
 use Rattle.lus_meaning.specs.Program.{listed}
 use Rattle.lus_meaning.specs.Run.{is_typed, sort_of, sort_of_name, sort_of_operator, output_sort, first_sort, active}
 use Rattle.lus_meaning.specs.Occurrences.{Standing, within, before, moved, Occurrence}
@@ -113,7 +113,8 @@ module _ (s : Scene) (n : ℕ) where
         (has_value d t.clock (type_here a) h.0.fits (value_typed d (within t) h.2) o) (has_value a t.clock (type_here a) refl (value_typed a (within t) h.1) o))
     value_typed (binary p o a d) t h = only_typed (sort_of_operator o) (is_on s t.clock u) (apply o (value s t.clock a u) (value s t.clock d u))
         (λ k. apply_has o (type_here a) (value s t.clock a u) (value s t.clock d u) h.0.fits.0
-        (has_value a t.clock (type_here a) refl (value_typed a (within t) h.1) k) (has_value d t.clock (type_here a) h.0.fits.1 (value_typed d (within t) h.2) k))
+        (has_value a t.clock (type_here a) refl (value_typed a (within t) h.1) k)
+        (has_value d t.clock (type_here a) h.0.fits.1 (value_typed d (within t) h.2) k))
     value_typed (choice p a b d) t h = only_typed (type_here b) (is_on s t.clock u)
         (choose (value s t.clock a u) (value s t.clock b u) (value s t.clock d u))
         (λ k. choose_has (type_here b) (value s t.clock a u) (value s t.clock b u) (value s t.clock d u)

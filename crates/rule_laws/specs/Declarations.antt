@@ -3,7 +3,7 @@ use Rattle.std.specs.Prelude.{◌≡◌, Bool, List, [], ◌∷◌, ◌++◌, ma
 use Rattle.std.specs.List.{AllByRecursion}
 use Rattle.lus_tree.specs.declared.place.Sort.{Sort}
 use Rattle.lus_tree.specs.declared.place.Sort.TheVariants.{Bool as Flags}
-use Rattle.lus_tree.specs.Tree.{Name, Spelled, Expression, call, condact, Variable, Labelled, Statement, equation, assertion, property, main_mark, ContractStatement, assume, guarantee, ghost_variable, constant, mode, «import», Component}
+use Rattle.lus_tree.specs.Tree.{Spelled, Expression, call, condact, Variable, Labelled, Statement, assertion, property, ContractStatement, assume, guarantee, mode, Component}
 use Rattle.lus_meaning.specs.Scene.{base, Manner, plain, while_true, as_import, Site, Instance, component_of, call_instance, clock_from, clock_of, clock_of_names, contract_statements, variables}
 use Rattle.lus_meaning.specs.Program.{import_site, instance_of}
 use Rattle.lus_meaning.specs.Run.{Equation, equations, sort_of, sort_of_name}
