@@ -20,6 +20,7 @@ use Rattle.rule_laws.specs.Laws.{IsUnfolded, AreUnfolded, HasItsPlace}
 use Rattle.rule_laws.specs.Fitting.{has_key}
 use Rattle.rule_laws.proofs.Places.{imports_in_place}
 use Rattle.rule_laws.proofs.Unfolded.{component_within, each_unfolded}
+use Rattle.rule_laws.proofs.Truths.{same_some}
 
 -- ---- lists
 
@@ -29,13 +30,6 @@ all_contained {A = A} P (x ∷ xs) h = (h x (0, omega arith, refl), all_containe
   where
     later : (y : A) → Contains xs y → P y
     later y (k, l, e) = h y (suc k, omega arith, e)
-
-abbrev some_or : {A : Type 0} → A → Option A → A
-some_or a None = a
-some_or a (Some b) = b
-
-pub same_some : {A : Type 0} {a b : A} → Some a ≡ Some b → a ≡ b
-same_some {a = a} e = ap (some_or a) e
 
 -- ---- declarations
 

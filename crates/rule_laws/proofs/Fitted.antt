@@ -31,31 +31,7 @@ use Rattle.lus_meaning.proofs.Unique.{same_bytes}
 use Rattle.rule_laws.specs.Laws.{HasItsPlace}
 use Rattle.rule_laws.specs.Fitting.{sorts_of, NameFits, IsFlagOn, NotEmpty, OnBase, CallFits, has_key, Fits, FitsThere}
 use Rattle.rule_laws.proofs.Parts.{nested}
-
--- ---- truth values
-
-pub not_false : (b : Bool) → not b ≡ false → b ≡ true
-not_false true e = refl
-not_false false e = absurd (false≢true (sym e))
-
-first_false : (a b : Bool) → (a || b) ≡ false → a ≡ false
-first_false true b e = absurd (false≢true (sym e))
-first_false false b e = refl
-
-second_false : (a b : Bool) → (a || b) ≡ false → b ≡ false
-second_false true b e = absurd (false≢true (sym e))
-second_false false b e = e
-
-both_true : (a b : Bool) → (a && b) ≡ true → (a ≡ true) × (b ≡ true)
-both_true true b e = (refl, e)
-both_true false b e = absurd (false≢true e)
-
-abbrev some_is : {A : Type 0} (a : A) → Option A → A
-some_is a None = a
-some_is a (Some b) = b
-
-same_some : {A : Type 0} (a b : A) → Some a ≡ Some b → a ≡ b
-same_some a b e = ap (some_is a) e
+use Rattle.rule_laws.proofs.Truths.{not_false, first_false, second_false, both_true, same_some}
 
 -- ---- types and clocks that do not differ
 
@@ -248,7 +224,7 @@ module _ (sc : Scope) (i : Instance) (shown : Shown sc i) where
   callee k = component_of (call_instance i k)
 
   same_callee : (s : Site) → SiteFits (node_named sc.program) i s → component_of (instance_called i s.callee) ≡ callee s.number
-  same_callee s h = same_some (component_of (instance_called i s.callee)) (callee s.number) (sym h.place.by_name ∙ h.place.callee)
+  same_callee s h = same_some (sym h.place.by_name ∙ h.place.callee)
 
   pub no_call_faults : (w : Bool) (f : Spelled) (k : ℕ) (as_ : List Expression) (o : Option Component) → o ≡ Some (callee k)
       → call_faults sc w f as_ o ≡ [] → call_faults sc w f as_ (Some (callee k)) ≡ []

@@ -1,5 +1,5 @@
 -- In a checked program each expression of a declaration fits where it stands.
-use Rattle.std.proofs.Common.{◌≡◌, ℕ, zero, suc, ◌<◌, Bool, true, false, cond, ◌&&◌, ◌||◌, List, [], ◌∷◌, ◌++◌, map, flat_map, length, Option, Some, None, refl, sym, ap, ◌∙◌, subst, arith, option_map, option_to_list}
+use Rattle.std.proofs.Common.{◌≡◌, ℕ, zero, suc, ◌<◌, Bool, true, false, cond, ◌||◌, List, [], ◌∷◌, ◌++◌, map, flat_map, length, Option, Some, None, refl, sym, ap, ◌∙◌, subst, arith, option_map, option_to_list}
 use Rattle.std.specs.Prelude.{Contains, filter, find, unwrap_or, is_none}
 use Rattle.std.specs.List.{AllByRecursion, list_all}
 use Rattle.std.specs.Str.{bytes_eq}
@@ -12,10 +12,10 @@ use Rattle.lus_meaning.specs.Contract.{terms}
 use Rattle.lus_meaning.specs.Program.{listed, site_in, instance_of}
 use Rattle.lus_meaning.specs.Occurrences.{Standing, on_clock, Occurrence, occurs, occurrences, Text, texts, all_occurrences, gathered}
 use Rattle.lus_meaning.specs.Depends.{named_in}
-use Rattle.lus_meaning.specs.Scope.{Entry, is_constant_role, Scope, entry_of, node_if, component_where, node_named, contract_named, body_scope}
+use Rattle.lus_meaning.specs.Scope.{Entry, is_constant_role, Scope, entry_of, node_named, contract_named, body_scope}
 use Rattle.lus_meaning.specs.Faults.{words_twice}
 use Rattle.lus_meaning.specs.ExpressionFaults.{used_as_clock, call_faults, has_one, has_mode, mode_is_known, form_faults, weight_faults, part_faults}
-use Rattle.lus_meaning.specs.NameFaults.{clock_words, declaration_word, home, constant_words, own_words, outer_twice, mode_words, labels_twice, contract_faults, body_faults, local_constant_faults, statement_faults, state_faults, recursion_faults, assumption_faults, declaration_faults, typing_faults}
+use Rattle.lus_meaning.specs.NameFaults.{is_declared, clock_words, declaration_word, home, constant_words, own_words, outer_twice, mode_words, labels_twice, contract_faults, body_faults, local_constant_faults, statement_faults, state_faults, recursion_faults, assumption_faults, declaration_faults, typing_faults}
 use Rattle.lus_meaning.specs.ClockFaults.{components, component_clock_faults, clock_faults, contract_statement_clock_faults, statement_clock_faults, name_clock, clock_in, is_other, stands_on, clock_form_faults, clock_faults_of}
 use Rattle.lus_meaning.specs.Grammatical.{has_left_name, IsGrammaticalComponent, ghost_names}
 use Rattle.lus_meaning.specs.Refusals.{IsChecked}
@@ -28,8 +28,8 @@ use Rattle.rule_laws.specs.Laws.{placed, table, Agrees, HasItsPlace}
 use Rattle.rule_laws.specs.Fitting.{NotEmpty, OnBase, has_key, FitsThere, ExpressionsFit}
 use Rattle.rule_laws.proofs.Cleaned.{CleanHome, homes_clean}
 use Rattle.rule_laws.proofs.Constants.{is_word}
-use Rattle.rule_laws.proofs.Covered.{all_contained, same_some, Covers, covered}
-use Rattle.rule_laws.proofs.Fitted.{not_false, stands_there, still, some_output, call_right, SiteFits, Shown, GoodPart, held_right, fit_parts}
+use Rattle.rule_laws.proofs.Covered.{found_declared, all_contained, Covers, covered}
+use Rattle.rule_laws.proofs.Fitted.{stands_there, still, some_output, call_right, SiteFits, Shown, GoodPart, held_right, fit_parts}
 use Rattle.rule_laws.proofs.Lists.{all_flat}
 use Rattle.rule_laws.proofs.Known.{SameFound, agrees}
 use Rattle.rule_laws.proofs.Parts.{all_parts, from_root}
@@ -37,12 +37,10 @@ use Rattle.rule_laws.proofs.Places.{all_grammatical, calls_in_place}
 use Rattle.rule_laws.proofs.Tables.{typed_tables}
 use Rattle.rule_laws.proofs.Texts.{HasOutputs, IsClean, HoldsApart, ScopeOf, CleanText, texts_clean}
 use Rattle.rule_laws.proofs.Unfolded.{component_within, each_unfolded}
+use Rattle.rule_laws.proofs.Callees.{where_is_named}
+use Rattle.rule_laws.proofs.Truths.{not_false, both_true, same_some}
 
 -- ---- lists
-
-both_true : (a b : Bool) → (a && b) ≡ true → (a ≡ true) × (b ≡ true)
-both_true true b e = (refl, e)
-both_true false b e = absurd (false≢true e)
 
 -- what holds of all items of lists holds of those of each
 pub all_of_each : {A B : Type 0} (P : B → Type 0) (f : A → List B) (xs : List A) → AllByRecursion P (flat_map f xs)
@@ -129,20 +127,8 @@ module _ (p : Program) (c : IsChecked p) (h : ℕ × Component) (place : Contain
 abbrev pub PlacedCall : Program → Instance → Site → Type 0
 PlacedCall p i s = HasItsPlace i (node_named p s.callee) s × OnBase (component_of (call_instance i s.number)).outputs
 
-one_named : (n : Component) (ds : Program) (x : Name) (m : Component) (b w : Bool) → cond b (node_if w n) (component_where true ds x) ≡ Some m
-    → (component_where true ds x ≡ Some m → Contains (components ds) m) → Contains (n ∷ components ds) m
-one_named n ds x m true true e f = (0, omega arith, same_some e)
-one_named n ds x m true false e f = absurd (none-some m e)
-one_named n ds x m false w e f = next (f e)
-  where
-    next : Contains (components ds) m → Contains (n ∷ components ds) m
-    next (k, l, g) = (suc k, omega arith, g)
-
 named_declared : (ds : Program) (x : Name) (m : Component) → node_named ds x ≡ Some m → Contains (components ds) m
-named_declared [] x m e = absurd (none-some m e)
-named_declared (declared_constant c ∷ ds) x m e = named_declared ds x m e
-named_declared (declared_node n ∷ ds) x m e = one_named n ds x m (bytes_eq x n.name.text) true e (named_declared ds x m)
-named_declared (declared_contract n ∷ ds) x m e = one_named n ds x m (bytes_eq x n.name.text) false e (named_declared ds x m)
+named_declared ds x m e = found_declared ds x m (sym (where_is_named true ds x (ap is_declared e)) ∙ e)
 
 pub each_passes : {A : Type 0} (test : A → Bool) (xs : List A) → list_all test xs ≡ true → AllByRecursion (λ x. test x ≡ true) xs
 each_passes test [] e = tt

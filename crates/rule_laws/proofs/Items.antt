@@ -1,5 +1,5 @@
 -- In a checked program streams, equations, flags and imports of a declaration have their types and clocks.
-use Rattle.std.proofs.Common.{◌≡◌, ℕ, zero, suc, Bool, true, false, cond, not, ◌&&◌, ◌||◌, ◌==◌, List, [], ◌∷◌, ◌++◌, map, flat_map, length, Option, Some, None, option_map, option_to_list, unwrap_or, refl, sym, ap, ◌∙◌, subst, arith}
+use Rattle.std.proofs.Common.{◌≡◌, ℕ, zero, suc, Bool, true, false, cond, not, ◌&&◌, ◌==◌, List, [], ◌∷◌, ◌++◌, map, flat_map, length, Option, Some, None, option_map, option_to_list, unwrap_or, refl, sym, ap, ◌∙◌, subst, arith}
 use Rattle.std.specs.Prelude.{Contains, find, is_none, option_and_then}
 use Rattle.std.specs.List.{AllByRecursion, list_any, list_all}
 use Rattle.std.specs.Map.{lookup}
@@ -30,13 +30,12 @@ use Rattle.lus_meaning.proofs.Lists.{all_from, all_from_both, both_parts}
 use Rattle.lus_meaning.proofs.NamesOnce.{no_parts, not_nil, not_so, at_one, empty_of}
 use Rattle.lus_meaning.proofs.Now.{left_part, right_part}
 use Rattle.lus_meaning.proofs.RulesFit.{none_mapped}
-use Rattle.lus_meaning.proofs.Unique.{same_bytes}
 use Rattle.rule_laws.specs.Laws.{placed, table, Agrees}
 use Rattle.rule_laws.specs.Fitting.{sorts_of, IsStreamOn, OnBase}
 use Rattle.rule_laws.specs.Declarations.{ClockFits, StreamFits, right_sorts, EquationFits, contract_flags, statement_flags, flags_in, values_of, ImportFits, DeclarationFits, DeclarationsFit}
 use Rattle.rule_laws.proofs.Constants.{is_word}
-use Rattle.rule_laws.proofs.Covered.{same_some, moved_on, ImportPlaced, imports_placed}
-use Rattle.rule_laws.proofs.Fitted.{not_false, same_sorts, same_clocks, is_known_here, Shown, GoodPart, typed, needed, clock_word}
+use Rattle.rule_laws.proofs.Covered.{moved_on, ImportPlaced, imports_placed}
+use Rattle.rule_laws.proofs.Fitted.{same_sorts, same_clocks, is_known_here, Shown, GoodPart, typed, needed, clock_word}
 use Rattle.rule_laws.proofs.Goods.{PlaceOf, place_of, text_good, each_passes, without_clocks, CleanDeclaration, clean_declaration}
 use Rattle.rule_laws.proofs.Known.{SameFound}
 use Rattle.rule_laws.proofs.Lists.{all_mapped}
@@ -45,18 +44,8 @@ use Rattle.rule_laws.proofs.Tables.{outputs_on_base, IsStream, declared_streams,
 use Rattle.rule_laws.proofs.Texts.{IsClean, AreClean, clean_flag, clean_side, clean_arguments, ScopeOf, contract_scope_of, constant_scope_of}
 use Rattle.rule_laws.proofs.TypedModes.{component, shown, TextPlaced, texts_placed}
 use Rattle.rule_laws.proofs.Unfolded.{each_unfolded}
-
-both_true : (a b : Bool) → (a && b) ≡ true → (a ≡ true) × (b ≡ true)
-both_true true b e = (refl, e)
-both_true false b e = absurd (false≢true e)
-
-first_false : (a b : Bool) → (a || b) ≡ false → a ≡ false
-first_false true b e = absurd (false≢true (sym e))
-first_false false b e = refl
-
-second_false : (a b : Bool) → (a || b) ≡ false → b ≡ false
-second_false true b e = absurd (false≢true (sym e))
-second_false false b e = e
+use Rattle.rule_laws.proofs.Truths.{not_false, first_false, second_false, both_true, same_some}
+use Rattle.lus_meaning.proofs.BooleanTypes.{at_named}
 
 no_constant : (r : Role) → is_output_role r ≡ true → is_constant_role r ≡ false
 no_constant an_output e = refl
@@ -70,15 +59,6 @@ output_entry : (a b : Option Entry) → SameFound a b → unwrap_or (option_map 
 output_entry None b s h = absurd (false≢true h)
 output_entry (Some x) None s h = absurd (none-some x.role (sym s.role))
 output_entry (Some x) (Some e) s h = (e, refl, ap is_output_role (sym (same_some s.role)) ∙ h)
-
--- what holds of all names of a list holds of one of them
-at_named : (P : Name → Type 0) (x : Name) (xs : List Name) → AllByRecursion P xs → named_in x xs ≡ true → P x
-at_named P x [] a e = absurd (false≢true e)
-at_named P x (y ∷ xs) a e = go (bytes_eq x y) refl e (at_named P x xs a.1)
-  where
-    go : (c : Bool) → bytes_eq x y ≡ c → (c || named_in x xs) ≡ true → (named_in x xs ≡ true → P x) → P x
-    go true m h r = subst P (sym (same_bytes x y m)) a.0
-    go false m h r = r h
 
 -- ---- streams
 

@@ -1,3 +1,4 @@
+pub mod Truths
 pub mod Lists
 pub mod Reached
 pub mod Callees

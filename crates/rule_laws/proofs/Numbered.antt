@@ -1,23 +1,20 @@
 -- What is numbered from 1 on stands at the place of its number.
-use Rattle.std.proofs.Common.{◌≡◌, ℕ, zero, suc, ◌<◌, ◌≤◌, ◌+◌, Bool, true, false, cond, ◌&&◌, eqb, List, [], ◌∷◌, ◌++◌, map, flat_map, length, Some, refl, sym, ap, ◌∙◌, subst, arith}
+use Rattle.std.proofs.Common.{◌≡◌, ℕ, zero, suc, ◌<◌, ◌≤◌, ◌+◌, Bool, true, false, cond, eqb, List, [], ◌∷◌, ◌++◌, map, flat_map, length, Some, refl, sym, ap, ◌∙◌, subst, arith}
 use Rattle.std.specs.Prelude.{◌==◌, pred, option_to_list}
 use Rattle.std.specs.List.{AllByRecursion, find, list_all}
 use Rattle.std.proofs.Math.Logic.{◌⊎◌, inl, inr}
-use Rattle.std.proofs.lemmas.Bool.{false≢true, eq-eqb, ne_eqb, eqb-true, eqb-false, cases_Bool}
+use Rattle.std.proofs.lemmas.Bool.{eq-eqb, ne_eqb, eqb-true, eqb-false, cases_Bool}
 use Rattle.lus_tree.specs.Numbers.{counting, times, are_counted}
 use Rattle.lus_meaning.specs.Program.{in_order}
 use Rattle.lus_meaning.proofs.InOrder.{counted_within}
 use Rattle.lus_meaning.proofs.Lists.{all_from, all_from_both, mapped_all}
+use Rattle.rule_laws.proofs.Truths.{both_true}
 
 -- x stands at that place, counted from 0
 abbrev pub At : {A : Type 0} → List A → ℕ → A → Type 0
 At [] k x = ⊥
 At (y ∷ ys) zero x = y ≡ x
 At (y ∷ ys) (suc k) x = At ys k x
-
-both_true : (a b : Bool) → (a && b) ≡ true → (a ≡ true) × (b ≡ true)
-both_true true b e = (refl, e)
-both_true false b e = absurd (false≢true e)
 
 -- a test of all numbers from m on
 at_counting : (test : ℕ → Bool) (n m k : ℕ) → list_all test (counting m n) ≡ true → m ≤ k → k < m + n → test k ≡ true

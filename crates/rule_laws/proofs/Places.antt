@@ -1,5 +1,5 @@
 -- In a checked program call occurrences and first values stand at their numbers.
-use Rattle.std.proofs.Common.{cond, ◌≡◌, ℕ, zero, suc, ◌≤◌, Bool, true, false, ◌&&◌, List, [], ◌∷◌, ◌++◌, map, flat_map, Option, Some, refl, sym, ap, ◌∙◌, subst, arith}
+use Rattle.std.proofs.Common.{cond, ◌≡◌, ℕ, zero, suc, ◌≤◌, Bool, true, false, List, [], ◌∷◌, ◌++◌, map, flat_map, Option, Some, refl, sym, ap, ◌∙◌, subst, arith}
 use Rattle.std.specs.Prelude.{Contains, pred, slice_index_or}
 use Rattle.std.specs.List.{AllByRecursion}
 use Rattle.std.specs.Str.{bytes_eq}
@@ -28,6 +28,7 @@ use Rattle.rule_laws.specs.Laws.{IsUnfolded, AreUnfolded, site_at, HasItsPlace, 
 use Rattle.rule_laws.proofs.Callees.{each_call, each_import, where_is_named}
 use Rattle.rule_laws.proofs.Numbered.{At, InPlace, all_in_place}
 use Rattle.rule_laws.proofs.Unfolded.{component_within, each_unfolded}
+use Rattle.rule_laws.proofs.Truths.{both_true}
 
 -- ---- numbers
 
@@ -171,10 +172,6 @@ imports_in_place p c n i s h =
     (at_one (Placed n) (flat_map import_site (contract_statements n)) s places h)
 
 -- ---- first values
-
-both_true : (a b : Bool) → (a && b) ≡ true → (a ≡ true) × (b ≡ true)
-both_true true b e = (refl, e)
-both_true false b e = absurd (false≢true e)
 
 sorted_at : (sort : Memory → Sort) (ms : List Memory) (vs : List Value) (k : ℕ) (m : Memory) → have_sorts (map sort ms) vs ≡ true
     → At ms k m → has_sort (sort m) (slice_index_or vs k absent) ≡ true

@@ -1,5 +1,5 @@
 -- In a checked program each text of a declaration breaks no rule of types and clocks in the scope where it stands.
-use Rattle.std.proofs.Common.{◌≡◌, ℕ, suc, Bool, true, false, cond, ◌&&◌, ◌||◌, ◌==◌, List, [], ◌∷◌, ◌++◌, map, length, flat_map, Option, Some, None, refl, sym, ap, ◌∙◌, subst, arith}
+use Rattle.std.proofs.Common.{◌≡◌, ℕ, suc, Bool, true, false, cond, ◌||◌, ◌==◌, List, [], ◌∷◌, ◌++◌, map, length, flat_map, Option, Some, None, refl, sym, ◌∙◌, subst, arith}
 use Rattle.std.specs.List.{AllByRecursion, list_all}
 use Rattle.std.specs.Str.{bytes_eq}
 use Rattle.std.proofs.lemmas.Bool.{false≢true, eqb-true}
@@ -22,6 +22,8 @@ use Rattle.lus_meaning.proofs.RulesFit.{none_mapped}
 use Rattle.rule_laws.specs.Fitting.{NotEmpty}
 use Rattle.rule_laws.proofs.Known.{Shows, constant_shows, contract_statement_shows}
 use Rattle.rule_laws.proofs.Parts.{all_parts, nested}
+use Rattle.rule_laws.proofs.Covered.{moved_on}
+use Rattle.rule_laws.proofs.Truths.{both_true}
 
 -- ---- constants hold no clock
 
@@ -257,11 +259,7 @@ module _ (p : Program) (h : ℕ × Component) (apart : (s : Scope) → ScopeOf p
       let clocks = no_parts (contract_statement_clock_faults h.1 c) (flat_map (contract_statement_clock_faults h.1) cs) g in
       both_parts (CleanText p h) (contract_statement_texts c) (flat_map contract_statement_texts cs)
       (there s o (contract_statement_texts c) (clean_contract_statement s (apart s o) c types.0 clocks.0))
-      (contract_clean (before ++ c ∷ []) cs (e ∙ moved_on before) types.1 clocks.1)
-    where
-      moved_on : (bs : List ContractStatement) → bs ++ c ∷ cs ≡ (bs ++ c ∷ []) ++ cs
-      moved_on [] = refl
-      moved_on (b ∷ bs) = ap (λ xs. b ∷ xs) (moved_on bs)
+      (contract_clean (before ++ c ∷ []) cs (e ∙ moved_on before cs c) types.1 clocks.1)
 
   constants_clean : (k : ℕ) (cs : List Constant) → local_constant_faults place k cs ≡ [] → AllByRecursion (CleanText p h) (constant_texts cs)
   constants_clean k [] f = tt
@@ -280,13 +278,9 @@ module _ (p : Program) (h : ℕ × Component) (apart : (s : Scope) → ScopeOf p
       let o : ScopeOf p h s = constant_scope_of p h (length h.1.constants) in
       let types = no_parts (statement_faults s x) (flat_map (statement_faults s) xs) f in
       let clocks = no_parts (statement_clock_faults h.1 x) (flat_map (statement_clock_faults h.1) xs) g in
-      let lefts : (has_left_name x ≡ true) × (list_all has_left_name xs ≡ true) = both (has_left_name x) (list_all has_left_name xs) l in
+      let lefts : (has_left_name x ≡ true) × (list_all has_left_name xs ≡ true) = both_true (has_left_name x) (list_all has_left_name xs) l in
       both_parts (CleanText p h) (statement_texts h.1 x) (flat_map (statement_texts h.1) xs)
       (there s o (statement_texts h.1 x) (clean_statement s x lefts.0 types.0 clocks.0)) (body_clean xs lefts.1 types.1 clocks.1)
-    where
-      both : (a b : Bool) → (a && b) ≡ true → (a ≡ true) × (b ≡ true)
-      both true b e = (refl, e)
-      both false b e = absurd (false≢true e)
 
   pub texts_clean : contract_faults place [] (contract_statements h.1) ≡ [] → flat_map (contract_statement_clock_faults h.1) (contract_statements h.1) ≡ []
       → local_constant_faults place 0 h.1.constants ≡ [] → list_all has_left_name h.1.body ≡ true

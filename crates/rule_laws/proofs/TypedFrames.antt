@@ -18,7 +18,7 @@ use Rattle.lus_meaning.proofs.Unique.{same_bytes}
 use Rattle.rule_laws.specs.Laws.{site_at}
 use Rattle.rule_laws.specs.Fitting.{NotEmpty, OnBase}
 use Rattle.rule_laws.specs.Types.{HasTypedFirsts, CallsHaveTypedFirsts, IsTypedFrame}
-use Rattle.rule_laws.proofs.Covered.{same_some}
+use Rattle.rule_laws.proofs.Truths.{same_some}
 use Rattle.rule_laws.proofs.Places.{by_number}
 use Rattle.rule_laws.proofs.ValuesTyped.{NamesReady}
 

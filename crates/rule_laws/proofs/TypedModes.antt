@@ -1,5 +1,5 @@
 -- In a typed frame of a checked program what modes require is a truth value, and every expression's value is of its type.
-use Rattle.std.proofs.Common.{◌≡◌, ℕ, zero, suc, pred, ◌<◌, ◌≤◌, Bool, true, false, cond, not, ◌&&◌, ◌||◌, List, [], ◌∷◌, ◌++◌, map, flat_map, length, Option, Some, None, option_map, option_to_list, refl, sym, ap, ◌∙◌, subst, arith, get_or, slice_index_or}
+use Rattle.std.proofs.Common.{◌≡◌, ℕ, zero, suc, pred, ◌<◌, ◌≤◌, Bool, true, false, cond, not, ◌||◌, List, [], ◌∷◌, ◌++◌, map, flat_map, length, Option, Some, None, option_map, option_to_list, refl, sym, ap, ◌∙◌, subst, arith, get_or, slice_index_or}
 use Rattle.std.specs.Prelude.{Contains, filter}
 use Rattle.std.specs.List.{AllByRecursion, list_any}
 use Rattle.std.specs.Map.{lookup}
@@ -32,7 +32,7 @@ use Rattle.rule_laws.specs.Laws.{IsUnfolded, AreUnfolded, HasItsPlace, placed}
 use Rattle.rule_laws.specs.Fitting.{has_key, FitsThere}
 use Rattle.rule_laws.specs.Types.{IsTypedFrame, IsTypedThere, TypesOfValues, TypesInRuns, TypesOfModes}
 use Rattle.rule_laws.proofs.Covered.{ImportsCovered, covered_each, all_contained, found_declared, is_instance, has_left, Covers, covers_none, covers_plain, covers_mode, covers_import, moved_on, ImportPlaced, imports_placed}
-use Rattle.rule_laws.proofs.Fitted.{not_false, Shown, needed}
+use Rattle.rule_laws.proofs.Fitted.{Shown, needed}
 use Rattle.rule_laws.proofs.Goods.{PlaceOf, place_of, all_of_each, some_named, shown_of, PlacedCall, calls_placed, no_faults, text_good, text_fits, CleanDeclaration, clean_declaration, declaration_texts, own_covered}
 use Rattle.rule_laws.proofs.Lists.{all_flat}
 use Rattle.rule_laws.proofs.Parts.{all_parts, nested}
@@ -42,10 +42,7 @@ use Rattle.rule_laws.proofs.Texts.{IsClean, clean_flags, ScopeOf, CleanText, con
 use Rattle.rule_laws.proofs.TypedFrames.{typed_run, own_firsts, called_frame, names_ready}
 use Rattle.rule_laws.proofs.Unfolded.{component_within, each_unfolded}
 use Rattle.rule_laws.proofs.ValuesTyped.{and_true, HasRest, Ready, all_typed}
-
-both_true : (a b : Bool) → (a && b) ≡ true → (a ≡ true) × (b ≡ true)
-both_true true b e = (refl, e)
-both_true false b e = absurd (false≢true e)
+use Rattle.rule_laws.proofs.Truths.{not_false, both_true}
 
 -- ---- modes that are found
 
