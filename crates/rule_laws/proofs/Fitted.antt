@@ -1,6 +1,6 @@
 -- Expressions that break no rule of types and clocks fit where they stand.
 use Rattle.std.proofs.Common.{◌≡◌, ℕ, suc, arith, Bool, true, false, cond, not, ◌&&◌, ◌||◌, ◌==◌, List, [], ◌∷◌, ◌++◌, map, length, flat_map, Option, Some, None, refl, sym, ap, ◌∙◌, subst, option_map, option_to_list}
-use Rattle.std.specs.Prelude.{option_and_then, unwrap_or}
+use Rattle.std.specs.Prelude.{is_some, option_and_then, unwrap_or}
 use Rattle.std.specs.List.{AllByRecursion}
 use Rattle.std.specs.Map.{lookup}
 use Rattle.std.specs.Bool.{beq}
@@ -12,25 +12,27 @@ use Rattle.lus_tree.specs.declared.place.Pos.{Pos}
 use Rattle.lus_tree.specs.declared.place.Sort.{Sort}
 use Rattle.lus_tree.specs.declared.place.Sort.TheVariants.{Bool as Flags, Int as Numbers}
 use Rattle.lus_tree.specs.Tree.{Name, text_of, Spelled, Expression, Expressions, truth, number, name, negation, minus, pre, arrow, binary, choice, sampled, merged, call, condact, mode_name, no_more, more, Variable, Component}
-use Rattle.lus_tree.specs.Reason.{Refused, name_unknown, type_clash, arity_clash, clock_clash, mode_unknown}
+use Rattle.lus_tree.specs.Reason.{Refused, not_constant, not_linear, name_unknown, type_clash, arity_clash, clock_clash, mode_unknown}
 use Rattle.lus_meaning.specs.Frame.{empty_frame}
 use Rattle.lus_meaning.specs.Scene.{Clock, base, sampled_by, Scene, Site, Instance, clock_of, component_of, constants_of, call_instance, instance_called}
 use Rattle.lus_meaning.specs.Contract.{terms}
 use Rattle.lus_meaning.specs.Program.{listed, site_in}
 use Rattle.lus_meaning.specs.Run.{Takes, sort_of, sort_of_name, output_sort, first_sort}
-use Rattle.lus_meaning.specs.Occurrences.{Standing, within, before, moved, Occurrence, occurs, begin}
-use Rattle.lus_meaning.specs.Scope.{Scope, is_known, is_constant_name, sort_of_entry, type_of, node_named, only_sort}
-use Rattle.lus_meaning.specs.Faults.{if_so, differ}
-use Rattle.lus_meaning.specs.ExpressionFaults.{used, used_as_clock, needs_sort, agree, operator_faults, call_faults, default_faults, arguments_fit, sorts_fit, not_allowed, has_one, mode_is_known, form_faults, weight_faults, part_faults}
+use Rattle.lus_meaning.specs.Occurrences.{occurrences, on_clock, Standing, within, before, moved, Occurrence, occurs, begin}
+use Rattle.lus_meaning.specs.Scope.{is_constant, Scope, is_known, is_constant_name, sort_of_entry, type_of, node_named, only_sort}
+use Rattle.lus_meaning.specs.Faults.{fault, if_so, differ}
+use Rattle.lus_meaning.specs.ExpressionFaults.{hinders_constant, used, used_as_clock, needs_sort, agree, operator_faults, call_faults, default_faults, arguments_fit, sorts_fit, not_allowed, has_one, mode_is_known, form_faults, weight_faults, part_faults}
 use Rattle.lus_meaning.specs.ClockFaults.{same_clock, name_clock, or_else, clock_in, clock_among, is_other, stands_on, all_on, clock_form_faults}
-use Rattle.lus_meaning.proofs.EachPart.{Each, EachAmong, each_of_both}
+use Rattle.lus_meaning.proofs.EachPart.{Each, EachAmong, each_part, each_of_both}
 use Rattle.lus_meaning.proofs.Flexible.{constant_flexible}
-use Rattle.lus_meaning.proofs.NamesOnce.{no_parts, not_so}
-use Rattle.lus_meaning.proofs.RulesFit.{KnownName, fixed_name, stream_name}
+use Rattle.lus_meaning.proofs.NamesOnce.{not_nil, no_parts, not_so}
+use Rattle.lus_meaning.proofs.RulesFit.{none_mapped, KnownName, fixed_name, stream_name}
 use Rattle.lus_meaning.proofs.Unique.{same_bytes}
 use Rattle.rule_laws.specs.Laws.{HasItsPlace}
-use Rattle.rule_laws.specs.Fitting.{sorts_of, NameFits, IsFlagOn, NotEmpty, OnBase, CallFits, has_key, Fits, FitsThere}
+use Rattle.rule_laws.specs.Fitting.{is_fixed, HasConstant, sorts_of, NameFits, IsFlagOn, NotEmpty, OnBase, CallFits, has_key, Fits, FitsThere}
+use Rattle.lus_meaning.proofs.Lists.{or_left, or_true}
 use Rattle.rule_laws.proofs.Parts.{nested}
+use Rattle.rule_laws.proofs.Texts.{no_positions}
 use Rattle.rule_laws.proofs.Truths.{not_false, first_false, second_false, both_true, same_some}
 
 -- ---- types and clocks that do not differ
@@ -57,10 +59,6 @@ same_clocks (sampled_by b x) (sampled_by c y) e =
 
 pub is_that : (c d : Clock) → is_other c (Some d) ≡ false → c ≡ d
 is_that c d e = same_clocks c d (not_false (same_clock c d) e)
-
-abbrev is_some : Option Clock → Bool
-is_some None = false
-is_some (Some c) = true
 
 first_none : (a b : Option Clock) → or_else a b ≡ None → a ≡ None
 first_none None b e = refl
@@ -191,6 +189,7 @@ pub record Shown (sc : Scope) (i : Instance) : Type 0 where
   pub owner : sc.owner ≡ component_of i
   pub names : (x : Name) → is_known sc x ≡ true → (sort_of_entry sc x ≡ Some (sort_of_name i x)) × KnownName sc (still i) x
   pub apart : (x : Name) → is_constant_name sc x ≡ true → name_clock (component_of i) x ≡ None
+  pub fixed : (x : Name) → is_constant_name sc x ≡ true → is_some (lookup (bytes_eq x) (constants_of i)) ≡ true
   pub modes : (d : Option Spelled) (m : Spelled) → mode_is_known sc d m ≡ true
       → has_key (option_to_list (option_map text_of d), m.text) (terms i).modes
 
@@ -420,6 +419,83 @@ module _ (sc : Scope) (i : Instance) (shown : Shown sc i) where
           each_default ds t g.1 q.1,
         )
 
+  -- ---- constants
+
+  -- a constant by its form is one in the instance
+  fixed_here : (e : Expression) → is_constant sc e ≡ true → is_fixed (constants_of i) e ≡ true
+  fixed_here (truth p b) h = refl
+  fixed_here (number p n) h = refl
+  fixed_here (name p x) h = shown.fixed x h
+  fixed_here (negation p a) h = fixed_here a h
+  fixed_here (minus p a) h = fixed_here a h
+  fixed_here (binary p o a b) h =
+      let q = both_true (is_constant sc a) (is_constant sc b) h in rw (fixed_here a q.0, fixed_here b q.1) refl
+  fixed_here (choice p a b d) h =
+      let q = both_true (is_constant sc a) (is_constant sc b && is_constant sc d) h in
+      let r = both_true (is_constant sc b) (is_constant sc d) q.1 in rw (fixed_here a q.0, fixed_here b r.0, fixed_here d r.1) refl
+  fixed_here _ h = absurd (false≢true h)
+
+  abbrev Allowed : Occurrence → Type 0
+  Allowed o = hinders_constant sc o.expression ≡ []
+
+  is_constant_here : (x : Name) (at : Pos) → cond (is_constant_name sc x) [] (at ∷ []) ≡ [] → is_constant_name sc x ≡ true
+  is_constant_here x at e = go (is_constant_name sc x) e
+    where
+      go : (b : Bool) → cond b [] (at ∷ []) ≡ [] → b ≡ true
+      go true h = refl
+      go false h = not_nil at [] h
+
+  allowed_here : (t : Standing) (e : Expression) → Each Allowed sc.owner t e → is_constant sc e ≡ true
+  allowed_here t (truth p b) a = refl
+  allowed_here t (number p n) a = refl
+  allowed_here t (name p x) a = is_constant_here x p.at a
+  allowed_here t (negation p e) a = allowed_here (within t) e a.1
+  allowed_here t (minus p e) a = allowed_here (within t) e a.1
+  allowed_here t (pre p k e) a = not_nil _ _ a.0
+  allowed_here t (arrow p k c d) a = not_nil _ _ a.0
+  allowed_here t (binary p o c d) a = rw (allowed_here (within t) c a.1, allowed_here (within t) d a.2) refl
+  allowed_here t (choice p c d e) a =
+      rw (allowed_here (within t) c a.1, allowed_here (within t) d a.2, allowed_here (within t) e a.3) refl
+  allowed_here t (sampled p c b x) a = not_nil _ _ a.0
+  allowed_here t (merged p x c d) a = not_nil _ _ a.0
+  allowed_here t (call p k f as_) a = not_nil _ _ a.0
+  allowed_here t (condact p k b f as_ ds) a = not_nil _ _ a.0
+  allowed_here t (mode_name p c m) a = not_nil _ _ a
+
+  constant_here : (e : Expression) → not_allowed sc e ≡ [] → is_fixed (constants_of i) e ≡ true
+  constant_here e h = fixed_here e (allowed_here (on_clock base) e (each_part Allowed sc.owner (on_clock base) e
+      (none_mapped (λ o. hinders_constant sc o.expression) (occurrences sc.owner (on_clock base) e) (no_positions (fault not_constant) _ h))))
+
+  constants_here : (ds : List Expression) → flat_map (not_allowed sc) ds ≡ [] → AllByRecursion (λ d. is_fixed (constants_of i) d ≡ true) ds
+  constants_here [] h = tt
+  constants_here (d ∷ ds) h =
+      let q = no_parts (not_allowed sc d) (flat_map (not_allowed sc) ds) h in (constant_here d q.0, constants_here ds q.1)
+
+  either_fixed : (a b : Expression) → (is_constant sc a || is_constant sc b) ≡ true → (is_fixed (constants_of i) a || is_fixed (constants_of i) b) ≡ true
+  either_fixed a b h = go (is_constant sc a) refl h
+    where
+      go : (k : Bool) → is_constant sc a ≡ k → (k || is_constant sc b) ≡ true → (is_fixed (constants_of i) a || is_fixed (constants_of i) b) ≡ true
+      go true e g = or_left (is_fixed (constants_of i) a) (is_fixed (constants_of i) b) (fixed_here a e)
+      go false e g = or_true (is_fixed (constants_of i) a) (is_fixed (constants_of i) b) (fixed_here b g)
+
+  constant_asked : (at : Pos) (o : Operator) (a b : Expression) → operator_faults sc at o a b ≡ [] → HasConstant (constants_of i) o a b
+  constant_asked at Mul a b h = either_fixed a b (not_false (is_constant sc a || is_constant sc b)
+      (not_so (not (is_constant sc a || is_constant sc b)) not_linear at (no_parts _ _ h).1))
+  constant_asked at Div a b h = constant_here b (no_parts _ _ (no_parts _ _ h).0).1
+  constant_asked at Mod a b h = constant_here b (no_parts _ _ (no_parts _ _ h).0).1
+  constant_asked at Implies a b h = tt
+  constant_asked at Or a b h = tt
+  constant_asked at Xor a b h = tt
+  constant_asked at And a b h = tt
+  constant_asked at Equal a b h = tt
+  constant_asked at Differs a b h = tt
+  constant_asked at Less a b h = tt
+  constant_asked at AtMost a b h = tt
+  constant_asked at AtLeast a b h = tt
+  constant_asked at More a b h = tt
+  constant_asked at Add a b h = tt
+  constant_asked at Sub a b h = tt
+
   -- ---- names
 
   name_fits : (c : Clock) (x : Name) → KnownName sc (still i) x → is_other c (name_clock here x) ≡ false → NameFits i
@@ -454,8 +530,10 @@ module _ (sc : Scope) (i : Instance) (shown : Shown sc i) where
   fits t (pre p k a) g h = tt
   fits t (arrow p k a b) g h = one_sort a b (within t) (within t) refl refl g.1 g.2 (form_right (occurs t (arrow p k a b)) g.0)
   fits t (binary p x a b) g h =
-      operator_asks sc p.at x a b (sort_of i a) (sort_of i b) (form_right (occurs t (binary p x a b)) g.0) (typed a (within t) refl g.1)
-      (typed b (within t) refl g.2)
+      let f : operator_faults sc p.at x a b ≡ [] = form_right (occurs t (binary p x a b)) g.0 in
+      let q : Asked x (sort_of i a) (sort_of i b) = operator_asks sc p.at x a b (sort_of i a) (sort_of i b) f (typed a (within t) refl g.1)
+      (typed b (within t) refl g.2) in
+      (q.0, q.1, constant_asked p.at x a b f)
   fits t (choice p a b d) g h =
       let f : (needs_sort sc Flags a ≡ []) × (agree sc b d ≡ []) = no_parts (needs_sort sc Flags a) (agree sc b d)
       (form_right (occurs t (choice p a b d)) g.0) in
@@ -473,6 +551,7 @@ module _ (sc : Scope) (i : Instance) (shown : Shown sc i) where
         call_fits _ f as_ (within t) t.whole_side refl refl refl g.2 g.0.sites.0 r.call,
         needed a (within t) Flags refl g.1 r.condition,
         defaults_fit _ f ds (within t) refl refl g.3 g.0.sites.0 r.defaults,
+        constants_here (listed ds) r.constant,
       )
   fits t (mode_name p c m) g h = (
     is_that t.clock base h,

@@ -1,18 +1,19 @@
 -- In a checked program each expression of a declaration fits where it stands.
 use Rattle.std.proofs.Common.{◌≡◌, ℕ, zero, suc, ◌<◌, Bool, true, false, cond, ◌||◌, List, [], ◌∷◌, ◌++◌, map, flat_map, length, Option, Some, None, refl, sym, ap, ◌∙◌, subst, arith, option_map, option_to_list}
-use Rattle.std.specs.Prelude.{Contains, filter, find, unwrap_or, is_none}
+use Rattle.std.specs.Prelude.{is_some, Contains, filter, find, unwrap_or, is_none}
 use Rattle.std.specs.List.{AllByRecursion, list_all}
+use Rattle.std.specs.Map.{lookup}
 use Rattle.std.specs.Str.{bytes_eq}
 use Rattle.std.proofs.lemmas.Bool.{false≢true}
 use Rattle.std.proofs.lemmas.Option.{none-some}
 use Rattle.lus_tree.specs.Tree.{Name, text_of, Spelled, Expression, truth, number, name, negation, minus, pre, arrow, binary, choice, sampled, merged, call, condact, mode_name, Variable, Component, declared_constant, declared_node, declared_contract, Program}
 use Rattle.lus_tree.specs.Reason.{name_twice}
-use Rattle.lus_meaning.specs.Scene.{Site, Instance, component_of, call_instance, contract_statements}
+use Rattle.lus_meaning.specs.Scene.{constants_of, Site, Instance, component_of, call_instance, contract_statements}
 use Rattle.lus_meaning.specs.Contract.{terms}
 use Rattle.lus_meaning.specs.Program.{listed, site_in, instance_of}
 use Rattle.lus_meaning.specs.Occurrences.{Standing, on_clock, Occurrence, occurs, occurrences, Text, texts, all_occurrences, gathered}
 use Rattle.lus_meaning.specs.Depends.{named_in}
-use Rattle.lus_meaning.specs.Scope.{Entry, is_constant_role, Scope, entry_of, node_named, contract_named, body_scope}
+use Rattle.lus_meaning.specs.Scope.{is_constant_name, Entry, is_constant_role, Scope, entry_of, node_named, contract_named, body_scope}
 use Rattle.lus_meaning.specs.Faults.{words_twice}
 use Rattle.lus_meaning.specs.ExpressionFaults.{used_as_clock, call_faults, has_one, has_mode, mode_is_known, form_faults, weight_faults, part_faults}
 use Rattle.lus_meaning.specs.NameFaults.{is_declared, clock_words, declaration_word, home, constant_words, own_words, outer_twice, mode_words, labels_twice, contract_faults, body_faults, local_constant_faults, statement_faults, state_faults, recursion_faults, assumption_faults, declaration_faults, typing_faults}
@@ -106,6 +107,13 @@ module _ (p : Program) (c : IsChecked p) (h : ℕ × Component) (place : Contain
       subst (λ n. name_clock n x ≡ None) (own_component ∙ sym o.owner)
       (a.stream ∙ ap (λ b. cond b None (Some q.0.clock)) q.2)
 
+  is_fixed_there : (s : Scope) → ScopeOf p h s → (x : Name) → is_constant_name s x ≡ true → is_some (lookup (bytes_eq x) (constants_of there)) ≡ true
+  is_fixed_there s o x e =
+      let q : (d : Entry) × (find (is_word x) (table p h) ≡ Some d) × (is_constant_role d.role ≡ true) =
+      fixed_entry (entry_of s x) (find (is_word x) (table p h)) (o.shows x) e in
+      let a : Agrees there x q.0 = typed_tables p c.rules.clocked.typed h place x q.0 q.1 in
+      ap is_some (a.constant ∙ ap (λ b. cond b (Some q.0.value) None) q.2)
+
   modes_known : (s : Scope) → ScopeOf p h s → Covers p (contract_statements h.1) (terms there).modes → (d : Option Spelled) (m : Spelled)
       → mode_is_known s d m ≡ true → has_key (option_to_list (option_map text_of d), m.text) (terms there).modes
   modes_known s o v None m e = v.own m.text (o.modes m.text e)
@@ -119,6 +127,7 @@ module _ (p : Program) (c : IsChecked p) (h : ℕ × Component) (place : Contain
     owner = o.owner ∙ sym own_component;
     names = agrees p c.rules.clocked.typed h place s o.shows (still there) refl;
     apart = λ x e. subst (λ n. name_clock n x ≡ None) (o.owner ∙ sym own_component) (holds_apart s o x e);
+    fixed = is_fixed_there s o;
     modes = modes_known s o v;
   }
 

@@ -32,7 +32,7 @@ pub nothing_mapped : {A B : Type 0} (f : A → List B) (xs : List A) → AllByRe
 nothing_mapped f [] a = refl
 nothing_mapped f (x ∷ xs) a = rw (a.0, nothing_mapped f xs a.1) refl
 
-no_positions : {A B : Type 0} (f : A → B) (xs : List A) → map f xs ≡ [] → xs ≡ []
+pub no_positions : {A B : Type 0} (f : A → B) (xs : List A) → map f xs ≡ [] → xs ≡ []
 no_positions f [] e = refl
 no_positions f (x ∷ xs) e = not_nil (f x) (map f xs) e
 

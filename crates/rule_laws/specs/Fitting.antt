@@ -1,8 +1,10 @@
 -- What the rules of types and clocks give of each expression of a checked program where it stands.
-use Rattle.std.specs.Prelude.{◌≡◌, pred, ◌≤◌, true, Contains, List, [], ◌∷◌, map, Option, Some, None, option_map, option_to_list}
+use Rattle.std.specs.Prelude.{◌≡◌, Bool, false, ◌&&◌, ◌||◌, is_some, pred, ◌≤◌, true, Contains, List, [], ◌∷◌, map, Option, Some, None, option_map, option_to_list}
 use Rattle.std.specs.List.{AllByRecursion, list_any}
 use Rattle.std.specs.Map.{lookup}
 use Rattle.std.specs.Str.{bytes_eq}
+use Rattle.lus_tree.specs.declared.expression.Operator.{Operator}
+use Rattle.lus_tree.specs.declared.expression.Operator.TheVariants.{Mul, Div, Mod}
 use Rattle.lus_tree.specs.declared.place.Sort.{Sort}
 use Rattle.lus_tree.specs.declared.place.Sort.TheVariants.{Bool as Flags, Int as Numbers}
 use Rattle.lus_tree.specs.Tree.{Name, text_of, Expression, truth, number, name, negation, minus, pre, arrow, binary, choice, sampled, merged, call, condact, mode_name, Variable}
@@ -50,6 +52,24 @@ pub record CallFits (i : Instance) (s : Site) : Type 0 where
   pub outputs : NotEmpty (component_of (call_instance i s.number)).outputs
   pub on_base : OnBase (component_of (call_instance i s.number)).outputs
 
+-- made of literals, constants and operators alone
+abbrev pub is_fixed : List (Name × Value) → Expression → Bool
+is_fixed cs (truth p b) = true
+is_fixed cs (number p n) = true
+is_fixed cs (name p x) = is_some (lookup (bytes_eq x) cs)
+is_fixed cs (negation p a) = is_fixed cs a
+is_fixed cs (minus p a) = is_fixed cs a
+is_fixed cs (binary p o a b) = is_fixed cs a && is_fixed cs b
+is_fixed cs (choice p a b d) = is_fixed cs a && (is_fixed cs b && is_fixed cs d)
+is_fixed cs _ = false
+
+-- a product has a constant operand, and a quotient and a remainder a constant divisor
+abbrev pub HasConstant : List (Name × Value) → Operator → Expression → Expression → Type 0
+HasConstant cs Mul a b = (is_fixed cs a || is_fixed cs b) ≡ true
+HasConstant cs Div a b = is_fixed cs b ≡ true
+HasConstant cs Mod a b = is_fixed cs b ≡ true
+HasConstant cs o a b = Unit {0}
+
 -- a mode of the contract, or of an import by way of its contract
 abbrev pub has_key : List Name × Name → List ModeTerms → Type 0
 has_key key ms = list_any (λ m. mode_key key m.key) ms ≡ true
@@ -63,7 +83,7 @@ Fits i t (negation p a) = sort_of i a ≡ Flags
 Fits i t (minus p a) = sort_of i a ≡ Numbers
 Fits i t (pre p k a) = Unit {0}
 Fits i t (arrow p k a b) = sort_of i b ≡ sort_of i a
-Fits i t (binary p o a b) = Takes o (sort_of i a) × (sort_of i b ≡ sort_of i a)
+Fits i t (binary p o a b) = Takes o (sort_of i a) × (sort_of i b ≡ sort_of i a) × HasConstant (constants_of i) o a b
 Fits i t (choice p a b d) = (sort_of i a ≡ Flags) × (sort_of i d ≡ sort_of i b)
 Fits i t (sampled p a q x) = (t.clock ≡ sampled_by q x.text) × IsFlagOn i (clock_of (component_of i) x.text) x.text
 Fits i t (merged p x a b) = IsFlagOn i t.clock x.text × (sort_of i b ≡ sort_of i a)
@@ -73,6 +93,7 @@ Fits i t (condact p k a f as_ ds) =
     CallFits i record { number = k; callee = f.text; clock = t.clock; arguments = listed as_; defaults = listed ds; manner = while_true a }
     × (sort_of i a ≡ Flags)
     × (map (sort_of i) (listed ds) ≡ sorts_of (component_of (call_instance i k)).outputs)
+    × AllByRecursion (λ d. is_fixed (constants_of i) d ≡ true) (listed ds)
 Fits i t (mode_name p d m) = (t.clock ≡ base) × has_key (option_to_list (option_map text_of d), m.text) (terms i).modes
 
 abbrev pub FitsThere : Instance → Occurrence → Type 0
