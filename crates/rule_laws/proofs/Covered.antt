@@ -16,7 +16,7 @@ use Rattle.lus_meaning.specs.ClockFaults.{components}
 use Rattle.lus_meaning.specs.Refusals.{IsChecked}
 use Rattle.lus_meaning.proofs.Lists.{append_none, named_append, or_left, or_true}
 use Rattle.lus_meaning.proofs.Unique.{same_bytes}
-use Rattle.rule_laws.specs.Laws.{IsUnfolded, AreUnfolded, HasItsPlace}
+use Rattle.rule_laws.specs.Laws.{OneInstance, NamedIsDeclared, IsUnfolded, AreUnfolded, HasItsPlace}
 use Rattle.rule_laws.specs.Fitting.{has_key}
 use Rattle.rule_laws.proofs.Places.{imports_in_place}
 use Rattle.rule_laws.proofs.Unfolded.{component_within, each_unfolded}
@@ -45,7 +45,7 @@ one_of n ds x m false e f = next (f e)
     next : Contains (components ds) m → Contains (n ∷ components ds) m
     next (k, l, g) = (suc k, omega arith, g)
 
-pub found_declared : (ds : Program) (x : Name) (m : Component) → component_named ds x ≡ Some m → Contains (components ds) m
+pub found_declared : NamedIsDeclared
 found_declared [] x m e = absurd (false≢true (ap is_some e))
 found_declared (declared_constant c ∷ ds) x m e = found_declared ds x m e
 found_declared (declared_node n ∷ ds) x m e = one_of n ds x m (bytes_eq x n.name.text) e (found_declared ds x m)
@@ -71,9 +71,8 @@ mutual
       let r : is ≡ js = same_instances p ss is js u.3 v.3 in
       ap (λ x. with_instance x i is) (u.0 ∙ sym v.0) ∙ ap (λ x. with_instance d x is) q ∙ ap (λ x. with_instance d j x) r
 
-pub is_instance : (p : Program) → IsChecked p → (i : Instance) → IsUnfolded p i → Contains (components p) (component_of i)
-    → instance_of p (component_of i) ≡ i
-is_instance p c i u d =
+pub one_instance : OneInstance
+one_instance p c i u d =
     same_instance p (instance_of p (component_of i)) i (each_unfolded p c (component_of i) d) u (component_within (length p) p (component_of i))
 
 -- ---- keys
@@ -240,7 +239,7 @@ pub imports_placed : (p : Program) → IsChecked p → (i : Instance) → IsUnfo
     → AllByRecursion (ImportPlaced p i) (flat_map import_site (contract_statements (component_of i)))
 imports_placed p c i u d =
     all_contained (ImportPlaced p i) (flat_map import_site (contract_statements (component_of i)))
-    (λ s h. subst (λ j. HasItsPlace j (contract_named p s.callee) s) (is_instance p c i u d) (imports_in_place p c (component_of i) d s h))
+    (λ s h. subst (λ j. HasItsPlace j (contract_named p s.callee) s) (one_instance p c i u d) (imports_in_place p c (component_of i) d s h))
 
 mutual
   pub covered : (p : Program) → IsChecked p → (i : Instance) → IsUnfolded p i → Contains (components p) (component_of i)

@@ -21,3 +21,4 @@ pub mod SameModes
 pub mod TypedFrames
 pub mod TypedModes
 pub mod Items
+pub mod ConstantsTyped

@@ -124,6 +124,7 @@ module _ {A : Type 0} (at : A → ℕ) where
   pub record InPlace (xs : List A) (x : A) : Type 0 where
     pub positive : 1 ≤ at x
     pub place : At (in_order at xs) (pred (at x)) x
+    pub found : find (λ y. at y == at x) xs ≡ Some x
 
   counted_once : (xs : List A) → are_counted (map at xs) ≡ true → (k : ℕ) → 1 ≤ k → k < 1 + length xs → times k (map at xs) ≡ 1
   counted_once xs c k a b =
@@ -147,7 +148,7 @@ module _ {A : Type 0} (at : A → ℕ) where
       let once : AllByRecursion (λ x. times (at x) (map at xs) ≤ 1) xs = all_from (λ x. (1 ≤ at x) × (at x < 1 + length xs))
       (λ x. times (at x) (map at xs) ≤ 1) (λ x b. few x b.0 b.1) xs within in
       all_from_both (λ x. (1 ≤ at x) × (at x < 1 + length xs)) (λ x. find (λ y. at y == at x) xs ≡ Some x) (InPlace xs)
-      (λ x b f. record { positive = b.0; place = at_its_number xs x (at x) each b.0 b.1 f }) xs within (found_once xs once)
+      (λ x b f. record { positive = b.0; place = at_its_number xs x (at x) each b.0 b.1 f; found = f }) xs within (found_once xs once)
     where
       few : (x : A) → 1 ≤ at x → at x < 1 + length xs → times (at x) (map at xs) ≤ 1
       few x a b = let t : times (at x) (map at xs) ≡ 1 = counted_once xs c (at x) a b in omega arith

@@ -31,7 +31,7 @@ use Rattle.lus_meaning.proofs.Typed.{on_has, only_typed, apply_has, typed_as}
 use Rattle.rule_laws.specs.Laws.{IsUnfolded, AreUnfolded, HasItsPlace, placed}
 use Rattle.rule_laws.specs.Fitting.{has_key, FitsThere}
 use Rattle.rule_laws.specs.Types.{IsTypedFrame, IsTypedThere, TypesOfValues, TypesInRuns, TypesOfModes}
-use Rattle.rule_laws.proofs.Covered.{ImportsCovered, covered_each, all_contained, found_declared, is_instance, has_left, Covers, covers_none, covers_plain, covers_mode, covers_import, moved_on, ImportPlaced, imports_placed}
+use Rattle.rule_laws.proofs.Covered.{ImportsCovered, covered_each, all_contained, found_declared, one_instance, has_left, Covers, covers_none, covers_plain, covers_mode, covers_import, moved_on, ImportPlaced, imports_placed}
 use Rattle.rule_laws.proofs.Fitted.{Shown, needed}
 use Rattle.rule_laws.proofs.Goods.{PlaceOf, place_of, all_of_each, some_named, shown_of, PlacedCall, calls_placed, no_faults, text_good, text_fits, CleanDeclaration, clean_declaration, declaration_texts, own_covered}
 use Rattle.rule_laws.proofs.Lists.{all_flat}
@@ -423,7 +423,7 @@ mutual
       (f : Frame) → IsTypedFrame i n b f → AllByRecursion (TypedMode n b f) (terms i).modes
   modes_typed p c (instance m cs is) u d n b f w =
       let q : PlaceOf (placed 0 p) m = place_of 0 p m d in
-      contract_typed p c (q.before, m) q.is d (instance m cs is) (is_instance p c (instance m cs is) u d) n b f w
+      contract_typed p c (q.before, m) q.is d (instance m cs is) (one_instance p c (instance m cs is) u d) n b f w
       (λ k. slice_index_or (terms_each is) (pred k) no_terms)
       record {
         causal = λ k. all_at CausalTerms (terms_each is) (pred k) no_terms (terms_each_causal is) record { assumes = tt; guarantees = tt; modes = tt };

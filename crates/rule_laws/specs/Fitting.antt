@@ -12,7 +12,7 @@ use Rattle.lus_meaning.specs.Value.{Value, has_sort}
 use Rattle.lus_meaning.specs.Scene.{Clock, base, sampled_by, plain, while_true, Site, Instance, component_of, constants_of, calls_of, call_instance, instance_called, clock_of}
 use Rattle.lus_meaning.specs.Meaning.{mode_key}
 use Rattle.lus_meaning.specs.Contract.{ModeTerms, terms}
-use Rattle.lus_meaning.specs.Program.{listed, instance_of}
+use Rattle.lus_meaning.specs.Program.{listed, constant_value, instance_of}
 use Rattle.lus_meaning.specs.Run.{Takes, sort_of, sort_of_name}
 use Rattle.lus_meaning.specs.Occurrences.{Standing, Occurrence, all_occurrences}
 use Rattle.lus_meaning.specs.ClockFaults.{name_clock}
@@ -102,3 +102,9 @@ FitsThere i o = Fits i o.standing o.expression
 -- In a checked program each expression of a declaration has operands of the types that it takes, at places of their clocks.
 abbrev pub ExpressionsFit : Type 0
 ExpressionsFit = OfEach (λ p n. (o : Occurrence) → Contains (all_occurrences n) o → FitsThere (instance_of p n) o)
+
+-- A constant expression has in the instance a value of its type.
+abbrev pub ConstantsTyped : Type 0
+ConstantsTyped =
+    OfEach (λ p n. (o : Occurrence) → Contains (all_occurrences n) o → is_fixed (constants_of (instance_of p n)) o.expression ≡ true →
+    has_sort (sort_of (instance_of p n) o.expression) (constant_value (constants_of (instance_of p n)) o.expression) ≡ true)

@@ -1,14 +1,21 @@
 //! The laws of the programs that follow the rules.
 
 ghost use Rattle.rule_laws.specs.Declarations.{DeclarationsFit};
-ghost use Rattle.rule_laws.specs.Fitting.{ExpressionsFit};
-ghost use Rattle.rule_laws.specs.Laws.{CallsInPlace, FirstsInPlace, ImportsInPlace, TablesAgree, Unfolding};
+ghost use Rattle.rule_laws.specs.Fitting.{ConstantsTyped, ExpressionsFit};
+ghost use Rattle.rule_laws.specs.Laws.{CallsInPlace, FirstsInPlace, ImportsInPlace, MemoriesFound, NamedIsDeclared, OneInstance, StartsFound, TablesAgree, Unfolding};
 ghost use Rattle.rule_laws.specs.Types.{TypesInRuns, TypesOfModes, TypesOfValues};
 
 /// In a checked program the instance of each declaration is unfolded to its end: each call occurrence and each import,
 /// at every depth, has an instance of the declaration that it names.
 pub fn unfolded_instances()
     ensures { Unfolding }
+{}
+
+/// An instance that is unfolded, of a declaration of a checked program, is the instance of the declaration; and what is found
+/// by a name is a declaration. So what these laws say of the instance of a declaration holds of those of its calls.
+pub fn one_instance()
+    ensures same { OneInstance }
+    ensures declared { NamedIsDeclared }
 {}
 
 /// In a checked program the tables by which the rules know a declaration's names say of each name what its instance has:
@@ -18,18 +25,23 @@ pub fn tables_agree()
 {}
 
 /// In a checked program each call occurrence and each import has, at its number, an instance of the declaration that it
-/// names, and first values have each the type of what stands under the `pre` of its number.
+/// names, and first values have each the type of what stands under the `pre` of its number. Each `pre` and each `->` is the one
+/// that is found by its number.
 pub fn numbered_places()
     ensures calls { CallsInPlace }
     ensures imports { ImportsInPlace }
     ensures firsts { FirstsInPlace }
+    ensures memories { MemoriesFound }
+    ensures starts { StartsFound }
 {}
 
 /// In a checked program each expression of a declaration, parts included, fits where it stands: its operands have the types
 /// that it takes, a name is a constant or a stream on the clock of its place, a call has the place of its number with
-/// arguments and defaults of the types that its callee says, and a mode is one of the contract or of an import.
+/// arguments and defaults of the types that its callee says, and a mode is one of the contract or of an import. A constant
+/// expression has a value of its type.
 pub fn expressions_fit()
-    ensures { ExpressionsFit }
+    ensures parts { ExpressionsFit }
+    ensures constants { ConstantsTyped }
 {}
 
 /// In a checked program the items of each declaration have their types and clocks: its streams under their names, the two
