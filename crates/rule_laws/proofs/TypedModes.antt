@@ -5,32 +5,32 @@ use Rattle.std.specs.List.{AllByRecursion, list_any}
 use Rattle.std.specs.Map.{lookup}
 use Rattle.std.specs.Str.{bytes_eq}
 use Rattle.std.proofs.lemmas.Bool.{false≢true}
-use Rattle.lus_tree.specs.declared.expression.Operator.TheVariants.{And}
+use Rattle.lus_tree.specs.declared.expression.Operator.TheVariants.{And, Implies}
 use Rattle.lus_tree.specs.declared.place.Sort.TheVariants.{Bool as Flags}
 use Rattle.lus_tree.specs.Tree.{Name, text_of, Spelled, Expression, truth, number, name, negation, minus, pre, arrow, binary, choice, sampled, merged, call, condact, mode_name, Labelled, ContractStatement, assume, guarantee, ghost_variable, constant, mode, «import», Component, Program}
 use Rattle.lus_tree.specs.Reason.{mode_unknown}
-use Rattle.lus_meaning.specs.Value.{Instants, Stream, has_sort}
+use Rattle.lus_meaning.specs.Value.{Value, Instants, Stream, has_sort}
 use Rattle.lus_meaning.specs.Frame.{Frame, firsts_of, first_value, call_frame}
 use Rattle.lus_meaning.specs.Scene.{as_import, base, Site, Instance, Instances, instance, no_instances, with_instance, component_of, instance_at, call_instance, contract_statements}
 use Rattle.lus_meaning.specs.Meaning.{value, mode_key, mode_stream, head_stream}
-use Rattle.lus_meaning.specs.Contract.{ModeTerms, Terms, no_terms, mode_streams, scene_with, scene, all_true, says, mode_terms, imported_mode, terms_after, terms, terms_each}
+use Rattle.lus_meaning.specs.Contract.{ensured, item, under, imported, Property, Test, ModeTerms, Terms, no_terms, mode_streams, scene_with, scene, all_true, says, mode_terms, imported_mode, terms_after, terms, terms_each}
 use Rattle.lus_meaning.specs.Program.{site_in, import_site, all_sites, instance_of}
 use Rattle.lus_meaning.specs.Run.{is_typed, sort_of, first_sorts, have_sorts, active}
 use Rattle.lus_meaning.specs.Occurrences.{Standing, on_clock, occurs, occurrences, Text, on_base, contract_statement_texts, texts, all_occurrences, gathered, Memory, memory_in, memories}
 use Rattle.lus_meaning.specs.Scope.{Scope, Home, import_names, contract_statement_scope, contract_named}
 use Rattle.lus_meaning.specs.ExpressionFaults.{needs_sort, flag_faults, expression_faults, has_one, has_mode, mode_is_known, form_faults, weight_faults, part_faults}
 use Rattle.lus_meaning.specs.NameFaults.{home, flags_of, contract_statement_faults, contract_faults}
-use Rattle.lus_meaning.specs.ClockFaults.{components, all_on_base, contract_statement_clock_faults}
+use Rattle.lus_meaning.specs.ClockFaults.{clock_faults_of, components, all_on_base, contract_statement_clock_faults}
 use Rattle.lus_meaning.specs.Refusals.{IsChecked}
-use Rattle.lus_meaning.proofs.Causal.{CausalMode, CausalTerms, all_append, all_at, terms_each_causal}
+use Rattle.lus_meaning.proofs.Causal.{IsCausal, CausalMode, CausalTerms, all_append, all_at, terms_each_causal}
 use Rattle.lus_meaning.proofs.EachPart.{Each, each_part, each_of_both}
-use Rattle.lus_meaning.proofs.Lists.{all_from, all_from_three}
+use Rattle.lus_meaning.proofs.Lists.{both_parts, all_from, all_from_three}
 use Rattle.lus_meaning.proofs.NamesOnce.{no_parts, not_so, at_one}
 use Rattle.lus_meaning.proofs.Now.{left_part, right_part}
 use Rattle.lus_meaning.proofs.Typed.{on_has, only_typed, apply_has, typed_as}
 use Rattle.rule_laws.specs.Laws.{IsUnfolded, AreUnfolded, HasItsPlace, placed}
 use Rattle.rule_laws.specs.Fitting.{has_key, FitsThere}
-use Rattle.rule_laws.specs.Types.{IsTypedFrame, IsTypedThere, TypesOfValues, TypesInRuns, TypesOfModes}
+use Rattle.rule_laws.specs.Types.{IsTruth, HasTruths, TypesOfContracts, IsTypedFrame, IsTypedThere, TypesOfValues, TypesInRuns, TypesOfModes}
 use Rattle.rule_laws.proofs.Covered.{ImportsCovered, covered_each, all_contained, found_declared, one_instance, has_left, Covers, covers_none, covers_plain, covers_mode, covers_import, moved_on, ImportPlaced, imports_placed}
 use Rattle.rule_laws.proofs.Fitted.{Shown, needed}
 use Rattle.rule_laws.proofs.Goods.{PlaceOf, place_of, all_of_each, some_named, shown_of, PlacedCall, calls_placed, no_faults, text_good, text_fits, CleanDeclaration, clean_declaration, declaration_texts, own_covered}
@@ -38,7 +38,7 @@ use Rattle.rule_laws.proofs.Lists.{all_flat}
 use Rattle.rule_laws.proofs.Parts.{all_parts, nested}
 use Rattle.rule_laws.proofs.Places.{firsts_in_place}
 use Rattle.rule_laws.proofs.SameModes.{SameMode, IsSame, same_value}
-use Rattle.rule_laws.proofs.Texts.{IsClean, clean_flags, ScopeOf, CleanText, contract_scope_of}
+use Rattle.rule_laws.proofs.Texts.{clean_flag, IsClean, clean_flags, ScopeOf, CleanText, contract_scope_of}
 use Rattle.rule_laws.proofs.TypedFrames.{typed_run, own_firsts, called_frame, names_ready}
 use Rattle.rule_laws.proofs.Unfolded.{component_within, each_unfolded}
 use Rattle.rule_laws.proofs.ValuesTyped.{and_true, HasRest, Ready, all_typed}
@@ -119,6 +119,23 @@ imported_typed k c n b act f e (m ∷ ms) q a = (one, imported_typed k c n b act
     one : (t : ℕ) → t < n → is_typed Flags (b t) (m.requires_all b (call_frame f k) t) ≡ true
     one t l = subst (λ o. is_typed Flags o (m.requires_all b (call_frame f k) t) ≡ true) (e t)
         (subst (λ v. is_typed Flags (act t) v ≡ true) (same t) (a.0 t l))
+
+-- and what it says
+imported_truths : (k n : ℕ) (b act : Instants) (f : Frame) → ((u : ℕ) → act u ≡ b u) → (qs : List Property) → AllByRecursion (λ q. IsCausal q.test) qs
+    → AllByRecursion (IsTruth n act (call_frame f k)) qs → AllByRecursion (IsTruth n b f) (map (imported k) qs)
+imported_truths k n b act f e [] c a = tt
+imported_truths k n b act f e (q ∷ qs) c a = (one, imported_truths k n b act f e qs c.1 a.1)
+  where
+    one : (t : ℕ) → t < n → b t ≡ true → has_sort Flags (q.test b (call_frame f k) t) ≡ true
+    one t l o = subst (λ v. has_sort Flags v ≡ true)
+        (c.0 t act b (call_frame f k) (call_frame f k) (λ u g. e u) record { names = λ ks x u g. refl; firsts = λ ks j. refl }) (a.0 t l (e t ∙ o))
+
+imported_ensures : (k : ℕ) (x : Name) (n : ℕ) (b act : Instants) (f : Frame) → ((u : ℕ) → act u ≡ b u) → (ms : List ModeTerms)
+    → AllByRecursion CausalMode ms → AllByRecursion (λ m. AllByRecursion (IsTruth n act (call_frame f k)) m.ensures_each) ms
+    → AllByRecursion (λ m. AllByRecursion (IsTruth n b f) m.ensures_each) (map (imported_mode k x) ms)
+imported_ensures k x n b act f e [] c a = tt
+imported_ensures k x n b act f e (m ∷ ms) c a =
+    (imported_truths k n b act f e m.ensures_each c.0.given a.0, imported_ensures k x n b act f e ms c.1 a.1)
 
 -- ---- texts
 
@@ -376,11 +393,12 @@ module _ (p : Program) (c : IsChecked p) (h : ℕ × Component) (place : IsPlace
         (covers_import p before ms (sub k).modes k x.text («import» k x as_ ws) (component_of (call_instance i k)) refl refl at.callee
         (below_it.covered k at.number) q.covers) (all_append (TypedMode n b f) ms ns q.known more))
 
-    contract_typed : (terms i).modes ≡ (terms_after i sub [] (contract_statements h.1)).modes → AllByRecursion (ImportPlaced p i)
-        (flat_map import_site (contract_statements h.1)) → AllByRecursion (TypedMode n b f) (terms_after i sub [] (contract_statements h.1)).modes
-    contract_typed e imports =
+    -- the whole contract stands behind nothing
+    behind_none : (terms i).modes ≡ (terms_after i sub [] (contract_statements h.1)).modes → AllByRecursion (ImportPlaced p i)
+        (flat_map import_site (contract_statements h.1)) → Behind [] [] (contract_statements h.1)
+    behind_none e imports =
         let q : CleanDeclaration p h = clean_declaration p c h place d in
-        after_typed [] [] (contract_statements h.1) record {
+        record {
           all = refl;
           modes = e;
           faults = q.contract;
@@ -392,6 +410,111 @@ module _ (p : Program) (c : IsChecked p) (h : ℕ × Component) (place : IsPlace
           covers = covers_none p [];
           known = tt;
         }
+
+    contract_typed : (terms i).modes ≡ (terms_after i sub [] (contract_statements h.1)).modes → AllByRecursion (ImportPlaced p i)
+        (flat_map import_site (contract_statements h.1)) → AllByRecursion (TypedMode n b f) (terms_after i sub [] (contract_statements h.1)).modes
+    contract_typed e imports = after_typed [] [] (contract_statements h.1) (behind_none e imports)
+
+    -- ---- what the contract says
+
+    abbrev Truth : Property → Type 0
+    Truth q = IsTruth n b f q
+
+    said : (before : List ContractStatement) (ms : List ModeTerms) (x : ContractStatement) (cs : List ContractStatement) → Behind before ms (x ∷ cs)
+        → (l : Labelled) → flag_faults (contract_statement_scope place_of_contract before) l.value ≡ [] → clock_faults_of h.1 base l.value ≡ []
+        → TextPlaced (on_clock base, l.value) → TextFirsts f (on_clock base, l.value) → (t : ℕ) → t < n → b t ≡ true
+        → has_sort Flags (says i ms l b f t) ≡ true
+    said before ms x cs q l e g a m t k o =
+        let sc : Scope = contract_statement_scope place_of_contract before in
+        on_has Flags (b t) (says i ms l b f t)
+        (flag_says sc (contract_scope_of p h before (x ∷ cs) q.all) ms l (clean_flag sc l.value e g)
+        (no_parts (needs_sort sc Flags l.value) (expression_faults sc (on_clock base) l.value) e).0 a n b f typed m
+        (typed_mode before ms (x ∷ cs) q.modes q.covers q.known) (same_mode before ms (x ∷ cs) q.modes q.covers) t k) o
+
+    ensured_each : (before : List ContractStatement) (ms : List ModeTerms) (x : ContractStatement) (cs : List ContractStatement)
+        → Behind before ms (x ∷ cs) → (w : Test) → ((t : ℕ) → t < n → is_typed Flags (b t) (w b f t) ≡ true) → (m : Name) (es : List Labelled)
+        → flags_of (contract_statement_scope place_of_contract before) es ≡ [] → all_on_base h.1 es ≡ [] → AllByRecursion TextPlaced (on_base es)
+        → AllByRecursion (TextFirsts f) (on_base es) → AllByRecursion Truth (map (λ e. under w (item i ms (ensured m) e)) es)
+    ensured_each before ms x cs q w v m [] e g a z = tt
+    ensured_each before ms x cs q w v m (l ∷ es) e g a z =
+        let sc : Scope = contract_statement_scope place_of_contract before in
+        let types = no_parts (flag_faults sc l.value) (flags_of sc es) e in
+        let clocks = no_parts (clock_faults_of h.1 base l.value) (all_on_base h.1 es) g in (
+          λ t k o. apply_has Implies Flags (w b f t) (says i ms l b f t) refl (on_has Flags (b t) (w b f t) (v t k) o)
+              (said before ms x cs q l types.0 clocks.0 a.0 z.0 t k o),
+          ensured_each before ms x cs q w v m es types.1 clocks.1 a.1 z.1,
+        )
+
+    module _ (deep : (k : ℕ) → 1 ≤ k → (a : Instants) (g : Frame) → IsTypedFrame (call_instance i k) n a g → HasTruths n a g (sub k)) where
+      after_truths : (before : List ContractStatement) (ms : List ModeTerms) (cs : List ContractStatement) → Behind before ms cs
+          → AllByRecursion (λ m. AllByRecursion Truth m.ensures_each) ms → HasTruths n b f (terms_after i sub ms cs)
+      after_truths before ms [] q v = record { assumes = tt; guarantees = tt; ensures = v }
+      after_truths before ms (assume l ∷ cs) q v =
+          let r : HasTruths n b f (terms_after i sub ms cs) = after_truths (before ++ assume l ∷ []) ms cs
+          (onward before ms ms (assume l) cs q refl (covers_plain p before (assume l) ms tt q.covers) q.known) v in
+          record {
+            assumes = (said before ms (assume l) cs q l (no_parts _ _ q.faults).0 (no_parts _ _ q.clocks).0 q.texts.0 q.firsts.0, r.assumes);
+            guarantees = r.guarantees;
+            ensures = r.ensures;
+          }
+      after_truths before ms (guarantee l ∷ cs) q v =
+          let r : HasTruths n b f (terms_after i sub ms cs) = after_truths (before ++ guarantee l ∷ []) ms cs
+          (onward before ms ms (guarantee l) cs q refl (covers_plain p before (guarantee l) ms tt q.covers) q.known) v in
+          record {
+            assumes = r.assumes;
+            guarantees = (said before ms (guarantee l) cs q l (no_parts _ _ q.faults).0 (no_parts _ _ q.clocks).0 q.texts.0 q.firsts.0, r.guarantees);
+            ensures = r.ensures;
+          }
+      after_truths before ms (ghost_variable x e ∷ cs) q v =
+          after_truths (before ++ ghost_variable x e ∷ []) ms cs
+          (onward before ms ms (ghost_variable x e) cs q refl (covers_plain p before (ghost_variable x e) ms tt q.covers) q.known) v
+      after_truths before ms (constant x ∷ cs) q v =
+          after_truths (before ++ constant x ∷ []) ms cs
+          (onward before ms ms (constant x) cs q refl (covers_plain p before (constant x) ms tt q.covers) q.known) v
+      after_truths before ms (mode m rs es ∷ cs) q v =
+          let sc : Scope = contract_statement_scope place_of_contract before in
+          let ns : List ModeTerms = mode_terms i ms m.text rs es ∷ [] in
+          let faults = no_parts (flags_of sc rs) (flags_of sc es) (no_parts (contract_statement_faults sc (mode m rs es))
+          (contract_faults place_of_contract (before ++ mode m rs es ∷ []) cs) q.faults).0 in
+          let clocks = no_parts (all_on_base h.1 rs) (all_on_base h.1 es) (no_parts (contract_statement_clock_faults h.1 (mode m rs es))
+          (flat_map (contract_statement_clock_faults h.1) cs) q.clocks).0 in
+          let placed : AllByRecursion TextPlaced (on_base es) = right_part TextPlaced (on_base rs) (on_base es)
+          (left_part TextPlaced (contract_statement_texts (mode m rs es)) (flat_map contract_statement_texts cs) q.texts) in
+          let firsts : AllByRecursion (TextFirsts f) (on_base es) = right_part (TextFirsts f) (on_base rs) (on_base es)
+          (left_part (TextFirsts f) (contract_statement_texts (mode m rs es)) (flat_map contract_statement_texts cs) q.firsts) in
+          let one : AllByRecursion Truth (mode_terms i ms m.text rs es).ensures_each =
+          ensured_each before ms (mode m rs es) cs q (mode_terms i ms m.text rs es).requires_all (asked before ms m rs es cs q) m.text es faults.1 clocks.1
+          placed firsts in
+          after_truths (before ++ mode m rs es ∷ []) (ms ++ ns) cs (onward before ms (ms ++ ns) (mode m rs es) cs q refl
+          (covers_mode p i before ms m.text (mode m rs es) rs es refl refl q.covers)
+          (all_append (TypedMode n b f) ms ns q.known (asked before ms m rs es cs q, tt)))
+          (all_append (λ w. AllByRecursion Truth w.ensures_each) ms ns v (one, tt))
+      after_truths before ms («import» k x as_ ws ∷ cs) q v =
+          let s : Site = record { number = k; callee = x.text; clock = base; arguments = as_; defaults = []; manner = as_import (map text_of ws) } in
+          let at : HasItsPlace i (contract_named p x.text) s = q.imports.0 in
+          let ns : List ModeTerms = map (imported_mode k x.text) (sub k).modes in
+          let act : Instants = active (scene i b f) s in
+          let frame : IsTypedFrame (call_instance i k) n act (call_frame f k) = called_frame i n b f typed s at.number at.site in
+          let more : AllByRecursion (TypedMode n b f) ns = imported_typed k x.text n b act f (λ u. and_true (b u)) (sub k).modes
+          (below_it.causal k).modes (below_it.below k at.number act (call_frame f k) frame) in
+          let there : HasTruths n act (call_frame f k) (sub k) = deep k at.number act (call_frame f k) frame in
+          let r : HasTruths n b f (terms_after i sub (ms ++ ns) cs) = after_truths (before ++ «import» k x as_ ws ∷ []) (ms ++ ns) cs
+          (onward before ms (ms ++ ns) («import» k x as_ ws) cs q refl
+          (covers_import p before ms (sub k).modes k x.text («import» k x as_ ws) (component_of (call_instance i k)) refl refl at.callee
+          (below_it.covered k at.number) q.covers) (all_append (TypedMode n b f) ms ns q.known more))
+          (all_append (λ w. AllByRecursion Truth w.ensures_each) ms ns v
+          (imported_ensures k x.text n b act f (λ u. and_true (b u)) (sub k).modes (below_it.causal k).modes there.ensures)) in
+          record {
+            assumes = both_parts Truth (map (imported k) (sub k).assumes) (terms_after i sub (ms ++ ns) cs).assumes
+                (imported_truths k n b act f (λ u. and_true (b u)) (sub k).assumes (below_it.causal k).assumes there.assumes) r.assumes;
+            guarantees = both_parts Truth (map (imported k) (sub k).guarantees) (terms_after i sub (ms ++ ns) cs).guarantees
+                (imported_truths k n b act f (λ u. and_true (b u)) (sub k).guarantees (below_it.causal k).guarantees there.guarantees) r.guarantees;
+            ensures = r.ensures;
+          }
+
+      contract_truths : (terms i).modes ≡ (terms_after i sub [] (contract_statements h.1)).modes → AllByRecursion (ImportPlaced p i)
+          (flat_map import_site (contract_statements h.1)) → HasTruths n b f (terms_after i sub [] (contract_statements h.1))
+      contract_truths e imports = after_truths [] [] (contract_statements h.1) (behind_none e imports) tt
 
   -- ---- every expression
 
@@ -418,6 +541,31 @@ module _ (p : Program) (c : IsChecked p) (h : ℕ × Component) (place : IsPlace
 
 -- ---- declarations
 
+-- what the imports of an instance have, where their modes are typed
+imports_typed : (p : Program) (c : IsChecked p) (m : Component) (cs : List (Name × Value)) (is : Instances) (d : Contains (components p) m)
+    (own : instance_of p m ≡ instance m cs is) (n : ℕ) → AreUnfolded p (all_sites m) is → ((j : ℕ) (a : Instants) (g : Frame)
+    → IsTypedFrame (instance_at is j) n a g → AllByRecursion (TypedMode n a g) (get_or (terms_each is) j no_terms).modes)
+    → ImportsTyped p c ((place_of 0 p m d).before, m) (place_of 0 p m d).is d (instance m cs is) own n
+    (λ k. slice_index_or (terms_each is) (pred k) no_terms)
+imports_typed p c m cs is d own n u below = record {
+  causal = λ k. all_at CausalTerms (terms_each is) (pred k) no_terms (terms_each_causal is) record { assumes = tt; guarantees = tt; modes = tt };
+  covered = by_number (covered_each p c (all_sites m) is u);
+  below = typed_by_number below;
+}
+  where
+    by_number : ((j : ℕ) → Covers p (contract_statements (component_of (instance_at is j))) (get_or (terms_each is) j no_terms).modes)
+        → (k : ℕ) → 1 ≤ k → Covers p (contract_statements (component_of (call_instance (instance m cs is) k)))
+        (slice_index_or (terms_each is) (pred k) no_terms).modes
+    by_number g zero l = absurd (omega arith)
+    by_number g (suc k) l = g k
+
+    typed_by_number : ((j : ℕ) (a : Instants) (g : Frame) → IsTypedFrame (instance_at is j) n a g
+        → AllByRecursion (TypedMode n a g) (get_or (terms_each is) j no_terms).modes)
+        → (k : ℕ) → 1 ≤ k → (a : Instants) (g : Frame) → IsTypedFrame (call_instance (instance m cs is) k) n a g
+        → AllByRecursion (TypedMode n a g) (slice_index_or (terms_each is) (pred k) no_terms).modes
+    typed_by_number g zero l a e w = absurd (omega arith)
+    typed_by_number g (suc k) l a e w = g k a e w
+
 mutual
   pub modes_typed : (p : Program) → IsChecked p → (i : Instance) → IsUnfolded p i → Contains (components p) (component_of i) → (n : ℕ) (b : Instants)
       (f : Frame) → IsTypedFrame i n b f → AllByRecursion (TypedMode n b f) (terms i).modes
@@ -425,25 +573,8 @@ mutual
       let q : PlaceOf (placed 0 p) m = place_of 0 p m d in
       contract_typed p c (q.before, m) q.is d (instance m cs is) (one_instance p c (instance m cs is) u d) n b f w
       (λ k. slice_index_or (terms_each is) (pred k) no_terms)
-      record {
-        causal = λ k. all_at CausalTerms (terms_each is) (pred k) no_terms (terms_each_causal is) record { assumes = tt; guarantees = tt; modes = tt };
-        covered = by_number (covered_each p c (all_sites m) is u.1);
-        below = typed_by_number (modes_typed_each p c (all_sites m) is u.1 n);
-      } refl
+      (imports_typed p c m cs is d (one_instance p c (instance m cs is) u d) n u.1 (modes_typed_each p c (all_sites m) is u.1 n)) refl
       (imports_placed p c (instance m cs is) u d)
-    where
-      by_number : ((j : ℕ) → Covers p (contract_statements (component_of (instance_at is j))) (get_or (terms_each is) j no_terms).modes)
-          → (k : ℕ) → 1 ≤ k → Covers p (contract_statements (component_of (call_instance (instance m cs is) k)))
-          (slice_index_or (terms_each is) (pred k) no_terms).modes
-      by_number g zero l = absurd (omega arith)
-      by_number g (suc k) l = g k
-
-      typed_by_number : ((j : ℕ) (a : Instants) (g : Frame) → IsTypedFrame (instance_at is j) n a g
-          → AllByRecursion (TypedMode n a g) (get_or (terms_each is) j no_terms).modes)
-          → (k : ℕ) → 1 ≤ k → (a : Instants) (g : Frame) → IsTypedFrame (call_instance (instance m cs is) k) n a g
-          → AllByRecursion (TypedMode n a g) (slice_index_or (terms_each is) (pred k) no_terms).modes
-      typed_by_number g zero l a e w = absurd (omega arith)
-      typed_by_number g (suc k) l a e w = g k a e w
 
   pub modes_typed_each : (p : Program) → IsChecked p → (ss : List Site) (is : Instances) → AreUnfolded p ss is → (n j : ℕ) (b : Instants) (f : Frame)
       → IsTypedFrame (instance_at is j) n b f → AllByRecursion (TypedMode n b f) (get_or (terms_each is) j no_terms).modes
@@ -452,6 +583,29 @@ mutual
   modes_typed_each p c (s ∷ ss) (with_instance x i is) u n zero b f w =
       modes_typed p c i u.2 (found_declared p s.callee (component_of i) u.1) n b f w
   modes_typed_each p c (s ∷ ss) (with_instance x i is) u n (suc j) b f w = modes_typed_each p c ss is u.3 n j b f w
+
+mutual
+  pub truths : (p : Program) → IsChecked p → (i : Instance) → IsUnfolded p i → Contains (components p) (component_of i) → (n : ℕ) (b : Instants)
+      (f : Frame) → IsTypedFrame i n b f → HasTruths n b f (terms i)
+  truths p c (instance m cs is) u d n b f w =
+      let q : PlaceOf (placed 0 p) m = place_of 0 p m d in
+      contract_truths p c (q.before, m) q.is d (instance m cs is) (one_instance p c (instance m cs is) u d) n b f w
+      (λ k. slice_index_or (terms_each is) (pred k) no_terms)
+      (imports_typed p c m cs is d (one_instance p c (instance m cs is) u d) n u.1 (modes_typed_each p c (all_sites m) is u.1 n))
+      (by_number (truths_each p c (all_sites m) is u.1 n)) refl (imports_placed p c (instance m cs is) u d)
+    where
+      by_number : ((j : ℕ) (a : Instants) (g : Frame) → IsTypedFrame (instance_at is j) n a g → HasTruths n a g (get_or (terms_each is) j no_terms))
+          → (k : ℕ) → 1 ≤ k → (a : Instants) (g : Frame) → IsTypedFrame (call_instance (instance m cs is) k) n a g
+          → HasTruths n a g (slice_index_or (terms_each is) (pred k) no_terms)
+      by_number g zero l a e w = absurd (omega arith)
+      by_number g (suc k) l a e w = g k a e w
+
+  pub truths_each : (p : Program) → IsChecked p → (ss : List Site) (is : Instances) → AreUnfolded p ss is → (n j : ℕ) (b : Instants) (f : Frame)
+      → IsTypedFrame (instance_at is j) n b f → HasTruths n b f (get_or (terms_each is) j no_terms)
+  truths_each p c ss no_instances u n j b f w = record { assumes = tt; guarantees = tt; ensures = tt }
+  truths_each p c [] (with_instance x i is) u n j b f w = absurd u
+  truths_each p c (s ∷ ss) (with_instance x i is) u n zero b f w = truths p c i u.2 (found_declared p s.callee (component_of i) u.1) n b f w
+  truths_each p c (s ∷ ss) (with_instance x i is) u n (suc j) b f w = truths_each p c ss is u.3 n j b f w
 
 own_modes : (p : Program) → IsChecked p → (n : Component) → Contains (components p) n → (k : ℕ) (b : Instants) (f : Frame)
     → IsTypedFrame (instance_of p n) k b f → AllByRecursion (TypedMode k b f) (terms (instance_of p n)).modes
@@ -470,3 +624,7 @@ types_of_values p c n d k b f w o q =
 
 pub types_in_runs : TypesInRuns
 types_in_runs p c n d k b f r = types_of_values p c n d k b f (typed_run (instance_of p n) k b f r)
+
+pub types_of_contracts : TypesOfContracts
+types_of_contracts p c n d k b f w =
+    truths p c (instance_of p n) (each_unfolded p c n d) (subst (Contains (components p)) (sym (component_within (length p) p n)) d) k b f w

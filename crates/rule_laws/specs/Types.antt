@@ -1,11 +1,12 @@
 -- The law of types: in a frame whose names and first values have their types, every expression's value has its own.
 use Rattle.std.specs.Prelude.{◌≡◌, ℕ, suc, ◌<◌, true, Contains}
+use Rattle.std.specs.List.{AllByRecursion}
 use Rattle.lus_tree.specs.declared.place.Sort.TheVariants.{Bool as Flags}
-use Rattle.lus_meaning.specs.Value.{Instants}
+use Rattle.lus_meaning.specs.Value.{Instants, has_sort}
 use Rattle.lus_meaning.specs.Frame.{Frame, frame_at, calls_in, firsts_of}
 use Rattle.lus_meaning.specs.Scene.{Instance, Instances, instance, no_instances, with_instance, is_on}
 use Rattle.lus_meaning.specs.Meaning.{value}
-use Rattle.lus_meaning.specs.Contract.{ModeTerms, terms, scene}
+use Rattle.lus_meaning.specs.Contract.{Property, ModeTerms, Terms, terms, scene}
 use Rattle.lus_meaning.specs.Program.{instance_of}
 use Rattle.lus_meaning.specs.Run.{sort_of, first_sorts, have_sorts, is_typed, IsRun}
 use Rattle.lus_meaning.specs.Occurrences.{Occurrence, all_occurrences}
@@ -51,3 +52,16 @@ TypesOfModes =
     OfEach (λ p n. (k : ℕ) (b : Instants) (f : Frame) → IsTypedFrame (instance_of p n) k b f →
     (m : ModeTerms) → Contains (terms (instance_of p n)).modes m → (t : ℕ) → t < k →
     is_typed Flags (b t) (m.requires_all b f t) ≡ true)
+
+-- What a contract assumes, guarantees and ensures, that of imports included, is a truth value wherever the beat is on.
+abbrev pub IsTruth : ℕ → Instants → Frame → Property → Type 0
+IsTruth n b f q = (t : ℕ) → t < n → b t ≡ true → has_sort Flags (q.test b f t) ≡ true
+
+pub record HasTruths (n : ℕ) (b : Instants) (f : Frame) (r : Terms) : Type 0 where
+  pub assumes : AllByRecursion (IsTruth n b f) r.assumes
+  pub guarantees : AllByRecursion (IsTruth n b f) r.guarantees
+  pub ensures : AllByRecursion (λ m. AllByRecursion (IsTruth n b f) m.ensures_each) r.modes
+
+abbrev pub TypesOfContracts : Type 0
+TypesOfContracts =
+    OfEach (λ p n. (k : ℕ) (b : Instants) (f : Frame) → IsTypedFrame (instance_of p n) k b f → HasTruths k b f (terms (instance_of p n)))

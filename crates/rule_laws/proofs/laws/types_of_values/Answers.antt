@@ -1,4 +1,4 @@
-use Rattle.rule_laws.proofs.TypedModes.{types_of_values, types_in_runs, types_of_modes}
+use Rattle.rule_laws.proofs.TypedModes.{types_of_values, types_in_runs, types_of_modes, types_of_contracts}
 use Rattle.rule_laws.proofs.laws.types_of_values.Goals as goal
 
 pub returns-clause-values : goal.returns-clause-values
@@ -9,3 +9,6 @@ returns-clause-modes c = types_of_modes
 
 pub returns-clause-runs : goal.returns-clause-runs
 returns-clause-runs c = types_in_runs
+
+pub returns-clause-contracts : goal.returns-clause-contracts
+returns-clause-contracts c = types_of_contracts
