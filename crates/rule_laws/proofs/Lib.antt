@@ -22,3 +22,4 @@ pub mod TypedFrames
 pub mod TypedModes
 pub mod Items
 pub mod ConstantsTyped
+pub mod PropertiesTyped

@@ -530,6 +530,15 @@ module _ (p : Program) (c : IsChecked p) (h : ℕ × Component) (place : IsPlace
       (all_parts (λ o. Each (Ready (scene i b f) n) (component_of i) o.standing o.expression) (component_of i) x.0 x.1
       (nested (Ready (scene i b f) n) (component_of i) x.0 x.1 ready))
 
+  -- and of the texts themselves
+  pub roots_typed : (n : ℕ) (b : Instants) (f : Frame) → IsTypedFrame i n b f → AllByRecursion (TypedMode n b f) (terms i).modes
+      → AllByRecursion (λ x. IsTypedThere i n b f (occurs x.0 x.1)) (texts h.1)
+  roots_typed n b f w a =
+      all_from_three (CleanText p h) TextPlaced (TextFirsts f) (λ x. IsTypedThere i n b f (occurs x.0 x.1))
+      (λ x k q m t l. all_typed (scene i b f) n (names_ready i n b f w) t l x.1 x.0 (text_ready k.scope k.of x k.clean q n b f m
+      (λ o y e u z. found_typed (option_to_list (option_map text_of o), y.text) n b f (terms i).modes a ((shown k.scope k.of).modes o y e) u z)))
+      (texts h.1) (declaration_texts p c h place d) texts_placed (texts_firsts f (own_firsts i f w.firsts))
+
   pub texts_typed : (n : ℕ) (b : Instants) (f : Frame) → IsTypedFrame i n b f → AllByRecursion (TypedMode n b f) (terms i).modes
       → AllByRecursion (IsTypedThere i n b f) (all_occurrences h.1)
   texts_typed n b f w a =

@@ -8,6 +8,7 @@ use Rattle.lus_meaning.specs.Scene.{Instance, Instances, instance, no_instances,
 use Rattle.lus_meaning.specs.Meaning.{value}
 use Rattle.lus_meaning.specs.Contract.{Property, ModeTerms, Terms, terms, scene}
 use Rattle.lus_meaning.specs.Program.{instance_of}
+use Rattle.lus_meaning.specs.Property.{properties}
 use Rattle.lus_meaning.specs.Run.{sort_of, first_sorts, have_sorts, is_typed, IsRun}
 use Rattle.lus_meaning.specs.Occurrences.{Occurrence, all_occurrences}
 use Rattle.lus_meaning.specs.RuleLaws.{OfEach}
@@ -65,3 +66,9 @@ pub record HasTruths (n : ℕ) (b : Instants) (f : Frame) (r : Terms) : Type 0 w
 abbrev pub TypesOfContracts : Type 0
 TypesOfContracts =
     OfEach (λ p n. (k : ℕ) (b : Instants) (f : Frame) → IsTypedFrame (instance_of p n) k b f → HasTruths k b f (terms (instance_of p n)))
+
+-- So is each property, of an analysed declaration and what it owes its callees.
+abbrev pub TypesOfProperties : Type 0
+TypesOfProperties =
+    OfEach (λ p n. (k : ℕ) (b : Instants) (f : Frame) → IsTypedFrame (instance_of p n) k b f →
+    (q : Property) → Contains (properties (instance_of p n)) q → IsTruth k b f q)

@@ -3,7 +3,7 @@
 ghost use Rattle.rule_laws.specs.Declarations.{DeclarationsFit};
 ghost use Rattle.rule_laws.specs.Fitting.{ConstantsTyped, ExpressionsFit};
 ghost use Rattle.rule_laws.specs.Laws.{CallsInPlace, FirstsInPlace, ImportsInPlace, MemoriesFound, NamedIsDeclared, OneInstance, StartsFound, TablesAgree, Unfolding};
-ghost use Rattle.rule_laws.specs.Types.{TypesInRuns, TypesOfContracts, TypesOfModes, TypesOfValues};
+ghost use Rattle.rule_laws.specs.Types.{TypesInRuns, TypesOfContracts, TypesOfModes, TypesOfProperties, TypesOfValues};
 
 /// In a checked program the instance of each declaration is unfolded to its end: each call occurrence and each import,
 /// at every depth, has an instance of the declaration that it names.
@@ -53,11 +53,12 @@ pub fn declarations_fit()
 
 /// The law of types. In a checked program, in every frame whose names and first values have their types, those of the
 /// frames of its calls too, each expression's value is of its type exactly where the clock of its place is on, and what each
-/// mode requires is a truth value exactly where the beat is on. What a contract
-/// assumes, guarantees and ensures is a truth value wherever the beat is on. The frames of runs are such frames.
+/// mode requires is a truth value exactly where the beat is on. What a contract assumes, guarantees and ensures is a truth
+/// value wherever the beat is on, and so is each property. The frames of runs are such frames.
 pub fn types_of_values()
     ensures values { TypesOfValues }
     ensures runs { TypesInRuns }
     ensures modes { TypesOfModes }
     ensures contracts { TypesOfContracts }
+    ensures properties { TypesOfProperties }
 {}

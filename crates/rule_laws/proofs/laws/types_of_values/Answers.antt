@@ -1,3 +1,4 @@
+use Rattle.rule_laws.proofs.PropertiesTyped.{types_of_properties}
 use Rattle.rule_laws.proofs.TypedModes.{types_of_values, types_in_runs, types_of_modes, types_of_contracts}
 use Rattle.rule_laws.proofs.laws.types_of_values.Goals as goal
 
@@ -12,3 +13,6 @@ returns-clause-runs c = types_in_runs
 
 pub returns-clause-contracts : goal.returns-clause-contracts
 returns-clause-contracts c = types_of_contracts
+
+pub returns-clause-properties : goal.returns-clause-properties
+returns-clause-properties c = types_of_properties
