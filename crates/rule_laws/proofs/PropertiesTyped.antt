@@ -97,7 +97,8 @@ sites_there p c n d =
     (all_contained (HasPlace p (instance_of p n)) (flat_map import_site (contract_statements n))
     (λ s h. named_there false p (instance_of p n) (contract_named p s.callee) s (where_is_named false p s.callee) (imports_in_place p c n d s h))))
 
-unfolded_at : (p : Program) (ss : List Site) (is : Instances) → AreUnfolded p ss is → (j : ℕ) (s : Site) → site_at is j ≡ Some s → IsUnfolded p (instance_at is j)
+unfolded_at : (p : Program) (ss : List Site) (is : Instances) → AreUnfolded p ss is → (j : ℕ) (s : Site) → site_at is j ≡ Some s
+    → IsUnfolded p (instance_at is j)
 unfolded_at p ss no_instances u j s e = absurd (none-some s e)
 unfolded_at p [] (with_instance x i is) u j s e = absurd u
 unfolded_at p (y ∷ ss) (with_instance x i is) u zero s e = u.2
@@ -119,7 +120,10 @@ owed_site i x plain r n b f a = owed_truths i x n b f r.assumes a
 owed_site i x (while_true e) r n b f a = owed_truths i x n b f r.assumes a
 owed_site i x (as_import ws) r n b f a = tt
 
-module _ (p : Program) (c : IsChecked p) (i : Instance) (n : ℕ) (b : Instants) (f : Frame) (typed : IsTypedFrame i n b f) (all : (j : ℕ) (s : Site) → site_at (calls_of i) j ≡ Some s → IsUnfolded p (instance_at (calls_of i) j)) where
+abbrev CallsUnfolded : Program → Instance → Type 0
+CallsUnfolded p i = (j : ℕ) (s : Site) → site_at (calls_of i) j ≡ Some s → IsUnfolded p (instance_at (calls_of i) j)
+
+module _ (p : Program) (c : IsChecked p) (i : Instance) (n : ℕ) (b : Instants) (f : Frame) (typed : IsTypedFrame i n b f) (all : CallsUnfolded p i) where
   -- a call's frame, by its place among the calls
   frame_there : (s : Site) (j : Instance) → HasPlace p i s → component_named p s.callee ≡ Some (component_of j) → IsUnfolded p j
       → IsTypedFrame j n (active (scene i b f) s) (call_frame f s.number)
