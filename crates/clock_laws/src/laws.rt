@@ -46,8 +46,8 @@ pub fn one_run_at_most()
 
 /// A declaration of a checked program is well made for choices that fit, and so is what it calls, at every depth: each
 /// name is given by the caller or defined at most once, equations have as many values as names, calls as many arguments
-/// as inputs, and first values have their types. So the frame that is computed from the choices in a number of rounds is
-/// a run of them where its names have values of their types exactly on their clocks.
+/// as inputs, and first values have their types. So the frame that is computed from the choices in a number of rounds
+/// is a run of them where its names have values of their types exactly on their clocks.
 pub fn well_made()
     ensures made { EachWellMade }
     ensures computed { ComputedRuns }

@@ -1,5 +1,5 @@
 -- What is found of a property, and what it means: each cause is stated over the system alone.
-use Rattle.std.specs.Prelude.{ℕ, zero, suc, ◌≡◌, ◌≤◌, ◌<◌, ◌⊎◌, List, [], length, Ok}
+use Rattle.std.specs.Prelude.{⊤, ℕ, zero, suc, ◌≡◌, ◌≤◌, ◌<◌, ◌⊎◌, List, [], length, Ok}
 use Rattle.proof_steps.specs.View.{Refutation}
 use Rattle.proof_steps.specs.StopView.{Halt, stop_view}
 use Rattle.proof_steps.specs.Rows.{Form}
@@ -13,6 +13,7 @@ use Rattle.sys_terms.specs.Queries.{query_of, property_term}
 use Rattle.cnf_maker.specs.ClauseForm.{clause_form}
 use Rattle.smt_solver.specs.Answered.{IsConflicts}
 use Rattle.cert_rules.specs.Facts.{IsRefuted, IsBase}
+use Rattle.cert_rules.specs.Kept.{held_machine, held_property}
 use Rattle.cert_rules.specs.Laws.{HoldsReachably}
 use Rattle.induction.specs.declared.verdict.Cause.{Cause}
 use Rattle.induction.specs.declared.verdict.Cause.TheVariants as c
@@ -92,3 +93,9 @@ abbrev pub found_view : Verdict → Found
 found_view (v.Valid held) = valid
 found_view (v.Falsifiable states) = falsifiable (states_view states.items)
 found_view (v.Unknown bounded by_step) = unknown (why_view bounded) (why_view by_step)
+
+-- a fact that is handed out is of this system and of this property
+abbrev pub IsHeldOf : Machine → (property : ℕ) → Verdict → Type 0
+IsHeldOf m p (v.Valid held) = (held_machine held ≡ m) × (held_property held ≡ p)
+IsHeldOf m p (v.Falsifiable _) = ⊤
+IsHeldOf m p (v.Unknown _ _) = ⊤

@@ -7,7 +7,7 @@ ghost use Rattle.sys_terms.specs.View.{system_view, base};
 ghost use Rattle.smt_solver.specs.Answered.{IsConflicts};
 ghost use Rattle.cert_rules.specs.Facts.{IsRefuted};
 ghost use Rattle.induction.specs.Ready.{IsReady};
-ghost use Rattle.induction.specs.Found.{IsFound, IsStepWhy, IsStopped, found_view, why_view};
+ghost use Rattle.induction.specs.Found.{IsFound, IsHeldOf, IsStepWhy, IsStopped, found_view, why_view};
 
 use crate::asking::{after_one, at_instant};
 use crate::facts::{base_fact, held};
@@ -56,7 +56,8 @@ fn at_one(
     requires named { property < length (system_view system.now).properties }
     requires first { IsRefuted (system_view system.now) (base property 0) [] (proof_view first) }
     requires step { IsStepWhy (system_view system.now) budgets 1 property (why_view step) }
-    ensures { IfOk result (λ v. IsFound (system_view system.now) budgets property (found_view v)) }
+    ensures found { IfOk result (λ v. IsFound (system_view system.now) budgets property (found_view v)) }
+    ensures own_fact { IfOk result (IsHeldOf (system_view system.now) property) }
 {
     refuted_obligations_have_no_answer();
     match at_instant(alloc, system, property, 1, budgets)? {
@@ -87,7 +88,8 @@ fn founded(
     requires ready { IsReady (system_view system.now) }
     requires named { property < length (system_view system.now).properties }
     requires first { IsRefuted (system_view system.now) (base property 0) [] (proof_view first) }
-    ensures { IfOk result (λ v. IsFound (system_view system.now) budgets property (found_view v)) }
+    ensures found { IfOk result (λ v. IsFound (system_view system.now) budgets property (found_view v)) }
+    ensures own_fact { IfOk result (IsHeldOf (system_view system.now) property) }
 {
     match after_one(alloc, system, property, budgets)? {
         Answer::Unsat(step) => Ok(Verdict::Valid(held(alloc, system, property, first, &step)?)),
@@ -136,7 +138,8 @@ fn unfounded(
     requires ready { IsReady (system_view system.now) }
     requires named { property < length (system_view system.now).properties }
     requires stopped { IsStopped (system_view system.now) budgets (base property 0) (stop_view first) }
-    ensures { IfOk result (λ v. IsFound (system_view system.now) budgets property (found_view v)) }
+    ensures found { IfOk result (λ v. IsFound (system_view system.now) budgets property (found_view v)) }
+    ensures own_fact { IfOk result (IsHeldOf (system_view system.now) property) }
 {
     let step = step_cause(alloc, system, property, budgets, &first)?;
     Ok(Verdict::Unknown {
@@ -147,7 +150,7 @@ fn unfounded(
 
 /// Decides the property of this number.
 ///
-/// `Valid` comes with the fact that it is true in all reachable states, which rests on checked
+/// `Valid` comes with the fact that this property of this system is true in all reachable states, which rests on checked
 /// refutations of its falsehood at instant 0 and after one state at which it is true. `Falsifiable`
 /// has a path of one or two states that breaks it. `Unknown` has for bounded search and for induction
 /// a cause that is true of the system: the instants 0 and 1 are refuted, or a query spent its budget
@@ -166,6 +169,7 @@ pub fn decide(
     requires ready { IsReady (system_view system.now) }
     requires named { property < length (system_view system.now).properties }
     ensures found { IfOk result (λ v. IsFound (system_view system.now) budgets property (found_view v)) }
+    ensures own_fact { IfOk result (IsHeldOf (system_view system.now) property) }
 {
     match at_instant(alloc, system, property, 0, budgets)? {
         Answer::Sat(states) => Ok(Verdict::Falsifiable(states)),

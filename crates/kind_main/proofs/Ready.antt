@@ -5,28 +5,16 @@ use Rattle.lus_tree.specs.Tree.{Program, Component}
 use Rattle.lus_meaning.specs.Program.{instance_of}
 use Rattle.lus_meaning.specs.Rules.{IsWithinCounts}
 use Rattle.lus_meaning.specs.BooleanRules.{IsBooleanChecked}
-use Rattle.sys_terms.specs.View.{Formula, truth, flag, negation, both, same, choice, at_most, equal, Machine}
+use Rattle.sys_terms.specs.View.{Formula, Machine}
+use Rattle.sys_terms.specs.Boolean.{is_boolean}
 use Rattle.sys_meaning.specs.System.{system_of}
-use Rattle.sys_build.specs.Laws as B
 use Rattle.sys_build.specs.Laws.{IsOfFlags, MildSystems, SmallSystems, SystemsOfFlags}
-use Rattle.smt_solver.specs.Boolean as S
 use Rattle.smt_solver.specs.Boolean.{all_boolean, is_boolean_machine}
 use Rattle.induction.specs.Ready.{IsReady}
 
--- a term compares no numbers, for the translation as for the solver
-as_boolean : (f : Formula) → B.is_boolean f ≡ S.is_boolean f
-as_boolean (truth b) = refl
-as_boolean (flag v) = refl
-as_boolean (negation f) = as_boolean f
-as_boolean (both f g) = rw (as_boolean f, as_boolean g) refl
-as_boolean (same f g) = rw (as_boolean f, as_boolean g) refl
-as_boolean (choice c f g) = rw (as_boolean c, as_boolean f, as_boolean g) refl
-as_boolean (at_most a b) = refl
-as_boolean (equal a b) = refl
-
-all_as_boolean : (fs : List Formula) → list_all B.is_boolean fs ≡ all_boolean fs
+all_as_boolean : (fs : List Formula) → list_all is_boolean fs ≡ all_boolean fs
 all_as_boolean [] = refl
-all_as_boolean (f ∷ fs) = rw (as_boolean f, all_as_boolean fs) refl
+all_as_boolean (f ∷ fs) = ap (λ b. is_boolean f && b) (all_as_boolean fs)
 
 all_true : (a b c d e : Bool) → a ≡ true → b ≡ true → c ≡ true → d ≡ true → e ≡ true → a && (b && (c && (d && e))) ≡ true
 all_true a b c d e p q r s t = rw (p, q, r, s, t) refl

@@ -26,7 +26,8 @@ use Rattle.lus_meaning.specs.ExpressionFaults.{expression_faults, used, used_as_
 use Rattle.lus_meaning.specs.ClockFaults.{same_clock, name_clock, or_else, clock_in, clock_among, is_other, stands_on, all_on, clock_form_faults, clock_faults_of}
 use Rattle.lus_meaning.proofs.EachPart.{Each, each_part, each_of_both, each_elsewhere}
 use Rattle.lus_meaning.proofs.NamesOnce.{not_nil, no_parts, not_so}
-use Rattle.lus_meaning.proofs.Typed.{Takes, FitsName, Fits, HeldAt, NamesTyped, TypedAt, value_typed}
+use Rattle.lus_meaning.specs.Run.{Takes}
+use Rattle.lus_meaning.proofs.Typed.{FitsName, Fits, HeldAt, NamesTyped, TypedAt, value_typed}
 use Rattle.lus_meaning.proofs.Unique.{same_bytes}
 
 -- ---- truth values

@@ -1,7 +1,7 @@
 -- What the grammar gives of a tree, its places aside, and the laws of programs rest on.
 use Rattle.std.specs.Prelude.{◌≡◌, ℕ, ◌^◌, nat_le, nat_lt, Bool, true, false, not, ◌&&◌, ◌||◌, List, [], ◌∷◌, ◌++◌, flat_map, codes, Some, None, is_none, option_map, unwrap_or}
 use Rattle.std.specs.List.{AllByRecursion, list_all}
-use Rattle.lus_tree.specs.Tree.{Name, Spelled, Expression, number, name, sampled, merged, call, condact, mode_name, Variable, Constant, Labelled, Statement, equation, property, ContractStatement, assume, guarantee, ghost_variable, mode, Component, Declaration, declared_constant, declared_node, declared_contract, Program}
+use Rattle.lus_tree.specs.Tree.{Name, Spelled, Expression, number, name, sampled, merged, call, condact, mode_name, Variable, Constant, Labelled, Statement, equation, property, ContractStatement, assume, guarantee, ghost_variable, mode, «import», Component, Declaration, declared_constant, declared_node, declared_contract, Program}
 use Rattle.lus_tree.specs.Numbers.{IsNumbered}
 use Rattle.lus_meaning.specs.Scene.{base, contract_statements, no_component}
 use Rattle.lus_meaning.specs.Depends.{named_in}
@@ -102,6 +102,24 @@ abbrev pub ghost_names : ContractStatement → List Variable
 ghost_names (ghost_variable v e) = v ∷ []
 ghost_names _ = []
 
+-- the names that an equation defines
+abbrev pub left_words : Statement → List Spelled
+left_words (equation xs e) = xs
+left_words _ = []
+
+-- the name of a clock
+abbrev pub clock_words : Variable → List Spelled
+clock_words v = unwrap_or (option_map (λ c. c.1 ∷ []) v.clock) []
+
+-- the contract that an import names, and what it takes for its outputs
+abbrev pub imported_words : ContractStatement → List Spelled
+imported_words («import» k c as_ xs) = c ∷ xs
+imported_words _ = []
+
+-- the words of a declaration outside its expressions
+abbrev pub outer_words : Component → List Spelled
+outer_words n = flat_map left_words n.body ++ (flat_map clock_words n.locals ++ flat_map imported_words (contract_statements n))
+
 -- only locals have a clock
 abbrev pub have_no_clock : Component → Bool
 have_no_clock n = list_all (λ v. is_none v.clock) (n.inputs ++ (n.outputs ++ flat_map ghost_names (contract_statements n)))
@@ -110,6 +128,7 @@ pub record IsGrammaticalComponent (n : Component) : Type 0 where
   pub name : is_identifier n.name.text ≡ true
   pub names : are_identifiers (own_words n) ≡ true
   pub modes : are_identifiers (mode_words (contract_statements n)) ≡ true
+  pub words : are_identifiers (outer_words n) ≡ true
   pub clocks : have_no_clock n ≡ true
   pub forms : are_plain (all_occurrences n) ≡ true
   pub lefts : list_all has_left_name n.body ≡ true

@@ -21,7 +21,8 @@ use Rattle.lus_meaning.specs.Faults.{differ}
 use Rattle.lus_meaning.specs.ExpressionFaults.{needs_sort, agree, hinders_constant, operator_faults, form_faults, is_integer, weight_faults, part_faults}
 use Rattle.lus_meaning.proofs.EachPart.{Each}
 use Rattle.lus_meaning.proofs.NamesOnce.{not_nil, no_parts, not_so}
-use Rattle.lus_meaning.proofs.Typed.{Takes, has_as, not_has, minus_has, apply_has, choose_has}
+use Rattle.lus_meaning.specs.Run.{Takes}
+use Rattle.lus_meaning.proofs.Typed.{has_as, not_has, minus_has, apply_has, choose_has}
 
 -- ---- truth values and types
 

@@ -10,7 +10,7 @@ use Rattle.sat_core.specs.declared.assigned.Assigned.{Assigned}
 use Rattle.sat_core.specs.Set.{IsTied, IsWidened, place_of}
 use Rattle.sat_core.specs.Trail.{trues, falses, value_of, IsApart}
 use Rattle.sat_core.proofs.Places.{from_map, get-append, take-push, within}
-use Rattle.sat_core.proofs.Sets.{has-not, not-has}
+use Rattle.proof_checker.proofs.Sets.{has-not, not-has}
 use Rattle.sat_core.proofs.Marking.{tied_more, tied_wide, tied_less}
 use Rattle.sat_core.proofs.Growth.{apart-push}
 

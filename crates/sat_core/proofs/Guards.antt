@@ -14,7 +14,9 @@ use Rattle.sat_core.specs.Watching.{Watching, list_at, IsListed, IsWatch, IsOthe
 use Rattle.sat_core.specs.Watching.{CanWatch, IsEntered, IsHead}
 use Rattle.sat_core.specs.Analysis.{IsOneOf, IsLast, IsUnseen, IsDecisionAt, IsResumed, NoneDecided}
 use Rattle.sat_core.proofs.Places.{some_is, within, get-contains, contains-get, get-push, get-append, get-take, take-within, read, from_map, to_map}
-use Rattle.sat_core.proofs.Sets.{either, one-or-other, has-contains, has-not}
+use Rattle.proof_checker.proofs.Sets.{has-contains, has-not}
+use Rattle.proof_checker.proofs.Sound.{either}
+use Rattle.sat_core.proofs.Sets.{one-or-other}
 use Rattle.sat_core.proofs.Consistent.{consistent, entry_once, opposite-opposite}
 use Rattle.sat_core.proofs.Fresh.{all_from}
 use Rattle.sat_core.proofs.Rows.{eq_or}

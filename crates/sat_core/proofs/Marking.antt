@@ -5,7 +5,8 @@ use Rattle.std.proofs.lemmas.List.{drop_more, get_or-set_same, get_or-set_other,
 use Rattle.proof_steps.specs.declared.Literal.{Literal}
 use Rattle.proof_steps.specs.declared.Literal.TheVariants.{Flag, Atom}
 use Rattle.proof_checker.specs.Derived.{same, has}
-use Rattle.sat_core.proofs.Sets.{same-is, same-refl, either}
+use Rattle.proof_checker.proofs.Sets.{same-is, same-refl}
+use Rattle.proof_checker.proofs.Sound.{either}
 use Rattle.sat_core.specs.Set.{place_of, IsTied, IsCovered, IsWidened}
 
 has-snoc : (xs : List Literal) (l m : Literal) → has (xs ++ l ∷ []) m ≡ cond (has xs m) true (same l m)

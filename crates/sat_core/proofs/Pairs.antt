@@ -10,7 +10,7 @@ use Rattle.sat_core.specs.Set.{place_of}
 use Rattle.sat_core.specs.Watching.{Watching, IsOther, IsSameBut, IsWithout, IsMoved, row}
 use Rattle.sat_core.proofs.Marking.{same-number}
 use Rattle.sat_core.proofs.Places.{some_is}
-use Rattle.sat_core.proofs.Sets.{same-is, same-refl}
+use Rattle.proof_checker.proofs.Sets.{same-is, same-refl}
 
 pub other_second : (w : Watching) (n : ℕ) (a b l : Literal) → at w.pairs n ≡ Some (Some (a, b)) → true ≡ same a l → IsOther w n l (Some b)
 other_second w n a b l e s = ((a, b), e, inl (same-is a l (sym s), let q : b ≡ b = cc in q))

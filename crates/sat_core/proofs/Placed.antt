@@ -13,7 +13,8 @@ use Rattle.sat_core.specs.Visiting.{CanStand}
 use Rattle.sat_core.specs.Analysis.{SomeMarked, NoneMarked, IsLow, IsBelow, IsChosen, IsNext, IsDecisionAt, paired}
 use Rattle.sat_core.specs.Placing.{IsPlaced}
 use Rattle.sat_core.proofs.Places.{some_is, within, from_map, to_map, to_map_take}
-use Rattle.sat_core.proofs.Sets.{has-contains, contains-has, has-not, one-or-other}
+use Rattle.proof_checker.proofs.Sets.{has-contains, contains-has, has-not}
+use Rattle.sat_core.proofs.Sets.{one-or-other}
 use Rattle.sat_core.proofs.Fresh.{falses-take}
 use Rattle.sat_core.proofs.Tracing.{falses-new}
 use Rattle.sat_core.proofs.Backjump.{each, settled_before, can_watch, unseen}

@@ -10,7 +10,8 @@ use Rattle.sat_core.specs.Trail.{falses, IsTrail}
 use Rattle.sat_core.specs.Analysis.{IsTraced, IsChosen}
 use Rattle.sat_core.specs.Reduction.{AreMarkedBut, IsSpareAt, IsReduced}
 use Rattle.sat_core.proofs.Places.{some_is, to_map_take}
-use Rattle.sat_core.proofs.Sets.{either, has-contains, contains-has, has-not}
+use Rattle.proof_checker.proofs.Sets.{has-contains, contains-has, has-not}
+use Rattle.proof_checker.proofs.Sound.{either}
 use Rattle.sat_core.proofs.Consistent.{entry_once, opposite-opposite}
 use Rattle.sat_core.proofs.Watched.{at-within}
 use Rattle.sat_core.proofs.Tracing.{pass, keep, resolve}

@@ -15,7 +15,7 @@ use Rattle.sat_core.specs.Propagation.{Stands}
 use Rattle.sat_core.specs.Watching.{Watching, IsShort, IsWatched, HasTrue}
 use Rattle.sat_core.specs.Visiting.{IsAdvance, IsShortAt, IsImpliedShort, HoldShorts}
 use Rattle.sat_core.proofs.Places.{some_is, at-contains, get-contains, read, from_map, to_map, take-within}
-use Rattle.sat_core.proofs.Sets.{has-not}
+use Rattle.proof_checker.proofs.Sets.{has-not}
 use Rattle.sat_core.proofs.Fresh.{all_from}
 use Rattle.sat_core.proofs.Growth.{grow}
 use Rattle.sat_core.proofs.Watched.{at-within}

@@ -16,7 +16,8 @@ use Rattle.sat_core.specs.Held.{Covers}
 use Rattle.sat_core.specs.Watching.{Watching, list_at, IsOther, IsWatched, IsVisiting, IsUnmoved, IsDropped, IsMoved}
 use Rattle.sat_core.specs.Visiting.{CanStand, IsReplacement, IsAdvance, IsVisit}
 use Rattle.sat_core.proofs.Places.{within, get-contains, at-contains, to_map}
-use Rattle.sat_core.proofs.Sets.{one-or-other, has-contains, has-not}
+use Rattle.proof_checker.proofs.Sets.{has-contains, has-not}
+use Rattle.sat_core.proofs.Sets.{one-or-other}
 use Rattle.sat_core.proofs.Growth.{grow}
 use Rattle.sat_core.proofs.Fresh.{all_from}
 use Rattle.sat_core.proofs.Watched.{watch-of, watching_same, at-within}

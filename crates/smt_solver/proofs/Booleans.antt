@@ -9,7 +9,8 @@ use Rattle.sys_terms.specs.Queries.{placed, variables, all_placed, at_state, ste
 use Rattle.sys_terms.proofs.Placed.{both_true}
 use Rattle.cnf_maker.specs.ClauseForm.{literal_of, with_condition, with_conditions, truth_form}
 use Rattle.cnf_maker.proofs.Plain.{Gets, gets-then}
-use Rattle.smt_solver.specs.Boolean.{is_boolean, all_boolean, is_boolean_machine, all_boolean_at, is_boolean_task, BooleanQueriesHaveNoAtoms}
+use Rattle.sys_terms.specs.Boolean.{is_boolean}
+use Rattle.smt_solver.specs.Boolean.{all_boolean, is_boolean_machine, all_boolean_at, is_boolean_task, BooleanQueriesHaveNoAtoms}
 
 -- no atom is made
 abbrev Stays : Form → Form × Literal → Type 0

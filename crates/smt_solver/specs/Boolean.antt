@@ -1,18 +1,9 @@
--- Terms that compare no numbers.
+-- Systems and obligations whose terms compare no numbers.
 use Rattle.std.specs.Prelude.{ℕ, ◌≡◌, Bool, true, false, ◌&&◌, List, [], ◌∷◌}
-use Rattle.sys_terms.specs.View.{Formula, truth, flag, negation, both, same, choice, at_most, equal, Machine, Task, base, step, lemma_first, lemma_next, implied, with_states}
+use Rattle.sys_terms.specs.Boolean.{is_boolean}
+use Rattle.sys_terms.specs.View.{Formula, Machine, Task, base, step, lemma_first, lemma_next, implied, with_states}
 use Rattle.sys_terms.specs.Queries.{query_of}
 use Rattle.smt_solver.specs.Answered.{HasNoAtoms}
-
-abbrev pub is_boolean : Formula → Bool
-is_boolean (truth b) = true
-is_boolean (flag v) = true
-is_boolean (negation f) = is_boolean f
-is_boolean (both f g) = is_boolean f && is_boolean g
-is_boolean (same f g) = is_boolean f && is_boolean g
-is_boolean (choice c f g) = is_boolean c && (is_boolean f && is_boolean g)
-is_boolean (at_most a b) = false
-is_boolean (equal a b) = false
 
 abbrev pub all_boolean : List Formula → Bool
 all_boolean [] = true

@@ -2,7 +2,8 @@
 
 ghost use Rattle.std.specs.Prelude.{◌≡◌, map};
 ghost use Rattle.sys_terms.specs.View.{term_view, terms_view, system_view, placed_view, obligation_view};
-ghost use Rattle.smt_solver.specs.Boolean.{is_boolean, all_boolean, is_boolean_machine, all_boolean_at, is_boolean_task};
+ghost use Rattle.sys_terms.specs.Boolean.{is_boolean};
+ghost use Rattle.smt_solver.specs.Boolean.{all_boolean, is_boolean_machine, all_boolean_at, is_boolean_task};
 
 use sys_terms::{Obligation, System, Term};
 

@@ -79,8 +79,8 @@ module _ {s : Stream} where
     each_line P.Group x a = group x a
     each_line P.Names x a = names marks x a
     each_line P.Sort x a = tt
-    each_line P.Locals x a = locals x a
-    each_line P.LocalGroup x a = local_group x a
+    each_line P.Locals x a = locals marks x a
+    each_line P.LocalGroup x a = local_group marks x a
     each_line P.Item x a = item marks x a
     each_line P.Left x a = left x a
     each_line P.Contract x a = contract x a

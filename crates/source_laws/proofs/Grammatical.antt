@@ -9,10 +9,10 @@ use Rattle.lus_meaning.specs.Scene.{base, contract_statements, variables, no_com
 use Rattle.lus_meaning.specs.Program.{contract_statement_constants}
 use Rattle.lus_meaning.specs.Occurrences.{on_clock, occurrences, Text, on_base, contract_statement_texts, statement_texts, constant_texts, texts, all_occurrences}
 use Rattle.lus_meaning.specs.NameFaults.{own_words, mode_words}
-use Rattle.lus_meaning.specs.Grammatical.{is_identifier, are_identifiers, is_printable, has_printable_label, is_plain_form, are_plain, has_left_name, labelled_in, labelled_item, all_labelled, ghost_names, have_no_clock, IsGrammaticalComponent, IsGrammaticalDeclaration, IsGrammatical}
+use Rattle.lus_meaning.specs.Grammatical.{is_identifier, are_identifiers, is_printable, has_printable_label, is_plain_form, are_plain, has_left_name, left_words, clock_words, imported_words, outer_words, labelled_in, labelled_item, all_labelled, ghost_names, have_no_clock, IsGrammaticalComponent, IsGrammaticalDeclaration, IsGrammatical}
 use Rattle.source_laws.proofs.Lists.{all_both, all_map, all_pass, all_flat, pass_flat}
 use Rattle.source_laws.proofs.Words.{name_identifier}
-use Rattle.source_laws.proofs.Parts.{IsWord, AreWords, IsPlain, IsPrintable, IsItem, IsConstant, IsStream, IsParameter, IsContractStatement, IsStatement, IsComponent, IsDeclaration, IsProgram}
+use Rattle.source_laws.proofs.Parts.{IsWord, AreWords, IsPlain, IsPrintable, IsItem, IsConstant, IsStream, IsClock, IsLocal, IsParameter, IsContractStatement, IsStatement, IsComponent, IsDeclaration, IsProgram}
 use Rattle.source_laws.proofs.Plain.{plain_occurrences}
 use Rattle.source_laws.proofs.Read.{source_parts}
 use Rattle.source_laws.proofs.Identified.{streams_named}
@@ -54,6 +54,37 @@ modes_named (constant c ∷ cs) h = modes_named cs h.1
 modes_named (mode m rs es ∷ cs) h = (h.0.0, modes_named cs h.1)
 modes_named («import» k c as_ xs ∷ cs) h = modes_named cs h.1
 
+-- ---- words of equations, clocks and imports
+
+left_named : (t : Statement) → IsStatement t → AreWords (left_words t)
+left_named (equation xs e) h = h.1
+left_named (assertion e) h = tt
+left_named (property l) h = tt
+left_named (main_mark p) h = tt
+
+clock_named : (c : Option (Bool × Spelled)) → IsClock c → AreWords (unwrap_or (option_map (λ c. c.1 ∷ []) c) [])
+clock_named None h = tt
+clock_named (Some c) h = (h, tt)
+
+import_named : (c : ContractStatement) → IsContractStatement c → AreWords (imported_words c)
+import_named (assume l) h = tt
+import_named (guarantee l) h = tt
+import_named (ghost_variable v e) h = tt
+import_named (constant c) h = tt
+import_named (mode m rs es) h = tt
+import_named («import» k c as_ xs) h = (h.0, h.1)
+
+outer_named : (n : Component) → IsComponent n → AreWords (outer_words n)
+outer_named n h =
+    let lefts = flat_map left_words n.body in
+    let clocks = flat_map clock_words n.locals in
+    let imports = flat_map imported_words (contract_statements n) in
+    all_both (λ w. IsWord w.text) lefts (clocks ++ imports)
+    (all_flat IsStatement (λ w. IsWord w.text) left_words left_named n.body h.body)
+    (all_both (λ w. IsWord w.text) clocks imports
+    (all_flat IsLocal (λ w. IsWord w.text) clock_words (λ v k. clock_named v.clock k.clock) n.locals h.locals)
+    (all_flat IsContractStatement (λ w. IsWord w.text) imported_words import_named (contract_statements n) h.contract))
+
 -- ---- clocks
 
 ghost_in : (c : ContractStatement) → IsContractStatement c → AllByRecursion IsParameter (ghost_names c)
@@ -89,10 +120,10 @@ contract_statement_plain (ghost_variable v e) h = (h.1, tt)
 contract_statement_plain (constant c) h = (h.value, tt)
 contract_statement_plain (mode m rs es) h =
     all_both IsText (on_base rs) (on_base es) (on_base_plain rs h.1) (on_base_plain es h.2)
-contract_statement_plain («import» k c as_ xs) h = all_map IsPlain IsText (λ a. (on_clock base, a)) (λ a k. k) as_ h
+contract_statement_plain («import» k c as_ xs) h = all_map IsPlain IsText (λ a. (on_clock base, a)) (λ a k. k) as_ h.2
 
 statement_plain : (n : Component) (t : Statement) → IsStatement t → AllByRecursion IsText (statement_texts n t)
-statement_plain n (equation xs e) h = (h.1, tt)
+statement_plain n (equation xs e) h = (h.2, tt)
 statement_plain n (assertion e) h = (h, tt)
 statement_plain n (property l) h = (h.value, tt)
 statement_plain n (main_mark p) h = tt
@@ -152,6 +183,7 @@ component n h k = record {
   name = name_identifier n.name.text h.name;
   names = are_words (own_words n) (own_named n h);
   modes = are_words (mode_words (contract_statements n)) (modes_named (contract_statements n) h.contract);
+  words = are_words (outer_words n) (outer_named n h);
   clocks = without_clock n h;
   forms = forms n h;
   lefts = all_pass IsStatement has_left_name left_name n.body h.body;

@@ -6,7 +6,7 @@ use Rattle.lus_grammar.specs.Source.{IsSource}
 use Rattle.lus_meaning.specs.Scene.{ghosts, contract_statements, variables}
 use Rattle.source_laws.specs.Laws.{IsIdentified, IsIdentifiedDeclaration, AreIdentified}
 use Rattle.source_laws.proofs.Lists.{all_both, all_map, all_such}
-use Rattle.source_laws.proofs.Parts.{IsWord, IsStream, IsParameter, IsContractStatement, IsComponent, IsDeclaration}
+use Rattle.source_laws.proofs.Parts.{IsWord, IsStream, IsLocal, IsParameter, IsContractStatement, IsComponent, IsDeclaration}
 use Rattle.source_laws.proofs.Read.{source_parts}
 
 ghosts_named : (cs : List ContractStatement) → AllByRecursion IsContractStatement cs → AllByRecursion IsStream (ghosts cs)
@@ -23,8 +23,9 @@ pub streams_named : (n : Component) → IsComponent n → AllByRecursion IsStrea
 streams_named n h =
     let inputs = all_such IsParameter IsStream (λ v k. k.name) n.inputs h.inputs in
     let outputs = all_such IsParameter IsStream (λ v k. k.name) n.outputs h.outputs in
+    let locals = all_such IsLocal IsStream (λ v k. k.name) n.locals h.locals in
     all_both IsStream (n.inputs ++ n.outputs ++ n.locals) (ghosts (contract_statements n))
-    (all_both IsStream (n.inputs ++ n.outputs) n.locals (all_both IsStream n.inputs n.outputs inputs outputs) h.locals)
+    (all_both IsStream (n.inputs ++ n.outputs) n.locals (all_both IsStream n.inputs n.outputs inputs outputs) locals)
     (ghosts_named (contract_statements n) h.contract)
 
 identified : (n : Component) → IsComponent n → IsIdentified n

@@ -10,12 +10,12 @@ use Rattle.lus_lexer.specs.declared.token.Sign.TheVariants as S
 use Rattle.lus_grammar.specs.Stream.{Stream, Mark}
 use Rattle.lus_grammar.specs.Phrase as P
 use Rattle.lus_grammar.specs.Phrase.{Part, part, limited, one_of, optional, repeated, ◌⨾◌}
-use Rattle.lus_grammar.specs.Grammar.{body, labelled, semicolon}
+use Rattle.lus_grammar.specs.Grammar.{body, labelled, semicolon, when}
 use Rattle.lus_grammar.specs.Syntax.{Syntax, leaf, node, ◌·◌, this, none, some}
 use Rattle.lus_grammar.specs.Trees.{expression_of}
-use Rattle.lus_grammar.specs.Programs.{label_of, labelled_of, names_of, more_names_of, sort_of, variable_of, clock_of, group_of, groups_of, local_group_of, local_groups_of, local_variables_of, local_constants_of, constants_of, import_arguments_of, more_arguments_of, contract_statements_of}
+use Rattle.lus_grammar.specs.Programs.{label_of, labelled_of, names_of, more_names_of, sort_of, variable_of, clock_of, group_of, groups_of, local_group_of, local_groups_of, local_variables_of, local_constants_of, constants_of, import_arguments_of, more_arguments_of, contract_statements_of, optional_names_of}
 use Rattle.source_laws.proofs.Lists.{all_both, all_map, all_such}
-use Rattle.source_laws.proofs.Parts.{IsWord, AreWords, IsPlain, IsPrintable, IsItem, IsConstant, IsStream, IsOnClock, IsParameter, IsContractStatement}
+use Rattle.source_laws.proofs.Parts.{IsWord, AreWords, IsPlain, IsPrintable, IsItem, IsConstant, IsClock, IsLocal, IsOnClock, IsParameter, IsContractStatement}
 use Rattle.source_laws.proofs.Made.{Made, token, occurrence, line, line_within, both, this_one, that_one, not_once, once, no_more, again}
 use Rattle.source_laws.proofs.Lines.{AreMarks, AreModeItems, AreContractStatements, Adds, IsLine, Shown, the_one}
 
@@ -42,32 +42,11 @@ module _ {s : Stream} where
   group x (both {x = xs} (line a) (both {y = q} t b)) c =
       all_map (λ w. IsWord w.text) (IsOnClock c) (variable_of (sort_of q) c) (λ w h. record { name = h; clock = refl }) (names_of xs) a.words
 
-  pub local_group : (x : Syntax) → Shown s (body P.LocalGroup) x → IsLine P.LocalGroup (node P.LocalGroup x)
-  local_group x (both {x = g} {y = c} (line h) w) =
-      all_such (IsOnClock (clock_of c)) IsStream (λ v k. k.name) (group_of (clock_of c) g) (h (clock_of c))
-
-  local_groups : {x : Syntax} → Shown s (repeated (part P.LocalGroup ⨾ semicolon)) x →
-      AllByRecursion IsStream (local_groups_of x)
-  local_groups no_more = tt
-  local_groups (again {y = gs} (both {x = g} (line a) t) r) =
-      all_both IsStream (local_group_of g) (local_groups_of gs) a (local_groups r)
-
-  pub locals : (x : Syntax) → Shown s (body P.Locals) x → IsLine P.Locals (node P.Locals x)
-  locals x (this_one (both t (both {x = g} (line a) (both {y = gs} u b)))) xs h = record {
-    streams = all_both IsStream (local_group_of g ++ local_groups_of gs) (local_variables_of xs)
-        (all_both IsStream (local_group_of g) (local_groups_of gs) a (local_groups b)) h.streams;
-    constants = h.constants;
-  }
-  locals x (that_one {x = c} (line a)) xs h = record {
-    streams = h.streams;
-    constants = all_both IsConstant (constants_of c) (local_constants_of xs) a h.constants;
-  }
-
   -- ---- bodies
 
   pub left : (x : Syntax) → Shown s (body P.Left) x → IsLine P.Left (node P.Left x)
-  left x (this_one (line a)) e = a.some_left e
-  left x (that_one (both t (both (line a) u))) e = a.some_left e
+  left x (this_one (line a)) = a
+  left x (that_one (both t (both (line a) u))) = a
 
   more_arguments : {x : Syntax} → Shown s (repeated (P.sign S.Comma ⨾ limited P.Expression)) x →
       AllByRecursion IsPlain (more_arguments_of x)
@@ -101,6 +80,39 @@ module _ {s : Stream} where
     names x (both (token {i = i} v) r) =
         record { words = (marks.name i (the_one v), more_names r); some_left = λ e. refl }
 
+    -- [ "when" [ "not" ] ID ]
+    clock : {x : Syntax} → Shown s (optional when) x → IsClock (clock_of x)
+    clock not_once = tt
+    clock (once (both t (both not_once (token {i = i} v)))) = marks.name i (the_one v)
+    clock (once (both t (both (once n) (token {i = i} v)))) = marks.name i (the_one v)
+
+    pub local_group : (x : Syntax) → Shown s (body P.LocalGroup) x → IsLine P.LocalGroup (node P.LocalGroup x)
+    local_group x (both {x = g} {y = c} (line h) w) =
+        all_such (IsOnClock (clock_of c)) IsLocal (λ v k. record { name = k.name; clock = rw k.clock (clock w) })
+        (group_of (clock_of c) g) (h (clock_of c))
+
+    local_groups : {x : Syntax} → Shown s (repeated (part P.LocalGroup ⨾ semicolon)) x →
+        AllByRecursion IsLocal (local_groups_of x)
+    local_groups no_more = tt
+    local_groups (again {y = gs} (both {x = g} (line a) t) r) =
+        all_both IsLocal (local_group_of g) (local_groups_of gs) a (local_groups r)
+
+    pub locals : (x : Syntax) → Shown s (body P.Locals) x → IsLine P.Locals (node P.Locals x)
+    locals x (this_one (both t (both {x = g} (line a) (both {y = gs} u b)))) xs h = record {
+      streams = all_both IsLocal (local_group_of g ++ local_groups_of gs) (local_variables_of xs)
+          (all_both IsLocal (local_group_of g) (local_groups_of gs) a (local_groups b)) h.streams;
+      constants = h.constants;
+    }
+    locals x (that_one {x = c} (line a)) xs h = record {
+      streams = h.streams;
+      constants = all_both IsConstant (constants_of c) (local_constants_of xs) a h.constants;
+    }
+
+    -- [ names ] of an import
+    import_names : {x : Syntax} → Shown s (optional (part P.Names)) x → AreWords (optional_names_of x)
+    import_names not_once = tt
+    import_names (once (line a)) = a.words
+
     pub constant_line : (x : Syntax) → Shown s (body P.Constant) x → IsLine P.Constant (node P.Constant x)
     constant_line x (both (token t) (both (token {i = i} v) (both q (both u (both (line_within a) w))))) =
         (record { name = marks.name i (the_one v); value = a }, tt)
@@ -114,7 +126,8 @@ module _ {s : Stream} where
     labelled_item t (both l (both (line_within a) u)) = record { label = label l; value = a }
 
     pub item : (x : Syntax) → Shown s (body P.Item) x → IsLine P.Item (node P.Item x)
-    item x (this_one (both (line l) (both t (both {x = a} (line_within e) u)))) is h = ((l (expression_of a), e), h)
+    item x (this_one (both (line l) (both t (both {x = a} (line_within e) u)))) is h =
+        ((l.some_left (expression_of a), l.words, e), h)
     item x (that_one (this_one (both t (both (line_within e) u)))) is h = (e, h)
     item x (that_one (that_one (this_one (both (token {i = i} t) l)))) is h = (labelled_item (s i) l, h)
     item x (that_one (that_one (that_one (both (token t) u)))) is h = (tt, h)
@@ -145,5 +158,5 @@ module _ {s : Stream} where
         let m = mode_items r in
         ((marks.name i (the_one v), m.required, m.ensured), h)
     contract_item x (that_one (that_one (that_one (that_one (both occurrence
-        (both (token v) (both u (both a (both t1 (both t2 (both t3 (both w (both t4 t5))))))))))))) is h =
-        (import_arguments a, h)
+        (both (token {i = i} v) (both u (both a (both t1 (both t2 (both t3 (both w (both t4 t5))))))))))))) is h =
+        ((marks.name i (the_one v), import_names w, import_arguments a), h)

@@ -11,7 +11,7 @@ use Rattle.lus_grammar.specs.Syntax.{Syntax, present, some}
 use Rattle.lus_grammar.specs.Trees.{digits_value, expression_of, arguments_of}
 use Rattle.lus_grammar.specs.Programs.{unquoted, names_of, group_of, groups_of, parameters_of, local_group_of, local_variables_of, local_constants_of, left_of, items_of, requires_of, ensures_of, constants_of, import_arguments_of, contract_statements_of, contract_of, nodes_of, contract_nodes_of, declaration_of, program_of}
 use Rattle.lus_meaning.specs.Grammatical.{has_left_name}
-use Rattle.source_laws.proofs.Parts.{IsWord, AreWords, IsSmall, IsPlain, ArePlain, IsPrintable, IsItem, IsConstant, IsStream, IsOnClock, IsParameter, IsContractStatement, IsStatement, IsDeclaration, IsProgram}
+use Rattle.source_laws.proofs.Parts.{IsWord, AreWords, IsSmall, IsPlain, ArePlain, IsPrintable, IsItem, IsConstant, IsLocal, IsOnClock, IsParameter, IsContractStatement, IsStatement, IsDeclaration, IsProgram}
 use Rattle.source_laws.proofs.Made.{Made}
 
 -- what names, numbers and texts are in a stream
@@ -27,7 +27,7 @@ pub record AreNames (ws : List Spelled) : Type 0 where
 
 -- the streams and constants of some lines of locals
 pub record AreLocals (x : Syntax) : Type 0 where
-  pub streams : AllByRecursion IsStream (local_variables_of x)
+  pub streams : AllByRecursion IsLocal (local_variables_of x)
   pub constants : AllByRecursion IsConstant (local_constants_of x)
 
 -- what the lines of a mode require and ensure
@@ -57,9 +57,9 @@ IsLine P.Group x = (c : Option (Bool × Spelled)) → AllByRecursion (IsOnClock 
 IsLine P.Names x = AreNames (names_of x)
 IsLine P.Sort x = Unit {0}
 IsLine P.Locals x = Adds AreLocals x
-IsLine P.LocalGroup x = AllByRecursion IsStream (local_group_of x)
+IsLine P.LocalGroup x = AllByRecursion IsLocal (local_group_of x)
 IsLine P.Item x = Adds AreItems x
-IsLine P.Left x = (e : Expression) → has_left_name (equation (left_of x) e) ≡ true
+IsLine P.Left x = AreNames (left_of x)
 IsLine P.Contract x = AllByRecursion IsContractStatement (unwrap_or (contract_of (present x)) [])
 IsLine P.ContractItem x = Adds AreContractStatements x
 IsLine P.ModeItem x = Adds AreModeItems x

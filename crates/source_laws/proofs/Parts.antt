@@ -62,6 +62,15 @@ pub record IsOnClock (c : Option (Bool × Spelled)) (v : Variable) : Type 0 wher
   pub name : IsStream v
   pub clock : v.clock ≡ c
 
+-- a local's clock, where it has one
+abbrev pub IsClock : Option (Bool × Spelled) → Type 0
+IsClock None = Unit {0}
+IsClock (Some c) = IsWord c.1.text
+
+pub record IsLocal (v : Variable) : Type 0 where
+  pub name : IsStream v
+  pub clock : IsClock v.clock
+
 abbrev pub IsParameter : Variable → Type 0
 IsParameter v = IsOnClock None v
 
@@ -71,10 +80,10 @@ IsContractStatement (guarantee l) = IsItem l
 IsContractStatement (ghost_variable v e) = IsParameter v × IsPlain e
 IsContractStatement (constant c) = IsConstant c
 IsContractStatement (mode m rs es) = IsWord m.text × AllByRecursion IsItem rs × AllByRecursion IsItem es
-IsContractStatement («import» k c as_ xs) = AllByRecursion IsPlain as_
+IsContractStatement («import» k c as_ xs) = IsWord c.text × AreWords xs × AllByRecursion IsPlain as_
 
 abbrev pub IsStatement : Statement → Type 0
-IsStatement (equation xs e) = (has_left_name (equation xs e) ≡ true) × IsPlain e
+IsStatement (equation xs e) = (has_left_name (equation xs e) ≡ true) × AreWords xs × IsPlain e
 IsStatement (assertion e) = IsPlain e
 IsStatement (property l) = IsItem l
 IsStatement (main_mark p) = Unit {0}
@@ -85,7 +94,7 @@ pub record IsComponent (n : Component) : Type 0 where
   pub name : IsWord n.name.text
   pub inputs : AllByRecursion IsParameter n.inputs
   pub outputs : AllByRecursion IsParameter n.outputs
-  pub locals : AllByRecursion IsStream n.locals
+  pub locals : AllByRecursion IsLocal n.locals
   pub constants : AllByRecursion IsConstant n.constants
   pub contract : AllByRecursion IsContractStatement (contract_statements n)
   pub body : AllByRecursion IsStatement n.body

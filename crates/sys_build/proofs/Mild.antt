@@ -26,7 +26,8 @@ use Rattle.sys_build.specs.Occurring.{Kept, kept_of, operand_of}
 use Rattle.sys_build.specs.Numbering.{Numbering, numbering_of, name_number, memory_number, start_number, width_of}
 use Rattle.sys_build.specs.Flags.{Folded, known, left_open, as_formula, flag_at, operate_formulas, negated, operated, chosen, folded, formula_of}
 use Rattle.sys_build.specs.Conditions.{right_of, defined_condition, free_condition, here_conditions, memory_condition, memory_conditions, start_condition, property_formulas, boolean_system}
-use Rattle.sys_build.specs.Laws.{is_boolean, IsOfFlags, FewProperties, MildSystems, SmallSystems, SystemsOfFlags}
+use Rattle.sys_terms.specs.Boolean.{is_boolean}
+use Rattle.sys_build.specs.Laws.{IsOfFlags, FewProperties, MildSystems, SmallSystems, SystemsOfFlags}
 use Rattle.sys_meaning.specs.System.{system_of}
 use Rattle.sys_meaning.proofs.CheckedVerdicts.{checked_formulas}
 use Rattle.sys_build.proofs.Listed.{number_below}

@@ -6,7 +6,8 @@ use Rattle.lus_meaning.specs.Program.{instance_of}
 use Rattle.lus_meaning.specs.Rules.{IsWithinCounts}
 use Rattle.lus_meaning.specs.BooleanRules.{IsBooleanChecked}
 use Rattle.kind_num.specs.declared.Shape.TheVariants as shapes
-use Rattle.sys_terms.specs.View.{Formula, truth, flag, negation, both, same, choice, at_most, equal, Machine}
+use Rattle.sys_terms.specs.View.{Machine}
+use Rattle.sys_terms.specs.Boolean.{is_boolean}
 use Rattle.sys_terms.specs.Fits.{IsMild}
 use Rattle.sys_meaning.specs.System.{system_of}
 use Rattle.sys_meaning.specs.Checked.{OfChecked}
@@ -31,17 +32,6 @@ FewProperties = (p : Program) (d : Component) → IsBooleanChecked p d → IsWit
     length (system_of (instance_of p d)).properties ≤ 500
 
 -- ---- truth values alone
-
--- a term that compares no numbers
-abbrev pub is_boolean : Formula → Bool
-is_boolean (truth b) = true
-is_boolean (flag v) = true
-is_boolean (negation f) = is_boolean f
-is_boolean (both f g) = is_boolean f && is_boolean g
-is_boolean (same f g) = is_boolean f && is_boolean g
-is_boolean (choice c f g) = is_boolean c && (is_boolean f && is_boolean g)
-is_boolean (at_most a b) = false
-is_boolean (equal a b) = false
 
 -- each variable is a truth value, and no term compares numbers
 pub record IsOfFlags (m : Machine) : Type 0 where

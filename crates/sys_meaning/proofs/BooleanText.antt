@@ -12,7 +12,7 @@ use Rattle.lus_tree.specs.Numbers.{a_pre, an_arrow, body_expressions, are_counte
 use Rattle.lus_meaning.specs.Scene.{base, Instance, instance, no_instances, clock_of}
 use Rattle.lus_meaning.specs.Occurrences.{Standing, within, before, on_clock, as_side, occurs, Occurrence, occurrences, Text, statement_texts, memory_in, start_in, Memory, memories, Start, starts}
 use Rattle.lus_meaning.specs.Property.{assertions}
-use Rattle.lus_meaning.specs.Run.{equations, body_equations, sort_of}
+use Rattle.lus_meaning.specs.Run.{equations, body_equations, sort_of, Takes}
 use Rattle.lus_meaning.specs.Depends.{named_in}
 use Rattle.lus_meaning.specs.Rules.{declared_names, lefts}
 use Rattle.lus_meaning.specs.BooleanRules.{IsOfFlags, IsBooleanExpression, IsBooleanItem, IsBooleanNode, used_names, HasBooleanNames}
@@ -22,7 +22,7 @@ use Rattle.lus_meaning.proofs.Numbering.{memory_numbers, start_numbers}
 use Rattle.lus_meaning.proofs.BooleanNode.{read_in, read_texts, read_first, of_boolean_item, boolean_texts, boolean_equations, boolean_on_base}
 use Rattle.lus_meaning.proofs.BooleanFirsts.{boolean_is_flag, boolean_name_is_flag, boolean_counted}
 use Rattle.sys_meaning.specs.Items.{Key}
-use Rattle.sys_meaning.specs.WellTyped.{Takes, checked, IsNameOn, IsMemory, IsStart, HasConstant, Stands, ClockFits, right_sorts, EquationFits}
+use Rattle.sys_meaning.specs.WellTyped.{checked, IsNameOn, IsMemory, IsStart, HasConstant, Stands, ClockFits, right_sorts, EquationFits}
 use Rattle.sys_meaning.proofs.Found.{all_found}
 
 -- ---- operators

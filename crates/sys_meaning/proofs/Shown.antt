@@ -13,7 +13,7 @@ use Rattle.lus_meaning.specs.Value.{Value, absent, flag, whole, has_sort, not_va
 use Rattle.lus_meaning.specs.Scene.{Clock, sampled_by, constants_of, call_instance}
 use Rattle.lus_meaning.specs.Meaning.{constant_or}
 use Rattle.lus_meaning.specs.Program.{constant_value}
-use Rattle.lus_meaning.specs.Run.{sort_of, sort_of_name, output_sort, first_sort}
+use Rattle.lus_meaning.specs.Run.{sort_of, sort_of_name, output_sort, first_sort, Takes}
 use Rattle.lus_meaning.proofs.Typed.{apply_has, not_has, minus_has, choose_has, has_as}
 use Rattle.sys_terms.specs.View.{Formula}
 use Rattle.sys_terms.specs.Meaning.{Values, truth_of}
@@ -24,8 +24,8 @@ use Rattle.sys_meaning.specs.Part.{Part, a_flag, a_number, formula_of, fixed, va
 use Rattle.sys_meaning.specs.Translate.{Stage, name_part, name_flag, flag_at, output_part, held_part, latest_part, head_part, or_constant, constant_number, number_of_value, binary_part, mode_part, term_of, right_terms}
 use Rattle.sys_meaning.specs.Translate as tr
 use Rattle.sys_meaning.specs.Seen.{Row, Sight, seen_or, seen_output, seen_latest, seen_mode, outputs_at, head_value, seen, seen_right}
-use Rattle.sys_meaning.specs.WellTyped.{Takes, no_constant, is_declared, clock_here, NameFits, IsMemory, IsStart, IsPlainCall, IsHeldCall, HasConstant, Stands}
-use Rattle.sys_meaning.proofs.Operators.{takes_same, IsPlain, operate_worth, not_worth, minus_worth, choose_worth, scaled_worth, scaled_right, divided_worth, rest_worth}
+use Rattle.sys_meaning.specs.WellTyped.{no_constant, is_declared, clock_here, NameFits, IsMemory, IsStart, IsPlainCall, IsHeldCall, HasConstant, Stands}
+use Rattle.sys_meaning.proofs.Operators.{IsPlain, operate_worth, not_worth, minus_worth, choose_worth, scaled_worth, scaled_right, divided_worth, rest_worth}
 
 -- ---- constants
 
@@ -215,7 +215,7 @@ module _ (g : Stage) (ModeAt : Key → Type 0) (row : Row) (modes : Known Value)
         (starting k)) (shown.starts k c h.0)) (seen_has a c h.2) (has_as (sort_of g.place b) (sort_of g.place a)
         (seen sight b) h.1 (seen_has b c h.3))
     seen_has (binary p o a b) c h =
-        apply_has o (sort_of g.place a) (seen sight a) (seen sight b) (takes_same o (sort_of g.place a) h.0)
+        apply_has o (sort_of g.place a) (seen sight a) (seen sight b) h.0
         (seen_has a c h.3) (has_as (sort_of g.place b) (sort_of g.place a) (seen sight b) h.1 (seen_has b c h.4))
     seen_has (choice p a b d) c h =
         choose_has (sort_of g.place b) (seen sight a) (seen sight b) (seen sight d) (has_as

@@ -14,31 +14,13 @@ use Rattle.lus_meaning.specs.Scene.{clock_of_names}
 use Rattle.lus_meaning.specs.Program.{constant_value}
 use Rattle.lus_meaning.specs.Occurrences.{Memory, memories, Start, starts}
 use Rattle.lus_meaning.specs.Property.{assertions}
-use Rattle.lus_meaning.specs.Run.{Equation, equations, inputs_of, first_sorts, output_sort, sort_of, sort_of_name}
+use Rattle.lus_meaning.specs.Run.{Equation, equations, inputs_of, first_sorts, output_sort, sort_of, sort_of_name, Takes}
 use Rattle.lus_meaning.specs.Depends.{named_in}
 use Rattle.lus_meaning.specs.WellMade.{AreDistinct}
 use Rattle.sys_meaning.specs.Defaults.{is_constant, site_of, default_of}
 use Rattle.lus_meaning.specs.Slots.{Slot, slots}
 use Rattle.sys_meaning.specs.Slot.{Spot, beat, named, memory, starting, so_far, held, Place, spot_of, place_of, same_place, number_in, memory_of, start_of}
 use Rattle.sys_meaning.specs.Items.{Key}
-
--- the type that an operator takes
-abbrev pub Takes : Operator → Sort → Type 0
-Takes Implies s = s ≡ Flags
-Takes Or s = s ≡ Flags
-Takes Xor s = s ≡ Flags
-Takes And s = s ≡ Flags
-Takes Equal s = Unit {0}
-Takes Differs s = Unit {0}
-Takes Less s = s ≡ Numbers
-Takes AtMost s = s ≡ Numbers
-Takes AtLeast s = s ≡ Numbers
-Takes More s = s ≡ Numbers
-Takes Add s = s ≡ Numbers
-Takes Sub s = s ≡ Numbers
-Takes Mul s = s ≡ Numbers
-Takes Div s = s ≡ Numbers
-Takes Mod s = s ≡ Numbers
 
 abbrev pub count_of : Instances → ℕ
 count_of no_instances = 0

@@ -8,8 +8,8 @@ use Rattle.induction.proofs.Answers.{answer_by, refuted_by, stopped_by, breaks_s
 use Rattle.induction.proofs.Refuted.{base_of_two}
 use Rattle.induction.proofs.deciding.at_one.Goals as goal
 
-pub returns-in-Sat : goal.returns-in-Sat
-returns-in-Sat c =
+pub returns-in-Sat-clause-found : goal.returns-in-Sat-clause-found
+returns-in-Sat-clause-found c =
     let asked : is_asked (system_view c.args.system.now) (base c.args.property 0) ≡ true = search rules in
     breaks_second (system_view c.args.system.now) c.args.property c.requires.named
     c.refuted_obligations_have_no_answer.ensures c.requires.ready.mild.fit (proof_view c.args.first) c.requires.first asked
@@ -17,8 +17,8 @@ returns-in-Sat c =
     (answer_by (system_view c.args.system.now) c.args.budgets (base c.args.property 1) (states_view c.in-Sat.states.items)
     (rw c.in-Sat.is at c.in_ok-states.ensures.answer))
 
-pub returns-in-Stop : goal.returns-in-Stop
-returns-in-Stop c = (
+pub returns-in-Stop-clause-found : goal.returns-in-Stop-clause-found
+returns-in-Stop-clause-found c = (
   stops_at_second (system_view c.args.system.now) c.args.budgets c.args.property (proof_view c.args.first) c.requires.first (stop_view c.in-Stop.stop)
       (stopped_by (system_view c.args.system.now) c.args.budgets (base c.args.property 1) (stop_view c.in-Stop.stop)
       (rw c.in-Stop.is at c.in_ok-states.ensures.answer) (rw c.in-Stop.is at c.in_ok-states.ensures.stops)),
@@ -33,8 +33,8 @@ base_fact-requires-clause-base c =
     (refuted_by (system_view c.args.system.now) c.args.budgets (base c.args.property 1) (proof_view c.in-Unsat.second)
     (rw c.in-Unsat.is at c.in_ok-states.ensures.answer)))
 
-pub returns-in_ok-base_fact-in-Unsat : goal.returns-in_ok-base_fact-in-Unsat
-returns-in_ok-base_fact-in-Unsat c = (
+pub returns-in_ok-base_fact-in-Unsat-clause-found : goal.returns-in_ok-base_fact-in-Unsat-clause-found
+returns-in_ok-base_fact-in-Unsat-clause-found c = (
   (
     refl,
     (

@@ -42,11 +42,11 @@ main_counted a_call = refl
 
 part_is_plain : IsGrammaticalComponent late_part
 part_is_plain = record
-    { name = refl; names = refl; modes = refl; clocks = refl; forms = refl; lefts = refl; labels = refl; numbered = record { each = part_counted } }
+    { name = refl; names = refl; modes = refl; words = refl; clocks = refl; forms = refl; lefts = refl; labels = refl; numbered = record { each = part_counted } }
 
 main_is_plain : IsGrammaticalComponent late_main
 main_is_plain = record
-    { name = refl; names = refl; modes = refl; clocks = refl; forms = refl; lefts = refl; labels = refl; numbered = record { each = main_counted } }
+    { name = refl; names = refl; modes = refl; words = refl; clocks = refl; forms = refl; lefts = refl; labels = refl; numbered = record { each = main_counted } }
 
 pub returns-clause-grammatical : goal.returns-clause-grammatical
 returns-clause-grammatical c = (part_is_plain, (main_is_plain, tt))

@@ -1,6 +1,6 @@
 use Rattle.std.specs.Prelude.{◌≡◌, Bool, true, IsTrue}
 use Rattle.std.proofs.Common.{sym, ◌∙◌}
-use Rattle.sat_core.proofs.Sets.{has-contains}
+use Rattle.proof_checker.proofs.Sets.{has-contains}
 use Rattle.sat_core.proofs.reduction.is_marked_but.Goals as goal
 
 pub returns-else-same : goal.returns-else-same
