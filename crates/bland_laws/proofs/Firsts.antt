@@ -31,7 +31,7 @@ moved-below None u z e = absurd cc
 moved-below (Some k) u z e =
     let q : k ≡ u = same-some k u e in let m : int_min k z ≤ℤ k = grind (arith, ints) in omega (arith, ints)
 
-first-begins : (given : List (List (ℕ × ℤ))) (columns : ℕ) (b : Beginning) → IsBasis given columns b.basis → LeaveRoom b.bounds
+pub first-begins : (given : List (List (ℕ × ℤ))) (columns : ℕ) (b : Beginning) → IsBasis given columns b.basis → LeaveRoom b.bounds
     → CanBegin given columns b.bounds (first_position b)
 first-begins given columns b h room = record {
   basis = h;

@@ -70,20 +70,20 @@ fn comes_before(first: &Refusal, second: &Refusal) -> bool
 
 /// The first of the faults that were noted, by place and at one place by the number of the rule.
 #[derive(Drop)]
-pub(crate) struct Least {
-    pub(crate) fault: Option<Refusal>,
+pub struct Least {
+    pub fault: Option<Refusal>,
 }
 
 impl Least {
     /// No fault.
-    pub(crate) fn new() -> Self
+    pub fn new() -> Self
         ensures { least_view result ≡ None }
     {
         Least { fault: None }
     }
 
     /// Notes a fault.
-    pub(crate) fn note(&mut self, what: What, at: Pos)
+    pub fn note(&mut self, what: What, at: Pos)
         ensures { least_view self.new ≡ noted (least_view self.old) (fault (what_view what) at) }
     {
         let next = Refusal { at, what };
@@ -100,7 +100,7 @@ impl Least {
     }
 
     /// Notes a fault where that is so.
-    pub(crate) fn note_if(&mut self, broken: bool, what: What, at: Pos)
+    pub fn note_if(&mut self, broken: bool, what: What, at: Pos)
         ensures { least_view self.new ≡ noted_all (least_view self.old) (if_so broken (what_view what) at) }
     {
         if broken {
@@ -113,7 +113,7 @@ impl Least {
     /// # Errors
     ///
     /// A first fault, where there was one.
-    pub(crate) fn into_result(self) -> Result<(), Refusal>
+    pub fn into_result(self) -> Result<(), Refusal>
         ensures { (fs : List Refused) → IsLeast (least_view self) fs
             → MatchResult result (λ _. HasNone (Contains fs)) (λ e. IsFirst (Contains fs) (refusal_view e)) }
     {

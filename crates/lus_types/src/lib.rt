@@ -6,7 +6,7 @@ mod equation;
 mod expression;
 mod forms;
 mod found;
-mod least;
+pub mod least;
 mod lookup;
 mod notes;
 mod part;

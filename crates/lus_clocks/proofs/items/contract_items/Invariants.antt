@@ -1,0 +1,12 @@
+use Rattle.std.proofs.Common.{◌≡◌, drop, map, flat_map}
+use Rattle.lus_tree.specs.View.{contract_item_view}
+use Rattle.lus_clocks.specs.Items.{contract_statement_walk}
+use Rattle.lus_clocks.specs.Names.{names_view}
+use Rattle.lus_types.specs.Least.{least_view, noted_all}
+use Rattle.lus_clocks.proofs.items.contract_items.Given as goal
+
+-- what was noted, followed by what is to come, is all
+abbrev pub invariant-loop-item : goal.invariant-loop-item
+invariant-loop-item l = noted_all (least_view l.least)
+    (flat_map (contract_statement_walk (names_view l.names)) (map contract_item_view (drop l.item-index l.items)))
+    ≡ noted_all (least_view l.initial.least) (flat_map (contract_statement_walk (names_view l.names)) (map contract_item_view l.items))

@@ -1,0 +1,12 @@
+use Rattle.std.proofs.Common.{arith, ◌∙◌}
+use Rattle.lus_tree.specs.View.{item_view}
+use Rattle.lus_clocks.specs.Items.{statement_walk}
+use Rattle.lus_clocks.specs.Names.{names_view}
+use Rattle.lus_types.specs.Least.{least_view}
+use Rattle.lus_clocks.proofs.Sides.{one_more}
+use Rattle.lus_clocks.proofs.items.statements.Goals as goal
+
+pub loop-item-preserved : goal.loop-item-preserved
+loop-item-preserved c = one_more (statement_walk (names_view c.args.names)) item_view
+    c.args.items.now c.loop-item.item-index c.item-item.result (least_view c.loop-item.least)
+    (least_view c.statement.new.least) (omega arith) c.item-item.is c.statement.ensures ∙ c.loop-item.invariant
