@@ -17,7 +17,7 @@ use Rattle.int_simplex.specs.Crossing.{IsCross, IsCrossPast, IsRowPast, IsReduce
 use Rattle.int_simplex.specs.Sparse.{IsFrom, IsSparse, head_at, rest_at, first_column}
 use Rattle.int_simplex.specs.Making.{IsMadeTo}
 use Rattle.int_simplex.proofs.Sparse.{same_if, other_if, entry_below, entry_past, head_is, rest_from, rest_same, first_from, listed_entry, sparse_more, sparse_wider, lower_start, entry_more, entry_last}
-use Rattle.int_simplex.proofs.Algebra.{difference_zero}
+use Rattle.int_simplex.proofs.Algebra.{product_zero, difference_zero, difference_swapped}
 
 pub cross_sub : (p q a b l r : ℤ) (o : Result ℤ Past) → IsExact Sub l r (l -ℤ r) o → l ≡ p *ℤ a → r ≡ q *ℤ b → IsCross p q a b o
 cross_sub p q a b l r (Ok z) (w, e) el er = e ∙ ap (λ x. x -ℤ r) el ∙ ap (λ x. p *ℤ a -ℤ x) er
@@ -129,6 +129,8 @@ reduced_pivoted n c row other made new h r =
     let s : IsSparse n new = unscaled 0 n r.factor new (let P : List (ℕ × ℤ) → Type 0 = λ z. IsSparse n z in subst P (sym r.multiples) h.sparse) in
     record {
       sparse = s;
+      gone = product_zero (pos r.factor) (entry new c) (λ e. r.factor_not_zero (unpos e))
+          (sym (entry-scaled r.factor new c) ∙ ap (λ z. entry z c) r.multiples ∙ h.same c ∙ difference_swapped (entry other c) (entry row c));
       crossing = λ k m. record {
         factor = pos r.factor;
         factor_not_zero = λ e. r.factor_not_zero (unpos e);
@@ -145,6 +147,7 @@ pub empty_pivoted : (n c : ℕ) (row other made : List (ℕ × ℤ)) → made �
     → IsPivoted n c row other made
 empty_pivoted n c row other made e h = record {
   sparse = h.sparse;
+  gone = h.same c ∙ difference_swapped (entry other c) (entry row c);
   crossing = λ k m. absurd (m (sym (h.same k) ∙ ap (λ z. entry z k) e));
 }
 

@@ -20,6 +20,7 @@ pub mod Tables
 pub mod Certificates
 pub mod Stops
 pub mod Turns
+pub mod Touched
 pub mod Walks
 pub mod Ends
 pub mod Asserts
@@ -37,6 +38,7 @@ pub mod Places
 pub mod Sparse
 pub mod Kept
 pub mod Crossings
+pub mod Holding
 pub mod Sorting
 pub mod OnRows
 pub mod Calls

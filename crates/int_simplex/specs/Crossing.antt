@@ -60,8 +60,9 @@ pub record IsCrossed (c : ℕ) (l e new : ℕ → ℤ) : Type 0 where
   pub entries : (k : ℕ) → l c *ℤ e k -ℤ e c *ℤ l k ≡ factor *ℤ new k
   pub coprime : (d : ℕ) → ((k : ℕ) → d ∣ unsigned_abs (new k)) → d ≡ 1
 
--- p times the row less q times the other, without its common factor; zeros alone stay
+-- p times the row less q times the other, without its common factor; zeros alone stay. The column is gone
 pub record IsPivoted (n c : ℕ) (row other new : List (ℕ × ℤ)) : Type 0 where
   pub sparse : IsSparse n new
+  pub gone : entry new c ≡ pos 0
   pub crossing : (k : ℕ) → crossed (entry other c) (entry row c) row other k ≢ pos 0
       → IsCrossed c (entry other) (entry row) (entry new)

@@ -11,6 +11,7 @@ pub mod Stopping
 pub mod Sparse
 pub mod Making
 pub mod Crossing
+pub mod Holding
 pub mod Pivoting
 pub mod Valued
 pub mod Choosing

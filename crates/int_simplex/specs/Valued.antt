@@ -58,6 +58,13 @@ pub record AreValues (basis : List ℕ) (rows : List (List (ℕ × ℤ))) (place
   pub inside : (k x : ℕ) (r : List (ℕ × ℤ)) → slice_get basis k ≡ Some x → slice_get rows k ≡ Some r
       → (v : ℤ × ℤ) × (slice_get values x ≡ Some v) × IsRowValue (length places) x (place_at places) r v
 
+-- the same but for the rows at these places
+pub record AreValuesBut (basis : List ℕ) (rows : List (List (ℕ × ℤ))) (places : List ℤ) (values : List (ℤ × ℤ)) (touched : List ℕ) : Type 0 where
+  pub count : length values ≡ length places
+  pub outside : (c : ℕ) (z : ℤ) → (Contains basis c → ⊥) → slice_get places c ≡ Some z → slice_get values c ≡ Some (z, pos 1)
+  pub inside : (k x : ℕ) (r : List (ℕ × ℤ)) → (Contains touched k → ⊥) → slice_get basis k ≡ Some x → slice_get rows k ≡ Some r
+      → (v : ℤ × ℤ) × (slice_get values x ≡ Some v) × IsRowValue (length places) x (place_at places) r v
+
 -- the operation is one over a row and the first given row
 abbrev pub IsValuesPast : List (List (ℕ × ℤ)) → List ℕ → List (List (ℕ × ℤ)) → (ℕ → ℤ) → Stopped → Type 0
 IsValuesPast given basis rows places (s.Memory e) = Unit

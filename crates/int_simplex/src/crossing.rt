@@ -64,21 +64,21 @@ fn crossed_number(p: i128, a: i128, q: i128, b: i128) -> Result<i128, Past>
     sub(left, right)
 }
 
-fn lesser(left: u32, right: u32) -> u32
+pub(crate) fn lesser(left: u32, right: u32) -> u32
     ensures { result ≡ min left right }
 {
     if left < right { left } else { right }
 }
 
 // The column at the place, or `columns` past the end.
-fn column_at(row: &[(u32, i128)], i: usize, columns: u32) -> u32
+pub(crate) fn column_at(row: &[(u32, i128)], i: usize, columns: u32) -> u32
     ensures { result ≡ first_column (drop i row.now) columns }
 {
     if i < row.len() { row[i].0 } else { columns }
 }
 
 // The number at the place, if the column stands there.
-fn number_at(row: &[(u32, i128)], i: usize, column: u32) -> i128
+pub(crate) fn number_at(row: &[(u32, i128)], i: usize, column: u32) -> i128
     ensures { result ≡ head_at (drop i row.now) column }
 {
     if i < row.len() && row[i].0 == column {
@@ -89,7 +89,7 @@ fn number_at(row: &[(u32, i128)], i: usize, column: u32) -> i128
 }
 
 // The place after that of the column, if it stands at this one.
-fn place_after(row: &[(u32, i128)], i: usize, column: u32) -> usize
+pub(crate) fn place_after(row: &[(u32, i128)], i: usize, column: u32) -> usize
     requires { i ≤ length row.now }
     ensures rest { drop result row.now ≡ rest_at (drop i row.now) column }
     ensures within { result ≤ length row.now }

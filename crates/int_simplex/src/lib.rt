@@ -7,6 +7,7 @@ mod answers;
 mod bounds;
 mod choosing;
 mod crossing;
+mod holders;
 pub mod laws;
 mod making;
 mod moving;

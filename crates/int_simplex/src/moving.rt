@@ -2,7 +2,8 @@ ghost use Rattle.std.specs.Prelude.{List, ◌≡◌, Contains, IfOk, IfErr, leng
 ghost use lib.IntN.{ℤ};
 ghost use Rattle.proof_steps.specs.View.{row_view};
 ghost use Rattle.int_simplex.specs.State.{Standing};
-ghost use Rattle.int_simplex.specs.Running.{IsKept, AreTables, IsMove, IsTurnOf, IsCrossing, IsReady, IsStopped, ArePlacesOf, AreLimitsOf, at as at_place};
+ghost use Rattle.int_simplex.specs.Holding.{lists_of, AreListed};
+ghost use Rattle.int_simplex.specs.Running.{IsKept, AreTables, IsMove, IsTurnOf, IsCrossing, IsStopped, ArePlacesOf, AreLimitsOf, at as at_place};
 ghost use Rattle.proof_steps.specs.Pivots.{exchanged};
 ghost use Rattle.std.specs.Prelude.{slice_set};
 
@@ -11,7 +12,7 @@ use crate::choosing::{Exit, entering, leaving};
 use crate::pivoting::turn_rows;
 use crate::refuting::farkas_of;
 use crate::trouble::Stopped;
-use crate::values::values_of;
+use crate::values::update_values;
 use std::alloc::Global;
 
 // What Bland's rule does next.
@@ -65,25 +66,29 @@ pub(crate) fn turn(
     given: &[Vec<(u32, i128)>],
     basis: &mut Vec<u32>,
     rows: &mut Vec<Vec<(u32, i128)>>,
+    lists: &mut Vec<Vec<usize>>,
     values: &mut Vec<(i128, i128)>,
     places: &mut Vec<i128>,
     out: Exit,
     column: u32,
 ) -> Result<(), Stopped>
-    requires ready { IsReady (map row_view given.now) (length places.old.items) basis.old.items
-        (map row_view rows.old.items) }
+    requires kept { IsKept (map row_view given.now) (length places.old.items) basis.old.items
+        (map row_view rows.old.items) places.old.items values.old.items }
+    requires listed { AreListed columns (map row_view rows.old.items) (lists_of lists.old.items) }
     requires turn { IsCrossing basis.old.items (map row_view rows.old.items) (length places.old.items) out column }
     requires columns { columns ≡ length places.old.items }
     ensures kept { IfOk result (λ _. IsKept (map row_view given.now) (length places.old.items) basis.new.items
         (map row_view rows.new.items) places.new.items values.new.items) }
+    ensures listed { IfOk result (λ _. AreListed columns (map row_view rows.new.items) (lists_of lists.new.items)) }
     ensures basis { IfOk result (λ _. basis.new.items ≡ map (exchanged out.column column) basis.old.items) }
     ensures places { IfOk result (λ _. places.new.items ≡ slice_set places.old.items out.column out.limit) }
     ensures past { IfErr result (λ e. (numbers : List ℤ) → ArePlacesOf numbers places.old.items
         → Contains numbers out.limit → IsStopped (map row_view given.now) (length places.old.items) numbers e) }
 {
-    turn_rows(alloc, columns, rows, out.at, column)?;
+    let touched = turn_rows(alloc, columns, rows, lists, out.at, column)?;
     basis[out.at] = column;
     places[out.column as usize] = out.limit;
-    *values = values_of(alloc, given, basis, rows, places)?;
+    values[out.column as usize] = (out.limit, 1);
+    update_values(alloc, given, basis, rows, places, &touched, values)?;
     Ok(())
 }

@@ -7,6 +7,7 @@ ghost use Rattle.proof_steps.specs.Pivots.{raised, lowered};
 ghost use Rattle.int_simplex.specs.State.{Standing, plain, outside_from};
 ghost use Rattle.int_simplex.specs.Choosing.{bare};
 ghost use Rattle.int_simplex.specs.Inner.{standing};
+ghost use Rattle.int_simplex.specs.Holding.{lists_of, AreListed};
 ghost use Rattle.int_simplex.specs.Running.{IsKept, IsReady, AreTables, AreFirst, IsStopped, IsWalked, IsAnswer, ArePlacesOf, AreLimitsOf, at as at_place};
 
 use crate::answers::Farkas;
@@ -129,12 +130,14 @@ pub(crate) fn walk(
     uppers: &[Option<(i128, u32)>],
     basis: &mut Vec<u32>,
     rows: &mut Vec<Vec<(u32, i128)>>,
+    lists: &mut Vec<Vec<usize>>,
     values: &mut Vec<(i128, i128)>,
     places: &mut Vec<i128>,
     pivots: u64,
 ) -> Result<Walked, Stopped>
     requires ready { IsReady (map row_view given.now) (length lowers.now) basis.old.items
         (map row_view rows.old.items) }
+    requires listed { AreListed columns (map row_view rows.old.items) (lists_of lists.old.items) }
     requires places { length places.old.items ≡ length lowers.now }
     requires uppers { length uppers.now ≡ length lowers.now }
     requires columns { columns ≡ length lowers.now }
@@ -144,6 +147,8 @@ pub(crate) fn walk(
         places.new.items w) }
     ensures kept { IfOk result (λ w. IsAnswer w → IsKept (map row_view given.now)
         (length lowers.now) basis.new.items (map row_view rows.new.items) places.new.items values.new.items) }
+    ensures listed { IfOk result (λ w. IsAnswer w → AreListed columns (map row_view rows.new.items)
+        (lists_of lists.new.items)) }
     ensures past { IfErr result (λ e. (numbers : List ℤ) → ArePlacesOf numbers places.old.items
         → AreLimitsOf numbers lowers.now uppers.now → IsStopped (map row_view given.now)
         (length lowers.now) numbers e) }
@@ -160,7 +165,7 @@ pub(crate) fn walk(
                 }
                 left -= 1;
                 turn(
-                    alloc, columns, given, basis, rows, values, places, out, column,
+                    alloc, columns, given, basis, rows, lists, values, places, out, column,
                 )?;
             }
         }

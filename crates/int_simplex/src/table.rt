@@ -9,6 +9,7 @@ ghost use Rattle.int_simplex.specs.Answers.{IsNew, IsAsserted, IsCheckup, IsAnsw
 
 use crate::answers::{BoundFault, Checkup, Farkas, TableauFault};
 use crate::bounds::{is_across, place_in, tighter, undo};
+use crate::holders::listed;
 use crate::making::{first_basis, open_limits, row_copies, sorted_rows};
 use crate::refuting::literal_of;
 use crate::run::{Walked, first_places, start_of, walk};
@@ -33,6 +34,8 @@ pub struct Tableau {
     columns: u32,
     basis: Vec<u32>,
     rows: Vec<Vec<(u32, i128)>>,
+    // For each column the places of the rows that hold it.
+    lists: Vec<Vec<usize>>,
     values: Vec<(i128, i128)>,
     trail: Vec<Asserted>,
     lowers: Vec<Option<(i128, u32)>>,
@@ -65,6 +68,7 @@ impl Tableau {
         let given = row_copies(alloc, rows)?;
         let basis = first_basis(alloc, rows)?;
         let rows = sorted_rows(alloc, rows, columns)?;
+        let lists = listed(alloc, columns, &rows)?;
         let values = vec![in alloc; (0, 1); columns as usize]?;
         let lowers = open_limits(alloc, columns)?;
         let uppers = open_limits(alloc, columns)?;
@@ -73,6 +77,7 @@ impl Tableau {
             columns,
             basis,
             rows,
+            lists,
             values,
             trail: Vec::new(alloc),
             lowers,
@@ -215,6 +220,7 @@ impl Tableau {
             &self.uppers,
             &mut self.basis,
             &mut self.rows,
+            &mut self.lists,
             &mut self.values,
             &mut places,
             pivots,

@@ -8,7 +8,7 @@ ghost use Rattle.proof_steps.specs.Rows.{entry, rest_below, AllDiffer};
 ghost use Rattle.int_simplex.specs.Sparse.{IsSparse};
 ghost use Rattle.int_simplex.specs.Points.{IsFraction};
 ghost use Rattle.int_simplex.specs.Given.{IsWithin};
-ghost use Rattle.int_simplex.specs.Valued.{place_at, rest_in, IsTermPast, IsRestPast, IsValuePast, IsRowValue, AreValues, IsValuesPast};
+ghost use Rattle.int_simplex.specs.Valued.{place_at, rest_in, IsTermPast, IsRestPast, IsValuePast, IsRowValue, AreValues, AreValuesBut, IsValuesPast};
 
 use crate::crossing::divided;
 use crate::making::entry_in;
@@ -105,4 +105,36 @@ pub(crate) fn values_of(
         }
     }
     Ok(values)
+}
+
+// The values after a change of the rows at these places: those of the others are what they were.
+pub(crate) fn update_values(
+    alloc: Global,
+    given: &[Vec<(u32, i128)>],
+    basis: &[u32],
+    rows: &[Vec<(u32, i128)>],
+    places: &[i128],
+    touched: &[usize],
+    values: &mut Vec<(i128, i128)>,
+) -> Result<(), Stopped>
+    requires count { length rows.now ≡ length basis.now }
+    requires given { length given.now ≡ length basis.now }
+    requires different { AllDiffer basis.now }
+    requires in_range { All (λ c. c < length places.now) basis.now }
+    requires sparse { (k : ℕ) (r : List (ℕ × ℤ)) → slice_get (map row_view rows.now) k ≡ Some r → IsSparse
+        (length places.now) r }
+    requires touched { All (λ k. k < length basis.now) touched.now }
+    requires others { AreValuesBut basis.now (map row_view rows.now) places.now values.old.items touched.now }
+    ensures values { IfOk result (λ _. AreValues basis.now (map row_view rows.now) places.now values.new.items) }
+    ensures past { IfErr result (IsValuesPast (map row_view given.now) basis.now (map row_view rows.now)
+        (place_at places.now)) }
+{
+    for i in 0..touched.len() {
+        let k = touched[i];
+        match value_in(&rows[k], basis[k], places) {
+            Ok(v) => values[basis[k] as usize] = v,
+            Err(past) => return Err(past_over(alloc, &rows[k], &given[0], past)),
+        }
+    }
+    Ok(())
 }

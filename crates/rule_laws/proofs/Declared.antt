@@ -5,7 +5,7 @@ use Rattle.std.specs.List.{AllByRecursion, prefix_len}
 use Rattle.lus_tree.specs.Tree.{Variable, Constant, ContractStatement, assume, guarantee, ghost_variable, constant, mode, «import», Component}
 use Rattle.lus_meaning.specs.Scene.{ghosts, contract_statements, variables}
 use Rattle.lus_meaning.specs.Program.{contract_statement_constants}
-use Rattle.lus_meaning.specs.Scope.{Role, a_local, Declared, a_stream, a_fixed, contract_statement_names, word_of, is_before, interleaved, local_names, declared_in, an_input, an_output}
+use Rattle.lus_meaning.specs.Scope.{Role, a_local, a_ghost, Declared, a_stream, a_fixed, contract_statement_names, word_of, is_before, interleaved, local_names, declared_in, an_input, an_output}
 use Rattle.lus_meaning.proofs.Lists.{both_parts}
 use Rattle.lus_meaning.proofs.Now.{left_part, right_part}
 use Rattle.rule_laws.proofs.Constants.{fixed_of}
@@ -121,3 +121,36 @@ module _ (P : Declared → Type 0) (fixed : (c : Constant) → P (a_fixed c)) wh
       (of_contract_statements (contract_statements n) (right_part AnyRole (n.inputs ++ n.outputs ++ n.locals)
       (ghosts (contract_statements n)) a))
       (local_all P n.locals (map a_fixed n.constants) (of_local n.locals (right_part AnyRole (n.inputs ++ n.outputs) n.locals front)) (of_fixed n.constants))))
+
+  all_of_role : (r : Role) → ((v : Variable) → P (a_stream r v)) → (vs : List Variable) → AllByRecursion P (map (a_stream r) vs)
+  all_of_role r f [] = tt
+  all_of_role r f (v ∷ vs) = (f v, all_of_role r f vs)
+
+  all_local : ((v : Variable) → P (a_stream a_local v)) → (vs : List Variable) → AllByRecursion (λ v. P (a_stream a_local v)) vs
+  all_local f [] = tt
+  all_local f (v ∷ vs) = (f v, all_local f vs)
+
+  each_output : (vs : List Variable) → AllByRecursion (λ v. P (a_stream an_output v)) vs → AllByRecursion P (map (a_stream an_output) vs)
+  each_output [] a = tt
+  each_output (v ∷ vs) a = (a.0, each_output vs a.1)
+
+  all_ghosts : ((v : Variable) → P (a_stream a_ghost v)) → (cs : List ContractStatement) → AllByRecursion P (flat_map contract_statement_names cs)
+  all_ghosts f [] = tt
+  all_ghosts f (assume l ∷ cs) = all_ghosts f cs
+  all_ghosts f (guarantee l ∷ cs) = all_ghosts f cs
+  all_ghosts f (ghost_variable v e ∷ cs) = (f v, all_ghosts f cs)
+  all_ghosts f (constant c ∷ cs) = (fixed c, all_ghosts f cs)
+  all_ghosts f (mode m rs es ∷ cs) = all_ghosts f cs
+  all_ghosts f («import» k c as_ ws ∷ cs) = all_ghosts f cs
+
+  -- what holds of each name that is no output, and of the outputs
+  pub of_outputs : (n : Component) → ((v : Variable) → P (a_stream an_input v)) → ((v : Variable) → P (a_stream a_ghost v))
+      → ((v : Variable) → P (a_stream a_local v)) → AllByRecursion (λ v. P (a_stream an_output v)) n.outputs → AllByRecursion P (declared_in n)
+  of_outputs n f g k a =
+      both_parts P (map (a_stream an_input) n.inputs) (map (a_stream an_output) n.outputs ++
+      (flat_map contract_statement_names (contract_statements n) ++ local_names n))
+      (all_of_role an_input f n.inputs)
+      (both_parts P (map (a_stream an_output) n.outputs) (flat_map contract_statement_names (contract_statements n) ++ local_names n)
+      (each_output n.outputs a)
+      (both_parts P (flat_map contract_statement_names (contract_statements n)) (local_names n) (all_ghosts g (contract_statements n))
+      (local_all P n.locals (map a_fixed n.constants) (all_local k n.locals) (of_fixed n.constants))))

@@ -1,3 +1,4 @@
+pub mod Truths
 pub mod Lists
 pub mod Reached
 pub mod Callees
@@ -10,3 +11,15 @@ pub mod Tables
 pub mod Numbered
 pub mod Places
 pub mod Known
+pub mod Parts
+pub mod Fitted
+pub mod ValuesTyped
+pub mod Texts
+pub mod Covered
+pub mod Goods
+pub mod SameModes
+pub mod TypedFrames
+pub mod TypedModes
+pub mod Items
+pub mod ConstantsTyped
+pub mod PropertiesTyped

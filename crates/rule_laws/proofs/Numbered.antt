@@ -1,23 +1,20 @@
 -- What is numbered from 1 on stands at the place of its number.
-use Rattle.std.proofs.Common.{◌≡◌, ℕ, zero, suc, ◌<◌, ◌≤◌, ◌+◌, Bool, true, false, cond, ◌&&◌, eqb, List, [], ◌∷◌, ◌++◌, map, flat_map, length, Some, refl, sym, ap, ◌∙◌, subst, arith}
+use Rattle.std.proofs.Common.{◌≡◌, ℕ, zero, suc, ◌<◌, ◌≤◌, ◌+◌, Bool, true, false, cond, eqb, List, [], ◌∷◌, ◌++◌, map, flat_map, length, Some, refl, sym, ap, ◌∙◌, subst, arith}
 use Rattle.std.specs.Prelude.{◌==◌, pred, option_to_list}
 use Rattle.std.specs.List.{AllByRecursion, find, list_all}
 use Rattle.std.proofs.Math.Logic.{◌⊎◌, inl, inr}
-use Rattle.std.proofs.lemmas.Bool.{false≢true, eq-eqb, ne_eqb, eqb-true, eqb-false, cases_Bool}
+use Rattle.std.proofs.lemmas.Bool.{eq-eqb, ne_eqb, eqb-true, eqb-false, cases_Bool}
 use Rattle.lus_tree.specs.Numbers.{counting, times, are_counted}
 use Rattle.lus_meaning.specs.Program.{in_order}
 use Rattle.lus_meaning.proofs.InOrder.{counted_within}
 use Rattle.lus_meaning.proofs.Lists.{all_from, all_from_both, mapped_all}
+use Rattle.rule_laws.proofs.Truths.{both_true}
 
 -- x stands at that place, counted from 0
 abbrev pub At : {A : Type 0} → List A → ℕ → A → Type 0
 At [] k x = ⊥
 At (y ∷ ys) zero x = y ≡ x
 At (y ∷ ys) (suc k) x = At ys k x
-
-both_true : (a b : Bool) → (a && b) ≡ true → (a ≡ true) × (b ≡ true)
-both_true true b e = (refl, e)
-both_true false b e = absurd (false≢true e)
 
 -- a test of all numbers from m on
 at_counting : (test : ℕ → Bool) (n m k : ℕ) → list_all test (counting m n) ≡ true → m ≤ k → k < m + n → test k ≡ true
@@ -127,6 +124,7 @@ module _ {A : Type 0} (at : A → ℕ) where
   pub record InPlace (xs : List A) (x : A) : Type 0 where
     pub positive : 1 ≤ at x
     pub place : At (in_order at xs) (pred (at x)) x
+    pub found : find (λ y. at y == at x) xs ≡ Some x
 
   counted_once : (xs : List A) → are_counted (map at xs) ≡ true → (k : ℕ) → 1 ≤ k → k < 1 + length xs → times k (map at xs) ≡ 1
   counted_once xs c k a b =
@@ -150,7 +148,7 @@ module _ {A : Type 0} (at : A → ℕ) where
       let once : AllByRecursion (λ x. times (at x) (map at xs) ≤ 1) xs = all_from (λ x. (1 ≤ at x) × (at x < 1 + length xs))
       (λ x. times (at x) (map at xs) ≤ 1) (λ x b. few x b.0 b.1) xs within in
       all_from_both (λ x. (1 ≤ at x) × (at x < 1 + length xs)) (λ x. find (λ y. at y == at x) xs ≡ Some x) (InPlace xs)
-      (λ x b f. record { positive = b.0; place = at_its_number xs x (at x) each b.0 b.1 f }) xs within (found_once xs once)
+      (λ x b f. record { positive = b.0; place = at_its_number xs x (at x) each b.0 b.1 f; found = f }) xs within (found_once xs once)
     where
       few : (x : A) → 1 ≤ at x → at x < 1 + length xs → times (at x) (map at xs) ≤ 1
       few x a b = let t : times (at x) (map at xs) ≡ 1 = counted_once xs c (at x) a b in omega arith

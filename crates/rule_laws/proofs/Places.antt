@@ -1,18 +1,18 @@
 -- In a checked program call occurrences and first values stand at their numbers.
-use Rattle.std.proofs.Common.{cond, ◌≡◌, ℕ, zero, suc, ◌≤◌, Bool, true, false, ◌&&◌, List, [], ◌∷◌, ◌++◌, map, flat_map, Option, Some, refl, sym, ap, ◌∙◌, subst, arith}
+use Rattle.std.proofs.Common.{cond, ◌≡◌, ℕ, zero, suc, ◌≤◌, Bool, true, false, List, [], ◌∷◌, ◌++◌, map, flat_map, Option, Some, refl, sym, ap, ◌∙◌, subst, arith}
 use Rattle.std.specs.Prelude.{Contains, pred, slice_index_or}
 use Rattle.std.specs.List.{AllByRecursion}
 use Rattle.std.specs.Str.{bytes_eq}
 use Rattle.std.proofs.lemmas.Bool.{false≢true}
 use Rattle.lus_tree.specs.declared.place.Sort.{Sort}
 use Rattle.lus_tree.specs.Tree.{Expression, truth, number, name, negation, minus, pre, arrow, binary, choice, sampled, merged, call, condact, mode_name, ContractStatement, assume, guarantee, ghost_variable, constant, mode, «import», Component, declared_constant, declared_node, declared_contract, Program}
-use Rattle.lus_tree.specs.Numbers.{a_pre, a_call, pre_number, call_number, all_numbers, import_number, numbers_in, are_counted, IsNumbered}
+use Rattle.lus_tree.specs.Numbers.{a_pre, an_arrow, a_call, arrow_number, pre_number, call_number, all_numbers, import_number, numbers_in, are_counted, IsNumbered}
 use Rattle.lus_meaning.specs.Value.{Value, absent, has_sort}
 use Rattle.lus_meaning.specs.Frame.{firsts_of}
 use Rattle.lus_meaning.specs.Scene.{Site, Instance, Instances, instance, no_instances, with_instance, component_of, calls_of, instance_at, call_instance, called_among, contract_statements}
 use Rattle.lus_meaning.specs.Program.{site_in, import_site, all_sites, component_named, in_order, instance_of}
 use Rattle.lus_meaning.specs.Run.{sort_of, have_sorts}
-use Rattle.lus_meaning.specs.Occurrences.{Standing, Memory, gathered, memories}
+use Rattle.lus_meaning.specs.Occurrences.{Standing, Memory, gathered, memories, starts}
 use Rattle.lus_meaning.specs.Scope.{node_named, contract_named}
 use Rattle.lus_meaning.specs.NameFaults.{is_declared}
 use Rattle.lus_meaning.specs.ClockFaults.{components}
@@ -23,21 +23,22 @@ use Rattle.lus_meaning.proofs.Unique.{same_bytes}
 use Rattle.lus_meaning.proofs.Lists.{append_none, map_append}
 use Rattle.lus_meaning.proofs.NamesOnce.{at_one}
 use Rattle.lus_meaning.proofs.Now.{left_part, right_part}
-use Rattle.lus_meaning.proofs.Numbering.{numbers_gathered, memory_numbers}
-use Rattle.rule_laws.specs.Laws.{IsUnfolded, AreUnfolded, site_at, HasItsPlace, CallsInPlace, ImportsInPlace, FirstsInPlace}
+use Rattle.lus_meaning.proofs.Numbering.{numbers_gathered, memory_numbers, start_numbers}
+use Rattle.rule_laws.specs.Laws.{IsUnfolded, AreUnfolded, site_at, HasItsPlace, CallsInPlace, ImportsInPlace, FirstsInPlace, MemoriesFound, StartsFound}
 use Rattle.rule_laws.proofs.Callees.{each_call, each_import, where_is_named}
 use Rattle.rule_laws.proofs.Numbered.{At, InPlace, all_in_place}
 use Rattle.rule_laws.proofs.Unfolded.{component_within, each_unfolded}
+use Rattle.rule_laws.proofs.Truths.{both_true}
 
 -- ---- numbers
 
-all_grammatical : (ds : Program) → AllByRecursion IsGrammaticalDeclaration ds → AllByRecursion IsGrammaticalComponent (components ds)
+pub all_grammatical : (ds : Program) → AllByRecursion IsGrammaticalDeclaration ds → AllByRecursion IsGrammaticalComponent (components ds)
 all_grammatical [] a = tt
 all_grammatical (declared_constant c ∷ ds) a = all_grammatical ds a.1
 all_grammatical (declared_node n ∷ ds) a = (a.0, all_grammatical ds a.1)
 all_grammatical (declared_contract n ∷ ds) a = (a.0.0, all_grammatical ds a.1)
 
-numbered : (p : Program) → IsGrammatical p → (n : Component) → Contains (components p) n → IsNumbered n
+pub numbered : (p : Program) → IsGrammatical p → (n : Component) → Contains (components p) n → IsNumbered n
 numbered p g n i = (at_one IsGrammaticalComponent (components p) n (all_grammatical p g) i).numbered
 
 no_imports : (cs : List ContractStatement) → flat_map (import_number a_pre) cs ≡ []
@@ -94,6 +95,31 @@ sites_counted n k =
     subst (λ xs. are_counted xs ≡ true) (sym (map_append (λ (c : Site). c.number) (gathered site_in n)
     (flat_map import_site (contract_statements n)) ∙ both)) (k.each a_call)
 
+no_started_imports : (cs : List ContractStatement) → flat_map (import_number an_arrow) cs ≡ []
+no_started_imports [] = refl
+no_started_imports (assume l ∷ cs) = no_started_imports cs
+no_started_imports (guarantee l ∷ cs) = no_started_imports cs
+no_started_imports (ghost_variable x e ∷ cs) = no_started_imports cs
+no_started_imports (constant c ∷ cs) = no_started_imports cs
+no_started_imports (mode m rs es ∷ cs) = no_started_imports cs
+no_started_imports («import» k f as_ xs ∷ cs) = no_started_imports cs
+
+starts_counted : (n : Component) → IsNumbered n → are_counted (map (λ m. m.number) (starts n)) ≡ true
+starts_counted n k =
+    let same : numbers_in an_arrow n ≡ map (λ m. m.number) (starts n) = ap (λ xs. all_numbers arrow_number n ++ xs)
+    (no_started_imports (contract_statements n)) ∙ append_none (all_numbers arrow_number n) ∙ sym (start_numbers n) in
+    subst (λ xs. are_counted xs ≡ true) same (k.each an_arrow)
+
+-- ---- found by their numbers
+
+pub memories_found : MemoriesFound
+memories_found p c n i m j = (at_one (InPlace (λ x. x.number) (memories n)) (memories n) m
+    (all_in_place (λ x. x.number) (memories n) (memories_counted n (numbered p c.grammatical n i))) j).found
+
+pub starts_found : StartsFound
+starts_found p c n i a j = (at_one (InPlace (λ x. x.number) (starts n)) (starts n) a
+    (all_in_place (λ x. x.number) (starts n) (starts_counted n (numbered p c.grammatical n i))) j).found
+
 -- ---- calls
 
 -- the instance at the place of a call occurrence
@@ -126,7 +152,7 @@ first_call p (c ∷ ss) (with_instance d i is) (suc k) s u a = go (bytes_eq s.ca
 calls_unfolded : (p : Program) (i : Instance) (n : Component) → component_of i ≡ n → IsUnfolded p i → AreUnfolded p (all_sites n) (calls_of i)
 calls_unfolded p (instance m cs is) n e u = subst (λ k. AreUnfolded p (all_sites k) is) e u.1
 
-by_number : (i : Instance) (k : ℕ) → 1 ≤ k → instance_at (calls_of i) (pred k) ≡ call_instance i k
+pub by_number : (i : Instance) (k : ℕ) → 1 ≤ k → instance_at (calls_of i) (pred k) ≡ call_instance i k
 by_number i zero l = absurd (omega arith)
 by_number i (suc k) l = refl
 
@@ -171,10 +197,6 @@ imports_in_place p c n i s h =
     (at_one (Placed n) (flat_map import_site (contract_statements n)) s places h)
 
 -- ---- first values
-
-both_true : (a b : Bool) → (a && b) ≡ true → (a ≡ true) × (b ≡ true)
-both_true true b e = (refl, e)
-both_true false b e = absurd (false≢true e)
 
 sorted_at : (sort : Memory → Sort) (ms : List Memory) (vs : List Value) (k : ℕ) (m : Memory) → have_sorts (map sort ms) vs ≡ true
     → At ms k m → has_sort (sort m) (slice_index_or vs k absent) ≡ true

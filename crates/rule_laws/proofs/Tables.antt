@@ -10,12 +10,12 @@ use Rattle.lus_tree.specs.declared.place.Sort.TheVariants.{Bool as Flags, Int as
 use Rattle.lus_tree.specs.Tree.{Name, text_of, Spelled, Variable, Constant, Component, declared_constant, declared_node, declared_contract, Program}
 use Rattle.lus_tree.specs.Reason.{Reason, name_twice}
 use Rattle.lus_meaning.specs.Value.{Value, absent, flag, whole, has_sort}
-use Rattle.lus_meaning.specs.Scene.{clock_from, clock_of, Instance, instance, no_instances, contract_statements, variables}
+use Rattle.lus_meaning.specs.Scene.{base, clock_from, clock_of, Instance, instance, no_instances, contract_statements, variables}
 use Rattle.lus_meaning.specs.Program.{constant_value, constant_values, program_constants, contract_statement_constants, constants_in, instance_of, instance_within}
 use Rattle.lus_meaning.specs.Run.{sort_of_value, sort_of_name, is_typed}
 use Rattle.lus_meaning.specs.Depends.{named_in}
 use Rattle.lus_meaning.specs.WellMade.{AreDistinct}
-use Rattle.lus_meaning.specs.Scope.{Role, Entry, is_constant_role, Scope, Declared, a_stream, a_fixed, names_only, entry_for, entries_from, constants_declared, known_after, left_after, first_constants, declared_in, own_names, outer_names}
+use Rattle.lus_meaning.specs.Scope.{Role, an_output, Entry, is_constant_role, is_output_role, Scope, Declared, a_stream, a_fixed, names_only, entry_for, entries_from, constants_declared, known_after, left_after, first_constants, declared_in, own_names, outer_names}
 use Rattle.lus_meaning.specs.Faults.{if_so, meets, same_word, later, words_twice}
 use Rattle.lus_meaning.specs.NameFaults.{own_words, outer_twice, mode_words, labels_twice, contract_faults, local_constant_faults, body_faults, state_faults, recursion_faults, assumption_faults, home, constant_words, declaration_word, declaration_faults, typing_faults}
 use Rattle.lus_meaning.specs.Scope.{Home, body_scope}
@@ -29,7 +29,7 @@ use Rattle.lus_meaning.proofs.Unique.{same_bytes}
 use Rattle.rule_laws.specs.Laws.{placed, table, Agrees, TablesAgree}
 use Rattle.rule_laws.proofs.Lists.{other_bytes, each_other, all_mapped}
 use Rattle.rule_laws.proofs.Constants.{Values, value_names, not_none, IsFixed, Good, good_values, is_word, fixed_of, all_good}
-use Rattle.rule_laws.proofs.Declared.{fixed_in_order, of_declared}
+use Rattle.rule_laws.proofs.Declared.{of_outputs, fixed_in_order, of_declared}
 use Rattle.rule_laws.proofs.Cleaned.{outer_table, outer_clean, CleanHome, homes_clean, own_clean}
 
 -- ---- names that stand once
@@ -255,9 +255,9 @@ own_good p h d e a o =
 -- ---- streams
 
 -- a stream of a declaration is the one of its name, and no constant has its name
-record IsStream (n : Component) (cs : Values) (v : Variable) : Type 0 where
-  found : find (λ w. bytes_eq v.name.text w.name.text) (variables n) ≡ Some v
-  none : lookup (bytes_eq v.name.text) cs ≡ None
+pub record IsStream (n : Component) (cs : Values) (v : Variable) : Type 0 where
+  pub found : find (λ w. bytes_eq v.name.text w.name.text) (variables n) ≡ Some v
+  pub none : lookup (bytes_eq v.name.text) cs ≡ None
 
 own_found : (vs : List Variable) → AreDistinct (map (λ v. v.name.text) vs) → AllByRecursion (λ v. find (λ w. bytes_eq v.name.text w.name.text) vs ≡ Some v) vs
 own_found [] d = tt
@@ -423,6 +423,40 @@ typed_tables p t h i x e f =
     let r : (x ≡ e.word.text) × Says h.1 (constants_in p h.1) e = found_entry (Says h.1 (constants_in p h.1)) x e (table p h)
     (table_says p h (streams_of p h.1 a) g) f in
     to_any (length p) p h.1 x e (subst (λ y. Agrees (alone h.1 (constants_in p h.1)) y e) (sym r.0) r.1)
+
+-- the streams of a declaration
+pub declared_streams : (p : Program) → IsTyped p → (h : ℕ × Component) → Contains (placed 0 p) h
+    → AllByRecursion (IsStream h.1 (constants_in p h.1)) (variables h.1)
+declared_streams p t h i =
+    let none : words_twice name_twice (map declaration_word p) ++ declaration_faults p 0 p ≡ [] =
+    (no_parts _ (words_twice name_twice (map declaration_word p) ++ declaration_faults p 0 p) (empty_of (typing_faults p) t)).1 in
+    let q : (words_twice name_twice (map declaration_word p) ≡ []) × (declaration_faults p 0 p ≡ []) = no_parts
+    (words_twice name_twice (map declaration_word p)) (declaration_faults p 0 p) none in
+    streams_of p h.1 (names_apart p h (at_one (CleanHome p) (placed 0 p) h (homes_clean p 0 p q.1) i))
+
+-- an output stands on the base clock
+abbrev OutputOnBase : Entry → Type 0
+OutputOnBase e = is_output_role e.role ≡ true → e.clock ≡ base
+
+no_output : (c : Constant) (s : Scope) → OutputOnBase (entry_for s (a_fixed c))
+no_output c s = λ h. absurd (false≢true h)
+
+outer_no_output : (ds : Program) → AllByRecursion (λ d. (s : Scope) → OutputOnBase (entry_for s d)) (constants_declared ds)
+outer_no_output [] = tt
+outer_no_output (declared_constant c ∷ ds) = (no_output c, outer_no_output ds)
+outer_no_output (declared_node m ∷ ds) = outer_no_output ds
+outer_no_output (declared_contract m ∷ ds) = outer_no_output ds
+
+pub outputs_on_base : (p : Program) (h : ℕ × Component) → AllByRecursion (λ v. v.clock ≡ None) h.1.outputs → (x : Name) (e : Entry)
+    → find (is_word x) (table p h) ≡ Some e → is_output_role e.role ≡ true → e.clock ≡ base
+outputs_on_base p h o x e f r =
+    let P : Declared → Type 0 = λ d. (s : Scope) → OutputOnBase (entry_for s d) in
+    let declared : AllByRecursion P (declared_in h.1) = of_outputs P no_output h.1 (λ v s k. absurd (false≢true k)) (λ v s k. absurd (false≢true k))
+    (λ v s k. absurd (false≢true k)) (all_from (λ v. v.clock ≡ None) (λ v. P (a_stream an_output v)) (λ v q s k. ap clock_from q) h.1.outputs o) in
+    let own : AllByRecursion OutputOnBase (own_names (home p h.0 h.1)) = entries_all OutputOnBase p (outer_names p h.0) [] (declared_in h.1) declared tt in
+    let outer : AllByRecursion OutputOnBase (outer_names p h.0) = first_all OutputOnBase (λ k d q. q) h.0 (outer_table p)
+    (entries_all OutputOnBase p [] [] (constants_declared p) (outer_no_output p) tt) in
+    (found_entry OutputOnBase x e (table p h) (both_parts OutputOnBase (own_names (home p h.0 h.1)) (outer_names p h.0) own outer) f).1 r
 
 pub tables_agree : TablesAgree
 tables_agree p c h i x e f = typed_tables p c.rules.clocked.typed h i x e f

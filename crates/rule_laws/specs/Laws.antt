@@ -1,5 +1,5 @@
 -- The laws of the programs that follow the rules.
-use Rattle.std.specs.Prelude.{◌≡◌, ℕ, zero, suc, pred, ◌≤◌, cond, true, List, [], ◌∷◌, ◌++◌, flat_map, find, Contains, Option, Some, None}
+use Rattle.std.specs.Prelude.{◌≡◌, ℕ, zero, suc, pred, ◌≤◌, cond, true, List, [], ◌∷◌, ◌++◌, flat_map, ◌==◌, find, Contains, Option, Some, None}
 use Rattle.std.specs.Map.{lookup}
 use Rattle.std.specs.Str.{bytes_eq}
 use Rattle.lus_tree.specs.Tree.{Name, Component, declared_constant, declared_node, declared_contract, Program}
@@ -8,10 +8,10 @@ use Rattle.lus_meaning.specs.Frame.{Frame, firsts_of, first_value}
 use Rattle.lus_meaning.specs.Scene.{Site, Instance, Instances, instance, no_instances, with_instance, component_of, constants_of, calls_of, call_instance, instance_called, contract_statements, clock_of}
 use Rattle.lus_meaning.specs.Program.{site_in, import_site, all_sites, component_named, constants_in, instance_of}
 use Rattle.lus_meaning.specs.Run.{sort_of_name, sort_of, first_sorts, have_sorts, is_typed}
-use Rattle.lus_meaning.specs.Occurrences.{Memory, gathered, memories}
+use Rattle.lus_meaning.specs.Occurrences.{Memory, Start, gathered, memories, starts}
 use Rattle.lus_meaning.specs.Scope.{Entry, is_constant_role, own_names, outer_names, node_named, contract_named}
 use Rattle.lus_meaning.specs.NameFaults.{home}
-use Rattle.lus_meaning.specs.ClockFaults.{name_clock}
+use Rattle.lus_meaning.specs.ClockFaults.{name_clock, components}
 use Rattle.lus_meaning.specs.Refusals.{IsChecked}
 use Rattle.lus_meaning.specs.RuleLaws.{OfEach}
 
@@ -31,6 +31,15 @@ abbrev mutual
 -- As many levels as the program has declarations reach the end of each call chain.
 abbrev pub Unfolding : Type 0
 Unfolding = OfEach (λ p n. IsUnfolded p (instance_of p n))
+
+-- An unfolded instance of a declaration is the instance of the declaration: what holds of this one holds at every depth.
+abbrev pub OneInstance : Type 0
+OneInstance =
+    (p : Program) → IsChecked p → (i : Instance) → IsUnfolded p i → Contains (components p) (component_of i) → instance_of p (component_of i) ≡ i
+
+-- What is found by a name is declared.
+abbrev pub NamedIsDeclared : Type 0
+NamedIsDeclared = (p : Program) (x : Name) (n : Component) → component_named p x ≡ Some n → Contains (components p) n
 
 -- the declarations, and how many constants of the program stand before each
 abbrev pub placed : ℕ → Program → List (ℕ × Component)
@@ -86,3 +95,10 @@ abbrev pub FirstsInPlace : Type 0
 FirstsInPlace =
     OfEach (λ p n. (f : Frame) → have_sorts (first_sorts (instance_of p n)) (firsts_of f) ≡ true
     → (m : Memory) → Contains (memories n) m → has_sort (sort_of (instance_of p n) m.operand) (first_value f m.number) ≡ true)
+
+-- A `pre` and an `->` are found by their numbers.
+abbrev pub MemoriesFound : Type 0
+MemoriesFound = OfEach (λ p n. (m : Memory) → Contains (memories n) m → find (λ x. x.number == m.number) (memories n) ≡ Some m)
+
+abbrev pub StartsFound : Type 0
+StartsFound = OfEach (λ p n. (a : Start) → Contains (starts n) a → find (λ x. x.number == a.number) (starts n) ≡ Some a)

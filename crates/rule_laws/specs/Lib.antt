@@ -1,1 +1,4 @@
 pub mod Laws
+pub mod Fitting
+pub mod Types
+pub mod Declarations

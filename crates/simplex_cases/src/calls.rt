@@ -2,6 +2,7 @@ ghost use Rattle.std.specs.Prelude.{◌≡◌, ◌≤◌, true, IfOk, IfSome};
 
 use crate::answer::{cutting, entries, parts, past, splitting, terms, told, values};
 use crate::rows::{number_at, rows_of};
+use crate::systems::{chain, dense};
 use anyhow::Result;
 use int_simplex::{BoundFault, Checkup, Tableau};
 use std::alloc::Global;
@@ -93,6 +94,32 @@ fn checked(alloc: Global, tableau: Tableau, pivots: u64) -> Result<(Option<Table
     }
 }
 
+fn ended(alloc: Global, tableau: Tableau, pivots: u64) -> Result<(Option<Tableau>, String)>
+    requires { tableau.usable ≡ true }
+    ensures { IfOk result (λ r. IfSome r.0 (λ t. t.usable ≡ true)) }
+{
+    let mut tableau = tableau;
+    match tableau.check(alloc, pivots)? {
+        Checkup::Fits => Ok((Some(tableau), told(alloc, "fits", &[])?)),
+        Checkup::Refuted(_) => Ok((Some(tableau), told(alloc, "refuted", &[])?)),
+        Checkup::Pivots(_) => Ok((None, told(alloc, "pivots", &[])?)),
+        Checkup::Past(_) => Ok((None, told(alloc, "past", &[])?)),
+    }
+}
+
+fn system(alloc: Global, word: &str, numbers: &[i128]) -> Result<(Option<Tableau>, String)>
+    ensures { IfOk result (λ r. IfSome r.0 (λ t. t.usable ≡ true)) }
+{
+    let columns = small(number_at(numbers, 0));
+    let tableau = if word == "chain" {
+        chain(alloc, columns)?
+    } else {
+        dense(alloc, columns, small(number_at(numbers, 1)) as u64)?
+    };
+    let answer = told(alloc, "made", &[tableau.columns() as i128])?;
+    Ok((Some(tableau), answer))
+}
+
 fn undone(alloc: Global, tableau: Tableau, mark: u64) -> Result<(Option<Tableau>, String)>
     requires { tableau.usable ≡ true }
     ensures { IfOk result (λ r. IfSome r.0 (λ t. t.usable ≡ true)) }
@@ -164,6 +191,9 @@ pub fn call(
     if word == "wide" {
         return wide(alloc, &numbers);
     }
+    if word == "chain" || word == "dense" {
+        return system(alloc, word, &numbers);
+    }
     let Some(tableau) = tableau else {
         return Ok((None, told(alloc, "no tableau", &[])?));
     };
@@ -175,6 +205,9 @@ pub fn call(
     }
     if word == "check" {
         return checked(alloc, tableau, small(number_at(&numbers, 0)) as u64);
+    }
+    if word == "ends" {
+        return ended(alloc, tableau, small(number_at(&numbers, 0)) as u64);
     }
     if word == "undo" {
         return undone(alloc, tableau, small(number_at(&numbers, 0)) as u64);

@@ -1,9 +1,10 @@
 //! Runs lines of calls on tableaus and prints what they answer; then random systems, each compared
 //! with all its points.
 //!
-//! A line of the file is a call with its numbers: `new V` with the coefficients of rows over V
-//! variables, `wide V` (rows of one variable each), `low C B L` and `up C B L`, `check N`, `undo M`, `bound C SIDE`, `row C`, `zeros`,
-//! `split`, `cut`. The column of the row at place j is V + j.
+//! A line of the file is a call with its numbers: `new V` with the coefficients of rows over V variables, `wide V` (rows
+//! of one variable each), `low C B L` and `up C B L`, `check N`, `ends N` (a check's answer in one word), `undo M`,
+//! `bound C SIDE`, `row C`, `zeros`, `split`, `cut`. The column of the row at place j is V + j. For the benchmark,
+//! `chain N` and `dense N SEED` make systems of N columns, with their bounds.
 
 #![tactic(auto)]
 
@@ -11,6 +12,7 @@ mod answer;
 mod calls;
 mod random;
 mod rows;
+mod systems;
 
 use anyhow::Result;
 use calls::call;

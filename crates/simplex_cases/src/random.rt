@@ -8,7 +8,7 @@ use proof_steps::Atom;
 use std::alloc::Global;
 
 /// The next number of a linear congruence, after Knuth: from -4 to 4.
-fn next(state: &mut u64) -> i128 {
+pub fn next(state: &mut u64) -> i128 {
     *state = state
         .wrapping_mul(6_364_136_223_846_793_005)
         .wrapping_add(1_442_695_040_888_963_407);
@@ -73,7 +73,14 @@ fn keeps_points(numbers: &[i128], atom: &Atom) -> bool {
     true
 }
 
-fn held(alloc: Global, tableau: Tableau, upper: bool, column: u32, limit: i128) -> Result<Tableau>
+/// The tableau with one more bound, where it has the column.
+pub fn held(
+    alloc: Global,
+    tableau: Tableau,
+    upper: bool,
+    column: u32,
+    limit: i128,
+) -> Result<Tableau>
     requires { tableau.usable ≡ true }
     ensures { IfOk result (λ t. t.usable ≡ true) }
 {

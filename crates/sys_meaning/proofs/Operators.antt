@@ -12,28 +12,10 @@ use Rattle.lus_tree.specs.declared.place.Sort.{Sort}
 use Rattle.lus_tree.specs.declared.place.Sort.TheVariants.{Bool as Flags, Int as Numbers}
 use Rattle.lus_meaning.specs.Value.{Value, flag, whole, has_sort, not_value, minus_value, equal_values, on_flags, on_numbers, on_order, apply}
 use Rattle.lus_meaning.proofs.Typed.{apply_has, has_as}
-use Rattle.lus_meaning.proofs.Typed as typed
 use Rattle.sys_terms.specs.View.{Formula, Amount, negation, both, same, at_most, plus, minus}
 use Rattle.sys_terms.specs.Meaning.{equal_flags, Values, truth_of, value_of}
 use Rattle.sys_meaning.specs.Part.{Part, a_flag, a_number, either, implies, not_part, minus_part, choose_part, equal_parts, of_formulas, of_amounts, of_order, operate, scaled, divided, rest_of, worth}
 use Rattle.lus_meaning.specs.Run.{Takes}
-
-pub takes_same : (o : Operator) (s : Sort) → Takes o s → typed.Takes o s
-takes_same Implies s e = e
-takes_same Or s e = e
-takes_same Xor s e = e
-takes_same And s e = e
-takes_same Equals s e = e
-takes_same Differs s e = e
-takes_same Below s e = e
-takes_same AtMost s e = e
-takes_same AtLeast s e = e
-takes_same More s e = e
-takes_same Add s e = e
-takes_same Sub s e = e
-takes_same Mul s e = e
-takes_same Div s e = e
-takes_same Mod s e = e
 
 pub or_bool : (a b : Bool) → not (not a && not b) ≡ (a || b)
 or_bool true b = refl

@@ -25,7 +25,7 @@ use Rattle.sys_meaning.specs.Translate.{Stage, name_part, name_flag, flag_at, ou
 use Rattle.sys_meaning.specs.Translate as tr
 use Rattle.sys_meaning.specs.Seen.{Row, Sight, seen_or, seen_output, seen_latest, seen_mode, outputs_at, head_value, seen, seen_right}
 use Rattle.sys_meaning.specs.WellTyped.{no_constant, is_declared, clock_here, NameFits, IsMemory, IsStart, IsPlainCall, IsHeldCall, HasConstant, Stands}
-use Rattle.sys_meaning.proofs.Operators.{takes_same, IsPlain, operate_worth, not_worth, minus_worth, choose_worth, scaled_worth, scaled_right, divided_worth, rest_worth}
+use Rattle.sys_meaning.proofs.Operators.{IsPlain, operate_worth, not_worth, minus_worth, choose_worth, scaled_worth, scaled_right, divided_worth, rest_worth}
 
 -- ---- constants
 
@@ -215,7 +215,7 @@ module _ (g : Stage) (ModeAt : Key → Type 0) (row : Row) (modes : Known Value)
         (starting k)) (shown.starts k c h.0)) (seen_has a c h.2) (has_as (sort_of g.place b) (sort_of g.place a)
         (seen sight b) h.1 (seen_has b c h.3))
     seen_has (binary p o a b) c h =
-        apply_has o (sort_of g.place a) (seen sight a) (seen sight b) (takes_same o (sort_of g.place a) h.0)
+        apply_has o (sort_of g.place a) (seen sight a) (seen sight b) h.0
         (seen_has a c h.3) (has_as (sort_of g.place b) (sort_of g.place a) (seen sight b) h.1 (seen_has b c h.4))
     seen_has (choice p a b d) c h =
         choose_has (sort_of g.place b) (seen sight a) (seen sight b) (seen sight d) (has_as

@@ -11,7 +11,7 @@ use Rattle.trace_replay.specs.declared.fault.TraceFault.TheVariants.{Form, Memor
 use Rattle.trace_replay.specs.declared.cursor.Cursor.{Cursor}
 use Rattle.trace_replay.specs.declared.cursor.TraceWord.{TraceWord as CodeWord}
 use Rattle.trace_replay.specs.declared.reading.Next.{Next as CodeNext}
-use Rattle.trace_replay.specs.declared.reading.Next.TheVariants.{BareLine as NextLine, End as NextEnd}
+use Rattle.trace_replay.specs.declared.reading.Next.TheVariants.{Line as NextLine, End as NextEnd}
 use Rattle.trace_replay.specs.Cutting.{TraceWord, TextLine, Cut, with_front, cut, filled, keep, first_place, is_blank, is_return}
 use Rattle.lus_lexer.specs.Names.{is_name}
 

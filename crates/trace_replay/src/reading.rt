@@ -96,7 +96,7 @@ fn is_closing(word: TraceWord, after: Cursor) -> bool
 /// What comes next: a line and what is left behind it, or the end line at this place.
 #[derive(Drop)]
 pub enum Next<'a> {
-    BareLine(TraceLine, Cursor<'a>),
+    Line(TraceLine, Cursor<'a>),
     End(Pos),
 }
 
@@ -113,7 +113,7 @@ fn line<'a>(alloc: Global, room: usize, here: Cursor<'a>) -> Result<Next<'a>, Tr
         return Ok(Next::End(start.at));
     }
     let (line, below) = read_line(alloc, room, start, after)?;
-    Ok(Next::BareLine(line, below))
+    Ok(Next::Line(line, below))
 }
 
 /// The lines up to the end line, and its place.
@@ -127,7 +127,7 @@ fn lines(alloc: Global, start: Cursor) -> Result<(Vec<TraceLine>, Pos), TraceFau
     let mut room = 0;
     loop {
         match line(alloc, room, here)? {
-            Next::BareLine(line, after) => {
+            Next::Line(line, after) => {
                 room = line.values.len();
                 lines.push(line)?;
                 here = after;

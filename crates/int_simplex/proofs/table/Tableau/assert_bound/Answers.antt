@@ -115,6 +115,7 @@ invariant_of-self-then-upper-2 c =
           (a_bound c.args.column c.args.upper c.args.bound c.args.literal) y s.uncrossed));
       rows = i.rows;
       free = i.free;
+      listed = i.listed;
       lowers = q.lowers;
       uppers = q.uppers;
       before = q.before;
@@ -181,6 +182,7 @@ invariant_of-self-else-upper-2 c =
           (a_bound c.args.column c.args.upper c.args.bound c.args.literal) y s.uncrossed));
       rows = i.rows;
       free = i.free;
+      listed = i.listed;
       lowers = q.lowers;
       uppers = q.uppers;
       before = q.before;

@@ -26,6 +26,9 @@ walk-walked-requires-clause-ready c =
     (subst (λ (g : List (Vec (ℕ × ℤ) Global)). IsReady (map row_view g) c.self.inside.columns c.self.inside.basis.items
     (map row_view c.self.inside.rows.items)) (sym c.deref-8.ensures.value) r)
 
+pub walk-walked-requires-clause-listed : goal.walk-walked-requires-clause-listed
+walk-walked-requires-clause-listed c = c.self.invariant.listed (ap (λ s. s.usable) c.self.view_is ∙ c.requires)
+
 pub invariant_of-self : goal.invariant_of-self
 invariant_of-self c =
     let i = c.self.invariant in
@@ -44,6 +47,7 @@ invariant_of-self c =
           (map standing c.self.inside.trail.items) c.self.inside.usable t.of_columns t.uncrossed;
       rows = λ u. q.ready.are_rows;
       free = λ u. q.ready.free;
+      listed = λ u. let z = rw c.in-Ok-Fits.is at c.walk-walked.ensures.listed in let y = rw c.in-Ok-Fits.field-0-is at z in y tt;
       lowers = i.lowers;
       uppers = i.uppers;
       before = i.before;
@@ -68,6 +72,7 @@ invariant_of-self-in-Ok-Refuted c =
           (map standing c.self.inside.trail.items) c.self.inside.usable t.of_columns t.uncrossed;
       rows = λ u. q.ready.are_rows;
       free = λ u. q.ready.free;
+      listed = λ u. let z = rw c.in-Ok-Refuted.is at c.walk-walked.ensures.listed in let y = rw c.in-Ok-Refuted.field-0-is at z in y tt;
       lowers = i.lowers;
       uppers = i.uppers;
       before = i.before;

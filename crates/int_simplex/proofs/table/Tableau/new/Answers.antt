@@ -1,7 +1,10 @@
-use Rattle.std.specs.Prelude.{ℕ, ◌≡◌, List, [], Option, true, false, map, replicate}
+use Rattle.std.specs.Prelude.{ℕ, ◌≡◌, List, [], Option, true, false, map, replicate, Some, slice_get}
 use Rattle.std.proofs.Common.{ap, sym, subst}
 use lib.IntN.{ℤ, pos}
 use Rattle.proof_steps.specs.View.{row_view}
+use Rattle.std.specs.declared.vec.Vec.{Vec}
+use Rattle.std.specs.declared.alloc.Global.{Global}
+use Rattle.int_simplex.specs.Holding.{lists_of, AreListed}
 use Rattle.int_simplex.specs.State.{Standing}
 use Rattle.int_simplex.specs.Given.{last_columns}
 use Rattle.int_simplex.specs.Inner.{AreRows, IsFree, AreLimits, AreBefore, IsWithinColumns, standing}
@@ -9,6 +12,11 @@ use Rattle.int_simplex.specs.declared.table.Asserted.{Asserted}
 use Rattle.int_simplex.proofs.First.{free_first}
 use Rattle.int_simplex.proofs.Begun.{begun_sound, begun_rows, no_limits, sound_parts, same_pair, none_before, none_within}
 use Rattle.int_simplex.proofs.table.Tableau.new.Goals as goal
+
+pub listed-requires : goal.listed-requires
+listed-requires c = λ k r e.
+    (begun_rows (map row_view c.args.rows.now) c.args.columns c.requires (map row_view c.in_ok-rows.rows.items) c.in_ok-rows.ensures).sparse k r
+    (subst (λ (xs : List (Vec (ℕ × ℤ) Global)). slice_get (map row_view xs) k ≡ Some r) c.deref.ensures.value e)
 
 pub invariant_of-result : goal.invariant_of-result
 invariant_of-result c =
@@ -28,6 +36,9 @@ invariant_of-result c =
       free = λ u.
           subst (λ (g : List (List (ℕ × ℤ))). IsFree g c.in_ok-basis.basis.items) (sym eg)
           (subst (λ (b : List ℕ). IsFree (map row_view c.args.rows.now) b) (sym eb) (free_first (map row_view c.args.rows.now)));
+      listed = λ u.
+          subst (λ (xs : List (Vec (ℕ × ℤ) Global)). AreListed c.args.columns (map row_view xs) (lists_of c.in_ok-lists.lists.items))
+          c.deref.ensures.value c.in_ok-lists.ensures;
       lowers = subst (λ (bs : List Standing). AreLimits c.args.columns false bs c.in_ok-lowers.lowers.items) (sym es)
           (subst (λ (ls : List (Option (ℤ × ℕ))). AreLimits c.args.columns false [] ls) (sym el) (no_limits c.args.columns false));
       uppers = subst (λ (bs : List Standing). AreLimits c.args.columns true bs c.in_ok-uppers.uppers.items) (sym es)

@@ -22,6 +22,7 @@ invariant_of-self c =
           (subst IsUncrossed (sym e) (uncrossed_taken c.args.mark (map standing c.self.inside.trail.items) s.uncrossed));
       rows = i.rows;
       free = i.free;
+      listed = i.listed;
       lowers = subst (λ (k : ℕ). AreLimits k false (map standing c.undo.new.trail.items) c.undo.new.lowers.items) n a.lowers;
       uppers = subst (λ (k : ℕ). AreLimits k true (map standing c.undo.new.trail.items) c.undo.new.uppers.items) n a.uppers;
       before = a.before;

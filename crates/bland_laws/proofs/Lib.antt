@@ -1,0 +1,11 @@
+pub mod Combos
+pub mod Listed
+pub mod Free
+pub mod Sums
+pub mod Points
+pub mod Coprime
+pub mod Begun
+pub mod Orders
+pub mod Returning
+pub mod Runs
+pub mod Firsts
