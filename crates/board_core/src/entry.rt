@@ -1,9 +1,11 @@
 //! Entries before they have a place. Making one takes no memory.
 
-ghost use Rattle.std.specs.Prelude.{◌≡◌};
+ghost use Rattle.std.specs.Prelude.{◌≡◌, List};
 ghost use Rattle.sys_terms.specs.View.{Machine, states_view};
-ghost use Rattle.cert_rules.specs.Kept.{base_view, base_machine, step_view, step_machine, lemma_view, lemma_machine, held_at, held_machine};
-ghost use Rattle.board_core.specs.Entries.{proved, broken, stuck, spent};
+ghost use Rattle.cert_rules.specs.Facts.{AreCited};
+ghost use Rattle.cert_rules.specs.Kept.{base_view, base_machine, base_cites, step_view, step_machine, step_cites, lemma_view, lemma_machine, lemma_cites, held_at, held_machine};
+ghost use Rattle.board_core.specs.declared.plan.Plan.{Plan as Options};
+ghost use Rattle.board_core.specs.Entries.{proved, broken, stuck, spent, Posting, IsTrueAfter, facts_in};
 ghost use Rattle.board_core.specs.View.{entry_view, cause_view, grounds_view, IsFor};
 
 use crate::cause::{Cause, Kept};
@@ -36,31 +38,40 @@ impl fmt::Debug for Entry {
 }
 
 impl Entry {
-    /// A base.
+    /// A base. It is true after any entries that have the lemmas which it cites at their places.
     pub fn base(fact: Base) -> Entry
         ensures says { entry_view result ≡ proved (base_view fact) }
         ensures system { IsFor (base_machine fact) result }
+        ensures is_true { (plan : Options) (earlier : List Posting) → AreCited (facts_in earlier) (base_cites fact)
+            → IsTrueAfter (base_machine fact) plan earlier (entry_view result) }
     {
+        cert_rules::laws::unbroken_rules_are_facts();
         Entry {
             made: Made::Base(fact),
         }
     }
 
-    /// A step.
+    /// A step. It is true after any entries that have the lemmas which it cites at their places.
     pub fn step(fact: Step) -> Entry
         ensures says { entry_view result ≡ proved (step_view fact) }
         ensures system { IsFor (step_machine fact) result }
+        ensures is_true { (plan : Options) (earlier : List Posting) → AreCited (facts_in earlier) (step_cites fact)
+            → IsTrueAfter (step_machine fact) plan earlier (entry_view result) }
     {
+        cert_rules::laws::unbroken_rules_are_facts();
         Entry {
             made: Made::Step(fact),
         }
     }
 
-    /// A lemma.
+    /// A lemma. It is true after any entries that have the lemmas which it cites at their places.
     pub fn lemma(fact: Lemma) -> Entry
         ensures says { entry_view result ≡ proved (lemma_view fact) }
         ensures system { IsFor (lemma_machine fact) result }
+        ensures is_true { (plan : Options) (earlier : List Posting) → AreCited (facts_in earlier) (lemma_cites fact)
+            → IsTrueAfter (lemma_machine fact) plan earlier (entry_view result) }
     {
+        cert_rules::laws::unbroken_rules_are_facts();
         Entry {
             made: Made::Lemma(fact),
         }
