@@ -1,0 +1,9 @@
+pub mod Plans
+pub mod Entries
+pub mod Verdicts
+pub mod View
+pub mod Seats
+pub mod Interleaving
+pub mod Books
+pub mod Chairs
+pub mod Plays
