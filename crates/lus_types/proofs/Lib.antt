@@ -12,3 +12,9 @@ pub mod Walks
 pub mod Alike
 pub mod EquationParts
 pub mod Nothing
+pub mod Behind
+pub mod Ordered
+pub mod Noting
+pub mod Interleaved
+pub mod Loops
+pub mod Earlier

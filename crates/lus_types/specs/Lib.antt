@@ -1,8 +1,11 @@
 pub mod Least
+pub mod Notes
 pub mod Cut
 pub mod Worth
 pub mod Scopes
+pub mod Entries
 pub mod Walk
 pub mod Parts
 pub mod Made
 pub mod Sides
+pub mod Before
