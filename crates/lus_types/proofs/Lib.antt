@@ -12,3 +12,6 @@ pub mod Walks
 pub mod Alike
 pub mod EquationParts
 pub mod Nothing
+pub mod Spread
+pub mod Grown
+pub mod Reached

@@ -6,3 +6,6 @@ pub mod Walk
 pub mod Parts
 pub mod Made
 pub mod Sides
+pub mod Marks
+pub mod Words
+pub mod Called

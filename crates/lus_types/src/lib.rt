@@ -1,6 +1,7 @@
 //! The rules of names, types and numbers.
 #![tactic(auto)]
 
+mod called;
 mod calls;
 mod equation;
 mod expression;
@@ -8,6 +9,7 @@ mod forms;
 mod found;
 mod least;
 mod lookup;
+mod marks;
 mod notes;
 mod part;
 mod scope;
