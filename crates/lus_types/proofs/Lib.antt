@@ -15,3 +15,4 @@ pub mod Nothing
 pub mod Spread
 pub mod Grown
 pub mod Reached
+pub mod Callees

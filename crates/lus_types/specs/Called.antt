@@ -1,11 +1,11 @@
 -- What a declaration calls and imports, by the numbers of names.
 use Rattle.std.specs.Prelude.{ℕ, Bool, true, cond, nat_lt, List, [], ◌∷◌, ◌++◌, map, flat_map, filter, get_or}
 use Rattle.std.specs.List.{list_all}
-use Rattle.lus_tree.specs.Tree.{Name, Spelled, Expression, Expressions, truth, number, name, negation, minus, pre, arrow, binary, choice, sampled, merged, call, condact, mode_name, no_more, more, Component, declared_constant, declared_node, declared_contract, Program}
+use Rattle.lus_tree.specs.Tree.{Name, Spelled, Expression, Expressions, truth, number, name, negation, minus, pre, arrow, binary, choice, sampled, merged, call, condact, mode_name, no_more, more, Constant, Labelled, Statement, equation, assertion, property, main_mark, ContractStatement, assume, guarantee, ghost_variable, constant, mode, «import», Component, declared_constant, declared_node, declared_contract, Program}
 use Rattle.lus_tree.specs.Reason.{Refused, node_recursion}
 use Rattle.lus_meaning.specs.Depends.{named_in}
 use Rattle.lus_meaning.specs.Faults.{if_so}
-use Rattle.lus_meaning.specs.Occurrences.{Text, gathered}
+use Rattle.lus_meaning.specs.Occurrences.{gathered}
 use Rattle.lus_meaning.specs.Scene.{contract_statements}
 use Rattle.lus_meaning.specs.Scope.{contract_named, node_named}
 use Rattle.lus_meaning.specs.NameFaults.{callee_in, import_words, is_declared}
@@ -34,8 +34,29 @@ abbrev mutual
   called_among no_more = []
   called_among (more a as_) = called a ++ called_among as_
 
-abbrev pub called_in : List Text → List Spelled
-called_in xs = flat_map (λ x. called x.1) xs
+abbrev pub called_in : List Expression → List Spelled
+called_in es = flat_map called es
+
+-- the expressions of items
+abbrev pub values_of : List Labelled → List Expression
+values_of ls = map (λ l. l.value) ls
+
+abbrev pub contract_sides : ContractStatement → List Expression
+contract_sides (assume l) = l.value ∷ []
+contract_sides (guarantee l) = l.value ∷ []
+contract_sides (ghost_variable x e) = e ∷ []
+contract_sides (constant c) = c.value ∷ []
+contract_sides (mode m rs es) = values_of rs ++ values_of es
+contract_sides («import» k c as_ xs) = as_
+
+abbrev pub statement_sides : Statement → List Expression
+statement_sides (equation xs e) = e ∷ []
+statement_sides (assertion e) = e ∷ []
+statement_sides (property l) = l.value ∷ []
+statement_sides (main_mark p) = []
+
+abbrev pub constant_sides : List Constant → List Expression
+constant_sides cs = map (λ c. c.value) cs
 
 -- the names of declarations with parts, each once, behind others
 abbrev pub names_behind : List Name → Program → List Name

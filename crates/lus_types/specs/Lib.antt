@@ -9,3 +9,4 @@ pub mod Sides
 pub mod Marks
 pub mod Words
 pub mod Called
+pub mod Circles

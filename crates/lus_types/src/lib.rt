@@ -12,6 +12,8 @@ mod lookup;
 mod marks;
 mod notes;
 mod part;
+mod ranks;
+mod recursion;
 mod scope;
 mod statement;
 mod values;
