@@ -89,7 +89,7 @@ fewer_left xs ys (u ∷ us) h = go (cases_Bool (named_in u xs)) (cases_Bool (nam
   where
     go : (named_in u xs ≡ true) ⊎ (named_in u xs ≡ false) → (named_in u ys ≡ true) ⊎ (named_in u ys ≡ false) → left_of ys us ≤ left_of xs us
         → left_of ys (u ∷ us) ≤ left_of xs (u ∷ us)
-    go (inl t) (inl q) r = rw (t, q) r
+    go (inl t) (inl q) r = rw (t, q) (omega (arith, r))
     go (inl t) (inr f) r = absurd (true≢false (sym (h u t) ∙ f))
     go (inr f) (inl q) r = rw (f, q) (omega (arith, r))
     go (inr f) (inr g) r = rw (f, g) (omega (arith, r))
@@ -104,7 +104,7 @@ less_left xs ys (u ∷ us) z h i n e = go (cases_Bool (bytes_eq z u)) (λ k. les
 
     later : (named_in u xs ≡ true) ⊎ (named_in u xs ≡ false) → (named_in u ys ≡ true) ⊎ (named_in u ys ≡ false) → left_of ys us < left_of xs us
         → left_of ys (u ∷ us) < left_of xs (u ∷ us)
-    later (inl t) (inl q) r = rw (t, q) r
+    later (inl t) (inl q) r = rw (t, q) (omega (arith, r))
     later (inl t) (inr f) r = absurd (true≢false (sym (h u t) ∙ f))
     later (inr f) (inl q) r = rw (f, q) (omega (arith, r))
     later (inr f) (inr g) r = rw (f, g) (omega (arith, r))
@@ -114,27 +114,29 @@ less_left xs ys (u ∷ us) z h i n e = go (cases_Bool (bytes_eq z u)) (λ k. les
     go (inl t) r l = first (subst (λ x. named_in x xs ≡ false) (same_bytes z u t) n) (subst (λ x. named_in x ys ≡ true) (same_bytes z u t) e) l
     go (inr f) r l = later (cases_Bool (named_in u xs)) (cases_Bool (named_in u ys)) (r (rw f at i))
 
+not_left : (b : Bool) (n : ℕ) → b ≡ false → cond b 0 1 + n ≤ 0 → ⊥
+not_left true n e l = true≢false e
+not_left false n e l = omega (arith, l)
+
+zero_left : (b : Bool) (n : ℕ) → b ≡ true → cond b 0 1 + n ≤ 0 → n ≤ 0
+zero_left true n e l = omega (arith, l)
+zero_left false n e l = absurd (false≢true e)
+
 all_left : (xs us : List Name) → left_of xs us ≤ 0 → (y : Name) → named_in y us ≡ true → named_in y xs ≡ true
 all_left xs [] l y i = absurd (false≢true i)
 all_left xs (u ∷ us) l y i = go (cases_Bool (named_in u xs)) (cases_Bool (bytes_eq y u)) (all_left xs us)
   where
     go : (named_in u xs ≡ true) ⊎ (named_in u xs ≡ false) → (bytes_eq y u ≡ true) ⊎ (bytes_eq y u ≡ false)
         → (left_of xs us ≤ 0 → (y : Name) → named_in y us ≡ true → named_in y xs ≡ true) → named_in y xs ≡ true
-    go (inr f) b r = absurd (no (rw f at l))
-      where
-        no : 1 + left_of xs us ≤ 0 → ⊥
-        no l = omega arith
+    go (inr f) b r = absurd (not_left (named_in u xs) (left_of xs us) f l)
     go (inl t) (inl q) r = subst (λ x. named_in x xs ≡ true) (sym (same_bytes y u q)) t
-    go (inl t) (inr f) r = r (rw t at l) y (rw f at i)
+    go (inl t) (inr f) r = r (zero_left (named_in u xs) (left_of xs us) t l) y (rw f at i)
 
 -- ---- where all that follows is among a list of names
 
 module _ (next : List Name → List Name) (us : List Name) (within : (xs : List Name) (y : Name) → named_in y (next xs) ≡ true → named_in y us ≡ true) where
   abbrev pub IsClosed : List Name → Type 0
   IsClosed xs = (y : Name) → named_in y (next xs) ≡ true → named_in y xs ≡ true
-
-  more : List Name → List Name
-  more xs = xs ++ new_among xs (next xs)
 
   still : (k : ℕ) (xs : List Name) → new_among xs (next xs) ≡ [] → grown next k xs ≡ xs
   still zero xs e = refl
@@ -152,11 +154,12 @@ module _ (next : List Name → List Name) (us : List Name) (within : (xs : List 
 
   pub closed_grown : (k : ℕ) (xs : List Name) → left_of xs us ≤ k → IsClosed (grown next k xs)
   closed_grown zero xs l = λ y i. all_left xs us l y (within xs y i)
-  closed_grown (suc k) xs l = go (new_among xs (next xs)) refl
+  closed_grown (suc k) xs l = go (new_among xs (next xs)) refl (closed_grown k (xs ++ new_among xs (next xs)))
     where
-      go : (zs : List Name) → new_among xs (next xs) ≡ zs → IsClosed (grown next (suc k) xs)
-      go [] e = rw (still (suc k) xs e) (nothing_new xs e)
-      go (z ∷ zs) e =
+      go : (zs : List Name) → new_among xs (next xs) ≡ zs
+          → (left_of (xs ++ new_among xs (next xs)) us ≤ k → IsClosed (grown next k (xs ++ new_among xs (next xs)))) → IsClosed (grown next (suc k) xs)
+      go [] e r = rw (still (suc k) xs e) (nothing_new xs e)
+      go (z ∷ zs) e r =
           let i : named_in z (new_among xs (next xs)) ≡ true = ap (named_in z) e ∙ rw (itself z) refl in
           let j : (named_in z (next xs) && not (named_in z xs)) ≡ true = sym (in_new z xs (next xs)) ∙ i in
           let h : left_of (xs ++ new_among xs (next xs)) us < left_of xs us =
@@ -164,7 +167,7 @@ module _ (next : List Name → List Name) (us : List Name) (within : (xs : List 
               (within xs z (and_first (named_in z (next xs)) (not (named_in z xs)) j))
               (not_is_false (named_in z xs) (and_second (named_in z (next xs)) (not (named_in z xs)) j))
               (in_joined z xs (new_among xs (next xs)) ∙ or_right (named_in z xs) (named_in z (new_among xs (next xs))) i) in
-          closed_grown k (xs ++ new_among xs (next xs)) (omega (arith, h, l))
+          r (omega (arith, h, l))
 
   left_all : (xs vs : List Name) → left_of xs vs ≤ length vs
   left_all xs [] = omega arith

@@ -16,3 +16,5 @@ pub mod Spread
 pub mod Grown
 pub mod Reached
 pub mod Callees
+pub mod CircleFaults
+pub mod RowFaults

@@ -100,7 +100,7 @@ has_itself : (x : Name) → named_in x (x ∷ []) ≡ true
 has_itself x = rw (itself x) refl
 
 module _ (g : Graph) (us : List Name) (k : ℕ) (within : AreWithin us g) (enough : length us ≤ k) (n : Name) where
-  from : Name → List Name
+  abbrev from : Name → List Name
   from x = grown (next_in g) k (x ∷ [])
 
   closed : (x : Name) (y : Name) → named_in y (next_in g (from x)) ≡ true → named_in y (from x) ≡ true
@@ -121,7 +121,7 @@ module _ (g : Graph) (us : List Name) (k : ℕ) (within : AreWithin us g) (enoug
           go (inr t) h = in_joined z (cond (named_in r.0 ys) r.1 []) (next_in rs ys)
               ∙ or_right (named_in z (cond (named_in r.0 ys) r.1 [])) (named_in z (next_in rs ys)) (h t)
 
-  leads : Name → Bool
+  abbrev leads : Name → Bool
   leads x = named_in n (from x)
 
   leads_back : (rs : Graph) → ((x : Name) → AllByRecursion (λ r. (y : Name) → named_in r.0 (from x) ≡ true → named_in y r.1 ≡ true → named_in y (next_in g (from x)) ≡ true) rs)

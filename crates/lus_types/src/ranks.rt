@@ -18,7 +18,7 @@ fn zeros(alloc: Global, count: usize) -> Result<Vec<usize>, AllocError>
     ensures { IfOk result (λ v. length v.items ≡ count) }
 {
     let mut numbers = Vec::new(alloc);
-    for _ in 0..count {
+    while numbers.len() < count {
         numbers.push(0)?;
     }
     Ok(numbers)
@@ -29,7 +29,7 @@ fn empty_lists(alloc: Global, count: usize) -> Result<Vec<Vec<usize>>, AllocErro
     ensures { IfOk result (λ v. length v.items ≡ count) }
 {
     let mut lists = Vec::new(alloc);
-    for _ in 0..count {
+    while lists.len() < count {
         lists.push(Vec::new(alloc))?;
     }
     Ok(lists)

@@ -1,7 +1,7 @@
 //! Circles of declarations.
 
 ghost use Rattle.std.specs.Prelude.{◌≡◌, ◌++◌, ◌<◌, ◌∷◌, [], IfOk, List, Some, false, true, map, length, slice_get, cond, set};
-ghost use Rattle.lus_tree.specs.Tree.{Component, Program};
+ghost use Rattle.lus_tree.specs.Tree.{Component, Program as Declarations};
 ghost use Rattle.lus_tree.specs.Reason.{Refused};
 ghost use Rattle.lus_tree.specs.View.{contract_node_view, decl_view, node_view, program_view, word_view};
 ghost use Rattle.lus_meaning.specs.ClockFaults.{components};
@@ -62,6 +62,7 @@ fn add_name(alloc: Global, names: &mut NameTable, decl: &Decl) -> Result<(), All
 }
 
 /// The number of a name, and how many names there are where it has none.
+#[tactic(auto, using(crate::proofs::CircleFaults::number_past))]
 fn number_of(names: &NameTable, name: &str) -> usize
     ensures { result ≡ number_of names.now name.now }
 {
@@ -311,7 +312,7 @@ pub(crate) fn recursion(
     number: usize,
 ) -> Result<(), AllocError>
     requires { number < length graph.now.rows.items }
-    ensures { (p : Program) (n : Component) (fs : List Refused) → IsGraph p graph.now → slice_get (components p) number ≡ Some n
+    ensures { (p : Declarations) (n : Component) (fs : List Refused) → IsGraph p graph.now → slice_get (components p) number ≡ Some n
         → IfOk result (λ _. IsLeast (least_view least.old) fs → IsLeast (least_view least.new) (fs ++ recursion_faults p n)) }
 {
     if graph.falls {
