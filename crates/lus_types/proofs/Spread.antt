@@ -24,14 +24,14 @@ fewer_by_one (false ∷ bs) zero e = omega arith
 fewer_by_one (true ∷ bs) (suc i) e = omega (arith, fewer_by_one bs i e)
 fewer_by_one (false ∷ bs) (suc i) e = omega (arith, fewer_by_one bs i e)
 
-still_marked : (bs : List Bool) (i j : ℕ) → is_marked bs j ≡ true → is_marked (set bs i true) j ≡ true
+pub still_marked : (bs : List Bool) (i j : ℕ) → is_marked bs j ≡ true → is_marked (set bs i true) j ≡ true
 still_marked [] i j e = absurd (false≢true e)
 still_marked (b ∷ bs) zero zero e = refl
 still_marked (b ∷ bs) zero (suc j) e = e
 still_marked (b ∷ bs) (suc i) zero e = e
 still_marked (b ∷ bs) (suc i) (suc j) e = still_marked bs i j e
 
-newly_marked : (bs : List Bool) (i j : ℕ) → is_marked (set bs i true) j ≡ true → (j ≡ i) ⊎ (is_marked bs j ≡ true)
+pub newly_marked : (bs : List Bool) (i j : ℕ) → is_marked (set bs i true) j ≡ true → (j ≡ i) ⊎ (is_marked bs j ≡ true)
 newly_marked bs i j e = go (cases_Bool (eqb j i))
   where
     go : (eqb j i ≡ true) ⊎ (eqb j i ≡ false) → (j ≡ i) ⊎ (is_marked bs j ≡ true)

@@ -10,3 +10,4 @@ pub mod Marks
 pub mod Words
 pub mod Called
 pub mod Circles
+pub mod Reads

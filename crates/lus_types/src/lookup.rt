@@ -36,7 +36,7 @@ fn word<'a>(meaning: &Meaning<'a>) -> &'a PlacedName
 }
 
 /// The first name that is this one.
-fn entry<'a>(names: &[Entry<'a>], name: &str) -> Option<Entry<'a>>
+pub(crate) fn entry<'a>(names: &[Entry<'a>], name: &str) -> Option<Entry<'a>>
     ensures { option_map entry_view result ≡ find (λ e. bytes_eq name.now e.word.text) (map entry_view names.now) }
 {
     for entry in names {
