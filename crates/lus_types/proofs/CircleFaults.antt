@@ -25,21 +25,32 @@ use Rattle.lus_types.specs.Circles.{IsLeading, IsOne}
 use Rattle.lus_types.proofs.Callees.{split}
 use Rattle.lus_types.proofs.Reached.{AreWithin, IsBack, never_reached, reaches}
 
-or_left : (a b : Bool) → a ≡ true → (a || b) ≡ true
+pub or_left : (a b : Bool) → a ≡ true → (a || b) ≡ true
 or_left true b e = refl
 or_left false b e = absurd (false≢true e)
 
-or_right : (a b : Bool) → b ≡ true → (a || b) ≡ true
+pub or_right : (a b : Bool) → b ≡ true → (a || b) ≡ true
 or_right true b e = refl
 or_right false b e = e
 
-or_false : (a b : Bool) → (a || b) ≡ false → (a ≡ false) × (b ≡ false)
+pub or_false : (a b : Bool) → (a || b) ≡ false → (a ≡ false) × (b ≡ false)
 or_false true b e = absurd (true≢false e)
 or_false false b e = (refl, e)
 
-and_parts : (a b : Bool) → (a && b) ≡ true → (a ≡ true) × (b ≡ true)
+pub and_parts : (a b : Bool) → (a && b) ≡ true → (a ≡ true) × (b ≡ true)
 and_parts true b e = (refl, e)
 and_parts false b e = absurd (false≢true e)
+
+-- within the marks it doesn't matter what stands past the end
+pub either_end : (bs : List Bool) (j : ℕ) → j < length bs → not (get_or bs j true) ≡ false → get_or bs j false ≡ true
+either_end [] j l e = absurd (omega (arith, l))
+either_end (true ∷ bs) zero l e = refl
+either_end (false ∷ bs) zero l e = absurd (true≢false e)
+either_end (b ∷ bs) (suc j) l e = either_end bs j (omega (arith, l)) e
+
+pub free_false : (a b : Bool) → (a && b) ≡ false → b ≡ true → a ≡ false
+free_false true b e t = absurd (true≢false (sym t ∙ e))
+free_false false b e t = refl
 
 pub number_past : (t : List Name) (x : Name) → named_in x t ≡ false → number_of t x ≡ length t
 number_past [] x e = refl
@@ -72,14 +83,14 @@ has_declared b x (declared_contract n ∷ ds) e = go (bytes_eq x n.name.text) e 
     go false e r = r e
 
 -- the table has them
-add_keeps : (t : List Name) (x y : Name) → named_in x t ≡ true → named_in x (add t y) ≡ true
+pub add_keeps : (t : List Name) (x y : Name) → named_in x t ≡ true → named_in x (add t y) ≡ true
 add_keeps t x y e = go (named_in y t)
   where
     go : (b : Bool) → named_in x (cond b t (t ++ y ∷ [])) ≡ true
     go true = e
     go false = in_joined x t (y ∷ []) ∙ or_left (named_in x t) (named_in x (y ∷ [])) e
 
-add_has : (t : List Name) (x : Name) → named_in x (add t x) ≡ true
+pub add_has : (t : List Name) (x : Name) → named_in x (add t x) ≡ true
 add_has t x = go (cases_Bool (named_in x t))
   where
     go : (named_in x t ≡ true) ⊎ (named_in x t ≡ false) → named_in x (add t x) ≡ true
@@ -260,13 +271,6 @@ module _ (p : Program) where
     seed = let e : named_in n.name.text table ≡ true = in_table n.name.text declared in
         test_true n.name.text e (leading.here (number_below table n.name.text e))
 
-    -- within the marks it doesn't matter what stands past the end
-    either_end : (bs : List Bool) (j : ℕ) → j < length bs → not (get_or bs j true) ≡ false → get_or bs j false ≡ true
-    either_end [] j l e = absurd (omega (arith, l))
-    either_end (true ∷ bs) zero l e = refl
-    either_end (false ∷ bs) zero l e = absurd (true≢false e)
-    either_end (b ∷ bs) (suc j) l e = either_end bs j (omega (arith, l)) e
-
     leads_by_name : (ws : List Spelled) → AllNamed table ws → (y : Name) → named_in y (map text_of ws) ≡ true → test y ≡ true
         → leads_on (is_marked marks) (map (link_to table) ws) ≡ true
     leads_by_name [] a y e t = absurd (false≢true e)
@@ -277,10 +281,6 @@ module _ (p : Program) where
         go (inl q) r = or_left (is_marked marks (number_of table w.text)) (leads_on (is_marked marks) (map (link_to table) ws))
             (subst (λ z. is_marked marks (number_of table z) ≡ true) (same_bytes y w.text q) (and_parts (named_in y table) (is_marked marks (number_of table y)) t).1)
         go (inr f) r = or_right (is_marked marks (number_of table w.text)) (leads_on (is_marked marks) (map (link_to table) ws)) (r (rw f at e) t)
-
-    free_false : (a b : Bool) → (a && b) ≡ false → b ≡ true → a ≡ false
-    free_false true b e t = absurd (true≢false (sym t ∙ e))
-    free_false false b e t = refl
 
     one_back : (m : Component) → named_in m.name.text table ≡ true → is_open marks (row_of p table m) ≡ false → IsBack test (row_in p m)
     one_back m i o y e t = test_true m.name.text i (either_end marks (number_of table m.name.text)

@@ -18,3 +18,4 @@ pub mod Reached
 pub mod Callees
 pub mod CircleFaults
 pub mod RowFaults
+pub mod GivenNow

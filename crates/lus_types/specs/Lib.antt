@@ -11,3 +11,4 @@ pub mod Words
 pub mod Called
 pub mod Circles
 pub mod Reads
+pub mod Given

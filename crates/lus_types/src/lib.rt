@@ -13,6 +13,7 @@ mod marks;
 mod notes;
 mod part;
 mod ranks;
+mod reading;
 mod reads;
 mod recursion;
 mod scope;
