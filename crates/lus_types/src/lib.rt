@@ -12,6 +12,7 @@ mod lookup;
 mod marks;
 mod notes;
 mod part;
+mod program_rules;
 mod ranks;
 mod reading;
 mod reads;
