@@ -19,13 +19,23 @@ fn typed_source(alloc: Global, bytes: &[u8]) -> Result<Typed, Refusal>
 }
 
 /// Whether a source is taken, or why and where it is refused.
-pub fn taken_or_refusal(alloc: Global, source: &str) -> Result<String, AllocError> {
-    let bytes = source.as_bytes();
+pub fn taken_or_refusal(alloc: Global, bytes: &[u8]) -> Result<String, AllocError> {
     if bytes.len() > MOST_BYTES {
         return String::from_str(alloc, "too long");
     }
     match typed_source(alloc, bytes) {
         Ok(_) => String::from_str(alloc, "taken"),
+        Err(refusal) => format!(in alloc; "{refusal}"),
+    }
+}
+
+/// Whether a source is one of the grammar, or why and where it is refused.
+pub fn read_or_refusal(alloc: Global, bytes: &[u8]) -> Result<String, AllocError> {
+    if bytes.len() > MOST_BYTES {
+        return String::from_str(alloc, "too long");
+    }
+    match read_program(alloc, bytes) {
+        Ok(_) => String::from_str(alloc, "read"),
         Err(refusal) => format!(in alloc; "{refusal}"),
     }
 }
