@@ -18,3 +18,10 @@ pub mod Noting
 pub mod Interleaved
 pub mod Loops
 pub mod Earlier
+pub mod Spread
+pub mod Grown
+pub mod Reached
+pub mod Callees
+pub mod CircleFaults
+pub mod RowFaults
+pub mod GivenNow

@@ -9,3 +9,9 @@ pub mod Parts
 pub mod Made
 pub mod Sides
 pub mod Before
+pub mod Marks
+pub mod Words
+pub mod Called
+pub mod Circles
+pub mod Reads
+pub mod Given

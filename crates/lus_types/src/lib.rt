@@ -3,6 +3,7 @@
 
 mod before;
 mod bodies;
+mod called;
 mod calls;
 mod contracts;
 mod declared;
@@ -15,10 +16,16 @@ mod home;
 mod imports;
 mod least;
 mod lookup;
+mod marks;
 mod named;
 mod notes;
 mod owner;
 mod part;
+mod program_rules;
+mod ranks;
+mod reading;
+mod reads;
+mod recursion;
 mod rules;
 mod scope;
 mod sorts;

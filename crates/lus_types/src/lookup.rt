@@ -4,7 +4,7 @@ ghost use Rattle.std.specs.Prelude.{◌≡◌, ◌==◌, ◌&&◌, cond, false, 
 ghost use Rattle.std.specs.Str.{bytes_eq};
 ghost use Rattle.lus_tree.specs.View.{contract_item_view, contract_node_view, node_view, program_view, word_view};
 ghost use Rattle.lus_meaning.specs.Depends.{named_in};
-ghost use Rattle.lus_meaning.specs.Scope.{contract_named, entry_of, holds_of, is_constant_name, is_constant_role, is_known, is_output_role, mode_names, name_weight, node_named, size_of, sort_of_entry, value_of_entry, worth};
+ghost use Rattle.lus_meaning.specs.Scope.{contract_named, entry_of, holds_of, is_constant_name, is_constant_role, is_ghost_role, is_known, is_output_role, mode_names, name_weight, node_named, size_of, sort_of_entry, value_of_entry, worth};
 ghost use Rattle.lus_meaning.specs.ExpressionFaults.{has_mode, has_one, is_imported_mode, mode_is_known};
 ghost use Rattle.lus_types.specs.Cut.{cut_worth};
 ghost use Rattle.lus_types.specs.Scopes.{entry_view, is_reached, layer_view, meaning_view, scope_view};
@@ -135,6 +135,16 @@ pub(crate) fn is_output(scope: &Scope<'_>, name: &str) -> bool
     match meaning_of(scope, name) {
         None => false,
         Some(placed) => matches!(placed.found.meaning, Meaning::Stream(Role::Output, _)),
+    }
+}
+
+/// Whether a name is a ghost variable.
+pub(crate) fn is_ghost(scope: &Scope<'_>, name: &str) -> bool
+    ensures { result ≡ holds_of (λ e. is_ghost_role e.role) (scope_view scope.now) name.now }
+{
+    match meaning_of(scope, name) {
+        None => false,
+        Some(placed) => matches!(placed.found.meaning, Meaning::Stream(Role::Ghost, _)),
     }
 }
 

@@ -18,9 +18,9 @@ pub(crate) fn with_names<'a>(
     own: &'a [Entry<'a>],
     outer: Layer<'a>,
 ) -> Home<'a>
-    requires entries { map (entry_view Extent.All false) own.now ≡ own_names (home_of program.now owner outer.entry) }
+    requires entries { map (entry_view Extent.All false) own.now ≡ own_names (home_of program.now owner outer) }
     requires order { AreOrdered 0 own.now }
-    ensures { home_view result ≡ home_of program.now owner outer.entry }
+    ensures { home_view result ≡ home_of program.now owner.entry outer.entry }
 {
     Home {
         program,
