@@ -19,3 +19,4 @@ pub mod Callees
 pub mod CircleFaults
 pub mod RowFaults
 pub mod GivenNow
+pub mod RepeatedWords

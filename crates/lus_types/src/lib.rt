@@ -17,6 +17,7 @@ mod ranks;
 mod reading;
 mod reads;
 mod recursion;
+mod repeated;
 mod scope;
 mod statement;
 mod values;
