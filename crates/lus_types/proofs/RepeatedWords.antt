@@ -1,5 +1,5 @@
 -- Words that stand twice.
-use Rattle.std.proofs.Common.{◌≡◌, ℕ, suc, ◌<◌, Bor, drop, get_or, length, take, ◌+◌, ◌-◌, Bool, true, false, cond, not, ◌||◌, List, [], ◌∷◌, ◌++◌, map, refl, ap, ◌∙◌, sym, subst, arith, Option}
+use Rattle.std.proofs.Common.{◌≡◌, add-one, ℕ, suc, ◌<◌, Bor, drop, get_or, length, take, ◌+◌, ◌-◌, Bool, true, false, cond, not, ◌||◌, List, [], ◌∷◌, ◌++◌, map, refl, ap, ◌∙◌, sym, subst, arith, Option}
 use Rattle.std.specs.Str.{bytes_eq}
 use Rattle.std.proofs.Math.Logic.{◌⊎◌, inl, inr}
 use Rattle.std.proofs.lemmas.Bool.{true≢false, false≢true, cases_Bool}
@@ -13,6 +13,7 @@ use Rattle.lus_tree.specs.Tree.{Name, Spelled, text_of}
 use Rattle.lus_tree.specs.Reason.{Refused, name_twice}
 use Rattle.lus_meaning.specs.Depends.{named_in}
 use Rattle.lus_meaning.specs.Faults.{meets, same_word, words_twice}
+use Rattle.lus_meaning.specs.NameFaults.{outer_twice}
 use Rattle.lus_meaning.proofs.Unique.{same_bytes}
 use Rattle.name_table.specs.Names.{add}
 use Rattle.name_table.proofs.Names.{in_joined, itself}
@@ -76,6 +77,11 @@ module _ (words : List (Bor PlacedName)) (k : ℕ) (w : Bor PlacedName) (within 
 
   pub seen_front : (t u : List Name) → u ≡ add t (word_view w.now).text → HasSeen t (words_view (drop (suc k) words)) → HasSeen u (words_view (drop k words))
   seen_front t u e h = rw (front, e) (seen_one_more t (word_view w.now) (words_view (drop (suc k) words)) h)
+
+  pub outer_front : (outer : List Spelled) (o p q : Option Refused) → noted_all o (outer_twice outer (words_view (drop k words))) ≡ q
+      → p ≡ noted_all o (met (word_view w.now) outer) → noted_all p (outer_twice outer (words_view (drop (k + 1) words))) ≡ q
+  outer_front outer o p q e f = rw (add-one, f)
+      (sym (noted_append o (met (word_view w.now) outer) (outer_twice outer (words_view (drop (suc k) words)))) ∙ (rw front at e))
 
 -- all of them
 pub all_noted : (o q : Option Refused) (fs : List Refused) (words : List (Bor PlacedName)) (left : ℕ) → left ≡ 0

@@ -4,6 +4,7 @@ ghost use Rattle.std.specs.Prelude.{◌≡◌, ◌<◌, suc, ◌++◌, IfOk, Lis
 ghost use Rattle.lus_tree.specs.Reason.{Refused, name_twice};
 ghost use Rattle.lus_tree.specs.View.{word_view};
 ghost use Rattle.lus_meaning.specs.Faults.{later, meets, same_word, words_twice};
+ghost use Rattle.lus_meaning.specs.NameFaults.{outer_twice};
 ghost use Rattle.lus_types.specs.Least.{IsLeast, least_view, noted_all};
 ghost use Rattle.lus_types.specs.Repeated.{HasSeen, twice_from_last};
 ghost use Rattle.lus_types.specs.Words.{words_view};
@@ -95,4 +96,51 @@ pub(crate) fn words_twice(
         note_word(alloc, least, &mut seen, words, left)?;
     }
     Ok(())
+}
+
+/// The texts of these words.
+pub(crate) fn texts_of(alloc: Global, words: &[&PlacedName]) -> Result<NameTable, AllocError>
+    ensures { IfOk result (λ t. HasSeen t (words_view words.now)) }
+{
+    let mut seen = NameTable::new(alloc);
+    let mut left = words.len();
+    while left > 0 {
+        left -= 1;
+        add_word(alloc, &mut seen, words, left)?;
+    }
+    Ok(seen)
+}
+
+/// Adds the text of the word of that number.
+fn add_word(
+    alloc: Global,
+    seen: &mut NameTable,
+    words: &[&PlacedName],
+    number: usize,
+) -> Result<(), AllocError>
+    requires within { number < length words.now }
+    requires seen { HasSeen seen.now (words_view (drop (suc number) words.now)) }
+    ensures { IfOk result (λ _. HasSeen seen.new (words_view (drop number words.now))) }
+{
+    let word = words[number];
+    seen.add(alloc, &word.text)?;
+    Ok(())
+}
+
+/// Notes each of these words that is a constant of the program, at the later of the two. `seen` has
+/// the texts of the constants.
+#[tactic(auto, using(crate::proofs::Leasts::noted_append))]
+pub(crate) fn outer_twice(
+    least: &mut Least,
+    seen: &NameTable,
+    outer: &[&PlacedName],
+    words: &[&PlacedName],
+)
+    requires { HasSeen seen.now (words_view outer.now) }
+    ensures { least_view least.new ≡ noted_all (least_view least.old)
+        (outer_twice (words_view outer.now) (words_view words.now)) }
+{
+    for word in words {
+        note_if_seen(least, seen, word, outer);
+    }
 }
