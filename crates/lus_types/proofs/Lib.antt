@@ -25,3 +25,4 @@ pub mod Callees
 pub mod CircleFaults
 pub mod RowFaults
 pub mod GivenNow
+pub mod RepeatedWords

@@ -15,3 +15,4 @@ pub mod Called
 pub mod Circles
 pub mod Reads
 pub mod Given
+pub mod Repeated

@@ -26,6 +26,7 @@ mod ranks;
 mod reading;
 mod reads;
 mod recursion;
+mod repeated;
 mod rules;
 mod scope;
 mod sorts;

@@ -1,15 +1,16 @@
 //! Rules of a whole program, and the words of its declarations.
 
-ghost use Rattle.std.specs.Prelude.{◌≡◌, ◌==◌, ◌∷◌, [], IfOk, length, map, not};
+ghost use Rattle.std.specs.Prelude.{◌≡◌, ◌==◌, ◌∷◌, ◌++◌, [], IfOk, List, length, map, not};
 ghost use Rattle.lus_tree.specs.Lookup.{nodes_of};
-ghost use Rattle.lus_tree.specs.Reason.{no_node};
+ghost use Rattle.lus_tree.specs.Reason.{Refused, name_twice, no_node};
 ghost use Rattle.lus_tree.specs.View.{decl_view, program_view, word_view};
-ghost use Rattle.lus_meaning.specs.Faults.{if_so};
+ghost use Rattle.lus_meaning.specs.Faults.{if_so, words_twice};
 ghost use Rattle.lus_meaning.specs.NameFaults.{constant_words, declaration_word, start_of_text};
-ghost use Rattle.lus_types.specs.Least.{least_view, noted_all};
+ghost use Rattle.lus_types.specs.Least.{IsLeast, least_view, noted_all};
 ghost use Rattle.lus_types.specs.Words.{Adds, words_view};
 
 use crate::least::Least;
+use crate::repeated::words_twice;
 use lus_tree::{Decl, PlacedName, Pos, Program, What};
 use std::alloc::{AllocError, Global};
 
@@ -83,4 +84,21 @@ pub(crate) fn constant_words(
         push_constant_word(&mut words, decl)?;
     }
     Ok(words)
+}
+
+/// Notes the declarations of which two have one name, each two at the later place.
+///
+/// # Errors
+///
+/// Want of memory.
+pub(crate) fn declarations_twice(
+    alloc: Global,
+    least: &mut Least,
+    program: &Program,
+) -> Result<(), AllocError>
+    ensures { (fs : List Refused) → IfOk result (λ _. IsLeast (least_view least.old) fs
+        → IsLeast (least_view least.new) (fs ++ words_twice name_twice (map declaration_word (program_view program.now)))) }
+{
+    let words = declaration_words(alloc, program)?;
+    words_twice(alloc, least, &words)
 }
