@@ -21,7 +21,8 @@ use lus_tree::{ContractItem, Expr, Named, PlacedName};
 
 /// Notes the faults of expressions of truth values.
 fn flags(scope: &Scope<'_>, least: &mut Least, all: &[Named])
-    ensures { Notes (least_view least.old) (least_view least.new) (flags_of (scope_view scope.now) (map named_view all.now)) }
+    ensures { Notes (least_view least.old) (least_view least.new)
+        (flags_of (scope_view scope.now) (map named_view all.now)) }
 {
     for named in all {
         flag(scope, least, &named.value);
@@ -41,7 +42,8 @@ fn expressions(scope: &Scope<'_>, least: &mut Least, all: &[Expr])
 /// Notes the faults of a mode.
 fn note_mode(scope: &Scope<'_>, least: &mut Least, required: &[Named], ensured: &[Named])
     ensures { Notes (least_view least.old) (least_view least.new)
-        (flags_of (scope_view scope.now) (map named_view required.now) ++ flags_of (scope_view scope.now) (map named_view ensured.now)) }
+        (flags_of (scope_view scope.now) (map named_view required.now)
+        ++ flags_of (scope_view scope.now) (map named_view ensured.now)) }
 {
     flags(scope, least, required);
     flags(scope, least, ensured);
@@ -58,8 +60,8 @@ fn note_import(
     ensures { Notes (least_view least.old) (least_view least.new)
         (flat_map (expression_faults (scope_view scope.now) (on_clock base)) (map expr_view arguments.now)
         ++ (flat_map (output_known (scope_view scope.now)) (map word_view outputs.now)
-        ++ import_fits (scope_view scope.now) (word_view word.now) (map expr_view arguments.now) (map word_view outputs.now)
-        (contract_named (scope_view scope.now).program (word_view word.now).text))) }
+        ++ import_fits (scope_view scope.now) (word_view word.now) (map expr_view arguments.now)
+        (map word_view outputs.now) (contract_named (scope_view scope.now).program (word_view word.now).text))) }
 {
     expressions(scope, least, arguments);
     note_outputs(scope, least, outputs);

@@ -104,7 +104,8 @@ fn push_local<'a>(
 ) -> Result<&'a [Definition], AllocError>
     requires { count ≤ length definitions.now }
     ensures local { IfOk result (λ rest. map declared_view names.new.items ≡ map declared_view names.old.items
-        ++ (take count (map a_fixed (map definition_view definitions.now)) ++ a_stream a_local (param_view param.now) ∷ [])) }
+        ++ (take count (map a_fixed (map definition_view definitions.now))
+        ++ a_stream a_local (param_view param.now) ∷ [])) }
     ensures rest { IfOk result (λ rest. map a_fixed (map definition_view rest.now)
         ≡ drop count (map a_fixed (map definition_view definitions.now))) }
 {
@@ -121,7 +122,8 @@ fn push_interleaved<'a>(
     params: &'a [Param],
 ) -> Result<(), AllocError>
     ensures { IfOk result (λ _. map declared_view names.new.items ≡ map declared_view names.old.items
-        ++ interleaved (map a_fixed (map definition_view definitions.now)) (map (a_stream a_local) (map param_view params.now))) }
+        ++ interleaved (map a_fixed (map definition_view definitions.now))
+        (map (a_stream a_local) (map param_view params.now))) }
 {
     let mut rest = definitions;
     for param in params {

@@ -15,5 +15,6 @@ pub(crate) struct Home<'a> {
     pub(crate) owner: Owner<'a>,
     pub(crate) own: &'a [Entry<'a>],
     pub(crate) outer: Layer<'a>,
-    ghost named: { (k : ℕ) → map (entry_view (First k) false) own.now ≡ first_constants k (own_names (home_of program.now owner outer)) },
+    ghost named: { (k : ℕ) → map (entry_view (First k) false) own.now
+        ≡ first_constants k (own_names (home_of program.now owner outer)) },
 }

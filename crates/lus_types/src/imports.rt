@@ -68,7 +68,8 @@ fn note_arguments(scope: &Scope<'_>, least: &mut Least, streams: &[Param], argum
 /// Notes a name of another type than is needed.
 fn note_word(scope: &Scope<'_>, least: &mut Least, sort: Sort, word: &PlacedName)
     ensures { least_view least.new ≡ noted_all (least_view least.old)
-        (if_so (differ (Some sort) (sort_of_entry (scope_view scope.now) (word_view word.now).text)) type_clash (word_view word.now).at) }
+        (if_so (differ (Some sort) (sort_of_entry (scope_view scope.now) (word_view word.now).text))
+        type_clash (word_view word.now).at) }
 {
     let clash = differ(Some(sort), looked_up(scope, &word.text).sort);
     least.note_if(clash, What::TypeClash, word.at);
@@ -132,8 +133,8 @@ fn note_contract(
     contract: &ContractNode,
 )
     ensures { least_view least.new ≡ noted_all (least_view least.old)
-        (import_fits (scope_view scope.now) (word_view word.now) (map expr_view arguments.now) (map word_view outputs.now)
-        (Some (contract_node_view contract.now))) }
+        (import_fits (scope_view scope.now) (word_view word.now) (map expr_view arguments.now)
+        (map word_view outputs.now) (Some (contract_node_view contract.now))) }
 {
     let fits = counts_fit(contract, arguments, outputs);
     least.note_if(!fits, What::ArityClash, word.at);
@@ -151,8 +152,8 @@ pub(crate) fn note_fit(
     contract: Option<&ContractNode>,
 )
     ensures { least_view least.new ≡ noted_all (least_view least.old)
-        (import_fits (scope_view scope.now) (word_view word.now) (map expr_view arguments.now) (map word_view outputs.now)
-        (option_map (λ n. contract_node_view n.now) contract.entry)) }
+        (import_fits (scope_view scope.now) (word_view word.now) (map expr_view arguments.now)
+        (map word_view outputs.now) (option_map (λ n. contract_node_view n.now) contract.entry)) }
 {
     match contract {
         None => least.note(What::NameUnknown, word.at),

@@ -37,7 +37,8 @@ fn word<'a>(meaning: &Meaning<'a>) -> &'a PlacedName
 
 /// The first name of a list that is this one.
 fn entry<'a>(layer: Layer<'a>, hidden: bool, name: &str) -> Option<Entry<'a>>
-    ensures { option_map (entry_view layer.entry.extent hidden) result ≡ find (λ e. bytes_eq name.now e.word.text) (layer_view layer.entry hidden) }
+    ensures { option_map (entry_view layer.entry.extent hidden) result
+        ≡ find (λ e. bytes_eq name.now e.word.text) (layer_view layer.entry hidden) }
 {
     for entry in layer.entries {
         if name == word(&entry.meaning).text.as_str() {
@@ -57,7 +58,8 @@ struct Placed<'a> {
 /// What a name means at a place, where it means something.
 #[tactic(auto, using(crate::proofs::Behind::found_behind))]
 fn meaning_of<'a>(scope: &Scope<'a>, name: &str) -> Option<Placed<'a>>
-    ensures { option_map (λ p. entry_view p.extent scope.now.hidden p.found) result ≡ entry_of (scope_view scope.now) name.now }
+    ensures { option_map (λ p. entry_view p.extent scope.now.hidden p.found) result
+        ≡ entry_of (scope_view scope.now) name.now }
 {
     match entry(scope.own, scope.hidden, name) {
         Some(found) => Some(Placed {
@@ -87,9 +89,11 @@ fn is_reached(extent: Extent, order: usize) -> bool
 /// What the rules ask of a name that means this.
 fn asked_of(placed: Placed<'_>, hidden: bool) -> Known
     ensures known { result.known ≡ (entry_view placed.entry.extent hidden placed.entry.found).known }
-    ensures constant { result.constant ≡ is_constant_role (entry_view placed.entry.extent hidden placed.entry.found).role }
+    ensures constant { result.constant
+        ≡ is_constant_role (entry_view placed.entry.extent hidden placed.entry.found).role }
     ensures sort { result.sort ≡ (entry_view placed.entry.extent hidden placed.entry.found).sort }
-    ensures worth { worth_view result.worth ≡ cut_worth (worth (entry_view placed.entry.extent hidden placed.entry.found).value
+    ensures worth { worth_view result.worth
+        ≡ cut_worth (worth (entry_view placed.entry.extent hidden placed.entry.found).value
         (cond (is_constant_role (entry_view placed.entry.extent hidden placed.entry.found).role)
         (size_of (entry_view placed.entry.extent hidden placed.entry.found).value) (Some 1))) }
 {

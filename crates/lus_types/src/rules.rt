@@ -63,8 +63,8 @@ fn next_constant<'a>(
     least: &mut Least,
     constant: &'a Definition,
 ) -> Result<(), AllocError>
-    ensures noted { IfOk result (λ _. (cs : List ContractStatement) (ds : List Constant) → earlier_view before.old ≡ earlier cs ds
-        → Notes (least_view least.old) (least_view least.new)
+    ensures noted { IfOk result (λ _. (cs : List ContractStatement) (ds : List Constant)
+        → earlier_view before.old ≡ earlier cs ds → Notes (least_view least.old) (least_view least.new)
         (definition_faults (scope_with (home_view home.now) (length (contract_statement_constants cs ++ ds)) cs)
         (definition_view constant.now).sort (definition_view constant.now).value)) }
     ensures before { IfOk result (λ _. earlier_view before.new ≡ one_behind (earlier_view before.old)
@@ -100,7 +100,8 @@ fn body<'a>(
     least: &mut Least,
 ) -> Result<(), AllocError>
     requires { earlier_view before.old ≡ earlier (contract_statements (home_view home.now).owner) [] }
-    ensures { IfOk result (λ _. Notes (least_view least.old) (least_view least.new) (body_faults (home_view home.now))) }
+    ensures { IfOk result (λ _. Notes (least_view least.old) (least_view least.new)
+        (body_faults (home_view home.now))) }
 {
     constants(home, before, least, home.owner.constants())?;
     let scope = body_scope(before, home);
@@ -121,7 +122,8 @@ pub(crate) fn contract_and_body(
     least: &mut Least,
 ) -> Result<(), AllocError>
     ensures { IfOk result (λ _. Notes (least_view least.old) (least_view least.new)
-        (contract_faults (home_view home.now) [] (contract_statements (home_view home.now).owner) ++ body_faults (home_view home.now))) }
+        (contract_faults (home_view home.now) [] (contract_statements (home_view home.now).owner)
+        ++ body_faults (home_view home.now))) }
 {
     let mut before = contract(alloc, home, least, home.owner.contract())?;
     body(home, &mut before, least)
