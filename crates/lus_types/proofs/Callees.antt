@@ -7,7 +7,6 @@ use Rattle.lus_meaning.specs.Occurrences.{Occurrence, Standing, Text, before, co
 use Rattle.lus_meaning.specs.NameFaults.{callee_in}
 use Rattle.lus_types.specs.Called.{called, called_among, called_in, constant_sides, contract_sides, statement_sides, values_of}
 
-
 abbrev read : Occurrence → List Spelled
 read o = callee_in o.standing o.expression
 
@@ -26,14 +25,26 @@ abbrev mutual
   called_is n s (arrow p k a b) = split read (occurrences n (within s) a) _ ∙ (rw (called_is n (within s) a, called_is n (within s) b) refl)
   called_is n s (binary p o a b) = split read (occurrences n (within s) a) _ ∙ (rw (called_is n (within s) a, called_is n (within s) b) refl)
   called_is n s (choice p a b d) = split read (occurrences n (within s) a) _
-      ∙ (rw (called_is n (within s) a, split read (occurrences n (within s) b) (occurrences n (within s) d), called_is n (within s) b, called_is n (within s) d) refl)
+      ∙ (rw (
+        called_is n (within s) a,
+        split read (occurrences n (within s) b) (occurrences n (within s) d),
+        called_is n (within s) b,
+        called_is n
+            (within s) d,
+      ) refl)
   called_is n s (sampled p a b x) = split read (occurrences n (moved (clock_of n x.text) s) a) _
       ∙ (rw (called_is n (moved (clock_of n x.text) s) a) (append-nil (called a)))
   called_is n s (merged p x a b) = split read (occurrences n (moved (sampled_by true x.text) s) a) _
       ∙ (rw (called_is n (moved (sampled_by true x.text) s) a, called_is n (moved (sampled_by false x.text) s) b) refl)
   called_is n s (call p k f as_) = ap (λ ws. f ∷ ws) (among_is n (within s) as_)
   called_is n s (condact p k a f as_ ds) = ap (λ ws. f ∷ ws) (split read (occurrences n (within s) a) _
-      ∙ (rw (called_is n (within s) a, split read (occurrences_among n (within s) as_) (occurrences_among n (within s) ds), among_is n (within s) as_, among_is n (within s) ds) refl))
+      ∙ (rw (
+        called_is n (within s) a,
+        split read (occurrences_among n (within s) as_) (occurrences_among n (within s) ds),
+        among_is n
+            (within s) as_,
+        among_is n (within s) ds,
+      ) refl))
   called_is n s (mode_name p d m) = refl
 
   pub among_is : (n : Component) (s : Standing) (es : Expressions) → flat_map read (occurrences_among n s es) ≡ called_among es
@@ -87,15 +98,23 @@ all_statements : (n : Component) (ss : List Statement) → map second (flat_map 
 all_statements n [] = refl
 all_statements n (s ∷ ss) = joined (statement_texts n s) (flat_map (statement_texts n) ss) ∙ (rw (one_statement n s, all_statements n ss) refl)
 
-pub sides_are : (n : Component) → map second (texts n) ≡ flat_map contract_sides (contract_statements n) ++ (constant_sides n.constants ++ flat_map statement_sides n.body)
+sides_are : (n : Component) → map second (texts n) ≡ flat_map contract_sides (contract_statements n)
+    ++ (constant_sides n.constants ++ flat_map statement_sides n.body)
 sides_are n = joined (flat_map contract_statement_texts (contract_statements n)) (constant_texts n.constants ++ flat_map (statement_texts n) n.body)
-    ∙ (rw (joined (constant_texts n.constants) (flat_map (statement_texts n) n.body), all_contract (contract_statements n), all_constants n.constants, all_statements n n.body) refl)
+    ∙ (rw (
+      joined (constant_texts n.constants) (flat_map (statement_texts n) n.body),
+      all_contract
+          (contract_statements n),
+      all_constants n.constants,
+      all_statements n n.body,
+    ) refl)
 
 pub gathered_called : (n : Component) → gathered callee_in n
     ≡ called_in (flat_map contract_sides (contract_statements n)) ++ (called_in (constant_sides n.constants) ++ called_in (flat_map statement_sides n.body))
 gathered_called n = texts_called n (texts n) ∙ (rw (sides_are n)
     (split called (flat_map contract_sides (contract_statements n)) (constant_sides n.constants ++ flat_map statement_sides n.body)
-    ∙ ap (λ ws. called_in (flat_map contract_sides (contract_statements n)) ++ ws) (split called (constant_sides n.constants) (flat_map statement_sides n.body))))
+    ∙ ap (λ ws. called_in (flat_map contract_sides (contract_statements n))
+    ++ ws) (split called (constant_sides n.constants) (flat_map statement_sides n.body))))
 
 -- what is added in three steps
 pub three_steps : (a b c x y z : List Spelled) → a ≡ x → b ≡ a ++ y → c ≡ b ++ z → c ≡ x ++ (y ++ z)

@@ -110,13 +110,15 @@ behind_has t x (declared_node n ∷ ds) e = go (cases_Bool (bytes_eq x n.name.te
   where
     go : (bytes_eq x n.name.text ≡ true) ⊎ (bytes_eq x n.name.text ≡ false)
         → (named_in x (names_in ds) ≡ true → named_in x (names_behind (add t n.name.text) ds) ≡ true) → named_in x (names_behind (add t n.name.text) ds) ≡ true
-    go (inl q) r = behind_keeps (add t n.name.text) x ds (subst (λ z. named_in z (add t n.name.text) ≡ true) (sym (same_bytes x n.name.text q)) (add_has t n.name.text))
+    go (inl q) r = behind_keeps (add t n.name.text) x ds
+        (subst (λ z. named_in z (add t n.name.text) ≡ true) (sym (same_bytes x n.name.text q)) (add_has t n.name.text))
     go (inr f) r = r (rw f at e)
 behind_has t x (declared_contract n ∷ ds) e = go (cases_Bool (bytes_eq x n.name.text)) (behind_has (add t n.name.text) x ds)
   where
     go : (bytes_eq x n.name.text ≡ true) ⊎ (bytes_eq x n.name.text ≡ false)
         → (named_in x (names_in ds) ≡ true → named_in x (names_behind (add t n.name.text) ds) ≡ true) → named_in x (names_behind (add t n.name.text) ds) ≡ true
-    go (inl q) r = behind_keeps (add t n.name.text) x ds (subst (λ z. named_in z (add t n.name.text) ≡ true) (sym (same_bytes x n.name.text q)) (add_has t n.name.text))
+    go (inl q) r = behind_keeps (add t n.name.text) x ds
+        (subst (λ z. named_in z (add t n.name.text) ≡ true) (sym (same_bytes x n.name.text q)) (add_has t n.name.text))
     go (inr f) r = r (rw f at e)
 
 -- ---- callees
@@ -124,7 +126,8 @@ behind_has t x (declared_contract n ∷ ds) e = go (cases_Bool (bytes_eq x n.nam
 abbrev pub AllNamed : List Name → List Spelled → Type 0
 AllNamed t ws = AllByRecursion (λ w. named_in w.text t ≡ true) ws
 
-named_filter : (test : Spelled → Bool) (t : List Name) → ((w : Spelled) → test w ≡ true → named_in w.text t ≡ true) → (ws : List Spelled) → AllNamed t (filter test ws)
+named_filter : (test : Spelled → Bool) (t : List Name) → ((w : Spelled) → test w ≡ true → named_in w.text t ≡ true) → (ws : List Spelled)
+    → AllNamed t (filter test ws)
 named_filter test t h [] = tt
 named_filter test t h (w ∷ ws) = go (cases_Bool (test w)) (named_filter test t h ws)
   where
@@ -141,7 +144,8 @@ callees_named p t h n = named_both t
     (filter (λ f. is_declared (node_named p f.text)) (gathered callee_in n))
     (filter (λ c. is_declared (contract_named p c.text)) (flat_map import_words (contract_statements n)))
     (named_filter (λ f. is_declared (node_named p f.text)) t (λ w e. h w.text (has_declared true w.text p e)) (gathered callee_in n))
-    (named_filter (λ c. is_declared (contract_named p c.text)) t (λ w e. h w.text (has_declared false w.text p e)) (flat_map import_words (contract_statements n)))
+    (named_filter (λ c. is_declared (contract_named p c.text)) t (λ w e. h w.text (has_declared false w.text p e))
+    (flat_map import_words (contract_statements n)))
 
 abbrev pub link_to : List Name → Spelled → Link
 link_to t w = (number_of t w.text, w.at)
@@ -184,7 +188,8 @@ names_name : (ns : List Component) → AllByRecursion (λ n. named_in n.name.tex
 names_name [] = tt
 names_name (n ∷ ns) = (or_left (bytes_eq n.name.text n.name.text) (named_in n.name.text (map name_in ns)) (itself n.name.text), more ns (names_name ns))
   where
-    more : (ms : List Component) → AllByRecursion (λ m. named_in m.name.text (map name_in ns) ≡ true) ms → AllByRecursion (λ m. named_in m.name.text (map name_in (n ∷ ns)) ≡ true) ms
+    more : (ms : List Component) → AllByRecursion (λ m. named_in m.name.text (map name_in ns) ≡ true) ms
+        → AllByRecursion (λ m. named_in m.name.text (map name_in (n ∷ ns)) ≡ true) ms
     more [] a = tt
     more (m ∷ ms) a = (or_right (bytes_eq m.name.text n.name.text) (named_in m.name.text (map name_in ns)) a.0, more ms a.1)
 
@@ -221,7 +226,8 @@ module _ (p : Program) where
 
     falls_below : (k : ℕ) (ws : List Spelled) → falls_to ranks k (map (link_to table) ws) ≡ true → (y : Name) → named_in y (map text_of ws) ≡ true → rank y < k
     falls_below k [] f y e = absurd (false≢true e)
-    falls_below k (w ∷ ws) f y e = go (and_parts (nat_lt (rank w.text) k) (falls_to ranks k (map (link_to table) ws)) f) (cases_Bool (bytes_eq y w.text)) (falls_below k ws)
+    falls_below k (w ∷ ws) f y e = go (and_parts (nat_lt (rank w.text) k) (falls_to ranks k (map (link_to table) ws)) f) (cases_Bool (bytes_eq y w.text))
+        (falls_below k ws)
       where
         go : (nat_lt (rank w.text) k ≡ true) × (falls_to ranks k (map (link_to table) ws) ≡ true) → (bytes_eq y w.text ≡ true) ⊎ (bytes_eq y w.text ≡ false)
             → (falls_to ranks k (map (link_to table) ws) ≡ true → (y : Name) → named_in y (map text_of ws) ≡ true → rank y < k) → rank y < k
@@ -235,10 +241,11 @@ module _ (p : Program) where
     each_falls [] f = tt
     each_falls (n ∷ ns) f =
         let h : (falls_to ranks (rank n.name.text) (row_of p table n).1 ≡ true) × (all_fall ranks (map (row_of p table) ns) ≡ true) =
-            and_parts (falls_to ranks (rank n.name.text) (row_of p table n).1) (all_fall ranks (map (row_of p table) ns)) f in
+        and_parts (falls_to ranks (rank n.name.text) (row_of p table n).1) (all_fall ranks (map (row_of p table) ns)) f in
         (falls_below (rank n.name.text) (callees p n) (subst (λ ls. falls_to ranks (rank n.name.text) ls ≡ true) (links_of n) h.0), each_falls ns h.1)
 
-    graph_falls : (ns : List Component) → AllByRecursion IsBelow ns → AllByRecursion (λ r. (y : Name) → named_in y r.1 ≡ true → rank y < rank r.0) (map (row_in p) ns)
+    graph_falls : (ns : List Component) → AllByRecursion IsBelow ns
+        → AllByRecursion (λ r. (y : Name) → named_in y r.1 ≡ true → rank y < rank r.0) (map (row_in p) ns)
     graph_falls [] a = tt
     graph_falls (n ∷ ns) a = (a.0, graph_falls ns a.1)
 
@@ -248,11 +255,12 @@ module _ (p : Program) where
     none_back g n [] h = refl
     none_back g n (w ∷ ws) h =
         let never : named_in n.name.text (reached (length p) (graph_of p p) (w.text ∷ [])) ≡ false =
-            never_reached rank (graph_of p p) g (length p) n.name.text w.text
-            (h w.text (or_left (bytes_eq w.text w.text) (named_in w.text (map text_of ws)) (itself w.text))) in
+        never_reached rank (graph_of p p) g (length p) n.name.text w.text
+        (h w.text (or_left (bytes_eq w.text w.text) (named_in w.text (map text_of ws)) (itself w.text))) in
         rw never (none_back g n ws (λ y e. h y (or_right (bytes_eq y w.text) (named_in y (map text_of ws)) e)))
 
-    pub no_faults : (i : ℕ) (n : Component) → all_fall ranks (map (row_of p table) (components p)) ≡ true → slice_get (components p) i ≡ Some n → recursion_faults p n ≡ []
+    pub no_faults : (i : ℕ) (n : Component) → all_fall ranks (map (row_of p table) (components p)) ≡ true → slice_get (components p) i ≡ Some n
+        → recursion_faults p n ≡ []
     no_faults i n f e =
         let each : AllByRecursion IsBelow (components p) = each_falls (components p) f in
         none_back (rw (graph_is p p) (graph_falls (components p) each)) n (callees p n) (at_number IsBelow (components p) each i n e)
@@ -276,10 +284,12 @@ module _ (p : Program) where
     leads_by_name [] a y e t = absurd (false≢true e)
     leads_by_name (w ∷ ws) a y e t = go (cases_Bool (bytes_eq y w.text)) (leads_by_name ws a.1 y)
       where
-        go : (bytes_eq y w.text ≡ true) ⊎ (bytes_eq y w.text ≡ false) → (named_in y (map text_of ws) ≡ true → test y ≡ true → leads_on (is_marked marks) (map (link_to table) ws) ≡ true)
+        go : (bytes_eq y w.text ≡ true) ⊎ (bytes_eq y w.text ≡ false)
+            → (named_in y (map text_of ws) ≡ true → test y ≡ true → leads_on (is_marked marks) (map (link_to table) ws) ≡ true)
             → (is_marked marks (number_of table w.text) || leads_on (is_marked marks) (map (link_to table) ws)) ≡ true
         go (inl q) r = or_left (is_marked marks (number_of table w.text)) (leads_on (is_marked marks) (map (link_to table) ws))
-            (subst (λ z. is_marked marks (number_of table z) ≡ true) (same_bytes y w.text q) (and_parts (named_in y table) (is_marked marks (number_of table y)) t).1)
+            (subst (λ z. is_marked marks (number_of table z)
+            ≡ true) (same_bytes y w.text q) (and_parts (named_in y table) (is_marked marks (number_of table y)) t).1)
         go (inr f) r = or_right (is_marked marks (number_of table w.text)) (leads_on (is_marked marks) (map (link_to table) ws)) (r (rw f at e) t)
 
     one_back : (m : Component) → named_in m.name.text table ≡ true → is_open marks (row_of p table m) ≡ false → IsBack test (row_in p m)
@@ -293,7 +303,7 @@ module _ (p : Program) where
     each_back [] a o = tt
     each_back (m ∷ ms) a o =
         let h : (is_open marks (row_of p table m) ≡ false) × (has_open marks (map (row_of p table) ms) ≡ false) =
-            or_false (is_open marks (row_of p table m)) (has_open marks (map (row_of p table) ms)) o in
+        or_false (is_open marks (row_of p table m)) (has_open marks (map (row_of p table) ms)) o in
         (one_back m (in_table m.name.text a.0) h.0, each_back ms a.1 h.1)
 
     module _ (other : Name → Bool) (start : other n.name.text ≡ true) where
@@ -305,14 +315,16 @@ module _ (p : Program) where
       no_link [] a h = refl
       no_link (w ∷ ws) a h =
           let f : other w.text ≡ false = h w.text (or_left (bytes_eq w.text w.text) (named_in w.text (map text_of ws)) (itself w.text)) in
-          let r : leads_on by_number (map (link_to table) ws) ≡ false = no_link ws a.1 (λ y e. h y (or_right (bytes_eq y w.text) (named_in y (map text_of ws)) e)) in
+          let r : leads_on by_number (map (link_to table) ws)
+          ≡ false = no_link ws a.1 (λ y e. h y (or_right (bytes_eq y w.text) (named_in y (map text_of ws)) e)) in
           rw (name_of_number table w.text a.0, f) r
 
       backed_if : (a b : Bool) → (a ≡ false → b ≡ false) → (a || not b) ≡ true
       backed_if true b h = refl
       backed_if false b h = rw (h refl) refl
 
-      not_so : (m : Component) → IsBack other (row_in p m) → other m.name.text ≡ false → (y : Name) → named_in y (map text_of (callees p m)) ≡ true → other y ≡ false
+      not_so : (m : Component) → IsBack other (row_in p m) → other m.name.text ≡ false → (y : Name) → named_in y (map text_of (callees p m)) ≡ true → other y
+          ≡ false
       not_so m b f y e = go (cases_Bool (other y))
         where
           go : (other y ≡ true) ⊎ (other y ≡ false) → other y ≡ false
@@ -333,7 +345,8 @@ module _ (p : Program) where
 
       passes : AllByRecursion (IsBack other) (map (row_in p) (components p)) → (x : Name) → test x ≡ true → other x ≡ true
       passes b x t =
-          let parts : (named_in x table ≡ true) × (is_marked marks (number_of table x) ≡ true) = and_parts (named_in x table) (is_marked marks (number_of table x)) t in
+          let parts : (named_in x table ≡ true)
+          × (is_marked marks (number_of table x) ≡ true) = and_parts (named_in x table) (is_marked marks (number_of table x)) t in
           subst (λ z. other z ≡ true) (name_of_number table x parts.0)
           (leading.least.2.sound by_number (all_backed (components p) (names_name (components p)) b)
           (λ j m. only_start j (leading.least.1.only j m)) (number_of table x) parts.1)
@@ -353,13 +366,15 @@ module _ (p : Program) where
             ≡ map (λ f. fault node_recursion f.at) (filter (λ f. named_in n.name.text (reached (length p) (graph_of p p) (f.text ∷ []))) ws)
             → (if_so b node_recursion w.at ++ marked_faults marks (map (link_to table) ws))
             ≡ map (λ f. fault node_recursion f.at) (cond b (w ∷ filter (λ f. named_in n.name.text (reached (length p) (graph_of p p) (f.text ∷ []))) ws)
-                (filter (λ f. named_in n.name.text (reached (length p) (graph_of p p) (f.text ∷ []))) ws))
+            (filter (λ f. named_in n.name.text (reached (length p) (graph_of p p) (f.text ∷ []))) ws))
         go true r = ap (λ fs. fault node_recursion w.at ∷ fs) r
         go false r = r
 
     faults_marked : marked_faults marks (row_of p table n).1 ≡ recursion_faults p n
     faults_marked = rw (links_of n) (marked_are (callees p n) (named n))
 
-  pub faults_found : (i : ℕ) (n : Component) (marks : List Bool) → IsLeading (map (row_of p table) (components p)) (length table) (number_of table n.name.text) marks
+  pub faults_found : (i : ℕ) (n : Component) (marks : List Bool)
+      → IsLeading (map (row_of p table) (components p)) (length table) (number_of table n.name.text) marks
       → slice_get (components p) i ≡ Some n → marked_faults marks (row_of p table n).1 ≡ recursion_faults p n
-  faults_found i n marks l e = faults_marked n marks l (at_number (λ m. named_in m.name.text (names_in p) ≡ true) (components p) (names_name (components p)) i n e)
+  faults_found i n marks l e = faults_marked n marks l
+      (at_number (λ m. named_in m.name.text (names_in p) ≡ true) (components p) (names_name (components p)) i n e)

@@ -53,14 +53,16 @@ abbrev mutual
   none_read n s (arrow p k a b) u = split read (occurrences n (within s) a) _ ∙ (rw (none_read n (within s) a u) (none_read n (within s) b u))
   none_read n s (binary p o a b) u = split read (occurrences n (within s) a) _ ∙ (rw (none_read n (within s) a u) (none_read n (within s) b u))
   none_read n s (choice p a b d) u = split read (occurrences n (within s) a) _
-      ∙ (rw (none_read n (within s) a u, split read (occurrences n (within s) b) (occurrences n (within s) d), none_read n (within s) b u) (none_read n (within s) d u))
+      ∙ (rw (none_read n (within s) a u, split read (occurrences n (within s) b) (occurrences n (within s) d), none_read n (within s) b u)
+      (none_read n (within s) d u))
   none_read n s (sampled p a b x) u = split read (occurrences n (moved (clock_of n x.text) s) a) _
       ∙ (rw (none_read n (moved (clock_of n x.text) s) a u, u) refl)
   none_read n s (merged p x a b) u = absorbed x s.under_pre _ u (split read (occurrences n (moved (sampled_by true x.text) s) a) _
       ∙ (rw (none_read n (moved (sampled_by true x.text) s) a u) (none_read n (moved (sampled_by false x.text) s) b u)))
   none_read n s (call p k f as_) u = none_among n (within s) as_ u
   none_read n s (condact p k a f as_ ds) u = split read (occurrences n (within s) a) _
-      ∙ (rw (none_read n (within s) a u, split read (occurrences_among n (within s) as_) (occurrences_among n (within s) ds), none_among n (within s) as_ u) (none_among n (within s) ds u))
+      ∙ (rw (none_read n (within s) a u, split read (occurrences_among n (within s) as_) (occurrences_among n (within s) ds), none_among n (within s) as_ u)
+      (none_among n (within s) ds u))
   none_read n s (mode_name p d m) u = refl
 
   none_among : (n : Component) (s : Standing) (es : Expressions) → s.under_pre ≡ true → flat_map read (occurrences_among n s es) ≡ []
@@ -78,14 +80,26 @@ abbrev mutual
   read_is n s (arrow p k a b) u = split read (occurrences n (within s) a) _ ∙ (rw (read_is n (within s) a u, read_is n (within s) b u) refl)
   read_is n s (binary p o a b) u = split read (occurrences n (within s) a) _ ∙ (rw (read_is n (within s) a u, read_is n (within s) b u) refl)
   read_is n s (choice p a b d) u = split read (occurrences n (within s) a) _
-      ∙ (rw (read_is n (within s) a u, split read (occurrences n (within s) b) (occurrences n (within s) d), read_is n (within s) b u, read_is n (within s) d u) refl)
+      ∙ (rw (
+        read_is n (within s) a u,
+        split read (occurrences n (within s) b) (occurrences n (within s) d),
+        read_is n (within s) b u,
+        read_is n
+            (within s) d u,
+      ) refl)
   read_is n s (sampled p a b x) u = split read (occurrences n (moved (clock_of n x.text) s) a) _
       ∙ (rw (read_is n (moved (clock_of n x.text) s) a u, u) refl)
   read_is n s (merged p x a b) u = kept_word x s.under_pre _ (read_in a ++ read_in b) u (split read (occurrences n (moved (sampled_by true x.text) s) a) _
       ∙ (rw (read_is n (moved (sampled_by true x.text) s) a u, read_is n (moved (sampled_by false x.text) s) b u) refl))
   read_is n s (call p k f as_) u = among_is n (within s) as_ u
   read_is n s (condact p k a f as_ ds) u = split read (occurrences n (within s) a) _
-      ∙ (rw (read_is n (within s) a u, split read (occurrences_among n (within s) as_) (occurrences_among n (within s) ds), among_is n (within s) as_ u, among_is n (within s) ds u) refl)
+      ∙ (rw (
+        read_is n (within s) a u,
+        split read (occurrences_among n (within s) as_) (occurrences_among n (within s) ds),
+        among_is n
+            (within s) as_ u,
+        among_is n (within s) ds u,
+      ) refl)
   read_is n s (mode_name p d m) u = refl
 
   among_is : (n : Component) (s : Standing) (es : Expressions) → s.under_pre ≡ false → flat_map read (occurrences_among n s es) ≡ read_among es
@@ -167,11 +181,13 @@ added_has : (t xs : List Name) (x : Name) → named_in x xs ≡ true → named_i
 added_has t [] x e = absurd (false≢true e)
 added_has t (y ∷ ys) x e = go (cases_Bool (bytes_eq x y)) (added_has (add t y) ys x)
   where
-    go : (bytes_eq x y ≡ true) ⊎ (bytes_eq x y ≡ false) → (named_in x ys ≡ true → named_in x (added (add t y) ys) ≡ true) → named_in x (added (add t y) ys) ≡ true
+    go : (bytes_eq x y ≡ true) ⊎ (bytes_eq x y ≡ false) → (named_in x ys ≡ true → named_in x (added (add t y) ys) ≡ true) → named_in x (added (add t y) ys)
+        ≡ true
     go (inl q) r = added_keeps (add t y) ys x (subst (λ z. named_in z (add t y) ≡ true) (sym (same_bytes x y q)) (add_has t y))
     go (inr f) r = r (rw f at e)
 
-rows_named : (t : List Name) (rs : List Reading) → ((x : Name) → named_in x (names_read rs) ≡ true → named_in x t ≡ true) → AllByRecursion (λ r. named_in r.0 t ≡ true) rs
+rows_named : (t : List Name) (rs : List Reading) → ((x : Name) → named_in x (names_read rs) ≡ true → named_in x t ≡ true)
+    → AllByRecursion (λ r. named_in r.0 t ≡ true) rs
 rows_named t [] h = tt
 rows_named t (r ∷ rs) h = (
   h r.0 (or_left (bytes_eq r.0 r.0) (named_in r.0 (names_read rs)) (itself r.0)),
@@ -184,7 +200,8 @@ seeded_keeps : (t : List Name) (ms : List Bool) (xs : List Name) (j : ℕ) → i
 seeded_keeps t ms [] j e = e
 seeded_keeps t ms (x ∷ xs) j e = seeded_keeps t (set ms (number_of t x) true) xs j (still_marked ms (number_of t x) j e)
 
-seeded_has : (t : List Name) (ms : List Bool) (xs : List Name) (x : Name) → number_of t x < length ms → named_in x xs ≡ true → is_marked (seeded t ms xs) (number_of t x) ≡ true
+seeded_has : (t : List Name) (ms : List Bool) (xs : List Name) (x : Name) → number_of t x < length ms → named_in x xs ≡ true
+    → is_marked (seeded t ms xs) (number_of t x) ≡ true
 seeded_has t ms [] x l e = absurd (false≢true e)
 seeded_has t ms (y ∷ ys) x l e = go (cases_Bool (bytes_eq x y))
     (seeded_has t (set ms (number_of t y) true) ys x (rw (length-set ms (number_of t y) true) l))
@@ -230,7 +247,8 @@ module _ (outs : List Name) (rs : List Reading) (t : List Name) (marks : List Bo
   outs_given x e = rw (outs_in x e) (given.spread.kept (number_of t x)
       (seeded_has t given.start outs x (rw given.length (number_below t x (outs_in x e))) e))
 
-  leads_by : (ws : List Spelled) (y : Name) → named_in y (map text_of ws) ≡ true → is_given t marks y ≡ true → leads_on (is_marked marks) (flat_map (link_of t) ws) ≡ true
+  leads_by : (ws : List Spelled) (y : Name) → named_in y (map text_of ws) ≡ true → is_given t marks y ≡ true
+      → leads_on (is_marked marks) (flat_map (link_of t) ws) ≡ true
   leads_by [] y e g = absurd (false≢true e)
   leads_by (w ∷ ws) y e g = go (cases_Bool (bytes_eq y w.text)) (leads_by ws y)
     where
@@ -239,7 +257,8 @@ module _ (outs : List Name) (rs : List Reading) (t : List Name) (marks : List Bo
       first true ls e m = rw m refl
       first false ls e m = absurd (false≢true e)
 
-      behind : (b : Bool) (ls : List Link) → leads_on (is_marked marks) ls ≡ true → leads_on (is_marked marks) (cond b ((number_of t w.text, w.at) ∷ []) [] ++ ls) ≡ true
+      behind : (b : Bool) (ls : List Link) → leads_on (is_marked marks) ls ≡ true
+          → leads_on (is_marked marks) (cond b ((number_of t w.text, w.at) ∷ []) [] ++ ls) ≡ true
       behind true ls e = or_right (is_marked marks (number_of t w.text)) (leads_on (is_marked marks) ls) e
       behind false ls e = e
 
@@ -248,16 +267,16 @@ module _ (outs : List Name) (rs : List Reading) (t : List Name) (marks : List Bo
           → leads_on (is_marked marks) (link_of t w ++ flat_map (link_of t) ws) ≡ true
       go (inl q) r =
           let h : (named_in w.text t ≡ true) × (is_marked marks (number_of t w.text) ≡ true) =
-              and_parts (named_in w.text t) (is_marked marks (number_of t w.text)) (subst (λ z. is_given t marks z ≡ true) (same_bytes y w.text q) g) in
+          and_parts (named_in w.text t) (is_marked marks (number_of t w.text)) (subst (λ z. is_given t marks z ≡ true) (same_bytes y w.text q) g) in
           first (named_in w.text t) (flat_map (link_of t) ws) h.0 h.1
       go (inr f) r = behind (named_in w.text t) (flat_map (link_of t) ws) (r (rw f at e) g)
 
-  each_back : (qs : List Reading) → AllByRecursion (λ r. named_in r.0 t ≡ true) qs → has_open marks (map (reading_row t) qs) ≡ false → AllByRecursion (IsBack (is_given t marks)) (graph qs)
+  each_back : (qs : List Reading) → AllByRecursion (λ r. named_in r.0 t ≡ true) qs → has_open marks (map (reading_row t) qs) ≡ false
+      → AllByRecursion (IsBack (is_given t marks)) (graph qs)
   each_back [] a o = tt
   each_back (r ∷ qs) a o =
       let h : (is_open marks (reading_row t r) ≡ false) × (has_open marks (map (reading_row t) qs) ≡ false) =
-          or_false (is_open marks (reading_row t r)) (has_open marks (map (reading_row t) qs)) o in
-      (
+      or_false (is_open marks (reading_row t r)) (has_open marks (map (reading_row t) qs)) o in (
         λ y e g. rw a.0 (either_end marks (number_of t r.0) (rw marks_length (number_below t r.0 a.0))
             (free_false (is_free marks (number_of t r.0)) (leads_on (is_marked marks) (flat_map (link_of t) r.1)) h.0 (leads_by r.1 y e g))),
         each_back qs a.1 h.1,
@@ -294,7 +313,7 @@ module _ (outs : List Name) (rs : List Reading) (t : List Name) (marks : List Bo
     all_backed [] a b = refl
     all_backed (r ∷ qs) a b =
         let one : is_backed by_number (reading_row t r) ≡ true = rw (name_of_number t r.0 a.0)
-            (backed_if (other r.0) (leads_on by_number (flat_map (link_of t) r.1)) (λ f. no_link r.1 (not_so r b.0 f))) in
+        (backed_if (other r.0) (leads_on by_number (flat_map (link_of t) r.1)) (λ f. no_link r.1 (not_so r b.0 f))) in
         rw one (all_backed qs a.1 b.1)
 
     passes : AllByRecursion (IsBack other) (graph rs) → (x : Name) → is_given t marks x ≡ true → other x ≡ true
@@ -319,7 +338,8 @@ module _ (outs : List Name) (rs : List Reading) (t : List Name) (marks : List Bo
       go true e h = either (bytes_eq z r.0) (named_in z (giving qs xs)) (named_in z (names_read qs)) h e
       go false e h = or_right (bytes_eq z r.0) (named_in z (names_read qs)) (h e)
 
-  some_named : (ws : List Spelled) (xs : List Name) → list_any (λ w. named_in w.text xs) ws ≡ true → (y : Name) × (named_in y (map text_of ws) ≡ true) × (named_in y xs ≡ true)
+  some_named : (ws : List Spelled) (xs : List Name) → list_any (λ w. named_in w.text xs) ws ≡ true → (y : Name) × (named_in y (map text_of ws) ≡ true)
+      × (named_in y xs ≡ true)
   some_named [] xs e = absurd (false≢true e)
   some_named (w ∷ ws) xs e = go (cases_Bool (named_in w.text xs)) (some_named ws xs)
     where
@@ -332,17 +352,20 @@ module _ (outs : List Name) (rs : List Reading) (t : List Name) (marks : List Bo
       go (inl i) r = (w.text, or_left (bytes_eq w.text w.text) (named_in w.text (map text_of ws)) (itself w.text), i)
       go (inr f) r = let h = r (rw f at e) in (h.0, or_right (bytes_eq h.0 w.text) (named_in h.0 (map text_of ws)) h.1, h.2)
 
-  some_of : (ws : List Spelled) (xs : List Name) (y : Name) → named_in y (map text_of ws) ≡ true → named_in y xs ≡ true → list_any (λ w. named_in w.text xs) ws ≡ true
+  some_of : (ws : List Spelled) (xs : List Name) (y : Name) → named_in y (map text_of ws) ≡ true → named_in y xs ≡ true
+      → list_any (λ w. named_in w.text xs) ws ≡ true
   some_of [] xs y e i = absurd (false≢true e)
   some_of (w ∷ ws) xs y e i = go (cases_Bool (bytes_eq y w.text)) (some_of ws xs y)
     where
-      go : (bytes_eq y w.text ≡ true) ⊎ (bytes_eq y w.text ≡ false) → (named_in y (map text_of ws) ≡ true → named_in y xs ≡ true → list_any (λ w. named_in w.text xs) ws ≡ true)
+      go : (bytes_eq y w.text ≡ true) ⊎ (bytes_eq y w.text ≡ false)
+          → (named_in y (map text_of ws) ≡ true → named_in y xs ≡ true → list_any (λ w. named_in w.text xs) ws ≡ true)
           → (named_in w.text xs || list_any (λ w. named_in w.text xs) ws) ≡ true
       go (inl q) r = or_left (named_in w.text xs) (list_any (λ w. named_in w.text xs) ws) (subst (λ z. named_in z xs ≡ true) (same_bytes y w.text q) i)
       go (inr f) r = or_right (named_in w.text xs) (list_any (λ w. named_in w.text xs) ws) (r (rw f at e) i)
 
   -- a test that goes back passes what is given by names that pass
-  giving_passes : (test : Name → Bool) (qs : List Reading) → AllByRecursion (IsBack test) (graph qs) → (xs : List Name) → AllOf test xs → AllOf test (giving qs xs)
+  giving_passes : (test : Name → Bool) (qs : List Reading) → AllByRecursion (IsBack test) (graph qs) → (xs : List Name) → AllOf test xs
+      → AllOf test (giving qs xs)
   giving_passes test [] b xs a z e = absurd (false≢true e)
   giving_passes test (r ∷ qs) b xs a z e = go (cases_Bool (list_any (λ w. named_in w.text xs) r.1)) (giving_passes test qs b.1 xs a z)
     where
@@ -351,7 +374,8 @@ module _ (outs : List Name) (rs : List Reading) (t : List Name) (marks : List Bo
       part e s (inl q) k = let h = some_named r.1 xs s in subst (λ x. test x ≡ true) (sym (same_bytes z r.0 q)) (b.0 h.0 h.1 (a h.0 h.2))
       part e s (inr f) k = k (rw f at e)
 
-      go : (list_any (λ w. named_in w.text xs) r.1 ≡ true) ⊎ (list_any (λ w. named_in w.text xs) r.1 ≡ false) → (named_in z (giving qs xs) ≡ true → test z ≡ true) → test z ≡ true
+      go : (list_any (λ w. named_in w.text xs) r.1 ≡ true) ⊎ (list_any (λ w. named_in w.text xs) r.1 ≡ false)
+          → (named_in z (giving qs xs) ≡ true → test z ≡ true) → test z ≡ true
       go (inl s) k = part (subst (λ c. named_in z (cond c (r.0 ∷ []) [] ++ giving qs xs) ≡ true) s e) s (cases_Bool (bytes_eq z r.0)) k
       go (inr f) k = k (subst (λ c. named_in z (cond c (r.0 ∷ []) [] ++ giving qs xs) ≡ true) f e)
 
@@ -362,7 +386,8 @@ module _ (outs : List Name) (rs : List Reading) (t : List Name) (marks : List Bo
     closed : (y : Name) → named_in y (giving rs all) ≡ true → named_in y all ≡ true
     closed = closed_after (giving rs) (names_read rs) (in_giving rs) k outs enough
 
-    goes_back : (qs : List Reading) → ((y : Name) → named_in y (giving qs all) ≡ true → named_in y all ≡ true) → AllByRecursion (IsBack (λ y. named_in y all)) (graph qs)
+    goes_back : (qs : List Reading) → ((y : Name) → named_in y (giving qs all) ≡ true → named_in y all ≡ true)
+        → AllByRecursion (IsBack (λ y. named_in y all)) (graph qs)
     goes_back [] h = tt
     goes_back (r ∷ qs) h = (
       λ y e i. h r.0 (rw (some_of r.1 all y e i) (or_left (bytes_eq r.0 r.0) (named_in r.0 (giving qs all)) (itself r.0))),
@@ -376,9 +401,12 @@ module _ (outs : List Name) (rs : List Reading) (t : List Name) (marks : List Bo
     pub is_reached : (x : Name) → is_given t marks x ≡ named_in x all
     is_reached x = go (cases_Bool (is_given t marks x)) (cases_Bool (named_in x all))
       where
-        go : (is_given t marks x ≡ true) ⊎ (is_given t marks x ≡ false) → (named_in x all ≡ true) ⊎ (named_in x all ≡ false) → is_given t marks x ≡ named_in x all
+        go : (is_given t marks x ≡ true) ⊎ (is_given t marks x ≡ false) → (named_in x all ≡ true) ⊎ (named_in x all ≡ false) → is_given t marks x
+            ≡ named_in x all
         go (inl g) o = g ∙ sym (passes (λ y. named_in y all) (λ y e. starts_grown (giving rs) k outs y e) (goes_back rs closed) x g)
-        go (inr f) (inl i) = absurd (true≢false (sym (all_grown (giving rs) (is_given t marks) (giving_passes (is_given t marks) rs (each_back rs rows_in given.settled)) k outs outs_given x i) ∙ f))
+        go (inr f) (inl i) = absurd
+            (true≢false (sym (all_grown (giving rs) (is_given t marks)
+            (giving_passes (is_given t marks) rs (each_back rs rows_in given.settled)) k outs outs_given x i) ∙ f))
         go (inr f) (inr i) = f ∙ sym i
 
 -- ---- the faults
@@ -405,8 +433,8 @@ pub read_noted : (s : Scope) (t : List Name) (marks : List Bool) (cs : List Cont
     → IsLeast o fs → IsLeast q (fs ++ assumption_faults s)
 read_noted s t marks cs vs ec ev g ws ew o q fs eq i =
     let is : IsGiven (output_names s.owner.outputs) (flat_map (ghost_readings s) (contract_statements s.owner)) t marks =
-        subst (λ zs. IsGiven (output_names s.owner.outputs) (flat_map (ghost_readings s) zs) t marks) ec
-        (subst (λ us. IsGiven (output_names us) (flat_map (ghost_readings s) cs) t marks) ev g) in
+    subst (λ zs. IsGiven (output_names s.owner.outputs) (flat_map (ghost_readings s) zs) t marks) ec
+    (subst (λ us. IsGiven (output_names us) (flat_map (ghost_readings s) cs) t marks) ev g) in
     let same : read_faults t marks ws ≡ assumption_faults s =
-        ap (read_faults t marks) (ew ∙ ap (λ zs. flat_map (λ c. flat_map read_in (restricted c)) zs) ec) ∙ faults_read s t marks is in
+    ap (read_faults t marks) (ew ∙ ap (λ zs. flat_map (λ c. flat_map read_in (restricted c)) zs) ec) ∙ faults_read s t marks is in
     rw (eq, ← same) (least_noted_all o fs (read_faults t marks ws) i)

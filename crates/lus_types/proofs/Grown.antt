@@ -163,10 +163,10 @@ module _ (next : List Name → List Name) (us : List Name) (within : (xs : List 
           let i : named_in z (new_among xs (next xs)) ≡ true = ap (named_in z) e ∙ rw (itself z) refl in
           let j : (named_in z (next xs) && not (named_in z xs)) ≡ true = sym (in_new z xs (next xs)) ∙ i in
           let h : left_of (xs ++ new_among xs (next xs)) us < left_of xs us =
-              less_left xs (xs ++ new_among xs (next xs)) us z (kept xs)
-              (within xs z (and_first (named_in z (next xs)) (not (named_in z xs)) j))
-              (not_is_false (named_in z xs) (and_second (named_in z (next xs)) (not (named_in z xs)) j))
-              (in_joined z xs (new_among xs (next xs)) ∙ or_right (named_in z xs) (named_in z (new_among xs (next xs))) i) in
+          less_left xs (xs ++ new_among xs (next xs)) us z (kept xs)
+          (within xs z (and_first (named_in z (next xs)) (not (named_in z xs)) j))
+          (not_is_false (named_in z xs) (and_second (named_in z (next xs)) (not (named_in z xs)) j))
+          (in_joined z xs (new_among xs (next xs)) ∙ or_right (named_in z xs) (named_in z (new_among xs (next xs))) i) in
           r (omega (arith, h, l))
 
   left_all : (xs vs : List Name) → left_of xs vs ≤ length vs

@@ -55,7 +55,8 @@ next_within us (r ∷ rs) a xs y e = go (in_first (named_in r.0 xs) r.1 (next_in
     go (inr t) h = h t
 
 -- what passes no test that goes back
-next_none : (test : Name → Bool) (g : Graph) → AllByRecursion (IsBack test) g → (xs : List Name) → AllOf (λ x. not (test x)) xs → AllOf (λ x. not (test x)) (next_in g xs)
+next_none : (test : Name → Bool) (g : Graph) → AllByRecursion (IsBack test) g → (xs : List Name) → AllOf (λ x. not (test x)) xs
+    → AllOf (λ x. not (test x)) (next_in g xs)
 next_none test [] b xs a y e = absurd (false≢true e)
 next_none test (r ∷ rs) b xs a y e = go (in_first (named_in r.0 xs) r.1 (next_in rs xs) y e) (next_none test rs b.1 xs a y)
   where
@@ -124,7 +125,8 @@ module _ (g : Graph) (us : List Name) (k : ℕ) (within : AreWithin us g) (enoug
   abbrev leads : Name → Bool
   leads x = named_in n (from x)
 
-  leads_back : (rs : Graph) → ((x : Name) → AllByRecursion (λ r. (y : Name) → named_in r.0 (from x) ≡ true → named_in y r.1 ≡ true → named_in y (next_in g (from x)) ≡ true) rs)
+  leads_back : (rs : Graph)
+      → ((x : Name) → AllByRecursion (λ r. (y : Name) → named_in r.0 (from x) ≡ true → named_in y r.1 ≡ true → named_in y (next_in g (from x)) ≡ true) rs)
       → AllByRecursion (IsBack leads) rs
   leads_back [] h = tt
   leads_back (r ∷ rs) h = (
@@ -139,7 +141,8 @@ module _ (g : Graph) (us : List Name) (k : ℕ) (within : AreWithin us g) (enoug
     reaches x = go (cases_Bool (test x)) ∙ ap (named_in n) (sym (reached_grown k g (x ∷ [])))
       where
         none : test x ≡ false → AllOf (λ y. not (test y)) (from x)
-        none f = all_grown (next_in g) (λ y. not (test y)) (next_none test g back) k (x ∷ []) (λ z i. subst (λ w. not (test w) ≡ true) (sym (only z x i)) (rw f refl))
+        none f = all_grown (next_in g) (λ y. not (test y)) (next_none test g back) k (x ∷ [])
+            (λ z i. subst (λ w. not (test w) ≡ true) (sym (only z x i)) (rw f refl))
 
         unreached : (b : Bool) → named_in n (from x) ≡ b → test x ≡ false → named_in n (from x) ≡ false
         unreached true e f = absurd (false≢true (rw seed at (none f n e)))
@@ -168,7 +171,9 @@ never_reached rank g a k n x l = go (cases_Bool (named_in n (reached k g (x ∷ 
   where
     below : (k : ℕ) (xs : List Name) → ((y : Name) → named_in y xs ≡ true → rank y ≤ rank x) → (y : Name) → named_in y (reached k g xs) ≡ true → rank y ≤ rank x
     below zero xs h = h
-    below (suc k) xs h = below k (xs ++ new_among xs (next_in g xs)) (λ y e. part y (or_parts (named_in y xs) (named_in y (new_among xs (next_in g xs))) (sym (in_joined y xs (new_among xs (next_in g xs))) ∙ e)))
+    below (suc k) xs h = below k (xs
+        ++ new_among xs (next_in g xs))
+        (λ y e. part y (or_parts (named_in y xs) (named_in y (new_among xs (next_in g xs))) (sym (in_joined y xs (new_among xs (next_in g xs))) ∙ e)))
       where
         part : (y : Name) → (named_in y xs ≡ true) ⊎ (named_in y (new_among xs (next_in g xs)) ≡ true) → rank y ≤ rank x
         part y (inl t) = h y t

@@ -30,7 +30,8 @@ met w ws = meets same_word (λ w. w.at) name_twice w ws
 nowhere : (w : Spelled) (ws : List Spelled) → named_in w.text (map text_of ws) ≡ false → met w ws ≡ []
 nowhere w [] f = refl
 nowhere w (v ∷ vs) f =
-    let h : (bytes_eq w.text v.text ≡ false) × (named_in w.text (map text_of vs) ≡ false) = or_false (bytes_eq w.text v.text) (named_in w.text (map text_of vs)) f in
+    let h : (bytes_eq w.text v.text ≡ false)
+    × (named_in w.text (map text_of vs) ≡ false) = or_false (bytes_eq w.text v.text) (named_in w.text (map text_of vs)) f in
     rw h.0 (nowhere w vs h.1)
 
 pub none_met : (t : List Name) (w : Spelled) (ws : List Spelled) → HasSeen t ws → named_in w.text t ≡ false → met w ws ≡ []
@@ -54,7 +55,8 @@ seen_one_more t w ws h x = go (cases_Bool (named_in w.text t)) (cases_Bool (byte
 -- the same faults in another order
 same_twice : (p : Refused → Bool) (ws : List Spelled) → failing p (twice_from_last ws) ≡ failing p (words_twice name_twice ws)
 same_twice p [] = refl
-same_twice p (w ∷ ws) = omega (arith, failing_append p (twice_from_last ws) (met w ws), failing_append p (met w ws) (words_twice name_twice ws), same_twice p ws)
+same_twice p (w ∷ ws) = omega
+    (arith, failing_append p (twice_from_last ws) (met w ws), failing_append p (met w ws) (words_twice name_twice ws), same_twice p ws)
 
 are_same : (ws : List Spelled) → AreSame (twice_from_last ws) (words_twice name_twice ws)
 are_same ws p = record { there = λ e. sym (same_twice p ws) ∙ e; back = λ e. same_twice p ws ∙ e }
@@ -73,7 +75,8 @@ module _ (words : List (Bor PlacedName)) (k : ℕ) (w : Bor PlacedName) (within 
 
   pub noted_front : (o p q : Option Refused) → p ≡ noted_all o (twice_from_last (words_view (drop (suc k) words)))
       → q ≡ noted_all p (met (word_view w.now) (words_view (drop (suc k) words))) → q ≡ noted_all o (twice_from_last (words_view (drop k words)))
-  noted_front o p q e f = rw front (f ∙ (rw e (sym (noted_append o (twice_from_last (words_view (drop (suc k) words))) (met (word_view w.now) (words_view (drop (suc k) words)))))))
+  noted_front o p q e f = rw front (f
+      ∙ (rw e (sym (noted_append o (twice_from_last (words_view (drop (suc k) words))) (met (word_view w.now) (words_view (drop (suc k) words)))))))
 
   pub seen_front : (t u : List Name) → u ≡ add t (word_view w.now).text → HasSeen t (words_view (drop (suc k) words)) → HasSeen u (words_view (drop k words))
   seen_front t u e h = rw (front, e) (seen_one_more t (word_view w.now) (words_view (drop (suc k) words)) h)

@@ -24,7 +24,8 @@ in_some a b e = ap of e
     of None = a
     of (Some r) = r
 
-module _ (p : Program) (g : Graph) (is : IsGraph p g) (i : ℕ) (n : Component) (at : slice_get (components p) i ≡ Some n) (o : Option Refused) (fs : List Refused) (least : IsLeast o fs) where
+module _ (p : Program) (g : Graph) (is : IsGraph p g) (i : ℕ) (n : Component) (at : slice_get (components p) i
+    ≡ Some n) (o : Option Refused) (fs : List Refused) (least : IsLeast o fs) where
   pub none_noted : g.falls ≡ true → IsLeast o (fs ++ recursion_faults p n)
   none_noted f =
       let h : (ranks : List ℕ) × (all_fall ranks (map row_view g.rows.items) ≡ true) = is.falls f in
@@ -40,8 +41,9 @@ module _ (p : Program) (g : Graph) (is : IsGraph p g) (i : ℕ) (n : Component) 
   row_noted r e marks l q f =
       let s : row_view r ≡ row_of p (names_behind [] p) n = row_is r e in
       let m : IsLeading (map (row_of p (names_behind [] p)) (components p)) (length (names_behind [] p)) (number_of (names_behind [] p) n.name.text) marks =
-          subst (λ (k : ℕ). IsLeading (map (row_of p (names_behind [] p)) (components p)) (length (names_behind [] p)) k marks) (ap (λ (v : Row). v.0) s)
-          (subst (λ (c : ℕ). IsLeading (map (row_of p (names_behind [] p)) (components p)) c r.from marks) is.count
-          (subst (λ (rs : List Row). IsLeading rs g.count r.from marks) is.rows l)) in
-      let same : marked_faults marks (map link_view r.links.items) ≡ recursion_faults p n = ap (λ (v : Row). marked_faults marks v.1) s ∙ faults_found p i n marks m at in
+      subst (λ (k : ℕ). IsLeading (map (row_of p (names_behind [] p)) (components p)) (length (names_behind [] p)) k marks) (ap (λ (v : Row). v.0) s)
+      (subst (λ (c : ℕ). IsLeading (map (row_of p (names_behind [] p)) (components p)) c r.from marks) is.count
+      (subst (λ (rs : List Row). IsLeading rs g.count r.from marks) is.rows l)) in
+      let same : marked_faults marks (map link_view r.links.items) ≡ recursion_faults p n = ap (λ (v : Row). marked_faults marks v.1) s
+      ∙ faults_found p i n marks m at in
       rw (f, ← same) (least_noted_all o fs (marked_faults marks (map link_view r.links.items)) least)

@@ -63,7 +63,8 @@ fn push_called_labelled<'a>(
     words: &mut Vec<&'a PlacedName>,
     labelled: &'a [Named],
 ) -> Result<(), AllocError>
-    ensures { IfOk result (λ _. Adds words.old.items words.new.items (called_in (values_of (map named_view labelled.now)))) }
+    ensures { IfOk result
+        (λ _. Adds words.old.items words.new.items (called_in (values_of (map named_view labelled.now)))) }
 {
     for named in labelled {
         push_called(words, &named.value)?;
@@ -76,7 +77,8 @@ fn push_called_constants<'a>(
     words: &mut Vec<&'a PlacedName>,
     constants: &'a [Definition],
 ) -> Result<(), AllocError>
-    ensures { IfOk result (λ _. Adds words.old.items words.new.items (called_in (constant_sides (map definition_view constants.now)))) }
+    ensures { IfOk result
+        (λ _. Adds words.old.items words.new.items (called_in (constant_sides (map definition_view constants.now)))) }
 {
     for constant in constants {
         push_called(words, &constant.value)?;
@@ -102,7 +104,8 @@ fn push_called_contract_item<'a>(
     words: &mut Vec<&'a PlacedName>,
     item: &'a ContractItem,
 ) -> Result<(), AllocError>
-    ensures { IfOk result (λ _. Adds words.old.items words.new.items (called_in (contract_sides (contract_item_view item.now)))) }
+    ensures { IfOk result
+        (λ _. Adds words.old.items words.new.items (called_in (contract_sides (contract_item_view item.now)))) }
 {
     match item {
         ContractItem::Assume(named) | ContractItem::Guarantee(named) => {
@@ -123,7 +126,9 @@ fn push_called_contract<'a>(
     words: &mut Vec<&'a PlacedName>,
     items: &'a [ContractItem],
 ) -> Result<(), AllocError>
-    ensures { IfOk result (λ _. Adds words.old.items words.new.items (called_in (flat_map contract_sides (map contract_item_view items.now)))) }
+    ensures { IfOk result
+        (λ _. Adds words.old.items words.new.items
+        (called_in (flat_map contract_sides (map contract_item_view items.now)))) }
 {
     for item in items {
         push_called_contract_item(words, item)?;
@@ -132,11 +137,9 @@ fn push_called_contract<'a>(
 }
 
 /// The words, and behind them those that an item of a body calls.
-fn push_called_item<'a>(
-    words: &mut Vec<&'a PlacedName>,
-    item: &'a Item,
-) -> Result<(), AllocError>
-    ensures { IfOk result (λ _. Adds words.old.items words.new.items (called_in (statement_sides (item_view item.now)))) }
+fn push_called_item<'a>(words: &mut Vec<&'a PlacedName>, item: &'a Item) -> Result<(), AllocError>
+    ensures { IfOk result
+        (λ _. Adds words.old.items words.new.items (called_in (statement_sides (item_view item.now)))) }
 {
     match item {
         Item::Equation(_, value) | Item::Assert(value) => push_called(words, value),
@@ -150,7 +153,8 @@ fn push_called_body<'a>(
     words: &mut Vec<&'a PlacedName>,
     items: &'a [Item],
 ) -> Result<(), AllocError>
-    ensures { IfOk result (λ _. Adds words.old.items words.new.items (called_in (flat_map statement_sides (map item_view items.now)))) }
+    ensures { IfOk result
+        (λ _. Adds words.old.items words.new.items (called_in (flat_map statement_sides (map item_view items.now)))) }
 {
     for item in items {
         push_called_item(words, item)?;

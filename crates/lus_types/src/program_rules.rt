@@ -60,10 +60,7 @@ pub(crate) fn declaration_words(
 }
 
 /// The words, and behind them the name of a constant.
-fn push_constant_word<'a>(
-    words: &mut Vec<&'a PlacedName>,
-    decl: &'a Decl,
-) -> Result<(), AllocError>
+fn push_constant_word<'a>(words: &mut Vec<&'a PlacedName>, decl: &'a Decl) -> Result<(), AllocError>
     ensures { IfOk result (λ _. Adds words.old.items words.new.items (constant_words (decl_view decl.now ∷ []))) }
 {
     if let Decl::Constant(definition) = decl {
@@ -97,7 +94,8 @@ pub(crate) fn declarations_twice(
     program: &Program,
 ) -> Result<(), AllocError>
     ensures { (fs : List Refused) → IfOk result (λ _. IsLeast (least_view least.old) fs
-        → IsLeast (least_view least.new) (fs ++ words_twice name_twice (map declaration_word (program_view program.now)))) }
+        → IsLeast (least_view least.new) (fs
+        ++ words_twice name_twice (map declaration_word (program_view program.now)))) }
 {
     let words = declaration_words(alloc, program)?;
     words_twice(alloc, least, &words)

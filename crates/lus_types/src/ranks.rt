@@ -10,7 +10,11 @@ use std::alloc::{AllocError, Global};
 pub(crate) fn rank_of(ranks: &[usize], number: usize) -> usize
     ensures { result ≡ rank_of ranks.now number }
 {
-    if number < ranks.len() { ranks[number] } else { 0 }
+    if number < ranks.len() {
+        ranks[number]
+    } else {
+        0
+    }
 }
 
 /// As many zeros.
@@ -50,11 +54,7 @@ fn wait(
 }
 
 /// The links of a row, which wait.
-fn wait_row(
-    waits: &mut [usize],
-    callers: &mut [Vec<usize>],
-    row: &Row,
-) -> Result<(), AllocError> {
+fn wait_row(waits: &mut [usize], callers: &mut [Vec<usize>], row: &Row) -> Result<(), AllocError> {
     for link in &row.links {
         wait(waits, callers, row.from, link.to)?;
     }

@@ -62,7 +62,8 @@ fn add_ghost(
     names: &mut NameTable,
     item: &ContractItem,
 ) -> Result<(), AllocError>
-    ensures { IfOk result (λ _. names.new ≡ added names.old (names_read (ghost_readings (scope_view scope.now) (contract_item_view item.now)))) }
+    ensures { IfOk result (λ _. names.new
+        ≡ added names.old (names_read (ghost_readings (scope_view scope.now) (contract_item_view item.now)))) }
 {
     if let ContractItem::Ghost(param, _) = item {
         if is_ghost(scope, &param.name.text) {
@@ -89,8 +90,13 @@ fn add_ghosts(
 }
 
 /// The links, and behind them one to what is read, where that has a number.
-fn push_read_link(links: &mut Vec<Link>, names: &NameTable, read: Read<'_>) -> Result<(), AllocError>
-    ensures { IfOk result (λ _. map link_view links.new.items ≡ map link_view links.old.items ++ link_of names.now (read_view read.entry)) }
+fn push_read_link(
+    links: &mut Vec<Link>,
+    names: &NameTable,
+    read: Read<'_>,
+) -> Result<(), AllocError>
+    ensures { IfOk result (λ _. map link_view links.new.items ≡ map link_view links.old.items
+        ++ link_of names.now (read_view read.entry)) }
 {
     if let Some(to) = names.number(read.text) {
         let link = Link { to, at: read.at };

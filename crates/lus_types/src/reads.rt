@@ -44,7 +44,8 @@ fn push_form_reads<'a>(
     at: Pos,
     form: &'a Form,
 ) -> Result<(), AllocError>
-    ensures { IfOk result (λ _. ReadsOn reads.old.items reads.new.items (read_in (form_view form.now record { from = from; at = at }))) }
+    ensures { IfOk result
+        (λ _. ReadsOn reads.old.items reads.new.items (read_in (form_view form.now record { from = from; at = at }))) }
 {
     match form {
         Form::Name(x) => {
@@ -100,7 +101,8 @@ fn push_argument_reads<'a>(
     reads: &mut Vec<Read<'a>>,
     arguments: &'a [Expr],
 ) -> Result<(), AllocError>
-    ensures { IfOk result (λ _. ReadsOn reads.old.items reads.new.items (flat_map read_in (map expr_view arguments.now))) }
+    ensures { IfOk result
+        (λ _. ReadsOn reads.old.items reads.new.items (flat_map read_in (map expr_view arguments.now))) }
 {
     for argument in arguments {
         push_reads(reads, argument)?;
@@ -109,11 +111,9 @@ fn push_argument_reads<'a>(
 }
 
 /// The reads, and behind them those of an item that restricts inputs: an assumption, or an import.
-fn push_restricted<'a>(
-    reads: &mut Vec<Read<'a>>,
-    item: &'a ContractItem,
-) -> Result<(), AllocError>
-    ensures { IfOk result (λ _. ReadsOn reads.old.items reads.new.items (flat_map read_in (restricted (contract_item_view item.now)))) }
+fn push_restricted<'a>(reads: &mut Vec<Read<'a>>, item: &'a ContractItem) -> Result<(), AllocError>
+    ensures { IfOk result
+        (λ _. ReadsOn reads.old.items reads.new.items (flat_map read_in (restricted (contract_item_view item.now)))) }
 {
     match item {
         ContractItem::Assume(named) => push_reads(reads, &named.value),
@@ -130,7 +130,8 @@ pub(crate) fn restricted_reads(
     alloc: Global,
     items: &[ContractItem],
 ) -> Result<Vec<Read<'_>>, AllocError>
-    ensures { IfOk result (λ v. map read_view v.items ≡ flat_map (λ c. flat_map read_in (restricted c)) (map contract_item_view items.now)) }
+    ensures { IfOk result (λ v. map read_view v.items
+        ≡ flat_map (λ c. flat_map read_in (restricted c)) (map contract_item_view items.now)) }
 {
     let mut reads = Vec::new(alloc);
     for item in items {

@@ -74,7 +74,8 @@ fn number_of(names: &NameTable, name: &str) -> usize
 
 /// The links, and behind them one to this name, where it has a number.
 fn push_link(links: &mut Vec<Link>, names: &NameTable, word: &PlacedName) -> Result<(), AllocError>
-    ensures { IfOk result (λ _. map link_view links.new.items ≡ map link_view links.old.items ++ link_of names.now (word_view word.now)) }
+    ensures { IfOk result (λ _. map link_view links.new.items ≡ map link_view links.old.items
+        ++ link_of names.now (word_view word.now)) }
 {
     if let Some(to) = names.number(&word.text) {
         let link = Link { to, at: word.at };
@@ -156,7 +157,8 @@ fn row_by(
     calls: &[&PlacedName],
     imports: &[&PlacedName],
 ) -> Result<Row, AllocError>
-    ensures { IfOk result (λ r. row_view r ≡ row_by (program_view program.now) names.now name.now (words_view calls.now) (words_view imports.now)) }
+    ensures { IfOk result (λ r. row_view r
+        ≡ row_by (program_view program.now) names.now name.now (words_view calls.now) (words_view imports.now)) }
 {
     let mut links = Vec::new(alloc);
     push_node_links(&mut links, program, names, calls)?;
@@ -188,7 +190,8 @@ fn contract_row(
     names: &NameTable,
     contract: &ContractNode,
 ) -> Result<Row, AllocError>
-    ensures { IfOk result (λ r. row_view r ≡ row_of (program_view program.now) names.now (contract_node_view contract.now)) }
+    ensures { IfOk result (λ r. row_view r
+        ≡ row_of (program_view program.now) names.now (contract_node_view contract.now)) }
 {
     let calls = contract_calls(alloc, contract)?;
     let imports = imports_of(alloc, &contract.items)?;
@@ -222,7 +225,8 @@ fn push_row(
 
 /// A row for each declaration with parts.
 fn rows_of(alloc: Global, program: &Program, names: &NameTable) -> Result<Vec<Row>, AllocError>
-    ensures { IfOk result (λ v. map row_view v.items ≡ map (row_of (program_view program.now) names.now) (components (program_view program.now))) }
+    ensures { IfOk result (λ v. map row_view v.items
+        ≡ map (row_of (program_view program.now) names.now) (components (program_view program.now))) }
 {
     let mut rows = Vec::new(alloc);
     for decl in &program.decls {
@@ -292,7 +296,8 @@ fn leading(alloc: Global, graph: &Graph, number: usize) -> Result<Vec<bool>, All
 
 /// Notes the links to marked numbers.
 fn note_marked(least: &mut Least, marks: &[bool], links: &[Link])
-    ensures { least_view least.new ≡ noted_all (least_view least.old) (marked_faults marks.now (map link_view links.now)) }
+    ensures { least_view least.new
+        ≡ noted_all (least_view least.old) (marked_faults marks.now (map link_view links.now)) }
 {
     for link in links {
         least.note_if(is_marked(marks, link.to), What::NodeRecursion, link.at);
@@ -312,8 +317,10 @@ pub(crate) fn recursion(
     number: usize,
 ) -> Result<(), AllocError>
     requires { number < length graph.now.rows.items }
-    ensures { (p : Declarations) (n : Component) (fs : List Refused) → IsGraph p graph.now → slice_get (components p) number ≡ Some n
-        → IfOk result (λ _. IsLeast (least_view least.old) fs → IsLeast (least_view least.new) (fs ++ recursion_faults p n)) }
+    ensures { (p : Declarations) (n : Component) (fs : List Refused) → IsGraph p graph.now
+        → slice_get (components p) number ≡ Some n
+        → IfOk result (λ _. IsLeast (least_view least.old) fs
+        → IsLeast (least_view least.new) (fs ++ recursion_faults p n)) }
 {
     if graph.falls {
         return Ok(());

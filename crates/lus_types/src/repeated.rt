@@ -66,7 +66,8 @@ fn note_word(
 ) -> Result<(), AllocError>
     requires within { number < length words.now }
     requires seen { HasSeen seen.now (words_view (drop (suc number) words.now)) }
-    ensures noted { IfOk result (λ _. (o : Option Refused) → least_view least.old ≡ noted_all o (twice_from_last (words_view (drop (suc number) words.now)))
+    ensures noted { IfOk result (λ _. (o : Option Refused) → least_view least.old
+        ≡ noted_all o (twice_from_last (words_view (drop (suc number) words.now)))
         → least_view least.new ≡ noted_all o (twice_from_last (words_view (drop number words.now)))) }
     ensures seen { IfOk result (λ _. HasSeen seen.new (words_view (drop number words.now))) }
 {

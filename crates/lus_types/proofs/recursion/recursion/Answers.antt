@@ -9,4 +9,5 @@ returns-then-graph c = λ p n fs g e i. none_noted p c.args.graph.now g c.args.n
 
 pub returns : goal.returns
 returns c = λ p n fs g e i. row_noted p c.args.graph.now g c.args.number n e (least_view c.args.least.now) fs i
-    c.index-row.result.now (slice_get_read c.args.graph.now.rows.items _ c.args.number c.index-row.result.now refl c.requires c.index-row.ensures) c.in_ok-marks.marks.items c.in_ok-marks.ensures (least_view c.note_marked.new.least) (search rules)
+    c.index-row.result.now
+    (slice_get_read c.args.graph.now.rows.items _ c.args.number c.index-row.result.now refl c.requires c.index-row.ensures) c.in_ok-marks.marks.items c.in_ok-marks.ensures (least_view c.note_marked.new.least) (search rules)

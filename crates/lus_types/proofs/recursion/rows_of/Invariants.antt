@@ -7,5 +7,6 @@ use Rattle.lus_types.proofs.recursion.rows_of.Given as goal
 
 -- what is there, followed by what is to come, is all
 abbrev pub invariant-loop-decl : goal.invariant-loop-decl
-invariant-loop-decl l = map row_view l.rows.items ++ map (row_of (program_view l.program) l.names) (components (map decl_view (drop l.decl-index l.program.decls.items)))
+invariant-loop-decl l = map row_view l.rows.items
+    ++ map (row_of (program_view l.program) l.names) (components (map decl_view (drop l.decl-index l.program.decls.items)))
     ≡ map (row_of (program_view l.program) l.names) (components (map decl_view l.program.decls.items))
