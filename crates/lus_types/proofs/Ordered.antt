@@ -1,10 +1,10 @@
 -- The first constants of a list, where each name knows how many constants stand before it.
-use Rattle.std.proofs.Common.{◌≡◌, ℕ, zero, suc, ◌+◌, ◌-◌, Bool, true, false, cond, not, ◌&&◌, ◌||◌, List, [], ◌∷◌, ◌++◌, map, length, refl, ap, sym, ◌∙◌, arith}
+use Rattle.std.proofs.Common.{◌≡◌, ℕ, zero, suc, ◌+◌, ◌-◌, Bool, true, false, cond, not, ◌&&◌, ◌||◌, List, [], ◌∷◌, ◌++◌, map, length, refl, ap, sym, ◌∙◌, arith, ◌<◌, ◌≤◌, drop, get_or, subst}
 use Rattle.std.specs.Prelude.{nat_lt, pred}
 use Rattle.std.proofs.lemmas.Bool.Decides.{nat_tests}
 use Rattle.std.proofs.lemmas.List.{map-append, length-map}
 use Rattle.lus_tree.specs.View.{definition_view, program_view}
-use Rattle.lus_meaning.specs.Scope.{Entry, Scope, own_names, first_constants, known_after, left_after, hide_local}
+use Rattle.lus_meaning.specs.Scope.{Entry, Scope, own_names, entries_from, entry_for, names_only, first_constants, known_after, left_after, hide_local}
 use Rattle.lus_types.specs.declared.scope.Role.TheVariants.{Input, Output, Local, Ghost}
 use Rattle.lus_types.specs.declared.scope.Meaning.{Meaning}
 use Rattle.lus_types.specs.declared.scope.Meaning.TheVariants.{Stream, Constant}
@@ -12,10 +12,13 @@ use Rattle.lus_types.specs.declared.scope.Extent.{Extent}
 use Rattle.lus_types.specs.declared.scope.Extent.TheVariants.{All, First}
 use Rattle.lus_types.specs.declared.scope.Entry.{Entry as CodeEntry}
 use Rattle.lus_types.specs.Entries.{AreOrdered, behind, behind_all}
+use Rattle.lus_tree.specs.Tree.{Program}
+use Rattle.lus_types.specs.declared.scope.Declared.{Declared as CodeDeclared}
+use Rattle.lus_types.proofs.Loops.{dropped}
 use Rattle.lus_types.specs.declared.home.Home.{Home}
 use Rattle.lus_types.specs.declared.before.Before.{Before}
 use Rattle.lus_types.specs.Before.{earlier_view, home_view, scope_at}
-use Rattle.lus_types.specs.Scopes.{entry_view, meaning_view, known_as, is_reached, owner_view, scope_view}
+use Rattle.lus_types.specs.Scopes.{entry_view, meaning_view, known_as, declared_view, is_reached, owner_view, scope_view}
 
 -- ---- one more name
 
@@ -110,3 +113,32 @@ scope_is h b hidden k i j e =
     (first_constants (length (map (λ d. definition_view d.now) b.constants.items)) (own_names (home_view h)))
     (h.named k ∙ ap (λ n. first_constants n (own_names (home_view h)))
     (e ∙ sym (length-map b.constants.items (λ d. definition_view d.now)))))
+
+-- ---- the next name of a list
+
+known_all : (m : Meaning) → known_as m false true ≡ true
+known_all (Stream r p) = refl
+known_all (Constant d q v) = refl
+
+behind_most : (m : Meaning) (j i : ℕ) → j ≤ i → behind m j ≤ i + 1
+behind_most (Stream r p) j i l = omega arith
+behind_most (Constant d q v) j i l = omega arith
+
+pub entries_next : (p : Program) (outer : List Entry) (names : List CodeDeclared) (i : ℕ) (x : CodeDeclared) (es ds : List CodeEntry) (m : Meaning) (j k : ℕ)
+    (all : List Entry) (s : Scope) → i < length names → x ≡ get_or names i x
+    → ((entries_from p outer (map (entry_view All false) es) (map declared_view (drop i names)) ≡ all) × AreOrdered 0 es × (j ≡ behind_all 0 es) × (j ≤ i))
+    → s ≡ names_only p (map (entry_view All false) es ++ outer) → meaning_view m true ≡ entry_for s (declared_view x)
+    → ds ≡ es ++ record { meaning = m; order = j } ∷ [] → k ≡ behind m j
+    → (entries_from p outer (map (entry_view All false) ds) (map declared_view (drop (i + 1) names)) ≡ all) × AreOrdered 0 ds × (k ≡ behind_all 0 ds)
+    × (k ≤ i + 1)
+entries_next p outer names i x es ds m j k all s l g a n v d b =
+    let e : CodeEntry = record { meaning = m; order = j } in
+    let is : entry_view All false e ≡ entry_for (names_only p (map (entry_view All false) es ++ outer)) (declared_view x) =
+    ap (meaning_view m) (known_all m) ∙ v ∙ ap (λ z. entry_for z (declared_view x)) n in
+    let w : entries_from p outer (map (entry_view All false) es) (map declared_view (x ∷ drop (i + 1) names)) ≡ all =
+    subst (λ zs. entries_from p outer (map (entry_view All false) es) (map declared_view zs) ≡ all) (dropped names i x l g) a.0 in
+    (ap (λ z. entries_from p outer z (map declared_view (drop (i + 1) names)))
+    (ap (map (entry_view All false)) d ∙ map-append (entry_view All false) es (e ∷ []) ∙ ap (λ z. map (entry_view All false) es ++ z ∷ []) is) ∙ w,
+    subst (AreOrdered 0) (sym d) (ordered_push 0 es e a.1 a.2),
+    b ∙ ap (behind m) a.2 ∙ sym (behind_push 0 es e) ∙ ap (behind_all 0) (sym d),
+    rw b (behind_most m j i a.3))

@@ -81,7 +81,6 @@ fn behind(meaning: &Meaning<'_>, order: usize) -> usize
 /// # Errors
 ///
 /// Want of memory.
-#[tactic(auto, using(crate::proofs::Ordered::ordered_push, crate::proofs::Ordered::behind_push))]
 pub(crate) fn entries<'a>(
     alloc: Global,
     program: &'a Program,
