@@ -54,9 +54,14 @@ imports_behind («import» k d as_ ws ∷ cs) c = ap (λ xs. d.text ∷ xs) (imp
 
 earlier_behind : (cs : List ContractStatement) (c : ContractStatement) → one_behind (earlier cs []) (earlier (c ∷ []) []) ≡ earlier (cs ++ c ∷ []) []
 earlier_behind cs c =
-    rw (constants_behind cs c, modes_behind cs c, imports_behind cs c, append-nil (contract_statement_constants cs),
-    append-nil (contract_statement_constants (c ∷ [])),
-    append-nil (contract_statement_constants cs ++ contract_statement_constants (c ∷ []))) refl
+    rw (
+      constants_behind cs c,
+      modes_behind cs c,
+      imports_behind cs c,
+      append-nil (contract_statement_constants cs),
+      append-nil (contract_statement_constants (c ∷ [])),
+      append-nil (contract_statement_constants cs ++ contract_statement_constants (c ∷ [])),
+    ) refl
 
 -- what stands before, and that the faults so far are noted
 pub record OnContract {X : Type 0} (h : Home) (v : X → ContractStatement) (xs : List X) (i : ℕ) (s o : Option Refused) (e : Earlier) : Type 0 where

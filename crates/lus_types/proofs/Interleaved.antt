@@ -16,8 +16,14 @@ pub interleaved_step : (ns ms rs ss ys all : List Declared) (y : Declared) (k : 
     → k ≡ length (take_while (λ x. is_before (word_of x).at (word_of y).at) rs) → ms ≡ ns ++ (take k rs ++ y ∷ []) → ss ≡ drop k rs
     → ms ++ interleaved ss ys ≡ all
 interleaved_step ns ms rs ss ys all y k i e m s =
-    rw (m, s, append_assoc ns (take k rs ++ y ∷ []) (interleaved (drop k rs) ys), append_assoc (take k rs) (y ∷ []) (interleaved (drop k rs) ys), e,
-    first_taken (λ x. is_before (word_of x).at (word_of y).at) rs) i
+    rw (
+      m,
+      s,
+      append_assoc ns (take k rs ++ y ∷ []) (interleaved (drop k rs) ys),
+      append_assoc (take k rs) (y ∷ []) (interleaved (drop k rs) ys),
+      e,
+      first_taken (λ x. is_before (word_of x).at (word_of y).at) rs,
+    ) i
 
 -- the parts of a declaration, one behind the other
 pub declared_is : (n : Component) (is os ls : List Variable) (cs : List ContractStatement) (ks : List Constant) (n0 n1 n2 n3 n4 : List Declared)

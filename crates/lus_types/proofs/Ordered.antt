@@ -136,9 +136,10 @@ entries_next p outer names i x es ds m j k all s l g a n v d b =
     let is : entry_view All false e ≡ entry_for (names_only p (map (entry_view All false) es ++ outer)) (declared_view x) =
     ap (meaning_view m) (known_all m) ∙ v ∙ ap (λ z. entry_for z (declared_view x)) n in
     let w : entries_from p outer (map (entry_view All false) es) (map declared_view (x ∷ drop (i + 1) names)) ≡ all =
-    subst (λ zs. entries_from p outer (map (entry_view All false) es) (map declared_view zs) ≡ all) (dropped names i x l g) a.0 in
-    (ap (λ z. entries_from p outer z (map declared_view (drop (i + 1) names)))
-    (ap (map (entry_view All false)) d ∙ map-append (entry_view All false) es (e ∷ []) ∙ ap (λ z. map (entry_view All false) es ++ z ∷ []) is) ∙ w,
-    subst (AreOrdered 0) (sym d) (ordered_push 0 es e a.1 a.2),
-    b ∙ ap (behind m) a.2 ∙ sym (behind_push 0 es e) ∙ ap (behind_all 0) (sym d),
-    rw b (behind_most m j i a.3))
+    subst (λ zs. entries_from p outer (map (entry_view All false) es) (map declared_view zs) ≡ all) (dropped names i x l g) a.0 in (
+      ap (λ z. entries_from p outer z (map declared_view (drop (i + 1) names)))
+          (ap (map (entry_view All false)) d ∙ map-append (entry_view All false) es (e ∷ []) ∙ ap (λ z. map (entry_view All false) es ++ z ∷ []) is) ∙ w,
+      subst (AreOrdered 0) (sym d) (ordered_push 0 es e a.1 a.2),
+      b ∙ ap (behind m) a.2 ∙ sym (behind_push 0 es e) ∙ ap (behind_all 0) (sym d),
+      rw b (behind_most m j i a.3),
+    )

@@ -70,7 +70,12 @@ fn next_constant<'a>(
     ensures before { IfOk result (λ _. earlier_view before.new ≡ one_behind (earlier_view before.old)
         (earlier [] (definition_view constant.now ∷ []))) }
 {
-    definition(&body_scope(before, home), least, constant.sort, &constant.value);
+    definition(
+        &body_scope(before, home),
+        least,
+        constant.sort,
+        &constant.value,
+    );
     before.push_constant(constant)
 }
 
@@ -94,11 +99,7 @@ fn constants<'a>(
 }
 
 /// Notes the faults of a body, behind the contract.
-fn body<'a>(
-    home: &Home<'a>,
-    before: &mut Before<'a>,
-    least: &mut Least,
-) -> Result<(), AllocError>
+fn body<'a>(home: &Home<'a>, before: &mut Before<'a>, least: &mut Least) -> Result<(), AllocError>
     requires { earlier_view before.old ≡ earlier (contract_statements (home_view home.now).owner) [] }
     ensures { IfOk result (λ _. Notes (least_view least.old) (least_view least.new)
         (body_faults (home_view home.now))) }

@@ -8,5 +8,5 @@ use Rattle.lus_types.proofs.declared.count_before.Given as goal
 abbrev pub invariant-loop-definition : goal.invariant-loop-definition
 invariant-loop-definition l =
     (l.count + length (take_while (λ x. is_before (word_of x).at l.at) (map a_fixed (map definition_view (drop l.definition-index l.definitions))))
-        ≡ length (take_while (λ x. is_before (word_of x).at l.at) (map a_fixed (map definition_view l.definitions))))
+    ≡ length (take_while (λ x. is_before (word_of x).at l.at) (map a_fixed (map definition_view l.definitions))))
     × (l.count ≡ l.definition-index)

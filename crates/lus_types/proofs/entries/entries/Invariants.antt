@@ -10,6 +10,6 @@ use Rattle.lus_types.proofs.entries.entries.Given as goal
 abbrev pub invariant-loop-name : goal.invariant-loop-name
 invariant-loop-name l =
     (entries_from (program_view l.program) (layer_view l.outer false) (map (entry_view All false) l.entries.items)
-        (map declared_view (drop l.name-index l.names))
-        ≡ entries_from (program_view l.program) (layer_view l.outer false) [] (map declared_view l.names))
+    (map declared_view (drop l.name-index l.names))
+    ≡ entries_from (program_view l.program) (layer_view l.outer false) [] (map declared_view l.names))
     × AreOrdered 0 l.entries.items × (l.order ≡ behind_all 0 l.entries.items) × (l.order ≤ l.name-index)
