@@ -1,27 +1,27 @@
 -- The faults of a row are those of its declaration.
-use Rattle.std.proofs.Common.{◌≡◌, ℕ, zero, suc, ◌<◌, ◌≤◌, ◌+◌, Bool, true, false, cond, not, ◌&&◌, ◌||◌, List, [], ◌∷◌, ◌++◌, length, get_or, map, flat_map, filter, refl, ap, ◌∙◌, sym, subst, arith, Option, Some, None}
+use Rattle.std.proofs.Common.{◌≡◌, ℕ, zero, suc, ◌<◌, ◌≤◌, Bool, true, false, cond, not, ◌&&◌, ◌||◌, List, [], ◌∷◌, ◌++◌, length, get_or, map, flat_map, filter, refl, ap, ◌∙◌, sym, subst, arith, Some}
 use Rattle.std.specs.Prelude.{slice_get, nat_lt}
-use Rattle.std.specs.List.{AllByRecursion, list_all, list_any}
+use Rattle.std.specs.List.{AllByRecursion, list_all}
 use Rattle.std.specs.Str.{bytes_eq}
 use Rattle.std.proofs.Math.Logic.{◌⊎◌, inl, inr}
 use Rattle.std.proofs.lemmas.Bool.{true≢false, false≢true, cases_Bool, ltb-true}
 use Rattle.std.proofs.lemmas.Option.{slice_get_within, get_or_from_slice_get}
-use Rattle.lus_tree.specs.Tree.{Name, text_of, Spelled, Component, Declaration, declared_constant, declared_node, declared_contract, Program}
-use Rattle.lus_tree.specs.Reason.{Refused, node_recursion}
+use Rattle.lus_tree.specs.Tree.{Name, text_of, Spelled, Component, declared_constant, declared_node, declared_contract, Program}
+use Rattle.lus_tree.specs.Reason.{node_recursion}
 use Rattle.lus_meaning.specs.Depends.{named_in}
 use Rattle.lus_meaning.specs.ClockFaults.{components}
 use Rattle.lus_meaning.specs.Faults.{fault, if_so}
 use Rattle.lus_meaning.specs.Occurrences.{gathered}
 use Rattle.lus_meaning.specs.Scene.{contract_statements}
 use Rattle.lus_meaning.specs.Scope.{component_where, contract_named, node_if, node_named}
-use Rattle.lus_meaning.specs.NameFaults.{Graph, callee_in, callees, graph_of, import_words, is_declared, reached, recursion_faults}
+use Rattle.lus_meaning.specs.NameFaults.{callee_in, callees, graph_of, import_words, is_declared, reached, recursion_faults}
 use Rattle.lus_meaning.proofs.Unique.{same_bytes}
 use Rattle.name_table.specs.Names.{add, number_of}
 use Rattle.name_table.proofs.Names.{in_joined, itself}
 use Rattle.name_table.proofs.Numbers.{name_of_number, number_below}
-use Rattle.lus_types.specs.Marks.{Link, Row, Spreads, has_open, is_backed, is_free, is_marked, is_open, leads_on}
-use Rattle.lus_types.specs.Called.{all_fall, contract_links, falls_to, link_of, marked_faults, names_behind, node_links, rank_of, row_of}
-use Rattle.lus_types.specs.Circles.{IsLeading, IsOne}
+use Rattle.lus_types.specs.Marks.{Link, has_open, is_backed, is_free, is_marked, is_open, leads_on}
+use Rattle.lus_types.specs.Called.{all_fall, falls_to, link_of, marked_faults, names_behind, rank_of, row_of}
+use Rattle.lus_types.specs.Circles.{IsLeading}
 use Rattle.lus_types.proofs.Callees.{split}
 use Rattle.lus_types.proofs.Reached.{AreWithin, IsBack, never_reached, reaches}
 

@@ -1,10 +1,10 @@
 -- Which names assumptions may not read.
-use Rattle.std.proofs.Common.{◌≡◌, ℕ, zero, suc, ◌<◌, ◌≤◌, ◌+◌, Bool, true, false, cond, not, ◌&&◌, ◌||◌, List, [], ◌∷◌, ◌++◌, length, get_or, set, map, flat_map, refl, ap, ◌∙◌, sym, subst, arith, Option}
+use Rattle.std.proofs.Common.{◌≡◌, ℕ, zero, suc, ◌<◌, ◌≤◌, Bool, true, false, cond, not, ◌&&◌, ◌||◌, List, [], ◌∷◌, ◌++◌, length, get_or, set, map, flat_map, refl, ap, ◌∙◌, sym, subst, arith, Option}
 use Rattle.std.specs.List.{AllByRecursion, list_all, list_any}
 use Rattle.std.specs.Str.{bytes_eq}
 use Rattle.std.proofs.Math.Logic.{◌⊎◌, inl, inr}
 use Rattle.std.proofs.lemmas.Bool.{true≢false, false≢true, cases_Bool}
-use Rattle.std.proofs.lemmas.List.{append_assoc, append-nil, get_or-set_same, length-set}
+use Rattle.std.proofs.lemmas.List.{get_or-set_same, length-set}
 use Rattle.lus_tree.specs.Tree.{Name, text_of, Spelled, Expression, Expressions, truth, number, name, negation, minus, pre, arrow, binary, choice, sampled, merged, call, condact, mode_name, no_more, more, ContractStatement, assume, guarantee, ghost_variable, constant, mode, «import», Component, Variable}
 use Rattle.lus_tree.specs.Reason.{Refused, assume_reads_output}
 use Rattle.lus_meaning.specs.Depends.{named_in}
@@ -12,16 +12,16 @@ use Rattle.lus_meaning.specs.Faults.{if_so}
 use Rattle.lus_meaning.specs.Scene.{base, clock_of, contract_statements, sampled_by}
 use Rattle.lus_meaning.specs.Occurrences.{Occurrence, Standing, before, moved, occurrences, occurrences_among, on_clock, within}
 use Rattle.lus_meaning.specs.Scope.{Scope, holds_of, is_ghost_role}
-use Rattle.lus_meaning.specs.NameFaults.{assumption_faults, ghost_reading, given_now, names_now, new_among, read_now, reads_some, restricted}
+use Rattle.lus_meaning.specs.NameFaults.{assumption_faults, ghost_reading, given_now, names_now, new_among, read_now, restricted}
 use Rattle.lus_meaning.proofs.Unique.{same_bytes}
 use Rattle.name_table.specs.Names.{add, number_of}
-use Rattle.name_table.proofs.Names.{in_joined, itself}
+use Rattle.name_table.proofs.Names.{itself}
 use Rattle.name_table.proofs.Numbers.{name_of_number, number_below}
 use Rattle.lus_types.specs.Called.{link_of}
 use Rattle.lus_types.specs.Given.{IsGiven, output_names}
 use Rattle.lus_types.specs.Least.{IsLeast, noted_all}
 use Rattle.lus_types.proofs.Leasts.{least_noted_all}
-use Rattle.lus_types.specs.Marks.{Link, Spreads, has_open, is_backed, is_free, is_marked, is_open, leads_on}
+use Rattle.lus_types.specs.Marks.{Link, has_open, is_backed, is_free, is_marked, is_open, leads_on}
 use Rattle.lus_types.specs.Reads.{Reading, added, ghost_readings, is_given, names_read, read_among, read_faults, read_in, reading_row, seeded}
 use Rattle.lus_types.proofs.Callees.{split}
 use Rattle.lus_types.proofs.CircleFaults.{add_has, add_keeps, and_parts, either_end, free_false, or_false, or_left, or_right}

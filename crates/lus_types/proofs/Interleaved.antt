@@ -1,5 +1,5 @@
 -- The first of a list, taken.
-use Rattle.std.proofs.Common.{◌≡◌, ℕ, Bool, true, false, cond, List, [], ◌∷◌, ◌++◌, map, flat_map, take, drop, length, refl, ap, sym, ◌∙◌, append_assoc}
+use Rattle.std.proofs.Common.{◌≡◌, ℕ, Bool, List, [], ◌∷◌, ◌++◌, map, flat_map, take, drop, length, refl, ap, ◌∙◌, append_assoc}
 use Rattle.std.specs.Prelude.{take_while}
 use Rattle.std.specs.List.{prefix_len, take-map, drop-map}
 use Rattle.std.proofs.lemmas.List.{length-take-le}

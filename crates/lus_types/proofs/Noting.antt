@@ -5,7 +5,7 @@ use Rattle.lus_tree.specs.Reason.{Refused}
 use Rattle.lus_tree.specs.Tree.{Spelled, Expression, Component}
 use Rattle.lus_meaning.specs.Scope.{Scope}
 use Rattle.lus_meaning.specs.NameFaults.{import_fits}
-use Rattle.lus_types.specs.Least.{IsLeast, noted_all}
+use Rattle.lus_types.specs.Least.{noted_all}
 use Rattle.lus_types.specs.Notes.{Notes}
 use Rattle.lus_types.proofs.Leasts.{least_noted_all}
 use Rattle.lus_types.proofs.Walks.{failing_append}

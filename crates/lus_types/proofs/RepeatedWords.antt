@@ -1,8 +1,8 @@
 -- Words that stand twice.
-use Rattle.std.proofs.Common.{◌≡◌, add-one, ℕ, suc, ◌<◌, Bor, drop, get_or, length, take, ◌+◌, ◌-◌, Bool, true, false, cond, not, ◌||◌, List, [], ◌∷◌, ◌++◌, map, refl, ap, ◌∙◌, sym, subst, arith, Option}
+use Rattle.std.proofs.Common.{◌≡◌, add-one, ℕ, suc, ◌<◌, Bor, drop, get_or, length, take, ◌+◌, ◌-◌, Bool, true, false, ◌||◌, List, [], ◌∷◌, ◌++◌, map, refl, ap, ◌∙◌, sym, subst, arith, Option}
 use Rattle.std.specs.Str.{bytes_eq}
 use Rattle.std.proofs.Math.Logic.{◌⊎◌, inl, inr}
-use Rattle.std.proofs.lemmas.Bool.{true≢false, false≢true, cases_Bool}
+use Rattle.std.proofs.lemmas.Bool.{cases_Bool}
 use Rattle.std.proofs.Math.Seq.{drop-cons}
 use Rattle.std.proofs.lemmas.List.{take_all, length-drop}
 use Rattle.lus_tree.specs.declared.place.PlacedName.{PlacedName}
@@ -16,10 +16,10 @@ use Rattle.lus_meaning.specs.Faults.{meets, same_word, words_twice}
 use Rattle.lus_meaning.specs.NameFaults.{outer_twice}
 use Rattle.lus_meaning.proofs.Unique.{same_bytes}
 use Rattle.name_table.specs.Names.{add}
-use Rattle.name_table.proofs.Names.{in_joined, itself}
+use Rattle.name_table.proofs.Names.{in_joined}
 use Rattle.lus_types.specs.Least.{IsLeast, noted_all}
 use Rattle.lus_types.specs.Repeated.{HasSeen, twice_from_last}
-use Rattle.lus_types.proofs.Walks.{Both, failing, failing_append}
+use Rattle.lus_types.proofs.Walks.{failing, failing_append}
 use Rattle.lus_types.proofs.Alike.{AreSame, least_behind}
 use Rattle.lus_types.proofs.CircleFaults.{or_false}
 

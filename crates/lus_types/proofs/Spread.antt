@@ -1,9 +1,9 @@
 -- What is marked when rows are passed.
-use Rattle.std.proofs.Common.{◌≡◌, ℕ, zero, suc, ◌<◌, ◌≤◌, ◌+◌, Bool, true, false, cond, not, ◌&&◌, ◌||◌, eqb, List, [], ◌∷◌, length, get_or, set, refl, ap, ◌∙◌, sym, subst, arith}
-use Rattle.std.specs.List.{list_all, list_any}
+use Rattle.std.proofs.Common.{◌≡◌, ℕ, zero, suc, ◌<◌, ◌≤◌, Bool, true, false, cond, not, ◌&&◌, ◌||◌, eqb, List, [], ◌∷◌, length, get_or, set, refl, ◌∙◌, sym, subst, arith}
+use Rattle.std.specs.List.{list_all}
 use Rattle.std.proofs.Math.Logic.{◌⊎◌, inl, inr}
 use Rattle.std.proofs.lemmas.Bool.{true≢false, false≢true, eqb-true, eqb-false, cases_Bool}
-use Rattle.std.proofs.lemmas.List.{get_or-set_same, get_or-set_other, length-set}
+use Rattle.std.proofs.lemmas.List.{get_or-set_other, length-set}
 use Rattle.lus_types.specs.Marks.{Link, Row, Spreads, free_count, has_open, is_backed, is_free, is_marked, is_open, leads_on, passed_down, passed_up, stepped}
 
 pub both_true : (c b : Bool) → (c && b) ≡ true → (c ≡ true) × (b ≡ true)

@@ -1,5 +1,5 @@
 -- What a declaration calls and imports, by the numbers of names.
-use Rattle.std.specs.Prelude.{ℕ, Bool, true, cond, nat_lt, List, [], ◌∷◌, ◌++◌, map, flat_map, filter, get_or}
+use Rattle.std.specs.Prelude.{ℕ, Bool, cond, nat_lt, List, [], ◌∷◌, ◌++◌, map, flat_map, filter, get_or}
 use Rattle.std.specs.List.{list_all}
 use Rattle.lus_tree.specs.Tree.{Name, Spelled, Expression, Expressions, truth, number, name, negation, minus, pre, arrow, binary, choice, sampled, merged, call, condact, mode_name, no_more, more, Constant, Labelled, Statement, equation, assertion, property, main_mark, ContractStatement, assume, guarantee, ghost_variable, constant, mode, «import», Component, declared_constant, declared_node, declared_contract, Program}
 use Rattle.lus_tree.specs.Reason.{Refused, node_recursion}

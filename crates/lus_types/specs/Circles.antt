@@ -1,6 +1,5 @@
 -- What is known of a program's graph of declarations.
-use Rattle.std.specs.Prelude.{◌≡◌, ℕ, Bool, false, true, ◌<◌, List, [], map, length, set}
-use Rattle.std.specs.List.{list_all}
+use Rattle.std.specs.Prelude.{◌≡◌, ℕ, Bool, false, true, ◌<◌, List, [], map, length}
 use Rattle.lus_tree.specs.Tree.{Program}
 use Rattle.lus_meaning.specs.ClockFaults.{components}
 use Rattle.lus_types.specs.declared.recursion.Graph.{Graph}

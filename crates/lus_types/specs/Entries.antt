@@ -1,5 +1,5 @@
 -- Lists of names, of which each knows how many constants stand before it.
-use Rattle.std.specs.Prelude.{◌≡◌, ℕ, zero, suc, List, [], ◌∷◌, ⊤}
+use Rattle.std.specs.Prelude.{◌≡◌, ℕ, suc, List, [], ◌∷◌, ⊤}
 use Rattle.lus_types.specs.declared.scope.Meaning.{Meaning}
 use Rattle.lus_types.specs.declared.scope.Meaning.TheVariants.{Stream, Constant}
 use Rattle.lus_types.specs.declared.scope.Entry.{Entry}

@@ -1,5 +1,5 @@
 -- What assumptions read at their own instant, by the numbers of names.
-use Rattle.std.specs.Prelude.{ℕ, Bool, true, false, cond, ◌&&◌, List, [], ◌∷◌, ◌++◌, map, flat_map, replicate, set, ◌≡◌}
+use Rattle.std.specs.Prelude.{Bool, true, cond, ◌&&◌, List, [], ◌∷◌, ◌++◌, map, flat_map, set, ◌≡◌}
 use Rattle.lus_tree.specs.Tree.{Name, Spelled, Expression, Expressions, truth, number, name, negation, minus, pre, arrow, binary, choice, sampled, merged, call, condact, mode_name, no_more, more, ContractStatement, ghost_variable}
 use Rattle.lus_tree.specs.Reason.{Refused, assume_reads_output}
 use Rattle.lus_meaning.specs.Depends.{named_in}

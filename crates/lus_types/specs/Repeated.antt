@@ -1,5 +1,5 @@
 -- Words that stand twice, from the last one on.
-use Rattle.std.specs.Prelude.{◌≡◌, Bool, List, [], ◌∷◌, ◌++◌, map}
+use Rattle.std.specs.Prelude.{◌≡◌, List, [], ◌∷◌, ◌++◌, map}
 use Rattle.lus_tree.specs.Tree.{Name, Spelled, text_of}
 use Rattle.lus_tree.specs.Reason.{Refused, name_twice}
 use Rattle.lus_meaning.specs.Depends.{named_in}

@@ -1,4 +1,4 @@
-use Rattle.std.proofs.Common.{rules, arith}
+use Rattle.std.proofs.Common.{arith}
 use Rattle.lus_tree.specs.View.{named_view}
 use Rattle.lus_meaning.specs.ExpressionFaults.{flag_faults}
 use Rattle.lus_types.specs.Least.{least_view}

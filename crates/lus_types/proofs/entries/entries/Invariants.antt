@@ -1,4 +1,4 @@
-use Rattle.std.proofs.Common.{◌≡◌, ◌≤◌, List, [], drop, map, false}
+use Rattle.std.proofs.Common.{◌≡◌, ◌≤◌, [], drop, map, false}
 use Rattle.lus_tree.specs.View.{program_view}
 use Rattle.lus_meaning.specs.Scope.{entries_from}
 use Rattle.lus_types.specs.declared.scope.Extent.TheVariants.{All}

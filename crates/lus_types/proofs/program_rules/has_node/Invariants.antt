@@ -1,4 +1,4 @@
-use Rattle.std.proofs.Common.{◌≡◌, ◌==◌, drop, length, map}
+use Rattle.std.proofs.Common.{◌≡◌, drop, map}
 use Rattle.lus_tree.specs.Lookup.{nodes_of}
 use Rattle.lus_tree.specs.View.{decl_view}
 use Rattle.lus_types.proofs.program_rules.has_node.Given as goal
