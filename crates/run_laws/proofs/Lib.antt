@@ -1,0 +1,3 @@
+pub mod Mend
+pub mod MendedRun
+pub mod Sources
