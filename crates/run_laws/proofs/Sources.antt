@@ -120,6 +120,13 @@ first_true : (a b : Bool) → (a && b) ≡ true → a ≡ true
 first_true true b e = refl
 first_true false b e = absurd (false≢true e)
 
+-- what is asked of the callee: its inputs and outputs are streams on the base clock
+pub record IsCallee (k : Instance) : Type 0 where
+  pub inputs : AllByRecursion (StreamFits k) (component_of k).inputs
+  pub outputs : AllByRecursion (StreamFits k) (component_of k).outputs
+  pub inputs_on_base : OnBase (component_of k).inputs
+  pub outputs_on_base : OnBase (component_of k).outputs
+
 -- ---- a typed frame
 
 module _ (i : Instance) (n : ℕ) (b : Instants) (f : Frame) where
@@ -216,13 +223,6 @@ module _ (i : Instance) (n : ℕ) (b : Instants) (f : Frame) where
 
     beat_of : (c : Site) (xs : List Name) → c.manner ≡ as_import xs → c.clock ≡ base → (t : ℕ) → b t ≡ active s c t
     beat_of c xs m e t = rw (m, e) (sym (and_true (b t)))
-
-    -- what is asked of the callee: its inputs and outputs are streams on the base clock
-    pub record IsCallee (k : Instance) : Type 0 where
-      pub inputs : AllByRecursion (StreamFits k) (component_of k).inputs
-      pub outputs : AllByRecursion (StreamFits k) (component_of k).outputs
-      pub inputs_on_base : OnBase (component_of k).inputs
-      pub outputs_on_base : OnBase (component_of k).outputs
 
     given_outputs : (c : Site) (k : Instance) (g : Frame) → SiteFits c → IsCallee k → component_of k ≡ component_of (call_instance i c.number)
         → (m : Manner) → c.manner ≡ m → OutputsFit i m (component_of (call_instance i c.number)).outputs → OnItsClock m c.clock
