@@ -35,6 +35,7 @@ fn flag() -> Term {
     })
 }
 
+/// A system of one flag that is always true, which is its property.
 pub fn system(alloc: Global) -> Result<System, AllocError> {
     Ok(System {
         shapes: vec![in alloc; Shape::Flag]?,

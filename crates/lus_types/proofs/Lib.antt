@@ -12,3 +12,17 @@ pub mod Walks
 pub mod Alike
 pub mod EquationParts
 pub mod Nothing
+pub mod Behind
+pub mod Ordered
+pub mod Noting
+pub mod Interleaved
+pub mod Loops
+pub mod Earlier
+pub mod Spread
+pub mod Grown
+pub mod Reached
+pub mod Callees
+pub mod CircleFaults
+pub mod RowFaults
+pub mod GivenNow
+pub mod RepeatedWords

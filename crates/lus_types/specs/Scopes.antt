@@ -1,17 +1,23 @@
 -- What contracts see of a scope.
-use Rattle.std.specs.Prelude.{Bool, map, Some}
+use Rattle.std.specs.Prelude.{ℕ, nat_lt, Bool, true, false, not, ◌&&◌, List, ◌++◌, map, Some}
 use Rattle.lus_tree.specs.Tree.{Component}
-use Rattle.lus_tree.specs.View.{word_view, clock_view, node_view, contract_node_view, program_view}
+use Rattle.lus_tree.specs.declared.declaration.Program.{Program as ProgramCode}
+use Rattle.lus_tree.specs.View.{word_view, clock_view, param_view, definition_view, node_view, contract_node_view, program_view}
 use Rattle.lus_meaning.specs.Value.{absent}
 use Rattle.lus_meaning.specs.Scene.{base, clock_from, no_component}
-use Rattle.lus_meaning.specs.Scope.{Scope, Entry, Role, an_input, an_output, a_local, a_ghost, a_constant}
+use Rattle.lus_meaning.specs.Scope.{Scope, Entry, Home, Declared, a_stream, a_fixed, Role, an_input, an_output, a_local, a_ghost, a_constant}
 use Rattle.lus_types.specs.declared.scope.Role.{Role as CodeRole}
 use Rattle.lus_types.specs.declared.scope.Role.TheVariants.{Input, Output, Local, Ghost}
 use Rattle.lus_types.specs.declared.scope.Meaning.{Meaning}
 use Rattle.lus_types.specs.declared.scope.Meaning.TheVariants.{Stream, Constant}
 use Rattle.lus_types.specs.declared.scope.Entry.{Entry as CodeEntry}
+use Rattle.lus_types.specs.declared.scope.Extent.{Extent}
+use Rattle.lus_types.specs.declared.scope.Extent.TheVariants.{All, First}
+use Rattle.lus_types.specs.declared.scope.Layer.{Layer}
 use Rattle.lus_types.specs.declared.scope.Owner.{Owner}
 use Rattle.lus_types.specs.declared.scope.Owner.TheVariants.{Nothing, Node, Contract}
+use Rattle.lus_types.specs.declared.scope.Declared.{Declared as CodeDeclared}
+use Rattle.lus_types.specs.declared.scope.Declared.TheVariants.{Stream as CodeStream, Fixed}
 use Rattle.lus_types.specs.declared.scope.Scope.{Scope as CodeScope}
 use Rattle.lus_types.specs.Cut.{known_value}
 
@@ -41,8 +47,29 @@ meaning_view (Constant d q v) known =
       known = known;
     }
 
-abbrev pub entry_view : CodeEntry → Entry
-entry_view e = meaning_view e.meaning e.known
+abbrev pub is_local : CodeRole → Bool
+is_local Local = true
+is_local _ = false
+
+-- whether a constant behind so many others may be used
+abbrev pub is_reached : Extent → ℕ → Bool
+is_reached All i = true
+is_reached (First k) i = nat_lt i k
+
+-- whether a name may be used: a stream but for a local that is hidden, a constant where it is reached
+abbrev pub known_as : Meaning → Bool → Bool → Bool
+known_as (Stream r p) hidden reached = not (hidden && is_local r)
+known_as (Constant d q v) hidden reached = reached
+
+abbrev pub entry_view : Extent → Bool → CodeEntry → Entry
+entry_view x hidden e = meaning_view e.meaning (known_as e.meaning hidden (is_reached x e.order))
+
+abbrev pub layer_view : Layer → Bool → List Entry
+layer_view l hidden = map (entry_view l.extent hidden) l.entries.now
+
+abbrev pub declared_view : CodeDeclared → Declared
+declared_view (CodeStream r p) = a_stream (role_view r) (param_view p.now)
+declared_view (Fixed d) = a_fixed (definition_view d.now)
 
 abbrev pub owner_view : Owner → Component
 owner_view Nothing = no_component
@@ -54,7 +81,10 @@ scope_view s =
     record {
       program = program_view s.program.now;
       owner = owner_view s.owner;
-      names = map entry_view s.names.now;
+      names = layer_view s.own s.hidden ++ layer_view s.outer s.hidden;
       modes = map (λ x. x.now) s.modes.now;
       imports = map (λ x. x.now) s.imports.now;
     }
+
+abbrev pub home_of : ProgramCode → Owner → Layer → Home
+home_of p o l = record { program = program_view p; owner = owner_view o; outer = layer_view l false }

@@ -100,7 +100,7 @@ pub(crate) fn arrow_part(least: &mut Least, from: Pos, first: &Part, second: &Pa
 }
 
 /// The type of an operator's results.
-fn operator_sort(operator: Operator) -> Sort
+pub(crate) fn operator_sort(operator: Operator) -> Sort
     ensures { result ≡ sort_of_operator operator }
 {
     match operator {

@@ -46,7 +46,7 @@ fn number(what: &What) -> u32
 }
 
 /// Whether the first place stands before the second.
-fn is_before(first: Pos, second: Pos) -> bool
+pub(crate) fn is_before(first: Pos, second: Pos) -> bool
     ensures { result ≡ is_before first second }
 {
     first.line < second.line || (first.line == second.line && first.column < second.column)

@@ -1,16 +1,35 @@
 //! The rules of names, types and numbers.
 #![tactic(auto)]
 
+mod before;
+mod bodies;
+mod called;
 mod calls;
+mod contracts;
+mod declared;
+mod entries;
 mod equation;
 mod expression;
 mod forms;
 mod found;
+mod home;
+mod imports;
 pub mod least;
 mod lookup;
+mod marks;
+mod named;
 mod notes;
+mod owner;
 mod part;
+mod program_rules;
+mod ranks;
+mod reading;
+mod reads;
+mod recursion;
+mod repeated;
+mod rules;
 mod scope;
+mod sorts;
 mod statement;
 mod values;
 mod weights;

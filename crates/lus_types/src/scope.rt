@@ -21,11 +21,26 @@ pub(crate) enum Meaning<'a> {
     Constant(&'a Definition, Option<Sort>, Option<Value>),
 }
 
-/// A name, and whether it may be used at the place.
+/// A name, and how many constants stand before it in its list.
 #[derive(Clone, Copy)]
 pub(crate) struct Entry<'a> {
     pub(crate) meaning: Meaning<'a>,
-    pub(crate) known: bool,
+    pub(crate) order: usize,
+}
+
+/// Which constants of a list may be used at a place.
+#[derive(Clone, Copy)]
+pub(crate) enum Extent {
+    All,
+    /// So many, in the order of the list.
+    First(usize),
+}
+
+/// A list of names, of which these constants may be used.
+#[derive(Clone, Copy)]
+pub(crate) struct Layer<'a> {
+    pub(crate) entries: &'a [Entry<'a>],
+    pub(crate) extent: Extent,
 }
 
 /// The declaration in which an expression stands.
@@ -37,13 +52,22 @@ pub(crate) enum Owner<'a> {
     Contract(&'a ContractNode),
 }
 
-/// Where an expression stands: the program, the declaration, what names mean there, and the modes
-/// and the imports before it.
+/// A name as it is declared.
+#[derive(Clone, Copy)]
+pub(crate) enum Declared<'a> {
+    Stream(Role, &'a Param),
+    Fixed(&'a Definition),
+}
+
+/// Where an expression stands: the program, the declaration, its names and behind them those of the
+/// program's constants, whether the locals may not be used, and the modes and the imports before it.
 #[derive(Clone, Copy)]
 pub(crate) struct Scope<'a> {
     pub(crate) program: &'a Program,
     pub(crate) owner: Owner<'a>,
-    pub(crate) names: &'a [Entry<'a>],
+    pub(crate) own: Layer<'a>,
+    pub(crate) outer: Layer<'a>,
+    pub(crate) hidden: bool,
     pub(crate) modes: &'a [&'a str],
     pub(crate) imports: &'a [&'a str],
 }

@@ -5,5 +5,6 @@ use Rattle.lus_types.proofs.lookup.entry.Given as goal
 
 -- what is found among those to come is what is found among all
 abbrev pub invariant-loop-entry : goal.invariant-loop-entry
-invariant-loop-entry l = find (λ e. bytes_eq l.name e.word.text) (map entry_view (drop l.entry-index l.names)) ≡ find
-    (λ e. bytes_eq l.name e.word.text) (map entry_view l.names)
+invariant-loop-entry l =
+    find (λ e. bytes_eq l.name e.word.text) (map (entry_view l.layer.extent l.hidden) (drop l.entry-index l.layer.entries.now))
+    ≡ find (λ e. bytes_eq l.name e.word.text) (map (entry_view l.layer.extent l.hidden) l.layer.entries.now)

@@ -1,0 +1,76 @@
+#!/bin/sh
+# Instructions that the check of names, types and numbers takes per byte, and how they grow with the
+# source.
+#
+# Run at the top of the repository. Makes sources of 128 KB to 1 MB, of nodes with contracts, each of
+# which calls the one before it, and counts the instructions of the program type_cases on each where
+# it checks the source, less those where it reads it alone, where valgrind is there. Ends with status
+# 1 where a source is refused, where they are 400 a byte or more, or where they do not double with
+# the size.
+set -eu
+
+top=$(pwd)
+program=$top/crates/type_cases/out/type_cases
+work=$(mktemp -d)
+trap 'rm -rf "$work"' EXIT
+
+# At most `$1` bytes of such a source, filled up with blanks.
+source_of() {
+    awk -v size="$1" 'BEGIN {
+        text = "const most : int = 4096;\n" \
+            "function low(p, q : int) returns (s : bool);\nlet s = p < q + most; tel\n" \
+            "node both(p, q : int) returns (r : int; s : bool);\nlet r = p -> pre r + q; s = low(r, q); tel\n" \
+            "node step_999(a, b : int; c : bool) returns (x, y : int; ok : bool);\nlet tel\n"
+        for (i = 0; ; i++) {
+            if (written + length(text) > size) break
+            printf "%s", text
+            written += length(text)
+            n = 1000 + i
+            text = "node step_" n "(a, b : int; c : bool) returns (x, y : int; ok : bool);\n" \
+                "(*@contract\n  assume \"positive\" a > 0;\n  var total : int = a + b;\n" \
+                "  guarantee x >= 0 => ok;\n  mode fast (require c; ensure \"up\" true -> x = pre x + 1;);\n" \
+                "  mode slow (require not c and total > 0;);\n*)\n" \
+                "var t : int when c; u, v : bool; p, q : int;\nconst limit : int = most - 1;\nlet\n" \
+                "  -- the value of step " n " stays below its limit\n" \
+                "  x = if c then ((((a + b) * (3 - limit)) div 3) mod 7) else 0 -> pre x + 1;\n" \
+                "  t = a when c;\n  u = condact(c, low(a, b), false);\n" \
+                "  (y, ok) = both(a, merge c (true -> t) (false -> 0 when not c));\n" \
+                "  (p, q, v) = step_" n - 1 "(a, b, c);\n" \
+                "  assert a < 5 and not (b = 3 or u xor v);\n" \
+                "  check \"fits\" y <= 9223372036854775807;\n  --%PROPERTY ::fast or p >= q;\ntel\n"
+        }
+        while (written++ < size) printf " "
+    }'
+}
+
+# The instructions of the program on a source, where it does `$1`.
+counted() {
+    valgrind --tool=callgrind --callgrind-out-file="$work/counts" \
+        "$program" "$1" "$work/source" >"$work/printed" 2>"$work/log"
+    awk '/Collected/ { print $4 }' "$work/log"
+}
+
+source_of 4096 >"$work/source"
+(cd crates/type_cases && rt run -- types "$work/source" >"$work/build" 2>&1) || { cat "$work/build"; exit 1; }
+if ! command -v valgrind >/dev/null; then
+    echo "valgrind is not there: nothing is counted"
+    exit 0
+fi
+# The C library keeps no small freed pieces apart, since it would gather them at one size and not at
+# another.
+export GLIBC_TUNABLES=glibc.malloc.mxfast=0
+echo "bytes instructions per-byte growth"
+before=0
+for kilobytes in 128 256 512 1024; do
+    bytes=$((kilobytes * 1024))
+    source_of $bytes >"$work/source"
+    alone=$(counted read)
+    checked=$(counted types)
+    [ "$(cat "$work/printed")" = taken ] || { cat "$work/printed"; exit 1; }
+    awk -v b=$bytes -v c=$((checked - alone)) -v p="$before" 'BEGIN {
+        growth = p ? sprintf("%.3f", c / p) : "-"
+        printf "%d %d %.1f %s\n", b, c, c / b, growth
+        if (c / b >= 400 || (p && (c / p < 1.9 || c / p > 2.1))) exit 1
+    }' || { echo "too slow, or not linear"; exit 1; }
+    before=$((checked - alone))
+done

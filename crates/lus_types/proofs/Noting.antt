@@ -1,0 +1,47 @@
+-- Faults that are noted one behind the other.
+use Rattle.std.proofs.Common.{◌≡◌, List, [], ◌++◌, ap, ◌∙◌, append_assoc, arith, Option}
+use Rattle.std.proofs.lemmas.List.{append-nil}
+use Rattle.lus_tree.specs.Reason.{Refused}
+use Rattle.lus_tree.specs.Tree.{Spelled, Expression, Component}
+use Rattle.lus_meaning.specs.Scope.{Scope}
+use Rattle.lus_meaning.specs.NameFaults.{import_fits}
+use Rattle.lus_types.specs.Least.{noted_all}
+use Rattle.lus_types.specs.Notes.{Notes}
+use Rattle.lus_types.proofs.Leasts.{least_noted_all}
+use Rattle.lus_types.proofs.Walks.{failing_append}
+use Rattle.lus_types.proofs.Alike.{AreSame, least_same}
+
+pub nothing_noted : (o : Option Refused) → Notes o o []
+nothing_noted o gs i = rw (append-nil gs) i
+
+pub both_noted : (o p q : Option Refused) (fs gs : List Refused) → Notes o p fs → Notes p q gs → Notes o q (fs ++ gs)
+both_noted o p q fs gs a b hs i = rw (← append_assoc hs fs gs) (b (hs ++ fs) (a hs i))
+
+pub all_noted : (o q : Option Refused) (fs : List Refused) → q ≡ noted_all o fs → Notes o q fs
+all_noted o q fs e gs i = rw e (least_noted_all o gs fs i)
+
+pub fits_named : (s : Scope) (c : Spelled) (as_ : List Expression) (ws : List Spelled) (n m : Option Component) (o q : Option Refused) → n ≡ m
+    → q ≡ noted_all o (import_fits s c as_ ws n) → Notes o q (import_fits s c as_ ws m)
+fits_named s c as_ ws n m o q e h = all_noted o q (import_fits s c as_ ws m) (h ∙ ap (λ z. noted_all o (import_fits s c as_ ws z)) e)
+
+-- ---- in another order
+
+alike_behind : (fs gs hs : List Refused) → AreSame fs gs → AreSame (hs ++ fs) (hs ++ gs)
+alike_behind fs gs hs a p = record {
+  there = λ z. omega (arith, failing_append p hs fs, failing_append p hs gs, (a p).there);
+  back = λ z. omega (arith, failing_append p hs fs, failing_append p hs gs, (a p).back);
+}
+
+pub alike_noted : (o q : Option Refused) (fs gs : List Refused) → AreSame fs gs → Notes o q fs → Notes o q gs
+alike_noted o q fs gs a n hs i = least_same q (hs ++ fs) (hs ++ gs) (alike_behind fs gs hs a) (n hs i)
+
+swapped : (as_ bs cs : List Refused) → AreSame (as_ ++ (bs ++ cs)) (bs ++ (as_ ++ cs))
+swapped as_ bs cs p = record {
+  there = λ z. omega (arith, failing_append p as_ (bs ++ cs), failing_append p bs cs, failing_append p bs (as_ ++ cs), failing_append p as_ cs);
+  back = λ z. omega (arith, failing_append p as_ (bs ++ cs), failing_append p bs cs, failing_append p bs (as_ ++ cs), failing_append p as_ cs);
+}
+
+-- the first of three noted behind the second
+pub second_first : (o p q r : Option Refused) (as_ bs cs : List Refused) → Notes o p as_ → Notes p q bs → Notes q r cs → Notes o r (bs ++ (as_ ++ cs))
+second_first o p q r as_ bs cs a b c =
+    alike_noted o r (as_ ++ (bs ++ cs)) (bs ++ (as_ ++ cs)) (swapped as_ bs cs) (both_noted o p r as_ (bs ++ cs) a (both_noted p q r bs cs b c))

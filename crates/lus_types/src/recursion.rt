@@ -1,0 +1,332 @@
+//! Circles of declarations.
+
+ghost use Rattle.std.specs.Prelude.{◌≡◌, ◌++◌, ◌<◌, ◌∷◌, [], IfOk, List, Some, false, true, map, length, slice_get, cond, set};
+ghost use Rattle.lus_tree.specs.Tree.{Component, Program as Declarations};
+ghost use Rattle.lus_tree.specs.Reason.{Refused};
+ghost use Rattle.lus_tree.specs.View.{contract_node_view, decl_view, node_view, program_view, word_view};
+ghost use Rattle.lus_meaning.specs.ClockFaults.{components};
+ghost use Rattle.lus_meaning.specs.NameFaults.{recursion_faults};
+ghost use Rattle.lus_types.specs.Called.{all_fall, contract_links, falls_to, link_of, marked_faults, names_behind, node_links, rank_of, row_by, row_of};
+ghost use Rattle.lus_types.specs.Circles.{IsGraph, IsLeading, IsOne};
+ghost use Rattle.lus_types.specs.Least.{IsLeast, least_view, noted_all};
+ghost use Rattle.lus_types.specs.Marks.{is_marked, link_view, row_view};
+ghost use Rattle.lus_types.specs.Words.{words_view};
+ghost use Rattle.name_table.specs.Names.{number_of};
+
+use crate::called::{contract_calls, contract_items, imports_of, node_calls};
+use crate::least::Least;
+use crate::lookup::{contract, node};
+use crate::marks::{Link, Row, is_marked, spread};
+use crate::ranks::{rank_of, ranks_of};
+use lus_tree::{ContractNode, Decl, Node, PlacedName, Program, What};
+use name_table::NameTable;
+use std::alloc::{AllocError, Global};
+
+/// What the declarations of a program with parts call and import, by the numbers of their names.
+#[derive(Drop)]
+pub(crate) struct Graph {
+    /// A row for each, in text order.
+    rows: Vec<Row>,
+    /// How many names there are.
+    count: usize,
+    /// Whether each number has a greater rank than those that it leads to, so that none leads to
+    /// itself.
+    falls: bool,
+}
+
+/// The names of declarations with parts, each once.
+fn names_of(alloc: Global, program: &Program) -> Result<NameTable, AllocError>
+    ensures { IfOk result (λ t. t ≡ names_behind [] (program_view program.now)) }
+{
+    let mut names = NameTable::new(alloc);
+    for decl in &program.decls {
+        add_name(alloc, &mut names, decl)?;
+    }
+    Ok(names)
+}
+
+/// Adds the name of a declaration with parts, where it is new.
+fn add_name(alloc: Global, names: &mut NameTable, decl: &Decl) -> Result<(), AllocError>
+    ensures { IfOk result (λ _. names.new ≡ names_behind names.old (decl_view decl.now ∷ [])) }
+{
+    match decl {
+        Decl::Constant(_) => {}
+        Decl::Node(node) => {
+            names.add(alloc, &node.name.text)?;
+        }
+        Decl::Contract(contract) => {
+            names.add(alloc, &contract.name.text)?;
+        }
+    }
+    Ok(())
+}
+
+/// The number of a name, and how many names there are where it has none.
+#[tactic(auto, using(crate::proofs::CircleFaults::number_past))]
+fn number_of(names: &NameTable, name: &str) -> usize
+    ensures { result ≡ number_of names.now name.now }
+{
+    match names.number(name) {
+        Some(number) => number,
+        None => names.len(),
+    }
+}
+
+/// The links, and behind them one to this name, where it has a number.
+fn push_link(links: &mut Vec<Link>, names: &NameTable, word: &PlacedName) -> Result<(), AllocError>
+    ensures { IfOk result (λ _. map link_view links.new.items ≡ map link_view links.old.items
+        ++ link_of names.now (word_view word.now)) }
+{
+    if let Some(to) = names.number(&word.text) {
+        let link = Link { to, at: word.at };
+        links.push(link)?;
+    }
+    Ok(())
+}
+
+/// The links, and behind them one to this name, where it is a node's or function's.
+fn push_node_link(
+    links: &mut Vec<Link>,
+    program: &Program,
+    names: &NameTable,
+    word: &PlacedName,
+) -> Result<(), AllocError>
+    ensures { IfOk result (λ _. map link_view links.new.items ≡ map link_view links.old.items
+        ++ node_links (program_view program.now) names.now (word_view word.now ∷ [])) }
+{
+    if node(program, &word.text).is_some() {
+        push_link(links, names, word)?;
+    }
+    Ok(())
+}
+
+/// The links, and behind them one to this name, where it is a contract node's.
+fn push_contract_link(
+    links: &mut Vec<Link>,
+    program: &Program,
+    names: &NameTable,
+    word: &PlacedName,
+) -> Result<(), AllocError>
+    ensures { IfOk result (λ _. map link_view links.new.items ≡ map link_view links.old.items
+        ++ contract_links (program_view program.now) names.now (word_view word.now ∷ [])) }
+{
+    if contract(program, &word.text).is_some() {
+        push_link(links, names, word)?;
+    }
+    Ok(())
+}
+
+/// The links, and behind them those to the nodes and functions of these names.
+fn push_node_links(
+    links: &mut Vec<Link>,
+    program: &Program,
+    names: &NameTable,
+    words: &[&PlacedName],
+) -> Result<(), AllocError>
+    ensures { IfOk result (λ _. map link_view links.new.items ≡ map link_view links.old.items
+        ++ node_links (program_view program.now) names.now (words_view words.now)) }
+{
+    for word in words {
+        push_node_link(links, program, names, word)?;
+    }
+    Ok(())
+}
+
+/// The links, and behind them those to the contract nodes of these names.
+fn push_contract_links(
+    links: &mut Vec<Link>,
+    program: &Program,
+    names: &NameTable,
+    words: &[&PlacedName],
+) -> Result<(), AllocError>
+    ensures { IfOk result (λ _. map link_view links.new.items ≡ map link_view links.old.items
+        ++ contract_links (program_view program.now) names.now (words_view words.now)) }
+{
+    for word in words {
+        push_contract_link(links, program, names, word)?;
+    }
+    Ok(())
+}
+
+/// The row of a declaration by what it calls and imports.
+fn row_by(
+    alloc: Global,
+    program: &Program,
+    names: &NameTable,
+    name: &str,
+    calls: &[&PlacedName],
+    imports: &[&PlacedName],
+) -> Result<Row, AllocError>
+    ensures { IfOk result (λ r. row_view r
+        ≡ row_by (program_view program.now) names.now name.now (words_view calls.now) (words_view imports.now)) }
+{
+    let mut links = Vec::new(alloc);
+    push_node_links(&mut links, program, names, calls)?;
+    push_contract_links(&mut links, program, names, imports)?;
+    Ok(Row {
+        from: number_of(names, name),
+        links,
+    })
+}
+
+/// The row of a node or function.
+fn node_row(
+    alloc: Global,
+    program: &Program,
+    names: &NameTable,
+    node: &Node,
+) -> Result<Row, AllocError>
+    ensures { IfOk result (λ r. row_view r ≡ row_of (program_view program.now) names.now (node_view node.now)) }
+{
+    let calls = node_calls(alloc, node)?;
+    let imports = imports_of(alloc, contract_items(node))?;
+    row_by(alloc, program, names, &node.name.text, &calls, &imports)
+}
+
+/// The row of a contract node.
+fn contract_row(
+    alloc: Global,
+    program: &Program,
+    names: &NameTable,
+    contract: &ContractNode,
+) -> Result<Row, AllocError>
+    ensures { IfOk result (λ r. row_view r
+        ≡ row_of (program_view program.now) names.now (contract_node_view contract.now)) }
+{
+    let calls = contract_calls(alloc, contract)?;
+    let imports = imports_of(alloc, &contract.items)?;
+    row_by(alloc, program, names, &contract.name.text, &calls, &imports)
+}
+
+/// The rows, and behind them that of a declaration with parts.
+fn push_row(
+    alloc: Global,
+    rows: &mut Vec<Row>,
+    program: &Program,
+    names: &NameTable,
+    decl: &Decl,
+) -> Result<(), AllocError>
+    ensures { IfOk result (λ _. map row_view rows.new.items ≡ map row_view rows.old.items
+        ++ map (row_of (program_view program.now) names.now) (components (decl_view decl.now ∷ []))) }
+{
+    match decl {
+        Decl::Constant(_) => {}
+        Decl::Node(node) => {
+            let row = node_row(alloc, program, names, node)?;
+            rows.push(row)?;
+        }
+        Decl::Contract(contract) => {
+            let row = contract_row(alloc, program, names, contract)?;
+            rows.push(row)?;
+        }
+    }
+    Ok(())
+}
+
+/// A row for each declaration with parts.
+fn rows_of(alloc: Global, program: &Program, names: &NameTable) -> Result<Vec<Row>, AllocError>
+    ensures { IfOk result (λ v. map row_view v.items
+        ≡ map (row_of (program_view program.now) names.now) (components (program_view program.now))) }
+{
+    let mut rows = Vec::new(alloc);
+    for decl in &program.decls {
+        push_row(alloc, &mut rows, program, names, decl)?;
+    }
+    Ok(rows)
+}
+
+/// Whether each of these has a lesser rank.
+fn falls_to(ranks: &[usize], rank: usize, links: &[Link]) -> bool
+    ensures { result ≡ falls_to ranks.now rank (map link_view links.now) }
+{
+    for link in links {
+        if rank_of(ranks, link.to) >= rank {
+            return false;
+        }
+    }
+    true
+}
+
+/// Whether each number has a greater rank than those that it leads to.
+fn all_fall(ranks: &[usize], rows: &[Row]) -> bool
+    ensures { result ≡ all_fall ranks.now (map row_view rows.now) }
+{
+    for row in rows {
+        if !falls_to(ranks, rank_of(ranks, row.from), &row.links) {
+            return false;
+        }
+    }
+    true
+}
+
+/// What the declarations of a program call and import.
+pub(crate) fn graph_of(alloc: Global, program: &Program) -> Result<Graph, AllocError>
+    ensures { IfOk result (λ g. IsGraph (program_view program.now) g) }
+{
+    let names = names_of(alloc, program)?;
+    let rows = rows_of(alloc, program, &names)?;
+    let ranks = ranks_of(alloc, &rows, names.len())?;
+    let falls = all_fall(&ranks, &rows);
+    Ok(Graph {
+        rows,
+        count: names.len(),
+        falls,
+    })
+}
+
+/// As many numbers, of which one is marked.
+fn one_marked(alloc: Global, count: usize, number: usize) -> Result<Vec<bool>, AllocError>
+    ensures { IfOk result (λ v. IsOne count number v.items) }
+{
+    let mut marks = Vec::new(alloc);
+    for i in 0..count {
+        marks.push(i == number)?;
+    }
+    Ok(marks)
+}
+
+/// The numbers that lead to one.
+fn leading(alloc: Global, graph: &Graph, number: usize) -> Result<Vec<bool>, AllocError>
+    ensures { IfOk result (λ v. IsLeading (map row_view graph.now.rows.items) graph.now.count number v.items) }
+{
+    let mut marks = one_marked(alloc, graph.count, number)?;
+    spread(&mut marks, &graph.rows);
+    Ok(marks)
+}
+
+/// Notes the links to marked numbers.
+fn note_marked(least: &mut Least, marks: &[bool], links: &[Link])
+    ensures { least_view least.new
+        ≡ noted_all (least_view least.old) (marked_faults marks.now (map link_view links.now)) }
+{
+    for link in links {
+        least.note_if(is_marked(marks, link.to), What::NodeRecursion, link.at);
+    }
+}
+
+/// Notes the calls and imports of the declaration with parts of that number, counted from 0, that
+/// are on a circle of declarations.
+///
+/// # Errors
+///
+/// Want of memory.
+pub(crate) fn recursion(
+    alloc: Global,
+    graph: &Graph,
+    least: &mut Least,
+    number: usize,
+) -> Result<(), AllocError>
+    requires { number < length graph.now.rows.items }
+    ensures { (p : Declarations) (n : Component) (fs : List Refused) → IsGraph p graph.now
+        → slice_get (components p) number ≡ Some n
+        → IfOk result (λ _. IsLeast (least_view least.old) fs
+        → IsLeast (least_view least.new) (fs ++ recursion_faults p n)) }
+{
+    if graph.falls {
+        return Ok(());
+    }
+    let row = &graph.rows[number];
+    let marks = leading(alloc, graph, row.from)?;
+    note_marked(least, &marks, &row.links);
+    Ok(())
+}
