@@ -1,16 +1,14 @@
 -- Frames that are computed in rounds as recomputed ones are, but in which each name has a value of its type exactly where
 -- its clock is on, whatever its source says. After enough rounds such a frame stays.
-use Rattle.std.proofs.Common.{◌≡◌, ℕ, zero, suc, ◌<◌, ◌≤◌, ◌+◌, Bool, true, false, cond, List, [], ◌∷◌, map, pos, refl, ap, ◌∙◌, sym, arith, Some, None, unwrap_or, slice_index_or}
+use Rattle.std.proofs.Common.{◌≡◌, ℕ, zero, suc, ◌<◌, ◌≤◌, ◌+◌, Bool, true, false, cond, List, [], ◌∷◌, map, pos, refl, arith, Some, None}
 use Rattle.std.specs.List.{AllByRecursion}
-use Rattle.std.specs.Map.{lookup}
-use Rattle.std.specs.Str.{bytes_eq}
 use Rattle.std.proofs.lemmas.Bool.{false≢true}
 use Rattle.lus_tree.specs.declared.place.Sort.{Sort}
 use Rattle.lus_tree.specs.declared.place.Sort.TheVariants.{Bool as Flags, Int as Numbers}
 use Rattle.lus_tree.specs.Tree.{Name, Variable}
 use Rattle.lus_meaning.specs.Value.{Value, absent, flag, whole, Stream, Instants, has_sort}
 use Rattle.lus_meaning.specs.Frame.{Frame, Frames, frame, no_frames, with_frame, entry, first_value, frame_at, calls_in, firsts_of}
-use Rattle.lus_meaning.specs.Scene.{Scene, Site, Instance, Instances, instance, no_instances, with_instance, component_of, clock_from, variables, is_on}
+use Rattle.lus_meaning.specs.Scene.{Scene, Instance, Instances, instance, no_instances, with_instance, component_of, clock_from, variables, is_on}
 use Rattle.lus_meaning.specs.Contract.{scene}
 use Rattle.lus_meaning.specs.Run.{is_typed, equations, active}
 use Rattle.lus_meaning.specs.Depends.{clock_needs, modes_need, Rank, below_calls, AllBelow, site_needs, equation_needs, IsRanked, CallsRanked}
@@ -130,7 +128,8 @@ mutual
   mend_calls_firsts (with_instance d i is) n a a' cs fs fs' (suc j) ks k =
       mend_calls_firsts is n a a' (λ j. cs (suc j)) (λ j. fs (suc j)) (λ j. fs' (suc j)) j ks k
 
-module _ (i : Instance) (r : Rank) (ranked : IsRanked i r) (M : ℕ) (bound : (ks : List ℕ) (x : Name) → r ks (Some x) < M) (n : ℕ) (b : Instants) (c : Frame) where
+module _ (i : Instance) (r : Rank) (ranked : IsRanked i r) (M : ℕ) (bound : (ks : List ℕ) (x : Name) → r ks (Some x) < M) (n : ℕ) (b : Instants)
+    (c : Frame) where
   -- what the round is made from, and the round
   abbrev pub before_round : ℕ → Frame
   before_round zero = c

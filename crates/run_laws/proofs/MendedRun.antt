@@ -1,8 +1,8 @@
 -- A mended frame that recomputing leaves as it is is a run, where its types are right.
-use Rattle.std.proofs.Common.{◌≡◌, ℕ, suc, ◌<◌, true, List, [], ◌∷◌, ◌++◌, map, refl}
+use Rattle.std.proofs.Common.{◌≡◌, ℕ, suc, ◌<◌, true, List, [], ◌∷◌, map}
 use Rattle.std.specs.List.{AllByRecursion}
 use Rattle.lus_tree.specs.Tree.{Name}
-use Rattle.lus_meaning.specs.Value.{Stream, Instants}
+use Rattle.lus_meaning.specs.Value.{Instants}
 use Rattle.lus_meaning.specs.Frame.{Frame, entry, frame_at, calls_in}
 use Rattle.lus_meaning.specs.Scene.{Scene, Instance, Instances, instance, no_instances, with_instance, variables}
 use Rattle.lus_meaning.specs.Contract.{scene}

@@ -1,12 +1,12 @@
 -- Of a checked program each declaration has exactly one run for choices that fit: the frame that is mended in rounds has
 -- its types, so its sources have theirs, and mending them changes nothing.
-use Rattle.std.proofs.Common.{◌≡◌, ℕ, zero, suc, pred, ◌<◌, Bool, true, false, ◌||◌, List, [], ◌∷◌, ◌++◌, map, refl, sym, ap, ◌∙◌, subst, Option, Some, unwrap_or, slice_index_or}
+use Rattle.std.proofs.Common.{◌≡◌, ℕ, zero, suc, pred, ◌<◌, true, false, ◌||◌, List, [], ◌∷◌, ◌++◌, map, refl, sym, ap, ◌∙◌, subst, Some, unwrap_or, slice_index_or}
 use Rattle.std.specs.Prelude.{Contains}
 use Rattle.std.specs.List.{AllByRecursion}
 use Rattle.std.specs.Map.{lookup}
 use Rattle.std.specs.Str.{bytes_eq}
 use Rattle.lus_tree.specs.Tree.{Name, Variable, Component, Program}
-use Rattle.lus_meaning.specs.Value.{Value, absent, Stream, Instants, has_sort, is_absent, only_on}
+use Rattle.lus_meaning.specs.Value.{absent, Stream, Instants, has_sort, is_absent, only_on}
 use Rattle.lus_meaning.specs.Frame.{Frame, entry, first_value, frame_at, calls_in}
 use Rattle.lus_meaning.specs.Scene.{Scene, Site, Instance, Instances, instance, no_instances, with_instance, component_of, calls_of, instance_at, call_instance, clock_from, variables, is_on}
 use Rattle.lus_meaning.specs.Contract.{scene}
@@ -196,7 +196,8 @@ mutual
   -- what has the entries of a frame has its choices
   chosen_alike : (i : Instance) (given : List Name) (n : ℕ) (f g x : Frame)
       → ((ks : List ℕ) (y : Name) (t : ℕ) → t < n → entry (frame_on f ks) y t ≡ entry (frame_on g ks) y t)
-      → ((ks : List ℕ) (k : ℕ) → first_value (frame_on f ks) k ≡ first_value (frame_on g ks) k) → SameChoices i given n g x → SameChoices i given n f x
+      → ((ks : List ℕ) (k : ℕ) → first_value (frame_on f ks) k ≡ first_value (frame_on g ks) k)
+      → SameChoices i given n g x → SameChoices i given n f x
   chosen_alike (instance d cs is) given n f g x e h q = (
     (λ k. h [] k ∙ q.0 k),
     all_from (λ v. (named_in v.name.text given || named_in v.name.text (left_names d)) ≡ false → (t : ℕ) → t < n → is_absent

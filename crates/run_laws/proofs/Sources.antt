@@ -1,6 +1,6 @@
 -- In a typed frame what the names of a declaration get is of their types on their clocks: from equations, and in the
 -- frame of a call or an import from its caller.
-use Rattle.std.proofs.Common.{◌≡◌, ℕ, suc, pred, ◌<◌, ◌≤◌, Bool, true, false, cond, ◌&&◌, ◌||◌, List, [], ◌∷◌, ◌++◌, map, refl, sym, ap, ◌∙◌, subst, arith, Option, Some, None, unwrap_or}
+use Rattle.std.proofs.Common.{◌≡◌, ℕ, suc, pred, ◌<◌, ◌≤◌, Bool, true, false, cond, ◌&&◌, ◌||◌, List, [], ◌∷◌, ◌++◌, map, refl, sym, ap, ◌∙◌, subst, arith, Option, Some, unwrap_or}
 use Rattle.std.specs.List.{AllByRecursion}
 use Rattle.std.specs.Map.{lookup}
 use Rattle.std.specs.Str.{bytes_eq}
@@ -8,7 +8,7 @@ use Rattle.std.proofs.lemmas.Bool.{false≢true}
 use Rattle.lus_tree.specs.declared.place.Sort.{Sort}
 use Rattle.lus_tree.specs.declared.place.Sort.TheVariants.{Bool as Flags}
 use Rattle.lus_tree.specs.Tree.{Name, Spelled, Expression, Expressions, truth, number, name, negation, minus, pre, arrow, binary, choice, sampled, merged, call, condact, mode_name, no_more, more, Variable, Component}
-use Rattle.lus_meaning.specs.Value.{Value, absent, Stream, Instants, is, latest}
+use Rattle.lus_meaning.specs.Value.{Stream, Instants, is, latest}
 use Rattle.lus_meaning.specs.Frame.{Frame, entry, call_frame}
 use Rattle.lus_meaning.specs.Scene.{Clock, base, Manner, plain, while_true, as_import, Site, Scene, Instance, instance, component_of, calls_of, call_instance, outputs_of, clock_from, contract_statements, ghosts, variables, is_on, clock_of_names}
 use Rattle.lus_meaning.specs.Meaning.{value, values, call_outputs, held_outputs}
@@ -84,7 +84,8 @@ names_fit s n (v ∷ vs) o a = (
   names_fit s n vs o.1 a.1,
 )
 
-fit_on : (n : ℕ) (on on' : Instants) → ((t : ℕ) → on t ≡ on' t) → (qs : List Sort) (ws : List Stream) → StreamsFit n on qs ws → StreamsFit n on' qs ws
+fit_on : (n : ℕ) (on on' : Instants) → ((t : ℕ) → on t ≡ on' t) → (qs : List Sort) (ws : List Stream) → StreamsFit n on qs ws
+    → StreamsFit n on' qs ws
 fit_on n on on' e [] ws h = tt
 fit_on n on on' e (q ∷ qs) [] h = absurd h
 fit_on n on on' e (q ∷ qs) (w ∷ ws) h = (

@@ -1,11 +1,11 @@
 -- In a typed frame of a declaration of a checked program each expression is good where it stands; so are the right sides
 -- of equations, and what calls and imports are given.
-use Rattle.std.proofs.Common.{◌≡◌, ℕ, zero, suc, pred, ◌<◌, true, List, [], ◌∷◌, ◌++◌, map, flat_map, refl, sym, ap, ◌∙◌, subst, Bool, Option, Some, None, option_map, unwrap_or}
+use Rattle.std.proofs.Common.{◌≡◌, ℕ, zero, suc, ◌<◌, true, List, [], ◌∷◌, ◌++◌, map, flat_map, refl, sym, ap, ◌∙◌, subst, Bool, Option, Some, None, option_map, unwrap_or}
 use Rattle.std.specs.Prelude.{Contains, find, is_none}
 use Rattle.std.specs.List.{AllByRecursion}
 use Rattle.std.specs.Str.{bytes_eq}
 use Rattle.std.proofs.lemmas.Option.{none-some}
-use Rattle.lus_tree.specs.Tree.{Name, Spelled, text_of, Expression, Expressions, truth, number, name, negation, minus, pre, arrow, binary, choice, sampled, merged, call, condact, mode_name, no_more, more, Variable, Labelled, Statement, equation, assertion, property, main_mark, ContractStatement, assume, guarantee, ghost_variable, constant, mode, «import», Component, Program}
+use Rattle.lus_tree.specs.Tree.{Name, Spelled, Expression, Expressions, truth, number, name, negation, minus, pre, arrow, binary, choice, sampled, merged, call, condact, mode_name, no_more, more, Variable, Statement, equation, assertion, property, main_mark, ContractStatement, assume, guarantee, ghost_variable, constant, mode, «import», Component, Program}
 use Rattle.lus_meaning.specs.Value.{Instants}
 use Rattle.lus_meaning.specs.Frame.{Frame}
 use Rattle.lus_meaning.specs.Scene.{Clock, base, Site, Instance, Instances, no_instances, with_instance, component_of, instance_at, clock_from, clock_of, clock_of_names, contract_statements, ghosts, variables, is_on}
@@ -25,7 +25,7 @@ use Rattle.lus_meaning.proofs.NamesOnce.{at_one}
 use Rattle.lus_meaning.proofs.Now.{left_part, right_part}
 use Rattle.rule_laws.specs.Laws.{IsUnfolded, AreUnfolded, site_at, HasItsPlace}
 use Rattle.rule_laws.specs.Fitting.{OnBase, FitsThere}
-use Rattle.rule_laws.specs.Declarations.{StreamFits, EquationFits, ImportFits, DeclarationFits}
+use Rattle.rule_laws.specs.Declarations.{StreamFits, ImportFits, DeclarationFits}
 use Rattle.rule_laws.specs.Types.{IsTypedFrame, IsTypedThere}
 use Rattle.rule_laws.proofs.Goods.{expressions_fit, each_passes, without_clocks}
 use Rattle.rule_laws.proofs.Items.{declarations_fit}
