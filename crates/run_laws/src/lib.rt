@@ -1,0 +1,4 @@
+//! The runs of the programs that follow the rules, by the definitions alone. It has no code but this law.
+#![tactic(auto)]
+
+pub mod laws;
