@@ -1,7 +1,11 @@
 -- The laws of the translation for checked programs.
+use Rattle.std.specs.Prelude.{Contains}
 use Rattle.std.specs.List.{AllByRecursion}
-use Rattle.lus_meaning.specs.Scene.{clock_from, variables}
+use Rattle.lus_tree.specs.Tree.{ContractStatement, assume, guarantee, ghost_variable, constant, mode, «import», Component, Program}
+use Rattle.lus_meaning.specs.Scene.{Instance, Instances, instance, no_instances, with_instance, clock_from, contract_statements, variables}
 use Rattle.lus_meaning.specs.Program.{instance_of}
+use Rattle.lus_meaning.specs.ClockFaults.{components}
+use Rattle.lus_meaning.specs.Refusals.{IsChecked}
 use Rattle.lus_meaning.specs.RuleLaws.{OfEach}
 use Rattle.sys_meaning.specs.WellTyped.{ClockFits}
 
@@ -9,3 +13,28 @@ use Rattle.sys_meaning.specs.WellTyped.{ClockFits}
 abbrev pub ClockChainsEnd : Type 0
 ClockChainsEnd =
     OfEach (λ p n. AllByRecursion (λ v. ClockFits (instance_of p n) (λ key. ⊥) (clock_from v.clock)) (variables n))
+
+-- ---- without modes and imports
+
+-- an item of a contract that is no mode and no import
+abbrev pub IsPlain : ContractStatement → Type 0
+IsPlain (assume l) = Unit {0}
+IsPlain (guarantee l) = Unit {0}
+IsPlain (ghost_variable x e) = Unit {0}
+IsPlain (constant c) = Unit {0}
+IsPlain (mode m rs es) = ⊥
+IsPlain («import» k c as_ xs) = ⊥
+
+-- the contract of a declaration and those of all that it calls, at every depth, have no mode and no import
+abbrev mutual
+  pub HasNoModes : Instance → Type 0
+  HasNoModes (instance d cs is) = AllByRecursion IsPlain (contract_statements d) × CallsHaveNoModes is
+
+  pub CallsHaveNoModes : Instances → Type 0
+  CallsHaveNoModes no_instances = Unit {0}
+  CallsHaveNoModes (with_instance c k is) = HasNoModes k × CallsHaveNoModes is
+
+-- what is so of the instance of each declaration of a checked program that has no modes and no imports
+abbrev pub OfPlain : (Instance → Type 0) → Type 0
+OfPlain P =
+    (p : Program) → IsChecked p → (n : Component) → Contains (components p) n → HasNoModes (instance_of p n) → P (instance_of p n)

@@ -1,0 +1,120 @@
+-- What is numbered from 1 on, in the order of its numbers; names in a list, and values by their place.
+use Rattle.std.proofs.Common.{◌≡◌, ℕ, zero, suc, pred, ◌<◌, ◌≤◌, ◌+◌, Bool, true, false, cond, ◌||◌, ◌⊎◌, List, [], ◌∷◌, ◌++◌, map, flat_map, length, Option, Some, None, refl, sym, ap, ◌∙◌, subst, arith, slice_get}
+use Rattle.std.specs.Prelude.{Contains, find, option_to_list, ◌==◌}
+use Rattle.std.specs.List.{AllByRecursion}
+use Rattle.std.proofs.lemmas.Bool.{false≢true}
+use Rattle.lus_tree.specs.Tree.{Expression, truth, number, name, negation, minus, pre, arrow, binary, choice, sampled, merged, call, condact, mode_name, ContractStatement, assume, guarantee, ghost_variable, constant, mode, «import», Component, Program}
+use Rattle.lus_tree.specs.Numbers.{a_pre, an_arrow, a_call, arrow_number, pre_number, call_number, all_numbers, import_number, numbers_in, counting, times, are_counted, IsNumbered}
+use Rattle.lus_meaning.specs.Scene.{Site, contract_statements}
+use Rattle.lus_meaning.specs.Program.{site_in, import_site, all_sites, in_order}
+use Rattle.lus_meaning.specs.Occurrences.{Standing, Memory, Start, gathered, memories, starts}
+use Rattle.lus_meaning.proofs.Lists.{append_none}
+use Rattle.lus_meaning.proofs.Numbering.{numbers_gathered, memory_numbers, start_numbers}
+use Rattle.rule_laws.proofs.Numbered.{At}
+use Rattle.sys_meaning.proofs.Found.{once, found, found_number, some_found}
+use Rattle.path_laws.specs.Laws.{IsPlain}
+
+-- ---- numbers of a declaration without imports
+
+no_imports : (which : _) (cs : List ContractStatement) → AllByRecursion IsPlain cs → flat_map (import_number which) cs ≡ []
+no_imports which [] a = refl
+no_imports which (assume l ∷ cs) a = no_imports which cs a.1
+no_imports which (guarantee l ∷ cs) a = no_imports which cs a.1
+no_imports which (ghost_variable x e ∷ cs) a = no_imports which cs a.1
+no_imports which (constant c ∷ cs) a = no_imports which cs a.1
+no_imports which (mode m rs es ∷ cs) a = absurd a.0
+no_imports which («import» k f as_ xs ∷ cs) a = absurd a.0
+
+pub no_import_sites : (cs : List ContractStatement) → AllByRecursion IsPlain cs → flat_map import_site cs ≡ []
+no_import_sites [] a = refl
+no_import_sites (assume l ∷ cs) a = no_import_sites cs a.1
+no_import_sites (guarantee l ∷ cs) a = no_import_sites cs a.1
+no_import_sites (ghost_variable x e ∷ cs) a = no_import_sites cs a.1
+no_import_sites (constant c ∷ cs) a = no_import_sites cs a.1
+no_import_sites (mode m rs es ∷ cs) a = absurd a.0
+no_import_sites («import» k f as_ xs ∷ cs) a = absurd a.0
+
+site_is : (s : Standing) (e : Expression) → map (λ (c : Site). c.number) (site_in s e) ≡ call_number e
+site_is s (truth p b) = refl
+site_is s (number p k) = refl
+site_is s (name p x) = refl
+site_is s (negation p a) = refl
+site_is s (minus p a) = refl
+site_is s (pre p k a) = refl
+site_is s (arrow p k a b) = refl
+site_is s (binary p o a b) = refl
+site_is s (choice p a b c) = refl
+site_is s (sampled p a b x) = refl
+site_is s (merged p x a b) = refl
+site_is s (call p k f as_) = refl
+site_is s (condact p k a f as_ ds) = refl
+site_is s (mode_name p c m) = refl
+
+module _ (n : Component) (plain : AllByRecursion IsPlain (contract_statements n)) (k : IsNumbered n) where
+  pub memories_counted : are_counted (map (λ m. m.number) (memories n)) ≡ true
+  memories_counted =
+      let same : numbers_in a_pre n ≡ map (λ m. m.number) (memories n) = ap (λ xs. all_numbers pre_number n ++ xs)
+      (no_imports a_pre (contract_statements n) plain) ∙ append_none (all_numbers pre_number n) ∙ sym (memory_numbers n) in
+      subst (λ xs. are_counted xs ≡ true) same (k.each a_pre)
+
+  pub starts_counted : are_counted (map (λ m. m.number) (starts n)) ≡ true
+  starts_counted =
+      let same : numbers_in an_arrow n ≡ map (λ m. m.number) (starts n) = ap (λ xs. all_numbers arrow_number n ++ xs)
+      (no_imports an_arrow (contract_statements n) plain) ∙ append_none (all_numbers arrow_number n) ∙ sym (start_numbers n) in
+      subst (λ xs. are_counted xs ≡ true) same (k.each an_arrow)
+
+  calls_counted : are_counted (map (λ c. c.number) (gathered site_in n)) ≡ true
+  calls_counted =
+      let same : numbers_in a_call n ≡ map (λ (c : Site). c.number) (gathered site_in n) = ap (λ xs. all_numbers call_number n ++ xs)
+      (no_imports a_call (contract_statements n) plain) ∙ append_none (all_numbers call_number n)
+      ∙ sym (numbers_gathered site_in (λ c. c.number) call_number site_is n) in
+      subst (λ xs. are_counted xs ≡ true) same (k.each a_call)
+
+  pub sites_counted : are_counted (map (λ c. c.number) (gathered site_in n ++ flat_map import_site (contract_statements n))) ≡ true
+  sites_counted = subst (λ ss. are_counted (map (λ (c : Site). c.number) ss) ≡ true)
+      (sym (ap (λ ss. gathered site_in n ++ ss) (no_import_sites (contract_statements n) plain) ∙ append_none (gathered site_in n))) calls_counted
+
+-- ---- in order
+
+module _ {A : Type 0} (at : A → ℕ) where
+  -- numbered on from m
+  abbrev pub CountedFrom : ℕ → List A → Type 0
+  CountedFrom m [] = Unit {0}
+  CountedFrom m (x ∷ xs) = (at x ≡ m) × CountedFrom (suc m) xs
+
+  counted_on : (xs : List A) (m n : ℕ) → ((j : ℕ) → m ≤ j → j < m + n → (x : A) × (found at j xs ≡ Some x)) →
+      CountedFrom m (flat_map (λ k. option_to_list (find (λ x. at x == k) xs)) (counting m n))
+  counted_on xs m zero h = tt
+  counted_on xs m (suc n) h =
+      go (h m (omega arith) (omega arith)) (counted_on xs (suc m) n (λ j a b. h j (omega (arith, a)) (omega (arith, b))))
+    where
+      go : (x : A) × (found at m xs ≡ Some x) →
+          CountedFrom (suc m) (flat_map (λ k. option_to_list (find (λ x. at x == k) xs)) (counting (suc m) n)) →
+          CountedFrom m (option_to_list (find (λ x. at x == m) xs) ++ flat_map (λ k. option_to_list (find (λ x. at x == k) xs)) (counting (suc m) n))
+      go q r = subst (λ o. CountedFrom m (option_to_list o ++ flat_map (λ k. option_to_list (find (λ x. at x == k) xs)) (counting (suc m) n)))
+          (sym q.1) (found_number at m xs q.0 q.1, r)
+
+  many : (xs : List A) → length (map at xs) ≡ length xs
+  many [] = refl
+  many (x ∷ xs) = ap suc (many xs)
+
+  pub each_found : (xs : List A) → are_counted (map at xs) ≡ true → (j : ℕ) → 1 ≤ j → j < 1 + length xs → (x : A) × (found at j xs ≡ Some x)
+  each_found xs e j a b =
+      let l : length (map at xs) ≡ length xs = many xs in
+      let o : times j (map at xs) ≡ 1 = once (map at xs) e j a (omega (arith, l, b)) in
+      some_found at j xs (omega (arith, o))
+
+  pub in_order_counted : (xs : List A) → are_counted (map at xs) ≡ true → CountedFrom 1 (in_order at xs)
+  in_order_counted xs e = counted_on xs 1 (length xs) (each_found xs e)
+
+-- ---- places
+
+pub at_get : {A B : Type 0} (f : A → B) (xs : List A) (k : ℕ) (x : A) → At xs k x → slice_get (map f xs) k ≡ Some (f x)
+at_get f [] k x a = absurd a
+at_get f (y ∷ xs) zero x a = ap (λ z. Some (f z)) a
+at_get f (y ∷ xs) (suc k) x a = at_get f xs k x a
+
+pub at_within : {A : Type 0} (xs : List A) (k : ℕ) (x : A) → At xs k x → k < length xs
+at_within [] k x a = absurd a
+at_within (y ∷ xs) zero x a = omega arith
+at_within (y ∷ xs) (suc k) x a = let l : k < length xs = at_within xs k x a in omega (arith, l)
