@@ -1,3 +1,5 @@
 pub mod Chains
 pub mod Numbers
 pub mod Standing
+pub mod Places
+pub mod Tree

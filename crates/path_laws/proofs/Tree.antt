@@ -1,0 +1,286 @@
+-- The text of a checked declaration without modes and imports has its types and clocks, at every depth of calls.
+use Rattle.std.proofs.Common.{◌≡◌, ℕ, zero, suc, pred, ◌<◌, ◌≤◌, ◌+◌, Bool, true, false, List, [], ◌∷◌, ◌++◌, map, flat_map, length, Option, Some, None, refl, sym, ap, ◌∙◌, subst, arith, slice_get}
+use Rattle.std.specs.Prelude.{Contains}
+use Rattle.std.specs.List.{AllByRecursion}
+use Rattle.lus_tree.specs.declared.place.Sort.{Sort}
+use Rattle.lus_tree.specs.declared.place.Sort.TheVariants.{Bool as Flags}
+use Rattle.lus_tree.specs.Tree.{Name, text_of, Expression, truth, number, name, negation, minus, pre, arrow, binary, choice, sampled, merged, call, condact, mode_name, Constant, Variable, Statement, equation, assertion, property, main_mark, ContractStatement, assume, guarantee, ghost_variable, constant, mode, «import», Component, Program}
+use Rattle.lus_tree.specs.Numbers.{IsNumbered}
+use Rattle.lus_meaning.specs.Scene.{Clock, base, Manner, while_true, Site, Instance, Instances, instance, no_instances, with_instance, component_of, calls_of, instance_at, call_instance, outputs_of, clock_from, clock_of, clock_of_names, contract_statements, ghosts, variables}
+use Rattle.lus_meaning.specs.Program.{listed, site_in, import_site, all_sites, component_named, in_order, instance_of}
+use Rattle.lus_meaning.specs.Property.{assertions}
+use Rattle.lus_meaning.specs.Run.{Equation, equations, ghost_equations, body_equations, inputs_of, first_sorts, sort_of, sort_of_name}
+use Rattle.lus_meaning.specs.Depends.{named_in}
+use Rattle.lus_meaning.specs.WellMade.{AreDistinct}
+use Rattle.lus_meaning.specs.Occurrences.{on_clock, as_side, Text, contract_statement_texts, statement_texts, constant_texts, texts, gathered, Memory, Start, memories, starts}
+use Rattle.lus_meaning.specs.ClockFaults.{components, name_clock}
+use Rattle.lus_meaning.specs.Refusals.{IsChecked}
+use Rattle.lus_meaning.proofs.EachPart.{Each}
+use Rattle.lus_meaning.proofs.InOrder.{in_order_length}
+use Rattle.lus_meaning.proofs.Lists.{all_from, all_from_both, both_parts}
+use Rattle.lus_meaning.proofs.Now.{left_part, right_part}
+use Rattle.rule_laws.specs.Laws.{IsUnfolded, AreUnfolded, site_at}
+use Rattle.rule_laws.specs.Fitting as fitting
+use Rattle.rule_laws.specs.Fitting.{IsStreamOn, sorts_of, OnBase}
+use Rattle.rule_laws.specs.Declarations.{StreamFits, DeclarationFits, contract_flags, statement_flags}
+use Rattle.rule_laws.specs.Declarations as declarations
+use Rattle.rule_laws.proofs.Callees.{GoesDown, each_site}
+use Rattle.rule_laws.proofs.Numbered.{InPlace, all_in_place}
+use Rattle.rule_laws.proofs.Places.{numbered, by_number}
+use Rattle.clock_laws.proofs.Clocks.{declared_at}
+use Rattle.clock_laws.proofs.OrderLaws.{names_distinct}
+use Rattle.clock_laws.proofs.Same.{some_same}
+use Rattle.run_laws.proofs.Sources.{IsCallee}
+use Rattle.run_laws.proofs.Texts.{declaration, is_callee, named_at}
+use Rattle.sys_meaning.specs.Slot.{memory_of, start_of}
+use Rattle.sys_meaning.specs.WellTyped.{checked, ClockFits, StreamFits, EquationFits, MemoryFits, StartFits, ContractStatementFits, OwnFits, CallFits, TreeFits, CallsFit, IsNameOn, IsMemory, Stands}
+use Rattle.sys_meaning.specs.WellTyped as typed
+use Rattle.sys_meaning.proofs.Found.{found_number}
+use Rattle.sys_meaning.proofs.Whole.{no_modes}
+use Rattle.path_laws.specs.Laws.{IsPlain, HasNoModes, CallsHaveNoModes}
+use Rattle.path_laws.proofs.Chains.{name_on, clock_is}
+use Rattle.path_laws.proofs.Numbers.{memories_counted, starts_counted, sites_counted, CountedFrom, in_order_counted, each_found, at_get, at_within}
+use Rattle.path_laws.proofs.Places.{SiteMade, MemoryMade, StartMade, memories_made, starts_made, sites_made, known_texts, KnownText, stand, good_base, good_name, good_names, good_stream}
+use Rattle.path_laws.proofs.Standing.{no_key, Known}
+
+same_right : (i : Instance) (e : Expression) → declarations.right_sorts i e ≡ typed.right_sorts i no_key e
+same_right i (truth q b) = refl
+same_right i (number q b) = refl
+same_right i (name q b) = refl
+same_right i (negation q b) = refl
+same_right i (minus q b) = refl
+same_right i (pre q k b) = refl
+same_right i (arrow q k b d) = refl
+same_right i (binary q k b d) = refl
+same_right i (choice q b d e) = refl
+same_right i (sampled q b d e) = refl
+same_right i (merged q b d e) = refl
+same_right i (call q k b d) = refl
+same_right i (condact q k b d e f) = refl
+same_right i (mode_name q b d) = refl
+
+module _ (p : Program) (c : IsChecked p) where
+  module _ (i : Instance) (u : IsUnfolded p i) (j : Contains (components p) (component_of i))
+      (no_modes_here : AllByRecursion IsPlain (contract_statements (component_of i))) where
+    abbrev here : Component
+    here = component_of i
+
+    decl : DeclarationFits i
+    decl = declaration p c i u j
+
+    k : IsNumbered (component_of i)
+    k = numbered p c.grammatical (component_of i) j
+
+    abbrev Text_known : Text → Type 0
+    Text_known x = KnownText p c i u j no_modes_here x
+
+    abbrev Flag : Expression → Type 0
+    Flag e = Stands i no_key base e × (sort_of i e ≡ Flags)
+
+    stand_at : (t : _) (e : Expression) → Each (Known i) (component_of i) t e → Stands i no_key t.clock e
+    stand_at t e a = stand p c i u j no_modes_here t e a
+
+    abbrev IsFlagHere : Expression → Type 0
+    IsFlagHere e = sort_of i e ≡ Flags
+
+    contract_fits : (xs : List ContractStatement) → AllByRecursion IsPlain xs → AllByRecursion Text_known (flat_map contract_statement_texts xs) →
+        AllByRecursion IsFlagHere (flat_map contract_flags xs) → AllByRecursion (ContractStatementFits i no_key) xs
+    contract_fits [] q a f = tt
+    contract_fits (assume l ∷ xs) q a f = ((stand_at (on_clock base) l.value a.0, f.0), contract_fits xs q.1 a.1 f.1)
+    contract_fits (guarantee l ∷ xs) q a f = ((stand_at (on_clock base) l.value a.0, f.0), contract_fits xs q.1 a.1 f.1)
+    contract_fits (ghost_variable x e ∷ xs) q a f = (tt, contract_fits xs q.1 a.1 f)
+    contract_fits (constant x ∷ xs) q a f = (tt, contract_fits xs q.1 a.1 f)
+    contract_fits (mode m rs es ∷ xs) q a f = absurd q.0
+    contract_fits («import» m x as_ ys ∷ xs) q a f = absurd q.0
+
+    asserts_fit : (ss : List Statement) → AllByRecursion Text_known (flat_map (statement_texts (component_of i)) ss) →
+        AllByRecursion IsFlagHere (flat_map statement_flags ss) → AllByRecursion Flag (assertions ss)
+    asserts_fit [] a f = tt
+    asserts_fit (equation xs e ∷ ss) a f = asserts_fit ss a.1 f
+    asserts_fit (assertion e ∷ ss) a f = ((stand_at (on_clock base) e a.0, f.0), asserts_fit ss a.1 f.1)
+    asserts_fit (property l ∷ ss) a f = asserts_fit ss a.1 f.1
+    asserts_fit (main_mark w ∷ ss) a f = asserts_fit ss a f
+
+    checks_fit : (ss : List Statement) → AllByRecursion Text_known (flat_map (statement_texts (component_of i)) ss) →
+        AllByRecursion IsFlagHere (flat_map statement_flags ss) → AllByRecursion Flag (checked ss)
+    checks_fit [] a f = tt
+    checks_fit (equation xs e ∷ ss) a f = checks_fit ss a.1 f
+    checks_fit (assertion e ∷ ss) a f = checks_fit ss a.1 f.1
+    checks_fit (property l ∷ ss) a f = ((stand_at (on_clock base) l.value a.0, f.0), checks_fit ss a.1 f.1)
+    checks_fit (main_mark w ∷ ss) a f = checks_fit ss a f
+
+    -- ---- equations
+
+    abbrev SideKnown : Equation → Type 0
+    SideKnown e = Each (Known i) (component_of i) (as_side (clock_of_names (component_of i) e.names)) e.right
+
+    ghost_sides : (xs : List ContractStatement) → AllByRecursion IsPlain xs → AllByRecursion Text_known (flat_map contract_statement_texts xs) →
+        AllByRecursion (λ v. clock_of (component_of i) v.name.text ≡ base) (ghosts xs) → AllByRecursion SideKnown (ghost_equations xs)
+    ghost_sides [] q a g = tt
+    ghost_sides (assume l ∷ xs) q a g = ghost_sides xs q.1 a.1 g
+    ghost_sides (guarantee l ∷ xs) q a g = ghost_sides xs q.1 a.1 g
+    ghost_sides (ghost_variable x e ∷ xs) q a g =
+        (subst (λ z. Each (Known i) (component_of i) (as_side z) e) (sym g.0) a.0, ghost_sides xs q.1 a.1 g.1)
+    ghost_sides (constant x ∷ xs) q a g = ghost_sides xs q.1 a.1 g
+    ghost_sides (mode m rs es ∷ xs) q a g = absurd q.0
+    ghost_sides («import» m x as_ ys ∷ xs) q a g = absurd q.0
+
+    body_sides : (ss : List Statement) → AllByRecursion Text_known (flat_map (statement_texts (component_of i)) ss) →
+        AllByRecursion SideKnown (body_equations ss)
+    body_sides [] a = tt
+    body_sides (equation xs e ∷ ss) a = (a.0, body_sides ss a.1)
+    body_sides (assertion e ∷ ss) a = body_sides ss a.1
+    body_sides (property l ∷ ss) a = body_sides ss a.1
+    body_sides (main_mark w ∷ ss) a = body_sides ss a
+
+    abbrev contract_texts_here : List Text
+    contract_texts_here = flat_map contract_statement_texts (contract_statements (component_of i))
+
+    abbrev body_texts_here : List Text
+    body_texts_here = flat_map (statement_texts (component_of i)) (component_of i).body
+
+    texts_known : AllByRecursion Text_known (texts (component_of i))
+    texts_known = known_texts p c i u j no_modes_here
+
+    contract_known : AllByRecursion Text_known contract_texts_here
+    contract_known = left_part Text_known contract_texts_here (constant_texts here.constants ++ body_texts_here) texts_known
+
+    body_known : AllByRecursion Text_known body_texts_here
+    body_known = right_part Text_known (constant_texts here.constants) body_texts_here
+        (right_part Text_known contract_texts_here (constant_texts here.constants ++ body_texts_here) texts_known)
+
+    equation_fits : (ghosts_on : AllByRecursion (λ v. clock_of (component_of i) v.name.text ≡ base) (ghosts (contract_statements (component_of i)))) →
+        AllByRecursion (EquationFits i no_key) (equations (component_of i))
+    equation_fits g =
+        all_from_both (declarations.EquationFits i) SideKnown (EquationFits i no_key) (λ e f s. record {
+          right = stand_at (as_side (clock_of_names here e.names)) e.right s;
+          names = all_from (λ x. IsStreamOn i (clock_of_names here e.names) (sort_of_name i x) x)
+              (λ x. IsNameOn i no_key (clock_of_names here e.names) x)
+              (λ x h. name_on i no_key (clock_of_names here e.names) x _ h) e.names f.names;
+          sorts = f.sorts ∙ same_right i e.right;
+          clock = good_names p c i u j no_modes_here e.names (λ x. IsStreamOn i (clock_of_names here e.names) (sort_of_name i x) x)
+              (λ x h. h.clock) f.names;
+        }) (equations here) decl.equations
+        (both_parts SideKnown (ghost_equations (contract_statements here)) (body_equations here.body)
+        (ghost_sides (contract_statements here) no_modes_here contract_known g) (body_sides here.body body_known))
+
+    -- ---- memories and starts
+
+    memory_fits : (m : Memory) → MemoryMade i m → InPlace (λ x. x.number) (memories (component_of i)) m → MemoryFits i no_key m
+    memory_fits m a q =
+        let l : 1 ≤ m.number = q.positive in
+        let w : pred m.number < length (in_order (λ (x : Memory). x.number) (memories here)) =
+        at_within (in_order (λ (x : Memory). x.number) (memories here)) (pred m.number) m q.place in
+        let s : length (in_order (λ (x : Memory). x.number) (memories here)) ≡ length (memories here) =
+        in_order_length (λ (x : Memory). x.number) (memories here) (memories_counted here no_modes_here k) in
+        record {
+          found = a.found;
+          counted = omega (arith, l);
+          listed = omega (arith, w, s);
+          first = at_get (λ (x : Memory). sort_of i x.operand) (in_order (λ (x : Memory). x.number) (memories here)) (pred m.number) m q.place;
+          operand = a.operand;
+          clock = a.clock;
+        }
+
+    memories_fit : AllByRecursion (MemoryFits i no_key) (memories (component_of i))
+    memories_fit =
+        all_from_both (MemoryMade i) (InPlace (λ x. x.number) (memories here)) (MemoryFits i no_key) memory_fits (memories here)
+        (memories_made p c i u j no_modes_here) (all_in_place (λ x. x.number) (memories here) (memories_counted here no_modes_here k))
+
+    start_fits : (m : Start) → StartMade i m → InPlace (λ x. x.number) (starts (component_of i)) m → StartFits i no_key m
+    start_fits m a q =
+        let l : 1 ≤ m.number = q.positive in
+        let w : pred m.number < length (in_order (λ (x : Start). x.number) (starts here)) =
+        at_within (in_order (λ (x : Start). x.number) (starts here)) (pred m.number) m q.place in
+        let s : length (in_order (λ (x : Start). x.number) (starts here)) ≡ length (starts here) =
+        in_order_length (λ (x : Start). x.number) (starts here) (starts_counted here no_modes_here k) in
+        record {
+          found = a.found;
+          counted = omega (arith, l);
+          listed = omega (arith, w, s);
+          clock = a.clock;
+        }
+
+    starts_fit : AllByRecursion (StartFits i no_key) (starts (component_of i))
+    starts_fit =
+        all_from_both (StartMade i) (InPlace (λ x. x.number) (starts here)) (StartFits i no_key) start_fits (starts here)
+        (starts_made p c i u j no_modes_here) (all_in_place (λ x. x.number) (starts here) (starts_counted here no_modes_here k))
+
+    many : {A B : Type 0} (f : A → B) (xs : List A) → length (map f xs) ≡ length xs
+    many f [] = refl
+    many f (x ∷ xs) = ap suc (many f xs)
+
+    firsts_fit : (l : ℕ) → l < length (first_sorts i) → (t : Clock) × (a : Expression) × IsMemory i no_key (suc l) t a
+    firsts_fit l h =
+        let s : length (in_order (λ (x : Memory). x.number) (memories here)) ≡ length (memories here) =
+        in_order_length (λ (x : Memory). x.number) (memories here) (memories_counted here no_modes_here k) in
+        let w : length (first_sorts i) ≡ length (in_order (λ (x : Memory). x.number) (memories here)) =
+        many (λ (x : Memory). sort_of i x.operand) (in_order (λ (x : Memory). x.number) (memories here)) in
+        let m = each_found (λ (x : Memory). x.number) (memories here) (memories_counted here no_modes_here k) (suc l) (omega arith)
+        (omega (arith, h, w, s)) in (
+          m.0.clock,
+          m.0.operand,
+          m.1 ∙ ap (λ q. Some record { number = q; clock = m.0.clock; operand = m.0.operand })
+              (found_number (λ (x : Memory). x.number) (suc l) (memories here) m.0 m.1),
+        )
+
+    stream_fits : (v : Variable) → declarations.StreamFits i v → typed.StreamFits i no_key v
+    stream_fits v s = record {
+      name = name_on i no_key (clock_from v.clock) v.name.text _ s.name;
+      sort = s.name.sort;
+      clock = good_stream p c i u j no_modes_here v s;
+    }
+
+    pub own_fits : AllByRecursion (λ v. clock_of (component_of i) v.name.text ≡ base) (ghosts (contract_statements (component_of i))) → OwnFits i no_key
+    own_fits g = record {
+      once = names_distinct p c.rules.clocked.typed (component_of i) j;
+      contract = contract_fits (contract_statements here) no_modes_here contract_known
+          (left_part IsFlagHere (flat_map contract_flags (contract_statements here)) (flat_map statement_flags here.body) decl.flags);
+      streams = all_from (declarations.StreamFits i) (typed.StreamFits i no_key) stream_fits (variables here) decl.streams;
+      equations = equation_fits g;
+      firsts = firsts_fit;
+      memories = memories_fit;
+      starts = starts_fit;
+      asserts = asserts_fit here.body body_known
+          (right_part IsFlagHere (flat_map contract_flags (contract_statements here)) (flat_map statement_flags here.body) decl.flags);
+      body_properties = checks_fit here.body body_known
+          (right_part IsFlagHere (flat_map contract_flags (contract_statements here)) (flat_map statement_flags here.body) decl.flags);
+    }
+
+  -- ---- calls
+
+  names_on_base : (k : Instance) (vs : List Variable) → OnBase vs → AllByRecursion (declarations.StreamFits k) vs →
+      AllByRecursion (IsNameOn k no_key base) (map (λ v. v.name.text) vs)
+  names_on_base k [] o a = tt
+  names_on_base k (v ∷ vs) o a = (
+    subst (λ t. IsNameOn k no_key (clock_from t) v.name.text) o.0 (name_on k no_key (clock_from v.clock) v.name.text _ a.0.name),
+    names_on_base k vs o.1 a.1,
+  )
+
+  names_sorts : (k : Instance) (vs : List Variable) → AllByRecursion (declarations.StreamFits k) vs →
+      map (sort_of_name k) (map (λ v. v.name.text) vs) ≡ map (λ v. v.sort) vs
+  names_sorts k [] a = refl
+  names_sorts k (v ∷ vs) a = rw (a.0.name.sort, names_sorts k vs a.1) refl
+
+  call_fits : (i : Instance) (s : Site) (k : Instance) (q : ℕ) → s.number ≡ suc q → SiteMade i s →
+      component_of k ≡ component_of (call_instance i s.number) → IsCallee k → CallFits no_modes i s k q
+  call_fits i s k q e m same w = record {
+    number = e;
+    call = subst (typed.IsCall i no_key) e m.call;
+    clock = m.clock;
+    arguments = m.arguments;
+    sorts = m.fits.arguments ∙ ap (λ (n : Component). sorts_of n.inputs) (sym same);
+    manner = m.manner k;
+    held = λ a h. subst (λ l. (ds : _) × typed.IsHeldCall i no_key l s.clock a ds) e (m.held a h);
+    no_import = m.no_import;
+    inputs = names_on_base k (component_of k).inputs w.inputs_on_base w.inputs;
+    input_sorts = names_sorts k (component_of k).inputs w.inputs;
+    outputs = names_on_base k (component_of k).outputs w.outputs_on_base w.outputs;
+    output_sorts = names_sorts k (component_of k).outputs w.outputs;
+  }
+
+  -- the declaration that a site of an unfolded instance names
+  pub named_there : (i : Instance) → IsUnfolded p i → (s : Site) → 1 ≤ s.number → site_at (calls_of i) (pred s.number) ≡ Some s →
+      component_named p s.callee ≡ Some (component_of (call_instance i s.number))
+  named_there (instance d cs is) u s l e =
+      named_at p (all_sites d) is u.1 (pred s.number) s e ∙ ap (λ k. Some (component_of k)) (by_number (instance d cs is) s.number l)
