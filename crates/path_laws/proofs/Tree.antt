@@ -1,6 +1,6 @@
 -- The text of a checked declaration without modes and imports has its types and clocks, at every depth of calls.
 use Rattle.std.proofs.Common.{◌≡◌, ℕ, zero, suc, pred, ◌<◌, ◌≤◌, ◌+◌, Bool, true, false, List, [], ◌∷◌, ◌++◌, map, flat_map, length, Option, Some, None, refl, sym, ap, ◌∙◌, subst, arith, slice_get}
-use Rattle.std.specs.Prelude.{Contains}
+use Rattle.std.specs.Prelude.{Contains, is_none}
 use Rattle.std.specs.List.{AllByRecursion}
 use Rattle.lus_tree.specs.declared.place.Sort.{Sort}
 use Rattle.lus_tree.specs.declared.place.Sort.TheVariants.{Bool as Flags}
@@ -14,26 +14,30 @@ use Rattle.lus_meaning.specs.Depends.{named_in}
 use Rattle.lus_meaning.specs.WellMade.{AreDistinct}
 use Rattle.lus_meaning.specs.Occurrences.{on_clock, as_side, Text, contract_statement_texts, statement_texts, constant_texts, texts, gathered, Memory, Start, memories, starts}
 use Rattle.lus_meaning.specs.ClockFaults.{components, name_clock}
+use Rattle.lus_meaning.specs.Grammatical.{IsGrammaticalComponent, ghost_names}
 use Rattle.lus_meaning.specs.Refusals.{IsChecked}
 use Rattle.lus_meaning.proofs.EachPart.{Each}
 use Rattle.lus_meaning.proofs.InOrder.{in_order_length}
 use Rattle.lus_meaning.proofs.Lists.{all_from, all_from_both, both_parts}
+use Rattle.lus_meaning.proofs.NamesOnce.{at_one}
 use Rattle.lus_meaning.proofs.Now.{left_part, right_part}
 use Rattle.rule_laws.specs.Laws.{IsUnfolded, AreUnfolded, site_at}
 use Rattle.rule_laws.specs.Fitting as fitting
 use Rattle.rule_laws.specs.Fitting.{IsStreamOn, sorts_of, OnBase}
-use Rattle.rule_laws.specs.Declarations.{StreamFits, DeclarationFits, contract_flags, statement_flags}
+use Rattle.rule_laws.specs.Declarations.{DeclarationFits, contract_flags, statement_flags}
 use Rattle.rule_laws.specs.Declarations as declarations
 use Rattle.rule_laws.proofs.Callees.{GoesDown, each_site}
+use Rattle.rule_laws.proofs.Goods.{each_passes, without_clocks}
 use Rattle.rule_laws.proofs.Numbered.{InPlace, all_in_place}
 use Rattle.rule_laws.proofs.Places.{numbered, by_number}
 use Rattle.clock_laws.proofs.Clocks.{declared_at}
 use Rattle.clock_laws.proofs.OrderLaws.{names_distinct}
+use Rattle.clock_laws.proofs.Texts.{all_grammatical}
 use Rattle.clock_laws.proofs.Same.{some_same}
 use Rattle.run_laws.proofs.Sources.{IsCallee}
 use Rattle.run_laws.proofs.Texts.{declaration, is_callee, named_at}
 use Rattle.sys_meaning.specs.Slot.{memory_of, start_of}
-use Rattle.sys_meaning.specs.WellTyped.{checked, ClockFits, StreamFits, EquationFits, MemoryFits, StartFits, ContractStatementFits, OwnFits, CallFits, TreeFits, CallsFit, IsNameOn, IsMemory, Stands}
+use Rattle.sys_meaning.specs.WellTyped.{checked, ClockFits, EquationFits, MemoryFits, StartFits, ContractStatementFits, OwnFits, CallFits, TreeFits, CallsFit, IsNameOn, IsMemory, Stands}
 use Rattle.sys_meaning.specs.WellTyped as typed
 use Rattle.sys_meaning.proofs.Found.{found_number}
 use Rattle.sys_meaning.proofs.Whole.{no_modes}
@@ -58,6 +62,31 @@ same_right i (merged q b d e) = refl
 same_right i (call q k b d) = refl
 same_right i (condact q k b d e f) = refl
 same_right i (mode_name q b d) = refl
+
+same_ghosts : (cs : List ContractStatement) → flat_map ghost_names cs ≡ ghosts cs
+same_ghosts [] = refl
+same_ghosts (assume l ∷ cs) = same_ghosts cs
+same_ghosts (guarantee l ∷ cs) = same_ghosts cs
+same_ghosts (ghost_variable x e ∷ cs) = ap (λ vs. x ∷ vs) (same_ghosts cs)
+same_ghosts (constant c ∷ cs) = same_ghosts cs
+same_ghosts (mode m rs es ∷ cs) = same_ghosts cs
+same_ghosts («import» k c as_ xs ∷ cs) = same_ghosts cs
+
+ghosts_on_base : (n : Component) → IsGrammaticalComponent n → OnBase (ghosts (contract_statements n))
+ghosts_on_base n g =
+    let none : Variable → Type 0 = λ v. is_none v.clock ≡ true in
+    let all : AllByRecursion none (n.inputs ++ (n.outputs ++ flat_map ghost_names (contract_statements n))) =
+    each_passes (λ v. is_none v.clock) (n.inputs ++ (n.outputs ++ flat_map ghost_names (contract_statements n))) g.clocks in
+    let rest : AllByRecursion none (n.outputs ++ flat_map ghost_names (contract_statements n)) =
+    right_part none n.inputs (n.outputs ++ flat_map ghost_names (contract_statements n)) all in
+    without_clocks (ghosts (contract_statements n)) (subst (AllByRecursion none) (same_ghosts (contract_statements n))
+    (right_part none n.outputs (flat_map ghost_names (contract_statements n)) rest))
+
+ghost_clocks : (i : Instance) (vs : List Variable) → OnBase vs → AllByRecursion (declarations.StreamFits i) vs →
+    AllByRecursion (λ v. clock_of (component_of i) v.name.text ≡ base) vs
+ghost_clocks i [] o a = tt
+ghost_clocks i (v ∷ vs) o a =
+    (sym (clock_is (component_of i) v.name.text (clock_from v.clock) a.0.name.clock) ∙ ap clock_from o.0, ghost_clocks i vs o.1 a.1)
 
 module _ (p : Program) (c : IsChecked p) where
   module _ (i : Instance) (u : IsUnfolded p i) (j : Contains (components p) (component_of i))
@@ -231,13 +260,19 @@ module _ (p : Program) (c : IsChecked p) where
       clock = good_stream p c i u j no_modes_here v s;
     }
 
-    pub own_fits : AllByRecursion (λ v. clock_of (component_of i) v.name.text ≡ base) (ghosts (contract_statements (component_of i))) → OwnFits i no_key
-    own_fits g = record {
+    ghosts_here : AllByRecursion (λ v. clock_of (component_of i) v.name.text ≡ base) (ghosts (contract_statements (component_of i)))
+    ghosts_here =
+        ghost_clocks i (ghosts (contract_statements here))
+        (ghosts_on_base here (at_one IsGrammaticalComponent (components p) here (all_grammatical p c.grammatical) j))
+        (right_part (declarations.StreamFits i) (here.inputs ++ here.outputs ++ here.locals) (ghosts (contract_statements here)) decl.streams)
+
+    pub own_fits : OwnFits i no_key
+    own_fits = record {
       once = names_distinct p c.rules.clocked.typed (component_of i) j;
       contract = contract_fits (contract_statements here) no_modes_here contract_known
           (left_part IsFlagHere (flat_map contract_flags (contract_statements here)) (flat_map statement_flags here.body) decl.flags);
       streams = all_from (declarations.StreamFits i) (typed.StreamFits i no_key) stream_fits (variables here) decl.streams;
-      equations = equation_fits g;
+      equations = equation_fits ghosts_here;
       firsts = firsts_fit;
       memories = memories_fit;
       starts = starts_fit;
@@ -284,3 +319,27 @@ module _ (p : Program) (c : IsChecked p) where
       component_named p s.callee ≡ Some (component_of (call_instance i s.number))
   named_there (instance d cs is) u s l e =
       named_at p (all_sites d) is u.1 (pred s.number) s e ∙ ap (λ k. Some (component_of k)) (by_number (instance d cs is) s.number l)
+
+  mutual
+    pub tree_fits : (i : Instance) → IsUnfolded p i → Contains (components p) (component_of i) → HasNoModes i → TreeFits no_modes i
+    tree_fits (instance d cs is) u j h =
+        let i : Instance = instance d cs is in (
+          own_fits i u j h.0,
+          calls_fit i u (all_sites d) is 0 u.1 (each_site p c.rules.clocked.typed d j) (sites_made p c i u j h.0)
+              (in_order_counted (λ s. s.number) (gathered site_in d ++ flat_map import_site (contract_statements d))
+              (sites_counted d h.0 (numbered p c.grammatical d j))) h.1,
+        )
+
+    calls_fit : (i : Instance) → IsUnfolded p i → (ss : List Site) (is : Instances) (q : ℕ) → AreUnfolded p ss is →
+        AllByRecursion (λ s. GoesDown p (component_of i) s.callee) ss → AllByRecursion (SiteMade i) ss → CountedFrom (λ s. s.number) (suc q) ss →
+        CallsHaveNoModes is → CallsFit no_modes i is q
+    calls_fit i u ss no_instances q w a m n h = tt
+    calls_fit i u [] (with_instance t k is) q w a m n h = absurd w
+    calls_fit i u (s ∷ ss) (with_instance t k is) q w a m n h =
+        let there : Contains (components p) (component_of k) = declared_at p c (component_of i) s k a.0 w.1 in
+        let same : component_of k ≡ component_of (call_instance i s.number) =
+        some_same (component_of k) (component_of (call_instance i s.number)) (sym w.1 ∙ named_there i u s m.0.fits.number m.0.fits.site) in (
+          subst (λ z. CallFits no_modes i z k q) (sym w.0) (call_fits i s k q n.0 m.0 same (is_callee p c k w.2 there)),
+          tree_fits k w.2 there h.0,
+          calls_fit i u ss is (suc q) w.3 a.1 m.1 n.1 h.1,
+        )
