@@ -3,3 +3,4 @@ pub mod Numbers
 pub mod Standing
 pub mod Places
 pub mod Tree
+pub mod OnePlace
