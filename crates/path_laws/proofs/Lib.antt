@@ -4,3 +4,5 @@ pub mod Standing
 pub mod Places
 pub mod Tree
 pub mod OnePlace
+pub mod Spots
+pub mod Main

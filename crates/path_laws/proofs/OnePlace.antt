@@ -68,7 +68,7 @@ mutual
       (slots_in c.manner (path ++ c.number ∷ []) o ++ call_slots i path is))
 
 mutual
-  slots_are : (m : Manner) (i : Instance) → slots_in m [] i ≡ tree_slots m i
+  pub slots_are : (m : Manner) (i : Instance) → slots_in m [] i ≡ tree_slots m i
   slots_are m (instance n cs is) = ap (λ l. map (slot (instance n cs is) []) (own_cells m n) ++ l) (calls_are (instance n cs is) is)
 
   calls_are : (i : Instance) (is : Instances) → call_slots i [] is ≡ tree_calls i is
@@ -168,7 +168,7 @@ parted : (P : Slot → Type 0) (f : Cell → Slot) (xs ys : List Cell) → AllBy
 parted P f xs ys a b = subst (AllByRecursion P) (sym (map_append f xs ys)) (both_parts P (map f xs) (map f ys) a b)
 
 -- what holds of the cells of a frame's own
-own_all : (i : Instance) (m : Manner) (n : Component) (P : Slot → Type 0) → P (slot i [] beat_cell) →
+pub own_all : (i : Instance) (m : Manner) (n : Component) (P : Slot → Type 0) → P (slot i [] beat_cell) →
     AllByRecursion (λ v. P (slot i [] (name_cell v))) (variables n) →
     AllByRecursion (λ x. P (slot i [] (memory_cell x))) (in_order (λ x. x.number) (memories n)) →
     AllByRecursion (λ x. P (slot i [] (start_cell x))) (in_order (λ x. x.number) (starts n)) →

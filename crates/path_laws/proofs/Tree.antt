@@ -284,7 +284,7 @@ module _ (p : Program) (c : IsChecked p) where
 
   -- ---- calls
 
-  names_on_base : (k : Instance) (vs : List Variable) → OnBase vs → AllByRecursion (declarations.StreamFits k) vs →
+  pub names_on_base : (k : Instance) (vs : List Variable) → OnBase vs → AllByRecursion (declarations.StreamFits k) vs →
       AllByRecursion (IsNameOn k no_key base) (map (λ v. v.name.text) vs)
   names_on_base k [] o a = tt
   names_on_base k (v ∷ vs) o a = (

@@ -1,5 +1,5 @@
 -- The laws of the translation for checked programs.
-use Rattle.std.specs.Prelude.{Contains}
+use Rattle.std.specs.Prelude.{Contains, []}
 use Rattle.std.specs.List.{AllByRecursion}
 use Rattle.lus_tree.specs.Tree.{ContractStatement, assume, guarantee, ghost_variable, constant, mode, «import», Component, Program}
 use Rattle.lus_meaning.specs.Scene.{Instance, Instances, instance, no_instances, with_instance, clock_from, contract_statements, variables}
@@ -7,7 +7,10 @@ use Rattle.lus_meaning.specs.Program.{instance_of}
 use Rattle.lus_meaning.specs.ClockFaults.{components}
 use Rattle.lus_meaning.specs.Refusals.{IsChecked}
 use Rattle.lus_meaning.specs.RuleLaws.{OfEach}
-use Rattle.sys_meaning.specs.WellTyped.{ClockFits}
+use Rattle.sys_meaning.specs.System.{number_of}
+use Rattle.sys_meaning.specs.Path.{TraceOfPath}
+use Rattle.sys_meaning.specs.WellTyped.{ClockFits, WellTyped}
+use Rattle.sys_meaning.specs.Law.{TreeDistinct, RunsArePaths, LemmaLaw, PropertyLaw}
 
 -- the clocks of a declaration's streams come to the base clock
 abbrev pub ClockChainsEnd : Type 0
@@ -38,3 +41,22 @@ abbrev mutual
 abbrev pub OfPlain : (Instance → Type 0) → Type 0
 OfPlain P =
     (p : Program) → IsChecked p → (n : Component) → Contains (components p) n → HasNoModes (instance_of p n) → P (instance_of p n)
+
+-- its text has its types, clocks and places, at every depth of calls, and the sources of its names have different names
+abbrev pub PlainAreWellTyped : Type 0
+PlainAreWellTyped = OfPlain (λ i. WellTyped (λ j key. ⊥) i × TreeDistinct i (number_of i) [])
+
+-- its runs are paths, each path is that of one run, and its properties have the truth of their formulas
+abbrev pub PlainRunsArePaths : Type 0
+PlainRunsArePaths = OfPlain RunsArePaths
+
+-- what follows for lemmas and for properties
+abbrev pub PlainLemmas : Type 0
+PlainLemmas = OfPlain LemmaLaw
+
+abbrev pub PlainProperties : Type 0
+PlainProperties = OfPlain PropertyLaw
+
+-- the trace of a path has the path's frame
+abbrev pub PlainTraces : Type 0
+PlainTraces = OfPlain TraceOfPath

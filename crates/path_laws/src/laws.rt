@@ -1,9 +1,30 @@
 //! The laws of the translation for checked programs.
 
 ghost use Rattle.path_laws.specs.Laws.{ClockChainsEnd};
+ghost use Rattle.path_laws.specs.Laws.{PlainAreWellTyped, PlainLemmas, PlainProperties, PlainRunsArePaths, PlainTraces};
 
 /// In a checked program the clock of each stream of a declaration is the base clock, or a flag says it whose clock is
 /// such again: after no more clocks than the declaration has streams the base clock comes.
 pub fn clock_chains_end()
     ensures { ClockChainsEnd }
+{}
+
+/// In a checked program each declaration has its types, clocks and places, at every depth of calls, and the sources of
+/// its names have different names, where it and what it calls have no modes and no imports in their contracts.
+pub fn plain_are_well_typed()
+    ensures { PlainAreWellTyped }
+{}
+
+/// Of such a declaration the runs are paths, each path is that of one run, and its properties have in each state of a
+/// run the truth of their formulas. A formula is true in all reachable states exactly where it is true in each state of
+/// a run at a lawful instant, and a property holds exactly where no path ends with its formula false.
+pub fn plain_runs_are_paths()
+    ensures runs { PlainRunsArePaths }
+    ensures lemmas { PlainLemmas }
+    ensures properties { PlainProperties }
+{}
+
+/// The trace of a path of such a declaration has the path's frame.
+pub fn plain_traces()
+    ensures { PlainTraces }
 {}
