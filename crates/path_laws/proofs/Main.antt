@@ -32,11 +32,13 @@ use Rattle.sys_meaning.specs.System as system
 use Rattle.sys_meaning.specs.Law.{TreeDistinct, CallsDistinct}
 use Rattle.sys_meaning.specs.WellTyped.{TreeFits, WellTyped}
 use Rattle.sys_meaning.proofs.Cells.{everywhere}
+use Rattle.sys_meaning.proofs.CheckedRuns.{breaks_at_last}
 use Rattle.sys_meaning.proofs.CheckedTrace.{trace_of_path}
+use Rattle.sys_meaning.proofs.CheckedVerdicts.{holds_where_bounded, holds_where_reachable}
 use Rattle.sys_meaning.proofs.Follows.{lemma_law, property_law}
 use Rattle.sys_meaning.proofs.OneRun.{runs_are_paths}
 use Rattle.sys_meaning.proofs.Whole.{no_modes}
-use Rattle.path_laws.specs.Laws.{IsPlain, HasNoModes, CallsHaveNoModes, PlainAreWellTyped, PlainRunsArePaths, PlainLemmas, PlainProperties, PlainTraces}
+use Rattle.path_laws.specs.Laws.{IsPlain, HasNoModes, CallsHaveNoModes, PlainAreWellTyped, PlainRunsArePaths, PlainLemmas, PlainProperties, PlainTraces, PlainHolds, PlainBounds, PlainBreaks}
 use Rattle.path_laws.proofs.OnePlace.{slots_numbered}
 use Rattle.path_laws.proofs.Places.{SiteMade, HeldMany, sites_made}
 use Rattle.path_laws.proofs.Spots.{HeldTree, CallsHeld, places_found, slots_placed}
@@ -86,7 +88,8 @@ call_named g c k =
     ∙ rw (paired_names (inputs_of k) (map (term_of g) c.arguments), shared_named g c.manner k) refl
 
 mutual
-  tree_distinct : (i : Instance) (at : Place → ℕ) (given : Sources) (names : List Name) → map (λ (q : Name × Part). q.0) given ≡ names → (x : Frame) →
+  tree_distinct : (i : Instance) (at : Place → ℕ) (given : Sources) (names : List Name) →
+      map (λ (q : Name × Part). q.0) given ≡ names → (x : Frame) →
       IsWellMade i names x → TreeDistinct i at given
   tree_distinct (instance d cs is) at given names e x w = (
     subst AreDistinct (sym (map_append (λ (q : Name × Part). q.0) given (equation_sources (stage (instance d cs is) at) (equations d))
@@ -163,3 +166,12 @@ plain_properties p c n j h = property_law (instance_of p n) (plain_runs_are_path
 
 pub plain_traces : PlainTraces
 plain_traces p c n j h = let w = plain_are_well_typed p c n j h in trace_of_path (instance_of p n) w.0 w.1
+
+pub plain_holds : PlainHolds
+plain_holds p c n j h = holds_where_reachable (instance_of p n) (plain_runs_are_paths p c n j h)
+
+pub plain_bounds : PlainBounds
+plain_bounds p c n j h = holds_where_bounded (instance_of p n) (plain_runs_are_paths p c n j h)
+
+pub plain_breaks : PlainBreaks
+plain_breaks p c n j h = let w = plain_are_well_typed p c n j h in breaks_at_last (instance_of p n) w.0 w.1

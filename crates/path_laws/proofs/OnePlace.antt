@@ -357,5 +357,6 @@ mutual
 pub slots_apart : (i : Instance) → TreeFits no_modes i → Apart (slots i)
 slots_apart i t = subst Apart (sym (slots_are plain i)) (tree_apart plain i t)
 
-pub slots_numbered : (i : Instance) → TreeFits no_modes i → (k : ℕ) (q : Slot) → slice_get (slots i) k ≡ Some q → number_in (slots i) (place_of q) ≡ k
+pub slots_numbered : (i : Instance) → TreeFits no_modes i → (k : ℕ) (q : Slot) → slice_get (slots i) k ≡ Some q →
+    number_in (slots i) (place_of q) ≡ k
 slots_numbered i t = own_number (slots i) (slots_apart i t)

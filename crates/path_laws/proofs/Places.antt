@@ -140,7 +140,8 @@ module _ (p : Program) (c : IsChecked p) where
     same = unfolded_same p c i u j
 
     pub callees : (s : Site) → 1 ≤ s.number → site_at (calls_of i) (pred s.number) ≡ Some s → OutputsKnown (call_instance i s.number)
-    callees s l e = subst OutputsKnown (by_number i s.number l) (outputs_known (instance_at (calls_of i) (pred s.number)) (callee_in i u j (pred s.number) s e))
+    callees s l e =
+        subst OutputsKnown (by_number i s.number l) (outputs_known (instance_at (calls_of i) (pred s.number)) (callee_in i u j (pred s.number) s e))
 
     memory_known : AllByRecursion (λ o. AllByRecursion (λ m. memory_of (component_of i) m.number ≡ Some m) (memory_in o.standing o.expression))
         (all_occurrences (component_of i))
@@ -153,7 +154,8 @@ module _ (p : Program) (c : IsChecked p) where
         (each_listed (λ a. start_of (component_of i) a.number ≡ Some a) (starts (component_of i)) (starts_found p c (component_of i) j))
 
     abbrev TypedThere : Instance → Occurrence → Type 0
-    TypedThere k o = is_fixed (constants_of k) o.expression ≡ true → has_sort (sort_of k o.expression) (constant_value (constants_of k) o.expression) ≡ true
+    TypedThere k o = is_fixed (constants_of k) o.expression ≡ true →
+        has_sort (sort_of k o.expression) (constant_value (constants_of k) o.expression) ≡ true
 
     record FitsTyped (o : Occurrence) : Type 0 where
       fits : FitsThere i o
@@ -201,7 +203,8 @@ module _ (p : Program) (c : IsChecked p) where
     pub good_stream : (v : Variable) → StreamFits i v → ClockFits i no_key (clock_from v.clock)
     good_stream v s = chains.stream_fits i no_key streams ranked.rank ranked.below v s
 
-    pub good_names : (xs : List Name) (P : Name → Type 0) → ((x : Name) → P x → name_clock (component_of i) x ≡ Some (clock_of_names (component_of i) xs)) →
+    pub good_names : (xs : List Name) (P : Name → Type 0) →
+        ((x : Name) → P x → name_clock (component_of i) x ≡ Some (clock_of_names (component_of i) xs)) →
         AllByRecursion P xs → ClockFits i no_key (clock_of_names (component_of i) xs)
     good_names [] P f a = good_base
     good_names (x ∷ xs) P f a = good_name x (is_declared_name (component_of i) x (clock_of (component_of i) x) (f x a.0))
@@ -367,7 +370,8 @@ module _ (p : Program) (c : IsChecked p) where
             manner = λ o. (s.2, s.1);
             held = λ d e. (ds, subst (λ x. IsHeldCall i no_key k t.clock x ds) (ap (condition_or b) e) s.0);
             no_import = λ xs e. false≢true (sym (ap is_held e));
-            many = sym (many_mapped (sort_of i) (listed ds)) ∙ ap length a.0.fits.2 ∙ many_mapped (λ (v : Variable). v.sort) (component_of (call_instance i k)).outputs;
+            many = sym (many_mapped (sort_of i) (listed ds)) ∙ ap length a.0.fits.2
+                ∙ many_mapped (λ (v : Variable). v.sort) (component_of (call_instance i k)).outputs;
           },
           tt,
         )

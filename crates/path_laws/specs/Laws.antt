@@ -10,6 +10,7 @@ use Rattle.lus_meaning.specs.RuleLaws.{OfEach}
 use Rattle.sys_meaning.specs.System.{number_of}
 use Rattle.sys_meaning.specs.Path.{TraceOfPath}
 use Rattle.sys_meaning.specs.WellTyped.{ClockFits, WellTyped}
+use Rattle.sys_meaning.specs.Checked.{HoldsWhereReachable, HoldsWhereBounded, BreaksAtLast}
 use Rattle.sys_meaning.specs.Law.{TreeDistinct, RunsArePaths, LemmaLaw, PropertyLaw}
 
 -- the clocks of a declaration's streams come to the base clock
@@ -60,3 +61,17 @@ PlainProperties = OfPlain PropertyLaw
 -- the trace of a path has the path's frame
 abbrev pub PlainTraces : Type 0
 PlainTraces = OfPlain TraceOfPath
+
+-- ---- verdicts
+
+-- a property holds whose formula is true in all reachable states
+abbrev pub PlainHolds : Type 0
+PlainHolds = OfPlain HoldsWhereReachable
+
+-- and where no path of at most d + 1 states ends with it false, it is true at each lawful instant up to d
+abbrev pub PlainBounds : Type 0
+PlainBounds = OfPlain HoldsWhereBounded
+
+-- a path that breaks the property of a number breaks it by its frame, at the last instant
+abbrev pub PlainBreaks : Type 0
+PlainBreaks = OfPlain BreaksAtLast

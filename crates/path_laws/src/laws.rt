@@ -1,6 +1,6 @@
 //! The laws of the translation for checked programs.
 
-ghost use Rattle.path_laws.specs.Laws.{ClockChainsEnd};
+ghost use Rattle.path_laws.specs.Laws.{ClockChainsEnd, PlainBounds, PlainBreaks, PlainHolds};
 ghost use Rattle.path_laws.specs.Laws.{PlainAreWellTyped, PlainLemmas, PlainProperties, PlainRunsArePaths, PlainTraces};
 
 /// In a checked program the clock of each stream of a declaration is the base clock, or a flag says it whose clock is
@@ -27,4 +27,13 @@ pub fn plain_runs_are_paths()
 /// The trace of a path of such a declaration has the path's frame.
 pub fn plain_traces()
     ensures { PlainTraces }
+{}
+
+/// A property of such a declaration holds whose formula is true in all reachable states, and where no path of at most
+/// d + 1 states ends with its formula false it is true at each lawful instant up to d. A path that breaks a property
+/// breaks it by its frame, at the last instant.
+pub fn plain_verdicts()
+    ensures valid { PlainHolds }
+    ensures bounded { PlainBounds }
+    ensures broken { PlainBreaks }
 {}
