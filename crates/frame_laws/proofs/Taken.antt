@@ -6,7 +6,7 @@ use Rattle.lus_tree.specs.declared.place.Sort.{Sort}
 use Rattle.lus_tree.specs.Tree.{Name, Variable, Component}
 use Rattle.lus_meaning.specs.Value.{Value, absent, Instants, has_sort, is_absent}
 use Rattle.lus_meaning.specs.Frame.{Frame, Frames, no_frames, with_frame, entry, first_value, frame_at, calls_in}
-use Rattle.lus_meaning.specs.Scene.{Scene, Instance, Instances, instance, no_instances, with_instance, component_of, clock_from, variables, is_on}
+use Rattle.lus_meaning.specs.Scene.{Scene, Site, Instance, Instances, instance, no_instances, with_instance, component_of, clock_from, variables, is_on}
 use Rattle.lus_meaning.specs.Contract.{scene}
 use Rattle.lus_meaning.specs.Run.{sort_of_name, first_sorts, is_typed, active, IsRun, CallsRun}
 use Rattle.lus_meaning.specs.Depends.{from_caller, SameChoices, CallsChoices}
@@ -20,7 +20,7 @@ use Rattle.frame_laws.proofs.Along.{along, IsAlong, CallsAlong}
 use Rattle.frame_laws.proofs.Listed.{SaysTyped, listed_stream, listed_firsts, listed_frame, listed_calls, listed_entries, stream_typed}
 
 -- the names of a call's frame that are free are those that neither an equation nor its caller gives
-call_free : (top : Instance) (path : List ℕ) (k : Instance) → IsAlong top path k → (c : _) → IsBare c.manner (component_of k)
+call_free : (top : Instance) (path : List ℕ) (k : Instance) → IsAlong top path k → (c : Site) → IsBare c.manner (component_of k)
     → AreFree (component_of k) (from_caller c k) (free_in c.manner (component_of k))
 call_free top path (instance d cs is) a c h = called_free d a.1 c.manner h
 
@@ -99,6 +99,10 @@ module _ (top : Instance) (ls : List BareLine) (n : ℕ) where
   abbrev IsTakenIn : List ℕ → Scene → Variable → Type 0
   IsTakenIn path s v = (t : ℕ) → t < n → is_on s (clock_from v.clock) t ≡ true → entry s.frame v.name.text t ≡ listed_stream ls path v t
 
+  abbrev IsPresentTaken : List ℕ → List Name → Component → Scene → Variable → Type 0
+  IsPresentTaken path given d s v = IsOpen given d v → (t : ℕ) → t < n → is_absent (entry s.frame v.name.text t) ≡ false
+      → entry s.frame v.name.text t ≡ listed_stream ls path v t
+
   mutual
     pub same_taken : (path : List ℕ) (i : Instance) → IsAlong top path i → (given : List Name) (free : List Variable)
         → AreFree (component_of i) given free → (b b' : Instants) (f g : Frame) → IsRun i n b f → IsRun i n b' g
@@ -106,7 +110,7 @@ module _ (top : Instance) (ls : List BareLine) (n : ℕ) where
     same_taken path (instance d cs is) a given free r b b' f g run run' takes takes' = (
       (λ k. ap (λ (v : List Value). slice_index_or v (pred k) absent)
           (same_firsts ls path f g (first_sorts i) run.0.firsts run'.0.firsts takes.1 takes'.1)),
-      all_from_both (λ v. IsPresentTaken s v) (λ v. IsPresentTaken s' v)
+      all_from_both (IsPresentTaken path given d s) (IsPresentTaken path given d s')
           (λ v. IsOpen given d v → (t : ℕ) → t < n → is_absent (entry f v.name.text t) ≡ false → is_absent (entry g v.name.text t) ≡ false
           → entry f v.name.text t ≡ entry g v.name.text t)
           (λ v x y o t l p q. x o t l p ∙ sym (y o t l q)) (variables d) (present s run.0.types takes.0) (present s' run'.0.types takes'.0),
@@ -122,16 +126,12 @@ module _ (top : Instance) (ls : List BareLine) (n : ℕ) where
         s' : Scene
         s' = scene (instance d cs is) b' g
 
-        abbrev IsPresentTaken : Scene → Variable → Type 0
-        IsPresentTaken z v = IsOpen given d v → (t : ℕ) → t < n → is_absent (entry z.frame v.name.text t) ≡ false
-            → entry z.frame v.name.text t ≡ listed_stream ls path v t
-
         present : (z : Scene)
             → AllByRecursion (λ v. (t : ℕ) → t < n → is_typed v.sort (is_on z (clock_from v.clock) t) (entry z.frame v.name.text t) ≡ true) (variables d)
-            → AllByRecursion (IsTakenIn path z) free → AllByRecursion (IsPresentTaken z) (variables d)
+            → AllByRecursion (IsTakenIn path z) free → AllByRecursion (IsPresentTaken path given d z) (variables d)
         present z types taken = all_from_both
             (λ v. (t : ℕ) → t < n → is_typed v.sort (is_on z (clock_from v.clock) t) (entry z.frame v.name.text t) ≡ true)
-            (λ v. IsOpen given d v → IsTakenIn path z v) (IsPresentTaken z)
+            (λ v. IsOpen given d v → IsTakenIn path z v) (IsPresentTaken path given d z)
             (λ v q w o t l p. w o t l (on_where v.sort (is_on z (clock_from v.clock) t) (entry z.frame v.name.text t) (q t l) p))
             (variables d) types (of_open d given free r (IsTakenIn path z) taken)
 
