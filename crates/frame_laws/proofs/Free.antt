@@ -123,7 +123,8 @@ module _ (d : Component) where
         go : (z : Name) → (named_in z (definable d) || named_in z (names_of gs)) ≡ false
             → (named_in z (map text_of (body_lefts d)) ≡ true) ⊎ (named_in z (map text_of (body_lefts d)) ≡ false)
             → (named_in z (names_of gs) || named_in z (map text_of (body_lefts d))) ≡ false
-        go z o (inl t) = absurd (both_ways (named_in z (definable d)) (left_definable d e z t) (first_false (named_in z (definable d)) (named_in z (names_of gs)) o))
+        go z o (inl t) = absurd (both_ways (named_in z (definable d)) (left_definable d e z t)
+            (first_false (named_in z (definable d)) (named_in z (names_of gs)) o))
         go z o (inr f) = neither (named_in z (names_of gs)) (named_in z (map text_of (body_lefts d)))
             (second_false (named_in z (definable d)) (named_in z (names_of gs)) o) f
 
