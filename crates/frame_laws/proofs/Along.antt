@@ -1,11 +1,10 @@
 -- The instance at the end of a way of calls, each by its number; and what holds at every depth of a checked program.
-use Rattle.std.proofs.Common.{◌≡◌, ℕ, zero, suc, pred, ◌≤◌, Bool, true, false, cond, List, [], ◌∷◌, ◌++◌, map, flat_map, refl, sym, ap, ◌∙◌, subst, Option, Some, None}
+use Rattle.std.proofs.Common.{◌≡◌, ℕ, zero, suc, pred, ◌≤◌, Bool, true, false, cond, List, [], ◌∷◌, ◌++◌, map, flat_map, refl, sym, ap, ◌∙◌, subst, Option, Some}
 use Rattle.std.specs.Prelude.{Contains}
 use Rattle.std.specs.List.{AllByRecursion}
 use Rattle.std.specs.Str.{bytes_eq}
-use Rattle.std.proofs.lemmas.Bool.{false≢true}
 use Rattle.std.proofs.lemmas.Option.{none-some}
-use Rattle.lus_tree.specs.Tree.{Name, Expression, truth, number, name, negation, minus, pre, arrow, binary, choice, sampled, merged, call, condact, mode_name, Component, declared_constant, declared_node, declared_contract, Program, Variable}
+use Rattle.lus_tree.specs.Tree.{Name, Expression, truth, number, name, negation, minus, pre, arrow, binary, choice, sampled, merged, call, condact, mode_name, Component, declared_constant, declared_node, declared_contract, Program}
 use Rattle.lus_meaning.specs.Scene.{Manner, plain, while_true, as_import, Site, Instance, Instances, instance, no_instances, with_instance, component_of, calls_of, instance_at, call_instance, contract_statements, variables}
 use Rattle.lus_meaning.specs.Program.{site_in, import_site, all_sites, component_named, instance_of}
 use Rattle.lus_meaning.specs.Run.{sort_of_name}
@@ -24,7 +23,6 @@ use Rattle.rule_laws.specs.Declarations.{StreamFits}
 use Rattle.rule_laws.proofs.Callees.{GoesDown, each_site, each_import, where_is_named}
 use Rattle.rule_laws.proofs.Lists.{all_flat}
 use Rattle.rule_laws.proofs.Places.{by_number, calls_in_place, imports_in_place}
-use Rattle.rule_laws.proofs.Truths.{same_some}
 use Rattle.clock_laws.proofs.Clocks.{unfolded_same, declared_at}
 use Rattle.clock_laws.proofs.OrderLaws.{names_distinct}
 use Rattle.clock_laws.proofs.Parts.{each_listed}

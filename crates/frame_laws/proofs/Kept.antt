@@ -1,9 +1,8 @@
 -- Streams of which the instants are left out at which something is off, and what stays of them.
-use Rattle.std.proofs.Common.{◌≡◌, ℕ, zero, suc, ◌<◌, ◌≤◌, ◌+◌, Bool, true, false, cond, ◌&&◌, ◌||◌, List, [], ◌∷◌, map, length, refl, sym, ap, ◌∙◌, subst, arith, slice_index_or}
-use Rattle.std.specs.List.{AllByRecursion}
-use Rattle.std.proofs.lemmas.Bool.{false≢true, cases_Bool}
+use Rattle.std.proofs.Common.{◌≡◌, ℕ, zero, suc, ◌<◌, ◌≤◌, ◌+◌, Bool, true, false, cond, ◌||◌, List, [], ◌∷◌, map, length, refl, sym, ap, ◌∙◌, subst, arith, slice_index_or}
+use Rattle.std.proofs.lemmas.Bool.{cases_Bool}
 use Rattle.std.proofs.Math.Logic.{◌⊎◌, inl, inr}
-use Rattle.lus_meaning.specs.Value.{Value, absent, Stream, Instants, only_on, was_on, latest}
+use Rattle.lus_meaning.specs.Value.{Value, absent, Stream, Instants, was_on, latest}
 use Rattle.lus_meaning.specs.Meaning.{head_stream, held, held_outputs}
 use Rattle.lus_meaning.specs.Run.{at_instant}
 use Rattle.lus_meaning.specs.Squeeze.{kept, beats_before}

@@ -1,15 +1,14 @@
 -- Values in a frame of which the instants are left out at which a beat is off.
-use Rattle.std.proofs.Common.{pos, ◌≡◌, ℕ, zero, suc, pred, ◌<◌, ◌≤◌, Bool, true, false, cond, ◌&&◌, List, [], ◌∷◌, ◌++◌, map, refl, sym, ap, ◌∙◌, arith, Option, None, Some, option_map, option_to_list, slice_index_or, get_or}
+use Rattle.std.proofs.Common.{pos, ◌≡◌, ℕ, zero, suc, pred, ◌<◌, Bool, true, false, cond, ◌&&◌, List, [], ◌∷◌, ◌++◌, map, refl, ap, arith, Option, None, Some, option_map, option_to_list, slice_index_or, get_or}
 use Rattle.std.specs.List.{AllByRecursion}
 use Rattle.std.specs.Map.{lookup}
 use Rattle.std.specs.Str.{bytes_eq}
-use Rattle.lus_tree.specs.declared.expression.Operator.TheVariants.{And}
 use Rattle.lus_tree.specs.Tree.{Name, text_of, Expression, Expressions, truth, number, name, negation, minus, pre, arrow, binary, choice, sampled, merged, call, condact, mode_name, no_more, more, Labelled, ContractStatement, assume, guarantee, ghost_variable, constant, mode, «import»}
 use Rattle.lus_meaning.specs.Value.{Value, absent, flag, whole, Stream, Instants, is, only_on, was_on, latest, apply, choose, not_value, minus_value}
-use Rattle.lus_meaning.specs.Frame.{Frame, entry, first_value, call_frame, frame_at, calls_in}
+use Rattle.lus_meaning.specs.Frame.{Frame, entry, first_value, call_frame}
 use Rattle.lus_meaning.specs.Scene.{Clock, base, sampled_by, Scene, Instance, Instances, instance, no_instances, with_instance, clock_of, component_of, constants_of, call_instance, outputs_of, contract_statements, is_on}
-use Rattle.lus_meaning.specs.Meaning.{value, values, named, constant_or, merge_values, mode_key, mode_stream, head_stream, call_outputs, held_outputs}
-use Rattle.lus_meaning.specs.Contract.{Test, ModeTerms, Terms, no_terms, mode_streams, scene_with, all_true, says, mode_terms, through, imported_mode, terms_after, terms, terms_each}
+use Rattle.lus_meaning.specs.Meaning.{value, values, constant_or, mode_key, head_stream, call_outputs, held_outputs}
+use Rattle.lus_meaning.specs.Contract.{Test, ModeTerms, Terms, no_terms, mode_streams, scene_with, all_true, says, mode_terms, imported_mode, terms_after, terms, terms_each}
 use Rattle.lus_meaning.specs.Run.{right_values}
 use Rattle.lus_meaning.specs.Squeeze.{beats_before}
 use Rattle.lus_meaning.proofs.Lists.{both_parts}
@@ -43,7 +42,8 @@ found_kept o n b b' f f' q (m ∷ ms) a key = go (mode_key key m.key) (found_kep
     go true r = a.0 o n b b' f f' q
     go false r = r
 
-module _ (i : Instance) (ms : List ModeTerms) (modes : AllByRecursion KeepsMode ms) (o : Instants) (n : ℕ) (b b' : Instants) (f f' : Frame) (q : AreSqueezed o n b b' f f') where
+module _ (i : Instance) (ms : List ModeTerms) (modes : AllByRecursion KeepsMode ms) (o : Instants) (n : ℕ) (b b' : Instants) (f f' : Frame)
+    (q : AreSqueezed o n b b' f f') where
   abbrev s : Scene
   s = scene_with i ms b f
 

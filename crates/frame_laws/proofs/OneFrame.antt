@@ -1,6 +1,6 @@
 -- Of a checked program each declaration has exactly one frame for a trace that fits: what the lines say are choices that
 -- fit, the one run of these choices takes what they say, and each run that does makes these choices.
-use Rattle.std.proofs.Common.{◌≡◌, ℕ, List, [], ◌++◌, refl, sym, subst}
+use Rattle.std.proofs.Common.{◌≡◌, List, [], ◌++◌, refl, sym, subst}
 use Rattle.std.specs.Prelude.{Contains}
 use Rattle.std.specs.List.{AllByRecursion}
 use Rattle.lus_tree.specs.Tree.{Variable}
@@ -12,7 +12,6 @@ use Rattle.lus_meaning.specs.Depends.{SameChoices}
 use Rattle.lus_meaning.specs.Trace.{free_names}
 use Rattle.lus_meaning.specs.Verdict.{throughout}
 use Rattle.lus_meaning.specs.ClockFaults.{components}
-use Rattle.lus_meaning.specs.Refusals.{IsChecked}
 use Rattle.lus_meaning.proofs.Lists.{all_from}
 use Rattle.rule_laws.specs.Laws.{IsUnfolded}
 use Rattle.rule_laws.proofs.Unfolded.{component_within, each_unfolded}

@@ -1,5 +1,5 @@
 -- A run takes what the lines of a trace say exactly where it makes their choices.
-use Rattle.std.proofs.Common.{◌≡◌, ℕ, suc, pred, ◌<◌, ◌+◌, Bool, true, false, List, [], ◌∷◌, ◌++◌, map, length, refl, sym, ap, ◌∙◌, arith, slice_index_or}
+use Rattle.std.proofs.Common.{◌≡◌, ℕ, suc, pred, ◌<◌, ◌+◌, Bool, true, false, List, [], ◌∷◌, ◌++◌, length, refl, sym, ap, ◌∙◌, arith, slice_index_or}
 use Rattle.std.specs.List.{AllByRecursion}
 use Rattle.std.proofs.lemmas.Bool.{false≢true}
 use Rattle.lus_tree.specs.declared.place.Sort.{Sort}
@@ -10,13 +10,12 @@ use Rattle.lus_meaning.specs.Scene.{Scene, Site, Instance, Instances, instance, 
 use Rattle.lus_meaning.specs.Contract.{scene}
 use Rattle.lus_meaning.specs.Run.{sort_of_name, first_sorts, is_typed, active, IsRun, CallsRun}
 use Rattle.lus_meaning.specs.Depends.{from_caller, SameChoices, CallsChoices}
-use Rattle.lus_meaning.specs.Trace.{BareLine, of_first, listed_at, or_default, free_in, TakesFirsts, TakesFrom, TakesBelow}
-use Rattle.lus_meaning.specs.WellMade.{AreDistinct}
+use Rattle.lus_meaning.specs.Trace.{BareLine, free_in, TakesFirsts, TakesFrom, TakesBelow}
 use Rattle.lus_meaning.proofs.Choices.{same_firsts, is_present}
 use Rattle.lus_meaning.proofs.Lists.{all_from_both, all_from_three}
 use Rattle.lus_meaning.proofs.Typed.{on_has}
 use Rattle.frame_laws.proofs.Free.{IsOpen, AreFree, of_open, of_free, IsBare, called_free}
-use Rattle.frame_laws.proofs.Along.{along, IsAlong, CallsAlong}
+use Rattle.frame_laws.proofs.Along.{IsAlong, CallsAlong}
 use Rattle.frame_laws.proofs.Listed.{SaysTyped, listed_stream, listed_firsts, listed_frame, listed_calls, listed_entries, stream_typed}
 
 -- the names of a call's frame that are free are those that neither an equation nor its caller gives
