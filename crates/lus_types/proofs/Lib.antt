@@ -26,3 +26,4 @@ pub mod CircleFaults
 pub mod RowFaults
 pub mod GivenNow
 pub mod RepeatedWords
+pub mod Stateless

@@ -16,3 +16,4 @@ pub mod Circles
 pub mod Reads
 pub mod Given
 pub mod Repeated
+pub mod States

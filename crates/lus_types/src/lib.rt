@@ -30,6 +30,7 @@ mod repeated;
 mod rules;
 mod scope;
 mod sorts;
+mod state;
 mod statement;
 mod values;
 mod weights;
