@@ -27,3 +27,4 @@ pub mod RowFaults
 pub mod GivenNow
 pub mod RepeatedWords
 pub mod Stateless
+pub mod RepeatedLabels

@@ -17,3 +17,4 @@ pub mod Reads
 pub mod Given
 pub mod Repeated
 pub mod States
+pub mod Labels

@@ -15,7 +15,7 @@ use name_table::NameTable;
 use std::alloc::{AllocError, Global};
 
 /// The later of two places.
-fn later(first: Pos, second: Pos) -> Pos
+pub(crate) fn later(first: Pos, second: Pos) -> Pos
     ensures { result ≡ later first second }
 {
     if is_before(first, second) {
