@@ -28,3 +28,4 @@ pub mod GivenNow
 pub mod RepeatedWords
 pub mod Stateless
 pub mod RepeatedLabels
+pub mod Circled

@@ -18,3 +18,4 @@ pub mod Given
 pub mod Repeated
 pub mod States
 pub mod Labels
+pub mod Declarations
