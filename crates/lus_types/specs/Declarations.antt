@@ -8,11 +8,13 @@ use Rattle.lus_meaning.specs.Faults.{words_twice}
 use Rattle.lus_meaning.specs.ExpressionFaults.{definition_faults}
 use Rattle.lus_meaning.specs.NameFaults.{assumption_faults, body_faults, constant_words, contract_faults, home, labels_twice, mode_words, outer_scope, outer_twice, own_words, state_faults}
 
--- names and labels that stand twice
-abbrev pub twice_faults : List Spelled → Component → List Refused
-twice_faults outer n =
-    words_twice name_twice (own_words n)
-    ++ (outer_twice outer (own_words n) ++ (words_twice name_twice (mode_words (contract_statements n)) ++ labels_twice n))
+-- names that stand twice, and those that are constants of the program
+abbrev pub own_twice : List Spelled → Component → List Refused
+own_twice outer n = words_twice name_twice (own_words n) ++ outer_twice outer (own_words n)
+
+-- modes and labels that stand twice
+abbrev pub marks_twice : Component → List Refused
+marks_twice n = words_twice name_twice (mode_words (contract_statements n)) ++ labels_twice n
 
 -- what stands in the contract and in the body
 abbrev pub inner_faults : Home → List Refused
@@ -20,7 +22,7 @@ inner_faults h = contract_faults h [] (contract_statements h.owner) ++ (body_fau
 
 -- all but those of circles
 abbrev pub alone_faults : Home → List Spelled → List Refused
-alone_faults h outer = twice_faults outer h.owner ++ (state_faults h.program h.owner ++ inner_faults h)
+alone_faults h outer = own_twice outer h.owner ++ (marks_twice h.owner ++ (state_faults h.program h.owner ++ inner_faults h))
 
 -- of a declaration behind so many constants
 abbrev pub alone_of : Program → ℕ → Declaration → List Refused

@@ -19,3 +19,4 @@ pub mod Repeated
 pub mod States
 pub mod Labels
 pub mod Declarations
+pub mod Refusals

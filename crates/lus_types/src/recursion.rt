@@ -27,7 +27,7 @@ use std::alloc::{AllocError, Global};
 #[derive(Drop)]
 pub(crate) struct Graph {
     /// A row for each, in text order.
-    rows: Vec<Row>,
+    pub(crate) rows: Vec<Row>,
     /// How many names there are.
     count: usize,
     /// Whether each number has a greater rank than those that it leads to, so that none leads to
