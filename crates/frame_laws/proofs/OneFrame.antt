@@ -45,8 +45,7 @@ one_frame p c n j m ls fits =
     let typed : SaysTyped i ls = lines_typed i a m ls (top_sorts i a r) fits.taken in
     let x : Frame = listed_frame ls [] m i in
     let q : (f : Frame) × (IsRun i m throughout f × SameChoices i [] m f x)
-    × ((g : Frame) → IsRun i m throughout g → SameChoices i [] m g x → g ≡ f) = one_run p c n j m throughout x (listed_fit i ls typed m [] i a []) in
-    (
+    × ((g : Frame) → IsRun i m throughout g → SameChoices i [] m g x → g ≡ f) = one_run p c n j m throughout x (listed_fit i ls typed m [] i a []) in (
       q.0,
       record { run = q.1.0; taken = takes_listed i ls typed m [] i a [] (top_variables i) r throughout q.0 q.1.0 q.1.1 },
       λ g k. one_run_at_most p c n j m throughout g q.0 k.run q.1.0

@@ -14,7 +14,9 @@ ghost use Rattle.lus_types.specs.States.{PlacesOn, callee_state, states, states_
 use crate::least::Least;
 use crate::lookup::node;
 use crate::scope::Owner;
-use lus_tree::{ContractItem, Definition, Expr, Form, Item, Named, Node, PlacedName, Pos, Program, What};
+use lus_tree::{
+    ContractItem, Definition, Expr, Form, Item, Named, Node, PlacedName, Pos, Program, What,
+};
 use std::alloc::{AllocError, Global};
 
 /// Whether a callee has state: a node, which is no function.
@@ -165,7 +167,9 @@ fn push_state_contract_item(
             push_state_labelled(places, program, required)?;
             push_state_labelled(places, program, ensured)
         }
-        ContractItem::Import(_, _, arguments, _) => push_state_arguments(places, program, arguments),
+        ContractItem::Import(_, _, arguments, _) => push_state_arguments(
+            places, program, arguments,
+        ),
     }
 }
 
@@ -215,11 +219,7 @@ fn push_state_body(
 }
 
 /// Where a declaration has state.
-fn places_of(
-    alloc: Global,
-    program: &Program,
-    owner: Owner<'_>,
-) -> Result<Vec<Pos>, AllocError>
+fn places_of(alloc: Global, program: &Program, owner: Owner<'_>) -> Result<Vec<Pos>, AllocError>
     ensures { IfOk result (λ v. v.items ≡ gathered (state_in (program_view program.now)) (owner_view owner.entry)) }
 {
     let mut places = Vec::new(alloc);
