@@ -98,7 +98,7 @@ all_statements : (n : Component) (ss : List Statement) → map second (flat_map 
 all_statements n [] = refl
 all_statements n (s ∷ ss) = joined (statement_texts n s) (flat_map (statement_texts n) ss) ∙ (rw (one_statement n s, all_statements n ss) refl)
 
-sides_are : (n : Component) → map second (texts n) ≡ flat_map contract_sides (contract_statements n)
+pub sides_are : (n : Component) → map second (texts n) ≡ flat_map contract_sides (contract_statements n)
     ++ (constant_sides n.constants ++ flat_map statement_sides n.body)
 sides_are n = joined (flat_map contract_statement_texts (contract_statements n)) (constant_texts n.constants ++ flat_map (statement_texts n) n.body)
     ∙ (rw (

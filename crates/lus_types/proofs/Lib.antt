@@ -26,3 +26,6 @@ pub mod CircleFaults
 pub mod RowFaults
 pub mod GivenNow
 pub mod RepeatedWords
+pub mod Stateless
+pub mod RepeatedLabels
+pub mod Circled

@@ -1,10 +1,11 @@
 -- Faults that are noted one behind the other.
-use Rattle.std.proofs.Common.{◌≡◌, List, [], ◌++◌, ap, ◌∙◌, append_assoc, arith, Option}
+use Rattle.std.proofs.Common.{◌≡◌, List, [], ◌++◌, ap, subst, ◌∙◌, append_assoc, arith, Option}
 use Rattle.std.proofs.lemmas.List.{append-nil}
-use Rattle.lus_tree.specs.Reason.{Refused}
+use Rattle.lus_tree.specs.Reason.{Refused, name_twice}
 use Rattle.lus_tree.specs.Tree.{Spelled, Expression, Component}
 use Rattle.lus_meaning.specs.Scope.{Scope}
-use Rattle.lus_meaning.specs.NameFaults.{import_fits}
+use Rattle.lus_meaning.specs.NameFaults.{import_fits, outer_twice}
+use Rattle.lus_meaning.specs.Faults.{words_twice}
 use Rattle.lus_types.specs.Least.{noted_all}
 use Rattle.lus_types.specs.Notes.{Notes}
 use Rattle.lus_types.proofs.Leasts.{least_noted_all}
@@ -45,3 +46,16 @@ swapped as_ bs cs p = record {
 pub second_first : (o p q r : Option Refused) (as_ bs cs : List Refused) → Notes o p as_ → Notes p q bs → Notes q r cs → Notes o r (bs ++ (as_ ++ cs))
 second_first o p q r as_ bs cs a b c =
     alike_noted o r (as_ ++ (bs ++ cs)) (bs ++ (as_ ++ cs)) (swapped as_ bs cs) (both_noted o p r as_ (bs ++ cs) a (both_noted p q r bs cs b c))
+
+-- four, one behind the other
+pub four_noted : (o p q r t : Option Refused) (as_ bs cs ds : List Refused) → Notes o p as_ → Notes p q bs → Notes q r cs → Notes r t ds
+    → Notes o t (as_ ++ (bs ++ (cs ++ ds)))
+four_noted o p q r t as_ bs cs ds a b c d = both_noted o p t as_ (bs ++ (cs ++ ds)) a
+    (both_noted p q t bs (cs ++ ds) b (both_noted q r t cs ds c d))
+
+-- names that stand twice among them, and that are outer ones
+pub own_noted : (outer os own vs ws : List Spelled) (o p q : Option Refused) → os ≡ outer → vs ≡ own → ws ≡ own
+    → Notes o p (words_twice name_twice vs) → q ≡ noted_all p (outer_twice os ws) → Notes o q (words_twice name_twice own ++ outer_twice outer own)
+own_noted outer os own vs ws o p q e f g n m =
+    both_noted o p q (words_twice name_twice own) (outer_twice outer own) (subst (λ z. Notes o p (words_twice name_twice z)) f n)
+    (all_noted p q (outer_twice outer own) (m ∙ ap (λ z. noted_all p (outer_twice z ws)) e ∙ ap (λ z. noted_all p (outer_twice outer z)) g))

@@ -16,3 +16,7 @@ pub mod Circles
 pub mod Reads
 pub mod Given
 pub mod Repeated
+pub mod States
+pub mod Labels
+pub mod Declarations
+pub mod Refusals

@@ -6,7 +6,8 @@ ghost use Rattle.lus_tree.specs.Reason.{Refused, name_twice, no_node};
 ghost use Rattle.lus_tree.specs.View.{decl_view, program_view, word_view};
 ghost use Rattle.lus_meaning.specs.Faults.{if_so, words_twice};
 ghost use Rattle.lus_meaning.specs.NameFaults.{constant_words, declaration_word, start_of_text};
-ghost use Rattle.lus_types.specs.Least.{IsLeast, least_view, noted_all};
+ghost use Rattle.lus_types.specs.Least.{least_view, noted_all};
+ghost use Rattle.lus_types.specs.Notes.{Notes};
 ghost use Rattle.lus_types.specs.Words.{Adds, words_view};
 
 use crate::least::Least;
@@ -93,9 +94,8 @@ pub(crate) fn declarations_twice(
     least: &mut Least,
     program: &Program,
 ) -> Result<(), AllocError>
-    ensures { (fs : List Refused) → IfOk result (λ _. IsLeast (least_view least.old) fs
-        → IsLeast (least_view least.new) (fs
-        ++ words_twice name_twice (map declaration_word (program_view program.now)))) }
+    ensures { IfOk result (λ _. Notes (least_view least.old) (least_view least.new)
+        (words_twice name_twice (map declaration_word (program_view program.now)))) }
 {
     let words = declaration_words(alloc, program)?;
     words_twice(alloc, least, &words)

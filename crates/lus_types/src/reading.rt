@@ -7,7 +7,8 @@ ghost use Rattle.lus_meaning.specs.NameFaults.{assumption_faults};
 ghost use Rattle.lus_meaning.specs.Scene.{contract_statements};
 ghost use Rattle.lus_types.specs.Called.{link_of};
 ghost use Rattle.lus_types.specs.Given.{IsGiven, output_names};
-ghost use Rattle.lus_types.specs.Least.{IsLeast, least_view, noted_all};
+ghost use Rattle.lus_types.specs.Least.{least_view, noted_all};
+ghost use Rattle.lus_types.specs.Notes.{Notes};
 ghost use Rattle.lus_types.specs.Marks.{is_marked, link_view, row_view};
 ghost use Rattle.lus_types.specs.Reads.{added, ghost_readings, is_given, names_read, read_faults, read_in, read_view, reading_row, seeded};
 ghost use Rattle.lus_types.specs.Scopes.{owner_view, scope_view};
@@ -278,8 +279,8 @@ pub(crate) fn assumption(
     scope: &Scope<'_>,
     least: &mut Least,
 ) -> Result<(), AllocError>
-    ensures { (fs : List Refused) → IfOk result (λ _. IsLeast (least_view least.old) fs
-        → IsLeast (least_view least.new) (fs ++ assumption_faults (scope_view scope.now))) }
+    ensures { IfOk result (λ _. Notes (least_view least.old) (least_view least.new)
+        (assumption_faults (scope_view scope.now))) }
 {
     let items = owner_items(scope.owner);
     let outputs = owner_outputs(scope.owner);

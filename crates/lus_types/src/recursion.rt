@@ -8,7 +8,8 @@ ghost use Rattle.lus_meaning.specs.ClockFaults.{components};
 ghost use Rattle.lus_meaning.specs.NameFaults.{recursion_faults};
 ghost use Rattle.lus_types.specs.Called.{all_fall, contract_links, falls_to, link_of, marked_faults, names_behind, node_links, rank_of, row_by, row_of};
 ghost use Rattle.lus_types.specs.Circles.{IsGraph, IsLeading, IsOne};
-ghost use Rattle.lus_types.specs.Least.{IsLeast, least_view, noted_all};
+ghost use Rattle.lus_types.specs.Least.{least_view, noted_all};
+ghost use Rattle.lus_types.specs.Notes.{Notes};
 ghost use Rattle.lus_types.specs.Marks.{is_marked, link_view, row_view};
 ghost use Rattle.lus_types.specs.Words.{words_view};
 ghost use Rattle.name_table.specs.Names.{number_of};
@@ -26,7 +27,7 @@ use std::alloc::{AllocError, Global};
 #[derive(Drop)]
 pub(crate) struct Graph {
     /// A row for each, in text order.
-    rows: Vec<Row>,
+    pub(crate) rows: Vec<Row>,
     /// How many names there are.
     count: usize,
     /// Whether each number has a greater rank than those that it leads to, so that none leads to
@@ -317,10 +318,9 @@ pub(crate) fn recursion(
     number: usize,
 ) -> Result<(), AllocError>
     requires { number < length graph.now.rows.items }
-    ensures { (p : Declarations) (n : Component) (fs : List Refused) → IsGraph p graph.now
+    ensures { IfOk result (λ _. (p : Declarations) (n : Component) → IsGraph p graph.now
         → slice_get (components p) number ≡ Some n
-        → IfOk result (λ _. IsLeast (least_view least.old) fs
-        → IsLeast (least_view least.new) (fs ++ recursion_faults p n)) }
+        → Notes (least_view least.old) (least_view least.new) (recursion_faults p n)) }
 {
     if graph.falls {
         return Ok(());

@@ -5,7 +5,8 @@ ghost use Rattle.lus_tree.specs.Reason.{Refused, name_twice};
 ghost use Rattle.lus_tree.specs.View.{word_view};
 ghost use Rattle.lus_meaning.specs.Faults.{later, meets, same_word, words_twice};
 ghost use Rattle.lus_meaning.specs.NameFaults.{outer_twice};
-ghost use Rattle.lus_types.specs.Least.{IsLeast, least_view, noted_all};
+ghost use Rattle.lus_types.specs.Least.{least_view, noted_all};
+ghost use Rattle.lus_types.specs.Notes.{Notes};
 ghost use Rattle.lus_types.specs.Repeated.{HasSeen, twice_from_last};
 ghost use Rattle.lus_types.specs.Words.{words_view};
 
@@ -15,7 +16,7 @@ use name_table::NameTable;
 use std::alloc::{AllocError, Global};
 
 /// The later of two places.
-fn later(first: Pos, second: Pos) -> Pos
+pub(crate) fn later(first: Pos, second: Pos) -> Pos
     ensures { result ≡ later first second }
 {
     if is_before(first, second) {
@@ -87,8 +88,8 @@ pub(crate) fn words_twice(
     least: &mut Least,
     words: &[&PlacedName],
 ) -> Result<(), AllocError>
-    ensures { (fs : List Refused) → IfOk result (λ _. IsLeast (least_view least.old) fs
-        → IsLeast (least_view least.new) (fs ++ words_twice name_twice (words_view words.now))) }
+    ensures { IfOk result (λ _. Notes (least_view least.old) (least_view least.new)
+        (words_twice name_twice (words_view words.now))) }
 {
     let mut seen = NameTable::new(alloc);
     let mut left = words.len();

@@ -5,10 +5,11 @@ ghost use Rattle.lus_tree.specs.Tree.{Constant, ContractStatement};
 ghost use Rattle.lus_tree.specs.View.{contract_item_view, definition_view};
 ghost use Rattle.lus_meaning.specs.Program.{contract_statement_constants};
 ghost use Rattle.lus_meaning.specs.Scene.{contract_statements};
-ghost use Rattle.lus_meaning.specs.Scope.{contract_statement_scope, scope_with};
+ghost use Rattle.lus_meaning.specs.Scope.{body_scope, contract_statement_scope, scope_with};
 ghost use Rattle.lus_meaning.specs.ExpressionFaults.{definition_faults};
-ghost use Rattle.lus_meaning.specs.NameFaults.{body_faults, contract_faults, contract_statement_faults, local_constant_faults};
+ghost use Rattle.lus_meaning.specs.NameFaults.{assumption_faults, body_faults, contract_faults, contract_statement_faults, local_constant_faults};
 ghost use Rattle.lus_types.specs.Before.{earlier, earlier_view, home_view, one_behind};
+ghost use Rattle.lus_types.specs.Declarations.{inner_faults};
 ghost use Rattle.lus_types.specs.Least.{least_view};
 ghost use Rattle.lus_types.specs.Notes.{Notes};
 
@@ -18,6 +19,7 @@ use crate::contracts::contract_item;
 use crate::expression::definition;
 use crate::home::Home;
 use crate::least::Least;
+use crate::reading::assumption;
 use lus_tree::{ContractItem, Definition};
 use std::alloc::{AllocError, Global};
 
@@ -98,20 +100,27 @@ fn constants<'a>(
     Ok(())
 }
 
-/// Notes the faults of a body, behind the contract.
-fn body<'a>(home: &Home<'a>, before: &mut Before<'a>, least: &mut Least) -> Result<(), AllocError>
+/// Notes the faults of a body, behind the contract, and those of what assumptions read.
+fn body<'a>(
+    alloc: Global,
+    home: &Home<'a>,
+    before: &mut Before<'a>,
+    least: &mut Least,
+) -> Result<(), AllocError>
     requires { earlier_view before.old ≡ earlier (contract_statements (home_view home.now).owner) [] }
     ensures { IfOk result (λ _. Notes (least_view least.old) (least_view least.new)
-        (body_faults (home_view home.now))) }
+        (body_faults (home_view home.now) ++ assumption_faults (body_scope (home_view home.now)))) }
 {
     constants(home, before, least, home.owner.constants())?;
     let scope = body_scope(before, home);
     clocks(&scope, least, home.owner.locals());
     statements(&scope, least, home.owner.body());
+    assumption(alloc, &scope, least)?;
     Ok(())
 }
 
-/// Notes the faults of the contract and of the body of a declaration.
+/// Notes the faults of the contract and of the body of a declaration, and of what its assumptions
+/// read.
 ///
 /// # Errors
 ///
@@ -123,9 +132,8 @@ pub(crate) fn contract_and_body(
     least: &mut Least,
 ) -> Result<(), AllocError>
     ensures { IfOk result (λ _. Notes (least_view least.old) (least_view least.new)
-        (contract_faults (home_view home.now) [] (contract_statements (home_view home.now).owner)
-        ++ body_faults (home_view home.now))) }
+        (inner_faults (home_view home.now))) }
 {
     let mut before = contract(alloc, home, least, home.owner.contract())?;
-    body(home, &mut before, least)
+    body(alloc, home, &mut before, least)
 }

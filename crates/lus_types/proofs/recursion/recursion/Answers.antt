@@ -5,9 +5,9 @@ use Rattle.lus_types.proofs.RowFaults.{none_noted, row_noted}
 use Rattle.lus_types.proofs.recursion.recursion.Goals as goal
 
 pub returns-then-graph : goal.returns-then-graph
-returns-then-graph c = λ p n fs g e i. none_noted p c.args.graph.now g c.args.number n e (least_view c.args.least.now) fs i c.if-graph.true
+returns-then-graph c = λ p n g e fs i. none_noted p c.args.graph.now g c.args.number n e (least_view c.args.least.now) fs i c.if-graph.true
 
 pub returns : goal.returns
-returns c = λ p n fs g e i. row_noted p c.args.graph.now g c.args.number n e (least_view c.args.least.now) fs i
+returns c = λ p n g e fs i. row_noted p c.args.graph.now g c.args.number n e (least_view c.args.least.now) fs i
     c.index-row.result.now
     (slice_get_read c.args.graph.now.rows.items _ c.args.number c.index-row.result.now refl c.requires c.index-row.ensures) c.in_ok-marks.marks.items c.in_ok-marks.ensures (least_view c.note_marked.new.least) (search rules)

@@ -1,0 +1,10 @@
+-- Why a program is refused.
+use Rattle.std.specs.Prelude.{◌≡◌, ◌⊎◌}
+use Rattle.lus_tree.specs.Tree.{Program}
+use Rattle.lus_tree.specs.Reason.{Refused, memory}
+use Rattle.lus_meaning.specs.Faults.{IsFirst}
+use Rattle.lus_meaning.specs.Refusals.{IsTypingFault}
+
+-- memory ran out, or it is the first fault of names, types and numbers
+abbrev pub IsRefusal : Program → Refused → Type 0
+IsRefusal p r = (r.reason ≡ memory) ⊎ IsFirst (IsTypingFault p) r
