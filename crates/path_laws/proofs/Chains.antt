@@ -1,15 +1,15 @@
 -- The clocks of a checked declaration come to the base clock: each names a flag of less rank, so the flags of a chain are
 -- distinct names, of which there are no more than streams.
-use Rattle.std.proofs.Common.{option_map, ◌≡◌, ℕ, zero, suc, ◌<◌, ◌≤◌, ◌+◌, Bool, true, false, cond, ◌||◌, List, [], ◌∷◌, map, length, Option, Some, None, refl, sym, ap, ◌∙◌, subst, arith, unwrap_or}
+use Rattle.std.proofs.Common.{option_map, ◌≡◌, ℕ, zero, suc, ◌<◌, ◌≤◌, ◌+◌, Bool, true, false, cond, ◌||◌, List, [], ◌∷◌, map, length, Option, Some, None, refl, sym, ap, subst, arith, unwrap_or}
 use Rattle.std.specs.Prelude.{Contains, find}
 use Rattle.std.specs.List.{AllByRecursion}
 use Rattle.std.specs.Str.{bytes_eq}
 use Rattle.std.proofs.lemmas.Bool.{false≢true}
 use Rattle.std.proofs.lemmas.Option.{none-some}
 use Rattle.lus_tree.specs.Tree.{Name, Spelled, Variable, Component, Program}
-use Rattle.lus_meaning.specs.Scene.{Clock, base, sampled_by, Instance, instance, component_of, clock_from, clock_of, clock_of_names, variables}
+use Rattle.lus_meaning.specs.Scene.{Clock, base, sampled_by, Instance, instance, component_of, clock_from, clock_of, variables}
 use Rattle.lus_meaning.specs.Program.{instance_of}
-use Rattle.lus_meaning.specs.Depends.{named_in, rank_of, clock_needs, AllBelow, Rank, IsRanked}
+use Rattle.lus_meaning.specs.Depends.{named_in, clock_needs, AllBelow, Rank, IsRanked}
 use Rattle.lus_meaning.specs.WellMade.{AreDistinct}
 use Rattle.lus_meaning.specs.ClockFaults.{components, name_clock}
 use Rattle.lus_meaning.specs.Refusals.{IsChecked}

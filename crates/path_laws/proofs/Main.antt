@@ -1,16 +1,16 @@
 -- A checked declaration without modes and imports is well typed, and the sources of its names are of different names.
-use Rattle.std.proofs.Common.{◌≡◌, ℕ, zero, suc, pred, ◌<◌, true, ◌&&◌, List, [], ◌∷◌, ◌++◌, map, flat_map, refl, sym, ap, ◌∙◌, subst, arith, pos}
+use Rattle.std.proofs.Common.{◌≡◌, ℕ, suc, ◌<◌, true, List, [], ◌∷◌, map, flat_map, refl, sym, ap, ◌∙◌, subst, arith, pos}
 use Rattle.std.specs.Prelude.{Contains}
 use Rattle.std.specs.List.{AllByRecursion}
 use Rattle.lus_tree.specs.declared.place.Sort.{Sort}
 use Rattle.lus_tree.specs.declared.place.Sort.TheVariants.{Bool as Flags, Int as Numbers}
-use Rattle.lus_tree.specs.Tree.{Name, Component, Program}
-use Rattle.lus_meaning.specs.Value.{Value, flag, whole, has_sort}
+use Rattle.lus_tree.specs.Tree.{Name, Program}
+use Rattle.lus_meaning.specs.Value.{Value, flag, whole}
 use Rattle.lus_meaning.specs.Frame.{Frame, Frames, frame, no_frames, with_frame, frame_at}
 use Rattle.lus_meaning.specs.Scene.{Manner, plain, while_true, as_import, Site, Instance, Instances, instance, no_instances, with_instance, component_of, call_instance, outputs_of, variables}
-use Rattle.lus_meaning.specs.Program.{all_sites, component_named, instance_of}
+use Rattle.lus_meaning.specs.Program.{all_sites, instance_of}
 use Rattle.lus_meaning.specs.Run.{Equation, equations, inputs_of, first_sorts, have_sorts}
-use Rattle.lus_meaning.specs.Depends.{left_names, outputs_given, from_caller}
+use Rattle.lus_meaning.specs.Depends.{outputs_given, from_caller}
 use Rattle.lus_meaning.specs.WellMade.{AreDistinct, IsWellMade, CallsWellMade}
 use Rattle.lus_meaning.specs.Laws.{ChoicesFrom, CallsFit}
 use Rattle.lus_meaning.specs.ClockFaults.{components}
@@ -30,7 +30,7 @@ use Rattle.sys_meaning.specs.Translate.{Stage, right_terms, term_of}
 use Rattle.sys_meaning.specs.System.{Sources, paired, equation_sources, stage, shared_outputs, from_call, below_call, number_of}
 use Rattle.sys_meaning.specs.System as system
 use Rattle.sys_meaning.specs.Law.{TreeDistinct, CallsDistinct}
-use Rattle.sys_meaning.specs.WellTyped.{TreeFits, WellTyped}
+use Rattle.sys_meaning.specs.WellTyped.{TreeFits}
 use Rattle.sys_meaning.proofs.Cells.{everywhere}
 use Rattle.sys_meaning.proofs.CheckedRuns.{breaks_at_last}
 use Rattle.sys_meaning.proofs.CheckedTrace.{trace_of_path}
@@ -38,7 +38,7 @@ use Rattle.sys_meaning.proofs.CheckedVerdicts.{holds_where_bounded, holds_where_
 use Rattle.sys_meaning.proofs.Follows.{lemma_law, property_law}
 use Rattle.sys_meaning.proofs.OneRun.{runs_are_paths}
 use Rattle.sys_meaning.proofs.Whole.{no_modes}
-use Rattle.path_laws.specs.Laws.{IsPlain, HasNoModes, CallsHaveNoModes, PlainAreWellTyped, PlainRunsArePaths, PlainLemmas, PlainProperties, PlainTraces, PlainHolds, PlainBounds, PlainBreaks}
+use Rattle.path_laws.specs.Laws.{HasNoModes, CallsHaveNoModes, PlainAreWellTyped, PlainRunsArePaths, PlainLemmas, PlainProperties, PlainTraces, PlainHolds, PlainBounds, PlainBreaks}
 use Rattle.path_laws.proofs.OnePlace.{slots_numbered}
 use Rattle.path_laws.proofs.Places.{SiteMade, HeldMany, sites_made}
 use Rattle.path_laws.proofs.Spots.{HeldTree, CallsHeld, places_found, slots_placed}

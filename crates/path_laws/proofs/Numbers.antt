@@ -1,13 +1,12 @@
 -- What is numbered from 1 on, in the order of its numbers; names in a list, and values by their place.
-use Rattle.std.proofs.Common.{◌≡◌, ℕ, zero, suc, pred, ◌<◌, ◌≤◌, ◌+◌, Bool, true, false, cond, ◌||◌, ◌⊎◌, List, [], ◌∷◌, ◌++◌, map, flat_map, length, Option, Some, None, refl, sym, ap, ◌∙◌, subst, arith, slice_get}
-use Rattle.std.specs.Prelude.{Contains, find, option_to_list, ◌==◌}
+use Rattle.std.proofs.Common.{◌≡◌, ℕ, zero, suc, ◌<◌, ◌≤◌, ◌+◌, true, List, [], ◌∷◌, ◌++◌, map, flat_map, length, Some, refl, sym, ap, ◌∙◌, subst, arith, slice_get}
+use Rattle.std.specs.Prelude.{find, option_to_list, ◌==◌}
 use Rattle.std.specs.List.{AllByRecursion}
-use Rattle.std.proofs.lemmas.Bool.{false≢true}
-use Rattle.lus_tree.specs.Tree.{Expression, truth, number, name, negation, minus, pre, arrow, binary, choice, sampled, merged, call, condact, mode_name, ContractStatement, assume, guarantee, ghost_variable, constant, mode, «import», Component, Program}
+use Rattle.lus_tree.specs.Tree.{Expression, truth, number, name, negation, minus, pre, arrow, binary, choice, sampled, merged, call, condact, mode_name, ContractStatement, assume, guarantee, ghost_variable, constant, mode, «import», Component}
 use Rattle.lus_tree.specs.Numbers.{a_pre, an_arrow, a_call, arrow_number, pre_number, call_number, all_numbers, import_number, numbers_in, counting, times, are_counted, IsNumbered}
 use Rattle.lus_meaning.specs.Scene.{Site, contract_statements}
-use Rattle.lus_meaning.specs.Program.{site_in, import_site, all_sites, in_order}
-use Rattle.lus_meaning.specs.Occurrences.{Standing, Memory, Start, gathered, memories, starts}
+use Rattle.lus_meaning.specs.Program.{site_in, import_site, in_order}
+use Rattle.lus_meaning.specs.Occurrences.{Standing, gathered, memories, starts}
 use Rattle.lus_meaning.proofs.Lists.{append_none}
 use Rattle.lus_meaning.proofs.Numbering.{numbers_gathered, memory_numbers, start_numbers}
 use Rattle.rule_laws.proofs.Numbered.{At}

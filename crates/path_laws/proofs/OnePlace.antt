@@ -1,35 +1,24 @@
 -- The variables of a system by place: of a declaration whose texts fit no two stand at one place, and each place has one.
-use Rattle.std.proofs.Common.{◌≡◌, ℕ, zero, suc, pred, ◌<◌, ◌≤◌, ◌+◌, Bool, true, false, cond, ◌||◌, ◌&&◌, List, [], ◌∷◌, ◌++◌, map, flat_map, length, Option, Some, None, option_map, unwrap_or, is_some, refl, sym, ap, ◌∙◌, subst, arith, slice_get}
-use Rattle.std.specs.Prelude.{◌==◌, find}
+use Rattle.std.proofs.Common.{◌≡◌, ℕ, suc, ◌<◌, Bool, true, false, ◌&&◌, List, [], ◌∷◌, ◌++◌, map, Option, Some, None, refl, sym, ap, ◌∙◌, subst, arith, slice_get}
+use Rattle.std.specs.Prelude.{◌==◌}
 use Rattle.std.specs.List.{AllByRecursion}
 use Rattle.std.specs.Str.{bytes_eq}
 use Rattle.std.proofs.Math.Logic.{◌⊎◌, inl, inr}
 use Rattle.std.proofs.lemmas.Bool.{false≢true}
 use Rattle.std.proofs.lemmas.Option.{none-some}
-use Rattle.lus_tree.specs.declared.place.Sort.{Sort}
-use Rattle.lus_tree.specs.declared.place.Sort.TheVariants.{Bool as Flags}
-use Rattle.lus_tree.specs.Tree.{Name, Expression, Expressions, ContractStatement, Variable, Component}
-use Rattle.lus_meaning.specs.Scene.{Clock, Manner, plain, while_true, as_import, Site, Instance, Instances, instance, no_instances, with_instance, component_of, calls_of, instance_at, call_instance, outputs_of, contract_statements, variables}
+use Rattle.lus_tree.specs.Tree.{Expression, ContractStatement, Variable, Component}
+use Rattle.lus_meaning.specs.Scene.{Manner, plain, while_true, as_import, Site, Instance, Instances, instance, no_instances, with_instance, component_of, variables}
 use Rattle.lus_meaning.specs.Program.{in_order}
 use Rattle.lus_meaning.specs.Occurrences.{Memory, Start, memories, starts}
-use Rattle.lus_meaning.specs.Run.{sort_of, sort_of_name}
-use Rattle.lus_meaning.specs.Depends.{named_in}
-use Rattle.lus_meaning.specs.Slots.{Cell, beat_cell, name_cell, memory_cell, start_cell, sofar_cell, held_cell, own_cells, contract_cells, held_each, held_cells, cell_sort, Slot, slot, slots_in, call_slots, slots}
-use Rattle.lus_meaning.proofs.InOrder.{in_order_all}
-use Rattle.lus_meaning.proofs.Lists.{all_from, all_from_both, both_parts, map_append}
-use Rattle.lus_meaning.proofs.Unique.{same_bytes}
-use Rattle.rule_laws.proofs.Truths.{same_some}
+use Rattle.lus_meaning.specs.Slots.{Cell, beat_cell, name_cell, memory_cell, start_cell, sofar_cell, own_cells, contract_cells, held_each, held_cells, Slot, slot, slots_in, call_slots, slots}
+use Rattle.lus_meaning.proofs.Lists.{all_from, both_parts, map_append}
 use Rattle.sys_meaning.specs.Slot.{Spot, beat, named, memory, starting, so_far, held, Place, spot_of, place_of, same_spot, same_place, number_in}
-use Rattle.sys_meaning.specs.Defaults.{site_of}
-use Rattle.sys_meaning.specs.Defaults as defaults
-use Rattle.sys_meaning.specs.WellTyped.{count_of, slot_sort, HasSpot, HasPlace, OwnFits, CallFits, TreeFits, CallsFit, MemoryFits, StartFits, StreamFits, IsMemory, IsStart, IsHeldCall, OutputFits}
-use Rattle.sys_meaning.proofs.Cells.{same_place_self, Apart, own_number, CellsApart, apart_both, all_mapped, everywhere, names_apart, memories_apart, starts_apart}
-use Rattle.sys_meaning.proofs.Found.{found, found_number, found_in_order, in_order_differ}
-use Rattle.sys_meaning.proofs.Owned.{found_one}
+use Rattle.sys_meaning.specs.WellTyped.{TreeFits, CallsFit}
+use Rattle.sys_meaning.proofs.Cells.{Apart, own_number, CellsApart, apart_both, all_mapped, everywhere, names_apart, memories_apart, starts_apart}
+use Rattle.sys_meaning.proofs.Found.{in_order_differ}
 use Rattle.sys_meaning.proofs.Shows.{same_places}
 use Rattle.sys_meaning.proofs.Whole.{no_modes}
-use Rattle.path_laws.proofs.Places.{HeldMany, outputs_distinct}
-use Rattle.path_laws.proofs.Standing.{no_key}
+use Rattle.path_laws.proofs.Places.{outputs_distinct}
 
 -- ---- slots by way of the first call
 
@@ -120,7 +109,6 @@ cross_owners o P xs ys f a b =
 -- of a call behind position p
 abbrev Later : ℕ → Slot → Type 0
 Later p q = (b : Bool) × (k : ℕ) × (owner (place_of q) ≡ Some (b, k)) × (p < k)
-
 
 abbrev number_of_owner : Option (Bool × ℕ) → ℕ
 number_of_owner None = 0

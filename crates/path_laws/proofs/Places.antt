@@ -1,26 +1,26 @@
 -- What a checked declaration without modes has at each place of its text: what is known of its expressions, and the clocks
 -- of their places, which come to the base clock; so its memories, starts and calls fit.
-use Rattle.std.proofs.Common.{◌≡◌, ℕ, zero, suc, pred, ◌<◌, ◌≤◌, Bool, true, false, List, [], ◌∷◌, ◌++◌, map, flat_map, length, Option, Some, None, refl, sym, ap, ◌∙◌, subst, arith}
+use Rattle.std.proofs.Common.{◌≡◌, ℕ, zero, suc, pred, ◌≤◌, Bool, true, false, List, [], ◌∷◌, ◌++◌, map, flat_map, length, Some, refl, sym, ap, ◌∙◌, subst}
 use Rattle.std.specs.Prelude.{Contains}
 use Rattle.std.specs.List.{AllByRecursion}
 use Rattle.std.proofs.lemmas.Bool.{false≢true}
 use Rattle.std.proofs.lemmas.Option.{none-some}
 use Rattle.lus_tree.specs.declared.place.Sort.TheVariants.{Bool as Flags}
-use Rattle.lus_tree.specs.Tree.{Name, Spelled, text_of, Expression, Expressions, truth, number, name, negation, minus, pre, arrow, binary, choice, sampled, merged, call, condact, mode_name, no_more, more, Constant, Variable, Statement, equation, assertion, property, main_mark, ContractStatement, assume, guarantee, ghost_variable, constant, mode, «import», Component, Program}
+use Rattle.lus_tree.specs.Tree.{Name, text_of, Expression, Expressions, truth, number, name, negation, minus, pre, arrow, binary, choice, sampled, merged, call, condact, mode_name, no_more, more, Constant, Variable, Statement, equation, assertion, property, main_mark, ContractStatement, assume, guarantee, ghost_variable, constant, mode, «import», Component, Program}
 use Rattle.lus_meaning.specs.Value.{has_sort}
 use Rattle.lus_meaning.specs.Scene.{Clock, base, sampled_by, Manner, plain, while_true, as_import, Site, Instance, Instances, instance, no_instances, with_instance, component_of, constants_of, calls_of, instance_at, call_instance, clock_from, clock_of, clock_of_names, contract_statements, ghosts, variables}
-use Rattle.lus_meaning.specs.Program.{listed, site_in, import_site, all_sites, component_named, constant_value, instance_of}
-use Rattle.lus_meaning.specs.Run.{Equation, equations, ghost_equations, body_equations, sort_of}
-use Rattle.lus_meaning.specs.Depends.{named_in, clock_needs, AllBelow}
+use Rattle.lus_meaning.specs.Program.{listed, site_in, import_site, all_sites, constant_value, instance_of}
+use Rattle.lus_meaning.specs.Run.{ghost_equations, body_equations, sort_of}
+use Rattle.lus_meaning.specs.Depends.{named_in}
 use Rattle.lus_meaning.specs.WellMade.{AreDistinct}
-use Rattle.lus_meaning.specs.Occurrences.{Standing, on_clock, as_side, within, before, moved, Occurrence, occurs, occurrences, Text, on_base, contract_statement_texts, statement_texts, constant_texts, texts, all_occurrences, gathered, Memory, Start, memory_in, start_in, memories, starts}
+use Rattle.lus_meaning.specs.Occurrences.{Standing, within, before, moved, Occurrence, occurrences, Text, contract_statement_texts, statement_texts, constant_texts, texts, all_occurrences, gathered, Memory, Start, memory_in, start_in, memories, starts}
 use Rattle.lus_meaning.specs.ClockFaults.{components, name_clock}
 use Rattle.lus_meaning.specs.Refusals.{IsChecked}
 use Rattle.lus_meaning.proofs.EachPart.{Each, EachAmong, each_part}
-use Rattle.lus_meaning.proofs.Lists.{all_from, all_from_both, all_from_three, both_parts, map_append, append_none}
+use Rattle.lus_meaning.proofs.Lists.{all_from, all_from_both, all_from_three, both_parts, map_append}
 use Rattle.lus_meaning.proofs.InOrder.{in_order_all}
 use Rattle.lus_meaning.proofs.NamesOnce.{distinct_left}
-use Rattle.lus_meaning.proofs.Now.{left_part, right_part}
+use Rattle.lus_meaning.proofs.Now.{right_part}
 use Rattle.rule_laws.specs.Laws.{IsUnfolded, AreUnfolded, site_at}
 use Rattle.rule_laws.specs.Fitting as fitting
 use Rattle.rule_laws.specs.Fitting.{is_fixed, FitsThere, IsStreamOn, sorts_of}
@@ -35,17 +35,15 @@ use Rattle.clock_laws.proofs.Clocks.{unfolded_same, declared_at}
 use Rattle.clock_laws.proofs.Lefts.{distinct_behind}
 use Rattle.clock_laws.proofs.OrderLaws.{names_distinct}
 use Rattle.clock_laws.proofs.Parts.{each_listed, all_parts, Whole, each_whole, each_occurrence}
-use Rattle.run_laws.proofs.Sources.{IsCallee}
 use Rattle.run_laws.proofs.Texts.{declaration, is_callee}
 use Rattle.sys_meaning.specs.Slot.{memory_of, start_of}
-use Rattle.sys_meaning.specs.Items.{Key}
 use Rattle.sys_meaning.specs.WellTyped.{ClockFits, IsMemory, IsStart, IsCall, IsHeldCall, MannerFits, Stands}
 use Rattle.sys_meaning.proofs.Whole.{no_modes}
 use Rattle.path_laws.specs.Laws.{IsPlain}
 use Rattle.path_laws.proofs.Chains.{is_declared_name, base_fits, flag_fits, name_fits, Ranked, ranked_of}
 use Rattle.path_laws.proofs.Chains as chains
 use Rattle.path_laws.proofs.Numbers.{no_import_sites}
-use Rattle.path_laws.proofs.Standing.{no_key, Known, OutputsKnown, is_call, stands}
+use Rattle.path_laws.proofs.Standing.{no_key, Known, OutputsKnown, stands}
 
 -- ---- names of parts
 

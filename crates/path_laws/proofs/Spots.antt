@@ -9,20 +9,20 @@ use Rattle.std.proofs.lemmas.Option.{none-some}
 use Rattle.lus_tree.specs.declared.place.Sort.{Sort}
 use Rattle.lus_tree.specs.declared.place.Sort.TheVariants.{Bool as Flags}
 use Rattle.lus_tree.specs.Tree.{Name, Expression, Expressions, ContractStatement, Variable, Component}
-use Rattle.lus_meaning.specs.Scene.{Clock, Manner, plain, while_true, as_import, Site, Instance, Instances, instance, no_instances, with_instance, component_of, calls_of, instance_at, call_instance, outputs_of, contract_statements, variables}
+use Rattle.lus_meaning.specs.Scene.{Manner, plain, while_true, as_import, Site, Instance, Instances, instance, no_instances, with_instance, component_of, calls_of, instance_at, outputs_of, variables}
 use Rattle.lus_meaning.specs.Program.{in_order}
 use Rattle.lus_meaning.specs.Occurrences.{Memory, Start, memories, starts}
 use Rattle.lus_meaning.specs.Run.{sort_of, sort_of_name}
 use Rattle.lus_meaning.specs.Depends.{named_in}
-use Rattle.lus_meaning.specs.Slots.{Cell, beat_cell, name_cell, memory_cell, start_cell, sofar_cell, held_cell, own_cells, contract_cells, held_each, held_cells, cell_sort, Slot, slot, slots}
+use Rattle.lus_meaning.specs.Slots.{Cell, name_cell, memory_cell, start_cell, own_cells, contract_cells, held_each, held_cells, Slot, slot, slots}
 use Rattle.lus_meaning.proofs.InOrder.{in_order_all}
 use Rattle.lus_meaning.proofs.Lists.{all_from, all_from_both, both_parts, map_append}
 use Rattle.lus_meaning.proofs.Unique.{same_bytes}
 use Rattle.rule_laws.proofs.Truths.{same_some}
-use Rattle.sys_meaning.specs.Slot.{Spot, beat, named, memory, starting, so_far, held, Place, spot_of, place_of, same_spot, same_place}
+use Rattle.sys_meaning.specs.Slot.{Spot, beat, named, memory, starting, so_far, held, Place, spot_of, place_of, same_place}
 use Rattle.sys_meaning.specs.Defaults.{site_of}
 use Rattle.sys_meaning.specs.Defaults as defaults
-use Rattle.sys_meaning.specs.WellTyped.{count_of, slot_sort, HasSpot, HasPlace, OwnFits, CallFits, TreeFits, CallsFit, MemoryFits, StartFits, StreamFits, IsMemory, IsStart, IsCall, IsHeldCall, OutputFits}
+use Rattle.sys_meaning.specs.WellTyped.{count_of, slot_sort, HasSpot, HasPlace, OwnFits, CallFits, TreeFits, CallsFit, MemoryFits, StartFits, StreamFits, IsHeldCall, OutputFits}
 use Rattle.sys_meaning.proofs.Cells.{same_place_self, Apart, all_mapped}
 use Rattle.sys_meaning.proofs.CheckedFits.{listed_each}
 use Rattle.sys_meaning.proofs.Found.{found, found_number, found_in_order}

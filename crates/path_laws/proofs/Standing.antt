@@ -1,6 +1,6 @@
 -- Each expression of a checked declaration without modes stands on the clock of its place, as the translation asks.
-use Rattle.std.proofs.Common.{option_map, ◌≡◌, ℕ, zero, suc, pred, ◌<◌, ◌≤◌, ◌+◌, Bool, true, false, cond, ◌||◌, ◌&&◌, List, [], ◌∷◌, ◌++◌, map, flat_map, length, Option, Some, None, refl, sym, ap, ◌∙◌, subst, arith}
-use Rattle.std.specs.Prelude.{Contains, option_to_list, is_some}
+use Rattle.std.proofs.Common.{option_map, ◌≡◌, ℕ, zero, suc, pred, ◌<◌, ◌≤◌, Bool, true, false, cond, ◌||◌, List, [], ◌∷◌, map, length, Option, Some, None, refl, sym, ap, ◌∙◌, subst, arith}
+use Rattle.std.specs.Prelude.{option_to_list}
 use Rattle.std.specs.List.{AllByRecursion}
 use Rattle.std.specs.Map.{lookup}
 use Rattle.std.specs.Str.{bytes_eq}
@@ -9,20 +9,19 @@ use Rattle.std.proofs.lemmas.Bool.{false≢true}
 use Rattle.std.proofs.lemmas.Option.{none-some}
 use Rattle.lus_tree.specs.declared.expression.Operator.{Operator}
 use Rattle.lus_tree.specs.declared.expression.Operator.TheVariants.{Implies, Or, Xor, And, Less, AtMost, Equal, Differs, AtLeast, More, Add, Sub, Mul, Div, Mod}
-use Rattle.lus_tree.specs.declared.place.Sort.TheVariants.{Bool as Flags}
-use Rattle.lus_tree.specs.Tree.{Name, text_of, Expression, Expressions, truth, number, name, negation, minus, pre, arrow, binary, choice, sampled, merged, call, condact, mode_name, no_more, more, Variable, ContractStatement, assume, guarantee, ghost_variable, constant, mode, «import», Component, Program}
+use Rattle.lus_tree.specs.Tree.{Name, text_of, Expression, Expressions, truth, number, name, negation, minus, pre, arrow, binary, choice, sampled, merged, call, condact, mode_name, no_more, more, Variable, ContractStatement, assume, guarantee, ghost_variable, constant, mode, «import», Component}
 use Rattle.lus_meaning.specs.Value.{Value, has_sort}
-use Rattle.lus_meaning.specs.Scene.{Clock, base, sampled_by, plain, while_true, Site, Instance, Instances, instance, no_instances, with_instance, component_of, constants_of, calls_of, outputs_of, call_instance, instance_called, clock_from, clock_of, contract_statements, variables}
-use Rattle.lus_meaning.specs.Contract.{ModeTerms, Terms, terms, terms_after}
-use Rattle.lus_meaning.specs.Program.{listed, site_in, constant_value}
-use Rattle.lus_meaning.specs.Run.{sort_of, sort_of_name, output_sort, first_sort}
+use Rattle.lus_meaning.specs.Scene.{Clock, base, sampled_by, plain, while_true, Site, Instance, Instances, instance, no_instances, with_instance, component_of, constants_of, calls_of, outputs_of, call_instance, clock_from, clock_of, contract_statements}
+use Rattle.lus_meaning.specs.Contract.{Terms, terms, terms_after}
+use Rattle.lus_meaning.specs.Program.{listed, constant_value}
+use Rattle.lus_meaning.specs.Run.{sort_of, first_sort}
 use Rattle.lus_meaning.specs.Depends.{named_in}
 use Rattle.lus_meaning.specs.WellMade.{AreDistinct}
-use Rattle.lus_meaning.specs.Occurrences.{Standing, within, before, moved, Occurrence, occurs, Memory, Start, memory_in, start_in}
+use Rattle.lus_meaning.specs.Occurrences.{Standing, within, before, moved, Occurrence, memory_in, start_in}
 use Rattle.lus_meaning.specs.ClockFaults.{name_clock}
 use Rattle.lus_meaning.proofs.EachPart.{Each, EachAmong}
 use Rattle.lus_meaning.proofs.Exists.{self_bytes}
-use Rattle.lus_meaning.proofs.Lists.{all_from, all_from_both}
+use Rattle.lus_meaning.proofs.Lists.{all_from_both}
 use Rattle.rule_laws.specs.Laws.{site_at}
 use Rattle.rule_laws.specs.Fitting as fitting
 use Rattle.rule_laws.specs.Fitting.{sorts_of, is_fixed, has_key, FitsThere, OnBase, NotEmpty, IsStreamOn}
@@ -34,7 +33,7 @@ use Rattle.sys_meaning.specs.Defaults.{is_constant, site_of, default_among, defa
 use Rattle.sys_meaning.specs.Defaults as defaults
 use Rattle.sys_meaning.specs.Slot.{memory_of, start_of}
 use Rattle.sys_meaning.specs.Items.{Key}
-use Rattle.sys_meaning.specs.WellTyped.{count_of, NameFits, IsNameOn, HasConstant, OutputFits, IsCall, IsPlainCall, IsHeldCall, DefaultsFit, Stands, ClockFits}
+use Rattle.sys_meaning.specs.WellTyped.{count_of, NameFits, HasConstant, OutputFits, IsCall, DefaultsFit, Stands}
 use Rattle.path_laws.specs.Laws.{IsPlain}
 use Rattle.path_laws.proofs.Chains.{clock_is, is_declared_name, name_on}
 
@@ -278,7 +277,13 @@ module _ (i : Instance) (no_modes : AllByRecursion IsPlain (contract_statements 
       )
   stands t (condact p k b f as_ ds) a =
       let s : Site = record {
-        number = k; callee = f.text; clock = t.clock; arguments = listed as_; defaults = listed ds; manner = while_true b } in
+        number = k;
+        callee = f.text;
+        clock = t.clock;
+        arguments = listed as_;
+        defaults = listed ds;
+        manner = while_true b;
+      } in
       let fit : fitting.CallFits i s = a.0.fits.0 in
       let vs : List Variable = (component_of (call_instance i k)).outputs in (
         record {

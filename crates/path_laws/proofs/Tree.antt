@@ -1,19 +1,16 @@
 -- The text of a checked declaration without modes and imports has its types and clocks, at every depth of calls.
-use Rattle.std.proofs.Common.{◌≡◌, ℕ, zero, suc, pred, ◌<◌, ◌≤◌, ◌+◌, Bool, true, false, List, [], ◌∷◌, ◌++◌, map, flat_map, length, Option, Some, None, refl, sym, ap, ◌∙◌, subst, arith, slice_get}
+use Rattle.std.proofs.Common.{◌≡◌, ℕ, suc, pred, ◌<◌, ◌≤◌, true, List, [], ◌∷◌, ◌++◌, map, flat_map, length, Some, refl, sym, ap, ◌∙◌, subst, arith}
 use Rattle.std.specs.Prelude.{Contains, is_none}
 use Rattle.std.specs.List.{AllByRecursion}
-use Rattle.lus_tree.specs.declared.place.Sort.{Sort}
 use Rattle.lus_tree.specs.declared.place.Sort.TheVariants.{Bool as Flags}
-use Rattle.lus_tree.specs.Tree.{Name, text_of, Expression, truth, number, name, negation, minus, pre, arrow, binary, choice, sampled, merged, call, condact, mode_name, Constant, Variable, Statement, equation, assertion, property, main_mark, ContractStatement, assume, guarantee, ghost_variable, constant, mode, «import», Component, Program}
+use Rattle.lus_tree.specs.Tree.{Expression, truth, number, name, negation, minus, pre, arrow, binary, choice, sampled, merged, call, condact, mode_name, Variable, Statement, equation, assertion, property, main_mark, ContractStatement, assume, guarantee, ghost_variable, constant, mode, «import», Component, Program}
 use Rattle.lus_tree.specs.Numbers.{IsNumbered}
-use Rattle.lus_meaning.specs.Scene.{Clock, base, Manner, while_true, Site, Instance, Instances, instance, no_instances, with_instance, component_of, calls_of, instance_at, call_instance, outputs_of, clock_from, clock_of, clock_of_names, contract_statements, ghosts, variables}
-use Rattle.lus_meaning.specs.Program.{listed, site_in, import_site, all_sites, component_named, in_order, instance_of}
+use Rattle.lus_meaning.specs.Scene.{Clock, base, Site, Instance, Instances, instance, no_instances, with_instance, component_of, calls_of, call_instance, clock_from, clock_of, clock_of_names, contract_statements, ghosts, variables}
+use Rattle.lus_meaning.specs.Program.{site_in, import_site, all_sites, component_named, in_order}
 use Rattle.lus_meaning.specs.Property.{assertions}
-use Rattle.lus_meaning.specs.Run.{Equation, equations, ghost_equations, body_equations, inputs_of, first_sorts, sort_of, sort_of_name}
-use Rattle.lus_meaning.specs.Depends.{named_in}
-use Rattle.lus_meaning.specs.WellMade.{AreDistinct}
+use Rattle.lus_meaning.specs.Run.{Equation, equations, ghost_equations, body_equations, first_sorts, sort_of, sort_of_name}
 use Rattle.lus_meaning.specs.Occurrences.{on_clock, as_side, Text, contract_statement_texts, statement_texts, constant_texts, texts, gathered, Memory, Start, memories, starts}
-use Rattle.lus_meaning.specs.ClockFaults.{components, name_clock}
+use Rattle.lus_meaning.specs.ClockFaults.{components}
 use Rattle.lus_meaning.specs.Grammatical.{IsGrammaticalComponent, ghost_names}
 use Rattle.lus_meaning.specs.Refusals.{IsChecked}
 use Rattle.lus_meaning.proofs.EachPart.{Each}
@@ -22,7 +19,6 @@ use Rattle.lus_meaning.proofs.Lists.{all_from, all_from_both, both_parts}
 use Rattle.lus_meaning.proofs.NamesOnce.{at_one}
 use Rattle.lus_meaning.proofs.Now.{left_part, right_part}
 use Rattle.rule_laws.specs.Laws.{IsUnfolded, AreUnfolded, site_at}
-use Rattle.rule_laws.specs.Fitting as fitting
 use Rattle.rule_laws.specs.Fitting.{IsStreamOn, sorts_of, OnBase}
 use Rattle.rule_laws.specs.Declarations.{DeclarationFits, contract_flags, statement_flags}
 use Rattle.rule_laws.specs.Declarations as declarations
@@ -36,7 +32,6 @@ use Rattle.clock_laws.proofs.Texts.{all_grammatical}
 use Rattle.clock_laws.proofs.Same.{some_same}
 use Rattle.run_laws.proofs.Sources.{IsCallee}
 use Rattle.run_laws.proofs.Texts.{declaration, is_callee, named_at}
-use Rattle.sys_meaning.specs.Slot.{memory_of, start_of}
 use Rattle.sys_meaning.specs.WellTyped.{checked, ClockFits, EquationFits, MemoryFits, StartFits, ContractStatementFits, OwnFits, CallFits, TreeFits, CallsFit, IsNameOn, IsMemory, Stands}
 use Rattle.sys_meaning.specs.WellTyped as typed
 use Rattle.sys_meaning.proofs.Found.{found_number}
@@ -44,7 +39,7 @@ use Rattle.sys_meaning.proofs.Whole.{no_modes}
 use Rattle.path_laws.specs.Laws.{IsPlain, HasNoModes, CallsHaveNoModes}
 use Rattle.path_laws.proofs.Chains.{name_on, clock_is}
 use Rattle.path_laws.proofs.Numbers.{memories_counted, starts_counted, sites_counted, CountedFrom, in_order_counted, each_found, at_get, at_within}
-use Rattle.path_laws.proofs.Places.{SiteMade, MemoryMade, StartMade, memories_made, starts_made, sites_made, known_texts, KnownText, stand, good_base, good_name, good_names, good_stream}
+use Rattle.path_laws.proofs.Places.{SiteMade, MemoryMade, StartMade, memories_made, starts_made, sites_made, known_texts, KnownText, stand, good_names, good_stream}
 use Rattle.path_laws.proofs.Standing.{no_key, Known}
 
 same_right : (i : Instance) (e : Expression) → declarations.right_sorts i e ≡ typed.right_sorts i no_key e
