@@ -195,7 +195,8 @@ module _ (p : Program) (c : IsChecked p) where
     good_flag : (b : Bool) (x : Name) → IsStreamOn i (clock_of (component_of i) x) Flags x → Good (sampled_by b x)
     good_flag b x f = flag_fits i no_key streams ranked.rank ranked.below b x f
 
-    pub good_name : (x : Name) → named_in x (map (λ v. v.name.text) (variables (component_of i))) ≡ true → ClockFits i no_key (clock_of (component_of i) x)
+    pub good_name : (x : Name) → named_in x (map (λ v. v.name.text) (variables (component_of i))) ≡ true →
+        ClockFits i no_key (clock_of (component_of i) x)
     good_name x e = name_fits i no_key streams ranked.rank ranked.below x e
 
     pub good_stream : (v : Variable) → StreamFits i v → ClockFits i no_key (clock_from v.clock)
