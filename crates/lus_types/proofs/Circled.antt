@@ -21,7 +21,6 @@ use Rattle.lus_types.specs.Declarations.{after, alone_faults, alone_from, alone_
 use Rattle.lus_types.specs.Least.{IsLeast, noted_all}
 use Rattle.lus_types.specs.Marks.{row_view}
 use Rattle.lus_types.specs.Notes.{Notes}
-use Rattle.lus_types.proofs.Alike.{AreSame}
 use Rattle.lus_types.proofs.Leasts.{least_of_all}
 use Rattle.lus_types.proofs.Loops.{OnTheWay, dropped, way_next, way_end}
 use Rattle.lus_types.proofs.Noting.{all_noted, alike_noted, both_noted, nothing_noted}

@@ -1,5 +1,5 @@
 -- Labels that stand twice.
-use Rattle.std.proofs.Common.{◌≡◌, ℕ, suc, ◌<◌, drop, get_or, length, take, ◌-◌, Bool, true, false, ◌&&◌, ◌||◌, List, [], ◌∷◌, ◌++◌, map, refl, ap, ◌∙◌, sym, subst, arith, Option}
+use Rattle.std.proofs.Common.{◌≡◌, ℕ, suc, ◌<◌, drop, get_or, length, take, ◌-◌, Bool, true, false, ◌&&◌, ◌||◌, List, [], ◌∷◌, map, refl, ap, ◌∙◌, sym, subst, arith, Option}
 use Rattle.std.specs.Str.{bytes_eq}
 use Rattle.std.proofs.Math.Logic.{◌⊎◌, inl, inr}
 use Rattle.std.proofs.lemmas.Bool.{cases_Bool}
@@ -15,7 +15,7 @@ use Rattle.name_table.specs.Names.{add}
 use Rattle.name_table.proofs.Names.{in_joined}
 use Rattle.lus_types.specs.declared.labels.Label.{Label}
 use Rattle.lus_types.specs.Labels.{HasLabels, label_view, labels_view, tags_from_last}
-use Rattle.lus_types.specs.Least.{IsLeast, noted_all}
+use Rattle.lus_types.specs.Least.{noted_all}
 use Rattle.lus_types.specs.Notes.{Notes}
 use Rattle.lus_types.proofs.Leasts.{noted_append}
 use Rattle.lus_types.proofs.Walks.{failing, failing_append}

@@ -1,4 +1,4 @@
-use Rattle.std.proofs.Common.{rules, ◌∙◌, ap}
+use Rattle.std.proofs.Common.{rules}
 use Rattle.lus_tree.specs.View.{program_view}
 use Rattle.lus_types.specs.Least.{least_view}
 use Rattle.lus_types.proofs.Circled.{program_noted}

@@ -1,4 +1,4 @@
-use Rattle.std.proofs.Common.{ap, subst}
+use Rattle.std.proofs.Common.{subst}
 use Rattle.lus_tree.specs.View.{program_view}
 use Rattle.lus_meaning.specs.Refusals.{IsTyped}
 use Rattle.lus_types.proofs.typed.Typed.program.Goals as goal
