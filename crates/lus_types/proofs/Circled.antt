@@ -78,9 +78,18 @@ module _ (p : Refused → Bool) where
 
   nine : (w o m l c b s r a : List Refused) → count (w ++ (o ++ (m ++ (l ++ (c ++ (b ++ (s ++ (r ++ a))))))))
       ≡ count ((w ++ o) ++ ((m ++ l) ++ (s ++ (c ++ (b ++ a))))) + count r
-  nine w o m l c b s r a = omega (arith, four w o m (l ++ (c ++ (b ++ (s ++ (r ++ a))))), four l c b (s ++ (r ++ a)), failing_append p s (r ++ a),
-      failing_append p r a, failing_append p (w ++ o) ((m ++ l) ++ (s ++ (c ++ (b ++ a)))), failing_append p w o,
-      failing_append p (m ++ l) (s ++ (c ++ (b ++ a))), failing_append p m l, four s c b a)
+  nine w o m l c b s r a = omega (
+    arith,
+    four w o m (l ++ (c ++ (b ++ (s ++ (r ++ a))))),
+    four l c b (s ++ (r ++ a)),
+    failing_append p s (r ++ a),
+    failing_append p r a,
+    failing_append p (w ++ o) ((m ++ l) ++ (s ++ (c ++ (b ++ a)))),
+    failing_append p w o,
+    failing_append p (m ++ l) (s ++ (c ++ (b ++ a))),
+    failing_append p m l,
+    four s c b a,
+  )
 
   parted : (x y r f g h : List Refused) → count x ≡ count y + count r → count f ≡ count g + count h
       → count (x ++ f) ≡ count (y ++ g) + count (r ++ h)

@@ -26,8 +26,12 @@ module _ (r : Program) where
     states_are n s (binary p o a b) = split read (occurrences n (within s) a) _ ∙ (rw (states_are n (within s) a, states_are n (within s) b) refl)
     states_are n s (choice p a b d) =
         split read (occurrences n (within s) a) _
-        ∙ (rw (states_are n (within s) a, split read (occurrences n (within s) b) (occurrences n (within s) d), states_are n (within s) b,
-        states_are n (within s) d) refl)
+        ∙ (rw (
+          states_are n (within s) a,
+          split read (occurrences n (within s) b) (occurrences n (within s) d),
+          states_are n (within s) b,
+          states_are n (within s) d,
+        ) refl)
     states_are n s (sampled p a b x) =
         split read (occurrences n (moved (clock_of n x.text) s) a) _
         ∙ (rw (states_are n (moved (clock_of n x.text) s) a) (append-nil (states r a)))
@@ -37,8 +41,12 @@ module _ (r : Program) where
     states_are n s (call p k f as_) = ap (λ zs. callee_state r f ++ zs) (among_are n (within s) as_)
     states_are n s (condact p k a f as_ ds) =
         ap (λ zs. p.at ∷ zs) (split read (occurrences n (within s) a) _
-        ∙ (rw (states_are n (within s) a, split read (occurrences_among n (within s) as_) (occurrences_among n (within s) ds),
-        among_are n (within s) as_, among_are n (within s) ds) refl))
+        ∙ (rw (
+          states_are n (within s) a,
+          split read (occurrences_among n (within s) as_) (occurrences_among n (within s) ds),
+          among_are n (within s) as_,
+          among_are n (within s) ds,
+        ) refl))
     states_are n s (mode_name p d m) = refl
 
     among_are : (n : Component) (s : Standing) (es : Expressions) → flat_map read (occurrences_among n s es) ≡ states_among r es

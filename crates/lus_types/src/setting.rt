@@ -4,7 +4,7 @@ ghost use Rattle.std.specs.Prelude.{◌≡◌, ℕ, [], false, map};
 ghost use Rattle.lus_tree.specs.View.{program_view};
 ghost use Rattle.lus_meaning.specs.Scope.{constants_declared, entries_from, outer_names};
 ghost use Rattle.lus_meaning.specs.NameFaults.{constant_words, outer_scope};
-ghost use Rattle.lus_types.specs.declared.scope.Extent.TheVariants.{All, First};
+ghost use Rattle.lus_types.specs.declared.scope.Extent.TheVariants.{First};
 ghost use Rattle.lus_types.specs.Entries.{AreOrdered};
 ghost use Rattle.lus_types.specs.Repeated.{HasSeen};
 ghost use Rattle.lus_types.specs.Scopes.{entry_view, layer_view, scope_view};
@@ -21,7 +21,8 @@ pub(crate) struct Setting<'a, 's> {
     pub(crate) constants: &'a [Entry<'a>],
     pub(crate) words: &'a [&'a PlacedName],
     pub(crate) seen: &'s NameTable,
-    ghost named: { (k : ℕ) → map (entry_view (First k) false) constants.now ≡ outer_names (program_view program.now) k },
+    ghost named: { (k : ℕ) → map (entry_view (First k) false) constants.now
+        ≡ outer_names (program_view program.now) k },
     ghost listed: { words_view words.now ≡ constant_words (program_view program.now) },
     ghost known: { HasSeen seen.now (words_view words.now) },
 }

@@ -14,7 +14,9 @@ ghost use Rattle.lus_types.specs.States.{PlacesOn, callee_state, states, states_
 use crate::least::Least;
 use crate::lookup::node;
 use crate::scope::Owner;
-use lus_tree::{ContractItem, Definition, Expr, Form, Item, Named, Node, PlacedName, Pos, Program, What};
+use lus_tree::{
+    ContractItem, Definition, Expr, Form, Item, Named, Node, PlacedName, Pos, Program, What,
+};
 use std::alloc::{AllocError, Global};
 
 /// Whether a callee has state: a node, which is no function.
@@ -46,7 +48,8 @@ fn push_callee(
 #[cycle(states)]
 #[tactic(auto, using(lus_tree::proofs::Views::form_views))]
 fn push_state(places: &mut Vec<Pos>, program: &Program, e: &Expr) -> Result<(), AllocError>
-    ensures { IfOk result (λ _. PlacesOn places.old.items places.new.items (states (program_view program.now) (expr_view e.now))) }
+    ensures { IfOk result (λ _. PlacesOn places.old.items places.new.items
+        (states (program_view program.now) (expr_view e.now))) }
 {
     match &e.form {
         Form::Not(a) | Form::Minus(a) | Form::When(a, _, _) => push_state(places, program, a),
@@ -165,7 +168,9 @@ fn push_state_contract_item(
             push_state_labelled(places, program, required)?;
             push_state_labelled(places, program, ensured)
         }
-        ContractItem::Import(_, _, arguments, _) => push_state_arguments(places, program, arguments),
+        ContractItem::Import(_, _, arguments, _) => push_state_arguments(
+            places, program, arguments,
+        ),
     }
 }
 
@@ -215,11 +220,7 @@ fn push_state_body(
 }
 
 /// Where a declaration has state.
-fn places_of(
-    alloc: Global,
-    program: &Program,
-    owner: Owner<'_>,
-) -> Result<Vec<Pos>, AllocError>
+fn places_of(alloc: Global, program: &Program, owner: Owner<'_>) -> Result<Vec<Pos>, AllocError>
     ensures { IfOk result (λ v. v.items ≡ gathered (state_in (program_view program.now)) (owner_view owner.entry)) }
 {
     let mut places = Vec::new(alloc);

@@ -45,7 +45,11 @@ fn constants_declared(alloc: Global, program: &Program) -> Result<Vec<Declared<'
 }
 
 /// Notes the faults of declarations, but for those of circles.
-fn declarations(alloc: Global, setting: Setting<'_, '_>, least: &mut Least) -> Result<(), AllocError>
+fn declarations(
+    alloc: Global,
+    setting: Setting<'_, '_>,
+    least: &mut Least,
+) -> Result<(), AllocError>
     ensures { IfOk result (λ _. Notes (least_view least.old) (least_view least.new)
         (alone_from (program_view setting.entry.program.now) 0 (program_view setting.entry.program.now))) }
 {

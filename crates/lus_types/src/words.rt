@@ -13,10 +13,7 @@ use lus_tree::{ContractItem, Definition, Param, PlacedName};
 use std::alloc::{AllocError, Global};
 
 /// The words, and behind them the names of streams.
-fn push_streams<'a>(
-    words: &mut Vec<&'a PlacedName>,
-    params: &'a [Param],
-) -> Result<(), AllocError>
+fn push_streams<'a>(words: &mut Vec<&'a PlacedName>, params: &'a [Param]) -> Result<(), AllocError>
     ensures { IfOk result (λ _. Adds words.old.items words.new.items
         (map (λ v. v.name) (map param_view params.now))) }
 {
@@ -119,10 +116,7 @@ pub(crate) fn mode_words(
 }
 
 /// The words, and behind them those of all streams.
-fn push_variables<'a>(
-    words: &mut Vec<&'a PlacedName>,
-    owner: Owner<'a>,
-) -> Result<(), AllocError>
+fn push_variables<'a>(words: &mut Vec<&'a PlacedName>, owner: Owner<'a>) -> Result<(), AllocError>
     ensures { IfOk result (λ _. Adds words.old.items words.new.items
         (map (λ v. v.name) (variables (owner_view owner.entry)))) }
 {

@@ -19,5 +19,6 @@ loop-decl-preserved c = record {
 pub returns : goal.returns
 returns c =
     declarations_end (program_view c.args.setting.program.now) c.args.setting.program.now.decls.items c.loop-decl.decl-index c.loop-decl.known
-    (least_view c.args.least.now) (least_view c.loop-decl.least) (subst (λ zs. length zs ≤ c.loop-decl.decl-index) c.deref-decl-items.ensures.value (omega arith))
+    (least_view c.args.least.now) (least_view c.loop-decl.least)
+    (subst (λ zs. length zs ≤ c.loop-decl.decl-index) c.deref-decl-items.ensures.value (omega arith))
     c.loop-decl.invariant.noted
