@@ -1,5 +1,5 @@
-//! Checks the names, types and numbers of each source of the files in data/, and prints it with its refusal, or that it is
-//! taken. In the files a `^` stands for a line's end.
+//! Checks the names, types and numbers of each source of the files in data/, and prints it with its refusal,
+//! or that it is taken. In the files a `^` stands for a line's end.
 //!
 //! For the benchmark, the words `read FILE` and `types FILE` have it read that source alone, or read and check it.
 #![tactic(auto)]
