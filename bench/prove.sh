@@ -59,7 +59,7 @@ earlier=0
 for latches in 25 50 100 200; do
     ring_of $latches >"$work/ring"
     count=$(($(counted "$work/ring") - base))
-    grep -q "^valid property "one at most"" "$work/printed" || { cat "$work/printed"; echo "not shown"; exit 1; }
+    grep -q '^valid property "one at most"' "$work/printed" || { cat "$work/printed"; echo "not shown"; exit 1; }
     awk -v n=$latches -v c="$count" -v p="$earlier" 'BEGIN {
         printf "%d %d %.1f %s\n", n, c, c / n, p ? sprintf("%.3f", c / p) : "-"
         if (p && c / p >= 5) exit 1
