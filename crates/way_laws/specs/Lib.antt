@@ -1,0 +1,3 @@
+pub mod OwnGraph
+pub mod Summaries
+pub mod Laws
