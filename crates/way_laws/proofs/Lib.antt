@@ -1,3 +1,4 @@
 pub mod Steps
 pub mod Crossing
 pub mod Arguments
+pub mod Expressions
