@@ -4,3 +4,4 @@ pub mod Arguments
 pub mod Expressions
 pub mod Unfolded
 pub mod Placed
+pub mod Keys
