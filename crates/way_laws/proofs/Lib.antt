@@ -5,3 +5,5 @@ pub mod Expressions
 pub mod Unfolded
 pub mod Placed
 pub mod Keys
+pub mod Texts
+pub mod Walk
