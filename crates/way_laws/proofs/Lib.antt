@@ -7,3 +7,5 @@ pub mod Placed
 pub mod Keys
 pub mod Texts
 pub mod Walk
+pub mod Declarations
+pub mod Ways
