@@ -9,3 +9,6 @@ pub mod Texts
 pub mod Walk
 pub mod Declarations
 pub mod Ways
+pub mod Orders
+pub mod Circles
+pub mod Callees

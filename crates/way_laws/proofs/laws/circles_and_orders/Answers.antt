@@ -1,0 +1,8 @@
+use Rattle.way_laws.proofs.Circles.{circles_are_own, orders_are_own}
+use Rattle.way_laws.proofs.laws.circles_and_orders.Goals as goal
+
+pub returns-clause-circles : goal.returns-clause-circles
+returns-clause-circles c = circles_are_own
+
+pub returns-clause-orders : goal.returns-clause-orders
+returns-clause-orders c = orders_are_own
