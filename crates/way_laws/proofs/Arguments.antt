@@ -3,11 +3,11 @@ use Rattle.std.proofs.Common.{◌≡◌, ℕ, Bool, true, false, cond, ◌||◌,
 use Rattle.std.specs.List.{AllByRecursion}
 use Rattle.std.specs.Str.{bytes_eq}
 use Rattle.std.proofs.Math.Logic.{◌⊎◌, inl, inr}
-use Rattle.std.proofs.lemmas.Bool.{false≢true, cases_Bool}
+use Rattle.std.proofs.lemmas.Bool.{false≢true}
 use Rattle.lus_tree.specs.Tree.{Name, Spelled, text_of, Expression, Expressions, no_more, more, Component}
-use Rattle.lus_meaning.specs.Scene.{Clock, base, Manner, as_import, Site, Instance}
+use Rattle.lus_meaning.specs.Scene.{Clock, base, as_import, Site, Instance}
 use Rattle.lus_meaning.specs.Program.{listed}
-use Rattle.lus_meaning.specs.Depends.{Need, a_name, inside, needs, modes_need, site_needs, named_in}
+use Rattle.lus_meaning.specs.Depends.{Need, a_name, needs, modes_need, site_needs, named_in}
 use Rattle.lus_meaning.specs.Cycle.{place_of, matching, shared_needs}
 use Rattle.lus_meaning.proofs.BooleanOrder.{IsIn, in_left, in_right, named_either}
 use Rattle.lus_meaning.proofs.Exists.{self_bytes}

@@ -1,11 +1,9 @@
 -- Circles by own graphs: of equations, and of clocks.
-use Rattle.std.proofs.Common.{◌≡◌, ◌↔◌, ℕ, Bool, true, false, cond, not, ◌||◌, List, [], ◌∷◌, ◌++◌, map, length, refl, sym, ap, ◌∙◌, subst}
+use Rattle.std.proofs.Common.{◌≡◌, ◌↔◌, Bool, true, false, cond, not, ◌||◌, List, [], ◌∷◌, map, length, refl, sym, ap, subst}
 use Rattle.std.specs.Prelude.{Contains, filter}
 use Rattle.std.specs.Str.{bytes_eq}
-use Rattle.std.proofs.lemmas.Bool.{false≢true, cases_Bool}
-use Rattle.std.proofs.Math.Logic.{◌⊎◌, inl, inr}
-use Rattle.lus_tree.specs.Reason.{Refused}
-use Rattle.lus_tree.specs.Tree.{Name, text_of, Spelled, Variable, Component, Program}
+use Rattle.std.proofs.lemmas.Bool.{false≢true}
+use Rattle.lus_tree.specs.Tree.{Name, text_of, Variable, Component}
 use Rattle.lus_meaning.specs.Scene.{Clock, base, sampled_by, clock_of, variables}
 use Rattle.lus_meaning.specs.Program.{instance_of}
 use Rattle.lus_meaning.specs.Run.{equations}
@@ -15,7 +13,7 @@ use Rattle.lus_meaning.specs.EquationFaults.{clock_names, IsClockChain, last_nam
 use Rattle.lus_meaning.proofs.Exists.{self_bytes}
 use Rattle.lus_meaning.proofs.Lists.{or_left}
 use Rattle.lus_meaning.proofs.Unique.{same_bytes}
-use Rattle.way_laws.specs.OwnGraph.{Summaries, own_edges, IsOwnWay, LeadsTo}
+use Rattle.way_laws.specs.OwnGraph.{IsOwnWay, LeadsTo}
 use Rattle.way_laws.specs.Circles.{free_clock, IsOwnCircle, of_equation as own_equation, of_clocks as own_clocks, OwnNeeds}
 use Rattle.way_laws.specs.Laws.{CirclesAreOwn, OrdersAreOwn}
 use Rattle.way_laws.proofs.Ways.{ways_are_own}

@@ -1,5 +1,5 @@
 -- Ways through the frame of a call: they go on in the callee's instance, until they come back to the caller.
-use Rattle.std.proofs.Common.{◌≡◌, ℕ, zero, suc, ◌<◌, ◌≤◌, Bool, true, false, List, [], ◌∷◌, ◌++◌, map, refl, sym, ap, ◌∙◌, subst, arith, Option, Some, None, unwrap_or}
+use Rattle.std.proofs.Common.{◌≡◌, ℕ, zero, suc, ◌<◌, ◌≤◌, Bool, true, false, List, [], ◌∷◌, ◌++◌, map, refl, sym, ap, subst, arith, Option, Some, None, unwrap_or}
 use Rattle.std.proofs.Math.Logic.{◌⊎◌, inl, inr}
 use Rattle.std.proofs.lemmas.Bool.{false≢true}
 use Rattle.lus_tree.specs.Tree.{Name}
@@ -10,7 +10,7 @@ use Rattle.lus_meaning.proofs.BooleanOrder.{IsIn, in_left, in_right, in_mapped}
 use Rattle.clock_laws.proofs.Reaching.{in_either, in_image}
 use Rattle.rule_laws.specs.Laws.{site_at}
 use Rattle.way_laws.specs.Summaries.{Needs, HoldsOf}
-use Rattle.way_laws.proofs.Steps.{top, Steps, joined, Comes, needs_come, come_needs, Earlier, GoesBy, no_beat, beat_by}
+use Rattle.way_laws.proofs.Steps.{top, Steps, joined, Comes, come_needs, Earlier, GoesBy, no_beat, beat_by}
 
 -- a call with the number j, counted from 0, and its instance
 pub record CallAt (i : Instance) (j : ℕ) (c : Site) (k : Instance) : Type 0 where

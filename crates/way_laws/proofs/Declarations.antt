@@ -1,5 +1,5 @@
 -- What a name of a declaration reads in the own graph stands for what it needs in the tree.
-use Rattle.std.proofs.Common.{option_map, ◌≡◌, ℕ, suc, ◌≤◌, Bool, true, false, cond, ◌&&◌, ◌||◌, List, [], ◌∷◌, ◌++◌, map, flat_map, refl, sym, ap, ◌∙◌, subst, Option, Some, None}
+use Rattle.std.proofs.Common.{option_map, ◌≡◌, ℕ, Bool, true, false, cond, ◌&&◌, List, [], ◌∷◌, ◌++◌, map, flat_map, refl, sym, ap, ◌∙◌, subst, Option, Some, None}
 use Rattle.std.specs.Prelude.{Contains, find, is_none, unwrap_or}
 use Rattle.std.specs.List.{AllByRecursion, list_all}
 use Rattle.std.specs.Str.{bytes_eq}
@@ -8,22 +8,22 @@ use Rattle.std.proofs.lemmas.Bool.{false≢true}
 use Rattle.lus_tree.specs.Reason.{name_twice}
 use Rattle.lus_tree.specs.Tree.{Name, Spelled, text_of, Expression, Variable, Statement, equation, assertion, property, main_mark, ContractStatement, assume, guarantee, ghost_variable, constant, mode, «import», Component, Program}
 use Rattle.lus_meaning.specs.Scene.{Clock, base, Site, Instance, component_of, contract_statements, ghosts, variables, clock_from, clock_of, clock_of_names}
-use Rattle.lus_meaning.specs.Program.{site_in, import_site, all_sites, instance_of}
+use Rattle.lus_meaning.specs.Program.{site_in, import_site, instance_of}
 use Rattle.lus_meaning.specs.Run.{Equation, equations, ghost_equations, body_equations}
-use Rattle.lus_meaning.specs.Occurrences.{as_side, on_clock, occurrences, all_occurrences, gathered, Text, texts, constant_texts, contract_statement_texts, statement_texts}
-use Rattle.lus_meaning.specs.Depends.{Need, a_name, clock_needs, needs, modes_need, known_needs, equation_needs, named_in}
+use Rattle.lus_meaning.specs.Occurrences.{as_side, occurrences, all_occurrences, gathered, Text, texts, constant_texts, contract_statement_texts, statement_texts}
+use Rattle.lus_meaning.specs.Depends.{Need, clock_needs, modes_need, known_needs, named_in}
 use Rattle.lus_meaning.specs.Cycle.{declared_needs, equation_step, defined_needs, own_needs}
 use Rattle.lus_meaning.specs.Scope.{Scope, node_named, contract_named, mode_names, import_names, body_scope}
-use Rattle.lus_meaning.specs.ExpressionFaults.{expression_faults, flag_faults, sides_fit, mode_is_known}
+use Rattle.lus_meaning.specs.ExpressionFaults.{expression_faults, sides_fit}
 use Rattle.lus_meaning.specs.Faults.{words_twice}
-use Rattle.lus_meaning.specs.NameFaults.{own_words, home, contract_faults, statement_faults, body_faults, local_constant_faults, component_faults, constant_words, labels_twice, mode_words, outer_twice}
+use Rattle.lus_meaning.specs.NameFaults.{own_words, home, contract_faults, statement_faults, body_faults, local_constant_faults, constant_words, labels_twice, mode_words, outer_twice}
 use Rattle.lus_meaning.specs.ClockFaults.{components}
 use Rattle.lus_meaning.specs.EquationFaults.{clock_names}
 use Rattle.lus_meaning.specs.Grammatical.{has_left_name, have_no_clock, ghost_names, IsGrammatical, IsGrammaticalComponent}
 use Rattle.lus_meaning.specs.Refusals.{IsTyped}
 use Rattle.lus_meaning.specs.WellMade.{AreDistinct}
-use Rattle.lus_meaning.proofs.BooleanOrder.{IsIn, in_left, in_right}
-use Rattle.lus_meaning.proofs.EachPart.{Each, each_part}
+use Rattle.lus_meaning.proofs.BooleanOrder.{IsIn, in_right}
+use Rattle.lus_meaning.proofs.EachPart.{each_part}
 use Rattle.lus_meaning.proofs.Exists.{self_bytes}
 use Rattle.lus_meaning.proofs.Lists.{all_from, both_parts, or_left, or_true}
 use Rattle.lus_meaning.proofs.NamesOnce.{no_parts, at_one, Clean, all_clean}
@@ -34,7 +34,7 @@ use Rattle.clock_laws.proofs.Contracts.{side_top}
 use Rattle.clock_laws.proofs.OrderLaws.{names_distinct}
 use Rattle.clock_laws.proofs.Parts.{all_parts}
 use Rattle.clock_laws.proofs.Texts.{HasOutputs, TopFits}
-use Rattle.way_laws.specs.OwnGraph.{Summaries, ModeReads, known_reads, reads, mode_reads, declared_reads, equation_reads, defined_reads, own_edges}
+use Rattle.way_laws.specs.OwnGraph.{Summaries, known_reads, mode_reads, declared_reads, equation_reads, defined_reads, own_edges}
 use Rattle.way_laws.specs.Summaries.{CalleesExact}
 use Rattle.way_laws.proofs.Steps.{Fits, fits_none, fits_both, fits_clock}
 use Rattle.way_laws.proofs.Expressions.{CallReady, fits_there}

@@ -1,5 +1,5 @@
 -- What an expression reads in the own graph stands for what it needs in the tree.
-use Rattle.std.proofs.Common.{◌≡◌, ℕ, pred, Bool, true, false, cond, List, [], ◌∷◌, ◌++◌, map, refl, sym, ap, ◌∙◌, subst, Some, None, option_map}
+use Rattle.std.proofs.Common.{◌≡◌, ℕ, pred, Bool, true, false, cond, List, [], ◌∷◌, ◌++◌, map, refl, sym, ap, subst, Some, None, option_map}
 use Rattle.std.specs.Prelude.{option_to_list}
 use Rattle.std.specs.List.{AllByRecursion}
 use Rattle.std.proofs.Math.Logic.{◌⊎◌, inl, inr}
@@ -7,18 +7,18 @@ use Rattle.lus_tree.specs.Tree.{Name, text_of, Expression, Expressions, truth, n
 use Rattle.lus_meaning.specs.Scene.{Clock, sampled_by, Manner, plain, while_true, Site, Instance, component_of, clock_of, call_instance, outputs_of}
 use Rattle.lus_meaning.specs.Program.{listed}
 use Rattle.lus_meaning.specs.Run.{inputs_of}
-use Rattle.lus_meaning.specs.Occurrences.{Standing, within, before, moved, Occurrence}
+use Rattle.lus_meaning.specs.Occurrences.{Standing, within, moved, Occurrence}
 use Rattle.lus_meaning.specs.Depends.{Need, the_beat, a_name, inside, clock_needs, output_needs, needs, needs_each, ModeNeeds, modes_need, known_needs, site_needs, named_in}
 use Rattle.lus_meaning.specs.Cycle.{place_of, declared_needs, defined_needs, own_needs, next_places, matching, caller_needs}
 use Rattle.lus_meaning.specs.Rules.{names_of}
 use Rattle.lus_meaning.specs.Run.{equations}
 use Rattle.lus_meaning.specs.EquationFaults.{clock_names}
-use Rattle.lus_meaning.proofs.BooleanOrder.{IsIn, in_left, in_right, in_mapped, named_either}
+use Rattle.lus_meaning.proofs.BooleanOrder.{IsIn, in_left, in_mapped, named_either}
 use Rattle.lus_meaning.proofs.EachPart.{Each, EachAmong}
 use Rattle.clock_laws.proofs.Reaching.{in_either, next_top}
 use Rattle.way_laws.specs.OwnGraph.{Summaries, ModeReads, known_reads, reads, reads_each, arguments_read}
-use Rattle.way_laws.specs.Summaries.{Needs, HoldsOf, IsExact}
-use Rattle.way_laws.proofs.Steps.{top, Steps, Comes, come_needs, needs_come, GoesBy, Fits, come_left, come_right, by_left, fits_none, fits_both, fits_name, fits_clock}
+use Rattle.way_laws.specs.Summaries.{IsExact}
+use Rattle.way_laws.proofs.Steps.{Comes, needs_come, GoesBy, Fits, come_left, come_right, by_left, fits_none, fits_both, fits_name, fits_clock}
 use Rattle.way_laws.proofs.Crossing.{CallAt, passes, comes_back, goes_back}
 use Rattle.way_laws.proofs.Arguments.{read_by, arguments_same, kept_left, kept_later, goes_among, argument, ArgumentFits, matched_by, matched_named, ReadBy, read_from}
 

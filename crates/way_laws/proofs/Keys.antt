@@ -11,7 +11,7 @@ use Rattle.lus_meaning.specs.Depends.{Need, inside, ModeNeeds, known_needs, impo
 use Rattle.lus_meaning.specs.Scope.{contract_named}
 use Rattle.lus_meaning.specs.ExpressionFaults.{has_mode}
 use Rattle.lus_meaning.proofs.Exists.{self_bytes}
-use Rattle.lus_meaning.proofs.Lists.{named_append, append_none}
+use Rattle.lus_meaning.proofs.Lists.{named_append}
 use Rattle.lus_meaning.proofs.Unique.{same_bytes}
 use Rattle.way_laws.specs.OwnGraph.{ModeReads, known_reads}
 use Rattle.way_laws.proofs.Steps.{Fits}

@@ -1,9 +1,9 @@
 -- Orders of numbers by two relations that say the same, and by the steps of a relation and by their closure.
-use Rattle.std.proofs.Common.{◌≡◌, ◌↔◌, ℕ, zero, suc, ◌<◌, Bool, true, false, eqb, ◌||◌, List, [], ◌∷◌, ◌++◌, refl, sym, ap, ◌∙◌, subst}
-use Rattle.std.specs.List.{AllByRecursion, IsDistinct, list_any}
+use Rattle.std.proofs.Common.{◌≡◌, ◌↔◌, ℕ, ◌<◌, Bool, true, false, eqb, ◌||◌, List, [], ◌∷◌, ◌++◌, refl, subst}
+use Rattle.std.specs.List.{AllByRecursion}
 use Rattle.std.proofs.Math.Logic.{◌⊎◌, inl, inr}
 use Rattle.std.proofs.lemmas.Bool.{false≢true, eqb-true}
-use Rattle.lus_meaning.specs.Order.{is_listed, Passes, IsReady, AreReady, IsOrder, IsNext, AreNext, IsLeastOrder}
+use Rattle.lus_meaning.specs.Order.{is_listed, Passes, IsReady, AreReady, IsOrder, AreNext, IsLeastOrder}
 use Rattle.way_laws.specs.Closure.{Closure, one_step, more_steps}
 use Rattle.way_laws.specs.Laws.{OrdersBySteps}
 

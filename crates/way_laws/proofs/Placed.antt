@@ -6,13 +6,12 @@ use Rattle.std.specs.List.{AllByRecursion, list_all}
 use Rattle.std.specs.Str.{bytes_eq}
 use Rattle.std.proofs.Math.Logic.{◌⊎◌, inl, inr}
 use Rattle.std.proofs.lemmas.Bool.{false≢true}
-use Rattle.lus_tree.specs.Tree.{Name, Variable, Expression, truth, number, name, negation, minus, pre, arrow, binary, choice, sampled, merged, call, condact, mode_name, ContractStatement, assume, guarantee, ghost_variable, constant, mode, «import», Component, Program}
+use Rattle.lus_tree.specs.Tree.{Variable, Expression, truth, number, name, negation, minus, pre, arrow, binary, choice, sampled, merged, call, condact, mode_name, ContractStatement, assume, guarantee, ghost_variable, constant, mode, «import», Component, Program}
 use Rattle.lus_tree.specs.Numbers.{a_call, call_number, all_numbers, import_number, numbers_in, are_counted, IsNumbered}
-use Rattle.lus_meaning.specs.Scene.{Clock, base, Site, Instance, Instances, instance, no_instances, with_instance, component_of, calls_of, instance_at, call_instance, outputs_of, contract_statements, clock_from, variables, no_component}
+use Rattle.lus_meaning.specs.Scene.{Site, Instance, Instances, instance, no_instances, with_instance, component_of, calls_of, instance_at, call_instance, contract_statements, clock_from, variables, no_component}
 use Rattle.lus_meaning.specs.Program.{site_in, import_site, all_sites, component_named, instance_of}
 use Rattle.lus_meaning.specs.Occurrences.{Standing, gathered}
-use Rattle.lus_meaning.specs.Depends.{Need, the_beat, clock_needs}
-use Rattle.lus_meaning.specs.Cycle.{declared_needs}
+use Rattle.lus_meaning.specs.Depends.{the_beat, clock_needs}
 use Rattle.lus_meaning.specs.Scope.{node_named, contract_named}
 use Rattle.lus_meaning.specs.NameFaults.{is_declared}
 use Rattle.lus_meaning.specs.ClockFaults.{components}
@@ -34,7 +33,6 @@ use Rattle.clock_laws.proofs.Texts.{HasOutputs}
 use Rattle.way_laws.specs.OwnGraph.{Summaries}
 use Rattle.way_laws.specs.Summaries.{IsExact, CalleesExact}
 use Rattle.way_laws.proofs.Unfolded.{typed_unfolded}
-use Rattle.way_laws.proofs.Steps.{in_contains}
 use Rattle.way_laws.proofs.Crossing.{CallAt, call_at}
 use Rattle.way_laws.proofs.Expressions.{CallReady}
 

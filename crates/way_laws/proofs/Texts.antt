@@ -1,9 +1,8 @@
 -- Each expression of a declaration whose names and types are right is ready: its calls stand at their places, and its
 -- modes are known where it stands.
-use Rattle.std.proofs.Common.{option_map, ◌≡◌, ℕ, suc, pred, ◌≤◌, Bool, true, false, cond, not, ◌&&◌, ◌||◌, List, [], ◌∷◌, ◌++◌, map, flat_map, length, ◌==◌, refl, sym, ap, ◌∙◌, subst, arith, append_assoc, Option, Some, None}
+use Rattle.std.proofs.Common.{option_map, ◌≡◌, ℕ, Bool, true, false, cond, not, ◌&&◌, ◌||◌, List, [], ◌∷◌, ◌++◌, flat_map, refl, sym, subst, Option, Some, None}
 use Rattle.std.specs.Prelude.{filter, option_to_list}
 use Rattle.std.specs.List.{AllByRecursion}
-use Rattle.std.specs.Map.{lookup}
 use Rattle.std.specs.Str.{bytes_eq}
 use Rattle.std.proofs.lemmas.Bool.{false≢true}
 use Rattle.lus_tree.specs.declared.place.Sort.TheVariants.{Bool as Flags}
@@ -12,7 +11,7 @@ use Rattle.lus_tree.specs.Reason.{mode_unknown}
 use Rattle.lus_meaning.specs.Scene.{Site, Instance, component_of}
 use Rattle.lus_meaning.specs.Program.{listed, site_in}
 use Rattle.lus_meaning.specs.Occurrences.{Standing, Occurrence, occurs, occurrences, Text}
-use Rattle.lus_meaning.specs.Depends.{ModeNeeds, modes_need, known_needs, named_in}
+use Rattle.lus_meaning.specs.Depends.{ModeNeeds, known_needs, named_in}
 use Rattle.lus_meaning.specs.Scope.{Scope, node_named, contract_named}
 use Rattle.lus_meaning.specs.ExpressionFaults.{expression_faults, part_faults, form_faults, weight_faults, needs_sort, call_faults, default_faults, has_one, has_mode, mode_is_known}
 use Rattle.lus_meaning.proofs.EachPart.{Each, each_part, each_of_both}

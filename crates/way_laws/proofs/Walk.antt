@@ -8,7 +8,7 @@ use Rattle.std.proofs.Math.Logic.{◌⊎◌, inl, inr}
 use Rattle.std.proofs.lemmas.Bool.{false≢true}
 use Rattle.lus_tree.specs.declared.place.Sort.TheVariants.{Bool as Flags}
 use Rattle.lus_tree.specs.Tree.{Name, Spelled, text_of, Expression, Labelled, Variable, ContractStatement, assume, guarantee, ghost_variable, constant, mode, «import», Component, Program}
-use Rattle.lus_meaning.specs.Scene.{Clock, base, as_import, Site, Instance, Instances, instance, no_instances, with_instance, component_of, outputs_of, instance_at, calls_of, call_instance, contract_statements, ghosts, clock_of, clock_of_names}
+use Rattle.lus_meaning.specs.Scene.{base, as_import, Site, Instance, Instances, instance, no_instances, with_instance, component_of, outputs_of, instance_at, calls_of, call_instance, contract_statements, ghosts, clock_of, clock_of_names}
 use Rattle.lus_meaning.specs.Program.{import_site}
 use Rattle.lus_meaning.specs.Run.{Equation, ghost_equations, inputs_of}
 use Rattle.lus_meaning.specs.Occurrences.{on_clock, as_side, on_base, Text, contract_statement_texts}
@@ -19,9 +19,8 @@ use Rattle.lus_meaning.specs.Scope.{Scope, node_named, contract_named, mode_name
 use Rattle.lus_meaning.specs.ExpressionFaults.{expression_faults, flag_faults, needs_sort, sides_fit, has_mode, mode_is_known}
 use Rattle.lus_meaning.specs.NameFaults.{home, flags_of, contract_statement_faults, contract_faults}
 use Rattle.lus_meaning.proofs.BooleanOrder.{IsIn, in_left, in_right, named_either}
-use Rattle.lus_meaning.proofs.EachPart.{Each}
 use Rattle.lus_meaning.proofs.Exists.{self_bytes}
-use Rattle.lus_meaning.proofs.Lists.{append_none, named_append, or_left}
+use Rattle.lus_meaning.proofs.Lists.{append_none}
 use Rattle.lus_meaning.proofs.NamesOnce.{no_parts}
 use Rattle.lus_meaning.proofs.Now.{left_part, right_part}
 use Rattle.lus_meaning.proofs.Unique.{same_bytes}
@@ -29,14 +28,14 @@ use Rattle.clock_laws.proofs.Contracts.{side_top, mode_names_append}
 use Rattle.clock_laws.proofs.Reaching.{in_either}
 use Rattle.clock_laws.proofs.Texts.{HasOutputs}
 use Rattle.way_laws.specs.OwnGraph.{Summaries, ModeReads, known_reads, reads, listed_read, shared_read, imported_reads, asked_reads, mode_reads_after, mode_reads}
-use Rattle.way_laws.specs.Summaries.{Needs, HoldsOf, HasMode, IsExact}
+use Rattle.way_laws.specs.Summaries.{Needs, HoldsOf, HasMode}
 use Rattle.way_laws.proofs.Steps.{Comes, needs_come, GoesBy, Fits, fits_none, fits_both, fits_beat, beat_by}
 use Rattle.way_laws.proofs.Crossing.{comes_back, goes_back}
-use Rattle.way_laws.proofs.Arguments.{read_by, listed_same, kept_left, kept_later, ArgumentFits, argument, matched_by, matched_named, ReadBy, read_from, SharedBy, shared_by, shared_from}
-use Rattle.way_laws.proofs.Expressions.{CallReady, known, fits_there}
+use Rattle.way_laws.proofs.Arguments.{read_by, listed_same, kept_left, kept_later, argument, matched_by, matched_named, ReadBy, read_from, SharedBy, shared_by, shared_from}
+use Rattle.way_laws.proofs.Expressions.{CallReady, fits_there}
 use Rattle.way_laws.proofs.Placed.{SitePlaced}
-use Rattle.way_laws.proofs.Keys.{Key, GoodKey, good_left, good_fits, lookup_left, Known, known_mode, known_import, imported_key, behind}
-use Rattle.way_laws.proofs.Texts.{CallsPlaced, EachPlaced, Knows, text_ready, known_good, key_of}
+use Rattle.way_laws.proofs.Keys.{Key, GoodKey, good_left, good_fits, lookup_left, Known, known_mode, known_import, imported_key}
+use Rattle.way_laws.proofs.Texts.{EachPlaced, Knows, text_ready, known_good, key_of}
 
 import_names_append : (xs ys : List ContractStatement) → import_names (xs ++ ys) ≡ import_names xs ++ import_names ys
 import_names_append [] ys = refl

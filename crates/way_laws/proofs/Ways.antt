@@ -1,8 +1,6 @@
 -- Ways of needs between names of a declaration are ways along the edges of its own graph, and summaries by it are exact.
-use Rattle.std.proofs.Common.{◌≡◌, ◌↔◌, ℕ, zero, suc, ◌<◌, ◌≤◌, Bool, true, false, ◌||◌, List, [], ◌∷◌, ◌++◌, map, refl, sym, ap, ◌∙◌, subst, arith, Option, Some, None, unwrap_or}
+use Rattle.std.proofs.Common.{◌≡◌, ◌↔◌, ℕ, zero, suc, ◌<◌, ◌≤◌, true, List, [], ◌∷◌, ◌++◌, map, refl, sym, ap, subst, arith, Some, unwrap_or}
 use Rattle.std.specs.Prelude.{Contains}
-use Rattle.std.specs.Str.{bytes_eq}
-use Rattle.std.proofs.lemmas.Bool.{false≢true}
 use Rattle.lus_tree.specs.Tree.{Name, Component, Program}
 use Rattle.lus_meaning.specs.Scene.{Instance, component_of, contract_statements}
 use Rattle.lus_meaning.specs.Program.{instance_of}
@@ -15,12 +13,10 @@ use Rattle.lus_meaning.specs.EquationFaults.{last_name}
 use Rattle.lus_meaning.specs.Grammatical.{IsGrammatical}
 use Rattle.lus_meaning.specs.Refusals.{IsTyped}
 use Rattle.lus_meaning.proofs.BooleanOrder.{IsIn, in_mapped, at_some}
-use Rattle.lus_meaning.proofs.Exists.{self_bytes}
-use Rattle.lus_meaning.proofs.Lists.{or_left}
 use Rattle.clock_laws.proofs.Reaching.{at_in, in_image, next_top}
 use Rattle.rule_laws.proofs.Unfolded.{component_within}
 use Rattle.way_laws.specs.OwnGraph.{Summary, Summaries, known_reads, mode_reads, own_edges, Edges, IsOwnWay, LeadsTo, Finds}
-use Rattle.way_laws.specs.Summaries.{HoldsOf, HasMode, Summarises, IsSummary, Needs, IsExact, CalleesExact}
+use Rattle.way_laws.specs.Summaries.{HoldsOf, HasMode, IsSummary, Needs, IsExact, CalleesExact}
 use Rattle.way_laws.specs.Laws.{WaysAreOwn, SummariesExact}
 use Rattle.way_laws.proofs.Steps.{top, Steps, joined, steps_of, way_of, Comes, needs_come, come_needs, Earlier, Fits, fits_none, fits_both, fits_name}
 use Rattle.way_laws.proofs.Declarations.{mode_fits, edges_fit}

@@ -1,10 +1,10 @@
 -- Which summary of a declaration is right: by its own graph, and by the whole tree of its instances.
-use Rattle.std.specs.Prelude.{◌≡◌, ◌↔◌, ℕ, true, List, [], ◌∷◌, ◌++◌, map, unwrap_or, Contains, Some}
+use Rattle.std.specs.Prelude.{◌≡◌, ◌↔◌, ℕ, true, List, [], ◌++◌, map, Contains, Some}
 use Rattle.std.specs.Map.{lookup}
 use Rattle.std.specs.Str.{bytes_eq}
 use Rattle.lus_tree.specs.Tree.{Name, Component, Program}
-use Rattle.lus_meaning.specs.Scene.{Site, Instance, component_of, no_component, contract_statements}
-use Rattle.lus_meaning.specs.Program.{all_sites, component_named, instance_of}
+use Rattle.lus_meaning.specs.Scene.{Site, Instance, component_of, contract_statements}
+use Rattle.lus_meaning.specs.Program.{all_sites, instance_of}
 use Rattle.lus_meaning.specs.Depends.{Need, a_name, modes_need, known_needs, named_in}
 use Rattle.lus_meaning.specs.Cycle.{Place, place_of, IsWay, last_place}
 use Rattle.lus_meaning.specs.Scope.{mode_names}
