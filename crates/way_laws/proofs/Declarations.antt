@@ -77,7 +77,7 @@ all_true test x (y ∷ xs) e h = go (test y) refl e h (all_true test x xs)
     go true k e (inr h) f = f e h
     go false k e h f = absurd (false≢true e)
 
-abbrev names_in : List Variable → List Name
+abbrev pub names_in : List Variable → List Name
 names_in vs = map (λ v. v.name.text) vs
 
 named_of : (v : Variable) (vs : List Variable) → IsIn v vs → named_in v.name.text (names_in vs) ≡ true
@@ -86,7 +86,7 @@ named_of v (w ∷ vs) (inl e) = or_left (bytes_eq v.name.text w.name.text) _ (su
     (self_bytes v.name.text))
 named_of v (w ∷ vs) (inr h) = or_true (bytes_eq v.name.text w.name.text) _ (named_of v vs h)
 
-find_distinct : (v : Variable) (vs : List Variable) → IsIn v vs → AreDistinct (names_in vs)
+pub find_distinct : (v : Variable) (vs : List Variable) → IsIn v vs → AreDistinct (names_in vs)
     → find (λ w. bytes_eq v.name.text w.name.text) vs ≡ Some v
 find_distinct v [] h d = absurd h
 find_distinct v (w ∷ vs) (inl e) d = ap (λ b. cond b (Some w) (find (λ u. bytes_eq v.name.text u.name.text) vs))

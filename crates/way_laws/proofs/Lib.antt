@@ -12,3 +12,4 @@ pub mod Ways
 pub mod Orders
 pub mod Circles
 pub mod Callees
+pub mod Rounds

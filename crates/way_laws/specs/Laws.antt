@@ -1,5 +1,5 @@
 -- The laws of own graphs.
-use Rattle.std.specs.Prelude.{◌≡◌, ◌↔◌, ℕ, ◌<◌, Bool, List, length, Contains}
+use Rattle.std.specs.Prelude.{◌≡◌, ◌↔◌, ℕ, ◌<◌, Bool, List, [], ◌∷◌, length, Contains}
 use Rattle.lus_tree.specs.Reason.{Refused}
 use Rattle.lus_tree.specs.Tree.{Name, Component, Program}
 use Rattle.lus_meaning.specs.Scene.{Site}
@@ -57,7 +57,13 @@ AllSummariesExact =
 abbrev pub CirclesAreOwn : Type 0
 CirclesAreOwn = OfEachByCallees (λ p n g. (r : Refused) → IsCircleFault p n r ↔ IsOwnCircle n g r)
 
--- so are the orders of equations, and the least ones
+-- where some name leads to itself there is such a fault
+abbrev pub NamesInCircles : Type 0
+NamesInCircles =
+    (p : Program) → IsTyped p → (n : Component) → Contains (components p) n → (g : Summaries) (x : Name) →
+    LeadsTo (own_edges n g) (x ∷ []) (x ∷ []) → (r : Refused) × IsOwnCircle n g r
+
+-- the orders of equations, and the least ones, are those by it too
 abbrev pub OrdersAreOwn : Type 0
 OrdersAreOwn =
     OfEachByCallees (λ p n g. (ks : List ℕ) →

@@ -4,6 +4,7 @@ ghost use Rattle.way_laws.specs.Laws.{
   AllSummariesExact,
   CalleesLower,
   CirclesAreOwn,
+  NamesInCircles,
   OrdersAreOwn,
   OrdersBySteps,
   SummariesExact,
@@ -28,10 +29,11 @@ pub fn callees_first()
 {}
 
 /// By exact summaries of what a declaration calls and imports, its faults of circles are those that its own graph has:
-/// an equation whose left names lead to themselves, and clocks in a circle among names without an equation. The orders
-/// of its equations, and the least ones, are those by ways in its own graph.
+/// an equation whose left names lead to themselves, and clocks in a circle among names without an equation. There is one
+/// where some name leads to itself. The orders of its equations, and the least ones, are those by ways in its own graph.
 pub fn circles_and_orders()
     ensures circles { CirclesAreOwn }
+    ensures names { NamesInCircles }
     ensures orders { OrdersAreOwn }
 {}
 
