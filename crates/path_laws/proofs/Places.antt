@@ -28,13 +28,14 @@ use Rattle.rule_laws.specs.Declarations.{StreamFits, DeclarationFits}
 use Rattle.rule_laws.specs.Declarations as declarations
 use Rattle.rule_laws.proofs.Callees.{GoesDown, each_site}
 use Rattle.rule_laws.proofs.ConstantsTyped.{constants_typed}
-use Rattle.rule_laws.proofs.Goods.{expressions_fit}
+use Rattle.rule_laws.proofs.Goods.{expressions_fit, all_of_each}
 use Rattle.rule_laws.proofs.Lists.{all_flat}
 use Rattle.rule_laws.proofs.Places.{memories_found, starts_found, by_number}
 use Rattle.clock_laws.proofs.Clocks.{unfolded_same, declared_at}
 use Rattle.clock_laws.proofs.Lefts.{distinct_behind}
 use Rattle.clock_laws.proofs.OrderLaws.{names_distinct}
-use Rattle.clock_laws.proofs.Parts.{each_listed, all_parts, Whole, each_whole, each_occurrence}
+use Rattle.rule_laws.proofs.Covered.{all_contained}
+use Rattle.rule_laws.proofs.Parts.{Whole, nested, all_parts}
 use Rattle.run_laws.proofs.Texts.{declaration, is_callee}
 use Rattle.sys_meaning.specs.Slot.{memory_of, start_of}
 use Rattle.sys_meaning.specs.WellTyped.{ClockFits, IsMemory, IsStart, IsCall, IsHeldCall, MannerFits, Stands}
@@ -143,13 +144,13 @@ module _ (p : Program) (c : IsChecked p) where
 
     memory_known : AllByRecursion (λ o. AllByRecursion (λ m. memory_of (component_of i) m.number ≡ Some m) (memory_in o.standing o.expression))
         (all_occurrences (component_of i))
-    memory_known = all_parts (λ m. memory_of (component_of i) m.number ≡ Some m) (λ o. memory_in o.standing o.expression) (all_occurrences (component_of i))
-        (each_listed (λ m. memory_of (component_of i) m.number ≡ Some m) (memories (component_of i)) (memories_found p c (component_of i) j))
+    memory_known = all_of_each (λ m. memory_of (component_of i) m.number ≡ Some m) (λ o. memory_in o.standing o.expression) (all_occurrences (component_of i))
+        (all_contained (λ m. memory_of (component_of i) m.number ≡ Some m) (memories (component_of i)) (memories_found p c (component_of i) j))
 
     start_known : AllByRecursion (λ o. AllByRecursion (λ a. start_of (component_of i) a.number ≡ Some a) (start_in o.standing o.expression))
         (all_occurrences (component_of i))
-    start_known = all_parts (λ a. start_of (component_of i) a.number ≡ Some a) (λ o. start_in o.standing o.expression) (all_occurrences (component_of i))
-        (each_listed (λ a. start_of (component_of i) a.number ≡ Some a) (starts (component_of i)) (starts_found p c (component_of i) j))
+    start_known = all_of_each (λ a. start_of (component_of i) a.number ≡ Some a) (λ o. start_in o.standing o.expression) (all_occurrences (component_of i))
+        (all_contained (λ a. start_of (component_of i) a.number ≡ Some a) (starts (component_of i)) (starts_found p c (component_of i) j))
 
     abbrev TypedThere : Instance → Occurrence → Type 0
     TypedThere k o = is_fixed (constants_of k) o.expression ≡ true →
@@ -160,7 +161,7 @@ module _ (p : Program) (c : IsChecked p) where
       typed : TypedThere i o
 
     fits_typed : AllByRecursion FitsTyped (all_occurrences (component_of i))
-    fits_typed = each_listed FitsTyped (all_occurrences (component_of i)) (λ o h. record {
+    fits_typed = all_contained FitsTyped (all_occurrences (component_of i)) (λ o h. record {
       fits = subst (λ k. FitsThere k o) (sym same) (expressions_fit p c (component_of i) j o h);
       typed = subst (λ k. TypedThere k o) (sym same) (constants_typed p c (component_of i) j o h);
     })
@@ -176,7 +177,7 @@ module _ (p : Program) (c : IsChecked p) where
 
     pub known_texts : AllByRecursion KnownText (texts (component_of i))
     known_texts = all_from (λ x. AllByRecursion (Known i) (occurrences here x.0 x.1)) KnownText (λ x a. each_part (Known i) here x.0 x.1 a) (texts here)
-        (all_parts (Known i) (λ x. occurrences here x.0 x.1) (texts here) all_known)
+        (all_of_each (Known i) (λ x. occurrences here x.0 x.1) (texts here) all_known)
 
     -- ---- clocks
 
@@ -284,13 +285,13 @@ module _ (p : Program) (c : IsChecked p) where
     all_clocked =
         all_flat Clocked (λ x. occurrences here x.0 x.1) (texts here)
         (all_from_both KnownText GoodText (λ x. AllByRecursion Clocked (occurrences here x.0 x.1))
-        (λ x a g. each_occurrence Clocked here x.0 x.1 (clocked x.0 x.1 a g)) (texts here) known_texts text_clocks)
+        (λ x a g. all_parts Clocked here x.0 x.1 (clocked x.0 x.1 a g)) (texts here) known_texts text_clocks)
 
     all_whole : AllByRecursion (Whole (Known i) (component_of i)) (all_occurrences (component_of i))
     all_whole =
         all_flat (Whole (Known i) here) (λ x. occurrences here x.0 x.1) (texts here)
         (all_from KnownText (λ x. AllByRecursion (Whole (Known i) here) (occurrences here x.0 x.1))
-        (λ x a. each_occurrence (Whole (Known i) here) here x.0 x.1 (each_whole (Known i) here x.0 x.1 a)) (texts here) known_texts)
+        (λ x a. all_parts (Whole (Known i) here) here x.0 x.1 (nested (Known i) here x.0 x.1 a)) (texts here) known_texts)
 
     -- ---- memories and starts
 

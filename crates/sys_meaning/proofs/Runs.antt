@@ -17,7 +17,7 @@ use Rattle.sys_meaning.specs.Path.{Course, bare_stage, frame_by, frames_by}
 use Rattle.sys_meaning.specs.Translate.{flag_at, present, term_of, formula}
 use Rattle.sys_meaning.specs.System.{below_call, stage, Sources, paired, equation_sources, runs_where, shared_outputs, from_call}
 use Rattle.sys_meaning.specs.Law.{Distinct, TreeDistinct, CallsDistinct}
-use Rattle.sys_meaning.specs.WellTyped.{no_constant, is_declared, clock_here, ClockFits, IsNameOn, MannerFits, CallFits, TreeFits, CallsFit}
+use Rattle.sys_meaning.specs.WellTyped.{IsKnown, no_constant, is_declared, clock_here, ClockFits, IsNameOn, MannerFits, CallFits, TreeFits, CallsFit, OwnFits}
 use Rattle.sys_meaning.proofs.Conditions.{bools_equal, zero_value}
 use Rattle.sys_meaning.proofs.Present.{present_on}
 use Rattle.sys_meaning.proofs.Rows.{OwnShown, modes_agree}
@@ -28,9 +28,9 @@ use Rattle.lus_meaning.proofs.Now.{left_part}
 use Rattle.sys_meaning.proofs.Forward.{modes_of, runs_as, left_of, arguments_worth, arguments_have}
 use Rattle.sys_meaning.proofs.Offs.{present_same}
 use Rattle.sys_meaning.proofs.Backward.{TreeMeets, CallsMeet, own_meets, tree_own, call_offs}
+use Rattle.sys_meaning.proofs.ContractStatements.{modes_agreed}
 use Rattle.sys_meaning.proofs.Given.{frame_shown}
 use Rattle.sys_meaning.proofs.Kept.{path_keeps}
-use Rattle.sys_meaning.proofs.Whole.{no_modes}
 
 -- that a path's frames are shown, for any instance
 abbrev pub Offs : Instance → (Place → ℕ) → Course → ℕ → Type 0
@@ -39,22 +39,22 @@ Offs k at c n = (t : ℕ) → t < n → (x : Name) → is_declared k (λ key. �
     value_in (c t) (sort_of_name k x) (at (own (named x))) ≡ zero_value (sort_of_name k x)
 
 pub any_shown : (k : Instance) (at : Place → ℕ) (c : Course) (n : ℕ) (b : Instants) (m : Manner) (act : Formula)
-    (given : Sources) → TreeFits no_modes k → TreeMeets c n m k at act given →
+    (given : Sources) → TreeFits IsKnown k → TreeMeets c n m k at act given →
     ((t : ℕ) → t < n → (c t).flag_at (at (own beat)) ≡ b t) → Offs k at c n →
     (t : ℕ) → t < n → (nx : Values) →
-    OwnShown (scene k b (frame_by k at c n)) (no_modes k) at (c t) nx t (modes_of no_modes k at)
+    OwnShown (scene k b (frame_by k at c n)) (IsKnown k) at (c t) nx t (modes_of IsKnown k at)
 any_shown (instance d cs is) at c n b m act given fits meets beats offs t h nx =
     frame_shown d cs is at c n b m act given fits meets.0 meets.1 beats offs t h nx
 
 -- the beat of a callee is where its site says
 module _ (i : Instance) (at : Place → ℕ) (c : Course) (n : ℕ) (b : Instants) (t : ℕ) (sh : OwnShown (scene i b
-    (frame_by i at c n)) (no_modes i) at (c t) (c t) t (modes_of no_modes i at)) (a : Site) (k : Instance) (p : ℕ)
-    (fit : CallFits no_modes i a k p) where
+    (frame_by i at c n)) (IsKnown i) at (c t) (c t) t (modes_of IsKnown i at)) (own_fit : OwnFits i (IsKnown i))
+    (a : Site) (k : Instance) (p : ℕ) (fit : CallFits IsKnown i a k p) where
   abbrev pub s : Scene
   s = scene i b (frame_by i at c n)
 
-  agree : modes_agree s (no_modes i) at (c t) (c t) t (modes_of no_modes i at) sh
-  agree q x w o = absurd w
+  agree : modes_agree s (IsKnown i) at (c t) (c t) t (modes_of IsKnown i at) sh
+  agree = modes_agreed at (c t) (c t) b (frame_by i at c n) t i own_fit sh
 
   pub beat_of : truth_of (c t) (c t) (same (flag_at (stage i at) (in_call a.number (own beat))) (runs_where
       (stage i at) a a.manner)) ≡ true → (c t).flag_at (below_call a.number at (own beat)) ≡ active s a t
@@ -62,25 +62,25 @@ module _ (i : Instance) (at : Place → ℕ) (c : Course) (n : ℕ) (b : Instant
       (stage i at) a a.manner)) e ∙ where_is a.manner refl fit.manner
     where
       there : (z : Clock) → z ≡ a.clock → truth_of (c t) (c t) (present (stage i at) z) ≡ is_on s z t
-      there z q = present_on s (no_modes i) at (modes_of no_modes i at) (c t) (c t) t sh.beats sh.names sh.typed z
-          (subst (ClockFits i (no_modes i)) (sym q) fit.clock)
+      there z q = present_on s (IsKnown i) at (modes_of IsKnown i at) (c t) (c t) t sh.beats sh.names sh.typed z
+          (subst (ClockFits i (IsKnown i)) (sym q) fit.clock)
 
-      condition : (m : Manner) → MannerFits no_modes i a.clock m k → (x : Expression) → m ≡ while_true x →
+      condition : (m : Manner) → MannerFits IsKnown i a.clock m k → (x : Expression) → m ≡ while_true x →
           is_on s a.clock t ≡ true → flag (truth_of (c t) (c t) (formula (stage i at) x)) ≡ value s a.clock x t
-      condition m w x q o = let v : MannerFits no_modes i a.clock (while_true x) k =
-          subst (λ z. MannerFits no_modes i a.clock z k) q w in formula_value s (no_modes i) at
-          (modes_of no_modes i at) (c t) (c t) t sh agree x a.clock v.0 v.1 o
+      condition m w x q o = let v : MannerFits IsKnown i a.clock (while_true x) k =
+          subst (λ z. MannerFits IsKnown i a.clock z k) q w in formula_value s (IsKnown i) at
+          (modes_of IsKnown i at) (c t) (c t) t sh agree x a.clock v.0 v.1 o
 
-      import_base : (m : Manner) → MannerFits no_modes i a.clock m k → (xs : List Name) → m ≡ as_import xs →
+      import_base : (m : Manner) → MannerFits IsKnown i a.clock m k → (xs : List Name) → m ≡ as_import xs →
           a.clock ≡ base
-      import_base m w xs q = let v : MannerFits no_modes i a.clock (as_import xs) k =
-          subst (λ z. MannerFits no_modes i a.clock z k) q w in v.0
+      import_base m w xs q = let v : MannerFits IsKnown i a.clock (as_import xs) k =
+          subst (λ z. MannerFits IsKnown i a.clock z k) q w in v.0
 
-      where_is : (m : Manner) → a.manner ≡ m → MannerFits no_modes i a.clock m k →
+      where_is : (m : Manner) → a.manner ≡ m → MannerFits IsKnown i a.clock m k →
           truth_of (c t) (c t) (runs_where (stage i at) a a.manner) ≡ active s a t
       where_is m q w =
-          ap (λ z. truth_of (c t) (c t) (runs_where (stage i at) a z)) q ∙ runs_as s (no_modes i) at
-          (modes_of no_modes i at) (c t) (c t) t sh agree a m q there (condition m w) (import_base m w)
+          ap (λ z. truth_of (c t) (c t) (runs_where (stage i at) a z)) q ∙ runs_as s (IsKnown i) at
+          (modes_of IsKnown i at) (c t) (c t) t sh agree a m q there (condition m w) (import_base m w)
 
 -- ---- a call of a path's frame
 
@@ -88,13 +88,13 @@ tree_distinct : (k : Instance) (at : Place → ℕ) (given : Sources) → TreeDi
 tree_distinct (instance d cs is) at given w = w.0
 
 module _ (i : Instance) (at : Place → ℕ) (c : Course) (n : ℕ) (b : Instants) (shown : (t : ℕ) → t < n → OwnShown
-    (scene i b (frame_by i at c n)) (no_modes i) at (c t) (c t) t (modes_of no_modes i at))
-    (a : Site) (k : Instance) (p : ℕ) (fit : CallFits no_modes i a k p) (fits : TreeFits no_modes k) (m : Manner)
+    (scene i b (frame_by i at c n)) (IsKnown i) at (c t) (c t) t (modes_of IsKnown i at)) (own_fit : OwnFits i (IsKnown i))
+    (a : Site) (k : Instance) (p : ℕ) (fit : CallFits IsKnown i a k p) (fits : TreeFits IsKnown k) (m : Manner)
     (act : Formula)
     (meets : TreeMeets c n m k (below_call a.number at) act (from_call (stage i at) a k)) (distinct : Distinct k
     (below_call a.number at) (from_call (stage i at) a k))
     (shown' : (t : ℕ) → t < n → OwnShown (scene k (active (scene i b (frame_by i at c n)) a) (frame_by k
-    (below_call a.number at) c n)) (no_modes k) (below_call a.number at) (c t) (c t) t (modes_of no_modes k
+    (below_call a.number at) c n)) (IsKnown k) (below_call a.number at) (c t) (c t) t (modes_of IsKnown k
     (below_call a.number at))) where
   abbrev pub caller : Scene
   caller = scene i b (frame_by i at c n)
@@ -123,6 +123,13 @@ module _ (i : Instance) (at : Place → ℕ) (c : Course) (n : ℕ) (b : Instant
   off_args t o h [] = tt
   off_args t o h (e ∷ es) = (rw h refl, off_args t o h es)
 
+  agree_here : (t : ℕ) (h : t < n) → modes_agree caller (IsKnown i) at (c t) (c t) t (modes_of IsKnown i at) (shown t h)
+  agree_here t h = modes_agreed at (c t) (c t) b (frame_by i at c n) t i own_fit (shown t h)
+
+  agree_below : (t : ℕ) (h : t < n) → modes_agree callee (IsKnown k) (below_call a.number at) (c t) (c t) t
+      (modes_of IsKnown k (below_call a.number at)) (shown' t h)
+  agree_below t h = modes_agreed (below_call a.number at) (c t) (c t) (active caller a) g t k (tree_own IsKnown k fits) (shown' t h)
+
   inputs_are : (t : ℕ) → t < n →
       at_instant t (entries g (inputs_of k)) ≡ map (λ e. cond (active caller a t)
       (value caller a.clock e t) absent) a.arguments
@@ -132,30 +139,30 @@ module _ (i : Instance) (at : Place → ℕ) (c : Course) (n : ℕ) (b : Instant
           map (λ x. entry g x t) (inputs_of k) ≡ map (λ e. cond (active caller a t)
           (value caller a.clock e t) absent) a.arguments
       by true o =
-          pairs_sourced callee (no_modes k) (below_call a.number at) (modes_of no_modes k (below_call a.number at))
-          (c t) (c t) t (shown' t h) (λ q x w z. absurd w) given (tree_own no_modes k fits) ((own_meets c n m k
+          pairs_sourced callee (IsKnown k) (below_call a.number at) (modes_of IsKnown k (below_call a.number at))
+          (c t) (c t) t (shown' t h) (agree_below t h) given (tree_own IsKnown k fits) ((own_meets c n m k
           (below_call a.number at) act given meets).names t h)
           base o (inputs_of k) (map (term_of (stage i at)) a.arguments) fit.inputs
           (ap (λ z. have_sorts z (map (worth (c t) (c t)) (map (term_of (stage i at)) a.arguments)))
-          (fit.input_sorts ∙ sym fit.sorts) ∙ arguments_have caller (no_modes i) at
-          (modes_of no_modes i at) (c t) (c t) t (shown t h)
-          (λ q x w z. absurd w) a.clock a.arguments fit.arguments)
+          (fit.input_sorts ∙ sym fit.sorts) ∙ arguments_have caller (IsKnown i) at
+          (modes_of IsKnown i at) (c t) (c t) t (shown t h)
+          (agree_here t h) a.clock a.arguments fit.arguments)
           (left_part (IsFound (given ++ equation_sources (stage k (below_call a.number at)) (equations
           (component_of k)))) (paired (inputs_of k) (map (term_of (stage i at)) a.arguments))
           (shared_outputs (stage i at) a.manner k) all_here)
-          ∙ arguments_worth caller (no_modes i) at (modes_of no_modes i at) (c t) (c t) t (shown t h)
-          (λ q x w z. absurd w) a.clock (active caller a t) o (left_of (is_on caller a.clock t)
+          ∙ arguments_worth caller (IsKnown i) at (modes_of IsKnown i at) (c t) (c t) t (shown t h)
+          (agree_here t h) a.clock (active caller a t) o (left_of (is_on caller a.clock t)
           (condition_of caller a.clock a.manner t) o) a.arguments fit.arguments
       by false o = absents_same (map (λ x. entry g x t) (inputs_of k)) (map (λ e. cond (active caller a t)
           (value caller a.clock e t) absent) a.arguments)
           (names_absent (inputs_of k) fit.inputs) (off_args t (active caller a t) o a.arguments) (counts
           (inputs_of k) a.arguments (ap length (fit.input_sorts ∙ sym fit.sorts)))
         where
-          names_absent : (xs : List Name) → AllByRecursion (IsNameOn k (no_modes k) base) xs →
+          names_absent : (xs : List Name) → AllByRecursion (IsNameOn k (IsKnown k) base) xs →
               all_absent (map (λ x. entry g x t) xs)
           names_absent [] w = tt
           names_absent (x ∷ xs) w = (
-            typed_off (sort_of_name k x) (is_on callee (clock_here k (no_modes k) x) t) (entry g x t)
+            typed_off (sort_of_name k x) (is_on callee (clock_here k (IsKnown k) x) t) (entry g x t)
                 ((shown' t h).typed x w.0.stream w.0.declared) (ap
                 (λ z. is_on callee z t) w.0.clock ∙ o),
             names_absent xs w.1,
@@ -182,41 +189,41 @@ module _ (i : Instance) (at : Place → ℕ) (c : Course) (n : ℕ) (b : Instant
 
 mutual
   pub run_by : (i : Instance) (at : Place → ℕ) (c : Course) (n : ℕ) (b : Instants) (m : Manner) (act : Formula)
-      (given : Sources) → TreeFits no_modes i → TreeMeets c n m i at act given → TreeDistinct i at given →
+      (given : Sources) → TreeFits IsKnown i → TreeMeets c n m i at act given → TreeDistinct i at given →
       ((t : ℕ) → t < n → (c t).flag_at (at (own beat)) ≡ b t) → Offs i at c n → IsRun i n b (frame_by i at c n)
   run_by (instance d cs is) at c n b m act given fits meets distinct beats offs = (
     path_keeps d cs is at c n b m act given fits meets.0 meets.1 beats offs distinct.0,
     calls_by is (instance d cs is) at c n b 0 (λ t h. any_shown
-        (instance d cs is) at c n b m act given fits meets beats offs t h (c t)) fits.1 meets.1 distinct.1,
+        (instance d cs is) at c n b m act given fits meets beats offs t h (c t)) fits.0 fits.1 meets.1 distinct.1,
   )
 
   calls_by : (is : Instances) (i : Instance) (at : Place → ℕ) (c : Course) (n : ℕ) (b : Instants) (p : ℕ) →
-      ((t : ℕ) → t < n → OwnShown (scene i b (frame_by i at c n)) (no_modes i) at (c t) (c t) t
-      (modes_of no_modes i at)) →
-      CallsFit no_modes i is p → CallsMeet c n is (stage i at) → CallsDistinct is (stage i at) →
+      ((t : ℕ) → t < n → OwnShown (scene i b (frame_by i at c n)) (IsKnown i) at (c t) (c t) t
+      (modes_of IsKnown i at)) → OwnFits i (IsKnown i) →
+      CallsFit IsKnown i is p → CallsMeet c n is (stage i at) → CallsDistinct is (stage i at) →
       CallsRun n (scene i b (frame_by i at c n)) is (frames_by is at c n)
-  calls_by no_instances i at c n b p shown fits meets distinct = tt
-  calls_by (with_instance a k is) i at c n b p shown fits meets distinct =
+  calls_by no_instances i at c n b p shown own_fit fits meets distinct = tt
+  calls_by (with_instance a k is) i at c n b p shown own_fit fits meets distinct =
       let below : Place → ℕ = below_call a.number at in
       let act : Formula =
       same (flag_at (stage i at) (in_call a.number (own beat))) (runs_where (stage i at) a a.manner) in
       let given : Sources = from_call (stage i at) a k in
       let beats : (t : ℕ) → t < n → (c t).flag_at (below (own beat)) ≡ active (scene i b (frame_by i at c n)) a t =
-      λ t h. beat_of i at c n b t (shown t h) a k p fits.0
+      λ t h. beat_of i at c n b t (shown t h) own_fit a k p fits.0
       ((own_meets c n a.manner k below act given meets.2).runs t h).0 in
       let offs : Offs k below c n =
-      λ t h x w e o. call_offs no_modes i at (c t) (c t) (stage i at).modes (stage k below).modes a k p fits.0
-      (tree_own no_modes k fits.1) below ((own_meets c n a.manner k below act given meets.2).names t h) x w e
+      λ t h x w e o. call_offs IsKnown i at (c t) (c t) (stage i at).modes (stage k below).modes a k p fits.0
+      (tree_own IsKnown k fits.1) below ((own_meets c n a.manner k below act given meets.2).names t h) x w e
       (present_same (c t) (c t) k below (stage k below).modes [] (length (variables (component_of k)))
       (clock_here k (λ key. ⊥) x) ∙ o) in
       let shown_below : (t : ℕ) → t < n →
-      OwnShown (scene k (active (scene i b (frame_by i at c n)) a) (frame_by k below c n)) (no_modes k) below
-      (c t) (c t) t (modes_of no_modes k below) =
+      OwnShown (scene k (active (scene i b (frame_by i at c n)) a) (frame_by k below c n)) (IsKnown k) below
+      (c t) (c t) t (modes_of IsKnown k below) =
       λ t h. any_shown k below c n (active (scene i b
       (frame_by i at c n)) a) a.manner act given fits.1 meets.2 beats offs t h (c t) in (
-        called i at c n b shown a k p fits.0 fits.1 a.manner act meets.2
+        called i at c n b shown own_fit a k p fits.0 fits.1 a.manner act meets.2
             (tree_distinct k below given distinct.0) shown_below,
         run_by k below c n (active (scene i b
             (frame_by i at c n)) a) a.manner act given fits.1 meets.2 distinct.0 beats offs,
-        calls_by is i at c n b (suc p) shown fits.2 meets.3 distinct.1,
+        calls_by is i at c n b (suc p) shown own_fit fits.2 meets.3 distinct.1,
       )

@@ -1,4 +1,4 @@
--- For declarations without modes and imports: the states of a run are a path.
+-- For declarations without imports: the states of a run are a path.
 use Rattle.std.proofs.Common.{◌≡◌, ℕ, zero, suc, pred, ◌<◌, Bool, true, false, not, cond, ◌&&◌, List, [], ◌∷◌, refl, ap, ◌∙◌, sym, subst, arith, is_some}
 use Rattle.std.specs.List.{AllByRecursion, list_all}
 use Rattle.std.proofs.lemmas.Bool.{false≢true}
@@ -23,7 +23,7 @@ use Rattle.sys_meaning.specs.Part.{a_flag, all_of, value_in}
 use Rattle.sys_meaning.specs.Translate.{flag_at}
 use Rattle.sys_meaning.specs.System.{below_call, number_of, assumed, stage, has_so_far, becomes, so_far_next, so_far_first}
 use Rattle.sys_meaning.specs.Law.{RunsToPaths}
-use Rattle.sys_meaning.specs.WellTyped.{HasSpot, HasPlace, OutputFits, OwnFits, TreeFits, CallsFit, count_of}
+use Rattle.sys_meaning.specs.WellTyped.{IsKnown, HasSpot, HasPlace, OutputFits, OwnFits, TreeFits, CallsFit, count_of}
 use Rattle.sys_meaning.proofs.Shown.{value_has}
 use Rattle.sys_meaning.proofs.Rows.{OwnShown}
 use Rattle.sys_meaning.proofs.Pools.{true_all}
@@ -34,7 +34,7 @@ use Rattle.sys_meaning.proofs.Forward.{Contracts, modes_of, calls_of_run, own_fi
 use Rattle.sys_meaning.proofs.Onward.{SoFar}
 use Rattle.sys_meaning.proofs.RunPath.{run_is_path}
 use Rattle.sys_meaning.proofs.Conditions.{flags_same, becomes_made}
-use Rattle.sys_meaning.proofs.ContractStatements.{IsShownBy, assumed_all, all_of_true, listed_true, so_far_then, kept_on}
+use Rattle.sys_meaning.proofs.ContractStatements.{IsShownBy, modes_agreed, assumed_all, all_of_true, listed_true, so_far_then, kept_on}
 
 pub fits_at : (Modes : Instance → Key → Type 0) (i : Instance) (is : Instances) (p j : ℕ) →
     CallsFit Modes i is p → j < count_of is → TreeFits Modes (instance_at is j)
@@ -95,13 +95,10 @@ module _ (Modes : Instance → Key → Type 0) (contracts : Contracts Modes) (c 
       (fits_called Modes i k w.0.counted w.0.listed (calls_fit Modes i fits))
       (λ t h. call_reads Modes i at b f t (c t) (reads t h) k w.0) t h p z w.1
 
--- ---- without modes and imports
+-- ---- without imports
 
-abbrev pub no_modes : Instance → Key → Type 0
-no_modes j key = ⊥
-
-pub no_contracts : Contracts no_modes
-no_contracts i at c n b f run reads fits t h nx sh d m e o = absurd e
+pub known_contracts : Contracts IsKnown
+known_contracts i at c n b f run reads fits t h nx sh = modes_agreed at (c t) nx b f t i (own_fits IsKnown i fits) sh
 
 -- what has the flag has a contract
 has_contract : (m : Manner) (d : Component) → has_so_far m d ≡ true → is_some d.contract ≡ true
@@ -110,8 +107,8 @@ has_contract (while_true a) d e = e
 has_contract (as_import xs) d e = absurd (false≢true e)
 
 module _ (c : Course) (n : ℕ) (m : Manner) (i : Instance) (at : Place → ℕ) (b : Instants) (f : Frame)
-    (fits : OwnFits i (no_modes i)) (run : IsRun i n b f)
-    (reads : (t : ℕ) → t < n → Reads no_modes i at b f t (c t)) where
+    (fits : OwnFits i (IsKnown i)) (run : IsRun i n b f)
+    (reads : (t : ℕ) → t < n → Reads IsKnown i at b f t (c t)) where
   flag_is : is_some (component_of i).contract ≡ true → (t : ℕ) → t < n →
       (c t).flag_at (at (own so_far)) ≡ kept_so_far i b f t
   flag_is e t h =
@@ -124,8 +121,8 @@ module _ (c : Course) (n : ℕ) (m : Manner) (i : Instance) (at : Place → ℕ)
       now = omega arith
 
       shown : IsShownBy at (c t) (c (suc t)) b f t i
-      shown = own_shown no_modes i at c n b f (modes_of no_modes i at) run (calls_of_run i n b f run) reads fits
-          (λ t h nx sh d m e o. absurd e) t now (c (suc t))
+      shown = own_shown IsKnown i at c n b f (modes_of IsKnown i at) run (calls_of_run i n b f run) reads fits
+          (λ t h nx sh. modes_agreed at (c t) nx b f t i fits sh) t now (c (suc t))
 
       go : (o : Bool) → has_so_far m (component_of i) ≡ o →
           true_all (c t) (c (suc t)) (cond o (becomes (stage i at) Flags so_far (a_flag (so_far_then i at))
@@ -155,30 +152,30 @@ module _ (c : Course) (n : ℕ) (m : Manner) (i : Instance) (at : Place → ℕ)
       go false e = tt
       go true e = (flag_is (has_contract m (component_of i) e) 0 h, tt)
 
-pub all_so_far : (c : Course) (n : ℕ) → SoFar no_modes c n
+pub all_so_far : (c : Course) (n : ℕ) → SoFar IsKnown c n
 all_so_far c n = record {
   next = λ m i at b f fits run reads t h. flag_next c n m i at b f fits run reads t h;
   first = λ m i at b f fits run reads h. flag_first c n m i at b f fits run reads h;
 }
 
--- the first direction, for declarations without modes and imports
+-- the first direction, for declarations without imports
 pub runs_to_paths : RunsToPaths
-runs_to_paths i w n f t run h l = run_is_path no_modes no_contracts i w n f run
+runs_to_paths i w n f t run h l = run_is_path IsKnown known_contracts i w n f run
     (λ t h. each t h (slots i) w.slots)
     (all_so_far c n) (λ t h a. listed_true (c t) (c t) (assumed i (number_of i))
-    (assumed_all (number_of i) (c t) (c t) throughout f t i (own_fits no_modes i w.tree)
-    (shown_here no_modes no_contracts c n i (number_of i) throughout f run w.tree
-    (λ t h. state_reads no_modes i w f t) t h (c t)) refl ∙ a)) t h l
+    (assumed_all (number_of i) (c t) (c t) throughout f t i (own_fits IsKnown i w.tree)
+    (shown_here IsKnown known_contracts c n i (number_of i) throughout f run w.tree
+    (λ t h. state_reads IsKnown i w f t) t h (c t)) refl ∙ a)) t h l
   where
     c : Course
     c t = values_of (state_of i f t)
 
     each : (t : ℕ) → t < n → (qs : List Slot) →
-        AllByRecursion (λ q. HasPlace no_modes q.path i (spot_of q.cell) q.sort) qs →
+        AllByRecursion (λ q. HasPlace IsKnown q.path i (spot_of q.cell) q.sort) qs →
         AllByRecursion (λ q. has_sort q.sort (or_default q.sort (reading i throughout f (place_of q) t)) ≡ true) qs
     each t h [] a = tt
     each t h (q ∷ qs) a = (
-      place_sorted no_modes no_contracts c n q.path i (number_of i) throughout f run w.tree
-          (λ t h. state_reads no_modes i w f t) t h (spot_of q.cell) q.sort a.0,
+      place_sorted IsKnown known_contracts c n q.path i (number_of i) throughout f run w.tree
+          (λ t h. state_reads IsKnown i w f t) t h (spot_of q.cell) q.sort a.0,
       each t h qs a.1,
     )

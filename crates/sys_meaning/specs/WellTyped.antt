@@ -1,16 +1,18 @@
 -- What the rules of types and clocks give of a declaration's text.
-use Rattle.std.specs.Prelude.{◌≡◌, ℕ, zero, suc, pred, slice_get, ◌<◌, true, false, cond, ◌⊎◌, List, [], ◌∷◌, map, length, Option, Some, None, is_some, option_map, option_to_list}
-use Rattle.std.specs.List.{AllByRecursion}
+use Rattle.std.specs.Prelude.{◌≡◌, ℕ, zero, suc, pred, slice_get, ◌<◌, true, false, cond, ◌⊎◌, List, [], ◌∷◌, ◌++◌, map, length, Option, Some, None, is_some, option_map, option_to_list}
+use Rattle.std.specs.List.{AllByRecursion, list_any}
 use Rattle.std.specs.Map.{lookup}
 use Rattle.std.specs.Str.{bytes_eq}
 use Rattle.lus_tree.specs.declared.expression.Operator.{Operator}
 use Rattle.lus_tree.specs.declared.expression.Operator.TheVariants.{Implies, Or, Xor, And, Less, AtMost, Equal, Differs, AtLeast, More, Add, Sub, Mul, Div, Mod}
 use Rattle.lus_tree.specs.declared.place.Sort.{Sort}
 use Rattle.lus_tree.specs.declared.place.Sort.TheVariants.{Bool as Flags, Int as Numbers}
-use Rattle.lus_tree.specs.Tree.{Statement, property, ContractStatement, assume, guarantee, ghost_variable, constant, mode, «import», Name, Variable, text_of, Expression, Expressions, no_more, more, truth, number, name, negation, minus, pre, arrow, binary, choice, sampled, merged, call, condact, mode_name}
+use Rattle.lus_tree.specs.Tree.{Statement, property, Labelled, ContractStatement, assume, guarantee, ghost_variable, constant, mode, «import», Name, Variable, text_of, Expression, Expressions, no_more, more, truth, number, name, negation, minus, pre, arrow, binary, choice, sampled, merged, call, condact, mode_name}
 use Rattle.lus_meaning.specs.Value.{Value, has_sort}
 use Rattle.lus_meaning.specs.Scene.{Manner, as_import, Site, instance, Instances, no_instances, with_instance, calls_of, clock_from, Clock, base, sampled_by, plain, while_true, Instance, component_of, constants_of, outputs_of, call_instance, instance_called, clock_of, contract_statements, variables}
 use Rattle.lus_meaning.specs.Scene.{clock_of_names}
+use Rattle.lus_meaning.specs.Meaning.{mode_key}
+use Rattle.lus_meaning.specs.Contract.{terms}
 use Rattle.lus_meaning.specs.Program.{constant_value}
 use Rattle.lus_meaning.specs.Occurrences.{Memory, memories, Start, starts}
 use Rattle.lus_meaning.specs.Property.{assertions}
@@ -174,38 +176,63 @@ module _ (i : Instance) (ModeAt : Key → Type 0) where
     pub listed : pred a.number < length (starts (component_of i))
     pub clock : ClockFits a.clock
 
-  -- for now assumptions and guarantees alone, without modes and imports
-  abbrev pub ContractStatementFits : ContractStatement → Type 0
-  ContractStatementFits (assume l) = Stands base l.value × (sort_of i l.value ≡ Flags)
-  ContractStatementFits (guarantee l) = Stands base l.value × (sort_of i l.value ≡ Flags)
-  ContractStatementFits (ghost_variable x e) = Unit {0}
-  ContractStatementFits (constant c) = Unit {0}
-  ContractStatementFits (mode m rs es) = ⊥
-  ContractStatementFits («import» k c as_ xs) = ⊥
+-- ---- contracts
 
+-- the mode is one of the contract, or of an import by way of its contract
+abbrev pub IsKnown : Instance → Key → Type 0
+IsKnown i key = list_any (λ m. mode_key key m.key) (terms i).modes ≡ true
+
+abbrev pub IsAmong : List Key → Key → Type 0
+IsAmong ks key = list_any (mode_key key) ks ≡ true
+
+-- a truth value on the base clock, which names modes of these keys
+abbrev pub FlagFits : Instance → List Key → Labelled → Type 0
+FlagFits i ks l = Stands i (IsAmong ks) base l.value × (sort_of i l.value ≡ Flags)
+
+-- an item of a contract, where modes of these keys stand before it; for now no import
+abbrev pub StatementFits : Instance → List Key → ContractStatement → Type 0
+StatementFits i ks (assume l) = FlagFits i ks l
+StatementFits i ks (guarantee l) = FlagFits i ks l
+StatementFits i ks (ghost_variable x e) = Unit {0}
+StatementFits i ks (constant c) = Unit {0}
+StatementFits i ks (mode m rs es) = AllByRecursion (FlagFits i ks) rs × AllByRecursion (FlagFits i ks) es
+StatementFits i ks («import» k c as_ xs) = ⊥
+
+abbrev pub own_keys : ContractStatement → List Key
+own_keys (mode m rs es) = ([], m.text) ∷ []
+own_keys _ = []
+
+-- in text order: a mode can be named behind it
+abbrev pub StatementsFit : Instance → List Key → List ContractStatement → Type 0
+StatementsFit i ks [] = Unit {0}
+StatementsFit i ks (c ∷ cs) = StatementFits i ks c × StatementsFit i (ks ++ own_keys c) cs
+
+-- ---- a declaration
+
+module _ (i : Instance) (ModeAt : Key → Type 0) where
   pub record OwnFits : Type 0 where
     -- each name is declared once
     pub once : AreDistinct (map (λ v. v.name.text) (variables (component_of i)))
-    pub contract : AllByRecursion ContractStatementFits (contract_statements (component_of i))
-    pub streams : AllByRecursion StreamFits (variables (component_of i))
-    pub equations : AllByRecursion EquationFits (equations (component_of i))
+    pub contract : StatementsFit i [] (contract_statements (component_of i))
+    pub streams : AllByRecursion (StreamFits i ModeAt) (variables (component_of i))
+    pub equations : AllByRecursion (EquationFits i ModeAt) (equations (component_of i))
     -- each first value is that of a memory
-    pub firsts : (j : ℕ) → j < length (first_sorts i) → (c : Clock) × (a : Expression) × IsMemory (suc j) c a
-    pub memories : AllByRecursion MemoryFits (memories (component_of i))
-    pub starts : AllByRecursion StartFits (starts (component_of i))
-    pub asserts : AllByRecursion (λ e. Stands base e × (sort_of i e ≡ Flags)) (assertions (component_of i).body)
-    pub body_properties : AllByRecursion (λ e. Stands base e × (sort_of i e ≡ Flags)) (checked (component_of i).body)
+    pub firsts : (j : ℕ) → j < length (first_sorts i) → (c : Clock) × (a : Expression) × IsMemory i ModeAt (suc j) c a
+    pub memories : AllByRecursion (MemoryFits i ModeAt) (memories (component_of i))
+    pub starts : AllByRecursion (StartFits i ModeAt) (starts (component_of i))
+    pub asserts : AllByRecursion (λ e. Stands i ModeAt base e × (sort_of i e ≡ Flags)) (assertions (component_of i).body)
+    pub body_properties : AllByRecursion (λ e. Stands i ModeAt base e × (sort_of i e ≡ Flags)) (checked (component_of i).body)
 
   -- ---- places
 
   -- a variable of a frame's own, and its type
   abbrev pub HasSpot : Spot → Sort → Type 0
   HasSpot beat z = z ≡ Flags
-  HasSpot (named x) z = is_declared x × no_constant x × (sort_of_name i x ≡ z)
-  HasSpot (memory k) z = (c : Clock) × (a : Expression) × IsMemory k c a × (sort_of i a ≡ z)
-  HasSpot (starting k) z = (c : Clock) × IsStart k c × (z ≡ Flags)
+  HasSpot (named x) z = is_declared i ModeAt x × no_constant i ModeAt x × (sort_of_name i x ≡ z)
+  HasSpot (memory k) z = (c : Clock) × (a : Expression) × IsMemory i ModeAt k c a × (sort_of i a ≡ z)
+  HasSpot (starting k) z = (c : Clock) × IsStart i ModeAt k c × (z ≡ Flags)
   HasSpot so_far z = (z ≡ Flags) × (is_some (component_of i).contract ≡ true)
-  HasSpot (held k x) z = (c : Clock) × (a : Expression) × (ds : Expressions) × IsHeldCall k c a ds
+  HasSpot (held k x) z = (c : Clock) × (a : Expression) × (ds : Expressions) × IsHeldCall i ModeAt k c a ds
       × (named_in x (outputs_of (call_instance i k)) ≡ true) × (sort_of_name (call_instance i k) x ≡ z)
 
 -- Modes says which modes each instance knows
