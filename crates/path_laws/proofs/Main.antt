@@ -1,4 +1,4 @@
--- A checked declaration without modes and imports is well typed, and the sources of its names are of different names.
+-- A checked declaration without imports is well typed, and the sources of its names are of different names.
 use Rattle.std.proofs.Common.{◌≡◌, ℕ, suc, ◌<◌, true, List, [], ◌∷◌, map, flat_map, refl, sym, ap, ◌∙◌, subst, arith, pos}
 use Rattle.std.specs.Prelude.{Contains}
 use Rattle.std.specs.List.{AllByRecursion}
@@ -30,15 +30,14 @@ use Rattle.sys_meaning.specs.Translate.{Stage, right_terms, term_of}
 use Rattle.sys_meaning.specs.System.{Sources, paired, equation_sources, stage, shared_outputs, from_call, below_call, number_of}
 use Rattle.sys_meaning.specs.System as system
 use Rattle.sys_meaning.specs.Law.{TreeDistinct, CallsDistinct}
-use Rattle.sys_meaning.specs.WellTyped.{TreeFits}
+use Rattle.sys_meaning.specs.WellTyped.{IsKnown, TreeFits}
 use Rattle.sys_meaning.proofs.Cells.{everywhere}
 use Rattle.sys_meaning.proofs.CheckedRuns.{breaks_at_last}
 use Rattle.sys_meaning.proofs.CheckedTrace.{trace_of_path}
 use Rattle.sys_meaning.proofs.CheckedVerdicts.{holds_where_bounded, holds_where_reachable}
 use Rattle.sys_meaning.proofs.Follows.{lemma_law, property_law}
 use Rattle.sys_meaning.proofs.OneRun.{runs_are_paths}
-use Rattle.sys_meaning.proofs.Whole.{no_modes}
-use Rattle.path_laws.specs.Laws.{HasNoModes, CallsHaveNoModes, PlainAreWellTyped, PlainRunsArePaths, PlainLemmas, PlainProperties, PlainTraces, PlainHolds, PlainBounds, PlainBreaks}
+use Rattle.path_laws.specs.Laws.{HasNoImports, CallsHaveNoImports, PlainAreWellTyped, PlainRunsArePaths, PlainLemmas, PlainProperties, PlainTraces, PlainHolds, PlainBounds, PlainBreaks}
 use Rattle.path_laws.proofs.OnePlace.{slots_numbered}
 use Rattle.path_laws.proofs.Places.{SiteMade, HeldMany, sites_made}
 use Rattle.path_laws.proofs.Spots.{HeldTree, CallsHeld, places_found, slots_placed}
@@ -48,12 +47,12 @@ use Rattle.path_laws.proofs.Tree.{tree_fits, names_on_base, named_there}
 
 module _ (p : Program) (c : IsChecked p) where
   mutual
-    held_tree : (i : Instance) → IsUnfolded p i → Contains (components p) (component_of i) → HasNoModes i → HeldTree i
+    held_tree : (i : Instance) → IsUnfolded p i → Contains (components p) (component_of i) → HasNoImports i → HeldTree i
     held_tree (instance d cs is) u j h =
         calls_held (instance d cs is) u (all_sites d) is u.1 (each_site p c.rules.clocked.typed d j) (sites_made p c (instance d cs is) u j h.0) h.1
 
     calls_held : (i : Instance) → IsUnfolded p i → (ss : List Site) (is : Instances) → AreUnfolded p ss is →
-        AllByRecursion (λ s. GoesDown p (component_of i) s.callee) ss → AllByRecursion (SiteMade i) ss → CallsHaveNoModes is → CallsHeld is
+        AllByRecursion (λ s. GoesDown p (component_of i) s.callee) ss → AllByRecursion (SiteMade i) ss → CallsHaveNoImports is → CallsHeld is
     calls_held i u ss no_instances w a m h = tt
     calls_held i u [] (with_instance t k is) w a m h = absurd w
     calls_held i u (s ∷ ss) (with_instance t k is) w a m h =
@@ -142,7 +141,7 @@ plain_are_well_typed p c n j h =
     let i : Instance = instance_of p n in
     let u : IsUnfolded p i = each_unfolded p c n j in
     let here : Contains (components p) (component_of i) = subst (Contains (components p)) (sym (component_within _ p n)) j in
-    let tree : TreeFits no_modes i = tree_fits p c i u here h in
+    let tree : TreeFits IsKnown i = tree_fits p c i u here h in
     let held : HeldTree i = held_tree p c i u here h in
     let callee : IsCallee i = is_callee p c i u here in (
       record {

@@ -21,7 +21,7 @@ no_imports which (assume l ∷ cs) a = no_imports which cs a.1
 no_imports which (guarantee l ∷ cs) a = no_imports which cs a.1
 no_imports which (ghost_variable x e ∷ cs) a = no_imports which cs a.1
 no_imports which (constant c ∷ cs) a = no_imports which cs a.1
-no_imports which (mode m rs es ∷ cs) a = absurd a.0
+no_imports which (mode m rs es ∷ cs) a = no_imports which cs a.1
 no_imports which («import» k f as_ xs ∷ cs) a = absurd a.0
 
 pub no_import_sites : (cs : List ContractStatement) → AllByRecursion IsPlain cs → flat_map import_site cs ≡ []
@@ -30,7 +30,7 @@ no_import_sites (assume l ∷ cs) a = no_import_sites cs a.1
 no_import_sites (guarantee l ∷ cs) a = no_import_sites cs a.1
 no_import_sites (ghost_variable x e ∷ cs) a = no_import_sites cs a.1
 no_import_sites (constant c ∷ cs) a = no_import_sites cs a.1
-no_import_sites (mode m rs es ∷ cs) a = absurd a.0
+no_import_sites (mode m rs es ∷ cs) a = no_import_sites cs a.1
 no_import_sites («import» k f as_ xs ∷ cs) a = absurd a.0
 
 site_is : (s : Standing) (e : Expression) → map (λ (c : Site). c.number) (site_in s e) ≡ call_number e

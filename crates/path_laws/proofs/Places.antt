@@ -6,14 +6,14 @@ use Rattle.std.specs.List.{AllByRecursion}
 use Rattle.std.proofs.lemmas.Bool.{false≢true}
 use Rattle.std.proofs.lemmas.Option.{none-some}
 use Rattle.lus_tree.specs.declared.place.Sort.TheVariants.{Bool as Flags}
-use Rattle.lus_tree.specs.Tree.{Name, text_of, Expression, Expressions, truth, number, name, negation, minus, pre, arrow, binary, choice, sampled, merged, call, condact, mode_name, no_more, more, Constant, Variable, Statement, equation, assertion, property, main_mark, ContractStatement, assume, guarantee, ghost_variable, constant, mode, «import», Component, Program}
+use Rattle.lus_tree.specs.Tree.{Name, text_of, Labelled, Expression, Expressions, truth, number, name, negation, minus, pre, arrow, binary, choice, sampled, merged, call, condact, mode_name, no_more, more, Constant, Variable, Statement, equation, assertion, property, main_mark, ContractStatement, assume, guarantee, ghost_variable, constant, mode, «import», Component, Program}
 use Rattle.lus_meaning.specs.Value.{has_sort}
 use Rattle.lus_meaning.specs.Scene.{Clock, base, sampled_by, Manner, plain, while_true, as_import, Site, Instance, Instances, instance, no_instances, with_instance, component_of, constants_of, calls_of, instance_at, call_instance, clock_from, clock_of, clock_of_names, contract_statements, ghosts, variables}
 use Rattle.lus_meaning.specs.Program.{listed, site_in, import_site, all_sites, constant_value, instance_of}
 use Rattle.lus_meaning.specs.Run.{ghost_equations, body_equations, sort_of}
 use Rattle.lus_meaning.specs.Depends.{named_in}
 use Rattle.lus_meaning.specs.WellMade.{AreDistinct}
-use Rattle.lus_meaning.specs.Occurrences.{Standing, within, before, moved, Occurrence, occurrences, Text, contract_statement_texts, statement_texts, constant_texts, texts, all_occurrences, gathered, Memory, Start, memory_in, start_in, memories, starts}
+use Rattle.lus_meaning.specs.Occurrences.{Standing, on_base, within, before, moved, Occurrence, occurrences, Text, contract_statement_texts, statement_texts, constant_texts, texts, all_occurrences, gathered, Memory, Start, memory_in, start_in, memories, starts}
 use Rattle.lus_meaning.specs.ClockFaults.{components, name_clock}
 use Rattle.lus_meaning.specs.Refusals.{IsChecked}
 use Rattle.lus_meaning.proofs.EachPart.{Each, EachAmong, each_part}
@@ -38,13 +38,12 @@ use Rattle.rule_laws.proofs.Covered.{all_contained}
 use Rattle.rule_laws.proofs.Parts.{Whole, nested, all_parts}
 use Rattle.run_laws.proofs.Texts.{declaration, is_callee}
 use Rattle.sys_meaning.specs.Slot.{memory_of, start_of}
-use Rattle.sys_meaning.specs.WellTyped.{ClockFits, IsMemory, IsStart, IsCall, IsHeldCall, MannerFits, Stands}
-use Rattle.sys_meaning.proofs.Whole.{no_modes}
+use Rattle.sys_meaning.specs.WellTyped.{IsKnown, ClockFits, IsMemory, IsStart, IsCall, IsHeldCall, MannerFits, Stands}
 use Rattle.path_laws.specs.Laws.{IsPlain}
 use Rattle.path_laws.proofs.Chains.{is_declared_name, base_fits, flag_fits, name_fits, Ranked, ranked_of}
 use Rattle.path_laws.proofs.Chains as chains
 use Rattle.path_laws.proofs.Numbers.{no_import_sites}
-use Rattle.path_laws.proofs.Standing.{no_key, Known, OutputsKnown, stands}
+use Rattle.path_laws.proofs.Standing.{Known, OutputsKnown, stands}
 
 -- ---- names of parts
 
@@ -74,22 +73,22 @@ HeldMany (as_import xs) ds vs = Unit {0}
 
 pub record SiteMade (i : Instance) (s : Site) : Type 0 where
   pub fits : fitting.CallFits i s
-  pub call : IsCall i no_key s.number
-  pub clock : ClockFits i no_key s.clock
-  pub arguments : AllByRecursion (Stands i no_key s.clock) s.arguments
-  pub manner : (k : Instance) → MannerFits no_modes i s.clock s.manner k
-  pub held : (a : Expression) → s.manner ≡ while_true a → (ds : Expressions) × IsHeldCall i no_key s.number s.clock a ds
+  pub call : IsCall i (IsKnown i) s.number
+  pub clock : ClockFits i (IsKnown i) s.clock
+  pub arguments : AllByRecursion (Stands i (IsKnown i) s.clock) s.arguments
+  pub manner : (k : Instance) → MannerFits IsKnown i s.clock s.manner k
+  pub held : (a : Expression) → s.manner ≡ while_true a → (ds : Expressions) × IsHeldCall i (IsKnown i) s.number s.clock a ds
   pub no_import : (xs : List Name) → s.manner ≡ as_import xs → ⊥
   pub many : HeldMany s.manner s.defaults (component_of (call_instance i s.number)).outputs
 
 pub record MemoryMade (i : Instance) (m : Memory) : Type 0 where
-  pub found : IsMemory i no_key m.number m.clock m.operand
-  pub operand : Stands i no_key m.clock m.operand
-  pub clock : ClockFits i no_key m.clock
+  pub found : IsMemory i (IsKnown i) m.number m.clock m.operand
+  pub operand : Stands i (IsKnown i) m.clock m.operand
+  pub clock : ClockFits i (IsKnown i) m.clock
 
 pub record StartMade (i : Instance) (a : Start) : Type 0 where
-  pub found : IsStart i no_key a.number a.clock
-  pub clock : ClockFits i no_key a.clock
+  pub found : IsStart i (IsKnown i) a.number a.clock
+  pub clock : ClockFits i (IsKnown i) a.clock
 
 many_mapped : {X Y : Type 0} (f : X → Y) (xs : List X) → length (map f xs) ≡ length xs
 many_mapped f [] = refl
@@ -131,7 +130,7 @@ module _ (p : Program) (c : IsChecked p) where
   -- ---- a declaration
 
   module _ (i : Instance) (u : IsUnfolded p i) (j : Contains (components p) (component_of i))
-      (no_modes_here : AllByRecursion IsPlain (contract_statements (component_of i))) where
+      (plain_here : AllByRecursion IsPlain (contract_statements (component_of i))) where
     abbrev here : Component
     here = component_of i
 
@@ -188,24 +187,24 @@ module _ (p : Program) (c : IsChecked p) where
     ranked = subst Ranked (sym same) (ranked_of p c (component_of i) j)
 
     abbrev Good : Clock → Type 0
-    Good k = ClockFits i no_key k
+    Good k = ClockFits i (IsKnown i) k
 
-    pub good_base : ClockFits i no_key base
-    good_base = base_fits i no_key streams ranked.rank ranked.below
+    pub good_base : ClockFits i (IsKnown i) base
+    good_base = base_fits i (IsKnown i) streams ranked.rank ranked.below
 
     good_flag : (b : Bool) (x : Name) → IsStreamOn i (clock_of (component_of i) x) Flags x → Good (sampled_by b x)
-    good_flag b x f = flag_fits i no_key streams ranked.rank ranked.below b x f
+    good_flag b x f = flag_fits i (IsKnown i) streams ranked.rank ranked.below b x f
 
     pub good_name : (x : Name) → named_in x (map (λ v. v.name.text) (variables (component_of i))) ≡ true →
-        ClockFits i no_key (clock_of (component_of i) x)
-    good_name x e = name_fits i no_key streams ranked.rank ranked.below x e
+        ClockFits i (IsKnown i) (clock_of (component_of i) x)
+    good_name x e = name_fits i (IsKnown i) streams ranked.rank ranked.below x e
 
-    pub good_stream : (v : Variable) → StreamFits i v → ClockFits i no_key (clock_from v.clock)
-    good_stream v s = chains.stream_fits i no_key streams ranked.rank ranked.below v s
+    pub good_stream : (v : Variable) → StreamFits i v → ClockFits i (IsKnown i) (clock_from v.clock)
+    good_stream v s = chains.stream_fits i (IsKnown i) streams ranked.rank ranked.below v s
 
     pub good_names : (xs : List Name) (P : Name → Type 0) →
         ((x : Name) → P x → name_clock (component_of i) x ≡ Some (clock_of_names (component_of i) xs)) →
-        AllByRecursion P xs → ClockFits i no_key (clock_of_names (component_of i) xs)
+        AllByRecursion P xs → ClockFits i (IsKnown i) (clock_of_names (component_of i) xs)
     good_names [] P f a = good_base
     good_names (x ∷ xs) P f a = good_name x (is_declared_name (component_of i) x (clock_of (component_of i) x) (f x a.0))
 
@@ -213,7 +212,7 @@ module _ (p : Program) (c : IsChecked p) where
     Clocked o = Good o.standing.clock
 
     mutual
-      clocked : (t : Standing) (e : Expression) → Each (Known i) (component_of i) t e → ClockFits i no_key t.clock → Each Clocked (component_of i) t e
+      clocked : (t : Standing) (e : Expression) → Each (Known i) (component_of i) t e → ClockFits i (IsKnown i) t.clock → Each Clocked (component_of i) t e
       clocked t (truth q b) a g = g
       clocked t (number q b) a g = g
       clocked t (name q x) a g = g
@@ -240,7 +239,7 @@ module _ (p : Program) (c : IsChecked p) where
           (g, clocked (within t) b a.1 g, clocked_among (within t) as_ a.2 g, clocked_among (within t) ds a.3 g)
       clocked t (mode_name q d m) a g = g
 
-      clocked_among : (t : Standing) (as_ : Expressions) → EachAmong (Known i) (component_of i) t as_ → ClockFits i no_key t.clock →
+      clocked_among : (t : Standing) (as_ : Expressions) → EachAmong (Known i) (component_of i) t as_ → ClockFits i (IsKnown i) t.clock →
           EachAmong Clocked (component_of i) t as_
       clocked_among t no_more a g = tt
       clocked_among t (more e as_) a g = (clocked t e a.0 g, clocked_among t as_ a.1 g)
@@ -248,13 +247,19 @@ module _ (p : Program) (c : IsChecked p) where
     abbrev GoodText : Text → Type 0
     GoodText x = Good x.0.clock
 
+    labels_clocks : (ls : List Labelled) → AllByRecursion GoodText (on_base ls)
+    labels_clocks [] = tt
+    labels_clocks (l ∷ ls) = (good_base, labels_clocks ls)
+
     contract_clocks : (xs : List ContractStatement) → AllByRecursion IsPlain xs → AllByRecursion GoodText (flat_map contract_statement_texts xs)
     contract_clocks [] a = tt
     contract_clocks (assume l ∷ xs) a = (good_base, contract_clocks xs a.1)
     contract_clocks (guarantee l ∷ xs) a = (good_base, contract_clocks xs a.1)
     contract_clocks (ghost_variable x e ∷ xs) a = (good_base, contract_clocks xs a.1)
     contract_clocks (constant k ∷ xs) a = (good_base, contract_clocks xs a.1)
-    contract_clocks (mode m rs es ∷ xs) a = absurd a.0
+    contract_clocks (mode m rs es ∷ xs) a =
+        both_parts GoodText (on_base rs ++ on_base es) (flat_map contract_statement_texts xs)
+        (both_parts GoodText (on_base rs) (on_base es) (labels_clocks rs) (labels_clocks es)) (contract_clocks xs a.1)
     contract_clocks («import» k f as_ ys ∷ xs) a = absurd a.0
 
     constant_clocks : (ks : List Constant) → AllByRecursion GoodText (constant_texts ks)
@@ -276,7 +281,7 @@ module _ (p : Program) (c : IsChecked p) where
     text_clocks =
         both_parts GoodText (flat_map contract_statement_texts (contract_statements here))
         (constant_texts here.constants ++ flat_map (statement_texts here) here.body)
-        (contract_clocks (contract_statements here) no_modes_here)
+        (contract_clocks (contract_statements here) plain_here)
         (both_parts GoodText (constant_texts here.constants) (flat_map (statement_texts here) here.body) (constant_clocks here.constants)
         (body_clocks here.body (right_part (declarations.EquationFits i) (ghost_equations (contract_statements here)) (body_equations here.body)
         (declaration p c i u j).equations)))
@@ -295,8 +300,8 @@ module _ (p : Program) (c : IsChecked p) where
 
     -- ---- memories and starts
 
-    pub stand : (t : Standing) (e : Expression) → Each (Known i) (component_of i) t e → Stands i no_key t.clock e
-    stand t e a = stands i no_modes_here callees t e a
+    pub stand : (t : Standing) (e : Expression) → Each (Known i) (component_of i) t e → Stands i (IsKnown i) t.clock e
+    stand t e a = stands i callees t e a
 
     memory_made : (t : Standing) (e : Expression) → Each (Known i) (component_of i) t e → Good t.clock → AllByRecursion (MemoryMade i) (memory_in t e)
     memory_made t (pre q k e) a g = (record { found = a.0.memory.0; operand = stand (before t) e a.1; clock = g }, tt)
@@ -342,7 +347,7 @@ module _ (p : Program) (c : IsChecked p) where
 
     -- ---- calls
 
-    among_stand : (t : Standing) (as_ : Expressions) → EachAmong (Known i) (component_of i) t as_ → AllByRecursion (Stands i no_key t.clock) (listed as_)
+    among_stand : (t : Standing) (as_ : Expressions) → EachAmong (Known i) (component_of i) t as_ → AllByRecursion (Stands i (IsKnown i) t.clock) (listed as_)
     among_stand t no_more a = tt
     among_stand t (more e as_) a = (stand t e a.0, among_stand t as_ a.1)
 
@@ -361,14 +366,14 @@ module _ (p : Program) (c : IsChecked p) where
       tt,
     )
     call_made t (condact q k b f as_ ds) a g =
-        let s : Stands i no_key t.clock (condact q k b f as_ ds) = stand t (condact q k b f as_ ds) a in (
+        let s : Stands i (IsKnown i) t.clock (condact q k b f as_ ds) = stand t (condact q k b f as_ ds) a in (
           record {
             fits = a.0.fits.0;
             call = s.0.call;
             clock = g;
             arguments = among_stand (within t) as_ a.2;
             manner = λ o. (s.2, s.1);
-            held = λ d e. (ds, subst (λ x. IsHeldCall i no_key k t.clock x ds) (ap (condition_or b) e) s.0);
+            held = λ d e. (ds, subst (λ x. IsHeldCall i (IsKnown i) k t.clock x ds) (ap (condition_or b) e) s.0);
             no_import = λ xs e. false≢true (sym (ap is_held e));
             many = sym (many_mapped (sort_of i) (listed ds)) ∙ ap length a.0.fits.2
                 ∙ many_mapped (λ (v : Variable). v.sort) (component_of (call_instance i k)).outputs;
@@ -395,4 +400,4 @@ module _ (p : Program) (c : IsChecked p) where
         (all_flat (SiteMade i) (λ o. site_in o.standing o.expression) (all_occurrences here)
         (all_from_both (Whole (Known i) here) Clocked (λ o. AllByRecursion (SiteMade i) (site_in o.standing o.expression))
         (λ o a g. call_made o.standing o.expression a g) (all_occurrences here) all_whole all_clocked))
-        (subst (AllByRecursion (SiteMade i)) (sym (no_import_sites (contract_statements here) no_modes_here)) tt))
+        (subst (AllByRecursion (SiteMade i)) (sym (no_import_sites (contract_statements here) plain_here)) tt))

@@ -22,15 +22,13 @@ use Rattle.rule_laws.proofs.Truths.{same_some}
 use Rattle.sys_meaning.specs.Slot.{Spot, beat, named, memory, starting, so_far, held, Place, spot_of, place_of, same_place}
 use Rattle.sys_meaning.specs.Defaults.{site_of}
 use Rattle.sys_meaning.specs.Defaults as defaults
-use Rattle.sys_meaning.specs.WellTyped.{count_of, slot_sort, HasSpot, HasPlace, OwnFits, CallFits, TreeFits, CallsFit, MemoryFits, StartFits, StreamFits, IsHeldCall, OutputFits}
+use Rattle.sys_meaning.specs.WellTyped.{IsKnown, count_of, slot_sort, HasSpot, HasPlace, OwnFits, CallFits, TreeFits, CallsFit, MemoryFits, StartFits, StreamFits, IsHeldCall, OutputFits}
 use Rattle.sys_meaning.proofs.Cells.{same_place_self, Apart, all_mapped}
 use Rattle.sys_meaning.proofs.CheckedFits.{listed_each}
 use Rattle.sys_meaning.proofs.Found.{found, found_number, found_in_order}
 use Rattle.sys_meaning.proofs.Owned.{found_one}
-use Rattle.sys_meaning.proofs.Whole.{no_modes}
 use Rattle.path_laws.proofs.OnePlace.{behind, tree_slots, tree_calls, slots_are, own_all, slots_apart}
 use Rattle.path_laws.proofs.Places.{HeldMany}
-use Rattle.path_laws.proofs.Standing.{no_key}
 
 -- ---- a slot at a place
 
@@ -54,13 +52,13 @@ other_there [] p x z h a = absurd h
 other_there (q ∷ qs) p x z (inl e) a = subst (λ y. same_place y x ≡ false) e.0 a.0
 other_there (q ∷ qs) p x z (inr h) a = other_there qs p x z h a.1
 
-slot_found : (qs : List Slot) (p : Place) (z : Sort) → Apart qs → HasSlot qs p z → slot_sort no_modes qs p ≡ Some z
+slot_found : (qs : List Slot) (p : Place) (z : Sort) → Apart qs → HasSlot qs p z → slot_sort IsKnown qs p ≡ Some z
 slot_found [] p z a h = absurd h
 slot_found (q ∷ qs) p z a (inl e) =
-    ap (λ b. cond b (Some q.sort) (slot_sort no_modes qs p))
+    ap (λ b. cond b (Some q.sort) (slot_sort IsKnown qs p))
     (subst (λ y. same_place y (place_of q) ≡ true) e.0 (same_place_self (place_of q))) ∙ ap Some e.1
 slot_found (q ∷ qs) p z a (inr h) =
-    ap (λ b. cond b (Some q.sort) (slot_sort no_modes qs p)) (other_there qs p (place_of q) z h a.0) ∙ slot_found qs p z a.1 h
+    ap (λ b. cond b (Some q.sort) (slot_sort IsKnown qs p)) (other_there qs p (place_of q) z h a.0) ∙ slot_found qs p z a.1 h
 
 has_behind : (k : ℕ) (qs : List Slot) (ks : List ℕ) (s : Spot) (z : Sort) → HasSlot qs (ks, s) z → HasSlot (map (behind k) qs) (k ∷ ks, s) z
 has_behind k [] ks s z h = absurd h
@@ -130,7 +128,7 @@ module _ (i : Instance) where
   contract_slot (while_true a) w (Some cs) e = inl (refl, refl)
   contract_slot (as_import xs) w (Some cs) e = absurd w
 
-  module _ (m : Manner) (w : NotImport m) (own : OwnFits i no_key) where
+  module _ (m : Manner) (w : NotImport m) (own : OwnFits i (IsKnown i)) where
     abbrev n : Component
     n = component_of i
 
@@ -152,14 +150,14 @@ module _ (i : Instance) where
     pub beat_slot : (z : Sort) → z ≡ Flags → OwnSlot beat z
     beat_slot z e = inl (refl, sym e)
 
-    pub own_named : (x : Name) (z : Sort) → HasSpot i no_key (named x) z → OwnSlot (named x) z
+    pub own_named : (x : Name) (z : Sort) → HasSpot i (IsKnown i) (named x) z → OwnSlot (named x) z
     own_named x z h = subst (OwnSlot (named x)) h.2 (inr (left_cells ncells (mcells ++ (scells ++ ccells)) ([], named x) _
         (named_slot x _ (variables (component_of i)) h.0)))
 
     memory_bounds : (k : ℕ) (x : Memory) → found (λ (y : Memory). y.number) k (memories (component_of i)) ≡ Some x →
         (1 ≤ k) × (k < 1 + length (memories (component_of i)))
     memory_bounds k x e =
-        let f : MemoryFits i no_key x = found_one (MemoryFits i no_key) (λ y. y.number == k) (memories (component_of i)) x own.memories e in
+        let f : MemoryFits i (IsKnown i) x = found_one (MemoryFits i (IsKnown i)) (λ y. y.number == k) (memories (component_of i)) x own.memories e in
         let s : x.number ≡ k = found_number (λ (y : Memory). y.number) k (memories (component_of i)) x e in
         let c : x.number ≡ suc (pred x.number) = f.counted in
         let l : pred x.number < length (memories (component_of i)) = f.listed in
@@ -168,13 +166,13 @@ module _ (i : Instance) where
     start_bounds : (k : ℕ) (x : Start) → found (λ (y : Start). y.number) k (starts (component_of i)) ≡ Some x →
         (1 ≤ k) × (k < 1 + length (starts (component_of i)))
     start_bounds k x e =
-        let f : StartFits i no_key x = found_one (StartFits i no_key) (λ y. y.number == k) (starts (component_of i)) x own.starts e in
+        let f : StartFits i (IsKnown i) x = found_one (StartFits i (IsKnown i)) (λ y. y.number == k) (starts (component_of i)) x own.starts e in
         let s : x.number ≡ k = found_number (λ (y : Start). y.number) k (starts (component_of i)) x e in
         let c : x.number ≡ suc (pred x.number) = f.counted in
         let l : pred x.number < length (starts (component_of i)) = f.listed in
         (omega (arith, s, c), omega (arith, s, c, l))
 
-    pub own_memory : (k : ℕ) (z : Sort) → HasSpot i no_key (memory k) z → OwnSlot (memory k) z
+    pub own_memory : (k : ℕ) (z : Sort) → HasSpot i (IsKnown i) (memory k) z → OwnSlot (memory k) z
     own_memory k z h =
         let x : Memory = record { number = k; clock = h.0; operand = h.1 } in
         let b : (1 ≤ k) × (k < 1 + length (memories (component_of i))) = memory_bounds k x h.2 in
@@ -183,7 +181,7 @@ module _ (i : Instance) where
         (memory_slot k x (in_order (λ p. p.number) (memories (component_of i)))
         (found_in_order (λ (y : Memory). y.number) (memories (component_of i)) k x h.2 b.0 b.1)))))
 
-    pub own_start : (k : ℕ) (z : Sort) → HasSpot i no_key (starting k) z → OwnSlot (starting k) z
+    pub own_start : (k : ℕ) (z : Sort) → HasSpot i (IsKnown i) (starting k) z → OwnSlot (starting k) z
     own_start k z h =
         let x : Start = record { number = k; clock = h.0 } in
         let b : (1 ≤ k) × (k < 1 + length (starts (component_of i))) = start_bounds k x h.1 in
@@ -192,7 +190,7 @@ module _ (i : Instance) where
         (start_slot k x (in_order (λ p. p.number) (starts (component_of i)))
         (found_in_order (λ (y : Start). y.number) (starts (component_of i)) k x h.1 b.0 b.1))))))
 
-    pub own_sofar : (z : Sort) → HasSpot i no_key so_far z → OwnSlot so_far z
+    pub own_sofar : (z : Sort) → HasSpot i (IsKnown i) so_far z → OwnSlot so_far z
     own_sofar z h = subst (OwnSlot so_far) (sym h.0) (inr (right_cells ncells (mcells ++ (scells ++ ccells)) ([], so_far) Flags
         (right_cells mcells (scells ++ ccells) ([], so_far) Flags (right_cells scells ccells ([], so_far) Flags
         (contract_slot m w (component_of i).contract h.1)))))
@@ -227,10 +225,10 @@ abbrev mutual
 record CallThere (i : Instance) (c : Site) (k : Instance) : Type 0 where
   many : HeldMany c.manner c.defaults (component_of k).outputs
   held_below : HeldTree k
-  tree : TreeFits no_modes k
+  tree : TreeFits IsKnown k
   no_import : (xs : List Name) → c.manner ≡ as_import xs → ⊥
 
-call_there : (i : Instance) (is : Instances) (q : ℕ) → CallsFit no_modes i is q → CallsHeld is → (l : ℕ) → l < count_of is →
+call_there : (i : Instance) (is : Instances) (q : ℕ) → CallsFit IsKnown i is q → CallsHeld is → (l : ℕ) → l < count_of is →
     CallThere i (defaults.site_at is l) (instance_at is l)
 call_there i no_instances q t h l b = absurd (omega (arith, b))
 call_there i (with_instance c k is) q t h zero b = record { many = h.0; held_below = h.1; tree = t.1; no_import = t.0.no_import }
@@ -275,7 +273,7 @@ held_place i c k S x plain a e l s h = absurd (false≢true (ap is_held e))
 held_place i c k S x (as_import xs) a e l s h = absurd (false≢true (ap is_held e))
 
 -- the place of what is held of a call
-held_there : (i : Instance) → TreeFits no_modes i → HeldTree i → (k : ℕ) (x : Name) (z : Sort) → HasSpot i no_key (held k x) z →
+held_there : (i : Instance) → TreeFits IsKnown i → HeldTree i → (k : ℕ) (x : Name) (z : Sort) → HasSpot i (IsKnown i) (held k x) z →
     HasSlot (tree_calls i (calls_of i)) ([], held k x) z
 held_there (instance d cs is) t g zero x z h = let l : 0 < 0 = h.3.call.counted in absurd (omega (arith, l))
 held_there (instance d cs is) t g (suc k) x z h =
@@ -287,10 +285,10 @@ held_there (instance d cs is) t g (suc k) x z h =
     (subst (λ l. HasSlot (tree_calls i is) ([], held l x) (S x)) h.3.call.number
     (held_in i is k ([], held c.number x) (S x) h.3.call.listed
     (held_place i c (instance_at is k) S x c.manner h.1 h.3.manner there.many
-    (all_from (OutputFits i no_key (suc k)) (λ v. S v.name.text ≡ v.sort) (λ v o. o.1) (component_of (instance_at is k)).outputs h.3.call.named)
+    (all_from (OutputFits i (IsKnown i) (suc k)) (λ v. S v.name.text ≡ v.sort) (λ v o. o.1) (component_of (instance_at is k)).outputs h.3.call.named)
     h.4)))
 
-own_of : (i : Instance) → TreeFits no_modes i → OwnFits i no_key
+own_of : (i : Instance) → TreeFits IsKnown i → OwnFits i (IsKnown i)
 own_of (instance d cs is) t = t.0
 
 own_in : (m : Manner) (i : Instance) (p : Place) (z : Sort) → HasSlot (map (slot i []) (own_cells m (component_of i))) p z → HasSlot (tree_slots m i) p z
@@ -301,8 +299,8 @@ call_in : (m : Manner) (i : Instance) (p : Place) (z : Sort) → HasSlot (tree_c
 call_in m (instance d cs is) p z h =
     has_right (map (slot (instance d cs is) []) (own_cells m d)) (tree_calls (instance d cs is) is) p z h
 
-place_slot : (ks : List ℕ) (m : Manner) → NotImport m → (i : Instance) → TreeFits no_modes i → HeldTree i → (s : Spot) (z : Sort) →
-    HasPlace no_modes ks i s z → HasSlot (tree_slots m i) (ks, s) z
+place_slot : (ks : List ℕ) (m : Manner) → NotImport m → (i : Instance) → TreeFits IsKnown i → HeldTree i → (s : Spot) (z : Sort) →
+    HasPlace IsKnown ks i s z → HasSlot (tree_slots m i) (ks, s) z
 place_slot [] m w i t g beat z h = own_in m i ([], beat) z (beat_slot i m w (own_of i t) z h)
 place_slot [] m w i t g (named x) z h = own_in m i ([], named x) z (own_named i m w (own_of i t) x z h)
 place_slot [] m w i t g (memory k) z h = own_in m i ([], memory k) z (own_memory i m w (own_of i t) k z h)
@@ -320,8 +318,8 @@ place_slot (suc k ∷ ks) m w (instance d cs is) t g s z h =
     (has_behind c.number (tree_slots c.manner (instance_at is k)) ks s z
     (place_slot ks c.manner (no_import_is c.manner there.no_import) (instance_at is k) there.tree there.held_below s z h.1))))
 
-pub places_found : (i : Instance) → TreeFits no_modes i → HeldTree i → (ks : List ℕ) (s : Spot) (z : Sort) → HasPlace no_modes ks i s z →
-    slot_sort no_modes (slots i) (ks, s) ≡ Some z
+pub places_found : (i : Instance) → TreeFits IsKnown i → HeldTree i → (ks : List ℕ) (s : Spot) (z : Sort) → HasPlace IsKnown ks i s z →
+    slot_sort IsKnown (slots i) (ks, s) ≡ Some z
 places_found i t g ks s z h =
     slot_found (slots i) (ks, s) z (slots_apart i t)
     (subst (λ l. HasSlot l (ks, s) z) (sym (slots_are plain i)) (place_slot ks plain tt i t g s z h))
@@ -329,7 +327,7 @@ places_found i t g ks s z h =
 -- ---- each slot has a place
 
 abbrev Placed : Instance → Slot → Type 0
-Placed i q = HasPlace no_modes q.path i (spot_of q.cell) q.sort
+Placed i q = HasPlace IsKnown q.path i (spot_of q.cell) q.sort
 
 contract_placed : (i : Instance) (m : Manner) (o : Option (List ContractStatement)) → (component_of i).contract ≡ o →
     AllByRecursion (Placed i) (map (slot i []) (contract_cells m o))
@@ -340,40 +338,40 @@ contract_placed i plain (Some cs) e = ((refl, ap is_some e), tt)
 contract_placed i (while_true a) (Some cs) e = ((refl, ap is_some e), tt)
 contract_placed i (as_import xs) (Some cs) e = tt
 
-own_placed : (m : Manner) (i : Instance) → OwnFits i no_key → AllByRecursion (Placed i) (map (slot i []) (own_cells m (component_of i)))
+own_placed : (m : Manner) (i : Instance) → OwnFits i (IsKnown i) → AllByRecursion (Placed i) (map (slot i []) (own_cells m (component_of i)))
 own_placed m i own =
     own_all i m (component_of i) (Placed i) refl
-    (all_from (StreamFits i no_key) (λ v. Placed i (slot i [] (name_cell v))) (λ v s. (s.name.declared, s.name.stream, s.sort))
+    (all_from (StreamFits i (IsKnown i)) (λ v. Placed i (slot i [] (name_cell v))) (λ v s. (s.name.declared, s.name.stream, s.sort))
     (variables (component_of i)) own.streams)
     (in_order_all (λ x. x.number) (λ x. Placed i (slot i [] (memory_cell x))) (memories (component_of i))
-    (all_from (MemoryFits i no_key) (λ x. Placed i (slot i [] (memory_cell x))) (λ x f. (x.clock, x.operand, f.found, refl))
+    (all_from (MemoryFits i (IsKnown i)) (λ x. Placed i (slot i [] (memory_cell x))) (λ x f. (x.clock, x.operand, f.found, refl))
     (memories (component_of i)) own.memories))
     (in_order_all (λ x. x.number) (λ x. Placed i (slot i [] (start_cell x))) (starts (component_of i))
-    (all_from (StartFits i no_key) (λ x. Placed i (slot i [] (start_cell x))) (λ x f. (x.clock, f.found, refl))
+    (all_from (StartFits i (IsKnown i)) (λ x. Placed i (slot i [] (start_cell x))) (λ x f. (x.clock, f.found, refl))
     (starts (component_of i)) own.starts))
     (contract_placed i m (component_of i).contract refl)
 
 held_placed : (i : Instance) (c : Site) (vs : List Variable) (ds : List Expression) →
-    AllByRecursion (λ v. HasSpot i no_key (held c.number v.name.text) v.sort) vs → AllByRecursion (Placed i) (map (slot i []) (held_each c vs ds))
+    AllByRecursion (λ v. HasSpot i (IsKnown i) (held c.number v.name.text) v.sort) vs → AllByRecursion (Placed i) (map (slot i []) (held_each c vs ds))
 held_placed i c [] ds a = tt
 held_placed i c (v ∷ vs) [] a = tt
 held_placed i c (v ∷ vs) (d ∷ ds) a = (a.0, held_placed i c vs ds a.1)
 
-held_spots : (i : Instance) (c : Site) (k : Instance) (q : ℕ) → CallFits no_modes i c k q → instance_at (calls_of i) q ≡ k → (m : Manner) →
+held_spots : (i : Instance) (c : Site) (k : Instance) (q : ℕ) → CallFits IsKnown i c k q → instance_at (calls_of i) q ≡ k → (m : Manner) →
     c.manner ≡ m → AllByRecursion (Placed i) (map (slot i []) (held_cells c (component_of k) m))
 held_spots i c k q f same plain e = tt
 held_spots i c k q f same (as_import xs) e = tt
 held_spots i c k q f same (while_true a) e =
-    let h : (ds : Expressions) × IsHeldCall i no_key (suc q) c.clock a ds = f.held a e in
+    let h : (ds : Expressions) × IsHeldCall i (IsKnown i) (suc q) c.clock a ds = f.held a e in
     held_placed i c (component_of k).outputs c.defaults
-    (subst (λ o. AllByRecursion (λ v. HasSpot i no_key (held c.number v.name.text) v.sort) (component_of o).outputs) same
-    (all_from_both (OutputFits i no_key (suc q)) (λ v. named_in v.name.text (outputs_of (instance_at (calls_of i) q)) ≡ true)
-    (λ v. HasSpot i no_key (held c.number v.name.text) v.sort)
-    (λ v o n. subst (λ l. HasSpot i no_key (held l v.name.text) v.sort) (sym f.number) (c.clock, a, h.0, h.1, n, o.1))
+    (subst (λ o. AllByRecursion (λ v. HasSpot i (IsKnown i) (held c.number v.name.text) v.sort) (component_of o).outputs) same
+    (all_from_both (OutputFits i (IsKnown i) (suc q)) (λ v. named_in v.name.text (outputs_of (instance_at (calls_of i) q)) ≡ true)
+    (λ v. HasSpot i (IsKnown i) (held c.number v.name.text) v.sort)
+    (λ v o n. subst (λ l. HasSpot i (IsKnown i) (held l v.name.text) v.sort) (sym f.number) (c.clock, a, h.0, h.1, n, o.1))
     (component_of (instance_at (calls_of i) q)).outputs f.call.named (listed_each (component_of (instance_at (calls_of i) q)).outputs)))
 
 mutual
-  tree_placed : (m : Manner) (i : Instance) → TreeFits no_modes i → AllByRecursion (Placed i) (tree_slots m i)
+  tree_placed : (m : Manner) (i : Instance) → TreeFits IsKnown i → AllByRecursion (Placed i) (tree_slots m i)
   tree_placed m (instance d cs is) t =
       let i : Instance = instance d cs is in
       both_parts (Placed i) (map (slot i []) (own_cells m d)) (tree_calls i is) (own_placed m i t.0)
@@ -382,7 +380,7 @@ mutual
       plus_none : (l : ℕ) → l + 0 ≡ l
       plus_none l = omega arith
 
-  calls_placed : (i : Instance) (is : Instances) (q : ℕ) → CallsFit no_modes i is q →
+  calls_placed : (i : Instance) (is : Instances) (q : ℕ) → CallsFit IsKnown i is q →
       ((l n : ℕ) → n ≡ l + q → instance_at (calls_of i) n ≡ instance_at is l) → AllByRecursion (Placed i) (tree_calls i is)
   calls_placed i no_instances q t at = tt
   calls_placed i (with_instance c k is) q t at =
@@ -393,10 +391,10 @@ mutual
       (both_parts (Placed i) (map (behind c.number) (tree_slots c.manner k)) (tree_calls i is)
       (all_mapped (Placed i) (behind c.number) (tree_slots c.manner k)
       (all_from (Placed k) (λ s. Placed i (behind c.number s))
-      (λ s h. subst (λ l. HasPlace no_modes (l ∷ s.path) i (spot_of s.cell) s.sort) (sym t.0.number)
-      (t.0.call, subst (λ o. HasPlace no_modes s.path o (spot_of s.cell) s.sort) (sym same) h))
+      (λ s h. subst (λ l. HasPlace IsKnown (l ∷ s.path) i (spot_of s.cell) s.sort) (sym t.0.number)
+      (t.0.call, subst (λ o. HasPlace IsKnown s.path o (spot_of s.cell) s.sort) (sym same) h))
       (tree_slots c.manner k) below))
       (calls_placed i is (suc q) t.2 (λ l n e. at (suc l) n (omega (arith, e)))))
 
-pub slots_placed : (i : Instance) → TreeFits no_modes i → AllByRecursion (λ q. HasPlace no_modes q.path i (spot_of q.cell) q.sort) (slots i)
+pub slots_placed : (i : Instance) → TreeFits IsKnown i → AllByRecursion (λ q. HasPlace IsKnown q.path i (spot_of q.cell) q.sort) (slots i)
 slots_placed i t = subst (AllByRecursion (Placed i)) (sym (slots_are plain i)) (tree_placed plain i t)

@@ -9,7 +9,7 @@ use Rattle.lus_meaning.specs.Refusals.{IsChecked}
 use Rattle.lus_meaning.specs.RuleLaws.{OfEach}
 use Rattle.sys_meaning.specs.System.{number_of}
 use Rattle.sys_meaning.specs.Path.{TraceOfPath}
-use Rattle.sys_meaning.specs.WellTyped.{ClockFits, WellTyped}
+use Rattle.sys_meaning.specs.WellTyped.{IsKnown, ClockFits, WellTyped}
 use Rattle.sys_meaning.specs.Checked.{HoldsWhereReachable, HoldsWhereBounded, BreaksAtLast}
 use Rattle.sys_meaning.specs.Law.{TreeDistinct, RunsArePaths, LemmaLaw, PropertyLaw}
 
@@ -18,34 +18,34 @@ abbrev pub ClockChainsEnd : Type 0
 ClockChainsEnd =
     OfEach (λ p n. AllByRecursion (λ v. ClockFits (instance_of p n) (λ key. ⊥) (clock_from v.clock)) (variables n))
 
--- ---- without modes and imports
+-- ---- without imports
 
--- an item of a contract that is no mode and no import
+-- an item of a contract that is no import
 abbrev pub IsPlain : ContractStatement → Type 0
 IsPlain (assume l) = Unit {0}
 IsPlain (guarantee l) = Unit {0}
 IsPlain (ghost_variable x e) = Unit {0}
 IsPlain (constant c) = Unit {0}
-IsPlain (mode m rs es) = ⊥
+IsPlain (mode m rs es) = Unit {0}
 IsPlain («import» k c as_ xs) = ⊥
 
--- the contract of a declaration and those of all that it calls, at every depth, have no mode and no import
+-- the contract of a declaration and those of all that it calls, at every depth, have no import
 abbrev mutual
-  pub HasNoModes : Instance → Type 0
-  HasNoModes (instance d cs is) = AllByRecursion IsPlain (contract_statements d) × CallsHaveNoModes is
+  pub HasNoImports : Instance → Type 0
+  HasNoImports (instance d cs is) = AllByRecursion IsPlain (contract_statements d) × CallsHaveNoImports is
 
-  pub CallsHaveNoModes : Instances → Type 0
-  CallsHaveNoModes no_instances = Unit {0}
-  CallsHaveNoModes (with_instance c k is) = HasNoModes k × CallsHaveNoModes is
+  pub CallsHaveNoImports : Instances → Type 0
+  CallsHaveNoImports no_instances = Unit {0}
+  CallsHaveNoImports (with_instance c k is) = HasNoImports k × CallsHaveNoImports is
 
--- what is so of the instance of each declaration of a checked program that has no modes and no imports
+-- what is so of the instance of each declaration of a checked program that has no imports
 abbrev pub OfPlain : (Instance → Type 0) → Type 0
 OfPlain P =
-    (p : Program) → IsChecked p → (n : Component) → Contains (components p) n → HasNoModes (instance_of p n) → P (instance_of p n)
+    (p : Program) → IsChecked p → (n : Component) → Contains (components p) n → HasNoImports (instance_of p n) → P (instance_of p n)
 
 -- its text has its types, clocks and places, at every depth of calls, and the sources of its names have different names
 abbrev pub PlainAreWellTyped : Type 0
-PlainAreWellTyped = OfPlain (λ i. WellTyped (λ j key. ⊥) i × TreeDistinct i (number_of i) [])
+PlainAreWellTyped = OfPlain (λ i. WellTyped IsKnown i × TreeDistinct i (number_of i) [])
 
 -- its runs are paths, each path is that of one run, and its properties have the truth of their formulas
 abbrev pub PlainRunsArePaths : Type 0

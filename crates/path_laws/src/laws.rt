@@ -10,7 +10,7 @@ pub fn clock_chains_end()
 {}
 
 /// In a checked program each declaration has its types, clocks and places, at every depth of calls, and the sources of
-/// its names have different names, where it and what it calls have no modes and no imports in their contracts.
+/// its names have different names, where it and what it calls have no imports in their contracts.
 pub fn plain_are_well_typed()
     ensures { PlainAreWellTyped }
 {}
