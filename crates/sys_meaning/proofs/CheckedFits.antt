@@ -233,30 +233,30 @@ module _ (d : Component) (node : IsBooleanNode d) (names : HasBooleanNames d) (n
   )
 
   -- each has its variable
-  cells_placed : AllByRecursion (λ c. HasSpot i (IsKnown i) (spot_of c) (cell_sort i c)) cells
+  cells_placed : AllByRecursion (λ c. HasSpot i (IsKnown i) plain (spot_of c) (cell_sort i c)) cells
   cells_placed = (
     refl,
-    both_parts (λ c. HasSpot i (IsKnown i) (spot_of c) (cell_sort i c)) name_cells (memory_cells ++ start_cells)
-        (all_mapped (λ c. HasSpot i (IsKnown i) (spot_of c) (cell_sort i c)) name_cell (variables d)
+    both_parts (λ c. HasSpot i (IsKnown i) plain (spot_of c) (cell_sort i c)) name_cells (memory_cells ++ start_cells)
+        (all_mapped (λ c. HasSpot i (IsKnown i) plain (spot_of c) (cell_sort i c)) name_cell (variables d)
         (all_from_both IsFlag (λ v. IsDeclared d node v.name.text)
-        (λ v. HasSpot i (IsKnown i) (named v.name.text) v.sort)
+        (λ v. HasSpot i (IsKnown i) plain (named v.name.text) v.sort)
         (λ v f e. (e, refl, boolean_name_is_flag d node v.name.text ∙ sym f.sort)) (variables d)
         (boolean_flags d node) all_declared))
-        (both_parts (λ c. HasSpot i (IsKnown i) (spot_of c) (cell_sort i c)) memory_cells start_cells
-        (all_mapped (λ c. HasSpot i (IsKnown i) (spot_of c) (cell_sort i c)) memory_cell
+        (both_parts (λ c. HasSpot i (IsKnown i) plain (spot_of c) (cell_sort i c)) memory_cells start_cells
+        (all_mapped (λ c. HasSpot i (IsKnown i) plain (spot_of c) (cell_sort i c)) memory_cell
         (in_order (λ p. p.number) (memories d))
-        (in_order_all (λ p. p.number) (λ m. HasSpot i (IsKnown i) (memory m.number) (sort_of i m.operand)) (memories d)
-        (all_from (MemoryFound d node) (λ m. HasSpot i (IsKnown i) (memory m.number) (sort_of i m.operand))
+        (in_order_all (λ p. p.number) (λ m. HasSpot i (IsKnown i) plain (memory m.number) (sort_of i m.operand)) (memories d)
+        (all_from (MemoryFound d node) (λ m. HasSpot i (IsKnown i) plain (memory m.number) (sort_of i m.operand))
         (λ m e. (m.clock, m.operand, e, refl)) (memories d) (all_memories_found d node names numbered))))
-        (all_mapped (λ c. HasSpot i (IsKnown i) (spot_of c) (cell_sort i c)) start_cell
+        (all_mapped (λ c. HasSpot i (IsKnown i) plain (spot_of c) (cell_sort i c)) start_cell
         (in_order (λ p. p.number) (starts d))
-        (in_order_all (λ p. p.number) (λ a. HasSpot i (IsKnown i) (starting a.number) Flags) (starts d)
-        (all_from (StartFound d node) (λ a. HasSpot i (IsKnown i) (starting a.number) Flags)
+        (in_order_all (λ p. p.number) (λ a. HasSpot i (IsKnown i) plain (starting a.number) Flags) (starts d)
+        (all_from (StartFound d node) (λ a. HasSpot i (IsKnown i) plain (starting a.number) Flags)
         (λ a e. (a.clock, e, refl)) (starts d) (all_starts_found d node names numbered))))),
   )
 
   -- and each place has its cell
-  spot_found : (p : Spot) (z : Sort) → HasSpot i (IsKnown i) p z → sort_at IsKnown i cells p ≡ Some z
+  spot_found : (p : Spot) (z : Sort) → HasSpot i (IsKnown i) plain p z → sort_at IsKnown i cells p ≡ Some z
   spot_found beat z w = ap Some (sym w)
   spot_found (named x) z w =
       sort_first IsKnown i (named x) z name_cells (memory_cells ++ start_cells)

@@ -1,5 +1,5 @@
 -- The formulas of a contract's items are true where these are.
-use Rattle.std.proofs.Common.{◌≡◌, ℕ, pred, Bool, true, false, not, cond, ◌&&◌, ◌||◌, List, [], ◌∷◌, ◌++◌, map, flat_map, refl, ap, ◌∙◌, sym, subst, slice_index_or, Option, Some, None, option_to_list, unwrap_or}
+use Rattle.std.proofs.Common.{◌≡◌, ℕ, zero, suc, pred, ◌<◌, get_or, arith, Bool, true, false, not, cond, ◌&&◌, ◌||◌, List, [], ◌∷◌, ◌++◌, map, flat_map, refl, ap, ◌∙◌, sym, subst, slice_index_or, Option, Some, None, option_to_list, unwrap_or}
 use Rattle.std.specs.List.{AllByRecursion, list_all, list_any}
 use Rattle.std.specs.Map.{lookup}
 use Rattle.std.proofs.lemmas.Bool.{false≢true}
@@ -7,22 +7,23 @@ use Rattle.lus_tree.specs.declared.expression.Operator.TheVariants.{And, Or, Imp
 use Rattle.lus_tree.specs.declared.place.Sort.TheVariants.{Bool as Flags}
 use Rattle.lus_tree.specs.Tree.{Name, Expression, Labelled, ContractStatement, assume, guarantee, ghost_variable, constant, mode, «import»}
 use Rattle.lus_meaning.specs.Value.{Value, absent, flag, Stream, Instants, apply, is as equals}
-use Rattle.lus_meaning.specs.Frame.{Frame, empty_frame}
-use Rattle.lus_meaning.specs.Scene.{base, Instance, Scene, instance, component_of, contract_statements}
+use Rattle.lus_meaning.specs.Frame.{Frame, empty_frame, call_frame}
+use Rattle.lus_meaning.specs.Scene.{base, Instance, Instances, no_instances, with_instance, instance_at, call_instance, calls_of, Scene, instance, component_of, contract_statements}
 use Rattle.lus_meaning.specs.Meaning.{value, mode_key, mode_stream, head_stream}
-use Rattle.lus_meaning.specs.Contract.{Test, under, item, ensured, Property, ModeTerms, Terms, no_terms, mode_streams, all_true, some_true, says, mode_terms, scene_with, terms_after, terms, terms_each, scene}
+use Rattle.lus_meaning.specs.Contract.{Test, under, item, ensured, Property, ModeTerms, Terms, no_terms, mode_streams, all_true, some_true, says, mode_terms, imported, imported_mode, scene_with, terms_after, terms, terms_each, scene}
 use Rattle.lus_meaning.specs.Run.{sort_of}
 use Rattle.sys_terms.specs.View.{Formula, negation, both}
 use Rattle.sys_terms.specs.Meaning.{Values, truth_of}
 use Rattle.sys_meaning.specs.Slot.{Place, own, beat, so_far}
-use Rattle.sys_meaning.specs.Items.{Key, Known, known, ModeItem, mode_item, Items, no_items, items_after, items_each}
+use Rattle.sys_meaning.specs.Items.{Key, Known, known, ModeItem, mode_item, imported_item, Items, no_items, items_after, items_each}
 use Rattle.sys_meaning.specs.Part.{worth, all_after, all_of, some_after, some_of}
 use Rattle.sys_meaning.specs.Translate.{Stage, flag_at, term_of, formula}
 use Rattle.sys_meaning.specs.Seen.{seen, seen_mode, row_of}
-use Rattle.sys_meaning.specs.System.{Written, at_numbers, written, contract_of, assumed, stage}
-use Rattle.sys_meaning.specs.WellTyped.{Stands, IsKnown, IsAmong, FlagFits, StatementFits, StatementsFit, own_keys, OwnFits}
+use Rattle.sys_meaning.specs.System.{Written, below_call, at_numbers, written, contract_of, assumed, stage}
+use Rattle.sys_meaning.specs.WellTyped.{Stands, IsKnown, IsAmong, IsImport, FlagFits, StatementFits, StatementsFit, own_keys, count_of, OwnFits, TreeFits, CallsFit}
 use Rattle.sys_meaning.proofs.Rows.{OwnShown, modes_agree, sight_here}
 use Rattle.sys_meaning.proofs.Static.{modes_in, state_shown}
+use Rattle.lus_meaning.proofs.Lists.{both_parts}
 use Rattle.lus_meaning.proofs.Typed.{has_as}
 use Rattle.sys_meaning.proofs.Conditions.{flags_same}
 use Rattle.sys_meaning.proofs.Shown.{formula_worth, term_shown}
@@ -65,6 +66,28 @@ none_more (x ∷ xs) = ap (λ l. x ∷ l) (none_more xs)
 keys_same : (key : Key) (ms : List ModeTerms) → list_any (λ m. mode_key key m.key) ms ≡ list_any (mode_key key) (map (λ m. m.key) ms)
 keys_same key [] = refl
 keys_same key (m ∷ ms) = ap (λ z. mode_key key m.key || z) (keys_same key ms)
+
+-- ---- what an instance imports
+
+terms_at : (is : Instances) (p : ℕ) → p < count_of is → get_or (terms_each is) p no_terms ≡ terms (instance_at is p)
+terms_at no_instances p h = absurd (omega arith)
+terms_at (with_instance c k is) zero h = refl
+terms_at (with_instance c k is) (suc p) h = terms_at is p (omega arith)
+
+pub terms_called : (i : Instance) (k : ℕ) → 0 < k → pred k < count_of (calls_of i) →
+    slice_index_or (terms_each (calls_of i)) (pred k) no_terms ≡ terms (call_instance i k)
+terms_called i zero c h = absurd (omega arith)
+terms_called i (suc p) c h = terms_at (calls_of i) p h
+
+items_at : (is : Instances) (p : ℕ) → p < count_of is → get_or (items_each written is) p no_items ≡ contract_of (instance_at is p)
+items_at no_instances p h = absurd (omega arith)
+items_at (with_instance c k is) zero h = refl
+items_at (with_instance c k is) (suc p) h = items_at is p (omega arith)
+
+pub items_called : (i : Instance) (k : ℕ) → 0 < k → pred k < count_of (calls_of i) →
+    slice_index_or (items_each written (calls_of i)) (pred k) no_items ≡ contract_of (call_instance i k)
+items_called i zero c h = absurd (omega arith)
+items_called i (suc p) c h = items_at (calls_of i) p h
 
 -- ---- items and their formulas
 
@@ -379,7 +402,10 @@ module _ (at : Place → ℕ) (now next : Values) (b : Instants) (f : Frame) (t 
         let one : ModeTerms = mode_terms i ms m.text rs es in
         let r = terms_more (ks ++ ([], m.text) ∷ []) (ms ++ one ∷ []) cs w.1 in
         (one ∷ r.0, r.1 ∙ sym (grouped ms (one ∷ []) r.0))
-    terms_more ks ms («import» k c as_ xs ∷ cs) w = absurd w.0
+    terms_more ks ms («import» k c as_ xs ∷ cs) w =
+        let some : List ModeTerms = map (imported_mode k c.text) (sub k).modes in
+        let r = terms_more (ks ++ own_keys i («import» k c as_ xs)) (ms ++ some) cs w.1 in
+        (some ++ r.0, r.1 ∙ sym (grouped ms some r.0))
 
     items_more : (ks : List Key) (qs : List (ModeItem Written)) (cs : List ContractStatement) → StatementsFit i ks cs →
         (more : List (ModeItem Written)) × ((items_after written i sub' qs cs).modes ≡ qs ++ more)
@@ -392,19 +418,65 @@ module _ (at : Place → ℕ) (now next : Values) (b : Instants) (f : Frame) (t 
         let one : ModeItem Written = mode_item written i (known qs) m.text rs es in
         let r = items_more (ks ++ ([], m.text) ∷ []) (qs ++ one ∷ []) cs w.1 in
         (one ∷ r.0, r.1 ∙ sym (grouped qs (one ∷ []) r.0))
-    items_more ks qs («import» k c as_ xs ∷ cs) w = absurd w.0
+    items_more ks qs («import» k c as_ xs ∷ cs) w =
+        let some : List (ModeItem Written) = map (imported_item written k c.text) (sub' k).modes in
+        let r = items_more (ks ++ own_keys i («import» k c as_ xs)) (qs ++ some) cs w.1 in
+        (some ++ r.0, r.1 ∙ sym (grouped qs some r.0))
 
     abbrev TermsSame : Terms → Items Written → Type 0
     TermsSame = SameTerms at now next b f t
 
-    after_same : (ks : List Key) (ms : List ModeTerms) (qs : List (ModeItem Written)) (cs : List ContractStatement) → StatementsFit i ks cs →
-        ModesSame ms qs → map (λ m. m.key) ms ≡ ks → (terms i).modes ≡ (terms_after i sub ms cs).modes →
+    -- what is known of the contracts that are imported
+    abbrev Below : ℕ → Type 0
+    Below k = (sub k ≡ terms (call_instance i k)) × SameTerms (below_call k at) now next b (call_frame f k) t (sub k) (sub' k)
+
+    through_all : (k : ℕ) (ps : List Property) (qs : List Written) → AllSame (below_call k at) now next b (call_frame f k) t ps qs →
+        ListSame (map (imported k) ps) (map (written.through k) qs)
+    through_all k [] [] a = tt
+    through_all k [] (q ∷ qs) a = absurd a
+    through_all k (p ∷ ps) [] a = absurd a
+    through_all k (p ∷ ps) (q ∷ qs) a = (a.0, through_all k ps qs a.1)
+
+    through_modes : (k : ℕ) (x : Name) (ms : List ModeTerms) (qs : List (ModeItem Written)) →
+        SameModes (below_call k at) now next b (call_frame f k) t ms qs →
+        ModesSame (map (imported_mode k x) ms) (map (imported_item written k x) qs)
+    through_modes k x [] [] a = tt
+    through_modes k x [] (q ∷ qs) a = absurd a
+    through_modes k x (m ∷ ms) [] a = absurd a
+    through_modes k x (m ∷ ms) (q ∷ qs) a = (
+      record {
+        key = ap (λ (z : Key). (x ∷ z.0, z.1)) a.0.key;
+        asked = a.0.asked;
+        ensures_each = through_all k m.ensures_each q.ensures_each a.0.ensures_each;
+      },
+      through_modes k x ms qs a.1,
+    )
+
+    lists_same : (ps ps' : List Property) (qs qs' : List Written) → ListSame ps qs → ListSame ps' qs' → ListSame (ps ++ ps') (qs ++ qs')
+    lists_same [] ps' [] qs' a e = e
+    lists_same [] ps' (q ∷ qs) qs' a e = absurd a
+    lists_same (p ∷ ps) ps' [] qs' a e = absurd a
+    lists_same (p ∷ ps) ps' (q ∷ qs) qs' a e = (a.0, lists_same ps ps' qs qs' a.1 e)
+
+    modes_more : (ms ns : List ModeTerms) (qs rs : List (ModeItem Written)) → ModesSame ms qs → ModesSame ns rs → ModesSame (ms ++ ns) (qs ++ rs)
+    modes_more [] ns [] rs a e = e
+    modes_more [] ns (q ∷ qs) rs a e = absurd a
+    modes_more (m ∷ ms) ns [] rs a e = absurd a
+    modes_more (m ∷ ms) ns (q ∷ qs) rs a e = (a.0, modes_more ms ns qs rs a.1 e)
+
+    imported_keys : (k : ℕ) (x : Name) (ms : List ModeTerms) →
+        map (λ (m : ModeTerms). m.key) (map (imported_mode k x) ms) ≡ map (λ (m : ModeTerms). (x ∷ m.key.0, m.key.1)) ms
+    imported_keys k x [] = refl
+    imported_keys k x (m ∷ ms) = ap (λ l. (x ∷ m.key.0, m.key.1) ∷ l) (imported_keys k x ms)
+
+    after_same : ((k : ℕ) → IsImport i k → Below k) → (ks : List Key) (ms : List ModeTerms) (qs : List (ModeItem Written))
+        (cs : List ContractStatement) → StatementsFit i ks cs → ModesSame ms qs → map (λ m. m.key) ms ≡ ks → (terms i).modes ≡ (terms_after i sub ms cs).modes →
         (contract_of i).modes ≡ (items_after written i sub' qs cs).modes →
         TermsSame (terms_after i sub ms cs) (items_after written i sub' qs cs)
-    after_same ks ms qs [] w a k e d = record { assumes = tt; guarantees = tt; modes = a }
-    after_same ks ms qs (assume l ∷ cs) w a k e d =
+    after_same below ks ms qs [] w a k e d = record { assumes = tt; guarantees = tt; modes = a }
+    after_same below ks ms qs (assume l ∷ cs) w a k e d =
         let r : TermsSame (terms_after i sub ms cs) (items_after written i sub' qs cs) =
-        after_same (ks ++ []) ms qs cs w.1 a (k ∙ sym (none_more ks)) e d in
+        after_same below (ks ++ []) ms qs cs w.1 a (k ∙ sym (none_more ks)) e d in
         let later = terms_more (ks ++ []) ms cs w.1 in
         let later_items = items_more (ks ++ []) qs cs w.1 in
         record {
@@ -413,9 +485,9 @@ module _ (at : Place → ℕ) (now next : Values) (b : Instants) (f : Frame) (t 
           guarantees = r.guarantees;
           modes = r.modes;
         }
-    after_same ks ms qs (guarantee l ∷ cs) w a k e d =
+    after_same below ks ms qs (guarantee l ∷ cs) w a k e d =
         let r : TermsSame (terms_after i sub ms cs) (items_after written i sub' qs cs) =
-        after_same (ks ++ []) ms qs cs w.1 a (k ∙ sym (none_more ks)) e d in
+        after_same below (ks ++ []) ms qs cs w.1 a (k ∙ sym (none_more ks)) e d in
         let later = terms_more (ks ++ []) ms cs w.1 in
         let later_items = items_more (ks ++ []) qs cs w.1 in
         record {
@@ -424,38 +496,71 @@ module _ (at : Place → ℕ) (now next : Values) (b : Instants) (f : Frame) (t 
               record { same = a; keys = k; more = later.0; all = e ∙ later.1; more_items = later_items.0; all_items = d ∙ later_items.1 } l w.0, r.guarantees);
           modes = r.modes;
         }
-    after_same ks ms qs (ghost_variable x v ∷ cs) w a k e d = after_same (ks ++ []) ms qs cs w.1 a (k ∙ sym (none_more ks)) e d
-    after_same ks ms qs (constant c ∷ cs) w a k e d = after_same (ks ++ []) ms qs cs w.1 a (k ∙ sym (none_more ks)) e d
-    after_same ks ms qs (mode m rs es ∷ cs) w a k e d =
+    after_same below ks ms qs (ghost_variable x v ∷ cs) w a k e d = after_same below (ks ++ []) ms qs cs w.1 a (k ∙ sym (none_more ks)) e d
+    after_same below ks ms qs (constant c ∷ cs) w a k e d = after_same below (ks ++ []) ms qs cs w.1 a (k ∙ sym (none_more ks)) e d
+    after_same below ks ms qs (mode m rs es ∷ cs) w a k e d =
         let later = terms_more ks ms (mode m rs es ∷ cs) w in
         let later_items = items_more ks qs (mode m rs es ∷ cs) w in
         let here : First ks ms qs = record { same = a; keys = k; more = later.0; all = e ∙ later.1; more_items = later_items.0; all_items = d ∙ later_items.1 } in
         let one : ModeTerms = mode_terms i ms m.text rs es in
         let q : ModeItem Written = mode_item written i (known qs) m.text rs es in
-        after_same (ks ++ ([], m.text) ∷ []) (ms ++ one ∷ []) (qs ++ q ∷ []) cs w.1
+        after_same below (ks ++ ([], m.text) ∷ []) (ms ++ one ∷ []) (qs ++ q ∷ []) cs w.1
         (one_more at now next b f t ms qs one q a (mode_same ks ms qs here m.text rs es w.0.0 w.0.1))
         (map_both (λ (m : ModeTerms). m.key) ms (one ∷ []) ∙ ap (λ l. l ++ ([], m.text) ∷ []) k) e d
-    after_same ks ms qs («import» j c as_ xs ∷ cs) w a k e d = absurd w.0
+    after_same below ks ms qs («import» j c as_ xs ∷ cs) w a k e d =
+        let there : Below j = below j w.0 in
+        let some : List ModeTerms = map (imported_mode j c.text) (sub j).modes in
+        let items : List (ModeItem Written) = map (imported_item written j c.text) (sub' j).modes in
+        let r : TermsSame (terms_after i sub (ms ++ some) cs) (items_after written i sub' (qs ++ items) cs) =
+        after_same below (ks ++ own_keys i («import» j c as_ xs)) (ms ++ some) (qs ++ items) cs w.1
+        (modes_more ms some qs items a (through_modes j c.text (sub j).modes (sub' j).modes there.1.modes))
+        (map_both (λ (m : ModeTerms). m.key) ms some ∙ ap (λ l. l ++ map (λ (m : ModeTerms). m.key) some) k
+        ∙ ap (λ l. ks ++ l) (imported_keys j c.text (sub j).modes
+        ∙ ap (λ (r : Terms). map (λ (m : ModeTerms). (c.text ∷ m.key.0, m.key.1)) r.modes) there.0)) e d in
+        record {
+          assumes = lists_same (map (imported j) (sub j).assumes) (terms_after i sub (ms ++ some) cs).assumes
+              (map (written.through j) (sub' j).assumes) (items_after written i sub' (qs ++ items) cs).assumes
+              (through_all j (sub j).assumes (sub' j).assumes there.1.assumes) r.assumes;
+          guarantees = lists_same (map (imported j) (sub j).guarantees) (terms_after i sub (ms ++ some) cs).guarantees
+              (map (written.through j) (sub' j).guarantees) (items_after written i sub' (qs ++ items) cs).guarantees
+              (through_all j (sub j).guarantees (sub' j).guarantees there.1.guarantees) r.guarantees;
+          modes = r.modes;
+        }
 
-  pub terms_same : (i : Instance) → OwnFits i (IsKnown i) → IsShownBy i → SameTerms at now next b f t (terms i) (contract_of i)
-  terms_same (instance d cs is) fits sh =
+  -- what is so of the contracts that a contract imports
+  abbrev pub ImportsSame : Instance → Type 0
+  ImportsSame i = (k : ℕ) → IsImport i k →
+      SameTerms (below_call k at) now next b (call_frame f k) t (terms (call_instance i k)) (contract_of (call_instance i k))
+
+  pub terms_same : (i : Instance) → OwnFits i (IsKnown i) → IsShownBy i → ImportsSame i →
+      SameTerms at now next b f t (terms i) (contract_of i)
+  terms_same (instance d cs is) fits sh imports =
       after_same (instance d cs is) sh (λ k. slice_index_or (terms_each is) (pred k) no_terms)
-      (λ k. slice_index_or (items_each written is) (pred k) no_items) [] [] [] (contract_statements d) fits.contract tt refl refl refl
+      (λ k. slice_index_or (items_each written is) (pred k) no_items) below [] [] [] (contract_statements d) fits.contract tt refl refl refl
+    where
+      below : (k : ℕ) → IsImport (instance d cs is) k → (slice_index_or (terms_each is) (pred k) no_terms ≡ terms (call_instance (instance d cs is) k))
+          × SameTerms (below_call k at) now next b (call_frame f k) t (slice_index_or (terms_each is) (pred k) no_terms)
+          (slice_index_or (items_each written is) (pred k) no_items)
+      below k h =
+          let same = terms_called (instance d cs is) k h.call.counted h.call.listed in
+          let items = items_called (instance d cs is) k h.call.counted h.call.listed in
+          (same, subst (λ r. SameTerms (below_call k at) now next b (call_frame f k) t r (slice_index_or (items_each written is) (pred k) no_items)) (sym same)
+          (subst (λ q. SameTerms (below_call k at) now next b (call_frame f k) t (terms (call_instance (instance d cs is) k)) q) (sym items) (imports k h)))
 
   -- a mode is worth what its formula says
-  pub modes_agreed : (i : Instance) → OwnFits i (IsKnown i) → (sh : IsShownBy i) →
+  pub modes_agreed : (i : Instance) → OwnFits i (IsKnown i) → (sh : IsShownBy i) → ImportsSame i →
       modes_agree (scene i b f) (IsKnown i) at now next t (modes_of IsKnown i at) sh
-  modes_agreed i fits sh d n k o =
+  modes_agreed i fits sh imports d n k o =
       let key : Key = (option_to_list d, n) in
       ap (λ ns. unwrap_or (lookup (mode_key key) ns) (flag false)) (values_are at now next b f t (contract_of i).modes)
-      ∙ mode_worth at now next b f t key (terms i).modes (contract_of i).modes (terms_same i fits sh).modes (sym (keys_same key (terms i).modes) ∙ k) o
+      ∙ mode_worth at now next b f t key (terms i).modes (contract_of i).modes (terms_same i fits sh imports).modes (sym (keys_same key (terms i).modes) ∙ k) o
 
   -- the formulas of the assumptions are true where the assumptions are
-  pub assumed_all : (i : Instance) → OwnFits i (IsKnown i) → IsShownBy i → b t ≡ true →
+  pub assumed_all : (i : Instance) → OwnFits i (IsKnown i) → IsShownBy i → ImportsSame i → b t ≡ true →
       list_all (λ z. truth_of now next z) (assumed i at)
       ≡ list_all (λ p. equals true (p.test b f t)) (terms i).assumes
-  assumed_all i fits sh o =
-      same_all at now next b f t (terms i).assumes (contract_of i).assumes (terms_same i fits sh).assumes o
+  assumed_all i fits sh imports o =
+      same_all at now next b f t (terms i).assumes (contract_of i).assumes (terms_same i fits sh imports).assumes o
 
   -- the truths of what modes ask
   abbrev asked_truths : List (ModeItem Written) → List Bool
@@ -480,116 +585,145 @@ module _ (at : Place → ℕ) (now next : Values) (b : Instants) (f : Frame) (t 
 
 -- ---- off the beat
 
-module _ (b : Instants) (f : Frame) (t : ℕ) where
+module _ (b : Instants) (t : ℕ) where
   abbrev Off : ModeTerms → Type 0
-  Off m = b t ≡ false → m.requires_all b f t ≡ absent
+  Off m = (f : Frame) → b t ≡ false → m.requires_all b f t ≡ absent
 
   off_beat : (o : Bool) (v : Value) → o ≡ false → cond o v absent ≡ absent
   off_beat true v e = absurd (false≢true (sym e))
   off_beat false v e = refl
 
-  all_more : (ms : List ModeTerms) (m : ModeTerms) → AllByRecursion Off ms → Off m → AllByRecursion Off (ms ++ m ∷ [])
-  all_more [] m a o = (o, tt)
-  all_more (n ∷ ms) m a o = (a.0, all_more ms m a.1 o)
+  imported_off : (k : ℕ) (x : Name) (ms : List ModeTerms) → AllByRecursion Off ms → AllByRecursion Off (map (imported_mode k x) ms)
+  imported_off k x [] a = tt
+  imported_off k x (m ∷ ms) a = (λ f o. a.0 (call_frame f k) o, imported_off k x ms a.1)
 
-  after_off : (i : Instance) (sub : ℕ → Terms) (ks : List Key) (ms : List ModeTerms) (cs : List ContractStatement) → StatementsFit i ks cs →
+  after_off : (i : Instance) (sub : ℕ → Terms) → ((k : ℕ) → AllByRecursion Off (sub k).modes) → (ms : List ModeTerms) (cs : List ContractStatement) →
       AllByRecursion Off ms → AllByRecursion Off (terms_after i sub ms cs).modes
-  after_off i sub ks ms [] w a = a
-  after_off i sub ks ms (assume l ∷ cs) w a = after_off i sub (ks ++ []) ms cs w.1 a
-  after_off i sub ks ms (guarantee l ∷ cs) w a = after_off i sub (ks ++ []) ms cs w.1 a
-  after_off i sub ks ms (ghost_variable x e ∷ cs) w a = after_off i sub (ks ++ []) ms cs w.1 a
-  after_off i sub ks ms (constant c ∷ cs) w a = after_off i sub (ks ++ []) ms cs w.1 a
-  after_off i sub ks ms (mode m rs es ∷ cs) w a =
+  after_off i sub h ms [] a = a
+  after_off i sub h ms (assume l ∷ cs) a = after_off i sub h ms cs a
+  after_off i sub h ms (guarantee l ∷ cs) a = after_off i sub h ms cs a
+  after_off i sub h ms (ghost_variable x e ∷ cs) a = after_off i sub h ms cs a
+  after_off i sub h ms (constant c ∷ cs) a = after_off i sub h ms cs a
+  after_off i sub h ms (mode m rs es ∷ cs) a =
       let one : ModeTerms = mode_terms i ms m.text rs es in
-      after_off i sub (ks ++ ([], m.text) ∷ []) (ms ++ one ∷ []) cs w.1
-      (all_more ms one a (off_beat (b t) (all_true (map (λ r. says i ms r b f) rs) t)))
-  after_off i sub ks ms («import» k c as_ xs ∷ cs) w a = absurd w.0
+      after_off i sub h (ms ++ one ∷ []) cs
+      (both_parts Off ms (one ∷ []) a (λ f. off_beat (b t) (all_true (map (λ r. says i ms r b f) rs) t), tt))
+  after_off i sub h ms («import» k c as_ xs ∷ cs) a =
+      let some : List ModeTerms = map (imported_mode k c.text) (sub k).modes in
+      after_off i sub h (ms ++ some) cs (both_parts Off ms some a (imported_off k c.text (sub k).modes (h k)))
 
-  found_off : (key : Key) (ms : List ModeTerms) → AllByRecursion Off ms → b t ≡ false →
+  mutual
+    all_off : (i : Instance) → AllByRecursion Off (terms i).modes
+    all_off (instance d cs is) =
+        after_off (instance d cs is) (λ k. slice_index_or (terms_each is) (pred k) no_terms) (λ k. each_off is (pred k)) [] (contract_statements d) tt
+
+    each_off : (is : Instances) (p : ℕ) → AllByRecursion Off (get_or (terms_each is) p no_terms).modes
+    each_off no_instances p = tt
+    each_off (with_instance c k is) zero = all_off k
+    each_off (with_instance c k is) (suc p) = each_off is p
+
+  found_off : (f : Frame) (key : Key) (ms : List ModeTerms) → AllByRecursion Off ms → b t ≡ false →
       head_stream (option_to_list (lookup (mode_key key) (mode_streams ms b f))) t ≡ absent
-  found_off key [] a o = refl
-  found_off key (m ∷ ms) a o = go (mode_key key m.key) (found_off key ms a.1 o)
+  found_off f key [] a o = refl
+  found_off f key (m ∷ ms) a o = go (mode_key key m.key) (found_off f key ms a.1 o)
     where
       go : (c : Bool) → head_stream (option_to_list (lookup (mode_key key) (mode_streams ms b f))) t ≡ absent →
           head_stream (option_to_list (cond c (Some (m.requires_all b f)) (lookup (mode_key key) (mode_streams ms b f)))) t ≡ absent
-      go true r = a.0 o
+      go true r = a.0 f o
       go false r = r
 
   -- a mode is absent
-  pub modes_off : (i : Instance) → OwnFits i (IsKnown i) → (d : Option Name) (n : Name) → b t ≡ false →
-      mode_stream (scene i b f) d n t ≡ absent
-  modes_off (instance d cs is) fits q n o =
-      found_off (option_to_list q, n) (terms (instance d cs is)).modes
-      (after_off (instance d cs is) (λ k. slice_index_or (terms_each is) (pred k) no_terms) [] [] (contract_statements d) fits.contract tt) o
+  pub modes_off : (i : Instance) (f : Frame) (d : Option Name) (n : Name) → b t ≡ false → mode_stream (scene i b f) d n t ≡ absent
+  modes_off i f q n o = found_off f (option_to_list q, n) (terms i).modes (all_off i) o
 
 -- ---- the next state
 
 -- what a mode asks says nothing of the next state
-module _ (i : Instance) (at : Place → ℕ) (now next next' : Values) where
-  abbrev Timeless : ModeItem Written → Type 0
-  Timeless q = truth_of now next (q.asked at) ≡ truth_of now next' (q.asked at)
+module _ (now next next' : Values) where
+  abbrev Timeless : (Place → ℕ) → ModeItem Written → Type 0
+  Timeless at q = truth_of now next (q.asked at) ≡ truth_of now next' (q.asked at)
 
-  in_same : (qs : List (ModeItem Written)) → AllByRecursion Timeless qs →
-      modes_in now next (at_numbers at (known qs)) ≡ modes_in now next' (at_numbers at (known qs))
-  in_same [] a = refl
-  in_same (q ∷ qs) a =
-      ap (λ z. (q.key, flag z) ∷ modes_in now next (at_numbers at (known qs))) a.0
-      ∙ ap (λ l. (q.key, flag (truth_of now next' (q.asked at))) ∷ l) (in_same qs a.1)
+  abbrev AllTimeless : (Place → ℕ) → List (ModeItem Written) → Type 0
+  AllTimeless at qs = AllByRecursion (Timeless at) qs
 
-  abbrev staged : List (ModeItem Written) → Stage
-  staged qs = record { place = i; number = at; modes = at_numbers at (known qs) }
+  module _ (i : Instance) (at : Place → ℕ) where
+    in_same : (qs : List (ModeItem Written)) → AllTimeless at qs →
+        modes_in now next (at_numbers at (known qs)) ≡ modes_in now next' (at_numbers at (known qs))
+    in_same [] a = refl
+    in_same (q ∷ qs) a =
+        ap (λ z. (q.key, flag z) ∷ modes_in now next (at_numbers at (known qs))) a.0
+        ∙ ap (λ l. (q.key, flag (truth_of now next' (q.asked at))) ∷ l) (in_same qs a.1)
 
-  abbrev still : Scene
-  still = record { place = i; frame = empty_frame; beat = λ t. true; modes = [] }
+    abbrev staged : List (ModeItem Written) → Stage
+    staged qs = record { place = i; number = at; modes = at_numbers at (known qs) }
 
-  seen_formula : (nx : Values) (ks : List Key) (qs : List (ModeItem Written)) (l : Labelled) → FlagFits i ks l →
-      flag (truth_of now nx (formula (staged qs) l.value))
-      ≡ seen (record { place = i; row = row_of i at now; modes = modes_in now nx (at_numbers at (known qs)) }) l.value
-  seen_formula nx ks qs l w =
-      formula_worth now nx (term_of (staged qs) l.value) (has_as (sort_of i l.value) Flags (worth now nx (term_of (staged qs) l.value)) w.1
-      (term_has still (IsAmong ks) at (at_numbers at (known qs)) now nx l.value base w.0))
-      ∙ term_shown (staged qs) (IsAmong ks) (row_of i at now) (modes_in now nx (at_numbers at (known qs))) now nx
-      (state_shown (staged qs) (IsAmong ks) now nx) l.value base w.0
+    abbrev still : Scene
+    still = record { place = i; frame = empty_frame; beat = λ t. true; modes = [] }
 
-  says_timeless : (ks : List Key) (qs : List (ModeItem Written)) → AllByRecursion Timeless qs → (l : Labelled) → FlagFits i ks l →
-      truth_of now next (formula (staged qs) l.value) ≡ truth_of now next' (formula (staged qs) l.value)
-  says_timeless ks qs a l w =
-      flags_same (truth_of now next (formula (staged qs) l.value)) (truth_of now next' (formula (staged qs) l.value))
-      (seen_formula next ks qs l w
-      ∙ ap (λ ms. seen (record { place = i; row = row_of i at now; modes = ms }) l.value) (in_same qs a)
-      ∙ sym (seen_formula next' ks qs l w))
+    seen_formula : (nx : Values) (ks : List Key) (qs : List (ModeItem Written)) (l : Labelled) → FlagFits i ks l →
+        flag (truth_of now nx (formula (staged qs) l.value))
+        ≡ seen (record { place = i; row = row_of i at now; modes = modes_in now nx (at_numbers at (known qs)) }) l.value
+    seen_formula nx ks qs l w =
+        formula_worth now nx (term_of (staged qs) l.value) (has_as (sort_of i l.value) Flags (worth now nx (term_of (staged qs) l.value)) w.1
+        (term_has still (IsAmong ks) at (at_numbers at (known qs)) now nx l.value base w.0))
+        ∙ term_shown (staged qs) (IsAmong ks) (row_of i at now) (modes_in now nx (at_numbers at (known qs))) now nx
+        (state_shown (staged qs) (IsAmong ks) now nx) l.value base w.0
 
-  all_timeless : (ks : List Key) (qs : List (ModeItem Written)) → AllByRecursion Timeless qs → (rs : List Labelled) →
-      AllByRecursion (FlagFits i ks) rs →
-      list_all (λ z. truth_of now next z) (map (λ w. w at) (map (λ r. written.says i (known qs) r.value) rs))
-      ≡ list_all (λ z. truth_of now next' z) (map (λ w. w at) (map (λ r. written.says i (known qs) r.value) rs))
-  all_timeless ks qs a [] w = refl
-  all_timeless ks qs a (r ∷ rs) w = rw (says_timeless ks qs a r w.0, all_timeless ks qs a rs w.1) refl
+    says_timeless : (ks : List Key) (qs : List (ModeItem Written)) → AllTimeless at qs → (l : Labelled) → FlagFits i ks l →
+        truth_of now next (formula (staged qs) l.value) ≡ truth_of now next' (formula (staged qs) l.value)
+    says_timeless ks qs a l w =
+        flags_same (truth_of now next (formula (staged qs) l.value)) (truth_of now next' (formula (staged qs) l.value))
+        (seen_formula next ks qs l w
+        ∙ ap (λ ms. seen (record { place = i; row = row_of i at now; modes = ms }) l.value) (in_same qs a)
+        ∙ sym (seen_formula next' ks qs l w))
 
-  one_timeless : (qs : List (ModeItem Written)) (q : ModeItem Written) → AllByRecursion Timeless qs → Timeless q → AllByRecursion Timeless (qs ++ q ∷ [])
-  one_timeless [] q a e = (e, tt)
-  one_timeless (p ∷ qs) q a e = (a.0, one_timeless qs q a.1 e)
+    all_timeless : (ks : List Key) (qs : List (ModeItem Written)) → AllTimeless at qs → (rs : List Labelled) →
+        AllByRecursion (FlagFits i ks) rs →
+        list_all (λ z. truth_of now next z) (map (λ w. w at) (map (λ r. written.says i (known qs) r.value) rs))
+        ≡ list_all (λ z. truth_of now next' z) (map (λ w. w at) (map (λ r. written.says i (known qs) r.value) rs))
+    all_timeless ks qs a [] w = refl
+    all_timeless ks qs a (r ∷ rs) w = rw (says_timeless ks qs a r w.0, all_timeless ks qs a rs w.1) refl
 
-  after_timeless : (sub : ℕ → Items Written) (ks : List Key) (qs : List (ModeItem Written)) (cs : List ContractStatement) → StatementsFit i ks cs →
-      AllByRecursion Timeless qs → AllByRecursion Timeless (items_after written i sub qs cs).modes
-  after_timeless sub ks qs [] w a = a
-  after_timeless sub ks qs (assume l ∷ cs) w a = after_timeless sub (ks ++ []) qs cs w.1 a
-  after_timeless sub ks qs (guarantee l ∷ cs) w a = after_timeless sub (ks ++ []) qs cs w.1 a
-  after_timeless sub ks qs (ghost_variable x e ∷ cs) w a = after_timeless sub (ks ++ []) qs cs w.1 a
-  after_timeless sub ks qs (constant c ∷ cs) w a = after_timeless sub (ks ++ []) qs cs w.1 a
-  after_timeless sub ks qs (mode m rs es ∷ cs) w a =
+
+
+  through_timeless : (at : Place → ℕ) (k : ℕ) (x : Name) (qs : List (ModeItem Written)) → AllTimeless (below_call k at) qs →
+      AllTimeless at (map (imported_item written k x) qs)
+  through_timeless at k x [] a = tt
+  through_timeless at k x (q ∷ qs) a = (a.0, through_timeless at k x qs a.1)
+
+  after_timeless : (i : Instance) (at : Place → ℕ) (sub : ℕ → Items Written) → ((k : ℕ) → IsImport i k → AllTimeless (below_call k at) (sub k).modes) →
+      (ks : List Key) (qs : List (ModeItem Written)) (cs : List ContractStatement) → StatementsFit i ks cs →
+      AllTimeless at qs → AllTimeless at (items_after written i sub qs cs).modes
+  after_timeless i at sub h ks qs [] w a = a
+  after_timeless i at sub h ks qs (assume l ∷ cs) w a = after_timeless i at sub h (ks ++ []) qs cs w.1 a
+  after_timeless i at sub h ks qs (guarantee l ∷ cs) w a = after_timeless i at sub h (ks ++ []) qs cs w.1 a
+  after_timeless i at sub h ks qs (ghost_variable x e ∷ cs) w a = after_timeless i at sub h (ks ++ []) qs cs w.1 a
+  after_timeless i at sub h ks qs (constant c ∷ cs) w a = after_timeless i at sub h (ks ++ []) qs cs w.1 a
+  after_timeless i at sub h ks qs (mode m rs es ∷ cs) w a =
       let one : ModeItem Written = mode_item written i (known qs) m.text rs es in
       let fs : List Formula = map (λ w. w at) (map (λ r. written.says i (known qs) r.value) rs) in
-      after_timeless sub (ks ++ ([], m.text) ∷ []) (qs ++ one ∷ []) cs w.1
-      (one_timeless qs one a (all_of_true now next fs ∙ all_timeless ks qs a rs w.0.0 ∙ sym (all_of_true now next' fs)))
-  after_timeless sub ks qs («import» k c as_ xs ∷ cs) w a = absurd w.0
+      after_timeless i at sub h (ks ++ ([], m.text) ∷ []) (qs ++ one ∷ []) cs w.1
+      (both_parts (Timeless at) qs (one ∷ []) a (all_of_true now next fs ∙ all_timeless i at ks qs a rs w.0.0 ∙ sym (all_of_true now next' fs), tt))
+  after_timeless i at sub h ks qs («import» k c as_ xs ∷ cs) w a =
+      let some : List (ModeItem Written) = map (imported_item written k c.text) (sub k).modes in
+      after_timeless i at sub h (ks ++ own_keys i («import» k c as_ xs)) (qs ++ some) cs w.1
+      (both_parts (Timeless at) qs some a (through_timeless at k c.text (sub k).modes (h k w.0)))
 
-pub modes_timeless : (i : Instance) → OwnFits i (IsKnown i) → (at : Place → ℕ) (now next next' : Values) →
+  mutual
+    contract_timeless : (i : Instance) → TreeFits IsKnown i → (at : Place → ℕ) → AllTimeless at (contract_of i).modes
+    contract_timeless (instance d cs is) fits at =
+        after_timeless (instance d cs is) at (λ k. slice_index_or (items_each written is) (pred k) no_items)
+        (λ k h. each_timeless (instance d cs is) is 0 fits.1 (pred k) (below_call k at)) [] [] (contract_statements d) fits.0.contract tt
+
+    each_timeless : (i : Instance) (is : Instances) (q : ℕ) → CallsFit IsKnown i is q → (p : ℕ) (at : Place → ℕ) →
+        AllTimeless at (get_or (items_each written is) p no_items).modes
+    each_timeless i no_instances q fits p at = tt
+    each_timeless i (with_instance c k is) q fits zero at = contract_timeless k fits.1 at
+    each_timeless i (with_instance c k is) q fits (suc p) at = each_timeless i is (suc q) fits.2 p at
+
+pub modes_timeless : (i : Instance) → TreeFits IsKnown i → (at : Place → ℕ) (now next next' : Values) →
     modes_in now next (modes_of IsKnown i at) ≡ modes_in now next' (modes_of IsKnown i at)
-modes_timeless (instance d cs is) fits at now next next' =
-    in_same (instance d cs is) at now next next' (contract_of (instance d cs is)).modes
-    (after_timeless (instance d cs is) at now next next' (λ k. slice_index_or (items_each written is) (pred k) no_items) [] []
-    (contract_statements d) fits.contract tt)
+modes_timeless i fits at now next next' = in_same now next next' i at (contract_of i).modes (contract_timeless now next next' i fits at)
 
 -- what the flag of the assumptions becomes
 abbrev pub so_far_then : Instance → (Place → ℕ) → Formula

@@ -27,7 +27,7 @@ use Rattle.sys_meaning.proofs.Conditions.{bools_equal, zero_value, parts_equal}
 use Rattle.sys_meaning.proofs.Shown.{variable_worth, value_has, fixed_worth, term_shown, formula_worth}
 use Rattle.sys_meaning.proofs.Pools.{true_all}
 use Rattle.sys_meaning.proofs.Static.{modes_in, state_shown}
-use Rattle.sys_meaning.proofs.Rows.{OwnShown, sight_here, row}
+use Rattle.sys_meaning.proofs.Rows.{modes_agree, OwnShown, sight_here, row}
 use Rattle.lus_meaning.proofs.Typed.{has_as}
 use Rattle.sys_meaning.proofs.Offs.{present_same}
 use Rattle.sys_meaning.proofs.Forward.{modes_of, conditional}
@@ -36,11 +36,17 @@ use Rattle.sys_meaning.proofs.Balanced.{Picked, pick}
 use Rattle.sys_meaning.proofs.Taken.{Gives, shown_by}
 use Rattle.sys_meaning.proofs.Back as back
 use Rattle.sys_meaning.proofs.Backward.{ordered_at, mapped_all, FrameMeets, CallsMeet, meets_called, call_fits_called, own_meets, call_shown}
-use Rattle.sys_meaning.proofs.ContractStatements.{modes_agreed, modes_timeless}
+use Rattle.sys_meaning.proofs.ContractStatements.{modes_timeless}
 
 and_one : (a : Bool) → (a && true) ≡ a
 and_one true = refl
 and_one false = refl
+
+-- modes are worth what their formulas say, in each state that shows the frame
+abbrev pub AgreeBy : Instance → (Place → ℕ) → Course → ℕ → Instants → Type 0
+AgreeBy i at c n b = (t : ℕ) → t < n → (nx : Values) →
+    (sh : OwnShown (scene i b (frame_by i at c n)) (IsKnown i) at (c t) nx t (modes_of IsKnown i at)) →
+    modes_agree (scene i b (frame_by i at c n)) (IsKnown i) at (c t) nx t (modes_of IsKnown i at) sh
 
 module _ (d : Component) (cs : List (Name × Value)) (is : Instances) (at : Place → ℕ) (c : Course) (n : ℕ)
     (b : Instants) (m : Manner) (act : Formula) (given : Sources)
@@ -52,7 +58,8 @@ module _ (d : Component) (cs : List (Name × Value)) (is : Instances) (at : Plac
     truth_of (c t) (c t) (present (bare_stage (instance d cs is) at) (clock_here (instance d cs is)
     (λ key. ⊥) x)) ≡ false →
     value_in (c t) (sort_of_name (instance d cs is) x) (at (own (named x))) ≡ zero_value (sort_of_name
-    (instance d cs is) x)) where
+    (instance d cs is) x))
+    (agrees : AgreeBy (instance d cs is) at c n b) where
   abbrev pub i : Instance
   i = instance d cs is
 
@@ -117,7 +124,7 @@ module _ (d : Component) (cs : List (Name × Value)) (is : Instances) (at : Plac
       let seen_here : worth now now (term_of g a) ≡ seen (sight_here s M at now now t (modes_of IsKnown i at)) a =
       term_shown g M (row s M at now now t) (modes_in now now g.modes) now now (state_shown g M now now) a cl st.0 in
       let same_modes : modes_in now now (modes_of IsKnown i at) ≡ modes_in now nx (modes_of IsKnown i at) =
-      modes_timeless i fits.0 at now now nx in
+      modes_timeless i fits at now now nx in
       let same_seen : seen (sight_here s M at now now t (modes_of IsKnown i at)) a ≡ seen
       (sight_here s M at now nx t (modes_of IsKnown i at)) a =
       ap (λ ms. seen (record { place = i; row = row s M at now now t; modes = ms }) a) same_modes in
@@ -203,7 +210,7 @@ module _ (d : Component) (cs : List (Name × Value)) (is : Instances) (at : Plac
     held_first = λ h k cl a ds e. helds_at_first k (component_of (call_instance i k)).outputs ds e.defaults
         (first_of_held h k cl a ds e);
     held_steps = steps_of_held;
-    agrees = λ t h nx sh. modes_agreed at (c t) nx b (frame_by i at c n) t i fits.0 sh;
+    agrees = agrees;
   }
 
   -- a path shows the frame at each instant

@@ -29,8 +29,8 @@ use Rattle.sys_meaning.proofs.Off.{typed_off, all_absent}
 use Rattle.sys_meaning.proofs.Balanced.{source_names, equations_balanced}
 use Rattle.sys_meaning.proofs.Forward.{modes_of}
 use Rattle.sys_meaning.proofs.Backward.{FrameMeets, CallsMeet, call_shown}
-use Rattle.sys_meaning.proofs.Given.{plain_beat, frame_shown}
-use Rattle.sys_meaning.proofs.ContractStatements.{modes_agreed, modes_off}
+use Rattle.sys_meaning.proofs.Given.{AgreeBy, plain_beat, frame_shown}
+use Rattle.sys_meaning.proofs.ContractStatements.{modes_off}
 
 firsts_sorted : (k : ℕ) (ss : List Sort) (at : Place → ℕ) (c : Course) → have_sorts ss (firsts_by k ss at c) ≡ true
 firsts_sorted k [] at c = refl
@@ -77,9 +77,9 @@ module _ (d : Component) (cs : List (Name × Value)) (is : Instances) (at : Plac
       (offs : (t : ℕ) → t < n → (x : Name) → is_declared i (λ key. ⊥) x → no_constant i (λ key. ⊥) x → truth_of
       (c t) (c t) (present (bare_stage i at) (clock_here i (λ key. ⊥) x)) ≡ false →
       value_in (c t) (sort_of_name i x) (at (own (named x))) ≡ zero_value (sort_of_name i x))
-      (distinct : AreDistinct (source_names (given ++ equation_sources (stage i at) (equations d)))) where
+      (agrees : AgreeBy i at c n b) (distinct : AreDistinct (source_names (given ++ equation_sources (stage i at) (equations d)))) where
     sh : (t : ℕ) → t < n → OwnShown s M at (c t) (c t) t (modes_of IsKnown i at)
-    sh t h = frame_shown d cs is at c n b m act given fits meets calls beats offs t h (c t)
+    sh t h = frame_shown d cs is at c n b m act given fits meets calls beats offs agrees t h (c t)
 
     types_kept : (vs : List Variable) → AllByRecursion (StreamFits i M) vs →
         AllByRecursion (λ v. (t : ℕ) → t < n → is_typed v.sort (is_on s (clock_from v.clock) t) (entry
@@ -98,7 +98,7 @@ module _ (d : Component) (cs : List (Name × Value)) (is : Instances) (at : Plac
         all_absent (at_instant t (call_outputs s k))
     plain_off t h k cl e o = outputs_off k t (component_of (call_instance i k)).outputs
         (call_shown IsKnown d cs is at c n b fits calls t h (c t) k e.call
-        (plain_beat d cs is at c n b m act given fits meets calls beats offs t h k cl e)).typed
+        (plain_beat d cs is at c n b m act given fits meets calls beats offs agrees t h k cl e)).typed
         (rw (ap (λ z. is_on s z t) e.clock ∙ o) refl)
 
     -- the frame of a path keeps its text
@@ -109,6 +109,6 @@ module _ (d : Component) (cs : List (Name × Value)) (is : Instances) (at : Plac
       firsts = firsts_sorted 1 (first_sorts i) at c;
       types = types_kept (variables d) fits.0.streams;
       equations = swapped (equations d) (λ t h. equations_balanced s M at (modes_of IsKnown i at) (c t) (c t) t
-          (sh t h) (modes_agreed at (c t) (c t) b (frame_by i at c n) t i fits.0 (sh t h)) given fits.0 (meets.names t h)
-          (plain_off t h) (modes_off b (frame_by i at c n) t i fits.0) distinct);
+          (sh t h) (agrees t h (c t) (sh t h)) given fits.0 (meets.names t h)
+          (plain_off t h) (modes_off b t i (frame_by i at c n)) distinct);
     }

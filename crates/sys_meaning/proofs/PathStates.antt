@@ -25,14 +25,14 @@ use Rattle.sys_meaning.specs.Path.{Course, course_of, frame_of_path}
 use Rattle.sys_meaning.specs.System.{number_of, assumed, asserts_in, shape_of, system_of}
 use Rattle.sys_meaning.specs.Law.{TreeDistinct, IsRunOf}
 use Rattle.sys_meaning.specs.WellTyped.{IsKnown, HasPlace, WellTyped}
-use Rattle.sys_meaning.proofs.Shows.{Reads, same_both, later_value}
+use Rattle.sys_meaning.proofs.Shows.{in_any, Reads, same_both, later_value}
 use Rattle.sys_meaning.proofs.Follows.{some_same}
 use Rattle.sys_meaning.proofs.Forward.{both_true, own_fits, shown_here}
 use Rattle.sys_meaning.proofs.Lawful.{all_asserted}
 use Rattle.sys_meaning.proofs.ContractStatements.{IsShownBy, assumed_all, true_listed}
 use Rattle.sys_meaning.proofs.PathRun.{from_places, start, path_meets, begins, path_offs, path_is_run}
 use Rattle.sys_meaning.proofs.Reading.{path_reads}
-use Rattle.sys_meaning.proofs.Whole.{known_contracts}
+use Rattle.sys_meaning.proofs.Whole.{imports_forward, known_contracts}
 
 one_entry : (z : Sort) (x : Entry) (s : List Entry) (v : Value) → entry_fits (shape_of z) x ≡ true →
     value_in (values_of (x ∷ s)) z 0 ≡ v → entry_of v ≡ x
@@ -89,14 +89,15 @@ module _ (i : Instance) (w : WellTyped IsKnown i) (states : List (List Entry))
 
   pub all_reads : (t : ℕ) → t < n → Reads IsKnown i (number_of i) throughout f t (c t)
   all_reads t h ks p z hp e = path_reads ks i (number_of i) c n throughout plain (start i w states path) [] w.tree
-      (path_meets i w states path) (begins i w states path) (path_offs i w states path) refl t h p z hp
+      (path_meets i w states path) (begins i w states path) (path_offs i w states path) t h p z
+      (in_any IsKnown plain ks i p z hp)
 
   state_same : (t : ℕ) → t < n → state_of i f t ≡ get_or states t []
   state_same t h =
       entries_same (slots i) (λ q. or_default q.sort (reading i throughout f (place_of q) t)) (get_or states t [])
       (path.loose.each t [] h).fit (λ k q d. ap (value_in (c t) q.sort) (sym (w.numbered k q d))
       ∙ path_reads q.path i (number_of i) c n throughout plain (start i w states path) [] w.tree
-      (path_meets i w states path) (begins i w states path) (path_offs i w states path) refl t h (spot_of q.cell) q.sort
+      (path_meets i w states path) (begins i w states path) (path_offs i w states path) t h (spot_of q.cell) q.sort
       (at_index (λ q. HasPlace IsKnown q.path i (spot_of q.cell) q.sort) (slots i) w.slots k q d))
 
   -- the states of the path's frame are the path
@@ -117,7 +118,8 @@ module _ (i : Instance) (w : WellTyped IsKnown i) (states : List (List Entry))
         (all_asserted IsKnown known_contracts c n i (number_of i) throughout f run w.tree all_reads t h
         (right_part (λ z. truth_of (c t) (c t) z ≡ true) (assumed i (number_of i)) (asserts_in i (number_of i))
         (from_places (λ z. truth_of (c t) (c t) z ≡ true) (system_of i).legal (path.loose.each t [] h).legal)))
-        (sym (assumed_all (number_of i) (c t) (c t) throughout f t i (own_fits IsKnown i w.tree) (shown t h) refl)
+        (sym (assumed_all (number_of i) (c t) (c t) throughout f t i (own_fits IsKnown i w.tree) (shown t h)
+        (imports_forward i (number_of i) c n throughout f run all_reads w.tree t h (c t)) refl)
         ∙ true_listed (c t) (c t) (assumed i (number_of i))
         (left_part (λ z. truth_of (c t) (c t) z ≡ true) (assumed i (number_of i)) (asserts_in i (number_of i))
         (from_places (λ z. truth_of (c t) (c t) z ≡ true) (system_of i).legal (path.loose.each t [] h).legal)))

@@ -1,4 +1,4 @@
--- For declarations without imports: each property has the truth of its formula.
+-- Each property has the truth of its formula.
 use Rattle.std.proofs.Common.{◌≡◌, ℕ, suc, pred, ◌<◌, Bool, true, false, not, cond, ◌&&◌, List, [], ◌∷◌, ◌++◌, map, flat_map, refl, ap, ◌∙◌, sym, subst}
 use Rattle.std.specs.List.{AllByRecursion}
 use Rattle.lus_tree.specs.declared.place.Sort.TheVariants.{Bool as Flags}
@@ -28,7 +28,7 @@ use Rattle.sys_meaning.proofs.Conditions.{flags_same}
 use Rattle.sys_meaning.proofs.Shows.{Reads, state_reads}
 use Rattle.sys_meaning.proofs.Forward.{drop_calls, drop_frames, first_frame, frame_dropped, later_calls, later_frames, calls_later, frames_later, modes_of, call_at_reads, own_fits, shown_here}
 use Rattle.sys_meaning.proofs.ContractStatements.{AllSame, SameTerms, SameModes, IsShownBy, terms_same, some_mode}
-use Rattle.sys_meaning.proofs.Whole.{known_contracts}
+use Rattle.sys_meaning.proofs.Whole.{imports_forward, known_contracts}
 
 agree_both : (f : Frame) (t : ℕ) (s : List Entry) (ps ps' : List Property) (qs qs' : List Formula) →
     Agree f t s ps qs → Agree f t s ps' qs' → Agree f t s (ps ++ ps') (qs ++ qs')
@@ -78,6 +78,7 @@ module _ (i : Instance) (w : WellTyped IsKnown i) (n : ℕ) (f : Frame) (t : ℕ
 
   same : SameTerms (number_of i) (c t) (c t) throughout f t (terms i) (contract_of i)
   same = terms_same (number_of i) (c t) (c t) throughout f t i (own_fits IsKnown i w.tree) sh
+      (imports_forward i (number_of i) c n throughout f run (λ t h. state_reads IsKnown i w f t) w.tree t h (c t))
 
   guarantees_agree : Agree f t (state_of i f t) (terms i).guarantees (map (λ q. q (number_of i))
       (contract_of i).guarantees)
@@ -156,7 +157,8 @@ module _ (i : Instance) (w : WellTyped IsKnown i) (n : ℕ) (f : Frame) (t : ℕ
       (owed_agrees a k a.manner g frame
       (flags_same ((c t).flag_at (number_of i (in_call a.number (own beat)))) (active s a t)
       (reads t h [] beat Flags refl refl))
-      (terms_same (below a) (c t) (c t) (active s a) g t k (own_fits IsKnown k w'.1) here).assumes)
+      (terms_same (below a) (c t) (c t) (active s a) g t k (own_fits IsKnown k w'.1) here
+      (imports_forward k (below a) c n (active s a) g r.1 reads w'.1 t h (c t))).assumes)
       (all_owed is (suc p') fs (calls_later p' (calls_of i) ∙ ap later_calls e)
       (frames_later p' (calls_in f) ∙ ap later_frames d) r.2 w'.2)
 

@@ -23,6 +23,7 @@ use Rattle.sys_meaning.specs.Defaults.{is_constant, site_of, default_of}
 use Rattle.lus_meaning.specs.Slots.{Slot, slots}
 use Rattle.sys_meaning.specs.Slot.{Spot, beat, named, memory, starting, so_far, held, Place, spot_of, place_of, same_place, number_in, memory_of, start_of}
 use Rattle.sys_meaning.specs.Items.{Key}
+use Rattle.sys_meaning.specs.System.{has_so_far}
 
 abbrev pub count_of : Instances → ℕ
 count_of no_instances = 0
@@ -189,23 +190,32 @@ IsAmong ks key = list_any (mode_key key) ks ≡ true
 abbrev pub FlagFits : Instance → List Key → Labelled → Type 0
 FlagFits i ks l = Stands i (IsAmong ks) base l.value × (sort_of i l.value ≡ Flags)
 
--- an item of a contract, where modes of these keys stand before it; for now no import
+-- an import stands on the base clock at its number
+pub record IsImport (i : Instance) (k : ℕ) : Type 0 where
+  pub call : IsCall i (IsKnown i) k
+  pub clock : (site_of i k).clock ≡ base
+  pub outputs : List Name
+  pub manner : (site_of i k).manner ≡ as_import outputs
+
+-- an item of a contract, where modes of these keys stand before it
 abbrev pub StatementFits : Instance → List Key → ContractStatement → Type 0
 StatementFits i ks (assume l) = FlagFits i ks l
 StatementFits i ks (guarantee l) = FlagFits i ks l
 StatementFits i ks (ghost_variable x e) = Unit {0}
 StatementFits i ks (constant c) = Unit {0}
 StatementFits i ks (mode m rs es) = AllByRecursion (FlagFits i ks) rs × AllByRecursion (FlagFits i ks) es
-StatementFits i ks («import» k c as_ xs) = ⊥
+StatementFits i ks («import» k c as_ xs) = IsImport i k
 
-abbrev pub own_keys : ContractStatement → List Key
-own_keys (mode m rs es) = ([], m.text) ∷ []
-own_keys _ = []
+-- the keys of an item's modes; those of an import by way of its contract
+abbrev pub own_keys : Instance → ContractStatement → List Key
+own_keys i (mode m rs es) = ([], m.text) ∷ []
+own_keys i («import» k c as_ xs) = map (λ m. (c.text ∷ m.key.0, m.key.1)) (terms (call_instance i k)).modes
+own_keys i _ = []
 
 -- in text order: a mode can be named behind it
 abbrev pub StatementsFit : Instance → List Key → List ContractStatement → Type 0
 StatementsFit i ks [] = Unit {0}
-StatementsFit i ks (c ∷ cs) = StatementFits i ks c × StatementsFit i (ks ++ own_keys c) cs
+StatementsFit i ks (c ∷ cs) = StatementFits i ks c × StatementsFit i (ks ++ own_keys i c) cs
 
 -- ---- a declaration
 
@@ -225,22 +235,26 @@ module _ (i : Instance) (ModeAt : Key → Type 0) where
 
   -- ---- places
 
-  -- a variable of a frame's own, and its type
-  abbrev pub HasSpot : Spot → Sort → Type 0
-  HasSpot beat z = z ≡ Flags
-  HasSpot (named x) z = is_declared i ModeAt x × no_constant i ModeAt x × (sort_of_name i x ≡ z)
-  HasSpot (memory k) z = (c : Clock) × (a : Expression) × IsMemory i ModeAt k c a × (sort_of i a ≡ z)
-  HasSpot (starting k) z = (c : Clock) × IsStart i ModeAt k c × (z ≡ Flags)
-  HasSpot so_far z = (z ≡ Flags) × (is_some (component_of i).contract ≡ true)
-  HasSpot (held k x) z = (c : Clock) × (a : Expression) × (ds : Expressions) × IsHeldCall i ModeAt k c a ds
+  -- a variable of the own ones of a frame that runs in this manner, and its type
+  abbrev pub HasSpot : Manner → Spot → Sort → Type 0
+  HasSpot m beat z = z ≡ Flags
+  HasSpot m (named x) z = is_declared i ModeAt x × no_constant i ModeAt x × (sort_of_name i x ≡ z)
+  HasSpot m (memory k) z = (c : Clock) × (a : Expression) × IsMemory i ModeAt k c a × (sort_of i a ≡ z)
+  HasSpot m (starting k) z = (c : Clock) × IsStart i ModeAt k c × (z ≡ Flags)
+  HasSpot m so_far z = (z ≡ Flags) × (has_so_far m (component_of i) ≡ true)
+  HasSpot m (held k x) z = (c : Clock) × (a : Expression) × (ds : Expressions) × IsHeldCall i ModeAt k c a ds
       × (named_in x (outputs_of (call_instance i k)) ≡ true) × (sort_of_name (call_instance i k) x ≡ z)
 
 -- Modes says which modes each instance knows
 module _ (Modes : Instance → Key → Type 0) where
   -- and of the frames of its calls
+  abbrev pub HasPlaceIn : Manner → List ℕ → Instance → Spot → Sort → Type 0
+  HasPlaceIn m [] i p z = HasSpot i (Modes i) m p z
+  HasPlaceIn m (k ∷ ks) i p z = IsCall i (Modes i) k × HasPlaceIn (site_of i k).manner ks (call_instance i k) p z
+
+  -- of the analysed declaration
   abbrev pub HasPlace : List ℕ → Instance → Spot → Sort → Type 0
-  HasPlace [] i p z = HasSpot i (Modes i) p z
-  HasPlace (k ∷ ks) i p z = IsCall i (Modes i) k × HasPlace ks (call_instance i k) p z
+  HasPlace ks i p z = HasPlaceIn plain ks i p z
 
   -- how a call runs
   abbrev pub MannerFits : Instance → Clock → Manner → Instance → Type 0
@@ -259,8 +273,6 @@ module _ (Modes : Instance → Key → Type 0) where
     pub manner : MannerFits i c.clock c.manner k
     pub held : (a : Expression) → c.manner ≡ while_true a → (ds : Expressions)
         × IsHeldCall i (Modes i) (suc p) c.clock a ds
-    -- for now no import
-    pub no_import : (xs : List Name) → c.manner ≡ as_import xs → ⊥
     pub inputs : AllByRecursion (IsNameOn k (Modes k) base) (inputs_of k)
     pub input_sorts : map (sort_of_name k) (inputs_of k) ≡ map (λ v. v.sort) (component_of k).inputs
     pub outputs : AllByRecursion (IsNameOn k (Modes k) base) (outputs_of k)
