@@ -10,18 +10,18 @@ use Rattle.lus_tree.specs.Tree.{Name, text_of, Labelled, Expression, Expressions
 use Rattle.lus_meaning.specs.Value.{has_sort}
 use Rattle.lus_meaning.specs.Scene.{Clock, base, sampled_by, Manner, plain, while_true, as_import, Site, Instance, Instances, instance, no_instances, with_instance, component_of, constants_of, calls_of, instance_at, call_instance, clock_from, clock_of, clock_of_names, contract_statements, ghosts, variables}
 use Rattle.lus_meaning.specs.Program.{listed, site_in, import_site, all_sites, constant_value, instance_of}
-use Rattle.lus_meaning.specs.Run.{ghost_equations, body_equations, sort_of}
+use Rattle.lus_meaning.specs.Run.{sort_of_name, ghost_equations, body_equations, sort_of}
 use Rattle.lus_meaning.specs.Depends.{named_in}
 use Rattle.lus_meaning.specs.WellMade.{AreDistinct}
-use Rattle.lus_meaning.specs.Occurrences.{Standing, on_base, within, before, moved, Occurrence, occurrences, Text, contract_statement_texts, statement_texts, constant_texts, texts, all_occurrences, gathered, Memory, Start, memory_in, start_in, memories, starts}
+use Rattle.lus_meaning.specs.Occurrences.{on_clock, Standing, on_base, within, before, moved, Occurrence, occurrences, Text, contract_statement_texts, statement_texts, constant_texts, texts, all_occurrences, gathered, Memory, Start, memory_in, start_in, memories, starts}
 use Rattle.lus_meaning.specs.ClockFaults.{components, name_clock}
 use Rattle.lus_meaning.specs.Refusals.{IsChecked}
 use Rattle.lus_meaning.proofs.EachPart.{Each, EachAmong, each_part}
 use Rattle.lus_meaning.proofs.Lists.{all_from, all_from_both, all_from_three, both_parts, map_append}
 use Rattle.lus_meaning.proofs.InOrder.{in_order_all}
 use Rattle.lus_meaning.proofs.NamesOnce.{distinct_left}
-use Rattle.lus_meaning.proofs.Now.{right_part}
-use Rattle.rule_laws.specs.Laws.{IsUnfolded, AreUnfolded, site_at}
+use Rattle.lus_meaning.proofs.Now.{left_part, right_part}
+use Rattle.rule_laws.specs.Laws.{HasItsPlace, IsUnfolded, AreUnfolded, site_at}
 use Rattle.rule_laws.specs.Fitting as fitting
 use Rattle.rule_laws.specs.Fitting.{is_fixed, FitsThere, IsStreamOn, sorts_of}
 use Rattle.rule_laws.specs.Declarations.{StreamFits, DeclarationFits}
@@ -30,20 +30,22 @@ use Rattle.rule_laws.proofs.Callees.{GoesDown, each_site}
 use Rattle.rule_laws.proofs.ConstantsTyped.{constants_typed}
 use Rattle.rule_laws.proofs.Goods.{expressions_fit, all_of_each}
 use Rattle.rule_laws.proofs.Lists.{all_flat}
-use Rattle.rule_laws.proofs.Places.{memories_found, starts_found, by_number}
+use Rattle.rule_laws.proofs.Places.{imports_in_place, memories_found, starts_found, by_number}
 use Rattle.clock_laws.proofs.Clocks.{unfolded_same, declared_at}
 use Rattle.clock_laws.proofs.Lefts.{distinct_behind}
 use Rattle.clock_laws.proofs.OrderLaws.{names_distinct}
-use Rattle.rule_laws.proofs.Covered.{all_contained}
+use Rattle.rule_laws.proofs.Covered.{Covers, covered, all_contained}
 use Rattle.rule_laws.proofs.Parts.{Whole, nested, all_parts}
 use Rattle.run_laws.proofs.Texts.{declaration, is_callee}
 use Rattle.sys_meaning.specs.Slot.{memory_of, start_of}
-use Rattle.sys_meaning.specs.WellTyped.{IsKnown, ClockFits, IsMemory, IsStart, IsCall, IsHeldCall, MannerFits, Stands}
-use Rattle.path_laws.specs.Laws.{IsPlain}
-use Rattle.path_laws.proofs.Chains.{is_declared_name, base_fits, flag_fits, name_fits, Ranked, ranked_of}
+use Rattle.sys_meaning.specs.WellTyped.{IsNameOn, IsKnown, ClockFits, IsMemory, IsStart, IsCall, IsHeldCall, MannerFits, Stands}
+use Rattle.path_laws.proofs.Chains.{name_on, is_declared_name, base_fits, flag_fits, name_fits, Ranked, ranked_of}
 use Rattle.path_laws.proofs.Chains as chains
 use Rattle.path_laws.proofs.Numbers.{no_import_sites}
-use Rattle.path_laws.proofs.Standing.{Known, OutputsKnown, stands}
+use Rattle.path_laws.proofs.Standing.{call_at, Known, OutputsKnown, stands}
+use Rattle.lus_meaning.specs.Scope.{contract_named}
+use Rattle.lus_meaning.specs.Contract.{terms}
+use Rattle.rule_laws.proofs.Unfolded.{typed_tree}
 
 -- ---- names of parts
 
@@ -72,13 +74,14 @@ HeldMany plain ds vs = Unit {0}
 HeldMany (as_import xs) ds vs = Unit {0}
 
 pub record SiteMade (i : Instance) (s : Site) : Type 0 where
-  pub fits : fitting.CallFits i s
+  pub number : 1 ≤ s.number
+  pub site : site_at (calls_of i) (pred s.number) ≡ Some s
+  pub sorts : map (sort_of i) s.arguments ≡ sorts_of (component_of (call_instance i s.number)).inputs
   pub call : IsCall i (IsKnown i) s.number
   pub clock : ClockFits i (IsKnown i) s.clock
   pub arguments : AllByRecursion (Stands i (IsKnown i) s.clock) s.arguments
-  pub manner : (k : Instance) → MannerFits IsKnown i s.clock s.manner k
+  pub manner : (k : Instance) → component_of k ≡ component_of (call_instance i s.number) → MannerFits IsKnown i s.clock s.manner k
   pub held : (a : Expression) → s.manner ≡ while_true a → (ds : Expressions) × IsHeldCall i (IsKnown i) s.number s.clock a ds
-  pub no_import : (xs : List Name) → s.manner ≡ as_import xs → ⊥
   pub many : HeldMany s.manner s.defaults (component_of (call_instance i s.number)).outputs
 
 pub record MemoryMade (i : Instance) (m : Memory) : Type 0 where
@@ -129,8 +132,7 @@ module _ (p : Program) (c : IsChecked p) where
 
   -- ---- a declaration
 
-  module _ (i : Instance) (u : IsUnfolded p i) (j : Contains (components p) (component_of i))
-      (plain_here : AllByRecursion IsPlain (contract_statements (component_of i))) where
+  module _ (i : Instance) (u : IsUnfolded p i) (j : Contains (components p) (component_of i)) where
     abbrev here : Component
     here = component_of i
 
@@ -251,16 +253,21 @@ module _ (p : Program) (c : IsChecked p) where
     labels_clocks [] = tt
     labels_clocks (l ∷ ls) = (good_base, labels_clocks ls)
 
-    contract_clocks : (xs : List ContractStatement) → AllByRecursion IsPlain xs → AllByRecursion GoodText (flat_map contract_statement_texts xs)
-    contract_clocks [] a = tt
-    contract_clocks (assume l ∷ xs) a = (good_base, contract_clocks xs a.1)
-    contract_clocks (guarantee l ∷ xs) a = (good_base, contract_clocks xs a.1)
-    contract_clocks (ghost_variable x e ∷ xs) a = (good_base, contract_clocks xs a.1)
-    contract_clocks (constant k ∷ xs) a = (good_base, contract_clocks xs a.1)
-    contract_clocks (mode m rs es ∷ xs) a =
+    arguments_clocks : (as_ : List Expression) → AllByRecursion GoodText (map (λ a. (on_clock base, a)) as_)
+    arguments_clocks [] = tt
+    arguments_clocks (a ∷ as_) = (good_base, arguments_clocks as_)
+
+    contract_clocks : (xs : List ContractStatement) → AllByRecursion GoodText (flat_map contract_statement_texts xs)
+    contract_clocks [] = tt
+    contract_clocks (assume l ∷ xs) = (good_base, contract_clocks xs)
+    contract_clocks (guarantee l ∷ xs) = (good_base, contract_clocks xs)
+    contract_clocks (ghost_variable x e ∷ xs) = (good_base, contract_clocks xs)
+    contract_clocks (constant k ∷ xs) = (good_base, contract_clocks xs)
+    contract_clocks (mode m rs es ∷ xs) =
         both_parts GoodText (on_base rs ++ on_base es) (flat_map contract_statement_texts xs)
-        (both_parts GoodText (on_base rs) (on_base es) (labels_clocks rs) (labels_clocks es)) (contract_clocks xs a.1)
-    contract_clocks («import» k f as_ ys ∷ xs) a = absurd a.0
+        (both_parts GoodText (on_base rs) (on_base es) (labels_clocks rs) (labels_clocks es)) (contract_clocks xs)
+    contract_clocks («import» k f as_ ys ∷ xs) =
+        both_parts GoodText (map (λ a. (on_clock base, a)) as_) (flat_map contract_statement_texts xs) (arguments_clocks as_) (contract_clocks xs)
 
     constant_clocks : (ks : List Constant) → AllByRecursion GoodText (constant_texts ks)
     constant_clocks [] = tt
@@ -281,7 +288,7 @@ module _ (p : Program) (c : IsChecked p) where
     text_clocks =
         both_parts GoodText (flat_map contract_statement_texts (contract_statements here))
         (constant_texts here.constants ++ flat_map (statement_texts here) here.body)
-        (contract_clocks (contract_statements here) plain_here)
+        (contract_clocks (contract_statements here))
         (both_parts GoodText (constant_texts here.constants) (flat_map (statement_texts here) here.body) (constant_clocks here.constants)
         (body_clocks here.body (right_part (declarations.EquationFits i) (ghost_equations (contract_statements here)) (body_equations here.body)
         (declaration p c i u j).equations)))
@@ -354,13 +361,14 @@ module _ (p : Program) (c : IsChecked p) where
     call_made : (t : Standing) (e : Expression) → Each (Known i) (component_of i) t e → Good t.clock → AllByRecursion (SiteMade i) (site_in t e)
     call_made t (call q k f as_) a g = (
       record {
-        fits = a.0.fits;
+        number = a.0.fits.number;
+        site = a.0.fits.site;
+        sorts = a.0.fits.arguments;
         call = (stand t (call q k f as_) a).0.call;
         clock = g;
         arguments = among_stand (within t) as_ a.1;
-        manner = λ o. tt;
+        manner = λ o e. tt;
         held = λ b e. absurd (false≢true (sym (ap is_plain e)));
-        no_import = λ xs e. false≢true (sym (ap is_plain e));
         many = tt;
       },
       tt,
@@ -368,13 +376,14 @@ module _ (p : Program) (c : IsChecked p) where
     call_made t (condact q k b f as_ ds) a g =
         let s : Stands i (IsKnown i) t.clock (condact q k b f as_ ds) = stand t (condact q k b f as_ ds) a in (
           record {
-            fits = a.0.fits.0;
+            number = a.0.fits.0.number;
+            site = a.0.fits.0.site;
+            sorts = a.0.fits.0.arguments;
             call = s.0.call;
             clock = g;
             arguments = among_stand (within t) as_ a.2;
-            manner = λ o. (s.2, s.1);
+            manner = λ o e. (s.2, s.1);
             held = λ d e. (ds, subst (λ x. IsHeldCall i (IsKnown i) k t.clock x ds) (ap (condition_or b) e) s.0);
-            no_import = λ xs e. false≢true (sym (ap is_held e));
             many = sym (many_mapped (sort_of i) (listed ds)) ∙ ap length a.0.fits.2
                 ∙ many_mapped (λ (v : Variable). v.sort) (component_of (call_instance i k)).outputs;
           },
@@ -393,6 +402,76 @@ module _ (p : Program) (c : IsChecked p) where
     call_made t (merged q b d e) a g = tt
     call_made t (mode_name q b d) a g = tt
 
+    -- ---- imports
+
+    -- what is known of an import's contract
+    abbrev pub ImportKnown : Site → Type 0
+    ImportKnown s = (contract_named p s.callee ≡ Some (component_of (call_instance i s.number)))
+        × Covers p (contract_statements (component_of (call_instance i s.number))) (terms (call_instance i s.number)).modes
+
+    abbrev pub ImportThere : Site → Type 0
+    ImportThere s = HasItsPlace i (contract_named p s.callee) s
+
+    pub imports_there : AllByRecursion ImportThere (flat_map import_site (contract_statements (component_of i)))
+    imports_there = all_contained ImportThere (flat_map import_site (contract_statements here))
+        (λ s h. subst (λ k. HasItsPlace k (contract_named p s.callee) s) (sym same) (imports_in_place p c here j s h))
+
+    there_at : (s : Site) → 1 ≤ s.number → site_at (calls_of i) (pred s.number) ≡ Some s → IsThere p (call_instance i s.number)
+    there_at s l e = subst (IsThere p) (by_number i s.number l) (callee_in i u j (pred s.number) s e)
+
+    pub imports_known : AllByRecursion ImportKnown (flat_map import_site (contract_statements (component_of i)))
+    imports_known = all_from ImportThere ImportKnown (λ s h. (
+      h.callee,
+      covered p (typed_tree p c) (call_instance i s.number) (there_at s h.number h.site).0 (there_at s h.number h.site).1,
+    )) (flat_map import_site (contract_statements here)) imports_there
+
+    arguments_stand : (as_ : List Expression) → AllByRecursion KnownText (map (λ a. (on_clock base, a)) as_) →
+        AllByRecursion (Stands i (IsKnown i) base) as_
+    arguments_stand [] a = tt
+    arguments_stand (x ∷ as_) a = (stand (on_clock base) x a.0, arguments_stand as_ a.1)
+
+    import_made : (s : Site) (xs : List Name) → s.manner ≡ as_import xs → s.clock ≡ base → ImportThere s → declarations.ImportFits i s →
+        AllByRecursion (Stands i (IsKnown i) s.clock) s.arguments → SiteMade i s
+    import_made s xs e o h f a =
+        let w : declarations.OutputsFit i (as_import xs) (component_of (call_instance i s.number)).outputs =
+        subst (λ m. declarations.OutputsFit i m (component_of (call_instance i s.number)).outputs) e f.outputs in
+        record {
+          number = h.number;
+          site = h.site;
+          sorts = f.arguments;
+          call = call_at i callees s h.number h.site
+              (is_callee p c (call_instance i s.number) (there_at s h.number h.site).0 (there_at s h.number h.site).1).outputs_on_base;
+          clock = subst Good (sym o) good_base;
+          arguments = a;
+          manner = λ k q. subst (λ m. MannerFits IsKnown i s.clock m k) (sym e) (
+            o,
+            all_from (λ x. IsStreamOn i base (sort_of_name i x) x) (IsNameOn i (IsKnown i) base) (λ x v. name_on i (IsKnown i) base x _ v) xs w.1,
+            w.0 ∙ ap (λ (m : Component). sorts_of m.outputs) (sym q),
+          );
+          held = λ b q. absurd (false≢true (ap is_held (sym e ∙ q)));
+          many = subst (λ m. HeldMany m s.defaults (component_of (call_instance i s.number)).outputs) (sym e) tt;
+        }
+
+    each_import_made : (xs : List ContractStatement) → AllByRecursion ImportThere (flat_map import_site xs) →
+        AllByRecursion (declarations.ImportFits i) (flat_map import_site xs) → AllByRecursion KnownText (flat_map contract_statement_texts xs) →
+        AllByRecursion (SiteMade i) (flat_map import_site xs)
+    each_import_made [] h f a = tt
+    each_import_made (assume l ∷ xs) h f a = each_import_made xs h f a.1
+    each_import_made (guarantee l ∷ xs) h f a = each_import_made xs h f a.1
+    each_import_made (ghost_variable x e ∷ xs) h f a = each_import_made xs h f a.1
+    each_import_made (constant k ∷ xs) h f a = each_import_made xs h f a.1
+    each_import_made (mode m rs es ∷ xs) h f a =
+        each_import_made xs h f (right_part KnownText (on_base rs ++ on_base es) (flat_map contract_statement_texts xs) a)
+    each_import_made («import» k x as_ ys ∷ xs) h f a = (
+      import_made _ (map text_of ys) refl refl h.0 f.0
+          (arguments_stand as_ (left_part KnownText (map (λ a. (on_clock base, a)) as_) (flat_map contract_statement_texts xs) a)),
+      each_import_made xs h.1 f.1 (right_part KnownText (map (λ a. (on_clock base, a)) as_) (flat_map contract_statement_texts xs) a),
+    )
+
+    pub imports_made : AllByRecursion (SiteMade i) (flat_map import_site (contract_statements (component_of i)))
+    imports_made = each_import_made (contract_statements here) imports_there (declaration p c i u j).imports
+        (left_part KnownText (flat_map contract_statement_texts (contract_statements here)) _ known_texts)
+
     pub sites_made : AllByRecursion (SiteMade i) (all_sites (component_of i))
     sites_made =
         in_order_all (λ s. s.number) (SiteMade i) (gathered site_in here ++ flat_map import_site (contract_statements here))
@@ -400,4 +479,4 @@ module _ (p : Program) (c : IsChecked p) where
         (all_flat (SiteMade i) (λ o. site_in o.standing o.expression) (all_occurrences here)
         (all_from_both (Whole (Known i) here) Clocked (λ o. AllByRecursion (SiteMade i) (site_in o.standing o.expression))
         (λ o a g. call_made o.standing o.expression a g) (all_occurrences here) all_whole all_clocked))
-        (subst (AllByRecursion (SiteMade i)) (sym (no_import_sites (contract_statements here) plain_here)) tt))
+        imports_made)

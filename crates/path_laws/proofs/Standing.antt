@@ -130,18 +130,20 @@ module _ (i : Instance)
         sym (clock_is (component_of (call_instance i k)) v.name.text base on_base),
       )
 
-  pub is_call : (s : Site) → fitting.CallFits i s → IsCall i (IsKnown i) s.number
-  is_call s f =
-      let q : (site_of i s.number ≡ s) × (pred s.number < count_of (calls_of i)) = site_there (calls_of i) (pred s.number) s f.site in
-      let l : 1 ≤ s.number = f.number in
+  pub call_at : (s : Site) → 1 ≤ s.number → site_at (calls_of i) (pred s.number) ≡ Some s →
+      OnBase (component_of (call_instance i s.number)).outputs → IsCall i (IsKnown i) s.number
+  call_at s l e o =
+      let q : (site_of i s.number ≡ s) × (pred s.number < count_of (calls_of i)) = site_there (calls_of i) (pred s.number) s e in
       record {
         number = ap (λ (z : Site). z.number) q.0;
         counted = omega (arith, l);
         listed = q.1;
-        outputs = not_empty (component_of (call_instance i s.number)).outputs f.outputs;
         named = all_from_both (λ v. v.clock ≡ None) (StreamFits (call_instance i s.number)) (OutputFits i (IsKnown i) s.number)
-            (output_fits s.number) (component_of (call_instance i s.number)).outputs f.on_base (callees s f.number f.site).streams;
+            (output_fits s.number) (component_of (call_instance i s.number)).outputs o (callees s l e).streams;
       }
+
+  pub is_call : (s : Site) → fitting.CallFits i s → IsCall i (IsKnown i) s.number
+  is_call s f = call_at s f.number f.site f.on_base
 
   site_is_there : (s : Site) → fitting.CallFits i s → site_of i s.number ≡ s
   site_is_there s f = (site_there (calls_of i) (pred s.number) s f.site).0
@@ -250,6 +252,7 @@ module _ (i : Instance)
       let fit : fitting.CallFits i s = a.0.fits in (
         record {
           call = is_call s fit;
+          outputs = not_empty (component_of (call_instance i k)).outputs fit.outputs;
           clock = ap (λ (z : Site). z.clock) (site_is_there s fit);
           manner = ap (λ (z : Site). z.manner) (site_is_there s fit);
         },
@@ -268,6 +271,7 @@ module _ (i : Instance)
       let vs : List Variable = (component_of (call_instance i k)).outputs in (
         record {
           call = is_call s fit;
+          outputs = not_empty (component_of (call_instance i k)).outputs fit.outputs;
           clock = ap (λ (z : Site). z.clock) (site_is_there s fit);
           manner = ap (λ (z : Site). z.manner) (site_is_there s fit);
           defaults = all_defaults k vs ds (callees s fit.number fit.site).distinct a.0.fits.2

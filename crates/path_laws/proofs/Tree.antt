@@ -1,10 +1,10 @@
--- The text of a checked declaration without imports has its types and clocks, at every depth of calls.
+-- The text of a checked declaration has its types and clocks, at every depth of calls.
 use Rattle.std.proofs.lemmas.Grind.{flat_map-append}
-use Rattle.std.proofs.Common.{◌≡◌, ℕ, suc, pred, ◌<◌, ◌≤◌, true, List, [], ◌∷◌, ◌++◌, map, flat_map, length, Some, refl, sym, ap, ◌∙◌, subst, arith}
+use Rattle.std.proofs.Common.{zero, ◌≡◌, ℕ, suc, pred, ◌<◌, ◌≤◌, true, List, [], ◌∷◌, ◌++◌, map, flat_map, length, Some, refl, sym, ap, ◌∙◌, subst, arith}
 use Rattle.std.specs.Prelude.{Contains, is_none}
 use Rattle.std.specs.List.{AllByRecursion}
 use Rattle.lus_tree.specs.declared.place.Sort.TheVariants.{Bool as Flags}
-use Rattle.lus_tree.specs.Tree.{Expression, truth, number, name, negation, minus, pre, arrow, binary, choice, sampled, merged, call, condact, mode_name, Variable, Labelled, Statement, equation, assertion, property, main_mark, ContractStatement, assume, guarantee, ghost_variable, constant, mode, «import», Component, Program}
+use Rattle.lus_tree.specs.Tree.{text_of, Expression, truth, number, name, negation, minus, pre, arrow, binary, choice, sampled, merged, call, condact, mode_name, Variable, Labelled, Statement, equation, assertion, property, main_mark, ContractStatement, assume, guarantee, ghost_variable, constant, mode, «import», Component, Program}
 use Rattle.lus_tree.specs.Numbers.{IsNumbered}
 use Rattle.lus_meaning.specs.Scene.{Clock, base, Site, Instance, Instances, instance, no_instances, with_instance, component_of, calls_of, call_instance, clock_from, clock_of, clock_of_names, contract_statements, ghosts, variables}
 use Rattle.lus_meaning.specs.Program.{site_in, import_site, all_sites, component_named, in_order}
@@ -30,7 +30,7 @@ use Rattle.rule_laws.proofs.Callees.{GoesDown, each_site}
 use Rattle.rule_laws.proofs.Goods.{place_of, typed_declaration, each_passes, without_clocks}
 use Rattle.rule_laws.proofs.Unfolded.{typed_tree}
 use Rattle.rule_laws.proofs.Numbered.{InPlace, all_in_place}
-use Rattle.rule_laws.proofs.Places.{numbered, by_number}
+use Rattle.rule_laws.proofs.Places.{memories_counted, starts_counted, sites_counted, numbered, by_number}
 use Rattle.clock_laws.proofs.Clocks.{declared_at}
 use Rattle.clock_laws.proofs.OrderLaws.{names_distinct}
 use Rattle.clock_laws.proofs.Texts.{all_grammatical}
@@ -38,14 +38,15 @@ use Rattle.clock_laws.proofs.Same.{some_same}
 use Rattle.run_laws.proofs.Sources.{IsCallee}
 use Rattle.run_laws.proofs.Texts.{declaration, is_callee, named_at}
 use Rattle.sys_meaning.specs.WellTyped.{IsKnown, checked, ClockFits, EquationFits, MemoryFits, StartFits, FlagFits, StatementFits, StatementsFit, own_keys, OwnFits, CallFits, TreeFits, CallsFit, IsNameOn, IsMemory, Stands}
+use Rattle.sys_meaning.specs.Defaults as defaults
 use Rattle.sys_meaning.specs.WellTyped as typed
 use Rattle.sys_meaning.proofs.Found.{found_number}
-use Rattle.path_laws.specs.Laws.{IsPlain, HasNoImports, CallsHaveNoImports}
 use Rattle.path_laws.proofs.Chains.{name_on, clock_is}
-use Rattle.path_laws.proofs.Numbers.{memories_counted, starts_counted, sites_counted, CountedFrom, in_order_counted, each_found, at_get, at_within}
-use Rattle.path_laws.proofs.Places.{SiteMade, MemoryMade, StartMade, memories_made, starts_made, sites_made, known_texts, KnownText, stand, good_names, good_stream}
-use Rattle.path_laws.proofs.Among.{keys_of, all_among, stands_among}
-use Rattle.path_laws.proofs.Standing.{Known}
+use Rattle.path_laws.proofs.Numbers.{CountedFrom, in_order_counted, each_found, at_get, at_within}
+use Rattle.path_laws.proofs.Places.{imports_known, imports_made, SiteMade, MemoryMade, StartMade, memories_made, starts_made, sites_made, known_texts, KnownText, stand, good_names, good_stream}
+use Rattle.path_laws.proofs.Among.{IsImported, keys_of, all_among, stands_among}
+use Rattle.path_laws.proofs.Standing.{site_there, Known}
+use Rattle.sys_meaning.specs.Defaults.{site_of}
 
 none_more : {A : Type 0} (xs : List A) → xs ++ [] ≡ xs
 none_more [] = refl
@@ -93,8 +94,7 @@ ghost_clocks i (v ∷ vs) o a =
     (sym (clock_is (component_of i) v.name.text (clock_from v.clock) a.0.name.clock) ∙ ap clock_from o.0, ghost_clocks i vs o.1 a.1)
 
 module _ (p : Program) (c : IsChecked p) where
-  module _ (i : Instance) (u : IsUnfolded p i) (j : Contains (components p) (component_of i))
-      (plain_here : AllByRecursion IsPlain (contract_statements (component_of i))) where
+  module _ (i : Instance) (u : IsUnfolded p i) (j : Contains (components p) (component_of i)) where
     abbrev here : Component
     here = component_of i
 
@@ -105,13 +105,13 @@ module _ (p : Program) (c : IsChecked p) where
     k = numbered p c.grammatical (component_of i) j
 
     abbrev Text_known : Text → Type 0
-    Text_known x = KnownText p c i u j plain_here x
+    Text_known x = KnownText p c i u j x
 
     abbrev Flag : Expression → Type 0
     Flag e = Stands i (IsKnown i) base e × (sort_of i e ≡ Flags)
 
     stand_at : (t : _) (e : Expression) → Each (Known i) (component_of i) t e → Stands i (IsKnown i) t.clock e
-    stand_at t e a = stand p c i u j plain_here t e a
+    stand_at t e a = stand p c i u j t e a
 
     abbrev IsFlagHere : Expression → Type 0
     IsFlagHere e = sort_of i e ≡ Flags
@@ -124,28 +124,35 @@ module _ (p : Program) (c : IsChecked p) where
     abbrev place : Home
     place = home p at_place.0 at_place.1
 
-    flag_among : (bs : List ContractStatement) → AllByRecursion IsPlain bs → (l : Labelled) →
+    abbrev Imported : Site → Type 0
+    Imported = IsImported p i
+
+    at_number : (m : ℕ) → 1 ≤ m → (s : Site) → defaults.site_at (calls_of i) (pred m) ≡ s → site_of i m ≡ s
+    at_number zero l s e = absurd (omega (arith, l))
+    at_number (suc m) l s e = e
+
+    flag_among : (bs : List ContractStatement) → AllByRecursion Imported (flat_map import_site bs) → (l : Labelled) →
         flag_faults (contract_statement_scope place bs) l.value ≡ [] → Text_known (on_clock base, l.value) → IsFlagHere l.value →
-        FlagFits i (keys_of bs) l
+        FlagFits i (keys_of i bs) l
     flag_among bs q l f a s = (
-      stands_among i (IsKnown i) (keys_of bs) l.value (on_clock base)
-          (all_among p at_place.0 at_place.1 bs q l.value
+      stands_among i (IsKnown i) (keys_of i bs) l.value (on_clock base)
+          (all_among p at_place.0 at_place.1 i bs q l.value
           (no_parts (needs_sort (contract_statement_scope place bs) Flags l.value)
           (expression_faults (contract_statement_scope place bs) (on_clock base) l.value) f).1) (stand_at (on_clock base) l.value a),
       s,
     )
 
-    flags_among : (bs : List ContractStatement) → AllByRecursion IsPlain bs → (ls : List Labelled) →
+    flags_among : (bs : List ContractStatement) → AllByRecursion Imported (flat_map import_site bs) → (ls : List Labelled) →
         flags_of (contract_statement_scope place bs) ls ≡ [] → AllByRecursion Text_known (on_base ls) → AllByRecursion IsFlagHere (values_of ls) →
-        AllByRecursion (FlagFits i (keys_of bs)) ls
+        AllByRecursion (FlagFits i (keys_of i bs)) ls
     flags_among bs q [] f a s = tt
     flags_among bs q (l ∷ ls) f a s =
         let r = no_parts (flag_faults (contract_statement_scope place bs) l.value) (flags_of (contract_statement_scope place bs) ls) f in
         (flag_among bs q l r.0 a.0 s.0, flags_among bs q ls r.1 a.1 s.1)
 
-    statement_fits : (bs : List ContractStatement) → AllByRecursion IsPlain bs → (x : ContractStatement) → IsPlain x →
+    statement_fits : (bs : List ContractStatement) → AllByRecursion Imported (flat_map import_site bs) → (x : ContractStatement) → AllByRecursion (SiteMade i) (import_site x) →
         contract_statement_faults (contract_statement_scope place bs) x ≡ [] → AllByRecursion Text_known (contract_statement_texts x) →
-        AllByRecursion IsFlagHere (contract_flags x) → StatementFits i (keys_of bs) x
+        AllByRecursion IsFlagHere (contract_flags x) → StatementFits i (keys_of i bs) x
     statement_fits bs q (assume l) y f a s = flag_among bs q l f a.0 s.0
     statement_fits bs q (guarantee l) y f a s = flag_among bs q l f a.0 s.0
     statement_fits bs q (ghost_variable x e) y f a s = tt
@@ -155,22 +162,34 @@ module _ (p : Program) (c : IsChecked p) where
           flags_among bs q rs r.0 (left_part Text_known (on_base rs) (on_base es) a) (left_part IsFlagHere (values_of rs) (values_of es) s),
           flags_among bs q es r.1 (right_part Text_known (on_base rs) (on_base es) a) (right_part IsFlagHere (values_of rs) (values_of es) s),
         )
-    statement_fits bs q («import» m x as_ ys) y f a s = absurd y
+    statement_fits bs q («import» m x as_ ys) y f a s =
+        let there = site_there (calls_of i) (pred m) _ y.0.site in
+        record {
+          call = y.0.call;
+          clock = ap (λ (z : Site). z.clock) (at_number m y.0.number _ there.0);
+          outputs = map text_of ys;
+          manner = ap (λ (z : Site). z.manner) (at_number m y.0.number _ there.0);
+        }
 
-    one_more : (bs : List ContractStatement) (x : ContractStatement) → AllByRecursion IsPlain bs → IsPlain x → AllByRecursion IsPlain (bs ++ x ∷ [])
-    one_more [] x q y = (y, tt)
-    one_more (b ∷ bs) x q y = (q.0, one_more bs x q.1 y)
+    imported_both : (bs : List ContractStatement) (x : ContractStatement) → AllByRecursion Imported (flat_map import_site bs) →
+        AllByRecursion Imported (import_site x) → AllByRecursion Imported (flat_map import_site (bs ++ x ∷ []))
+    imported_both bs x q y =
+        subst (AllByRecursion Imported) (sym (flat_map-append import_site bs (x ∷ [])))
+        (both_parts Imported (flat_map import_site bs) (import_site x ++ []) q (both_parts Imported (import_site x) [] y tt))
 
-    contract_fits : (bs : List ContractStatement) → AllByRecursion IsPlain bs → (xs : List ContractStatement) → AllByRecursion IsPlain xs →
+    contract_fits : (bs : List ContractStatement) → AllByRecursion Imported (flat_map import_site bs) → (xs : List ContractStatement) →
+        AllByRecursion Imported (flat_map import_site xs) → AllByRecursion (SiteMade i) (flat_map import_site xs) →
         contract_faults place bs xs ≡ [] → AllByRecursion Text_known (flat_map contract_statement_texts xs) →
-        AllByRecursion IsFlagHere (flat_map contract_flags xs) → StatementsFit i (keys_of bs) xs
-    contract_fits bs q [] y f a s = tt
-    contract_fits bs q (x ∷ xs) y f a s =
+        AllByRecursion IsFlagHere (flat_map contract_flags xs) → StatementsFit i (keys_of i bs) xs
+    contract_fits bs q [] y m f a s = tt
+    contract_fits bs q (x ∷ xs) y m f a s =
         let r = no_parts (contract_statement_faults (contract_statement_scope place bs) x) (contract_faults place (bs ++ x ∷ []) xs) f in (
-          statement_fits bs q x y.0 r.0 (left_part Text_known (contract_statement_texts x) (flat_map contract_statement_texts xs) a)
+          statement_fits bs q x (left_part (SiteMade i) (import_site x) (flat_map import_site xs) m) r.0
+              (left_part Text_known (contract_statement_texts x) (flat_map contract_statement_texts xs) a)
               (left_part IsFlagHere (contract_flags x) (flat_map contract_flags xs) s),
-          subst (λ ks. StatementsFit i ks xs) (flat_map-append own_keys bs (x ∷ []) ∙ ap (λ ks. keys_of bs ++ ks) (none_more (own_keys x)))
-              (contract_fits (bs ++ x ∷ []) (one_more bs x q y.0) xs y.1 r.1
+          subst (λ ks. StatementsFit i ks xs) (flat_map-append (own_keys i) bs (x ∷ []) ∙ ap (λ ks. keys_of i bs ++ ks) (none_more (own_keys i x)))
+              (contract_fits (bs ++ x ∷ []) (imported_both bs x q (left_part Imported (import_site x) (flat_map import_site xs) y)) xs
+              (right_part Imported (import_site x) (flat_map import_site xs) y) (right_part (SiteMade i) (import_site x) (flat_map import_site xs) m) r.1
               (right_part Text_known (contract_statement_texts x) (flat_map contract_statement_texts xs) a)
               (right_part IsFlagHere (contract_flags x) (flat_map contract_flags xs) s)),
         )
@@ -196,17 +215,18 @@ module _ (p : Program) (c : IsChecked p) where
     abbrev SideKnown : Equation → Type 0
     SideKnown e = Each (Known i) (component_of i) (as_side (clock_of_names (component_of i) e.names)) e.right
 
-    ghost_sides : (xs : List ContractStatement) → AllByRecursion IsPlain xs → AllByRecursion Text_known (flat_map contract_statement_texts xs) →
+    ghost_sides : (xs : List ContractStatement) → AllByRecursion Text_known (flat_map contract_statement_texts xs) →
         AllByRecursion (λ v. clock_of (component_of i) v.name.text ≡ base) (ghosts xs) → AllByRecursion SideKnown (ghost_equations xs)
-    ghost_sides [] q a g = tt
-    ghost_sides (assume l ∷ xs) q a g = ghost_sides xs q.1 a.1 g
-    ghost_sides (guarantee l ∷ xs) q a g = ghost_sides xs q.1 a.1 g
-    ghost_sides (ghost_variable x e ∷ xs) q a g =
-        (subst (λ z. Each (Known i) (component_of i) (as_side z) e) (sym g.0) a.0, ghost_sides xs q.1 a.1 g.1)
-    ghost_sides (constant x ∷ xs) q a g = ghost_sides xs q.1 a.1 g
-    ghost_sides (mode m rs es ∷ xs) q a g =
-        ghost_sides xs q.1 (right_part Text_known (on_base rs ++ on_base es) (flat_map contract_statement_texts xs) a) g
-    ghost_sides («import» m x as_ ys ∷ xs) q a g = absurd q.0
+    ghost_sides [] a g = tt
+    ghost_sides (assume l ∷ xs) a g = ghost_sides xs a.1 g
+    ghost_sides (guarantee l ∷ xs) a g = ghost_sides xs a.1 g
+    ghost_sides (ghost_variable x e ∷ xs) a g =
+        (subst (λ z. Each (Known i) (component_of i) (as_side z) e) (sym g.0) a.0, ghost_sides xs a.1 g.1)
+    ghost_sides (constant x ∷ xs) a g = ghost_sides xs a.1 g
+    ghost_sides (mode m rs es ∷ xs) a g =
+        ghost_sides xs (right_part Text_known (on_base rs ++ on_base es) (flat_map contract_statement_texts xs) a) g
+    ghost_sides («import» m x as_ ys ∷ xs) a g =
+        ghost_sides xs (right_part Text_known (map (λ e. (on_clock base, e)) as_) (flat_map contract_statement_texts xs) a) g
 
     body_sides : (ss : List Statement) → AllByRecursion Text_known (flat_map (statement_texts (component_of i)) ss) →
         AllByRecursion SideKnown (body_equations ss)
@@ -223,7 +243,7 @@ module _ (p : Program) (c : IsChecked p) where
     body_texts_here = flat_map (statement_texts (component_of i)) (component_of i).body
 
     texts_known : AllByRecursion Text_known (texts (component_of i))
-    texts_known = known_texts p c i u j plain_here
+    texts_known = known_texts p c i u j
 
     contract_known : AllByRecursion Text_known contract_texts_here
     contract_known = left_part Text_known contract_texts_here (constant_texts here.constants ++ body_texts_here) texts_known
@@ -241,11 +261,11 @@ module _ (p : Program) (c : IsChecked p) where
               (λ x. IsNameOn i (IsKnown i) (clock_of_names here e.names) x)
               (λ x h. name_on i (IsKnown i) (clock_of_names here e.names) x _ h) e.names f.names;
           sorts = f.sorts ∙ same_right i e.right;
-          clock = good_names p c i u j plain_here e.names (λ x. IsStreamOn i (clock_of_names here e.names) (sort_of_name i x) x)
+          clock = good_names p c i u j e.names (λ x. IsStreamOn i (clock_of_names here e.names) (sort_of_name i x) x)
               (λ x h. h.clock) f.names;
         }) (equations here) decl.equations
         (both_parts SideKnown (ghost_equations (contract_statements here)) (body_equations here.body)
-        (ghost_sides (contract_statements here) plain_here contract_known g) (body_sides here.body body_known))
+        (ghost_sides (contract_statements here) contract_known g) (body_sides here.body body_known))
 
     -- ---- memories and starts
 
@@ -255,7 +275,7 @@ module _ (p : Program) (c : IsChecked p) where
         let w : pred m.number < length (in_order (λ (x : Memory). x.number) (memories here)) =
         at_within (in_order (λ (x : Memory). x.number) (memories here)) (pred m.number) m q.place in
         let s : length (in_order (λ (x : Memory). x.number) (memories here)) ≡ length (memories here) =
-        in_order_length (λ (x : Memory). x.number) (memories here) (memories_counted here plain_here k) in
+        in_order_length (λ (x : Memory). x.number) (memories here) (memories_counted here k) in
         record {
           found = a.found;
           counted = omega (arith, l);
@@ -268,7 +288,7 @@ module _ (p : Program) (c : IsChecked p) where
     memories_fit : AllByRecursion (MemoryFits i (IsKnown i)) (memories (component_of i))
     memories_fit =
         all_from_both (MemoryMade i) (InPlace (λ x. x.number) (memories here)) (MemoryFits i (IsKnown i)) memory_fits (memories here)
-        (memories_made p c i u j plain_here) (all_in_place (λ x. x.number) (memories here) (memories_counted here plain_here k))
+        (memories_made p c i u j) (all_in_place (λ x. x.number) (memories here) (memories_counted here k))
 
     start_fits : (m : Start) → StartMade i m → InPlace (λ x. x.number) (starts (component_of i)) m → StartFits i (IsKnown i) m
     start_fits m a q =
@@ -276,7 +296,7 @@ module _ (p : Program) (c : IsChecked p) where
         let w : pred m.number < length (in_order (λ (x : Start). x.number) (starts here)) =
         at_within (in_order (λ (x : Start). x.number) (starts here)) (pred m.number) m q.place in
         let s : length (in_order (λ (x : Start). x.number) (starts here)) ≡ length (starts here) =
-        in_order_length (λ (x : Start). x.number) (starts here) (starts_counted here plain_here k) in
+        in_order_length (λ (x : Start). x.number) (starts here) (starts_counted here k) in
         record {
           found = a.found;
           counted = omega (arith, l);
@@ -287,7 +307,7 @@ module _ (p : Program) (c : IsChecked p) where
     starts_fit : AllByRecursion (StartFits i (IsKnown i)) (starts (component_of i))
     starts_fit =
         all_from_both (StartMade i) (InPlace (λ x. x.number) (starts here)) (StartFits i (IsKnown i)) start_fits (starts here)
-        (starts_made p c i u j plain_here) (all_in_place (λ x. x.number) (starts here) (starts_counted here plain_here k))
+        (starts_made p c i u j) (all_in_place (λ x. x.number) (starts here) (starts_counted here k))
 
     many : {A B : Type 0} (f : A → B) (xs : List A) → length (map f xs) ≡ length xs
     many f [] = refl
@@ -296,10 +316,10 @@ module _ (p : Program) (c : IsChecked p) where
     firsts_fit : (l : ℕ) → l < length (first_sorts i) → (t : Clock) × (a : Expression) × IsMemory i (IsKnown i) (suc l) t a
     firsts_fit l h =
         let s : length (in_order (λ (x : Memory). x.number) (memories here)) ≡ length (memories here) =
-        in_order_length (λ (x : Memory). x.number) (memories here) (memories_counted here plain_here k) in
+        in_order_length (λ (x : Memory). x.number) (memories here) (memories_counted here k) in
         let w : length (first_sorts i) ≡ length (in_order (λ (x : Memory). x.number) (memories here)) =
         many (λ (x : Memory). sort_of i x.operand) (in_order (λ (x : Memory). x.number) (memories here)) in
-        let m = each_found (λ (x : Memory). x.number) (memories here) (memories_counted here plain_here k) (suc l) (omega arith)
+        let m = each_found (λ (x : Memory). x.number) (memories here) (memories_counted here k) (suc l) (omega arith)
         (omega (arith, h, w, s)) in (
           m.0.clock,
           m.0.operand,
@@ -311,7 +331,7 @@ module _ (p : Program) (c : IsChecked p) where
     stream_fits v s = record {
       name = name_on i (IsKnown i) (clock_from v.clock) v.name.text _ s.name;
       sort = s.name.sort;
-      clock = good_stream p c i u j plain_here v s;
+      clock = good_stream p c i u j v s;
     }
 
     ghosts_here : AllByRecursion (λ v. clock_of (component_of i) v.name.text ≡ base) (ghosts (contract_statements (component_of i)))
@@ -323,7 +343,7 @@ module _ (p : Program) (c : IsChecked p) where
     pub own_fits : OwnFits i (IsKnown i)
     own_fits = record {
       once = names_distinct p c.rules.clocked.typed (component_of i) j;
-      contract = contract_fits [] tt (contract_statements here) plain_here
+      contract = contract_fits [] tt (contract_statements here) (imports_known p c i u j) (imports_made p c i u j)
           (typed_declaration p (typed_tree p c) at_place (place_of 0 p (component_of i) j).is j).contract contract_known
           (left_part IsFlagHere (flat_map contract_flags (contract_statements here)) (flat_map statement_flags here.body) decl.flags);
       streams = all_from (declarations.StreamFits i) (typed.StreamFits i (IsKnown i)) stream_fits (variables here) decl.streams;
@@ -359,10 +379,9 @@ module _ (p : Program) (c : IsChecked p) where
     call = subst (typed.IsCall i (IsKnown i)) e m.call;
     clock = m.clock;
     arguments = m.arguments;
-    sorts = m.fits.arguments ∙ ap (λ (n : Component). sorts_of n.inputs) (sym same);
-    manner = m.manner k;
+    sorts = m.sorts ∙ ap (λ (n : Component). sorts_of n.inputs) (sym same);
+    manner = m.manner k same;
     held = λ a h. subst (λ l. (ds : _) × typed.IsHeldCall i (IsKnown i) l s.clock a ds) e (m.held a h);
-    no_import = m.no_import;
     inputs = names_on_base k (component_of k).inputs w.inputs_on_base w.inputs;
     input_sorts = names_sorts k (component_of k).inputs w.inputs;
     outputs = names_on_base k (component_of k).outputs w.outputs_on_base w.outputs;
@@ -376,25 +395,25 @@ module _ (p : Program) (c : IsChecked p) where
       named_at p (all_sites d) is u.1 (pred s.number) s e ∙ ap (λ k. Some (component_of k)) (by_number (instance d cs is) s.number l)
 
   mutual
-    pub tree_fits : (i : Instance) → IsUnfolded p i → Contains (components p) (component_of i) → HasNoImports i → TreeFits IsKnown i
-    tree_fits (instance d cs is) u j h =
+    pub tree_fits : (i : Instance) → IsUnfolded p i → Contains (components p) (component_of i) → TreeFits IsKnown i
+    tree_fits (instance d cs is) u j =
         let i : Instance = instance d cs is in (
-          own_fits i u j h.0,
-          calls_fit i u (all_sites d) is 0 u.1 (each_site p c.rules.clocked.typed d j) (sites_made p c i u j h.0)
+          own_fits i u j,
+          calls_fit i u (all_sites d) is 0 u.1 (each_site p c.rules.clocked.typed d j) (sites_made p c i u j)
               (in_order_counted (λ s. s.number) (gathered site_in d ++ flat_map import_site (contract_statements d))
-              (sites_counted d h.0 (numbered p c.grammatical d j))) h.1,
+              (sites_counted d (numbered p c.grammatical d j))),
         )
 
     calls_fit : (i : Instance) → IsUnfolded p i → (ss : List Site) (is : Instances) (q : ℕ) → AreUnfolded p ss is →
         AllByRecursion (λ s. GoesDown p (component_of i) s.callee) ss → AllByRecursion (SiteMade i) ss → CountedFrom (λ s. s.number) (suc q) ss →
-        CallsHaveNoImports is → CallsFit IsKnown i is q
-    calls_fit i u ss no_instances q w a m n h = tt
-    calls_fit i u [] (with_instance t k is) q w a m n h = absurd w
-    calls_fit i u (s ∷ ss) (with_instance t k is) q w a m n h =
+        CallsFit IsKnown i is q
+    calls_fit i u ss no_instances q w a m n = tt
+    calls_fit i u [] (with_instance t k is) q w a m n = absurd w
+    calls_fit i u (s ∷ ss) (with_instance t k is) q w a m n =
         let there : Contains (components p) (component_of k) = declared_at p c (component_of i) s k a.0 w.1 in
         let same : component_of k ≡ component_of (call_instance i s.number) =
-        some_same (component_of k) (component_of (call_instance i s.number)) (sym w.1 ∙ named_there i u s m.0.fits.number m.0.fits.site) in (
+        some_same (component_of k) (component_of (call_instance i s.number)) (sym w.1 ∙ named_there i u s m.0.number m.0.site) in (
           subst (λ z. CallFits IsKnown i z k q) (sym w.0) (call_fits i s k q n.0 m.0 same (is_callee p c k w.2 there)),
-          tree_fits k w.2 there h.0,
-          calls_fit i u ss is (suc q) w.3 a.1 m.1 n.1 h.1,
+          tree_fits k w.2 there,
+          calls_fit i u ss is (suc q) w.3 a.1 m.1 n.1,
         )

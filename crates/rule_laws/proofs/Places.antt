@@ -50,7 +50,7 @@ no_imports (constant c ∷ cs) = no_imports cs
 no_imports (mode m rs es ∷ cs) = no_imports cs
 no_imports («import» k f as_ xs ∷ cs) = no_imports cs
 
-memories_counted : (n : Component) → IsNumbered n → are_counted (map (λ m. m.number) (memories n)) ≡ true
+pub memories_counted : (n : Component) → IsNumbered n → are_counted (map (λ m. m.number) (memories n)) ≡ true
 memories_counted n k =
     let same : numbers_in a_pre n ≡ map (λ m. m.number) (memories n) = ap (λ xs. all_numbers pre_number n ++ xs)
     (no_imports (contract_statements n)) ∙ append_none (all_numbers pre_number n) ∙ sym (memory_numbers n) in
@@ -84,7 +84,7 @@ imports_are («import» k f as_ xs ∷ cs) = ap (λ ks. k ∷ ks) (imports_are c
 abbrev found_sites : Component → List Site
 found_sites n = gathered site_in n ++ flat_map import_site (contract_statements n)
 
-sites_counted : (n : Component) → IsNumbered n → are_counted (map (λ c. c.number) (found_sites n)) ≡ true
+pub sites_counted : (n : Component) → IsNumbered n → are_counted (map (λ c. c.number) (found_sites n)) ≡ true
 sites_counted n k =
     let calls : map (λ (c : Site). c.number) (gathered site_in n) ≡ all_numbers call_number n = numbers_gathered site_in
     (λ c. c.number) call_number site_is n in
@@ -104,7 +104,7 @@ no_started_imports (constant c ∷ cs) = no_started_imports cs
 no_started_imports (mode m rs es ∷ cs) = no_started_imports cs
 no_started_imports («import» k f as_ xs ∷ cs) = no_started_imports cs
 
-starts_counted : (n : Component) → IsNumbered n → are_counted (map (λ m. m.number) (starts n)) ≡ true
+pub starts_counted : (n : Component) → IsNumbered n → are_counted (map (λ m. m.number) (starts n)) ≡ true
 starts_counted n k =
     let same : numbers_in an_arrow n ≡ map (λ m. m.number) (starts n) = ap (λ xs. all_numbers arrow_number n ++ xs)
     (no_started_imports (contract_statements n)) ∙ append_none (all_numbers arrow_number n) ∙ sym (start_numbers n) in

@@ -160,13 +160,13 @@ module _ (i : Instance) (at : Place → ℕ) (ks : List Key) (m m' : Known Formu
 
 module _ (s : Scene) (M N : Key → Type 0) where
   as_call : (k : ℕ) → IsCall s.place N k → IsCall s.place M k
-  as_call k h = record { number = h.number; counted = h.counted; listed = h.listed; outputs = h.outputs; named = h.named }
+  as_call k h = record { number = h.number; counted = h.counted; listed = h.listed; named = h.named }
 
   as_plain : (k : ℕ) (c : Clock) → IsPlainCall s.place N k c → IsPlainCall s.place M k c
-  as_plain k c h = record { call = as_call k h.call; clock = h.clock; manner = h.manner }
+  as_plain k c h = record { call = as_call k h.call; outputs = h.outputs; clock = h.clock; manner = h.manner }
 
   as_held : (k : ℕ) (c : Clock) (a : Expression) (ds : Expressions) → IsHeldCall s.place N k c a ds → IsHeldCall s.place M k c a ds
-  as_held k c a ds h = record { call = as_call k h.call; clock = h.clock; manner = h.manner; defaults = h.defaults }
+  as_held k c a ds h = record { call = as_call k h.call; outputs = h.outputs; clock = h.clock; manner = h.manner; defaults = h.defaults }
 
   module _ (num : Place → ℕ) (now next : Values) (u : ℕ) (modes : Known Formula) where
     shown_call : (k : ℕ) → CallShown s M num now next u k → CallShown s N num now next u k

@@ -79,11 +79,11 @@ module _ (i : Instance) (ModeAt : Key → Type 0) where
     pub number : (site_of i k).number ≡ k
     pub counted : 0 < k
     pub listed : pred k < count_of (calls_of i)
-    pub outputs : HasOutput k
     pub named : AllByRecursion (OutputFits k) (component_of (call_instance i k)).outputs
 
   pub record IsPlainCall (k : ℕ) (c : Clock) : Type 0 where
     pub call : IsCall k
+    pub outputs : HasOutput k
     pub clock : (site_of i k).clock ≡ c
     pub manner : (site_of i k).manner ≡ plain
 
@@ -98,6 +98,7 @@ module _ (i : Instance) (ModeAt : Key → Type 0) where
 
   pub record IsHeldCall (k : ℕ) (c : Clock) (a : Expression) (ds : Expressions) : Type 0 where
     pub call : IsCall k
+    pub outputs : HasOutput k
     pub clock : (site_of i k).clock ≡ c
     pub manner : (site_of i k).manner ≡ while_true a
     pub defaults : DefaultsFit k (component_of (call_instance i k)).outputs ds
