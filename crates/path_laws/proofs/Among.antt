@@ -101,16 +101,17 @@ module _ (p : Program) (k : ℕ) (n : Component) (i : Instance) (bs : List Contr
   imported_among c m (constant x ∷ cs) a h e = imported_among c m cs a h e
   imported_among c m (mode x rs es ∷ cs) a h e =
       among_right (c ∷ [], m) (([], x.text) ∷ []) (keys_of i cs) (imported_among c m cs a h e)
-  imported_among c m («import» l d as_ xs ∷ cs) a h e = go (bytes_eq c d.text) refl h
+  imported_among c m («import» l d as_ xs ∷ cs) a h e = go (bytes_eq c d.text) refl h (λ r. imported_among c m cs a.1 r e)
     where
       there : bytes_eq c d.text ≡ true → named_in m (mode_names (contract_statements (component_of (call_instance i l)))) ≡ true
       there q = subst (λ o. has_mode m o ≡ true) (ap (contract_named p) (same_bytes c d.text q) ∙ a.0.0) e
 
       go : (z : Bool) → bytes_eq c d.text ≡ z → (z || named_in c (import_names cs)) ≡ true →
+          (named_in c (import_names cs) ≡ true → IsAmong (keys_of i cs) (c ∷ [], m)) →
           IsAmong (own_keys i («import» l d as_ xs) ++ keys_of i cs) (c ∷ [], m)
-      go true q r = among_left (c ∷ [], m) (own_keys i («import» l d as_ xs)) (keys_of i cs)
+      go true q r s = among_left (c ∷ [], m) (own_keys i («import» l d as_ xs)) (keys_of i cs)
           (through_among c d.text m (terms (call_instance i l)).modes q (a.0.1.own m (there q)))
-      go false q r = among_right (c ∷ [], m) (own_keys i («import» l d as_ xs)) (keys_of i cs) (imported_among c m cs a.1 r e)
+      go false q r s = among_right (c ∷ [], m) (own_keys i («import» l d as_ xs)) (keys_of i cs) (s r)
 
   known_among : (d : Option Spelled) (m : Spelled) → mode_is_known scope d m ≡ true → IsAmong (keys_of i bs) (option_to_list (option_map text_of d), m.text)
   known_among None m h = own_among i m.text bs h

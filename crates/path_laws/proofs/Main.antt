@@ -37,7 +37,7 @@ use Rattle.sys_meaning.proofs.CheckedTrace.{trace_of_path}
 use Rattle.sys_meaning.proofs.CheckedVerdicts.{holds_where_bounded, holds_where_reachable}
 use Rattle.sys_meaning.proofs.Follows.{lemma_law, property_law}
 use Rattle.sys_meaning.proofs.OneRun.{runs_are_paths}
-use Rattle.path_laws.specs.Laws.{EachAreWellTyped, EachRunsArePaths, EachLemmas, EachProperties, EachTraces, EachHolds, EachBounds, EachBreaks}
+use Rattle.path_laws.specs.Laws.{EachIsWellTyped, EachRunsArePaths, EachLemmas, EachProperties, EachTraces, EachHolds, EachBounds, EachBreaks}
 use Rattle.path_laws.proofs.OnePlace.{slots_numbered}
 use Rattle.path_laws.proofs.Places.{SiteMade, HeldMany, sites_made}
 use Rattle.path_laws.proofs.Spots.{HeldTree, CallsHeld, places_found, slots_placed}
@@ -136,7 +136,7 @@ mutual
 
 -- ---- the laws
 
-pub each_is_well_typed : EachAreWellTyped
+pub each_is_well_typed : EachIsWellTyped
 each_is_well_typed p c n j =
     let i : Instance = instance_of p n in
     let u : IsUnfolded p i = each_unfolded p c n j in

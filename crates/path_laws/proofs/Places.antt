@@ -41,7 +41,6 @@ use Rattle.sys_meaning.specs.Slot.{memory_of, start_of}
 use Rattle.sys_meaning.specs.WellTyped.{IsNameOn, IsKnown, ClockFits, IsMemory, IsStart, IsCall, IsHeldCall, MannerFits, Stands}
 use Rattle.path_laws.proofs.Chains.{name_on, is_declared_name, base_fits, flag_fits, name_fits, Ranked, ranked_of}
 use Rattle.path_laws.proofs.Chains as chains
-use Rattle.path_laws.proofs.Numbers.{no_import_sites}
 use Rattle.path_laws.proofs.Standing.{call_at, Known, OutputsKnown, stands}
 use Rattle.lus_meaning.specs.Scope.{contract_named}
 use Rattle.lus_meaning.specs.Contract.{terms}

@@ -34,7 +34,6 @@ use Rattle.sys_meaning.specs.Defaults as defaults
 use Rattle.sys_meaning.specs.Slot.{memory_of, start_of}
 use Rattle.sys_meaning.specs.Items.{Key}
 use Rattle.sys_meaning.specs.WellTyped.{IsKnown, count_of, NameFits, HasConstant, OutputFits, IsCall, DefaultsFit, Stands}
-use Rattle.path_laws.specs.Laws.{IsPlain}
 use Rattle.path_laws.proofs.Chains.{clock_is, is_declared_name, name_on}
 
 -- ---- constants
