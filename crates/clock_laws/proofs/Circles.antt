@@ -24,7 +24,8 @@ use Rattle.rule_laws.proofs.Places.{calls_in_place}
 use Rattle.clock_laws.proofs.AllPlaces.{same_spot, spots_equal, member_in, is_member}
 use Rattle.clock_laws.proofs.Clocks.{placed_of, IsFaultless, faultless, unfolded_same, imports_placed, sub_named_of, declared_at, sub_of}
 use Rattle.clock_laws.proofs.LightWalk.{weights_after, keys_of, EachPlaced, walk_light, SiteLight, sites_light, caller_light}
-use Rattle.clock_laws.proofs.Parts.{each_listed, all_parts}
+use Rattle.rule_laws.proofs.Covered.{all_contained}
+use Rattle.rule_laws.proofs.Goods.{all_of_each}
 use Rattle.clock_laws.proofs.Reaching.{in_either, in_image, RouteOf}
 use Rattle.clock_laws.proofs.Routes.{joined}
 use Rattle.clock_laws.proofs.TopCircles.{top, beat_needs_none, top_circle}
@@ -224,11 +225,11 @@ module _ (p : Program) (c : IsChecked p) where
       let n : Component = component_of i in
       let P : Occurrence → Type 0 = λ o. AllByRecursion (λ d. HasItsPlace i (node_named p d.callee) d) (site_in o.standing o.expression) in
       let calls : AllByRecursion P (all_occurrences n) =
-      all_parts (λ d. HasItsPlace i (node_named p d.callee) d) (λ o. site_in o.standing o.expression) (all_occurrences n)
-      (each_listed (λ d. HasItsPlace i (node_named p d.callee) d) (gathered site_in n)
+      all_of_each (λ d. HasItsPlace i (node_named p d.callee) d) (λ o. site_in o.standing o.expression) (all_occurrences n)
+      (all_contained (λ d. HasItsPlace i (node_named p d.callee) d) (gathered site_in n)
       (λ d h. subst (λ k. HasItsPlace k (node_named p d.callee) d) (sym same) (calls_in_place p c n j d h))) in
       all_from (λ x. AllByRecursion P (occurrences n x.0 x.1)) (λ x. Each P n x.0 x.1) (λ x a. each_part P n x.0 x.1 a) (texts n)
-      (all_parts P (λ x. occurrences n x.0 x.1) (texts n) calls)
+      (all_of_each P (λ x. occurrences n x.0 x.1) (texts n) calls)
 
   site_of : (P : Site → Type 0) (ss : List Site) (is : Instances) → AreUnfolded p ss is → AllByRecursion P ss → (j : ℕ) (d : Site)
       → site_at is j ≡ Some d → P d

@@ -39,7 +39,9 @@ use Rattle.clock_laws.specs.Laws.{IsOnClocks, HasItsValue, ExpressionsOnClocks, 
 use Rattle.clock_laws.proofs.Contracts.{side_top, Extends, extends}
 use Rattle.clock_laws.proofs.Fixed.{constant_clocks}
 use Rattle.clock_laws.proofs.Modes.{has_key, key_before, key_behind}
-use Rattle.clock_laws.proofs.Parts.{each_listed, all_parts, each_occurrence}
+use Rattle.rule_laws.proofs.Covered.{all_contained}
+use Rattle.rule_laws.proofs.Goods.{all_of_each}
+use Rattle.rule_laws.proofs.Parts.{all_parts}
 use Rattle.clock_laws.proofs.Same.{some_same, same_instance}
 use Rattle.clock_laws.proofs.Texts.{TopFits, IsNumberedIn, constant_apart, firsts_right, all_grammatical, all_pass}
 use Rattle.clock_laws.proofs.Walk.{Known, Walked, walk, clean_has}
@@ -136,13 +138,13 @@ module _ (p : Program) (c : IsChecked p) where
   numbered_texts i j same m b f on =
       let n : Component = component_of i in
       let calls : AllByRecursion (λ o. AllByRecursion (λ d. HasItsPlace i (node_named p d.callee) d) (site_in o.standing o.expression)) (all_occurrences n) =
-      all_parts (λ d. HasItsPlace i (node_named p d.callee) d) (λ o. site_in o.standing o.expression) (all_occurrences n)
-      (each_listed (λ d. HasItsPlace i (node_named p d.callee) d) (gathered site_in n)
+      all_of_each (λ d. HasItsPlace i (node_named p d.callee) d) (λ o. site_in o.standing o.expression) (all_occurrences n)
+      (all_contained (λ d. HasItsPlace i (node_named p d.callee) d) (gathered site_in n)
       (λ d h. subst (λ k. HasItsPlace k (node_named p d.callee) d) (sym same) (calls_in_place p c n j d h))) in
       let firsts : AllByRecursion (λ o. AllByRecursion (λ x. has_sort (sort_of i x.operand) (first_value f x.number) ≡ true)
       (memory_in o.standing o.expression)) (all_occurrences n) =
-      all_parts (λ x. has_sort (sort_of i x.operand) (first_value f x.number) ≡ true) (λ o. memory_in o.standing o.expression) (all_occurrences n)
-      (each_listed (λ x. has_sort (sort_of i x.operand) (first_value f x.number) ≡ true) (memories n)
+      all_of_each (λ x. has_sort (sort_of i x.operand) (first_value f x.number) ≡ true) (λ o. memory_in o.standing o.expression) (all_occurrences n)
+      (all_contained (λ x. has_sort (sort_of i x.operand) (first_value f x.number) ≡ true) (memories n)
       (λ x h. subst (λ k. has_sort (sort_of k x.operand) (first_value f x.number) ≡ true) (sym same) (firsts_in_place p c n j f
       (subst (λ k. have_sorts (first_sorts k) (firsts_of f) ≡ true) same (firsts_right i m b f on)) x h))) in
       let each : AllByRecursion (IsNumberedIn p i f) (all_occurrences n) = all_from_both
@@ -151,11 +153,11 @@ module _ (p : Program) (c : IsChecked p) where
       (IsNumberedIn p i f) (λ o a q. record { calls = a; firsts = q }) (all_occurrences n) calls firsts in
       all_from (λ x. AllByRecursion (IsNumberedIn p i f) (occurrences n x.0 x.1)) (λ x. Each (IsNumberedIn p i f) n x.0 x.1)
       (λ x a. each_part (IsNumberedIn p i f) n x.0 x.1 a) (texts n)
-      (all_parts (IsNumberedIn p i f) (λ x. occurrences n x.0 x.1) (texts n) each)
+      (all_of_each (IsNumberedIn p i f) (λ x. occurrences n x.0 x.1) (texts n) each)
 
   pub imports_placed : (i : Instance) → Contains (components p) (component_of i) → i ≡ instance_of p (component_of i) → AllByRecursion
       (λ d. HasItsPlace i (contract_named p d.callee) d) (flat_map import_site (contract_statements (component_of i)))
-  imports_placed i j same = each_listed (λ d. HasItsPlace i (contract_named p d.callee) d) (flat_map import_site (contract_statements (component_of i)))
+  imports_placed i j same = all_contained (λ d. HasItsPlace i (contract_named p d.callee) d) (flat_map import_site (contract_statements (component_of i)))
       (λ d h. subst (λ k. HasItsPlace k (contract_named p d.callee) d) (sym same) (imports_in_place p c (component_of i) j d h))
 
   -- what a walk through a contract gives
@@ -339,7 +341,7 @@ module _ (p : Program) (c : IsChecked p) where
     pub occurrences_have : AllByRecursion (λ o. (u : ℕ) → u < m → HasItsValue i b f u o) (all_occurrences (component_of i))
     occurrences_have = all_flat (λ o. (u : ℕ) → u < m → HasItsValue i b f u o) (λ x. occurrences here x.0 x.1) (texts here)
         (all_from Has (λ x. AllByRecursion (λ o. (u : ℕ) → u < m → HasItsValue i b f u o) (occurrences here x.0 x.1))
-        (λ x a. each_occurrence (λ o. (u : ℕ) → u < m → HasItsValue i b f u o) here x.0 x.1 a) (texts here) texts_have)
+        (λ x a. all_parts (λ o. (u : ℕ) → u < m → HasItsValue i b f u o) here x.0 x.1 a) (texts here) texts_have)
 
 -- ---- the laws
 

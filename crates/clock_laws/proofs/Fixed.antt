@@ -13,7 +13,8 @@ use Rattle.lus_meaning.proofs.EachPart.{Each, each_part}
 use Rattle.lus_meaning.proofs.Flexible.{flexible}
 use Rattle.lus_meaning.proofs.NamesOnce.{not_nil}
 use Rattle.lus_meaning.proofs.RulesFit.{none_mapped}
-use Rattle.clock_laws.proofs.Parts.{each_from, Whole, each_whole, each_occurrence}
+use Rattle.rule_laws.proofs.Parts.{Whole, nested, all_parts}
+use Rattle.clock_laws.proofs.Parts.{each_from}
 
 nothing_mapped : {A B : Type 0} (f : A → B) (xs : List A) → map f xs ≡ [] → xs ≡ []
 nothing_mapped f [] e = refl
@@ -61,7 +62,7 @@ module _ (s : Scope) (n : Component) (apart : (x : Name) → is_constant_name s 
       (nothing_mapped (fault not_constant) _ (subst (λ m. map (fault not_constant)
       (flat_map (λ u. hinders_constant s u.expression) (occurrences m (on_clock base) e)) ≡ []) o h))) in
       let forms : flat_map (λ u. clock_form_faults n u.expression) (occurrences n (on_clock base) e) ≡ [] = none_flat
-      (λ u. clock_form_faults n u.expression) (occurrences n (on_clock base) e) (each_occurrence NoFault n (on_clock base) e
+      (λ u. clock_form_faults n u.expression) (occurrences n (on_clock base) e) (all_parts NoFault n (on_clock base) e
       (each_from (Whole Allowed n) NoFault (λ u b. form_right u.standing u.expression b) n (on_clock base) e
-      (each_whole Allowed n (on_clock base) e a))) in
+      (nested Allowed n (on_clock base) e a))) in
       rw (flexible s n apart (on_clock base) e a, forms) refl

@@ -29,7 +29,8 @@ use Rattle.rule_laws.specs.Laws.{HasItsPlace}
 use Rattle.rule_laws.proofs.Lists.{all_flat}
 use Rattle.clock_laws.proofs.Contracts.{CoversAll, known_key, covers_more, covers_plain, covers_mode, covers_import, covers_names, covers_imports}
 use Rattle.clock_laws.proofs.Modes.{Key, has_key, mode_named, imported_named}
-use Rattle.clock_laws.proofs.Parts.{each_from, Whole, each_whole, each_occurrence}
+use Rattle.rule_laws.proofs.Parts.{Whole, nested, all_parts}
+use Rattle.clock_laws.proofs.Parts.{each_from}
 use Rattle.clock_laws.proofs.Weights.{Weights, weight_at, heft, heft_all, with_condition, site_heft, AllLight, Light, lighter, clock_light, two_light, LightIn, LightPart, light_needs, behind_clock, PairsLight, pair_light, pairs_joined, imported_weight, imported_light, SameWeight, SameWeightIn, same_heft, weight_listed, weight_before}
 
 abbrev pub label_heft : Weights → List Labelled → ℕ
@@ -325,7 +326,7 @@ module _ (p : Program) (k : ℕ) (i : Instance) (sub_terms : ℕ → Terms) (sub
     sites_light a =
         let wholes : AllByRecursion (Whole CallsPlaced here) (all_occurrences here) = all_flat (Whole CallsPlaced here) (λ x. occurrences here x.0 x.1)
         (texts here) (all_from EachPlaced (λ x. AllByRecursion (Whole CallsPlaced here) (occurrences here x.0 x.1))
-        (λ x q. each_occurrence (Whole CallsPlaced here) here x.0 x.1 (each_whole CallsPlaced here x.0 x.1 q)) (texts here) a) in
+        (λ x q. all_parts (Whole CallsPlaced here) here x.0 x.1 (nested CallsPlaced here x.0 x.1 q)) (texts here) a) in
         let calls : AllByRecursion SiteLight (gathered site_in here) = all_flat SiteLight (λ o. site_in o.standing o.expression) (all_occurrences here)
         (all_from (Whole CallsPlaced here) (λ o. AllByRecursion SiteLight (site_in o.standing o.expression))
         (λ o q. site_light o.standing o.expression q) (all_occurrences here) wholes) in

@@ -41,7 +41,7 @@ use Rattle.clock_laws.proofs.CleanAll.{clean_texts}
 use Rattle.clock_laws.proofs.Clocks.{placed_of, IsFaultless, faultless, unfolded_same, declared_at}
 use Rattle.clock_laws.proofs.Lefts.{distinct_parts, not_in_both, lefts_apart, left_definable, variables_apart, lefts_distinct}
 use Rattle.clock_laws.proofs.OrderLaws.{names_distinct, no_left_fault}
-use Rattle.clock_laws.proofs.Parts.{all_parts}
+use Rattle.rule_laws.proofs.Goods.{all_of_each}
 use Rattle.clock_laws.proofs.Sites.{CalleeOf, NumbersFit, SiteFit, all_sites_fit, side_counted}
 use Rattle.clock_laws.proofs.Walk.{at_whole}
 
@@ -246,7 +246,7 @@ module _ (p : Program) (c : IsChecked p) where
       let calls : AllByRecursion (λ o. AllByRecursion IsCalleeOf (site_in o.standing o.expression)) (all_occurrences n) =
       all_from (λ o. AllByRecursion (λ s. is_declared (node_named p s.callee) ≡ true) (site_in o.standing o.expression))
       (λ o. AllByRecursion IsCalleeOf (site_in o.standing o.expression)) (λ o a. called_here o.standing o.expression a) (all_occurrences n)
-      (all_parts (λ s. is_declared (node_named p s.callee) ≡ true) (λ o. site_in o.standing o.expression) (all_occurrences n)
+      (all_of_each (λ s. is_declared (node_named p s.callee) ≡ true) (λ o. site_in o.standing o.expression) (all_occurrences n)
       (each_call p c.rules.clocked.typed n j)) in
       in_order_all (λ s. s.number) IsCalleeOf (gathered site_in n ++ flat_map import_site (contract_statements n))
       (both_parts IsCalleeOf (gathered site_in n) (flat_map import_site (contract_statements n))

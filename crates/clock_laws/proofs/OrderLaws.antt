@@ -22,7 +22,7 @@ use Rattle.rule_laws.proofs.Unfolded.{component_within}
 use Rattle.clock_laws.specs.Laws.{NoneOnCircle, OrderOrCircle, OneOrderOfEach}
 use Rattle.clock_laws.proofs.EquationOrders.{order_never, some_order, one_least_order, none_at, none_in}
 use Rattle.clock_laws.proofs.Lefts.{lefts_distinct}
-use Rattle.clock_laws.proofs.Parts.{each_listed}
+use Rattle.rule_laws.proofs.Covered.{all_contained}
 
 -- each name of a declaration stands once
 pub names_distinct : (p : Program) → IsTyped p → (n : Component) → Contains (components p) n → AreDistinct (map (λ v. v.name.text) (variables n))
@@ -80,7 +80,7 @@ body_none i (main_mark q ∷ ss) a = body_none i ss a
 pub none_on_circle : (p : Program) → IsChecked p → (n : Component) → Contains (components p) n → NoneOnCircle p n
 none_on_circle p c n j =
     let i : Instance = instance_of p n in
-    let each : AllByRecursion (λ xs. Reaches i (map text_of xs) (map text_of xs) → ⊥) (sides n) = each_listed
+    let each : AllByRecursion (λ xs. Reaches i (map text_of xs) (map text_of xs) → ⊥) (sides n) = all_contained
     (λ xs. Reaches i (map text_of xs) (map text_of xs) → ⊥) (sides n) (no_circle_at p c n j) in
     both_parts (λ e. Reaches i e.names e.names → ⊥) (ghost_equations (contract_statements n)) (body_equations n.body)
     (ghosts_none i (contract_statements n) (left_part _ (ghost_sides (contract_statements n)) (body_sides n.body) each))

@@ -34,7 +34,8 @@ use Rattle.rule_laws.proofs.Constants.{is_word}
 use Rattle.rule_laws.proofs.Known.{SameFound, Shows, agrees}
 use Rattle.rule_laws.proofs.Tables.{typed_tables}
 use Rattle.clock_laws.specs.Laws.{IsOnClocks, CallsOnClocks, HasItsValue}
-use Rattle.clock_laws.proofs.Parts.{each_from, Whole, each_whole, AtTop, each_at_top}
+use Rattle.rule_laws.proofs.Parts.{Whole, nested}
+use Rattle.clock_laws.proofs.Parts.{each_from, AtTop, each_at_top}
 use Rattle.clock_laws.proofs.Stands.{stands_there, ClockRight, StandsThere, DefaultsFlexible, each_stands}
 use Rattle.clock_laws.proofs.Valued.{AnyCall, StreamOn, OwnOn, IsOwnOn, value_on}
 
@@ -479,7 +480,7 @@ module _ (p : Program) (c : IsChecked p) (k : ℕ) (i : Instance) (placed_here :
     -- each part has its value exactly on the clock of its place
     pub text_on : Each (IsNumberedIn p i f) (component_of i) t e → Each (λ o. (u : ℕ) → u < m → HasItsValue i b f u o) (component_of i) t e
     text_on num =
-        let whole : Each (λ o. Good sc full AnyCall known o.standing o.expression) here t e = each_whole
+        let whole : Each (λ o. Good sc full AnyCall known o.standing o.expression) here t e = nested
         (GoodPart sc full AnyCall known) here t e (good num) in
         let own : Each (IsOwnOn full m) here t e = each_from IsPart (IsOwnOn full m) (λ o h. own_right o.standing o.expression h) here t e (parts_right
         num) in
@@ -488,4 +489,4 @@ module _ (p : Program) (c : IsChecked p) (k : ℕ) (i : Instance) (placed_here :
         (λ o. Good sc full AnyCall known o.standing o.expression × StandsThere here o) (λ o a q. (a, q)) here t e whole (stands_each num) in
         each_of_both (λ o. Good sc full AnyCall known o.standing o.expression × StandsThere here o) (Whole (IsOwnOn full m) here) HasIt
         (λ o a q u l. value_on full m o.expression o.standing (fits sc full AnyCall known o.expression o.standing a.0 a.1) q u l) here t e fit
-        (each_whole (IsOwnOn full m) here t e own)
+        (nested (IsOwnOn full m) here t e own)

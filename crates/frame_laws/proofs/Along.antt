@@ -25,7 +25,7 @@ use Rattle.rule_laws.proofs.Lists.{all_flat}
 use Rattle.rule_laws.proofs.Places.{by_number, calls_in_place, imports_in_place}
 use Rattle.clock_laws.proofs.Clocks.{unfolded_same, declared_at}
 use Rattle.clock_laws.proofs.OrderLaws.{names_distinct}
-use Rattle.clock_laws.proofs.Parts.{each_listed}
+use Rattle.rule_laws.proofs.Covered.{all_contained}
 use Rattle.clock_laws.proofs.Same.{some_same, same_instance}
 use Rattle.run_laws.proofs.Texts.{declaration, named_at}
 use Rattle.frame_laws.proofs.Free.{IsBare}
@@ -116,9 +116,9 @@ module _ (p : Program) (c : IsChecked p) where
   sites_of : (i : Instance) → IsUnfolded p i → Contains (components p) (component_of i) → AllByRecursion (IsSiteOf p i) (all_sites (component_of i))
   sites_of i u j = in_order_all (λ s. s.number) (IsSiteOf p i) (gathered site_in here ++ flat_map import_site (contract_statements here))
       (both_parts (IsSiteOf p i) (gathered site_in here) (flat_map import_site (contract_statements here))
-      (each_listed (IsSiteOf p i) (gathered site_in here) (λ s h. site (node_named p s.callee) s
+      (all_contained (IsSiteOf p i) (gathered site_in here) (λ s h. site (node_named p s.callee) s
       (calls_in_place p c here j s h) (at_one (CallsBare p) (gathered site_in here) s bare_calls h)))
-      (each_listed (IsSiteOf p i) (flat_map import_site (contract_statements here)) (λ s h. site (contract_named p s.callee) s
+      (all_contained (IsSiteOf p i) (flat_map import_site (contract_statements here)) (λ s h. site (contract_named p s.callee) s
       (imports_in_place p c here j s h) (λ k e. bare_of s.manner k (contract_bare p c.grammatical s.callee k
       (where_is_named false p s.callee (at_one (λ x. is_declared (contract_named p x.callee) ≡ true)
       (flat_map import_site (contract_statements here)) s (each_import p c.rules.clocked.typed here j) h) ∙ e))))))
@@ -133,7 +133,7 @@ module _ (p : Program) (c : IsChecked p) where
 
       bare_calls : AllByRecursion (CallsBare p) (gathered site_in here)
       bare_calls = all_flat (CallsBare p) (λ o. site_in o.standing o.expression) (all_occurrences here)
-          (each_listed (λ o. AllByRecursion (CallsBare p) (site_in o.standing o.expression)) (all_occurrences here)
+          (all_contained (λ o. AllByRecursion (CallsBare p) (site_in o.standing o.expression)) (all_occurrences here)
           (λ o _. call_bare p o.standing o.expression))
 
   -- at the place of its number a site has its instance

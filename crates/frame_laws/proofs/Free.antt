@@ -18,7 +18,7 @@ use Rattle.lus_meaning.proofs.Now.{left_part, right_part}
 use Rattle.rule_laws.proofs.Lists.{each_named}
 use Rattle.rule_laws.proofs.Truths.{first_false, second_false}
 use Rattle.clock_laws.proofs.Lefts.{lefts_apart, left_definable, variables_apart, not_in_both}
-use Rattle.clock_laws.proofs.Parts.{each_listed}
+use Rattle.rule_laws.proofs.Covered.{all_contained}
 
 abbrev names_of : List Variable → List Name
 names_of vs = map (λ v. v.name.text) vs
@@ -103,10 +103,10 @@ module _ (d : Component) where
   free_or_left given = all_from (λ v. named_in v.name.text (left_names d) ≡ false → Contains (free_names d) v)
       (λ v. IsOpen given d v → Contains (free_names d) v)
       (λ v h o. h (second_false (named_in v.name.text given) (named_in v.name.text (left_names d)) o)) (d.outputs ++ d.locals)
-      (free_part d (Contains (free_names d)) (d.outputs ++ d.locals) (each_listed (Contains (free_names d)) (free_names d) (λ v h. h)))
+      (free_part d (Contains (free_names d)) (d.outputs ++ d.locals) (all_contained (Contains (free_names d)) (free_names d) (λ v h. h)))
 
   all_declared : AllByRecursion (Contains (variables d)) (variables d)
-  all_declared = each_listed (Contains (variables d)) (variables d) (λ v h. h)
+  all_declared = all_contained (Contains (variables d)) (variables d) (λ v h. h)
 
   -- ---- the analysed declaration, whose inputs are free
 
@@ -132,14 +132,14 @@ module _ (d : Component) where
     top_free e = record {
       each = over_all (λ v. IsOpen [] d v → Contains free v)
           (all_from (Contains d.inputs) (λ v. IsOpen [] d v → Contains free v) (λ v h _. Contains-append_left d.inputs (free_names d) v h) d.inputs
-          (each_listed (Contains d.inputs) d.inputs (λ v h. h)))
+          (all_contained (Contains d.inputs) d.inputs (λ v h. h)))
           (all_from (λ v. IsOpen [] d v → Contains (free_names d) v) (λ v. IsOpen [] d v → Contains free v)
           (λ v h o. Contains-append_right d.inputs (free_names d) v (h o)) (d.outputs ++ d.locals) (free_or_left []))
           (ghosts_closed [] (Contains free));
       declared = both_parts (Contains (variables d)) d.inputs (free_names d) (over_inputs (Contains (variables d)) all_declared)
           (over_free (Contains (variables d)) (over_others (Contains (variables d)) all_declared));
       unset = both_parts (IsOpen [] d) d.inputs (free_names d) (inputs_not_left e)
-          (free_whole d (IsOpen [] d) (d.outputs ++ d.locals) (each_listed (λ v. named_in v.name.text (left_names d) ≡ false → IsOpen [] d v)
+          (free_whole d (IsOpen [] d) (d.outputs ++ d.locals) (all_contained (λ v. named_in v.name.text (left_names d) ≡ false → IsOpen [] d v)
           (d.outputs ++ d.locals) (λ v _ h. h)));
     }
       where

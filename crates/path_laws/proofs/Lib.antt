@@ -2,6 +2,7 @@ pub mod Chains
 pub mod Numbers
 pub mod Standing
 pub mod Places
+pub mod Among
 pub mod Tree
 pub mod OnePlace
 pub mod Spots

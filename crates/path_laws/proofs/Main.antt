@@ -1,4 +1,4 @@
--- A checked declaration without modes and imports is well typed, and the sources of its names are of different names.
+-- A checked declaration is well typed, and the sources of its names are of different names.
 use Rattle.std.proofs.Common.{◌≡◌, ℕ, suc, ◌<◌, true, List, [], ◌∷◌, map, flat_map, refl, sym, ap, ◌∙◌, subst, arith, pos}
 use Rattle.std.specs.Prelude.{Contains}
 use Rattle.std.specs.List.{AllByRecursion}
@@ -30,15 +30,14 @@ use Rattle.sys_meaning.specs.Translate.{Stage, right_terms, term_of}
 use Rattle.sys_meaning.specs.System.{Sources, paired, equation_sources, stage, shared_outputs, from_call, below_call, number_of}
 use Rattle.sys_meaning.specs.System as system
 use Rattle.sys_meaning.specs.Law.{TreeDistinct, CallsDistinct}
-use Rattle.sys_meaning.specs.WellTyped.{TreeFits}
+use Rattle.sys_meaning.specs.WellTyped.{IsKnown, TreeFits}
 use Rattle.sys_meaning.proofs.Cells.{everywhere}
 use Rattle.sys_meaning.proofs.CheckedRuns.{breaks_at_last}
 use Rattle.sys_meaning.proofs.CheckedTrace.{trace_of_path}
 use Rattle.sys_meaning.proofs.CheckedVerdicts.{holds_where_bounded, holds_where_reachable}
 use Rattle.sys_meaning.proofs.Follows.{lemma_law, property_law}
 use Rattle.sys_meaning.proofs.OneRun.{runs_are_paths}
-use Rattle.sys_meaning.proofs.Whole.{no_modes}
-use Rattle.path_laws.specs.Laws.{HasNoModes, CallsHaveNoModes, PlainAreWellTyped, PlainRunsArePaths, PlainLemmas, PlainProperties, PlainTraces, PlainHolds, PlainBounds, PlainBreaks}
+use Rattle.path_laws.specs.Laws.{EachIsWellTyped, EachRunsArePaths, EachLemmas, EachProperties, EachTraces, EachHolds, EachBounds, EachBreaks}
 use Rattle.path_laws.proofs.OnePlace.{slots_numbered}
 use Rattle.path_laws.proofs.Places.{SiteMade, HeldMany, sites_made}
 use Rattle.path_laws.proofs.Spots.{HeldTree, CallsHeld, places_found, slots_placed}
@@ -48,21 +47,21 @@ use Rattle.path_laws.proofs.Tree.{tree_fits, names_on_base, named_there}
 
 module _ (p : Program) (c : IsChecked p) where
   mutual
-    held_tree : (i : Instance) → IsUnfolded p i → Contains (components p) (component_of i) → HasNoModes i → HeldTree i
-    held_tree (instance d cs is) u j h =
-        calls_held (instance d cs is) u (all_sites d) is u.1 (each_site p c.rules.clocked.typed d j) (sites_made p c (instance d cs is) u j h.0) h.1
+    held_tree : (i : Instance) → IsUnfolded p i → Contains (components p) (component_of i) → HeldTree i
+    held_tree (instance d cs is) u j =
+        calls_held (instance d cs is) u (all_sites d) is u.1 (each_site p c.rules.clocked.typed d j) (sites_made p c (instance d cs is) u j)
 
     calls_held : (i : Instance) → IsUnfolded p i → (ss : List Site) (is : Instances) → AreUnfolded p ss is →
-        AllByRecursion (λ s. GoesDown p (component_of i) s.callee) ss → AllByRecursion (SiteMade i) ss → CallsHaveNoModes is → CallsHeld is
-    calls_held i u ss no_instances w a m h = tt
-    calls_held i u [] (with_instance t k is) w a m h = absurd w
-    calls_held i u (s ∷ ss) (with_instance t k is) w a m h =
+        AllByRecursion (λ s. GoesDown p (component_of i) s.callee) ss → AllByRecursion (SiteMade i) ss → CallsHeld is
+    calls_held i u ss no_instances w a m = tt
+    calls_held i u [] (with_instance t k is) w a m = absurd w
+    calls_held i u (s ∷ ss) (with_instance t k is) w a m =
         let same : component_of k ≡ component_of (call_instance i s.number) =
-        some_same (component_of k) (component_of (call_instance i s.number)) (sym w.1 ∙ named_there p c i u s m.0.fits.number m.0.fits.site) in (
+        some_same (component_of k) (component_of (call_instance i s.number)) (sym w.1 ∙ named_there p c i u s m.0.number m.0.site) in (
           subst (λ z. HeldMany z.manner z.defaults (component_of k).outputs) (sym w.0)
               (subst (λ n. HeldMany s.manner s.defaults n.outputs) (sym same) m.0.many),
-          held_tree k w.2 (declared_at p c (component_of i) s k a.0 w.1) h.0,
-          calls_held i u ss is w.3 a.1 m.1 h.1,
+          held_tree k w.2 (declared_at p c (component_of i) s k a.0 w.1),
+          calls_held i u ss is w.3 a.1 m.1,
         )
 
 -- ---- sources
@@ -137,13 +136,13 @@ mutual
 
 -- ---- the laws
 
-pub plain_are_well_typed : PlainAreWellTyped
-plain_are_well_typed p c n j h =
+pub each_is_well_typed : EachIsWellTyped
+each_is_well_typed p c n j =
     let i : Instance = instance_of p n in
     let u : IsUnfolded p i = each_unfolded p c n j in
     let here : Contains (components p) (component_of i) = subst (Contains (components p)) (sym (component_within _ p n)) j in
-    let tree : TreeFits no_modes i = tree_fits p c i u here h in
-    let held : HeldTree i = held_tree p c i u here h in
+    let tree : TreeFits IsKnown i = tree_fits p c i u here in
+    let held : HeldTree i = held_tree p c i u here in
     let callee : IsCallee i = is_callee p c i u here in (
       record {
         tree = tree;
@@ -155,23 +154,23 @@ plain_are_well_typed p c n j h =
       tree_distinct i (number_of i) [] [] refl (some_frame i) (each_well_made p c n j 0 (some_frame i) (some_fit i [])),
     )
 
-pub plain_runs_are_paths : PlainRunsArePaths
-plain_runs_are_paths p c n j h = let w = plain_are_well_typed p c n j h in runs_are_paths (instance_of p n) w.0 w.1
+pub each_runs_are_paths : EachRunsArePaths
+each_runs_are_paths p c n j = let w = each_is_well_typed p c n j in runs_are_paths (instance_of p n) w.0 w.1
 
-pub plain_lemmas : PlainLemmas
-plain_lemmas p c n j h = lemma_law (instance_of p n) (plain_runs_are_paths p c n j h)
+pub each_lemmas : EachLemmas
+each_lemmas p c n j = lemma_law (instance_of p n) (each_runs_are_paths p c n j)
 
-pub plain_properties : PlainProperties
-plain_properties p c n j h = property_law (instance_of p n) (plain_runs_are_paths p c n j h)
+pub each_properties : EachProperties
+each_properties p c n j = property_law (instance_of p n) (each_runs_are_paths p c n j)
 
-pub plain_traces : PlainTraces
-plain_traces p c n j h = let w = plain_are_well_typed p c n j h in trace_of_path (instance_of p n) w.0 w.1
+pub each_traces : EachTraces
+each_traces p c n j = let w = each_is_well_typed p c n j in trace_of_path (instance_of p n) w.0 w.1
 
-pub plain_holds : PlainHolds
-plain_holds p c n j h = holds_where_reachable (instance_of p n) (plain_runs_are_paths p c n j h)
+pub each_holds : EachHolds
+each_holds p c n j = holds_where_reachable (instance_of p n) (each_runs_are_paths p c n j)
 
-pub plain_bounds : PlainBounds
-plain_bounds p c n j h = holds_where_bounded (instance_of p n) (plain_runs_are_paths p c n j h)
+pub each_bounds : EachBounds
+each_bounds p c n j = holds_where_bounded (instance_of p n) (each_runs_are_paths p c n j)
 
-pub plain_breaks : PlainBreaks
-plain_breaks p c n j h = let w = plain_are_well_typed p c n j h in breaks_at_last (instance_of p n) w.0 w.1
+pub each_breaks : EachBreaks
+each_breaks p c n j = let w = each_is_well_typed p c n j in breaks_at_last (instance_of p n) w.0 w.1

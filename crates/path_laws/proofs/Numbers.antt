@@ -8,70 +8,8 @@ use Rattle.lus_meaning.specs.Scene.{Site, contract_statements}
 use Rattle.lus_meaning.specs.Program.{site_in, import_site, in_order}
 use Rattle.lus_meaning.specs.Occurrences.{Standing, gathered, memories, starts}
 use Rattle.lus_meaning.proofs.Lists.{append_none}
-use Rattle.lus_meaning.proofs.Numbering.{numbers_gathered, memory_numbers, start_numbers}
 use Rattle.rule_laws.proofs.Numbered.{At}
 use Rattle.sys_meaning.proofs.Found.{once, found, found_number, some_found}
-use Rattle.path_laws.specs.Laws.{IsPlain}
-
--- ---- numbers of a declaration without imports
-
-no_imports : (which : _) (cs : List ContractStatement) → AllByRecursion IsPlain cs → flat_map (import_number which) cs ≡ []
-no_imports which [] a = refl
-no_imports which (assume l ∷ cs) a = no_imports which cs a.1
-no_imports which (guarantee l ∷ cs) a = no_imports which cs a.1
-no_imports which (ghost_variable x e ∷ cs) a = no_imports which cs a.1
-no_imports which (constant c ∷ cs) a = no_imports which cs a.1
-no_imports which (mode m rs es ∷ cs) a = absurd a.0
-no_imports which («import» k f as_ xs ∷ cs) a = absurd a.0
-
-pub no_import_sites : (cs : List ContractStatement) → AllByRecursion IsPlain cs → flat_map import_site cs ≡ []
-no_import_sites [] a = refl
-no_import_sites (assume l ∷ cs) a = no_import_sites cs a.1
-no_import_sites (guarantee l ∷ cs) a = no_import_sites cs a.1
-no_import_sites (ghost_variable x e ∷ cs) a = no_import_sites cs a.1
-no_import_sites (constant c ∷ cs) a = no_import_sites cs a.1
-no_import_sites (mode m rs es ∷ cs) a = absurd a.0
-no_import_sites («import» k f as_ xs ∷ cs) a = absurd a.0
-
-site_is : (s : Standing) (e : Expression) → map (λ (c : Site). c.number) (site_in s e) ≡ call_number e
-site_is s (truth p b) = refl
-site_is s (number p k) = refl
-site_is s (name p x) = refl
-site_is s (negation p a) = refl
-site_is s (minus p a) = refl
-site_is s (pre p k a) = refl
-site_is s (arrow p k a b) = refl
-site_is s (binary p o a b) = refl
-site_is s (choice p a b c) = refl
-site_is s (sampled p a b x) = refl
-site_is s (merged p x a b) = refl
-site_is s (call p k f as_) = refl
-site_is s (condact p k a f as_ ds) = refl
-site_is s (mode_name p c m) = refl
-
-module _ (n : Component) (plain : AllByRecursion IsPlain (contract_statements n)) (k : IsNumbered n) where
-  pub memories_counted : are_counted (map (λ m. m.number) (memories n)) ≡ true
-  memories_counted =
-      let same : numbers_in a_pre n ≡ map (λ m. m.number) (memories n) = ap (λ xs. all_numbers pre_number n ++ xs)
-      (no_imports a_pre (contract_statements n) plain) ∙ append_none (all_numbers pre_number n) ∙ sym (memory_numbers n) in
-      subst (λ xs. are_counted xs ≡ true) same (k.each a_pre)
-
-  pub starts_counted : are_counted (map (λ m. m.number) (starts n)) ≡ true
-  starts_counted =
-      let same : numbers_in an_arrow n ≡ map (λ m. m.number) (starts n) = ap (λ xs. all_numbers arrow_number n ++ xs)
-      (no_imports an_arrow (contract_statements n) plain) ∙ append_none (all_numbers arrow_number n) ∙ sym (start_numbers n) in
-      subst (λ xs. are_counted xs ≡ true) same (k.each an_arrow)
-
-  calls_counted : are_counted (map (λ c. c.number) (gathered site_in n)) ≡ true
-  calls_counted =
-      let same : numbers_in a_call n ≡ map (λ (c : Site). c.number) (gathered site_in n) = ap (λ xs. all_numbers call_number n ++ xs)
-      (no_imports a_call (contract_statements n) plain) ∙ append_none (all_numbers call_number n)
-      ∙ sym (numbers_gathered site_in (λ c. c.number) call_number site_is n) in
-      subst (λ xs. are_counted xs ≡ true) same (k.each a_call)
-
-  pub sites_counted : are_counted (map (λ c. c.number) (gathered site_in n ++ flat_map import_site (contract_statements n))) ≡ true
-  sites_counted = subst (λ ss. are_counted (map (λ (c : Site). c.number) ss) ≡ true)
-      (sym (ap (λ ss. gathered site_in n ++ ss) (no_import_sites (contract_statements n) plain) ∙ append_none (gathered site_in n))) calls_counted
 
 -- ---- in order
 

@@ -13,11 +13,10 @@ use Rattle.lus_meaning.specs.Occurrences.{Memory, Start, memories, starts}
 use Rattle.lus_meaning.specs.Slots.{Cell, beat_cell, name_cell, memory_cell, start_cell, sofar_cell, own_cells, contract_cells, held_each, held_cells, Slot, slot, slots_in, call_slots, slots}
 use Rattle.lus_meaning.proofs.Lists.{all_from, both_parts, map_append}
 use Rattle.sys_meaning.specs.Slot.{Spot, beat, named, memory, starting, so_far, held, Place, spot_of, place_of, same_spot, same_place, number_in}
-use Rattle.sys_meaning.specs.WellTyped.{TreeFits, CallsFit}
+use Rattle.sys_meaning.specs.WellTyped.{IsKnown, TreeFits, CallsFit}
 use Rattle.sys_meaning.proofs.Cells.{Apart, own_number, CellsApart, apart_both, all_mapped, everywhere, names_apart, memories_apart, starts_apart}
 use Rattle.sys_meaning.proofs.Found.{in_order_differ}
 use Rattle.sys_meaning.proofs.Shows.{same_places}
-use Rattle.sys_meaning.proofs.Whole.{no_modes}
 use Rattle.path_laws.proofs.Places.{outputs_distinct}
 
 -- ---- slots by way of the first call
@@ -292,14 +291,14 @@ behind_apart k (q ∷ qs) a = (others qs a.0, behind_apart k qs a.1)
 
 -- ---- the tree
 
-once_of : (i : Instance) → TreeFits no_modes i → CellsApart (map name_cell (variables (component_of i)))
+once_of : (i : Instance) → TreeFits IsKnown i → CellsApart (map name_cell (variables (component_of i)))
 once_of (instance d cs is) t = names_apart (variables d) t.0.once
 
-outputs_of_tree : (i : Instance) → TreeFits no_modes i → CellsApart (map name_cell (component_of i).outputs)
+outputs_of_tree : (i : Instance) → TreeFits IsKnown i → CellsApart (map name_cell (component_of i).outputs)
 outputs_of_tree (instance d cs is) t = names_apart d.outputs (outputs_distinct d t.0.once)
 
 mutual
-  tree_apart : (m : Manner) (i : Instance) → TreeFits no_modes i → Apart (tree_slots m i)
+  tree_apart : (m : Manner) (i : Instance) → TreeFits IsKnown i → Apart (tree_slots m i)
   tree_apart m (instance d cs is) t =
       let i : Instance = instance d cs is in
       let q : Apart (tree_calls i is) × AllByRecursion (Later 0) (tree_calls i is) = calls_apart i is 0 t.1 in
@@ -308,7 +307,7 @@ mutual
       (cross_owners None (Later 0) (map (slot i []) (own_cells m d)) (tree_calls i is)
       (λ r h e. none-some (h.0, h.1) (sym e ∙ h.2)) (own_owned i m d) q.1)
 
-  calls_apart : (i : Instance) (is : Instances) (p : ℕ) → CallsFit no_modes i is p → Apart (tree_calls i is) × AllByRecursion (Later p) (tree_calls i is)
+  calls_apart : (i : Instance) (is : Instances) (p : ℕ) → CallsFit IsKnown i is p → Apart (tree_calls i is) × AllByRecursion (Later p) (tree_calls i is)
   calls_apart i no_instances p t = (tt, tt)
   calls_apart i (with_instance c k is) p t =
       let number : c.number ≡ suc p = t.0.number in
@@ -342,9 +341,9 @@ mutual
       neither k r (inl h) e = false≢true (ap flag_of_owner (sym e ∙ h))
       neither k r (inr h) e = later_not k false r h e
 
-pub slots_apart : (i : Instance) → TreeFits no_modes i → Apart (slots i)
+pub slots_apart : (i : Instance) → TreeFits IsKnown i → Apart (slots i)
 slots_apart i t = subst Apart (sym (slots_are plain i)) (tree_apart plain i t)
 
-pub slots_numbered : (i : Instance) → TreeFits no_modes i → (k : ℕ) (q : Slot) → slice_get (slots i) k ≡ Some q →
+pub slots_numbered : (i : Instance) → TreeFits IsKnown i → (k : ℕ) (q : Slot) → slice_get (slots i) k ≡ Some q →
     number_in (slots i) (place_of q) ≡ k
 slots_numbered i t = own_number (slots i) (slots_apart i t)

@@ -1,4 +1,4 @@
--- Each expression of a checked declaration without modes stands on the clock of its place, as the translation asks.
+-- Each expression of a checked declaration stands on the clock of its place, as the translation asks.
 use Rattle.std.proofs.Common.{option_map, ◌≡◌, ℕ, zero, suc, pred, ◌<◌, ◌≤◌, Bool, true, false, cond, ◌||◌, List, [], ◌∷◌, map, length, Option, Some, None, refl, sym, ap, ◌∙◌, subst, arith}
 use Rattle.std.specs.Prelude.{option_to_list}
 use Rattle.std.specs.List.{AllByRecursion}
@@ -33,26 +33,8 @@ use Rattle.sys_meaning.specs.Defaults.{is_constant, site_of, default_among, defa
 use Rattle.sys_meaning.specs.Defaults as defaults
 use Rattle.sys_meaning.specs.Slot.{memory_of, start_of}
 use Rattle.sys_meaning.specs.Items.{Key}
-use Rattle.sys_meaning.specs.WellTyped.{count_of, NameFits, HasConstant, OutputFits, IsCall, DefaultsFit, Stands}
-use Rattle.path_laws.specs.Laws.{IsPlain}
+use Rattle.sys_meaning.specs.WellTyped.{IsKnown, count_of, NameFits, HasConstant, OutputFits, IsCall, DefaultsFit, Stands}
 use Rattle.path_laws.proofs.Chains.{clock_is, is_declared_name, name_on}
-
-abbrev pub no_key : Key → Type 0
-no_key key = ⊥
-
--- ---- no modes
-
-no_terms_after : (i : Instance) (sub : ℕ → Terms) (cs : List ContractStatement) → AllByRecursion IsPlain cs → (terms_after i sub [] cs).modes ≡ []
-no_terms_after i sub [] a = refl
-no_terms_after i sub (assume l ∷ cs) a = no_terms_after i sub cs a.1
-no_terms_after i sub (guarantee l ∷ cs) a = no_terms_after i sub cs a.1
-no_terms_after i sub (ghost_variable x e ∷ cs) a = no_terms_after i sub cs a.1
-no_terms_after i sub (constant c ∷ cs) a = no_terms_after i sub cs a.1
-no_terms_after i sub (mode m rs es ∷ cs) a = absurd a.0
-no_terms_after i sub («import» k f as_ xs ∷ cs) a = absurd a.0
-
-no_modes_here : (i : Instance) → AllByRecursion IsPlain (contract_statements (component_of i)) → (terms i).modes ≡ []
-no_modes_here (instance d cs is) a = no_terms_after (instance d cs is) _ (contract_statements d) a
 
 -- ---- constants
 
@@ -101,7 +83,7 @@ pub record OutputsKnown (k : Instance) : Type 0 where
   pub distinct : AreDistinct (map (λ v. v.name.text) (component_of k).outputs)
   pub streams : AllByRecursion (StreamFits k) (component_of k).outputs
 
-module _ (i : Instance) (no_modes : AllByRecursion IsPlain (contract_statements (component_of i)))
+module _ (i : Instance)
     (callees : (s : Site) → 1 ≤ s.number → site_at (calls_of i) (pred s.number) ≡ Some s → OutputsKnown (call_instance i s.number)) where
   abbrev n : Component
   n = component_of i
@@ -109,7 +91,7 @@ module _ (i : Instance) (no_modes : AllByRecursion IsPlain (contract_statements 
   abbrev cs : List (Name × Value)
   cs = constants_of i
 
-  name_fits : (o : Option Value) (c : Clock) (x : Name) → fitting.NameFits i o c x → NameFits i no_key o c x
+  name_fits : (o : Option Value) (c : Clock) (x : Name) → fitting.NameFits i o c x → NameFits i (IsKnown i) o c x
   name_fits None c x h = (is_declared_name (component_of i) x c h, sym (clock_is (component_of i) x c h))
   name_fits (Some v) c x h = h
 
@@ -117,7 +99,7 @@ module _ (i : Instance) (no_modes : AllByRecursion IsPlain (contract_statements 
   either true b e = inl refl
   either false b e = inr e
 
-  constant_part : (o : Operator) (a b : Expression) → fitting.HasConstant cs o a b → HasConstant i no_key o a b
+  constant_part : (o : Operator) (a b : Expression) → fitting.HasConstant cs o a b → HasConstant i (IsKnown i) o a b
   constant_part Mul a b h = either (is_constant cs a) (is_constant cs b) (sym (rw (fixed_constant cs a, fixed_constant cs b) refl) ∙ h)
   constant_part Div a b h = sym (fixed_constant cs b) ∙ h
   constant_part Mod a b h = sym (fixed_constant cs b) ∙ h
@@ -134,12 +116,9 @@ module _ (i : Instance) (no_modes : AllByRecursion IsPlain (contract_statements 
   constant_part Add a b h = tt
   constant_part Sub a b h = tt
 
-  no_mode : (key : Key) → has_key key (terms i).modes → ⊥
-  no_mode key h = false≢true (subst (has_key key) (no_modes_here i no_modes) h)
-
   -- ---- calls
 
-  output_fits : (k : ℕ) (v : Variable) → v.clock ≡ None → StreamFits (call_instance i k) v → OutputFits i no_key k v
+  output_fits : (k : ℕ) (v : Variable) → v.clock ≡ None → StreamFits (call_instance i k) v → OutputFits i (IsKnown i) k v
   output_fits k v o s =
       let on_base : name_clock (component_of (call_instance i k)) v.name.text ≡ Some base =
       s.name.clock ∙ ap (λ c. Some (clock_from c)) o in (
@@ -150,18 +129,20 @@ module _ (i : Instance) (no_modes : AllByRecursion IsPlain (contract_statements 
         sym (clock_is (component_of (call_instance i k)) v.name.text base on_base),
       )
 
-  pub is_call : (s : Site) → fitting.CallFits i s → IsCall i no_key s.number
-  is_call s f =
-      let q : (site_of i s.number ≡ s) × (pred s.number < count_of (calls_of i)) = site_there (calls_of i) (pred s.number) s f.site in
-      let l : 1 ≤ s.number = f.number in
+  pub call_at : (s : Site) → 1 ≤ s.number → site_at (calls_of i) (pred s.number) ≡ Some s →
+      OnBase (component_of (call_instance i s.number)).outputs → IsCall i (IsKnown i) s.number
+  call_at s l e o =
+      let q : (site_of i s.number ≡ s) × (pred s.number < count_of (calls_of i)) = site_there (calls_of i) (pred s.number) s e in
       record {
         number = ap (λ (z : Site). z.number) q.0;
         counted = omega (arith, l);
         listed = q.1;
-        outputs = not_empty (component_of (call_instance i s.number)).outputs f.outputs;
-        named = all_from_both (λ v. v.clock ≡ None) (StreamFits (call_instance i s.number)) (OutputFits i no_key s.number)
-            (output_fits s.number) (component_of (call_instance i s.number)).outputs f.on_base (callees s f.number f.site).streams;
+        named = all_from_both (λ v. v.clock ≡ None) (StreamFits (call_instance i s.number)) (OutputFits i (IsKnown i) s.number)
+            (output_fits s.number) (component_of (call_instance i s.number)).outputs o (callees s l e).streams;
       }
+
+  pub is_call : (s : Site) → fitting.CallFits i s → IsCall i (IsKnown i) s.number
+  is_call s f = call_at s f.number f.site f.on_base
 
   site_is_there : (s : Site) → fitting.CallFits i s → site_of i s.number ≡ s
   site_is_there s f = (site_there (calls_of i) (pred s.number) s f.site).0
@@ -178,7 +159,7 @@ module _ (i : Instance) (no_modes : AllByRecursion IsPlain (contract_statements 
     all_defaults : (vs : List Variable) (ds : Expressions) → AreDistinct (map (λ v. v.name.text) vs) →
         map (sort_of i) (listed ds) ≡ sorts_of vs → AllDefaults ds →
         AllByRecursion (λ v. default_of i k v.name.text ≡ default_among cs (map (λ w. w.name.text) vs) (listed ds) v.name.text) vs →
-        DefaultsFit i no_key k vs ds
+        DefaultsFit i (IsKnown i) k vs ds
     all_defaults [] no_more d e a g = tt
     all_defaults [] (more x ds) d e a g = absurd (none e)
       where
@@ -245,7 +226,7 @@ module _ (i : Instance) (no_modes : AllByRecursion IsPlain (contract_statements 
 
   -- ---- expressions
 
-  pub stands : (t : Standing) (e : Expression) → Each (Known i) (component_of i) t e → Stands i no_key t.clock e
+  pub stands : (t : Standing) (e : Expression) → Each (Known i) (component_of i) t e → Stands i (IsKnown i) t.clock e
   stands t (truth p b) a = tt
   stands t (number p b) a = tt
   stands t (name p x) a = name_fits (lookup (bytes_eq x) (constants_of i)) t.clock x a.fits
@@ -257,9 +238,9 @@ module _ (i : Instance) (no_modes : AllByRecursion IsPlain (contract_statements 
       (a.0.fits.0, a.0.fits.1, constant_part o d e a.0.fits.2, stands (within t) d a.1, stands (within t) e a.2)
   stands t (choice p b d e) a = (a.0.fits.0, a.0.fits.1, stands (within t) b a.1, stands (within t) d a.2, stands (within t) e a.3)
   stands t (sampled p e q x) a =
-      (a.0.fits.0, name_on i no_key (clock_of n x.text) x.text _ a.0.fits.1, stands (moved (clock_of n x.text) t) e a.1)
+      (a.0.fits.0, name_on i (IsKnown i) (clock_of n x.text) x.text _ a.0.fits.1, stands (moved (clock_of n x.text) t) e a.1)
   stands t (merged p x d e) a = (
-    name_on i no_key t.clock x.text _ a.0.fits.0,
+    name_on i (IsKnown i) t.clock x.text _ a.0.fits.0,
     a.0.fits.0.sort,
     a.0.fits.1,
     stands (moved (sampled_by true x.text) t) d a.1,
@@ -270,6 +251,7 @@ module _ (i : Instance) (no_modes : AllByRecursion IsPlain (contract_statements 
       let fit : fitting.CallFits i s = a.0.fits in (
         record {
           call = is_call s fit;
+          outputs = not_empty (component_of (call_instance i k)).outputs fit.outputs;
           clock = ap (λ (z : Site). z.clock) (site_is_there s fit);
           manner = ap (λ (z : Site). z.manner) (site_is_there s fit);
         },
@@ -288,6 +270,7 @@ module _ (i : Instance) (no_modes : AllByRecursion IsPlain (contract_statements 
       let vs : List Variable = (component_of (call_instance i k)).outputs in (
         record {
           call = is_call s fit;
+          outputs = not_empty (component_of (call_instance i k)).outputs fit.outputs;
           clock = ap (λ (z : Site). z.clock) (site_is_there s fit);
           manner = ap (λ (z : Site). z.manner) (site_is_there s fit);
           defaults = all_defaults k vs ds (callees s fit.number fit.site).distinct a.0.fits.2
@@ -300,4 +283,4 @@ module _ (i : Instance) (no_modes : AllByRecursion IsPlain (contract_statements 
         stands (within t) b a.1,
         ap (λ (m : Component). first_sort m.outputs) fit.callee,
       )
-  stands t (mode_name p d m) a = absurd (no_mode (option_to_list (option_map text_of d), m.text) a.fits.1)
+  stands t (mode_name p d m) a = (a.fits.0, a.fits.1)

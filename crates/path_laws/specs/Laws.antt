@@ -9,7 +9,7 @@ use Rattle.lus_meaning.specs.Refusals.{IsChecked}
 use Rattle.lus_meaning.specs.RuleLaws.{OfEach}
 use Rattle.sys_meaning.specs.System.{number_of}
 use Rattle.sys_meaning.specs.Path.{TraceOfPath}
-use Rattle.sys_meaning.specs.WellTyped.{ClockFits, WellTyped}
+use Rattle.sys_meaning.specs.WellTyped.{IsKnown, ClockFits, WellTyped}
 use Rattle.sys_meaning.specs.Checked.{HoldsWhereReachable, HoldsWhereBounded, BreaksAtLast}
 use Rattle.sys_meaning.specs.Law.{TreeDistinct, RunsArePaths, LemmaLaw, PropertyLaw}
 
@@ -18,60 +18,41 @@ abbrev pub ClockChainsEnd : Type 0
 ClockChainsEnd =
     OfEach (λ p n. AllByRecursion (λ v. ClockFits (instance_of p n) (λ key. ⊥) (clock_from v.clock)) (variables n))
 
--- ---- without modes and imports
+-- ---- runs and paths
 
--- an item of a contract that is no mode and no import
-abbrev pub IsPlain : ContractStatement → Type 0
-IsPlain (assume l) = Unit {0}
-IsPlain (guarantee l) = Unit {0}
-IsPlain (ghost_variable x e) = Unit {0}
-IsPlain (constant c) = Unit {0}
-IsPlain (mode m rs es) = ⊥
-IsPlain («import» k c as_ xs) = ⊥
-
--- the contract of a declaration and those of all that it calls, at every depth, have no mode and no import
-abbrev mutual
-  pub HasNoModes : Instance → Type 0
-  HasNoModes (instance d cs is) = AllByRecursion IsPlain (contract_statements d) × CallsHaveNoModes is
-
-  pub CallsHaveNoModes : Instances → Type 0
-  CallsHaveNoModes no_instances = Unit {0}
-  CallsHaveNoModes (with_instance c k is) = HasNoModes k × CallsHaveNoModes is
-
--- what is so of the instance of each declaration of a checked program that has no modes and no imports
-abbrev pub OfPlain : (Instance → Type 0) → Type 0
-OfPlain P =
-    (p : Program) → IsChecked p → (n : Component) → Contains (components p) n → HasNoModes (instance_of p n) → P (instance_of p n)
+-- what is so of the instance of each declaration of a checked program
+abbrev pub OfEachInstance : (Instance → Type 0) → Type 0
+OfEachInstance P = OfEach (λ p n. P (instance_of p n))
 
 -- its text has its types, clocks and places, at every depth of calls, and the sources of its names have different names
-abbrev pub PlainAreWellTyped : Type 0
-PlainAreWellTyped = OfPlain (λ i. WellTyped (λ j key. ⊥) i × TreeDistinct i (number_of i) [])
+abbrev pub EachIsWellTyped : Type 0
+EachIsWellTyped = OfEachInstance (λ i. WellTyped IsKnown i × TreeDistinct i (number_of i) [])
 
 -- its runs are paths, each path is that of one run, and its properties have the truth of their formulas
-abbrev pub PlainRunsArePaths : Type 0
-PlainRunsArePaths = OfPlain RunsArePaths
+abbrev pub EachRunsArePaths : Type 0
+EachRunsArePaths = OfEachInstance RunsArePaths
 
 -- what follows for lemmas and for properties
-abbrev pub PlainLemmas : Type 0
-PlainLemmas = OfPlain LemmaLaw
+abbrev pub EachLemmas : Type 0
+EachLemmas = OfEachInstance LemmaLaw
 
-abbrev pub PlainProperties : Type 0
-PlainProperties = OfPlain PropertyLaw
+abbrev pub EachProperties : Type 0
+EachProperties = OfEachInstance PropertyLaw
 
 -- the trace of a path has the path's frame
-abbrev pub PlainTraces : Type 0
-PlainTraces = OfPlain TraceOfPath
+abbrev pub EachTraces : Type 0
+EachTraces = OfEachInstance TraceOfPath
 
 -- ---- verdicts
 
 -- a property holds whose formula is true in all reachable states
-abbrev pub PlainHolds : Type 0
-PlainHolds = OfPlain HoldsWhereReachable
+abbrev pub EachHolds : Type 0
+EachHolds = OfEachInstance HoldsWhereReachable
 
 -- and where no path of at most d + 1 states ends with it false, it is true at each lawful instant up to d
-abbrev pub PlainBounds : Type 0
-PlainBounds = OfPlain HoldsWhereBounded
+abbrev pub EachBounds : Type 0
+EachBounds = OfEachInstance HoldsWhereBounded
 
 -- a path that breaks the property of a number breaks it by its frame, at the last instant
-abbrev pub PlainBreaks : Type 0
-PlainBreaks = OfPlain BreaksAtLast
+abbrev pub EachBreaks : Type 0
+EachBreaks = OfEachInstance BreaksAtLast

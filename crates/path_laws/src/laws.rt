@@ -1,7 +1,7 @@
 //! The laws of the translation for checked programs.
 
-ghost use Rattle.path_laws.specs.Laws.{ClockChainsEnd, PlainBounds, PlainBreaks, PlainHolds};
-ghost use Rattle.path_laws.specs.Laws.{PlainAreWellTyped, PlainLemmas, PlainProperties, PlainRunsArePaths, PlainTraces};
+ghost use Rattle.path_laws.specs.Laws.{ClockChainsEnd, EachBounds, EachBreaks, EachHolds};
+ghost use Rattle.path_laws.specs.Laws.{EachIsWellTyped, EachLemmas, EachProperties, EachRunsArePaths, EachTraces};
 
 /// In a checked program the clock of each stream of a declaration is the base clock, or a flag says it whose clock is
 /// such again: after no more clocks than the declaration has streams the base clock comes.
@@ -10,30 +10,30 @@ pub fn clock_chains_end()
 {}
 
 /// In a checked program each declaration has its types, clocks and places, at every depth of calls, and the sources of
-/// its names have different names, where it and what it calls have no modes and no imports in their contracts.
-pub fn plain_are_well_typed()
-    ensures { PlainAreWellTyped }
+/// its names have different names.
+pub fn each_is_well_typed()
+    ensures { EachIsWellTyped }
 {}
 
-/// Of such a declaration the runs are paths, each path is that of one run, and its properties have in each state of a
+/// Of each declaration of a checked program the runs are paths, each path is that of one run, and its properties have in each state of a
 /// run the truth of their formulas. A formula is true in all reachable states exactly where it is true in each state of
 /// a run at a lawful instant, and a property holds exactly where no path ends with its formula false.
-pub fn plain_runs_are_paths()
-    ensures runs { PlainRunsArePaths }
-    ensures lemmas { PlainLemmas }
-    ensures properties { PlainProperties }
+pub fn each_runs_are_paths()
+    ensures runs { EachRunsArePaths }
+    ensures lemmas { EachLemmas }
+    ensures properties { EachProperties }
 {}
 
-/// The trace of a path of such a declaration has the path's frame.
-pub fn plain_traces()
-    ensures { PlainTraces }
+/// The trace of a path of a declaration of a checked program has the path's frame.
+pub fn each_traces()
+    ensures { EachTraces }
 {}
 
-/// A property of such a declaration holds whose formula is true in all reachable states, and where no path of at most
+/// A property of a declaration of a checked program holds whose formula is true in all reachable states, and where no path of at most
 /// d + 1 states ends with its formula false it is true at each lawful instant up to d. A path that breaks a property
 /// breaks it by its frame, at the last instant.
-pub fn plain_verdicts()
-    ensures valid { PlainHolds }
-    ensures bounded { PlainBounds }
-    ensures broken { PlainBreaks }
+pub fn each_verdicts()
+    ensures valid { EachHolds }
+    ensures bounded { EachBounds }
+    ensures broken { EachBreaks }
 {}

@@ -13,13 +13,12 @@ use Rattle.lus_meaning.specs.Depends.{named_in}
 use Rattle.lus_meaning.specs.Scope.{mode_names, import_names, contract_named}
 use Rattle.lus_meaning.specs.ExpressionFaults.{has_mode}
 use Rattle.lus_meaning.specs.ClockFaults.{components}
-use Rattle.lus_meaning.specs.Refusals.{IsChecked}
 use Rattle.lus_meaning.proofs.Lists.{append_none, named_append, or_left, or_true}
 use Rattle.lus_meaning.proofs.Unique.{same_bytes}
-use Rattle.rule_laws.specs.Laws.{OneInstance, NamedIsDeclared, IsUnfolded, AreUnfolded, HasItsPlace}
+use Rattle.rule_laws.specs.Laws.{IsTypedTree, OneInstance, NamedIsDeclared, IsUnfolded, AreUnfolded, HasItsPlace}
 use Rattle.rule_laws.specs.Fitting.{has_key}
-use Rattle.rule_laws.proofs.Places.{imports_in_place}
-use Rattle.rule_laws.proofs.Unfolded.{component_within, each_unfolded}
+use Rattle.rule_laws.proofs.Places.{each_import_placed}
+use Rattle.rule_laws.proofs.Unfolded.{component_within, typed_tree, unfolded_typed}
 use Rattle.rule_laws.proofs.Truths.{same_some}
 
 -- ---- lists
@@ -71,9 +70,13 @@ mutual
       let r : is ≡ js = same_instances p ss is js u.3 v.3 in
       ap (λ x. with_instance x i is) (u.0 ∙ sym v.0) ∙ ap (λ x. with_instance d x is) q ∙ ap (λ x. with_instance d j x) r
 
+pub typed_instance : (p : Program) → IsTypedTree p → (i : Instance) → IsUnfolded p i → Contains (components p) (component_of i)
+    → instance_of p (component_of i) ≡ i
+typed_instance p c i u d =
+    same_instance p (instance_of p (component_of i)) i (unfolded_typed p c (component_of i) d) u (component_within (length p) p (component_of i))
+
 pub one_instance : OneInstance
-one_instance p c i u d =
-    same_instance p (instance_of p (component_of i)) i (each_unfolded p c (component_of i) d) u (component_within (length p) p (component_of i))
+one_instance p c i u d = typed_instance p (typed_tree p c) i u d
 
 -- ---- keys
 
@@ -235,14 +238,14 @@ module _ (p : Program) (i : Instance) (sub : ℕ → Terms) (below : ImportsCove
       (below k h.0.number) a) h.1
 
 -- an import's place in an unfolded instance
-pub imports_placed : (p : Program) → IsChecked p → (i : Instance) → IsUnfolded p i → Contains (components p) (component_of i)
+pub imports_placed : (p : Program) → IsTypedTree p → (i : Instance) → IsUnfolded p i → Contains (components p) (component_of i)
     → AllByRecursion (ImportPlaced p i) (flat_map import_site (contract_statements (component_of i)))
 imports_placed p c i u d =
     all_contained (ImportPlaced p i) (flat_map import_site (contract_statements (component_of i)))
-    (λ s h. subst (λ j. HasItsPlace j (contract_named p s.callee) s) (one_instance p c i u d) (imports_in_place p c (component_of i) d s h))
+    (λ s h. subst (λ j. HasItsPlace j (contract_named p s.callee) s) (typed_instance p c i u d) (each_import_placed p c (component_of i) d s h))
 
 mutual
-  pub covered : (p : Program) → IsChecked p → (i : Instance) → IsUnfolded p i → Contains (components p) (component_of i)
+  pub covered : (p : Program) → IsTypedTree p → (i : Instance) → IsUnfolded p i → Contains (components p) (component_of i)
       → Covers p (contract_statements (component_of i)) (terms i).modes
   covered p c (instance n cs is) u d =
       after_covers p (instance n cs is) (λ k. slice_index_or (terms_each is) (pred k) no_terms) (below is (covered_each p c (all_sites n) is u.1))
@@ -254,7 +257,7 @@ mutual
       below is f zero l = absurd (omega arith)
       below is f (suc k) l = f k
 
-  pub covered_each : (p : Program) → IsChecked p → (ss : List Site) (is : Instances) → AreUnfolded p ss is → (j : ℕ)
+  pub covered_each : (p : Program) → IsTypedTree p → (ss : List Site) (is : Instances) → AreUnfolded p ss is → (j : ℕ)
       → Covers p (contract_statements (component_of (instance_at is j))) (get_or (terms_each is) j no_terms).modes
   covered_each p c ss no_instances u j = covers_none p []
   covered_each p c [] (with_instance x i is) u j = absurd u

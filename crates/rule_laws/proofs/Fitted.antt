@@ -13,8 +13,9 @@ use Rattle.lus_tree.specs.declared.place.Sort.{Sort}
 use Rattle.lus_tree.specs.declared.place.Sort.TheVariants.{Bool as Flags, Int as Numbers}
 use Rattle.lus_tree.specs.Tree.{Name, text_of, Spelled, Expression, Expressions, truth, number, name, negation, minus, pre, arrow, binary, choice, sampled, merged, call, condact, mode_name, no_more, more, Variable, Component}
 use Rattle.lus_tree.specs.Reason.{Refused, not_constant, not_linear, name_unknown, type_clash, arity_clash, clock_clash, mode_unknown}
+use Rattle.lus_meaning.specs.Value.{Value, has_sort}
 use Rattle.lus_meaning.specs.Frame.{empty_frame}
-use Rattle.lus_meaning.specs.Scene.{Clock, base, sampled_by, Scene, Site, Instance, clock_of, component_of, constants_of, call_instance, instance_called}
+use Rattle.lus_meaning.specs.Scene.{Clock, base, sampled_by, plain, while_true, Scene, Site, Instance, clock_of, component_of, constants_of, call_instance, instance_called}
 use Rattle.lus_meaning.specs.Contract.{terms}
 use Rattle.lus_meaning.specs.Program.{listed, site_in}
 use Rattle.lus_meaning.specs.Run.{Takes, sort_of, sort_of_name, output_sort, first_sort}
@@ -193,10 +194,34 @@ pub record Shown (sc : Scope) (i : Instance) : Type 0 where
   pub modes : (d : Option Spelled) (m : Spelled) → mode_is_known sc d m ≡ true
       → has_key (option_to_list (option_map text_of d), m.text) (terms i).modes
 
-pub record GoodPart (sc : Scope) (i : Instance) (o : Occurrence) : Type 0 where
+-- what the types alone ask of an expression: of a name, of both ways, and of calls
+abbrev pub HasSortOfName : Instance → Option Value → Name → Type 0
+HasSortOfName i None x = is_some (name_clock (component_of i) x) ≡ true
+HasSortOfName i (Some v) x = has_sort (sort_of_name i x) v ≡ true
+
+abbrev pub TypeFits : Instance → Standing → Expression → Type 0
+TypeFits i t (name p x) = HasSortOfName i (lookup (bytes_eq x) (constants_of i)) x
+TypeFits i t (arrow p k a b) = sort_of i b ≡ sort_of i a
+TypeFits i t (choice p a b d) = sort_of i d ≡ sort_of i b
+TypeFits i t (merged p x a b) = sort_of i b ≡ sort_of i a
+TypeFits i t (call p k f as_) =
+    CallFits i record { number = k; callee = f.text; clock = t.clock; arguments = listed as_; defaults = []; manner = plain }
+TypeFits i t (condact p k a f as_ ds) =
+    CallFits i record { number = k; callee = f.text; clock = t.clock; arguments = listed as_; defaults = listed ds; manner = while_true a }
+    × (map (sort_of i) (listed ds) ≡ sorts_of (component_of (call_instance i k)).outputs)
+TypeFits i t _ = Unit {0}
+
+abbrev pub TypeFitsThere : Instance → Occurrence → Type 0
+TypeFitsThere i o = TypeFits i o.standing o.expression
+
+-- a part without faults of types, and one without faults of clocks too
+pub record TypedPart (sc : Scope) (i : Instance) (o : Occurrence) : Type 0 where
   pub types : part_faults sc o ≡ []
-  pub clocks : clock_form_faults (component_of i) o.expression ≡ []
   pub sites : AllByRecursion (SiteFits (node_named sc.program) i) (site_in o.standing o.expression)
+
+pub record GoodPart (sc : Scope) (i : Instance) (o : Occurrence) : Type 0 where
+  pub typed : TypedPart sc i o
+  pub clocks : clock_form_faults (component_of i) o.expression ≡ []
 
 module _ (sc : Scope) (i : Instance) (shown : Shown sc i) where
   abbrev here : Component
@@ -208,13 +233,22 @@ module _ (sc : Scope) (i : Instance) (shown : Shown sc i) where
   abbrev pub GoodAmong : Standing → Expressions → Type 0
   GoodAmong = EachAmong (GoodPart sc i) here
 
+  abbrev pub IsTyped : Standing → Expression → Type 0
+  IsTyped = Each (TypedPart sc i) here
+
+  abbrev pub AreTyped : Standing → Expressions → Type 0
+  AreTyped = EachAmong (TypedPart sc i) here
+
+  pub parts_typed : (t : Standing) (e : Expression) → Good t e → IsTyped t e
+  parts_typed t e g = each_of_both (GoodPart sc i) (GoodPart sc i) (TypedPart sc i) (λ o a b. a.typed) here t e g g
+
   abbrev pub Stands : Clock → Expression → Type 0
   Stands c e = is_other c (clock_in here e) ≡ false
 
   abbrev StandsThere : Occurrence → Type 0
   StandsThere o = Stands o.standing.clock o.expression
 
-  form_right : (o : Occurrence) → GoodPart sc i o → form_faults sc o.standing.whole_side o.expression ≡ []
+  form_right : (o : Occurrence) → TypedPart sc i o → form_faults sc o.standing.whole_side o.expression ≡ []
   form_right o g = (no_parts (form_faults sc o.standing.whole_side o.expression) (weight_faults sc o.expression) g.types).0
 
   -- ---- calls
@@ -266,7 +300,7 @@ module _ (sc : Scope) (i : Instance) (shown : Shown sc i) where
   -- ---- types
 
   -- it has the type that its value is to have
-  pub typed : (e : Expression) (t : Standing) → t.whole_side ≡ false → Good t e → type_of sc e ≡ Some (sort_of i e)
+  pub typed : (e : Expression) (t : Standing) → t.whole_side ≡ false → IsTyped t e → type_of sc e ≡ Some (sort_of i e)
   typed (truth p b) t w g = refl
   typed (number p n) t w g = refl
   typed (name p x) t w g = (shown.names x (is_known_here sc x p.at (form_right (occurs t (name p x)) g))).0
@@ -285,15 +319,15 @@ module _ (sc : Scope) (i : Instance) (shown : Shown sc i) where
       (held_right t a f as_ ds true (form_right (occurs t (condact p k a f as_ ds)) g.0)).call)
   typed (mode_name p c m) t w g = refl
 
-  pub needed : (e : Expression) (t : Standing) (q : Sort) → t.whole_side ≡ false → Good t e → needs_sort sc q e ≡ [] → sort_of i e ≡ q
+  pub needed : (e : Expression) (t : Standing) (q : Sort) → t.whole_side ≡ false → IsTyped t e → needs_sort sc q e ≡ [] → sort_of i e ≡ q
   needed e t q w g h = no_clash sc q (sort_of i e) e h (typed e t w g)
 
-  one_sort : (a b : Expression) (t u : Standing) → t.whole_side ≡ false → u.whole_side ≡ false → Good t a → Good u b → agree sc a b ≡ []
+  one_sort : (a b : Expression) (t u : Standing) → t.whole_side ≡ false → u.whole_side ≡ false → IsTyped t a → IsTyped u b → agree sc a b ≡ []
       → sort_of i b ≡ sort_of i a
   one_sort a b t u w z g j h = no_dispute sc (sort_of i a) (sort_of i b) a b h (typed a t w g) (typed b u z j)
 
   -- expressions of the types of these variables
-  sorts_right : (vs : List Variable) (as_ : Expressions) (t : Standing) → t.whole_side ≡ false → GoodAmong t as_
+  sorts_right : (vs : List Variable) (as_ : Expressions) (t : Standing) → t.whole_side ≡ false → AreTyped t as_
       → length vs ≡ length (listed as_) → sorts_fit sc vs (listed as_) ≡ [] → map (sort_of i) (listed as_) ≡ sorts_of vs
   sorts_right [] no_more t w g l h = refl
   sorts_right [] (more a as_) t w g l h = absurd (omega arith)
@@ -302,13 +336,13 @@ module _ (sc : Scope) (i : Instance) (shown : Shown sc i) where
       let q = no_parts (needs_sort sc v.sort a) (sorts_fit sc vs (listed as_)) h in
       rw (needed a t v.sort w g.0 q.0, sorts_right vs as_ t w g.1 (omega arith) q.1) refl
 
-  counted_right : (vs : List Variable) (as_ : Expressions) (t : Standing) → t.whole_side ≡ false → GoodAmong t as_
+  counted_right : (vs : List Variable) (as_ : Expressions) (t : Standing) → t.whole_side ≡ false → AreTyped t as_
       → (length vs == length (listed as_)) ≡ true → arguments_fit sc vs (listed as_) ≡ [] → map (sort_of i) (listed as_) ≡ sorts_of vs
   counted_right vs as_ t w g e h = sorts_right vs as_ t w g (eqb-true (length vs) (length (listed as_)) e)
       (subst (λ b. cond b (sorts_fit sc vs (listed as_)) [] ≡ []) e h)
 
   call_fits : (s : Site) (f : Spelled) (as_ : Expressions) (t : Standing) (w : Bool) → s.callee ≡ f.text → s.arguments ≡ listed as_
-      → t.whole_side ≡ false → GoodAmong t as_ → SiteFits (node_named sc.program) i s
+      → t.whole_side ≡ false → AreTyped t as_ → SiteFits (node_named sc.program) i s
       → call_faults sc w f (listed as_) (node_named sc.program f.text) ≡ [] → CallFits i s
   call_fits s f as_ t w e d z g fit h =
       let m : node_named sc.program f.text ≡ Some (callee s.number) =
@@ -326,7 +360,7 @@ module _ (sc : Scope) (i : Instance) (shown : Shown sc i) where
         on_base = fit.on_base;
       }
 
-  defaults_fit : (s : Site) (f : Spelled) (ds : Expressions) (t : Standing) → s.callee ≡ f.text → t.whole_side ≡ false → GoodAmong t ds
+  defaults_fit : (s : Site) (f : Spelled) (ds : Expressions) (t : Standing) → s.callee ≡ f.text → t.whole_side ≡ false → AreTyped t ds
       → SiteFits (node_named sc.program) i s → default_faults sc f (listed ds) (node_named sc.program f.text) ≡ []
       → map (sort_of i) (listed ds) ≡ sorts_of (callee s.number).outputs
   defaults_fit s f ds t e z g fit h =
@@ -393,7 +427,7 @@ module _ (sc : Scope) (i : Instance) (shown : Shown sc i) where
     each_stands (condact p k a f as_ ds) t g h =
         let c : t.clock ≡ unwrap_or (clock_among here as_) base = is_that t.clock (unwrap_or (clock_among here as_) base) h in
         let q = no_parts (all_on here (clock_among here as_) (listed as_)) (stands_on here (unwrap_or (clock_among here as_) base) a) g.0.clocks in
-        let r : HeldRight t a f as_ ds = held_right t a f as_ ds true (form_right (occurs t (condact p k a f as_ ds)) g.0) in (
+        let r : HeldRight t a f as_ ds = held_right t a f as_ ds true (form_right (occurs t (condact p k a f as_ ds)) g.0.typed) in (
           h,
           each_stands a (within t) g.1 (subst (λ d. is_other d (clock_in here a) ≡ false) (sym c)
               (stands_there here (unwrap_or (clock_among here as_) base) a q.1)),
@@ -521,38 +555,59 @@ module _ (sc : Scope) (i : Instance) (shown : Shown sc i) where
 
   -- ---- all forms
 
-  pub fits : (t : Standing) (e : Expression) → Good t e → Stands t.clock e → Fits i t e
+  -- what is known is a constant of its type or a declared stream
+  name_has_sort : (x : Name) → KnownName sc (still i) x → HasSortOfName i (lookup (bytes_eq x) (constants_of i)) x
+  name_has_sort x (fixed_name v e h k) = subst (λ l. HasSortOfName i l x) (sym e) h
+  name_has_sort x (stream_name e k) = subst (λ l. HasSortOfName i l x) (sym e) (ap is_some k)
+
+  pub types_fit : (t : Standing) (e : Expression) → IsTyped t e → TypeFits i t e
+  types_fit t (truth p b) g = tt
+  types_fit t (number p n) g = tt
+  types_fit t (name p x) g = name_has_sort x (shown.names x (is_known_here sc x p.at (form_right (occurs t (name p x)) g))).1
+  types_fit t (negation p a) g = tt
+  types_fit t (minus p a) g = tt
+  types_fit t (pre p k a) g = tt
+  types_fit t (arrow p k a b) g = one_sort a b (within t) (within t) refl refl g.1 g.2 (form_right (occurs t (arrow p k a b)) g.0)
+  types_fit t (binary p x a b) g = tt
+  types_fit t (choice p a b d) g = one_sort b d (within t) (within t) refl refl g.2 g.3
+      (no_parts (needs_sort sc Flags a) (agree sc b d) (form_right (occurs t (choice p a b d)) g.0)).1
+  types_fit t (sampled p a b x) g = tt
+  types_fit t (merged p x a b) g = one_sort a b (moved (sampled_by true x.text) t) (moved (sampled_by false x.text) t) refl refl g.1 g.2
+      (no_parts (used_as_clock sc x) (agree sc a b) (form_right (occurs t (merged p x a b)) g.0)).1
+  types_fit t (call p k f as_) g =
+      call_fits _ f as_ (within t) t.whole_side refl refl refl g.1 g.0.sites.0 (form_right (occurs t (call p k f as_)) g.0)
+  types_fit t (condact p k a f as_ ds) g =
+      let r : HeldRight t a f as_ ds = held_right t a f as_ ds true (form_right (occurs t (condact p k a f as_ ds)) g.0) in (
+        call_fits _ f as_ (within t) t.whole_side refl refl refl g.2 g.0.sites.0 r.call,
+        defaults_fit _ f ds (within t) refl refl g.3 g.0.sites.0 r.defaults,
+      )
+  types_fit t (mode_name p c m) g = tt
+
+  pub fits : (t : Standing) (e : Expression) → IsTyped t e → Stands t.clock e → Fits i t e
   fits t (truth p b) g h = tt
   fits t (number p n) g h = tt
   fits t (name p x) g h = name_fits t.clock x (shown.names x (is_known_here sc x p.at (form_right (occurs t (name p x)) g))).1 h
   fits t (negation p a) g h = needed a (within t) Flags refl g.1 (form_right (occurs t (negation p a)) g.0)
   fits t (minus p a) g h = needed a (within t) Numbers refl g.1 (form_right (occurs t (minus p a)) g.0)
   fits t (pre p k a) g h = tt
-  fits t (arrow p k a b) g h = one_sort a b (within t) (within t) refl refl g.1 g.2 (form_right (occurs t (arrow p k a b)) g.0)
+  fits t (arrow p k a b) g h = types_fit t (arrow p k a b) g
   fits t (binary p x a b) g h =
       let f : operator_faults sc p.at x a b ≡ [] = form_right (occurs t (binary p x a b)) g.0 in
       let q : Asked x (sort_of i a) (sort_of i b) = operator_asks sc p.at x a b (sort_of i a) (sort_of i b) f (typed a (within t) refl g.1)
       (typed b (within t) refl g.2) in
       (q.0, q.1, constant_asked p.at x a b f)
   fits t (choice p a b d) g h =
-      let f : (needs_sort sc Flags a ≡ []) × (agree sc b d ≡ []) = no_parts (needs_sort sc Flags a) (agree sc b d)
-      (form_right (occurs t (choice p a b d)) g.0) in
-      (needed a (within t) Flags refl g.1 f.0, one_sort b d (within t) (within t) refl refl g.2 g.3 f.1)
+      let f : needs_sort sc Flags a ≡ [] = (no_parts (needs_sort sc Flags a) (agree sc b d) (form_right (occurs t (choice p a b d)) g.0)).0 in
+      (needed a (within t) Flags refl g.1 f, types_fit t (choice p a b d) g)
   fits t (sampled p a b x) g h = (is_that t.clock (sampled_by b x.text) h, clock_word x (form_right (occurs t (sampled p a b x)) g.0))
   fits t (merged p x a b) g h =
-      let f : (used_as_clock sc x ≡ []) × (agree sc a b ≡ []) = no_parts (used_as_clock sc x) (agree sc a b) (form_right (occurs t (merged p x a b)) g.0) in (
-        subst (λ c. IsFlagOn i c x.text) (sym (is_that t.clock (clock_of here x.text) h)) (clock_word x f.0),
-        one_sort a b (moved (sampled_by true x.text) t) (moved (sampled_by false x.text) t) refl refl g.1 g.2 f.1,
-      )
-  fits t (call p k f as_) g h =
-      call_fits _ f as_ (within t) t.whole_side refl refl refl g.1 g.0.sites.0 (form_right (occurs t (call p k f as_)) g.0)
+      let f : used_as_clock sc x ≡ [] = (no_parts (used_as_clock sc x) (agree sc a b) (form_right (occurs t (merged p x a b)) g.0)).0 in
+      (subst (λ c. IsFlagOn i c x.text) (sym (is_that t.clock (clock_of here x.text) h)) (clock_word x f), types_fit t (merged p x a b) g)
+  fits t (call p k f as_) g h = types_fit t (call p k f as_) g
   fits t (condact p k a f as_ ds) g h =
-      let r : HeldRight t a f as_ ds = held_right t a f as_ ds true (form_right (occurs t (condact p k a f as_ ds)) g.0) in (
-        call_fits _ f as_ (within t) t.whole_side refl refl refl g.2 g.0.sites.0 r.call,
-        needed a (within t) Flags refl g.1 r.condition,
-        defaults_fit _ f ds (within t) refl refl g.3 g.0.sites.0 r.defaults,
-        constants_here (listed ds) r.constant,
-      )
+      let r : HeldRight t a f as_ ds = held_right t a f as_ ds true (form_right (occurs t (condact p k a f as_ ds)) g.0) in
+      let q = types_fit t (condact p k a f as_ ds) g in
+      (q.0, needed a (within t) Flags refl g.1 r.condition, q.1, constants_here (listed ds) r.constant)
   fits t (mode_name p c m) g h = (
     is_that t.clock base h,
     shown.modes c m (not_false (mode_is_known sc c m) (not_so (not (mode_is_known sc c m)) mode_unknown m.at
@@ -561,5 +616,11 @@ module _ (sc : Scope) (i : Instance) (shown : Shown sc i) where
 
   -- so does each part of it
   pub fit_parts : (t : Standing) (e : Expression) → Good t e → Stands t.clock e → Each (FitsThere i) here t e
-  fit_parts t e g h = each_of_both (λ o. Good o.standing o.expression) StandsThere (FitsThere i) (λ o a b. fits o.standing o.expression a b) here t e
-      (nested (GoodPart sc i) here t e g) (each_stands e t g h)
+  fit_parts t e g h = each_of_both (λ o. IsTyped o.standing o.expression) StandsThere (FitsThere i) (λ o a b. fits o.standing o.expression a b) here t e
+      (nested (TypedPart sc i) here t e (parts_typed t e g)) (each_stands e t g h)
+
+  pub type_parts : (t : Standing) (e : Expression) → IsTyped t e → Each (TypeFitsThere i) here t e
+  type_parts t e g =
+      each_of_both (λ o. IsTyped o.standing o.expression) (λ o. IsTyped o.standing o.expression) (TypeFitsThere i)
+      (λ o a b. types_fit o.standing o.expression a) here t e
+      (nested (TypedPart sc i) here t e g) (nested (TypedPart sc i) here t e g)

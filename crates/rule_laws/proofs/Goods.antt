@@ -25,19 +25,19 @@ use Rattle.lus_meaning.proofs.Lists.{all_from, all_from_both}
 use Rattle.lus_meaning.proofs.NamesOnce.{no_parts, at_one, empty_of}
 use Rattle.lus_meaning.proofs.Now.{left_part, right_part}
 use Rattle.lus_meaning.proofs.RulesFit.{none_mapped}
-use Rattle.rule_laws.specs.Laws.{placed, table, Agrees, HasItsPlace}
+use Rattle.rule_laws.specs.Laws.{IsTypedTree, placed, table, Agrees, HasItsPlace}
 use Rattle.rule_laws.specs.Fitting.{NotEmpty, OnBase, has_key, FitsThere, ExpressionsFit}
 use Rattle.rule_laws.proofs.Cleaned.{CleanHome, homes_clean}
 use Rattle.rule_laws.proofs.Constants.{is_word}
 use Rattle.rule_laws.proofs.Covered.{found_declared, all_contained, Covers, covered}
-use Rattle.rule_laws.proofs.Fitted.{stands_there, still, some_output, call_right, SiteFits, Shown, GoodPart, held_right, fit_parts}
+use Rattle.rule_laws.proofs.Fitted.{TypedPart, TypeFitsThere, type_parts, stands_there, still, some_output, call_right, SiteFits, Shown, GoodPart, held_right, fit_parts}
 use Rattle.rule_laws.proofs.Lists.{all_flat}
 use Rattle.rule_laws.proofs.Known.{SameFound, agrees}
 use Rattle.rule_laws.proofs.Parts.{all_parts, from_root}
-use Rattle.rule_laws.proofs.Places.{all_grammatical, calls_in_place}
+use Rattle.rule_laws.proofs.Places.{all_grammatical, each_call_placed}
 use Rattle.rule_laws.proofs.Tables.{typed_tables}
-use Rattle.rule_laws.proofs.Texts.{HasOutputs, IsClean, HoldsApart, ScopeOf, CleanText, texts_clean}
-use Rattle.rule_laws.proofs.Unfolded.{component_within, each_unfolded}
+use Rattle.rule_laws.proofs.Texts.{HasOutputs, IsClean, HoldsApart, ScopeOf, IsTypeClean, CleanText, texts_clean}
+use Rattle.rule_laws.proofs.Unfolded.{component_within, typed_tree, unfolded_typed}
 use Rattle.rule_laws.proofs.Callees.{where_is_named}
 use Rattle.rule_laws.proofs.Truths.{not_false, both_true, same_some}
 
@@ -92,7 +92,7 @@ fixed_entry None b s h = absurd (false≢true h)
 fixed_entry (Some d) None s h = absurd (none-some d.role (sym s.role))
 fixed_entry (Some d) (Some e) s h = (e, refl, ap is_constant_role (sym (same_some s.role)) ∙ h)
 
-module _ (p : Program) (c : IsChecked p) (h : ℕ × Component) (place : Contains (placed 0 p) h) where
+module _ (p : Program) (c : IsTypedTree p) (h : ℕ × Component) (place : Contains (placed 0 p) h) where
   abbrev there : Instance
   there = instance_of p h.1
 
@@ -103,7 +103,7 @@ module _ (p : Program) (c : IsChecked p) (h : ℕ × Component) (place : Contain
   holds_apart s o x e =
       let q : (d : Entry) × (find (is_word x) (table p h) ≡ Some d) × (is_constant_role d.role ≡ true) =
       fixed_entry (entry_of s x) (find (is_word x) (table p h)) (o.shows x) e in
-      let a : Agrees there x q.0 = typed_tables p c.rules.clocked.typed h place x q.0 q.1 in
+      let a : Agrees there x q.0 = typed_tables p c.typed h place x q.0 q.1 in
       subst (λ n. name_clock n x ≡ None) (own_component ∙ sym o.owner)
       (a.stream ∙ ap (λ b. cond b None (Some q.0.clock)) q.2)
 
@@ -111,7 +111,7 @@ module _ (p : Program) (c : IsChecked p) (h : ℕ × Component) (place : Contain
   is_fixed_there s o x e =
       let q : (d : Entry) × (find (is_word x) (table p h) ≡ Some d) × (is_constant_role d.role ≡ true) =
       fixed_entry (entry_of s x) (find (is_word x) (table p h)) (o.shows x) e in
-      let a : Agrees there x q.0 = typed_tables p c.rules.clocked.typed h place x q.0 q.1 in
+      let a : Agrees there x q.0 = typed_tables p c.typed h place x q.0 q.1 in
       ap is_some (a.constant ∙ ap (λ b. cond b (Some q.0.value) None) q.2)
 
   modes_known : (s : Scope) → ScopeOf p h s → Covers p (contract_statements h.1) (terms there).modes → (d : Option Spelled) (m : Spelled)
@@ -125,7 +125,7 @@ module _ (p : Program) (c : IsChecked p) (h : ℕ × Component) (place : Contain
   pub shown_of : (s : Scope) → ScopeOf p h s → Covers p (contract_statements h.1) (terms there).modes → Shown s there
   shown_of s o v = record {
     owner = o.owner ∙ sym own_component;
-    names = agrees p c.rules.clocked.typed h place s o.shows (still there) refl;
+    names = agrees p c.typed h place s o.shows (still there) refl;
     apart = λ x e. subst (λ n. name_clock n x ≡ None) (o.owner ∙ sym own_component) (holds_apart s o x e);
     fixed = is_fixed_there s o;
     modes = modes_known s o v;
@@ -158,13 +158,13 @@ outputs_on_base n g =
     without_clocks n.outputs (left_part (λ v. is_none v.clock ≡ true) n.outputs (flat_map ghost_names (contract_statements n))
     (right_part (λ v. is_none v.clock ≡ true) n.inputs (n.outputs ++ flat_map ghost_names (contract_statements n)) all))
 
-pub calls_placed : (p : Program) → IsChecked p → (n : Component) → Contains (components p) n
+pub calls_placed : (p : Program) → IsTypedTree p → (n : Component) → Contains (components p) n
     → AllByRecursion (PlacedCall p (instance_of p n)) (gathered site_in n)
 calls_placed p c n i = all_contained (PlacedCall p (instance_of p n)) (gathered site_in n) one
   where
     one : (s : Site) → Contains (gathered site_in n) s → PlacedCall p (instance_of p n) s
     one s h =
-        let q : HasItsPlace (instance_of p n) (node_named p s.callee) s = calls_in_place p c n i s h in
+        let q : HasItsPlace (instance_of p n) (node_named p s.callee) s = each_call_placed p c n i s h in
         let m : Component = component_of (call_instance (instance_of p n) s.number) in
         (q, outputs_on_base m (at_one IsGrammaticalComponent (components p) m (all_grammatical p c.grammatical) (named_declared p s.callee m q.callee)))
 
@@ -240,9 +240,27 @@ module _ (p : Program) (i : Instance) (sc : Scope) (program : sc.program ≡ p) 
       let own : clock_faults_of (component_of i) x.0.clock x.1 ≡ [] = subst (λ m. clock_faults_of m x.0.clock x.1 ≡ []) shown.owner k.clocks in
       stands_there (component_of i) x.0.clock x.1 (no_parts (stands_on (component_of i) x.0.clock x.1) _ own).0
 
-  pub no_faults : (x : Text) → IsClean sc x → Each NoFault (component_of i) x.0 x.1
+  pub no_faults : (x : Text) → IsTypeClean sc x → Each NoFault (component_of i) x.0 x.1
   no_faults x k = each_part NoFault (component_of i) x.0 x.1 (none_mapped (part_faults sc) (occurrences (component_of i) x.0 x.1)
       (subst (λ m. flat_map (part_faults sc) (occurrences m x.0 x.1) ≡ []) shown.owner k.types))
+
+  pub text_typed : (x : Text) → IsTypeClean sc x → AllByRecursion CallsPlaced (occurrences (component_of i) x.0 x.1)
+      → Each (TypedPart sc i) (component_of i) x.0 x.1
+  text_typed x k calls =
+      let n : Component = component_of i in
+      let t : Standing = x.0 in
+      let e : Expression = x.1 in
+      let outputs : Each OutputsThere n t e = from_root OutputsThere n (λ o w. inner_outputs o.standing o.expression w) t e
+      (root_outputs t e t.whole_side refl k.root) in
+      let some : Each (λ o. NoFault o × HasOutputs sc o.expression) n t e = each_of_both NoFault OutputsThere (λ o. NoFault o × HasOutputs sc o.expression)
+      (λ o a b. (a, b a)) n t e (no_faults x k) outputs in
+      each_of_both (λ o. NoFault o × HasOutputs sc o.expression) CallsPlaced (TypedPart sc i)
+      (λ o a b. record { types = a.0; sites = sites_fit o.standing o.expression b a.1 }) n t e some (each_part CallsPlaced n t e calls)
+
+  -- so it fits, by its types
+  pub text_types_fit : (x : Text) → IsTypeClean sc x → AllByRecursion CallsPlaced (occurrences (component_of i) x.0 x.1)
+      → Each (TypeFitsThere i) (component_of i) x.0 x.1
+  text_types_fit x k calls = type_parts sc i shown x.0 x.1 (text_typed x k calls)
 
   pub text_good : (x : Text) → IsClean sc x → AllByRecursion CallsPlaced (occurrences (component_of i) x.0 x.1)
       → Each (GoodPart sc i) (component_of i) x.0 x.1
@@ -252,20 +270,11 @@ module _ (p : Program) (i : Instance) (sc : Scope) (program : sc.program ≡ p) 
       let e : Expression = x.1 in
       let own : clock_faults_of n t.clock e ≡ [] = subst (λ m. clock_faults_of m t.clock e ≡ []) shown.owner k.clocks in
       let parts = no_parts (stands_on n t.clock e) (flat_map (λ o. clock_form_faults n o.expression) (occurrences n (on_clock t.clock) e)) own in
-      let types : Each NoFault n t e = no_faults x k in
       let clocks : Each (λ o. NoClockFault o.expression) n t e = each_elsewhere NoClockFault n (on_clock t.clock) t e
       (each_part (λ o. NoClockFault o.expression) n (on_clock t.clock) e
       (none_mapped (λ o. clock_form_faults n o.expression) (occurrences n (on_clock t.clock) e) parts.1)) in
-      let outputs : Each OutputsThere n t e = from_root OutputsThere n (λ o w. inner_outputs o.standing o.expression w) t e
-      (root_outputs t e t.whole_side refl k.root) in
-      let some : Each (λ o. NoFault o × HasOutputs sc o.expression) n t e = each_of_both NoFault OutputsThere (λ o. NoFault o × HasOutputs sc o.expression)
-      (λ o a b. (a, b a)) n t e types outputs in
-      let sites : Each (λ o. NoFault o × AllByRecursion (SiteFits (node_named sc.program) i) (site_in o.standing o.expression)) n t e =
-      each_of_both (λ o. NoFault o × HasOutputs sc o.expression) CallsPlaced
-      (λ o. NoFault o × AllByRecursion (SiteFits (node_named sc.program) i) (site_in o.standing o.expression))
-      (λ o a b. (a.0, sites_fit o.standing o.expression b a.1)) n t e some (each_part CallsPlaced n t e calls) in
-      each_of_both (λ o. NoFault o × AllByRecursion (SiteFits (node_named sc.program) i) (site_in o.standing o.expression))
-      (λ o. NoClockFault o.expression) (GoodPart sc i) (λ o a b. record { types = a.0; clocks = b; sites = a.1 }) n t e sites clocks
+      each_of_both (TypedPart sc i) (λ o. NoClockFault o.expression) (GoodPart sc i) (λ o a b. record { typed = a; clocks = b }) n t e
+      (text_typed x k.typed calls) clocks
 
   pub text_fits : (x : Text) → IsClean sc x → AllByRecursion CallsPlaced (occurrences (component_of i) x.0 x.1) → Each (FitsThere i) (component_of i) x.0 x.1
   text_fits x k calls = fit_parts sc i shown x.0 x.1 (text_good x k calls) (text_stands x k)
@@ -275,21 +284,20 @@ module _ (p : Program) (i : Instance) (sc : Scope) (program : sc.program ≡ p) 
 abbrev pub TextFits : Instance → Text → Type 0
 TextFits i x = Each (FitsThere i) (component_of i) x.0 x.1
 
--- a declaration without faults
-pub record CleanDeclaration (p : Program) (h : ℕ × Component) : Type 0 where
+-- a declaration without faults of names and types
+pub record TypedDeclaration (p : Program) (h : ℕ × Component) : Type 0 where
   pub contract : contract_faults (home p h.0 h.1) [] (contract_statements h.1) ≡ []
-  pub contract_clocks : flat_map (contract_statement_clock_faults h.1) (contract_statements h.1) ≡ []
   pub clocks : flat_map (used_as_clock (body_scope (home p h.0 h.1))) (flat_map clock_words h.1.locals) ≡ []
   pub constants : local_constant_faults (home p h.0 h.1) 0 h.1.constants ≡ []
   pub lefts : list_all has_left_name h.1.body ≡ true
   pub body : flat_map (statement_faults (body_scope (home p h.0 h.1))) h.1.body ≡ []
-  pub body_clocks : flat_map (statement_clock_faults h.1) h.1.body ≡ []
 
-pub clean_declaration : (p : Program) → IsChecked p → (h : ℕ × Component) → Contains (placed 0 p) h → Contains (components p) h.1 → CleanDeclaration p h
-clean_declaration p c h place i =
+pub typed_declaration : (p : Program) → IsTypedTree p → (h : ℕ × Component) → Contains (placed 0 p) h → Contains (components p) h.1
+    → TypedDeclaration p h
+typed_declaration p c h place i =
     let n : Component = h.1 in
     let faults = no_parts (words_twice name_twice (map declaration_word p)) (declaration_faults p 0 p)
-    (no_parts _ (words_twice name_twice (map declaration_word p) ++ declaration_faults p 0 p) (empty_of (typing_faults p) c.rules.clocked.typed)).1 in
+    (no_parts _ (words_twice name_twice (map declaration_word p) ++ declaration_faults p 0 p) (empty_of (typing_faults p) c.typed)).1 in
     let clean : CleanHome p h = at_one (CleanHome p) (placed 0 p) h (homes_clean p 0 p faults.1) place in
     let rest = no_parts (contract_faults (home p h.0 n) [] (contract_statements n)) (body_faults (home p h.0 n) ++
     (state_faults p n ++ (recursion_faults p n ++ assumption_faults (body_scope (home p h.0 n)))))
@@ -299,32 +307,65 @@ clean_declaration p c h place i =
     let behind = no_parts (flat_map (used_as_clock (body_scope (home p h.0 n))) (flat_map clock_words n.locals))
     (local_constant_faults (home p h.0 n) 0 n.constants ++ flat_map (statement_faults (body_scope (home p h.0 n))) n.body) bodies in
     let body = no_parts (local_constant_faults (home p h.0 n) 0 n.constants) (flat_map (statement_faults (body_scope (home p h.0 n))) n.body) behind.1 in
-    let clocks = no_parts (flat_map (contract_statement_clock_faults n) (contract_statements n)) (flat_map (statement_clock_faults n) n.body)
-    (at_one (λ m. component_clock_faults m ≡ []) (components p) n
-    (none_mapped component_clock_faults (components p) (empty_of (clock_faults p) c.rules.clocked.clocks)) i) in
     record {
       contract = rest.0;
-      contract_clocks = clocks.0;
       clocks = behind.0;
       constants = body.0;
       lefts = (at_one IsGrammaticalComponent (components p) n (all_grammatical p c.grammatical) i).lefts;
       body = body.1;
-      body_clocks = clocks.1;
     }
+
+-- and without faults of clocks
+pub record CleanDeclaration (p : Program) (h : ℕ × Component) : Type 0 where
+  pub typed : TypedDeclaration p h
+  pub contract_clocks : flat_map (contract_statement_clock_faults h.1) (contract_statements h.1) ≡ []
+  pub body_clocks : flat_map (statement_clock_faults h.1) h.1.body ≡ []
+
+pub clean_declaration : (p : Program) → IsChecked p → (h : ℕ × Component) → Contains (placed 0 p) h → Contains (components p) h.1 → CleanDeclaration p h
+clean_declaration p c h place i =
+    let n : Component = h.1 in
+    let clocks = no_parts (flat_map (contract_statement_clock_faults n) (contract_statements n)) (flat_map (statement_clock_faults n) n.body)
+    (at_one (λ m. component_clock_faults m ≡ []) (components p) n
+    (none_mapped component_clock_faults (components p) (empty_of (clock_faults p) c.rules.clocked.clocks)) i) in
+    record { typed = typed_declaration p (typed_tree p c) h place i; contract_clocks = clocks.0; body_clocks = clocks.1 }
 
 pub declaration_texts : (p : Program) (c : IsChecked p) (h : ℕ × Component) → Contains (placed 0 p) h → Contains (components p) h.1
     → AllByRecursion (CleanText p h) (texts h.1)
 declaration_texts p c h place i =
     let q : CleanDeclaration p h = clean_declaration p c h place i in
-    texts_clean p h (holds_apart p c h place) q.contract q.contract_clocks q.constants q.lefts q.body q.body_clocks
+    texts_clean p h (holds_apart p (typed_tree p c) h place) q.typed.contract q.contract_clocks q.typed.constants q.typed.lefts q.typed.body q.body_clocks
 
 -- the modes of the instance of a declaration
-pub own_covered : (p : Program) → IsChecked p → (n : Component) → Contains (components p) n
+pub own_covered : (p : Program) → IsTypedTree p → (n : Component) → Contains (components p) n
     → Covers p (contract_statements n) (terms (instance_of p n)).modes
 own_covered p c n d =
     let own : component_of (instance_of p n) ≡ n = component_within (length p) p n in
     subst (λ m. Covers p (contract_statements m) (terms (instance_of p n)).modes) own
-    (covered p c (instance_of p n) (each_unfolded p c n d) (subst (Contains (components p)) (sym own) d))
+    (covered p c (instance_of p n) (unfolded_typed p c n d) (subst (Contains (components p)) (sym own) d))
+
+-- each call in a text has its place
+abbrev pub TextPlacedIn : Program → Instance → Text → Type 0
+TextPlacedIn p i x = AllByRecursion (λ o. AllByRecursion (PlacedCall p i) (site_in o.standing o.expression)) (occurrences (component_of i) x.0 x.1)
+
+module _ (p : Program) (c : IsTypedTree p) (h : ℕ × Component) (place : Contains (placed 0 p) h) (d : Contains (components p) h.1) (i : Instance)
+    (own : instance_of p h.1 ≡ i) where
+  pub component_there : component_of i ≡ h.1
+  component_there = ap component_of (sym own) ∙ component_within (length p) p h.1
+
+  pub covers_there : Covers p (contract_statements h.1) (terms i).modes
+  covers_there = subst (λ j. Covers p (contract_statements h.1) (terms j).modes) own (own_covered p c h.1 d)
+
+  pub shown_there : (s : Scope) → ScopeOf p h s → Shown s i
+  shown_there s o = subst (Shown s) own (shown_of p c h place s o (own_covered p c h.1 d))
+
+  pub texts_placed_there : AllByRecursion (TextPlacedIn p i) (texts h.1)
+  texts_placed_there =
+      let calls : AllByRecursion (PlacedCall p i) (gathered site_in h.1) =
+      subst (λ j. AllByRecursion (PlacedCall p j) (gathered site_in h.1)) own (calls_placed p c h.1 d) in
+      let each = all_of_each (PlacedCall p i) (λ o. site_in o.standing o.expression) (all_occurrences h.1) calls in
+      subst (λ m. AllByRecursion (λ x. AllByRecursion (λ o. AllByRecursion (PlacedCall p i) (site_in o.standing o.expression))
+      (occurrences m x.0 x.1)) (texts h.1)) (sym component_there)
+      (all_of_each (λ o. AllByRecursion (PlacedCall p i) (site_in o.standing o.expression)) (λ x. occurrences h.1 x.0 x.1) (texts h.1) each)
 
 pub texts_fit : (p : Program) → IsChecked p → (n : Component) → Contains (components p) n → AllByRecursion (TextFits (instance_of p n)) (texts n)
 texts_fit p c n d =
@@ -332,12 +373,12 @@ texts_fit p c n d =
     let h : ℕ × Component = (q.before, n) in
     let i : Instance = instance_of p n in
     let own : component_of i ≡ n = component_within (length p) p n in
-    let covers : Covers p (contract_statements n) (terms i).modes = own_covered p c n d in
+    let covers : Covers p (contract_statements n) (terms i).modes = own_covered p (typed_tree p c) n d in
     let calls : AllByRecursion (λ o. AllByRecursion (PlacedCall p i) (site_in o.standing o.expression)) (all_occurrences n) =
-    all_of_each (PlacedCall p i) (λ o. site_in o.standing o.expression) (all_occurrences n) (calls_placed p c n d) in
+    all_of_each (PlacedCall p i) (λ o. site_in o.standing o.expression) (all_occurrences n) (calls_placed p (typed_tree p c) n d) in
     let Calls : Text → Type 0 = λ x. AllByRecursion (λ o. AllByRecursion (PlacedCall p i) (site_in o.standing o.expression)) (occurrences n x.0 x.1) in
     all_from_both (CleanText p h) Calls (TextFits i)
-    (λ x a b. text_fits p i a.scope a.of.program (shown_of p c h q.is a.scope a.of covers) x a.clean
+    (λ x a b. text_fits p i a.scope a.of.program (shown_of p (typed_tree p c) h q.is a.scope a.of covers) x a.clean
     (subst (λ m. AllByRecursion (λ o. AllByRecursion (PlacedCall p i) (site_in o.standing o.expression)) (occurrences m x.0 x.1)) (sym own) b))
     (texts n) (declaration_texts p c h q.is d)
     (all_of_each (λ o. AllByRecursion (PlacedCall p i) (site_in o.standing o.expression)) (λ x. occurrences n x.0 x.1) (texts n) calls)

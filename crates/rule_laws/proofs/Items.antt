@@ -35,15 +35,15 @@ use Rattle.rule_laws.specs.Fitting.{sorts_of, IsStreamOn, OnBase}
 use Rattle.rule_laws.specs.Declarations.{ClockFits, StreamFits, right_sorts, EquationFits, contract_flags, statement_flags, flags_in, values_of, ImportFits, DeclarationFits, DeclarationsFit}
 use Rattle.rule_laws.proofs.Constants.{is_word}
 use Rattle.rule_laws.proofs.Covered.{moved_on, ImportPlaced, imports_placed}
-use Rattle.rule_laws.proofs.Fitted.{same_sorts, same_clocks, is_known_here, Shown, GoodPart, typed, needed, clock_word}
-use Rattle.rule_laws.proofs.Goods.{PlaceOf, place_of, text_good, each_passes, without_clocks, CleanDeclaration, clean_declaration}
+use Rattle.rule_laws.proofs.Fitted.{same_sorts, same_clocks, is_known_here, Shown, TypedPart, typed, needed, clock_word}
+use Rattle.rule_laws.proofs.Goods.{PlaceOf, place_of, text_typed, each_passes, without_clocks, CleanDeclaration, clean_declaration}
 use Rattle.rule_laws.proofs.Known.{SameFound}
 use Rattle.rule_laws.proofs.Lists.{all_mapped}
 use Rattle.rule_laws.proofs.Places.{all_grammatical}
 use Rattle.rule_laws.proofs.Tables.{outputs_on_base, IsStream, declared_streams, typed_tables}
 use Rattle.rule_laws.proofs.Texts.{IsClean, AreClean, clean_flag, clean_side, clean_arguments, ScopeOf, contract_scope_of, constant_scope_of}
 use Rattle.rule_laws.proofs.TypedModes.{component, shown, TextPlaced, texts_placed}
-use Rattle.rule_laws.proofs.Unfolded.{each_unfolded}
+use Rattle.rule_laws.proofs.Unfolded.{typed_tree, each_unfolded}
 use Rattle.rule_laws.proofs.Truths.{not_false, first_false, second_false, both_true, same_some}
 use Rattle.lus_meaning.proofs.BooleanTypes.{at_named}
 
@@ -199,7 +199,7 @@ module _ (p : Program) (c : IsChecked p) (h : ℕ × Component) (place : Contain
       let clocks : AllByRecursion (λ v. ClockFits i v.clock) (variables h.1) = of_parts (λ v. ClockFits i v.clock) h.1 record {
         inputs = on_base_fit h.1.inputs b.inputs;
         outputs = on_base_fit h.1.outputs b.outputs;
-        locals = locals_fit h.1.locals clean.clocks;
+        locals = locals_fit h.1.locals clean.typed.clocks;
         others = on_base_fit (ghosts (contract_statements h.1)) b.ghosts;
       } in
       all_from_both (λ v. IsStreamOn i (clock_from v.clock) v.sort v.name.text) (λ v. ClockFits i v.clock) (StreamFits i)
@@ -208,7 +208,7 @@ module _ (p : Program) (c : IsChecked p) (h : ℕ × Component) (place : Contain
   -- ---- equations
 
   abbrev GoodHere : (s : Scope) → ScopeOf p h s → Standing → Expression → Type 0
-  GoodHere s o t e = Each (GoodPart s i) (component_of i) t e
+  GoodHere s o t e = Each (TypedPart s i) (component_of i) t e
 
   abbrev AllKnown : Scope → List Spelled → Type 0
   AllKnown s xs = AllByRecursion (λ x. is_known s x.text ≡ true) xs
@@ -261,7 +261,7 @@ module _ (p : Program) (c : IsChecked p) (h : ℕ × Component) (place : Contain
   sides_right s o k xs (truth q b) a g f = value_right s o xs (truth q b) _ a refl f
   sides_right s o k xs (number q n) a g f = value_right s o xs (number q n) _ a refl f
   sides_right s o k xs (name q x) a g f = value_right s o xs (name q x) _ a
-      (typed s i (sees s o) (name q x) (on_clock k) refl record { types = g.types; clocks = g.clocks; sites = g.sites }) f
+      (typed s i (sees s o) (name q x) (on_clock k) refl record { types = g.types; sites = g.sites }) f
   sides_right s o k xs (negation q x) a g f = value_right s o xs (negation q x) _ a refl f
   sides_right s o k xs (minus q x) a g f = value_right s o xs (minus q x) _ a refl f
   sides_right s o k xs (pre q n x) a g f = value_right s o xs (pre q n x) _ a (typed s i (sees s o) x (before (as_side k)) refl g.1) f
@@ -279,7 +279,7 @@ module _ (p : Program) (c : IsChecked p) (h : ℕ × Component) (place : Contain
   sides_right s o k xs (mode_name q x y) a g f = value_right s o xs (mode_name q x y) _ a refl f
 
   good : (s : Scope) (o : ScopeOf p h s) (x : Text) → IsClean s x → Placed x → GoodHere s o x.0 x.1
-  good s o x k a = text_good p i s o.program (sees s o) x k a
+  good s o x k a = text_typed p i s o.program (sees s o) x k.typed a
 
   -- left names that are streams, on this clock
   lefts_on : (k : Clock) (xs : List Spelled) → AllByRecursion (λ x. IsStreamHere x.text × (clock_of (component_of i) x.text ≡ k)) xs
@@ -564,10 +564,10 @@ module _ (p : Program) (c : IsChecked p) (h : ℕ × Component) (place : Contain
       (parts_of (λ v. IsStreamOn i (clock_from v.clock) v.sort v.name.text) h.1 streams_on).others (others_on_base h.1 grammatical).ghosts in
       let imports : AllByRecursion (ImportPlaced p i) (flat_map import_site (contract_statements h.1)) =
       subst (λ n. AllByRecursion (ImportPlaced p i) (flat_map import_site (contract_statements n))) own
-      (imports_placed p c i (each_unfolded p c h.1 d) (subst (Contains (components p)) (sym own) d)) in
-      let contract : ContractFits (contract_statements h.1) = contract_items [] (contract_statements h.1) refl clean.contract clean.contract_clocks
+      (imports_placed p (typed_tree p c) i (each_unfolded p c h.1 d) (subst (Contains (components p)) (sym own) d)) in
+      let contract : ContractFits (contract_statements h.1) = contract_items [] (contract_statements h.1) refl clean.typed.contract clean.contract_clocks
       (left_part Placed (flat_map contract_statement_texts (contract_statements h.1)) _ all) imports ghosted in
-      let body : BodyFits h.1.body = body_items h.1.body clean.lefts clean.body clean.body_clocks
+      let body : BodyFits h.1.body = body_items h.1.body clean.typed.lefts clean.typed.body clean.body_clocks
       (right_part Placed (constant_texts h.1.constants) (flat_map (statement_texts h.1) h.1.body) behind) lefts_defined in
       record {
         streams = subst (λ n. AllByRecursion (StreamFits i) (variables n)) (sym own) streams_fit;

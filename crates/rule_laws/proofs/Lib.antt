@@ -18,6 +18,8 @@ pub mod Texts
 pub mod Covered
 pub mod Goods
 pub mod SameModes
+pub mod SortsOfValues
+pub mod SortsOfModes
 pub mod TypedFrames
 pub mod TypedModes
 pub mod Items

@@ -8,26 +8,26 @@ use Rattle.lus_tree.specs.declared.place.Sort.{Sort}
 use Rattle.lus_tree.specs.Tree.{Expression, truth, number, name, negation, minus, pre, arrow, binary, choice, sampled, merged, call, condact, mode_name, ContractStatement, assume, guarantee, ghost_variable, constant, mode, «import», Component, declared_constant, declared_node, declared_contract, Program}
 use Rattle.lus_tree.specs.Numbers.{a_pre, an_arrow, a_call, arrow_number, pre_number, call_number, all_numbers, import_number, numbers_in, are_counted, IsNumbered}
 use Rattle.lus_meaning.specs.Value.{Value, absent, has_sort}
-use Rattle.lus_meaning.specs.Frame.{firsts_of}
+use Rattle.lus_meaning.specs.Frame.{Frame, firsts_of, first_value}
 use Rattle.lus_meaning.specs.Scene.{Site, Instance, Instances, instance, no_instances, with_instance, component_of, calls_of, instance_at, call_instance, called_among, contract_statements}
 use Rattle.lus_meaning.specs.Program.{site_in, import_site, all_sites, component_named, in_order, instance_of}
-use Rattle.lus_meaning.specs.Run.{sort_of, have_sorts}
+use Rattle.lus_meaning.specs.Run.{sort_of, first_sorts, have_sorts}
 use Rattle.lus_meaning.specs.Occurrences.{Standing, Memory, gathered, memories, starts}
 use Rattle.lus_meaning.specs.Scope.{node_named, contract_named}
 use Rattle.lus_meaning.specs.NameFaults.{is_declared}
 use Rattle.lus_meaning.specs.ClockFaults.{components}
 use Rattle.lus_meaning.specs.Grammatical.{IsGrammaticalComponent, IsGrammaticalDeclaration, IsGrammatical}
-use Rattle.lus_meaning.specs.Refusals.{IsChecked}
 use Rattle.lus_meaning.proofs.Exists.{self_bytes}
 use Rattle.lus_meaning.proofs.Unique.{same_bytes}
 use Rattle.lus_meaning.proofs.Lists.{append_none, map_append}
 use Rattle.lus_meaning.proofs.NamesOnce.{at_one}
 use Rattle.lus_meaning.proofs.Now.{left_part, right_part}
 use Rattle.lus_meaning.proofs.Numbering.{numbers_gathered, memory_numbers, start_numbers}
-use Rattle.rule_laws.specs.Laws.{IsUnfolded, AreUnfolded, site_at, HasItsPlace, CallsInPlace, ImportsInPlace, FirstsInPlace, MemoriesFound, StartsFound}
+use Rattle.rule_laws.specs.Laws.{IsTypedTree, OfEachTyped, IsUnfolded, AreUnfolded, site_at, HasItsPlace, CallsInPlace, ImportsInPlace, FirstsInPlace, MemoriesFound, StartsFound}
+use Rattle.rule_laws.specs.Types.{has_sort_if_there, FirstsHaveSorts}
 use Rattle.rule_laws.proofs.Callees.{each_call, each_import, where_is_named}
 use Rattle.rule_laws.proofs.Numbered.{At, InPlace, all_in_place}
-use Rattle.rule_laws.proofs.Unfolded.{component_within, each_unfolded}
+use Rattle.rule_laws.proofs.Unfolded.{component_within, typed_tree, unfolded_typed}
 use Rattle.rule_laws.proofs.Truths.{both_true}
 
 -- ---- numbers
@@ -50,7 +50,7 @@ no_imports (constant c ∷ cs) = no_imports cs
 no_imports (mode m rs es ∷ cs) = no_imports cs
 no_imports («import» k f as_ xs ∷ cs) = no_imports cs
 
-memories_counted : (n : Component) → IsNumbered n → are_counted (map (λ m. m.number) (memories n)) ≡ true
+pub memories_counted : (n : Component) → IsNumbered n → are_counted (map (λ m. m.number) (memories n)) ≡ true
 memories_counted n k =
     let same : numbers_in a_pre n ≡ map (λ m. m.number) (memories n) = ap (λ xs. all_numbers pre_number n ++ xs)
     (no_imports (contract_statements n)) ∙ append_none (all_numbers pre_number n) ∙ sym (memory_numbers n) in
@@ -84,7 +84,7 @@ imports_are («import» k f as_ xs ∷ cs) = ap (λ ks. k ∷ ks) (imports_are c
 abbrev found_sites : Component → List Site
 found_sites n = gathered site_in n ++ flat_map import_site (contract_statements n)
 
-sites_counted : (n : Component) → IsNumbered n → are_counted (map (λ c. c.number) (found_sites n)) ≡ true
+pub sites_counted : (n : Component) → IsNumbered n → are_counted (map (λ c. c.number) (found_sites n)) ≡ true
 sites_counted n k =
     let calls : map (λ (c : Site). c.number) (gathered site_in n) ≡ all_numbers call_number n = numbers_gathered site_in
     (λ c. c.number) call_number site_is n in
@@ -104,7 +104,7 @@ no_started_imports (constant c ∷ cs) = no_started_imports cs
 no_started_imports (mode m rs es ∷ cs) = no_started_imports cs
 no_started_imports («import» k f as_ xs ∷ cs) = no_started_imports cs
 
-starts_counted : (n : Component) → IsNumbered n → are_counted (map (λ m. m.number) (starts n)) ≡ true
+pub starts_counted : (n : Component) → IsNumbered n → are_counted (map (λ m. m.number) (starts n)) ≡ true
 starts_counted n k =
     let same : numbers_in an_arrow n ≡ map (λ m. m.number) (starts n) = ap (λ xs. all_numbers arrow_number n ++ xs)
     (no_started_imports (contract_statements n)) ∙ append_none (all_numbers arrow_number n) ∙ sym (start_numbers n) in
@@ -156,10 +156,10 @@ pub by_number : (i : Instance) (k : ℕ) → 1 ≤ k → instance_at (calls_of i
 by_number i zero l = absurd (omega arith)
 by_number i (suc k) l = refl
 
-site_in_place : (p : Program) → IsChecked p → (n : Component) → Contains (components p) n → (named : Option Component) (s : Site)
+site_in_place : (p : Program) → IsTypedTree p → (n : Component) → Contains (components p) n → (named : Option Component) (s : Site)
     → named ≡ component_named p s.callee → InPlace (λ c. c.number) (found_sites n) s → HasItsPlace (instance_of p n) named s
 site_in_place p c n i named s e h =
-    let u : AreUnfolded p (all_sites n) (calls_of (instance_of p n)) = calls_unfolded p (instance_of p n) n (component_within _ p n) (each_unfolded p c n i) in
+    let u : AreUnfolded p (all_sites n) (calls_of (instance_of p n)) = calls_unfolded p (instance_of p n) n (component_within _ p n) (unfolded_typed p c n i) in
     let q : (site_at (calls_of (instance_of p n)) (pred s.number) ≡ Some s) ×
     (component_named p s.callee ≡ Some (component_of (instance_at (calls_of (instance_of p n)) (pred s.number)))) =
     placed_site p (all_sites n) (calls_of (instance_of p n)) (pred s.number) s u h.place in
@@ -172,29 +172,36 @@ site_in_place p c n i named s e h =
           (by_number (instance_of p n) s.number h.positive);
     }
 
-sites_in_place : (p : Program) → IsChecked p → (n : Component) → Contains (components p) n → AllByRecursion
+sites_in_place : (p : Program) → IsTypedTree p → (n : Component) → Contains (components p) n → AllByRecursion
     (InPlace (λ c. c.number) (found_sites n)) (found_sites n)
 sites_in_place p c n i = all_in_place (λ c. c.number) (found_sites n) (sites_counted n (numbered p c.grammatical n i))
 
 abbrev Placed : Component → Site → Type 0
 Placed n s = InPlace (λ c. c.number) (found_sites n) s
 
-pub calls_in_place : CallsInPlace
-calls_in_place p c n i s h =
+pub each_call_placed : OfEachTyped (λ p n. (s : Site) → Contains (gathered site_in n) s → HasItsPlace (instance_of p n) (node_named p s.callee) s)
+each_call_placed p c n i s h =
     let places : AllByRecursion (Placed n) (gathered site_in n) = left_part (Placed n) (gathered site_in n)
     (flat_map import_site (contract_statements n)) (sites_in_place p c n i) in
     let declared : is_declared (node_named p s.callee) ≡ true = at_one (λ x. is_declared (node_named p x.callee) ≡ true)
-    (gathered site_in n) s (each_call p c.rules.clocked.typed n i) h in
+    (gathered site_in n) s (each_call p c.typed n i) h in
     site_in_place p c n i (node_named p s.callee) s (where_is_named true p s.callee declared) (at_one (Placed n) (gathered site_in n) s places h)
 
-pub imports_in_place : ImportsInPlace
-imports_in_place p c n i s h =
+pub calls_in_place : CallsInPlace
+calls_in_place p c = each_call_placed p (typed_tree p c)
+
+pub each_import_placed : OfEachTyped (λ p n. (s : Site) → Contains (flat_map import_site (contract_statements n)) s
+    → HasItsPlace (instance_of p n) (contract_named p s.callee) s)
+each_import_placed p c n i s h =
     let places : AllByRecursion (Placed n) (flat_map import_site (contract_statements n)) = right_part (Placed n) (gathered site_in n)
     (flat_map import_site (contract_statements n)) (sites_in_place p c n i) in
     let declared : is_declared (contract_named p s.callee) ≡ true = at_one (λ x. is_declared (contract_named p x.callee) ≡ true)
-    (flat_map import_site (contract_statements n)) s (each_import p c.rules.clocked.typed n i) h in
+    (flat_map import_site (contract_statements n)) s (each_import p c.typed n i) h in
     site_in_place p c n i (contract_named p s.callee) s (where_is_named false p s.callee declared)
     (at_one (Placed n) (flat_map import_site (contract_statements n)) s places h)
+
+pub imports_in_place : ImportsInPlace
+imports_in_place p c = each_import_placed p (typed_tree p c)
 
 -- ---- first values
 
@@ -205,11 +212,33 @@ sorted_at sort (x ∷ ms) [] k m h a = absurd (false≢true h)
 sorted_at sort (x ∷ ms) (v ∷ vs) zero m h a = subst (λ y. has_sort (sort y) v ≡ true) a (both_true (has_sort (sort x) v) (have_sorts (map sort ms) vs) h).0
 sorted_at sort (x ∷ ms) (v ∷ vs) (suc k) m h a = sorted_at sort ms vs k m (both_true (has_sort (sort x) v) (have_sorts (map sort ms) vs) h).1 a
 
+-- a `pre` finds its place among the sorted ones by its number
+sorted_place : (p : Program) → IsGrammatical p → (n : Component) → Contains (components p) n → (m : Memory) → Contains (memories n) m
+    → At (in_order (λ x. x.number) (memories n)) (pred m.number) m
+sorted_place p g n i m j = (at_one (InPlace (λ x. x.number) (memories n)) (memories n) m
+    (all_in_place (λ x. x.number) (memories n) (memories_counted n (numbered p g n i))) j).place
+
+sorts_within : (P : List Sort → Type 0) (p : Program) (n : Component) → P (first_sorts (instance_of p n))
+    → P (map (λ x. sort_of (instance_of p n) x.operand) (in_order (λ x. x.number) (memories n)))
+sorts_within P p n h =
+    subst (λ k. P (map (λ x. sort_of (instance_of p n) x.operand) (in_order (λ x. x.number) (memories k)))) (component_within _ p n) h
+
 pub firsts_in_place : FirstsInPlace
 firsts_in_place p c n i f h m j =
-    let place : InPlace (λ x. x.number) (memories n) m = at_one (InPlace (λ x. x.number) (memories n)) (memories n) m
-    (all_in_place (λ x. x.number) (memories n) (memories_counted n (numbered p c.grammatical n i))) j in
-    let sorts : have_sorts (map (λ x. sort_of (instance_of p n) x.operand) (in_order (λ x. x.number) (memories n))) (firsts_of f) ≡ true =
-    subst (λ k. have_sorts (map (λ x. sort_of (instance_of p n) x.operand) (in_order (λ x. x.number) (memories k))) (firsts_of f) ≡ true)
-    (component_within _ p n) h in
-    sorted_at (λ x. sort_of (instance_of p n) x.operand) (in_order (λ x. x.number) (memories n)) (firsts_of f) (pred m.number) m sorts place.place
+    sorted_at (λ x. sort_of (instance_of p n) x.operand) (in_order (λ x. x.number) (memories n)) (firsts_of f) (pred m.number) m
+    (sorts_within (λ qs. have_sorts qs (firsts_of f) ≡ true) p n h) (sorted_place p c.grammatical n i m j)
+
+sort_there : (sort : Memory → Sort) (ms : List Memory) (vs : List Value) (k : ℕ) (m : Memory) → FirstsHaveSorts (map sort ms) vs
+    → At ms k m → has_sort_if_there (sort m) (slice_index_or vs k absent) ≡ true
+sort_there sort [] vs k m h a = absurd a
+sort_there sort (x ∷ ms) [] k m h a = refl
+sort_there sort (x ∷ ms) (v ∷ vs) zero m h a = subst (λ y. has_sort_if_there (sort y) v ≡ true) a h.0
+sort_there sort (x ∷ ms) (v ∷ vs) (suc k) m h a = sort_there sort ms vs k m h.1 a
+
+-- first values that have the types of the instance where they are there
+pub firsts_there : (p : Program) → IsGrammatical p → (n : Component) → Contains (components p) n → (f : Frame)
+    → FirstsHaveSorts (first_sorts (instance_of p n)) (firsts_of f) → (m : Memory) → Contains (memories n) m
+    → has_sort_if_there (sort_of (instance_of p n) m.operand) (first_value f m.number) ≡ true
+firsts_there p g n i f h m j =
+    sort_there (λ x. sort_of (instance_of p n) x.operand) (in_order (λ x. x.number) (memories n)) (firsts_of f) (pred m.number) m
+    (sorts_within (λ qs. FirstsHaveSorts qs (firsts_of f)) p n h) (sorted_place p g n i m j)

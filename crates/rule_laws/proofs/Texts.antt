@@ -85,10 +85,14 @@ HasOutputs s (call p k f as_) = (m : Component) → node_named s.program f.text 
 HasOutputs s (condact p k a f as_ ds) = (m : Component) → node_named s.program f.text ≡ Some m → NotEmpty m.outputs
 HasOutputs s _ = Unit {0}
 
-pub record IsClean (s : Scope) (x : Text) : Type 0 where
+-- no fault of types, and none of clocks too
+pub record IsTypeClean (s : Scope) (x : Text) : Type 0 where
   pub types : expression_faults s x.0 x.1 ≡ []
-  pub clocks : clock_faults_of s.owner x.0.clock x.1 ≡ []
   pub root : x.0.whole_side ≡ true → HasOutputs s x.1
+
+pub record IsClean (s : Scope) (x : Text) : Type 0 where
+  pub typed : IsTypeClean s x
+  pub clocks : clock_faults_of s.owner x.0.clock x.1 ≡ []
 
 as_many : {A : Type 0} (vs : List Variable) (x : A) (xs : List A) → length vs ≡ length (x ∷ xs) → NotEmpty vs
 as_many [] x xs e = absurd (omega arith)
@@ -124,16 +128,23 @@ side_outputs s x xs (mode_name p c m) h = tt
 abbrev pub AreClean : Scope → List Text → Type 0
 AreClean s xs = AllByRecursion (IsClean s) xs
 
-pub clean_side : (s : Scope) (c : Clock) (x : Spelled) (xs : List Spelled) (e : Expression) → equation_faults s c (x ∷ xs) e ≡ []
-    → clock_faults_of s.owner c e ≡ [] → IsClean s (as_side c, e)
-clean_side s c x xs e h g =
+type_side : (s : Scope) (c : Clock) (x : Spelled) (xs : List Spelled) (e : Expression) → equation_faults s c (x ∷ xs) e ≡ []
+    → IsTypeClean s (as_side c, e)
+type_side s c x xs e h =
     let two = no_parts (flat_map (λ (y : Spelled). used s y.text y.at) (x ∷ xs) ++ sides_fit s (x ∷ xs) e) (expression_faults s (as_side c) e) h in
     let one = no_parts (flat_map (λ (y : Spelled). used s y.text y.at) (x ∷ xs)) (sides_fit s (x ∷ xs) e) two.0 in
-    record { types = two.1; clocks = g; root = λ w. side_outputs s x xs e one.1 }
+    record { types = two.1; root = λ w. side_outputs s x xs e one.1 }
+
+pub clean_side : (s : Scope) (c : Clock) (x : Spelled) (xs : List Spelled) (e : Expression) → equation_faults s c (x ∷ xs) e ≡ []
+    → clock_faults_of s.owner c e ≡ [] → IsClean s (as_side c, e)
+clean_side s c x xs e h g = record { typed = type_side s c x xs e h; clocks = g }
+
+type_plain : (s : Scope) (e : Expression) → expression_faults s (on_clock base) e ≡ [] → IsTypeClean s (on_clock base, e)
+type_plain s e h = record { types = h; root = λ w. absurd (false≢true w) }
 
 pub clean_plain : (s : Scope) (e : Expression) → expression_faults s (on_clock base) e ≡ [] → clock_faults_of s.owner base e ≡ []
     → IsClean s (on_clock base, e)
-clean_plain s e h g = record { types = h; clocks = g; root = λ w. absurd (false≢true w) }
+clean_plain s e h g = record { typed = type_plain s e h; clocks = g }
 
 pub clean_flag : (s : Scope) (e : Expression) → flag_faults s e ≡ [] → clock_faults_of s.owner base e ≡ [] → IsClean s (on_clock base, e)
 clean_flag s e h g = clean_plain s e (no_parts _ (expression_faults s (on_clock base) e) h).1 g
@@ -185,6 +196,49 @@ clean_statement s (equation (x ∷ xs) e) l h g =
 clean_statement s (assertion e) l h g = (clean_flag s e h g, tt)
 clean_statement s (property l) k h g = (clean_flag s l.value h g, tt)
 clean_statement s (main_mark p) l h g = tt
+
+-- ---- the same, of types alone
+
+abbrev AreTypeClean : Scope → List Text → Type 0
+AreTypeClean s xs = AllByRecursion (IsTypeClean s) xs
+
+pub type_flag : (s : Scope) (e : Expression) → flag_faults s e ≡ [] → IsTypeClean s (on_clock base, e)
+type_flag s e h = type_plain s e (no_parts _ (expression_faults s (on_clock base) e) h).1
+
+type_flags : (s : Scope) (ls : List Labelled) → flags_of s ls ≡ [] → AreTypeClean s (on_base ls)
+type_flags s [] h = tt
+type_flags s (l ∷ ls) h =
+    let types = no_parts (flag_faults s l.value) (flags_of s ls) h in (type_flag s l.value types.0, type_flags s ls types.1)
+
+type_arguments : (s : Scope) (as_ : List Expression) → flat_map (expression_faults s (on_clock base)) as_ ≡ []
+    → AreTypeClean s (map (λ a. (on_clock base, a)) as_)
+type_arguments s [] h = tt
+type_arguments s (a ∷ as_) h =
+    let types = no_parts (expression_faults s (on_clock base) a) (flat_map (expression_faults s (on_clock base)) as_) h in
+    (type_plain s a types.0, type_arguments s as_ types.1)
+
+type_constant : (s : Scope) (c : Constant) → definition_faults s c.sort c.value ≡ [] → IsTypeClean s (on_clock base, c.value)
+type_constant s c h = type_plain s c.value
+    (no_parts (not_allowed s c.value) (expression_faults s (on_clock base) c.value) (no_parts (not_allowed s c.value
+    ++ expression_faults s (on_clock base) c.value) _ h).0).1
+
+type_contract_statement : (s : Scope) (c : ContractStatement) → contract_statement_faults s c ≡ [] → AreTypeClean s (contract_statement_texts c)
+type_contract_statement s (assume l) h = (type_flag s l.value h, tt)
+type_contract_statement s (guarantee l) h = (type_flag s l.value h, tt)
+type_contract_statement s (ghost_variable v e) h = (type_side s base v.name [] e h, tt)
+type_contract_statement s (constant c) h = (type_constant s c h, tt)
+type_contract_statement s (mode m rs es) h =
+    let types = no_parts (flags_of s rs) (flags_of s es) h in
+    both_parts (IsTypeClean s) (on_base rs) (on_base es) (type_flags s rs types.0) (type_flags s es types.1)
+type_contract_statement s («import» k c as_ xs) h =
+    type_arguments s as_ (no_parts (flat_map (expression_faults s (on_clock base)) as_) _ h).0
+
+type_statement : (s : Scope) (x : Statement) → has_left_name x ≡ true → statement_faults s x ≡ [] → AreTypeClean s (statement_texts s.owner x)
+type_statement s (equation [] e) l h = absurd (false≢true l)
+type_statement s (equation (x ∷ xs) e) l h = (type_side s (clock_of_names s.owner (map text_of (x ∷ xs))) x xs e h, tt)
+type_statement s (assertion e) l h = (type_flag s e h, tt)
+type_statement s (property l) k h = (type_flag s l.value h, tt)
+type_statement s (main_mark p) l h = tt
 
 -- ---- scopes
 
@@ -290,3 +344,54 @@ module _ (p : Program) (h : ℕ × Component) (apart : (s : Scope) → ScopeOf p
       (constant_texts h.1.constants ++ flat_map (statement_texts h.1) h.1.body) (contract_clean [] (contract_statements h.1) refl a b)
       (both_parts (CleanText p h) (constant_texts h.1.constants) (flat_map (statement_texts h.1) h.1.body)
       (constants_clean 0 h.1.constants c) (body_clean h.1.body d e f))
+
+-- ---- a declaration, by its types alone
+
+pub record TypeCleanText (p : Program) (h : ℕ × Component) (x : Text) : Type 0 where
+  pub scope : Scope
+  pub of : ScopeOf p h scope
+  pub clean : IsTypeClean scope x
+
+module _ (p : Program) (h : ℕ × Component) where
+  abbrev home_of : Home
+  home_of = home p h.0 h.1
+
+  typed_there : (s : Scope) → ScopeOf p h s → (xs : List Text) → AreTypeClean s xs → AllByRecursion (TypeCleanText p h) xs
+  typed_there s o [] a = tt
+  typed_there s o (x ∷ xs) a = (record { scope = s; of = o; clean = a.0 }, typed_there s o xs a.1)
+
+  contract_typed : (before cs : List ContractStatement) → contract_statements h.1 ≡ before ++ cs → contract_faults home_of before cs ≡ []
+      → AllByRecursion (TypeCleanText p h) (flat_map contract_statement_texts cs)
+  contract_typed before [] e f = tt
+  contract_typed before (c ∷ cs) e f =
+      let s : Scope = contract_statement_scope home_of before in
+      let types = no_parts (contract_statement_faults s c) (contract_faults home_of (before ++ c ∷ []) cs) f in
+      both_parts (TypeCleanText p h) (contract_statement_texts c) (flat_map contract_statement_texts cs)
+      (typed_there s (contract_scope_of p h before (c ∷ cs) e) (contract_statement_texts c) (type_contract_statement s c types.0))
+      (contract_typed (before ++ c ∷ []) cs (e ∙ moved_on before cs c) types.1)
+
+  constants_typed : (k : ℕ) (cs : List Constant) → local_constant_faults home_of k cs ≡ [] → AllByRecursion (TypeCleanText p h) (constant_texts cs)
+  constants_typed k [] f = tt
+  constants_typed k (c ∷ cs) f =
+      let s : Scope = constant_scope home_of k in
+      let q = no_parts (definition_faults s c.sort c.value) (local_constant_faults home_of (suc k) cs) f in
+      (record { scope = s; of = constant_scope_of p h k; clean = type_constant s c q.0 }, constants_typed (suc k) cs q.1)
+
+  body_typed : (xs : List Statement) → list_all has_left_name xs ≡ true → flat_map (statement_faults (body_scope home_of)) xs ≡ []
+      → AllByRecursion (TypeCleanText p h) (flat_map (statement_texts h.1) xs)
+  body_typed [] l f = tt
+  body_typed (x ∷ xs) l f =
+      let s : Scope = body_scope home_of in
+      let types = no_parts (statement_faults s x) (flat_map (statement_faults s) xs) f in
+      let lefts : (has_left_name x ≡ true) × (list_all has_left_name xs ≡ true) = both_true (has_left_name x) (list_all has_left_name xs) l in
+      both_parts (TypeCleanText p h) (statement_texts h.1 x) (flat_map (statement_texts h.1) xs)
+      (typed_there s (constant_scope_of p h (length h.1.constants)) (statement_texts h.1 x) (type_statement s x lefts.0 types.0))
+      (body_typed xs lefts.1 types.1)
+
+  pub texts_typed : contract_faults home_of [] (contract_statements h.1) ≡ [] → local_constant_faults home_of 0 h.1.constants ≡ []
+      → list_all has_left_name h.1.body ≡ true → flat_map (statement_faults (body_scope home_of)) h.1.body ≡ []
+      → AllByRecursion (TypeCleanText p h) (texts h.1)
+  texts_typed a c d e = both_parts (TypeCleanText p h) (flat_map contract_statement_texts (contract_statements h.1))
+      (constant_texts h.1.constants ++ flat_map (statement_texts h.1) h.1.body) (contract_typed [] (contract_statements h.1) refl a)
+      (both_parts (TypeCleanText p h) (constant_texts h.1.constants) (flat_map (statement_texts h.1) h.1.body)
+      (constants_typed 0 h.1.constants c) (body_typed h.1.body d e))

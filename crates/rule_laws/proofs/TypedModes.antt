@@ -33,14 +33,14 @@ use Rattle.rule_laws.specs.Fitting.{has_key, FitsThere}
 use Rattle.rule_laws.specs.Types.{IsTruth, HasTruths, TypesOfContracts, IsTypedFrame, IsTypedThere, TypesOfValues, TypesInRuns, TypesOfModes}
 use Rattle.rule_laws.proofs.Covered.{ImportsCovered, covered_each, all_contained, found_declared, one_instance, has_left, Covers, covers_none, covers_plain, covers_mode, covers_import, moved_on, ImportPlaced, imports_placed}
 use Rattle.rule_laws.proofs.Fitted.{Shown, needed}
-use Rattle.rule_laws.proofs.Goods.{PlaceOf, place_of, all_of_each, some_named, shown_of, PlacedCall, calls_placed, no_faults, text_good, text_fits, CleanDeclaration, clean_declaration, declaration_texts, own_covered}
+use Rattle.rule_laws.proofs.Goods.{PlaceOf, place_of, all_of_each, some_named, TextPlacedIn, component_there, covers_there, shown_there, texts_placed_there, no_faults, text_typed, text_fits, CleanDeclaration, clean_declaration, declaration_texts}
 use Rattle.rule_laws.proofs.Lists.{all_flat}
 use Rattle.rule_laws.proofs.Parts.{all_parts, nested}
 use Rattle.rule_laws.proofs.Places.{firsts_in_place}
 use Rattle.rule_laws.proofs.SameModes.{SameMode, IsSame, same_value}
 use Rattle.rule_laws.proofs.Texts.{clean_flag, IsClean, clean_flags, ScopeOf, CleanText, contract_scope_of}
 use Rattle.rule_laws.proofs.TypedFrames.{typed_run, own_firsts, called_frame, names_ready}
-use Rattle.rule_laws.proofs.Unfolded.{component_within, each_unfolded}
+use Rattle.rule_laws.proofs.Unfolded.{component_within, typed_tree, each_unfolded}
 use Rattle.rule_laws.proofs.ValuesTyped.{and_true, HasRest, Ready, all_typed}
 use Rattle.rule_laws.proofs.Truths.{not_false, both_true}
 
@@ -148,25 +148,19 @@ IsListed p h = Contains (components p) h.1
 
 module _ (p : Program) (c : IsChecked p) (h : ℕ × Component) (place : IsPlaced p h) (d : IsListed p h) (i : Instance) (own : instance_of p h.1 ≡ i) where
   pub component : component_of i ≡ h.1
-  component = ap component_of (sym own) ∙ component_within (length p) p h.1
+  component = component_there p (typed_tree p c) h place d i own
 
   covers : Covers p (contract_statements h.1) (terms i).modes
-  covers = subst (λ j. Covers p (contract_statements h.1) (terms j).modes) own (own_covered p c h.1 d)
+  covers = covers_there p (typed_tree p c) h place d i own
 
   pub shown : (s : Scope) → ScopeOf p h s → Shown s i
-  shown s o = subst (Shown s) own (shown_of p c h place s o (own_covered p c h.1 d))
+  shown s o = shown_there p (typed_tree p c) h place d i own s o
 
   abbrev pub TextPlaced : Text → Type 0
-  TextPlaced x = AllByRecursion (λ o. AllByRecursion (PlacedCall p i) (site_in o.standing o.expression)) (occurrences (component_of i) x.0 x.1)
+  TextPlaced x = TextPlacedIn p i x
 
   pub texts_placed : AllByRecursion TextPlaced (texts h.1)
-  texts_placed =
-      let calls : AllByRecursion (PlacedCall p i) (gathered site_in h.1) =
-      subst (λ j. AllByRecursion (PlacedCall p j) (gathered site_in h.1)) own (calls_placed p c h.1 d) in
-      let each = all_of_each (PlacedCall p i) (λ o. site_in o.standing o.expression) (all_occurrences h.1) calls in
-      subst (λ m. AllByRecursion (λ x. AllByRecursion (λ o. AllByRecursion (PlacedCall p i) (site_in o.standing o.expression))
-      (occurrences m x.0 x.1)) (texts h.1)) (sym component)
-      (all_of_each (λ o. AllByRecursion (PlacedCall p i) (site_in o.standing o.expression)) (λ x. occurrences h.1 x.0 x.1) (texts h.1) each)
+  texts_placed = texts_placed_there p (typed_tree p c) h place d i own
 
   abbrev MemoryTyped : Frame → Memory → Type 0
   MemoryTyped f m = has_sort (sort_of i m.operand) (first_value f m.number) ≡ true
@@ -218,7 +212,7 @@ module _ (p : Program) (c : IsChecked p) (h : ℕ × Component) (place : IsPlace
       let rests : Each (λ o. HasRest (scene i b f) n o.expression) (component_of i) x.0 x.1 =
       each_of_both (λ o. part_faults sc o ≡ []) (λ o. AllByRecursion (MemoryTyped f) (memory_in o.standing o.expression))
       (λ o. HasRest (scene i b f) n o.expression) (λ o e q. rest_of sc n b f g o.standing o.expression e q) (component_of i) x.0 x.1
-      (no_faults p i sc o.program (shown sc o) x k) firsts in
+      (no_faults p i sc o.program (shown sc o) x k.typed) firsts in
       each_of_both (FitsThere i) (λ o. HasRest (scene i b f) n o.expression) (Ready (scene i b f) n)
       (λ o e q. record { fits = e; rest = q }) (component_of i) x.0 x.1 (text_fits p i sc o.program (shown sc o) x k a) rests
 
@@ -237,11 +231,11 @@ module _ (p : Program) (c : IsChecked p) (h : ℕ × Component) (place : IsPlace
   flag_says sc o ms r k e a n b f w m g s t l =
       let x : Text = (on_clock base, r.value) in
       let sort : sort_of i r.value ≡ Flags =
-      needed sc i (shown sc o) r.value (on_clock base) Flags refl (text_good p i sc o.program (shown sc o) x k a) e in
+      needed sc i (shown sc o) r.value (on_clock base) Flags refl (text_typed p i sc o.program (shown sc o) x k.typed a) e in
       let full : is_typed (sort_of i r.value) (b t) (value (scene i b f) base r.value t) ≡ true =
       all_typed (scene i b f) n (names_ready i n b f w) t l r.value (on_clock base) (text_ready sc o x k a n b f m g) in
       let modes : Each (SameMode i f b (mode_streams ms b f) (mode_streams (terms i).modes b f)) (component_of i) (on_clock base) r.value =
-      each_same (on_clock base) r.value (no_faults p i sc o.program (shown sc o) x k) in
+      each_same (on_clock base) r.value (no_faults p i sc o.program (shown sc o) x k.typed) in
       subst (λ v. is_typed Flags (b t) v ≡ true)
       (sym (same_value i f b (mode_streams ms b f) (mode_streams (terms i).modes b f) r.value (on_clock base) modes t))
       (typed_as (sort_of i r.value) Flags (b t) (value (scene i b f) base r.value t) sort full)
@@ -401,7 +395,7 @@ module _ (p : Program) (c : IsChecked p) (h : ℕ × Component) (place : IsPlace
         record {
           all = refl;
           modes = e;
-          faults = q.contract;
+          faults = q.typed.contract;
           clocks = q.contract_clocks;
           texts = left_part TextPlaced (flat_map contract_statement_texts (contract_statements h.1)) _ texts_placed;
           firsts = left_part (TextFirsts f) (flat_map contract_statement_texts (contract_statements h.1)) _
@@ -519,9 +513,9 @@ module _ (p : Program) (c : IsChecked p) (h : ℕ × Component) (place : IsPlace
   -- ---- every expression
 
   -- where all modes are truth values
-  text_typed : (n : ℕ) (b : Instants) (f : Frame) → IsTypedFrame i n b f → AllByRecursion (TypedMode n b f) (terms i).modes → (x : Text)
+  values_typed : (n : ℕ) (b : Instants) (f : Frame) → IsTypedFrame i n b f → AllByRecursion (TypedMode n b f) (terms i).modes → (x : Text)
       → CleanText p h x → TextPlaced x → TextFirsts f x → AllByRecursion (IsTypedThere i n b f) (occurrences (component_of i) x.0 x.1)
-  text_typed n b f w a x k q m =
+  values_typed n b f w a x k q m =
       let g : ModesTyped k.scope n b f = λ o y e u l. found_typed (option_to_list (option_map text_of o), y.text) n b f (terms i).modes a
       ((shown k.scope k.of).modes o y e) u l in
       let ready : Each (Ready (scene i b f) n) (component_of i) x.0 x.1 = text_ready k.scope k.of x k.clean q n b f m g in
@@ -544,7 +538,7 @@ module _ (p : Program) (c : IsChecked p) (h : ℕ × Component) (place : IsPlace
   texts_typed n b f w a =
       let each : AllByRecursion (λ x. AllByRecursion (IsTypedThere i n b f) (occurrences (component_of i) x.0 x.1)) (texts h.1) =
       all_from_three (CleanText p h) TextPlaced (TextFirsts f) (λ x. AllByRecursion (IsTypedThere i n b f) (occurrences (component_of i) x.0 x.1))
-      (text_typed n b f w a) (texts h.1) (declaration_texts p c h place d) texts_placed (texts_firsts f (own_firsts i f w.firsts)) in
+      (values_typed n b f w a) (texts h.1) (declaration_texts p c h place d) texts_placed (texts_firsts f (own_firsts i f w.firsts)) in
       all_flat (IsTypedThere i n b f) (λ x. occurrences h.1 x.0 x.1) (texts h.1)
       (subst (λ m. AllByRecursion (λ x. AllByRecursion (IsTypedThere i n b f) (occurrences m x.0 x.1)) (texts h.1)) component each)
 
@@ -558,7 +552,7 @@ imports_typed : (p : Program) (c : IsChecked p) (m : Component) (cs : List (Name
     (λ k. slice_index_or (terms_each is) (pred k) no_terms)
 imports_typed p c m cs is d own n u below = record {
   causal = λ k. all_at CausalTerms (terms_each is) (pred k) no_terms (terms_each_causal is) record { assumes = tt; guarantees = tt; modes = tt };
-  covered = by_number (covered_each p c (all_sites m) is u);
+  covered = by_number (covered_each p (typed_tree p c) (all_sites m) is u);
   below = typed_by_number below;
 }
   where
@@ -583,7 +577,7 @@ mutual
       contract_typed p c (q.before, m) q.is d (instance m cs is) (one_instance p c (instance m cs is) u d) n b f w
       (λ k. slice_index_or (terms_each is) (pred k) no_terms)
       (imports_typed p c m cs is d (one_instance p c (instance m cs is) u d) n u.1 (modes_typed_each p c (all_sites m) is u.1 n)) refl
-      (imports_placed p c (instance m cs is) u d)
+      (imports_placed p (typed_tree p c) (instance m cs is) u d)
 
   pub modes_typed_each : (p : Program) → IsChecked p → (ss : List Site) (is : Instances) → AreUnfolded p ss is → (n j : ℕ) (b : Instants) (f : Frame)
       → IsTypedFrame (instance_at is j) n b f → AllByRecursion (TypedMode n b f) (get_or (terms_each is) j no_terms).modes
@@ -601,7 +595,7 @@ mutual
       contract_truths p c (q.before, m) q.is d (instance m cs is) (one_instance p c (instance m cs is) u d) n b f w
       (λ k. slice_index_or (terms_each is) (pred k) no_terms)
       (imports_typed p c m cs is d (one_instance p c (instance m cs is) u d) n u.1 (modes_typed_each p c (all_sites m) is u.1 n))
-      (by_number (truths_each p c (all_sites m) is u.1 n)) refl (imports_placed p c (instance m cs is) u d)
+      (by_number (truths_each p c (all_sites m) is u.1 n)) refl (imports_placed p (typed_tree p c) (instance m cs is) u d)
     where
       by_number : ((j : ℕ) (a : Instants) (g : Frame) → IsTypedFrame (instance_at is j) n a g → HasTruths n a g (get_or (terms_each is) j no_terms))
           → (k : ℕ) → 1 ≤ k → (a : Instants) (g : Frame) → IsTypedFrame (call_instance (instance m cs is) k) n a g

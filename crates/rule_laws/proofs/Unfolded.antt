@@ -6,16 +6,17 @@ use Rattle.std.specs.Str.{bytes_eq}
 use Rattle.std.proofs.lemmas.Bool.{false≢true}
 use Rattle.lus_tree.specs.Tree.{Name, text_of, Component, declared_constant, declared_node, declared_contract, Program}
 use Rattle.lus_meaning.specs.Scene.{Site, component_of, no_component}
-use Rattle.lus_meaning.specs.Program.{all_sites, component_named, instances_with, instance_within}
+use Rattle.lus_meaning.specs.Program.{all_sites, component_named, instances_with, instance_within, instance_of}
 use Rattle.lus_meaning.specs.Depends.{named_in}
 use Rattle.lus_meaning.specs.WellMade.{AreDistinct}
 use Rattle.lus_meaning.specs.NameFaults.{callees, graph_of, next_in, reached}
 use Rattle.lus_meaning.specs.ClockFaults.{components}
+use Rattle.lus_meaning.specs.Refusals.{IsChecked}
 use Rattle.lus_meaning.proofs.Exists.{self_bytes}
 use Rattle.lus_meaning.proofs.Lists.{all_from, or_left}
 use Rattle.lus_meaning.proofs.NamesOnce.{at_one}
 use Rattle.lus_meaning.proofs.Unique.{same_bytes}
-use Rattle.rule_laws.specs.Laws.{IsUnfolded, AreUnfolded, Unfolding}
+use Rattle.rule_laws.specs.Laws.{IsTypedTree, OfEachTyped, IsUnfolded, AreUnfolded, Unfolding}
 use Rattle.rule_laws.proofs.Lists.{each_named, no_more_names}
 use Rattle.rule_laws.proofs.Reached.{reach_first, reach_most, reach_next, Leads, leads}
 use Rattle.rule_laws.proofs.Callees.{IsCallee, GoesDown, each_site}
@@ -133,5 +134,11 @@ unfolded p down (suc d) k e n i vs w = (refl, go (unfolded p down d (suc k) (ome
         (sym (ap (λ o. unwrap_or o no_component) c.named)) q in
         (refl, r.0, r.1, go below ss a.1)
 
+pub typed_tree : (p : Program) → IsChecked p → IsTypedTree p
+typed_tree p c = record { grammatical = c.grammatical; typed = c.rules.clocked.typed }
+
+pub unfolded_typed : OfEachTyped (λ p n. IsUnfolded p (instance_of p n))
+unfolded_typed p c n i = unfolded p (each_site p c.typed) (length p) 0 (omega arith) n i (n.name.text ∷ []) (start p n i)
+
 pub each_unfolded : Unfolding
-each_unfolded p c n i = unfolded p (each_site p c.rules.clocked.typed) (length p) 0 (omega arith) n i (n.name.text ∷ []) (start p n i)
+each_unfolded p c n i = unfolded_typed p (typed_tree p c) n i

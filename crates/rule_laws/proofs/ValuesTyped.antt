@@ -34,7 +34,7 @@ abbrev head_sort : List Sort → Sort
 head_sort [] = Flags
 head_sort (q ∷ qs) = q
 
-first_is : (q : Sort) (qs : List Sort) (vs : List Variable) → NotEmpty vs → q ∷ qs ≡ sorts_of vs → q ≡ first_sort vs
+pub first_is : (q : Sort) (qs : List Sort) (vs : List Variable) → NotEmpty vs → q ∷ qs ≡ sorts_of vs → q ≡ first_sort vs
 first_is q qs [] n e = absurd n
 first_is q qs (v ∷ vs) n e = ap head_sort e
 

@@ -12,8 +12,18 @@ use Rattle.lus_meaning.specs.Occurrences.{Memory, Start, gathered, memories, sta
 use Rattle.lus_meaning.specs.Scope.{Entry, is_constant_role, own_names, outer_names, node_named, contract_named}
 use Rattle.lus_meaning.specs.NameFaults.{home}
 use Rattle.lus_meaning.specs.ClockFaults.{name_clock, components}
-use Rattle.lus_meaning.specs.Refusals.{IsChecked}
+use Rattle.lus_meaning.specs.Grammatical.{IsGrammatical}
+use Rattle.lus_meaning.specs.Refusals.{IsTyped, IsChecked}
 use Rattle.lus_meaning.specs.RuleLaws.{OfEach}
+
+-- a tree of the grammar that breaks no rule of names, types and numbers, whatever its clocks and equations
+pub record IsTypedTree (p : Program) : Type 0 where
+  pub grammatical : IsGrammatical p
+  pub typed : IsTyped p
+
+-- what holds of each declaration of such a tree
+abbrev pub OfEachTyped : (Program → Component → Type 0) → Type 0
+OfEachTyped P = (p : Program) → IsTypedTree p → (n : Component) → Contains (components p) n → P p n
 
 -- An instance that is unfolded to its end: it has the constants of its declaration, and for each call occurrence and
 -- import, in their order, an instance of the declaration that is named, which is unfolded to its end.

@@ -1,10 +1,11 @@
--- The law of types: in a frame whose names and first values have their types, every expression's value has its own.
-use Rattle.std.specs.Prelude.{◌≡◌, ℕ, suc, ◌<◌, true, Contains}
+-- The laws of types: in a frame whose names and first values have their types, every expression's value has its own.
+use Rattle.std.specs.Prelude.{◌≡◌, ℕ, suc, ◌<◌, Bool, true, ◌||◌, Contains, List, [], ◌∷◌}
 use Rattle.std.specs.List.{AllByRecursion}
+use Rattle.lus_tree.specs.declared.place.Sort.{Sort}
 use Rattle.lus_tree.specs.declared.place.Sort.TheVariants.{Bool as Flags}
-use Rattle.lus_meaning.specs.Value.{Instants, has_sort}
-use Rattle.lus_meaning.specs.Frame.{Frame, frame_at, calls_in, firsts_of}
-use Rattle.lus_meaning.specs.Scene.{Instance, Instances, instance, no_instances, with_instance, is_on}
+use Rattle.lus_meaning.specs.Value.{Value, Instants, has_sort, is_absent}
+use Rattle.lus_meaning.specs.Frame.{Frame, frame_at, calls_in, firsts_of, entry}
+use Rattle.lus_meaning.specs.Scene.{Instance, Instances, instance, no_instances, with_instance, variables, is_on}
 use Rattle.lus_meaning.specs.Meaning.{value}
 use Rattle.lus_meaning.specs.Contract.{Property, ModeTerms, Terms, terms, scene}
 use Rattle.lus_meaning.specs.Program.{instance_of}
@@ -13,6 +14,7 @@ use Rattle.lus_meaning.specs.Run.{sort_of, first_sorts, have_sorts, is_typed, Is
 use Rattle.lus_meaning.specs.Occurrences.{Occurrence, all_occurrences}
 use Rattle.lus_meaning.specs.RuleLaws.{OfEach}
 use Rattle.lus_meaning.specs.WellMade.{HasTypes}
+use Rattle.rule_laws.specs.Laws.{OfEachTyped}
 
 -- the first values of a frame, and of those of its calls, have their types
 abbrev mutual
@@ -72,3 +74,41 @@ abbrev pub TypesOfProperties : Type 0
 TypesOfProperties =
     OfEach (λ p n. (k : ℕ) (b : Instants) (f : Frame) → IsTypedFrame (instance_of p n) k b f →
     (q : Property) → Contains (properties (instance_of p n)) q → IsTruth k b f q)
+
+-- ---- by the rules of names and types alone, which say nothing of presence
+
+-- of that type, or absent
+abbrev pub has_sort_if_there : Sort → Value → Bool
+has_sort_if_there q v = is_absent v || has_sort q v
+
+abbrev pub FirstsHaveSorts : List Sort → List Value → Type 0
+FirstsHaveSorts (q ∷ qs) (v ∷ vs) = (has_sort_if_there q v ≡ true) × FirstsHaveSorts qs vs
+FirstsHaveSorts _ _ = Unit {0}
+
+-- before instant n each name of a frame, and each first value, has a value of its type where it has one, and so in the
+-- frames of its calls
+abbrev mutual
+  pub HasSortsIfThere : Instance → ℕ → Frame → Type 0
+  HasSortsIfThere (instance d cs is) n f =
+      AllByRecursion (λ v. (t : ℕ) → t < n → has_sort_if_there v.sort (entry f v.name.text t) ≡ true) (variables d)
+      × FirstsHaveSorts (first_sorts (instance d cs is)) (firsts_of f)
+      × CallsHaveSortsIfThere is n (frame_at (calls_in f))
+
+  pub CallsHaveSortsIfThere : Instances → ℕ → (ℕ → Frame) → Type 0
+  CallsHaveSortsIfThere no_instances n g = Unit {0}
+  CallsHaveSortsIfThere (with_instance c k is) n g = HasSortsIfThere k n (g 0) × CallsHaveSortsIfThere is n (λ j. g (suc j))
+
+-- The literal law of types: whatever the clocks, a value that is there is of its expression's type.
+abbrev pub SortsOfValues : Type 0
+SortsOfValues =
+    OfEachTyped (λ p n. (m : ℕ) (b : Instants) (f : Frame) → HasSortsIfThere (instance_of p n) m f →
+    (o : Occurrence) → Contains (all_occurrences n) o → (t : ℕ) → t < m →
+    has_sort_if_there (sort_of (instance_of p n) o.expression)
+    (value (scene (instance_of p n) b f) o.standing.clock o.expression t) ≡ true)
+
+-- So is what a mode requires, of the contract or of an import.
+abbrev pub SortsOfModes : Type 0
+SortsOfModes =
+    OfEachTyped (λ p n. (k : ℕ) (b : Instants) (f : Frame) → HasSortsIfThere (instance_of p n) k f →
+    (m : ModeTerms) → Contains (terms (instance_of p n)).modes m → (t : ℕ) → t < k →
+    has_sort_if_there Flags (m.requires_all b f t) ≡ true)

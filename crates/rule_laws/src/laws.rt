@@ -4,7 +4,7 @@ ghost use Rattle.rule_laws.specs.Declarations.{DeclarationsFit};
 ghost use Rattle.rule_laws.specs.Fitting.{ConstantsTyped, ExpressionsFit};
 ghost use Rattle.rule_laws.specs.Laws.{CallsInPlace, FirstsInPlace, ImportsInPlace, MemoriesFound, NamedIsDeclared};
 ghost use Rattle.rule_laws.specs.Laws.{OneInstance, StartsFound, TablesAgree, Unfolding};
-ghost use Rattle.rule_laws.specs.Types.{TypesInRuns, TypesOfContracts, TypesOfModes};
+ghost use Rattle.rule_laws.specs.Types.{SortsOfModes, SortsOfValues, TypesInRuns, TypesOfContracts, TypesOfModes};
 ghost use Rattle.rule_laws.specs.Types.{TypesOfProperties, TypesOfValues};
 
 /// In a checked program the instance of each declaration is unfolded to its end: each call occurrence and each
@@ -65,4 +65,13 @@ pub fn types_of_values()
     ensures modes { TypesOfModes }
     ensures contracts { TypesOfContracts }
     ensures properties { TypesOfProperties }
+{}
+
+/// The literal law of types, of every tree of the grammar that breaks no rule of names, types and numbers, whatever
+/// its clocks and equations: in every frame whose names and first values have their types where they are there,
+/// those of the frames of its calls too, each expression's value is of its type where it is there, and what each
+/// mode requires is a truth value where it is there.
+pub fn sorts_of_values()
+    ensures values { SortsOfValues }
+    ensures modes { SortsOfModes }
 {}

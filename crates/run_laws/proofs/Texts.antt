@@ -27,13 +27,14 @@ use Rattle.rule_laws.specs.Laws.{IsUnfolded, AreUnfolded, site_at, HasItsPlace}
 use Rattle.rule_laws.specs.Fitting.{OnBase, FitsThere}
 use Rattle.rule_laws.specs.Declarations.{StreamFits, ImportFits, DeclarationFits}
 use Rattle.rule_laws.specs.Types.{IsTypedFrame, IsTypedThere}
-use Rattle.rule_laws.proofs.Goods.{expressions_fit, each_passes, without_clocks}
+use Rattle.rule_laws.proofs.Goods.{expressions_fit, each_passes, without_clocks, all_of_each}
 use Rattle.rule_laws.proofs.Items.{declarations_fit}
 use Rattle.rule_laws.proofs.Lists.{all_flat}
 use Rattle.rule_laws.proofs.Truths.{same_some}
 use Rattle.rule_laws.proofs.TypedModes.{types_of_values}
 use Rattle.clock_laws.proofs.Clocks.{unfolded_same, imports_placed}
-use Rattle.clock_laws.proofs.Parts.{each_listed, all_parts, Whole, each_whole, each_occurrence}
+use Rattle.rule_laws.proofs.Covered.{all_contained}
+use Rattle.rule_laws.proofs.Parts.{Whole, nested, all_parts}
 use Rattle.clock_laws.proofs.Texts.{all_grammatical}
 use Rattle.clock_laws.proofs.Walk.{at_whole}
 use Rattle.run_laws.proofs.Sources.{Good, SiteFits, IsCallee}
@@ -166,7 +167,7 @@ module _ (p : Program) (c : IsChecked p) (i : Instance) (unfolded : IsUnfolded p
 
     good_texts : AllByRecursion GoodText (texts here)
     good_texts = all_from (λ x. AllByRecursion GoodHere (occurrences here x.0 x.1)) GoodText (λ x a. each_part GoodHere here x.0 x.1 a) (texts here)
-        (all_parts GoodHere (λ x. occurrences here x.0 x.1) (texts here) (each_listed GoodHere (all_occurrences here) good_at))
+        (all_of_each GoodHere (λ x. occurrences here x.0 x.1) (texts here) (all_contained GoodHere (all_occurrences here) good_at))
 
     pub good_rights : AllByRecursion (λ e. Each (Good i n b f) (component_of i) (as_side (clock_of_names (component_of i) e.names)) e.right)
         (equations (component_of i))
@@ -226,7 +227,7 @@ module _ (p : Program) (c : IsChecked p) (i : Instance) (unfolded : IsUnfolded p
         (λ o a. site_fits o.standing o.expression a) (all_occurrences here)
         (all_flat (Whole GoodHere here) (λ x. occurrences here x.0 x.1) (texts here)
         (all_from GoodText (λ x. AllByRecursion (Whole GoodHere here) (occurrences here x.0 x.1))
-        (λ x a. each_occurrence (Whole GoodHere here) here x.0 x.1 (each_whole GoodHere here x.0 x.1 a)) (texts here) good_texts)))
+        (λ x a. all_parts (Whole GoodHere here) here x.0 x.1 (nested GoodHere here x.0 x.1 a)) (texts here) good_texts)))
 
     arguments_typed : (as_ : List Expression) → AllByRecursion GoodText (map (λ a. (on_clock base, a)) as_) → AllByRecursion (ValueTyped base) as_
     arguments_typed [] a = tt

@@ -30,8 +30,8 @@ use Rattle.sys_meaning.proofs.Shown.{variable_worth, value_has, fixed_worth}
 use Rattle.sys_meaning.proofs.Rows.{OwnShown}
 use Rattle.sys_meaning.proofs.Main.{formula_value}
 use Rattle.sys_meaning.proofs.Pools.{true_all, all_both}
-use Rattle.sys_meaning.proofs.Shows.{Reads}
-use Rattle.sys_meaning.proofs.Forward.{drop_calls, drop_frames, first_instance, instance_dropped, later_calls, later_frames, calls_later, frames_later, modes_of, Contracts, call_at_reads, own_fits, shown_here, agreed_here}
+use Rattle.sys_meaning.proofs.Shows.{FlagReads, Reads}
+use Rattle.sys_meaning.proofs.Forward.{call_at_flag, drop_calls, drop_frames, first_instance, instance_dropped, later_calls, later_frames, calls_later, frames_later, modes_of, Contracts, call_at_reads, own_fits, shown_here, agreed_here}
 use Rattle.sys_meaning.proofs.Onward.{ordered_all, map_all, SoFar}
 
 module _ (Modes : Instance → Key → Type 0) (contracts : Contracts Modes) (c : Course) (n : ℕ)
@@ -83,14 +83,15 @@ module _ (Modes : Instance → Key → Type 0) (contracts : Contracts Modes) (c 
 
   mutual
     pub first_true : (m : Manner) (i : Instance) (at : Place → ℕ) (b : Instants) (f : Frame) (run : IsRun i n b f)
-        (fits : TreeFits Modes i) (reads : (t : ℕ) → t < n → Reads Modes i at b f t (c t)) →
+        (fits : TreeFits Modes i) (reads : (t : ℕ) → t < n → Reads Modes i at b f t (c t))
+        (flags : FlagReads Modes m i at c n b f) →
         true_all (c 0) (c 0) (first_of m i at)
-    first_true m (instance d cs is) at b f run fits reads =
+    first_true m (instance d cs is) at b f run fits reads flags =
         let i : Instance = instance d cs is in
         let T : Formula → Type 0 = λ z. truth_of (c 0) (c 0) z ≡ true in
         all_both T (starts_first (stage i at) ++ so_far_first (stage i at) m) (calls_first is (stage i at))
         (all_both T (starts_first (stage i at)) (so_far_first (stage i at) m) (starts_true i at b f run fits reads)
-        (so_far.first m i at b f fits.0 run reads some))
+        (so_far.first m i at b f fits run reads flags some))
         (calls_first_true is i at b f run fits reads 0 (calls_in f) refl refl run.1 fits.1)
 
     calls_first_true : (is : Instances) (i : Instance) (at : Place → ℕ) (b : Instants) (f : Frame)
@@ -108,7 +109,8 @@ module _ (Modes : Instance → Key → Type 0) (contracts : Contracts Modes) (c 
         (calls_first is (stage i at))
         (all_both T (held_first (stage i at) a a.manner k) (first_of a.manner k (below_call a.number at))
         (held_first_at i at b f run fits reads a k is p w.0 e a.manner refl)
-        (first_true a.manner k (below_call a.number at) (active (scene i b f) a) g r.1 w.1 below))
+        (first_true a.manner k (below_call a.number at) (active (scene i b f) a) g r.1 w.1 below
+        (call_at_flag Modes i at c n b f reads a k is g fs p w.0 e d)))
         (calls_first_true is i at b f run fits reads (suc p) fs (calls_later p (calls_of i) ∙ ap later_calls e)
         (frames_later p (calls_in f) ∙ ap later_frames d) r.2 w.2)
 

@@ -21,8 +21,7 @@ use Rattle.lus_meaning.proofs.Now.{left_part, right_part}
 use Rattle.lus_meaning.proofs.Numbering.{memory_numbers, start_numbers}
 use Rattle.lus_meaning.proofs.BooleanNode.{read_in, read_texts, read_first, of_boolean_item, boolean_texts, boolean_equations, boolean_on_base}
 use Rattle.lus_meaning.proofs.BooleanFirsts.{boolean_is_flag, boolean_name_is_flag, boolean_counted}
-use Rattle.sys_meaning.specs.Items.{Key}
-use Rattle.sys_meaning.specs.WellTyped.{checked, IsNameOn, IsMemory, IsStart, HasConstant, Stands, ClockFits, right_sorts, EquationFits}
+use Rattle.sys_meaning.specs.WellTyped.{IsKnown, checked, IsNameOn, IsMemory, IsStart, HasConstant, Stands, ClockFits, right_sorts, EquationFits}
 use Rattle.sys_meaning.proofs.Found.{all_found}
 
 -- ---- operators
@@ -36,10 +35,7 @@ takes_flags Equal h s e = tt
 takes_flags Differs h s e = tt
 takes_flags _ h s e = absurd h
 
-abbrev pub no_key : Key → Type 0
-no_key key = ⊥
-
-needs_no_constant : (i : Instance) (o : Operator) → IsOfFlags o → (a b : Expression) → HasConstant i no_key o a b
+needs_no_constant : (i : Instance) (o : Operator) → IsOfFlags o → (a b : Expression) → HasConstant i (IsKnown i) o a b
 needs_no_constant i Implies h a b = tt
 needs_no_constant i Or h a b = tt
 needs_no_constant i Xor h a b = tt
@@ -89,12 +85,12 @@ module _ (d : Component) (node : IsBooleanNode d) where
   IsDeclared x = named_in x (declared_names d) ≡ true
 
   abbrev pub MemoryFound : Memory → Type 0
-  MemoryFound m = IsMemory i no_key m.number m.clock m.operand
+  MemoryFound m = IsMemory i (IsKnown i) m.number m.clock m.operand
 
   abbrev pub StartFound : Start → Type 0
-  StartFound a = IsStart i no_key a.number a.clock
+  StartFound a = IsStart i (IsKnown i) a.number a.clock
 
-  pub name_on : (x : Name) → IsDeclared x → IsNameOn i no_key base x
+  pub name_on : (x : Name) → IsDeclared x → IsNameOn i (IsKnown i) base x
   name_on x e = record { stream = refl; declared = e; clock = boolean_on_base d node x }
 
   -- ---- expressions
@@ -109,19 +105,19 @@ module _ (d : Component) (node : IsBooleanNode d) where
 
   pub stands : (s : Standing) → s.clock ≡ base → (e : Expression) → IsBooleanExpression e →
       AllByRecursion IsDeclared (used_names e) → AllByRecursion MemoryFound (read_in memory_in d s e) →
-      AllByRecursion StartFound (read_in start_in d s e) → Stands i no_key base e
+      AllByRecursion StartFound (read_in start_in d s e) → Stands i (IsKnown i) base e
   stands s c (truth p b) h u m t = tt
   stands s c (name p x) h u m t = (u.0, boolean_on_base d node x)
   stands s c (negation p a) h u m t = (boolean_is_flag d node a h, stands (within s) c a h u m t)
   stands s c (pre p k a) h u m t =
-      (subst (λ q. IsMemory i no_key k q a) c m.0, stands (before s) c a h u m.1 t)
+      (subst (λ q. IsMemory i (IsKnown i) k q a) c m.0, stands (before s) c a h u m.1 t)
   stands s c (arrow p k a b) h u m t =
       let xs = occurrences d (within s) a in
       let ys = occurrences d (within s) b in
       let o : Occurrence = occurs s (arrow p k a b) in
       let m' = three_parts MemoryFound memories_of xs ys o m in
       let t' = three_parts StartFound starts_of xs ys o t in (
-        subst (λ q. IsStart i no_key k q) c t'.1.0,
+        subst (λ q. IsStart i (IsKnown i) k q) c t'.1.0,
         boolean_is_flag d node b h.1 ∙ sym (boolean_is_flag d node a h.0),
         stands (within s) c a h.0 (left_part IsDeclared (used_names a) (used_names b) u) m'.0 t'.0,
         stands (within s) c b h.1 (right_part IsDeclared (used_names a) (used_names b) u) m'.2 t'.2,
@@ -159,7 +155,7 @@ module _ (d : Component) (node : IsBooleanNode d) where
   pub record MemoryStands (m : Memory) : Type 0 where
     pub clock : m.clock ≡ base
     pub sort : sort_of i m.operand ≡ Flags
-    pub operand : Stands i no_key base m.operand
+    pub operand : Stands i (IsKnown i) base m.operand
 
   pub operands_stand : (s : Standing) → s.clock ≡ base → (e : Expression) → IsBooleanExpression e →
       AllByRecursion IsDeclared (used_names e) → AllByRecursion MemoryFound (read_in memory_in d s e) →
@@ -279,7 +275,7 @@ module _ (d : Component) (node : IsBooleanNode d) where
       (λ p u m t. known_texts ss h.1 u m t)
       s h.0
 
-  text_stands : (s : Standing) (e : Expression) → Known s e → Stands i no_key base e
+  text_stands : (s : Standing) (e : Expression) → Known s e → Stands i (IsKnown i) base e
   text_stands s e k = stands s k.clock e k.boolean k.declared k.memories k.starts
 
   texts_memories : (xs : List Text) → AllByRecursion TextKnown xs →
@@ -298,7 +294,7 @@ module _ (d : Component) (node : IsBooleanNode d) where
       (both_parts IsOnBase (read_in start_in d x.0 x.1) (read_texts start_in d xs)
       (starts_stand x.0 a.0.clock x.1 a.0.boolean) (texts_starts xs a.1))
 
-  one_sort : (e : Expression) → IsBooleanExpression e → right_sorts i no_key e ≡ sort_of i e ∷ []
+  one_sort : (e : Expression) → IsBooleanExpression e → right_sorts i (IsKnown i) e ≡ sort_of i e ∷ []
   one_sort (truth p b) h = refl
   one_sort (name p x) h = refl
   one_sort (negation p a) h = refl
@@ -309,29 +305,29 @@ module _ (d : Component) (node : IsBooleanNode d) where
   one_sort _ h = absurd h
 
   one_fits : (x : Name) (e : Expression) → IsDeclared x → Known (as_side (clock_of d x)) e →
-      EquationFits i no_key record { names = x ∷ []; right = e }
+      EquationFits i (IsKnown i) record { names = x ∷ []; right = e }
   one_fits x e h k = record {
-    right = subst (λ c. Stands i no_key c e) (sym (boolean_on_base d node x))
+    right = subst (λ c. Stands i (IsKnown i) c e) (sym (boolean_on_base d node x))
         (text_stands (as_side (clock_of d x)) e k);
     names = (record { stream = refl; declared = h; clock = refl }, tt);
     sorts = rw (boolean_name_is_flag d node x, one_sort e k.boolean, boolean_is_flag d node e k.boolean) refl;
-    clock = subst (ClockFits i no_key) (sym (boolean_on_base d node x)) tt;
+    clock = subst (ClockFits i (IsKnown i)) (sym (boolean_on_base d node x)) tt;
   }
 
   equations_fit : (ss : List Statement) → AllByRecursion IsBooleanItem ss → AllByRecursion TextKnown (body_texts ss) →
       AllByRecursion IsDeclared (lefts (body_equations ss)) →
-      AllByRecursion (EquationFits i no_key) (body_equations ss)
+      AllByRecursion (EquationFits i (IsKnown i)) (body_equations ss)
   equations_fit [] h = λ a l. tt
   equations_fit (s ∷ ss) h = of_boolean_item
       (λ s. AllByRecursion TextKnown (body_texts (s ∷ ss)) → AllByRecursion IsDeclared (lefts
-      (body_equations (s ∷ ss))) → AllByRecursion (EquationFits i no_key) (body_equations (s ∷ ss)))
+      (body_equations (s ∷ ss))) → AllByRecursion (EquationFits i (IsKnown i)) (body_equations (s ∷ ss)))
       (λ x e k a l. (one_fits x.text e l.0 a.0, equations_fit ss h.1 a.1 l.1))
       (λ l k a q. equations_fit ss h.1 a.1 q)
       (λ p a l. equations_fit ss h.1 a l)
       s h.0
 
   abbrev pub IsTruth : Expression → Type 0
-  IsTruth e = Stands i no_key base e × (sort_of i e ≡ Flags)
+  IsTruth e = Stands i (IsKnown i) base e × (sort_of i e ≡ Flags)
 
   checks_stand : (ss : List Statement) → AllByRecursion IsBooleanItem ss → AllByRecursion TextKnown (body_texts ss) →
       AllByRecursion IsTruth (checked ss)
@@ -381,9 +377,9 @@ module _ (d : Component) (node : IsBooleanNode d) where
         subst (λ xs. AllByRecursion IsOnBase (read_texts start_in d xs)) (sym (boolean_texts d node))
         (texts_starts (body_texts d.body) texts_known)
 
-    pub all_equations_fit : AllByRecursion (EquationFits i no_key) (equations d)
+    pub all_equations_fit : AllByRecursion (EquationFits i (IsKnown i)) (equations d)
     all_equations_fit =
-        subst (AllByRecursion (EquationFits i no_key)) (sym (boolean_equations d node))
+        subst (AllByRecursion (EquationFits i (IsKnown i))) (sym (boolean_equations d node))
         (equations_fit d.body node.items texts_known
         (subst (λ es. AllByRecursion IsDeclared (lefts es)) (boolean_equations d node) names.left_declared))
 

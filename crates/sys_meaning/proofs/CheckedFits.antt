@@ -30,12 +30,11 @@ use Rattle.sys_meaning.specs.Part.{Part}
 use Rattle.sys_meaning.specs.System as system
 use Rattle.sys_meaning.specs.Law.{TreeDistinct}
 use Rattle.sys_meaning.specs.Checked.{CheckedIsWellTyped}
-use Rattle.sys_meaning.specs.WellTyped.{ContractStatementFits, IsNameOn, IsMemory, MemoryFits, StartFits, StreamFits, OwnFits, HasSpot, HasPlace, WellTyped, slot_sort}
-use Rattle.sys_meaning.proofs.Whole.{no_modes}
+use Rattle.sys_meaning.specs.WellTyped.{IsKnown, StatementsFit, IsNameOn, IsMemory, MemoryFits, StartFits, StreamFits, OwnFits, HasSpot, HasPlace, WellTyped, slot_sort}
 use Rattle.sys_meaning.proofs.Owned.{found_one}
 use Rattle.sys_meaning.proofs.Found.{found_number, some_found, once, found_in_order, in_order_differ}
 use Rattle.sys_meaning.proofs.Cells.{CellsApart, apart_both, all_mapped, everywhere, names_apart, memories_apart, starts_apart, own_number, sort_at, slots_sort, slots_apart, sort_skips, sort_first, sort_of_named, sort_of_memory, sort_of_start}
-use Rattle.sys_meaning.proofs.BooleanText.{no_key, IsDeclared, MemoryFound, StartFound, MemoryStands, IsOnBase, name_on, memories_counted, starts_counted, all_memories_found, all_starts_found, all_memories_stand, all_starts_stand, all_equations_fit, all_checks_stand, none_asserted}
+use Rattle.sys_meaning.proofs.BooleanText.{IsDeclared, MemoryFound, StartFound, MemoryStands, IsOnBase, name_on, memories_counted, starts_counted, all_memories_found, all_starts_found, all_memories_stand, all_starts_stand, all_equations_fit, all_checks_stand, none_asserted}
 
 -- each of a list is listed
 pub listed_each : (vs : List Variable) →
@@ -73,7 +72,7 @@ module _ (d : Component) (node : IsBooleanNode d) (names : HasBooleanNames d) (n
   all_declared : AllByRecursion (λ v. IsDeclared d node v.name.text) (variables d)
   all_declared = listed_each (variables d)
 
-  stream_fits : (v : Variable) → IsFlag v → IsDeclared d node v.name.text → StreamFits i no_key v
+  stream_fits : (v : Variable) → IsFlag v → IsDeclared d node v.name.text → StreamFits i (IsKnown i) v
   stream_fits v f e = record {
     name = record {
       stream = refl;
@@ -84,9 +83,9 @@ module _ (d : Component) (node : IsBooleanNode d) (names : HasBooleanNames d) (n
     clock = rw f.clock tt;
   }
 
-  streams_fit : AllByRecursion (StreamFits i no_key) (variables d)
+  streams_fit : AllByRecursion (StreamFits i (IsKnown i)) (variables d)
   streams_fit =
-      all_from_both IsFlag (λ v. IsDeclared d node v.name.text) (StreamFits i no_key) stream_fits (variables d)
+      all_from_both IsFlag (λ v. IsDeclared d node v.name.text) (StreamFits i (IsKnown i)) stream_fits (variables d)
       (boolean_flags d node) all_declared
 
   -- ---- numbers
@@ -109,7 +108,7 @@ module _ (d : Component) (node : IsBooleanNode d) (names : HasBooleanNames d) (n
       (counted_within (map (λ a. a.number) (starts d)) (starts_counted d node names numbered)))
 
   memory_fits : (m : Memory) → MemoryFound d node m → MemoryStands d node m →
-      (1 ≤ m.number) × (m.number < 1 + length (memories d)) → MemoryFits i no_key m
+      (1 ≤ m.number) × (m.number < 1 + length (memories d)) → MemoryFits i (IsKnown i) m
   memory_fits m e s l =
       let low : 1 ≤ m.number = l.0 in
       let high : m.number < 1 + length (memories d) = l.1 in
@@ -124,14 +123,14 @@ module _ (d : Component) (node : IsBooleanNode d) (names : HasBooleanNames d) (n
         clock = rw s.clock tt;
       }
 
-  memories_fit : AllByRecursion (MemoryFits i no_key) (memories d)
+  memories_fit : AllByRecursion (MemoryFits i (IsKnown i)) (memories d)
   memories_fit =
       all_from_three (MemoryFound d node) (MemoryStands d node)
-      (λ m. (1 ≤ m.number) × (m.number < 1 + length (memories d))) (MemoryFits i no_key) memory_fits (memories d)
+      (λ m. (1 ≤ m.number) × (m.number < 1 + length (memories d))) (MemoryFits i (IsKnown i)) memory_fits (memories d)
       (all_memories_found d node names numbered) (all_memories_stand d node names numbered) memory_numbered
 
   start_fits : (a : Start) → StartFound d node a → IsOnBase d node a →
-      (1 ≤ a.number) × (a.number < 1 + length (starts d)) → StartFits i no_key a
+      (1 ≤ a.number) × (a.number < 1 + length (starts d)) → StartFits i (IsKnown i) a
   start_fits a e s l =
       let low : 1 ≤ a.number = l.0 in
       let high : a.number < 1 + length (starts d) = l.1 in
@@ -142,13 +141,13 @@ module _ (d : Component) (node : IsBooleanNode d) (names : HasBooleanNames d) (n
         clock = rw s tt;
       }
 
-  starts_fit : AllByRecursion (StartFits i no_key) (starts d)
+  starts_fit : AllByRecursion (StartFits i (IsKnown i)) (starts d)
   starts_fit =
       all_from_three (StartFound d node) (IsOnBase d node) (λ a. (1 ≤ a.number) × (a.number < 1 + length (starts d)))
-      (StartFits i no_key) start_fits (starts d) (all_starts_found d node names numbered)
+      (StartFits i (IsKnown i)) start_fits (starts d) (all_starts_found d node names numbered)
       (all_starts_stand d node names numbered) start_numbered
 
-  firsts_fit : (j : ℕ) → j < length (first_sorts i) → (c : Clock) × (a : Expression) × IsMemory i no_key (suc j) c a
+  firsts_fit : (j : ℕ) → j < length (first_sorts i) → (c : Clock) × (a : Expression) × IsMemory i (IsKnown i) (suc j) c a
   firsts_fit j l =
       let many : length (body_pres d.body) ≡ length (memories d) = as_many in
       let sorts : length (first_sorts i) ≡ length (body_pres d.body) =
@@ -165,10 +164,10 @@ module _ (d : Component) (node : IsBooleanNode d) (names : HasBooleanNames d) (n
             (found_number (λ (m : Memory). m.number) (suc j) (memories d) m.0 m.1),
       )
 
-  own_fits : OwnFits i no_key
+  own_fits : OwnFits i (IsKnown i)
   own_fits = record {
     once = names.declared_once;
-    contract = subst (AllByRecursion (ContractStatementFits i no_key)) (sym (boolean_no_contract_statements d node)) tt;
+    contract = subst (StatementsFit i []) (sym (boolean_no_contract_statements d node)) tt;
     streams = streams_fit;
     equations = all_equations_fit d node names numbered;
     firsts = firsts_fit;
@@ -234,80 +233,80 @@ module _ (d : Component) (node : IsBooleanNode d) (names : HasBooleanNames d) (n
   )
 
   -- each has its variable
-  cells_placed : AllByRecursion (λ c. HasSpot i no_key (spot_of c) (cell_sort i c)) cells
+  cells_placed : AllByRecursion (λ c. HasSpot i (IsKnown i) plain (spot_of c) (cell_sort i c)) cells
   cells_placed = (
     refl,
-    both_parts (λ c. HasSpot i no_key (spot_of c) (cell_sort i c)) name_cells (memory_cells ++ start_cells)
-        (all_mapped (λ c. HasSpot i no_key (spot_of c) (cell_sort i c)) name_cell (variables d)
+    both_parts (λ c. HasSpot i (IsKnown i) plain (spot_of c) (cell_sort i c)) name_cells (memory_cells ++ start_cells)
+        (all_mapped (λ c. HasSpot i (IsKnown i) plain (spot_of c) (cell_sort i c)) name_cell (variables d)
         (all_from_both IsFlag (λ v. IsDeclared d node v.name.text)
-        (λ v. HasSpot i no_key (named v.name.text) v.sort)
+        (λ v. HasSpot i (IsKnown i) plain (named v.name.text) v.sort)
         (λ v f e. (e, refl, boolean_name_is_flag d node v.name.text ∙ sym f.sort)) (variables d)
         (boolean_flags d node) all_declared))
-        (both_parts (λ c. HasSpot i no_key (spot_of c) (cell_sort i c)) memory_cells start_cells
-        (all_mapped (λ c. HasSpot i no_key (spot_of c) (cell_sort i c)) memory_cell
+        (both_parts (λ c. HasSpot i (IsKnown i) plain (spot_of c) (cell_sort i c)) memory_cells start_cells
+        (all_mapped (λ c. HasSpot i (IsKnown i) plain (spot_of c) (cell_sort i c)) memory_cell
         (in_order (λ p. p.number) (memories d))
-        (in_order_all (λ p. p.number) (λ m. HasSpot i no_key (memory m.number) (sort_of i m.operand)) (memories d)
-        (all_from (MemoryFound d node) (λ m. HasSpot i no_key (memory m.number) (sort_of i m.operand))
+        (in_order_all (λ p. p.number) (λ m. HasSpot i (IsKnown i) plain (memory m.number) (sort_of i m.operand)) (memories d)
+        (all_from (MemoryFound d node) (λ m. HasSpot i (IsKnown i) plain (memory m.number) (sort_of i m.operand))
         (λ m e. (m.clock, m.operand, e, refl)) (memories d) (all_memories_found d node names numbered))))
-        (all_mapped (λ c. HasSpot i no_key (spot_of c) (cell_sort i c)) start_cell
+        (all_mapped (λ c. HasSpot i (IsKnown i) plain (spot_of c) (cell_sort i c)) start_cell
         (in_order (λ p. p.number) (starts d))
-        (in_order_all (λ p. p.number) (λ a. HasSpot i no_key (starting a.number) Flags) (starts d)
-        (all_from (StartFound d node) (λ a. HasSpot i no_key (starting a.number) Flags)
+        (in_order_all (λ p. p.number) (λ a. HasSpot i (IsKnown i) plain (starting a.number) Flags) (starts d)
+        (all_from (StartFound d node) (λ a. HasSpot i (IsKnown i) plain (starting a.number) Flags)
         (λ a e. (a.clock, e, refl)) (starts d) (all_starts_found d node names numbered))))),
   )
 
   -- and each place has its cell
-  spot_found : (p : Spot) (z : Sort) → HasSpot i no_key p z → sort_at no_modes i cells p ≡ Some z
+  spot_found : (p : Spot) (z : Sort) → HasSpot i (IsKnown i) plain p z → sort_at IsKnown i cells p ≡ Some z
   spot_found beat z w = ap Some (sym w)
   spot_found (named x) z w =
-      sort_first no_modes i (named x) z name_cells (memory_cells ++ start_cells)
-      (sort_of_named no_modes i x Flags (variables d) w.0 ∙ ap Some w.2)
+      sort_first IsKnown i (named x) z name_cells (memory_cells ++ start_cells)
+      (sort_of_named IsKnown i x Flags (variables d) w.0 ∙ ap Some w.2)
   spot_found (memory k) z w =
       let m : Memory = record { number = k; clock = w.0; operand = w.1 } in
       let l = found_one (λ m. (1 ≤ m.number) × (m.number < 1 + length (memories d))) (λ x. x.number == k) (memories d)
       m memory_numbered w.2 in
-      sort_skips no_modes i (memory k) name_cells (memory_cells ++ start_cells)
+      sort_skips IsKnown i (memory k) name_cells (memory_cells ++ start_cells)
       (each_name (λ c. same_spot (memory k) (spot_of c) ≡ false) (λ v. refl))
-      ∙ sort_first no_modes i (memory k) z memory_cells start_cells
-      (sort_of_memory no_modes i k (in_order (λ p. p.number) (memories d))
+      ∙ sort_first IsKnown i (memory k) z memory_cells start_cells
+      (sort_of_memory IsKnown i k (in_order (λ p. p.number) (memories d))
       ∙ ap (option_map (λ m. sort_of i m.operand))
       (found_in_order (λ (m : Memory). m.number) (memories d) k m w.2 l.0 l.1) ∙ ap Some w.3)
   spot_found (starting k) z w =
       let a : Start = record { number = k; clock = w.0 } in
       let l = found_one (λ a. (1 ≤ a.number) × (a.number < 1 + length (starts d))) (λ x. x.number == k) (starts d)
       a start_numbered w.1 in
-      sort_skips no_modes i (starting k) name_cells (memory_cells ++ start_cells)
+      sort_skips IsKnown i (starting k) name_cells (memory_cells ++ start_cells)
       (each_name (λ c. same_spot (starting k) (spot_of c) ≡ false) (λ v. refl))
-      ∙ sort_skips no_modes i (starting k) memory_cells start_cells
+      ∙ sort_skips IsKnown i (starting k) memory_cells start_cells
       (each_memory (λ c. same_spot (starting k) (spot_of c) ≡ false) (λ m. refl))
-      ∙ sort_of_start no_modes i k (in_order (λ p. p.number) (starts d))
+      ∙ sort_of_start IsKnown i k (in_order (λ p. p.number) (starts d))
       ∙ ap (option_map (λ a. cell_sort i (start_cell a)))
       (found_in_order (λ (a : Start). a.number) (starts d) k a w.1 l.0 l.1) ∙ ap Some (sym w.2)
   spot_found so_far z w = absurd (false≢true (sym (ap is_some node.contract) ∙ w.1))
   spot_found (held k x) z w = let l : pred k < 0 = w.3.call.listed in absurd (omega arith)
 
-  places_found : (ks : List ℕ) (p : Spot) (z : Sort) → HasPlace no_modes ks i p z →
-      slot_sort no_modes (slots i) (ks, p) ≡ Some z
+  places_found : (ks : List ℕ) (p : Spot) (z : Sort) → HasPlace IsKnown ks i p z →
+      slot_sort IsKnown (slots i) (ks, p) ≡ Some z
   places_found [] p z w =
-      ap (λ qs. slot_sort no_modes qs ([], p)) slots_are ∙ slots_sort no_modes i cells p ∙ spot_found p z w
+      ap (λ qs. slot_sort IsKnown qs ([], p)) slots_are ∙ slots_sort IsKnown i cells p ∙ spot_found p z w
   places_found (k ∷ ks) p z w = let l : pred k < 0 = w.0.listed in absurd (omega arith)
 
-  inputs_named : AllByRecursion (IsNameOn i no_key base) (inputs_of i)
+  inputs_named : AllByRecursion (IsNameOn i (IsKnown i) base) (inputs_of i)
   inputs_named =
-      all_mapped (IsNameOn i no_key base) (λ v. v.name.text) d.inputs
-      (all_from (λ v. IsDeclared d node v.name.text) (λ v. IsNameOn i no_key base v.name.text)
+      all_mapped (IsNameOn i (IsKnown i) base) (λ v. v.name.text) d.inputs
+      (all_from (λ v. IsDeclared d node v.name.text) (λ v. IsNameOn i (IsKnown i) base v.name.text)
       (λ v e. name_on d node v.name.text e) d.inputs
       (left_part (λ v. IsDeclared d node v.name.text) d.inputs (d.outputs ++ d.locals)
       (subst (AllByRecursion (λ v. IsDeclared d node v.name.text)) (boolean_variables d node) all_declared)))
 
-  pub well_typed : WellTyped no_modes i
+  pub well_typed : WellTyped IsKnown i
   well_typed = record {
     tree = (own_fits, tt);
     places = places_found;
     numbered = subst (λ qs. (k : ℕ) (q : Slot) → slice_get qs k ≡ Some q → number_in qs (place_of q) ≡ k)
-        (sym slots_are) (own_number (map (slot i []) cells) (slots_apart no_modes i cells cells_apart));
-    slots = subst (AllByRecursion (λ q. HasPlace no_modes q.path i (spot_of q.cell) q.sort)) (sym slots_are)
-        (all_mapped (λ q. HasPlace no_modes q.path i (spot_of q.cell) q.sort) (slot i []) cells cells_placed);
+        (sym slots_are) (own_number (map (slot i []) cells) (slots_apart IsKnown i cells cells_apart));
+    slots = subst (AllByRecursion (λ q. HasPlace IsKnown q.path i (spot_of q.cell) q.sort)) (sym slots_are)
+        (all_mapped (λ q. HasPlace IsKnown q.path i (spot_of q.cell) q.sort) (slot i []) cells cells_placed);
     main_inputs = inputs_named;
   }
 
@@ -317,5 +316,5 @@ module _ (d : Component) (node : IsBooleanNode d) (names : HasBooleanNames d) (n
 
 pub checked_is_well_typed : CheckedIsWellTyped
 checked_is_well_typed p d h =
-    subst (λ j. WellTyped no_modes j × TreeDistinct j (number_of j) []) (sym (boolean_checked_instance p d h))
+    subst (λ j. WellTyped IsKnown j × TreeDistinct j (number_of j) []) (sym (boolean_checked_instance p d h))
     (well_typed d h.rules.shape h.rules.names h.numbered, distinct d h.rules.shape h.rules.names h.numbered)

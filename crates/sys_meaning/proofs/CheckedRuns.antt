@@ -12,12 +12,11 @@ use Rattle.sys_terms.specs.Paths.{IsTrueAt, IsFalseAt, IsFalseAtLastAlone, OfSom
 use Rattle.sys_meaning.specs.State.{state_of}
 use Rattle.sys_meaning.specs.Path.{frame_of_path}
 use Rattle.sys_meaning.specs.System.{number_of, system_of}
-use Rattle.sys_meaning.specs.WellTyped.{WellTyped}
+use Rattle.sys_meaning.specs.WellTyped.{IsKnown, WellTyped}
 use Rattle.sys_meaning.specs.Law.{true_in, IsRunOf, Agree, TreeDistinct}
 use Rattle.sys_meaning.specs.Checked.{BreaksAtLast, CheckedRunsArePaths, CheckedLemmas, CheckedProperties, CheckedBreaks}
 use Rattle.sys_meaning.proofs.Follows.{none_some, at_place, lemma_law, property_law}
 use Rattle.sys_meaning.proofs.PathStates.{some_length}
-use Rattle.sys_meaning.proofs.Whole.{no_modes}
 use Rattle.sys_meaning.proofs.Truths.{truths_in_runs}
 use Rattle.sys_meaning.proofs.OneRun.{state_listed, paths_to_runs, runs_are_paths}
 use Rattle.sys_meaning.proofs.CheckedFits.{checked_is_well_typed}
@@ -54,7 +53,7 @@ true_before q (s ∷ []) h u l = absurd (omega arith)
 true_before q (s ∷ t ∷ rest) h zero l = h.0
 true_before q (s ∷ t ∷ rest) h (suc u) l = true_before q (t ∷ rest) h.1 u (omega arith)
 
-module _ (i : Instance) (w : WellTyped no_modes i) (distinct : TreeDistinct i (number_of i) []) where
+module _ (i : Instance) (w : WellTyped IsKnown i) (distinct : TreeDistinct i (number_of i) []) where
   pub breaks_at_last : BreaksAtLast i
   breaks_at_last k states b = go (slice_get (system_of i).properties k) refl b.broken
     where

@@ -31,11 +31,10 @@ use Rattle.lus_meaning.proofs.BooleanFirsts.{boolean_firsts}
 use Rattle.lus_meaning.proofs.BooleanFrame.{only_boolean_frame}
 use Rattle.sys_meaning.specs.Path.{TraceOfPath, frame_of_path, name_lines, first_lines, trace_lines, trace_of}
 use Rattle.sys_meaning.specs.System.{number_of}
-use Rattle.sys_meaning.specs.WellTyped.{WellTyped}
+use Rattle.sys_meaning.specs.WellTyped.{IsKnown, WellTyped}
 use Rattle.sys_meaning.specs.Law.{TreeDistinct}
 use Rattle.sys_meaning.specs.Checked.{CheckedTraces}
 use Rattle.sys_meaning.proofs.Shows.{same_both}
-use Rattle.sys_meaning.proofs.Whole.{no_modes}
 use Rattle.sys_meaning.proofs.OneRun.{paths_to_runs}
 use Rattle.sys_meaning.proofs.Found.{self_number}
 use Rattle.sys_meaning.proofs.Cells.{all_mapped, everywhere, swapped}
@@ -43,9 +42,9 @@ use Rattle.sys_meaning.proofs.CheckedFits.{checked_is_well_typed}
 use Rattle.sys_meaning.proofs.Tracing.{same_subjects, any_left, any_right, trace_has_frame}
 
 -- the trace of a path has the path's frame
-pub trace_of_path : (i : Instance) → WellTyped no_modes i → TreeDistinct i (number_of i) [] → TraceOfPath i
+pub trace_of_path : (i : Instance) → WellTyped IsKnown i → TreeDistinct i (number_of i) [] → TraceOfPath i
 trace_of_path i w distinct states path =
-    trace_has_frame no_modes i (length states) (frame_of_path i states) w.tree
+    trace_has_frame IsKnown i (length states) (frame_of_path i states) w.tree
     (paths_to_runs i w distinct states path).0.run
 
 -- ---- what may be listed

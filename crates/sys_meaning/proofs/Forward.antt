@@ -27,7 +27,7 @@ use Rattle.sys_meaning.proofs.Rows.{OwnShown, modes_agree, as_it_is, on_sort}
 use Rattle.sys_meaning.proofs.Shown.{variable_worth, value_has}
 use Rattle.sys_meaning.proofs.Main.{stage_here, term_has, term_value, formula_value}
 use Rattle.sys_meaning.proofs.Pools.{true_all, all_both, Holds, pairs_hold, names_true}
-use Rattle.sys_meaning.proofs.Shows.{Reads, call_reads}
+use Rattle.sys_meaning.proofs.Shows.{FlagReads, call_flag, Reads, call_reads}
 use Rattle.sys_meaning.proofs.Owned.{own_shown}
 
 -- ---- the calls from a place on
@@ -129,6 +129,31 @@ module _ (Modes : Instance → Key → Type 0) where
       let three : Reads Modes k (below_call (suc p) at) (active (scene i b f) a) g t now =
       subst (λ z. Reads Modes k (below_call (suc p) at) (active (scene i b f) a) z t now) frm two in
       subst (λ z. Reads Modes k (below_call z at) (active (scene i b f) a) g t now) (sym fit.number) three
+
+  -- its flag
+  pub call_at_flag : (i : Instance) (at : Place → ℕ) (c : Course) (n : ℕ) (b : Instants) (f : Frame) →
+      ((t : ℕ) → t < n → Reads Modes i at b f t (c t)) → (a : Site)
+      (k : Instance) (is : Instances) (g : Frame) (fs : Frames) (p : ℕ) → CallFits Modes i a k p →
+      drop_calls p (calls_of i) ≡ with_instance a k is → drop_frames p (calls_in f) ≡ with_frame g fs →
+      FlagReads Modes a.manner k (below_call a.number at) c n (active (scene i b f) a) g
+  call_at_flag i at c n b f reads a k is g fs p fit e d =
+      let s : Scene = scene i b f in
+      let there : FlagReads Modes (site_of i (suc p)).manner (call_instance i (suc p)) (below_call (suc p) at) c n
+      (active s (site_of i (suc p))) (call_frame f (suc p)) = call_flag Modes i at c n b f reads (suc p) fit.call in
+      let site : site_at (calls_of i) p ≡ a =
+      site_dropped (calls_of i) p a ∙ ap (λ z. first_site z (site_at no_instances 0)) e in
+      let inst : instance_at (calls_of i) p ≡ k =
+      instance_dropped (calls_of i) p ∙ ap (λ z. first_instance z no_instance) e in
+      let frm : frame_at (calls_in f) p ≡ g =
+      frame_dropped (calls_in f) p ∙ ap (λ z. first_frame z (frame_at no_frames 0)) d in
+      let one : FlagReads Modes (site_of i (suc p)).manner k (below_call (suc p) at) c n (active s (site_of i (suc p))) (call_frame f (suc p)) =
+      subst (λ z. FlagReads Modes (site_of i (suc p)).manner z (below_call (suc p) at) c n (active s (site_of i (suc p)))
+      (call_frame f (suc p))) inst there in
+      let two : FlagReads Modes a.manner k (below_call (suc p) at) c n (active s a) (call_frame f (suc p)) =
+      subst (λ (z : Site). FlagReads Modes z.manner k (below_call (suc p) at) c n (active s z) (call_frame f (suc p))) site one in
+      let three : FlagReads Modes a.manner k (below_call (suc p) at) c n (active s a) g =
+      subst (λ z. FlagReads Modes a.manner k (below_call (suc p) at) c n (active s a) z) frm two in
+      subst (λ z. FlagReads Modes a.manner k (below_call z at) c n (active s a) g) (sym fit.number) three
 
 -- ---- one call
 

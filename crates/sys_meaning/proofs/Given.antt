@@ -22,12 +22,12 @@ use Rattle.sys_meaning.specs.Path.{Course, bare_stage, frame_by}
 use Rattle.sys_meaning.specs.Translate.{Stage, flag_at, present, latest_part, formula, term_of}
 use Rattle.sys_meaning.specs.Seen.{seen}
 use Rattle.sys_meaning.specs.System.{at_numbers, stage, becomes, memory_next, start_next, held_next, held_first, runs_where, Sources}
-use Rattle.sys_meaning.specs.WellTyped.{no_constant, is_declared, clock_here, Stands, ClockFits, IsPlainCall, IsHeldCall, DefaultsFit, MannerFits, CallFits, TreeFits, StreamFits, count_of}
+use Rattle.sys_meaning.specs.WellTyped.{IsKnown, no_constant, is_declared, clock_here, Stands, ClockFits, IsPlainCall, IsHeldCall, DefaultsFit, MannerFits, CallFits, TreeFits, StreamFits, count_of}
 use Rattle.sys_meaning.proofs.Conditions.{bools_equal, zero_value, parts_equal}
 use Rattle.sys_meaning.proofs.Shown.{variable_worth, value_has, fixed_worth, term_shown, formula_worth}
 use Rattle.sys_meaning.proofs.Pools.{true_all}
 use Rattle.sys_meaning.proofs.Static.{modes_in, state_shown}
-use Rattle.sys_meaning.proofs.Rows.{OwnShown, sight_here, row}
+use Rattle.sys_meaning.proofs.Rows.{modes_agree, OwnShown, sight_here, row}
 use Rattle.lus_meaning.proofs.Typed.{has_as}
 use Rattle.sys_meaning.proofs.Offs.{present_same}
 use Rattle.sys_meaning.proofs.Forward.{modes_of, conditional}
@@ -36,16 +36,21 @@ use Rattle.sys_meaning.proofs.Balanced.{Picked, pick}
 use Rattle.sys_meaning.proofs.Taken.{Gives, shown_by}
 use Rattle.sys_meaning.proofs.Back as back
 use Rattle.sys_meaning.proofs.Backward.{ordered_at, mapped_all, FrameMeets, CallsMeet, meets_called, call_fits_called, own_meets, call_shown}
-use Rattle.sys_meaning.proofs.ContractStatements.{items_modes}
-use Rattle.sys_meaning.proofs.Whole.{no_modes}
+use Rattle.sys_meaning.proofs.ContractStatements.{modes_timeless}
 
 and_one : (a : Bool) → (a && true) ≡ a
 and_one true = refl
 and_one false = refl
 
+-- modes are worth what their formulas say, in each state that shows the frame
+abbrev pub AgreeBy : Instance → (Place → ℕ) → Course → ℕ → Instants → Type 0
+AgreeBy i at c n b = (t : ℕ) → t < n → (nx : Values) →
+    (sh : OwnShown (scene i b (frame_by i at c n)) (IsKnown i) at (c t) nx t (modes_of IsKnown i at)) →
+    modes_agree (scene i b (frame_by i at c n)) (IsKnown i) at (c t) nx t (modes_of IsKnown i at) sh
+
 module _ (d : Component) (cs : List (Name × Value)) (is : Instances) (at : Place → ℕ) (c : Course) (n : ℕ)
     (b : Instants) (m : Manner) (act : Formula) (given : Sources)
-    (fits : TreeFits no_modes (instance d cs is)) (meets : FrameMeets c n m (instance d cs is) at act given)
+    (fits : TreeFits IsKnown (instance d cs is)) (meets : FrameMeets c n m (instance d cs is) at act given)
     (calls : CallsMeet c n is (stage (instance d cs is) at))
     (beats : (t : ℕ) → t < n → (c t).flag_at (at (own beat)) ≡ b t)
     (offs : (t : ℕ) → t < n → (x : Name) → is_declared (instance d cs is) (λ key. ⊥) x → no_constant
@@ -53,7 +58,8 @@ module _ (d : Component) (cs : List (Name × Value)) (is : Instances) (at : Plac
     truth_of (c t) (c t) (present (bare_stage (instance d cs is) at) (clock_here (instance d cs is)
     (λ key. ⊥) x)) ≡ false →
     value_in (c t) (sort_of_name (instance d cs is) x) (at (own (named x))) ≡ zero_value (sort_of_name
-    (instance d cs is) x)) where
+    (instance d cs is) x))
+    (agrees : AgreeBy (instance d cs is) at c n b) where
   abbrev pub i : Instance
   i = instance d cs is
 
@@ -61,7 +67,7 @@ module _ (d : Component) (cs : List (Name × Value)) (is : Instances) (at : Plac
   s = scene i b (frame_by i at c n)
 
   abbrev pub M : Key → Type 0
-  M = no_modes i
+  M = IsKnown i
 
   ends : (x : Name) → is_declared i M x → no_constant i M x → ClockFits i M (clock_here i M x)
   ends x h e = by (pick x (StreamFits i M) (variables d) fits.0.streams h)
@@ -79,8 +85,8 @@ module _ (d : Component) (cs : List (Name × Value)) (is : Instances) (at : Plac
       (frame_by i at c n)) t h (beats t h) ends (offs t h) k w
 
   module _ (k : ℕ) (counted : 0 < k) (listed : pred k < count_of is) where
-    fit : CallFits no_modes i (site_of i k) (call_instance i k) (0 + pred k)
-    fit = (call_fits_called no_modes i k counted listed fits.1).0
+    fit : CallFits IsKnown i (site_of i k) (call_instance i k) (0 + pred k)
+    fit = (call_fits_called IsKnown i k counted listed fits.1).0
 
     -- the callee's beat is where its site says
     beat_here : (t : ℕ) → t < n → (site_of i k).number ≡ k →
@@ -104,36 +110,33 @@ module _ (d : Component) (cs : List (Name × Value)) (is : Instances) (at : Plac
   condition_stands : (k : ℕ) (cl : Clock) (a : Expression) (ds : Expressions) → IsHeldCall i M k cl a ds →
       Stands i M cl a × (sort_of i a ≡ Flags)
   condition_stands k cl a ds e =
-      subst (λ z. Stands i M z a × (sort_of i a ≡ Flags)) e.clock (subst (λ z. MannerFits no_modes i
+      subst (λ z. Stands i M z a × (sort_of i a ≡ Flags)) e.clock (subst (λ z. MannerFits IsKnown i
       (site_of i k).clock z (call_instance i k)) e.manner (fit k e.call.counted e.call.listed).manner)
 
   pub held_beat : (t : ℕ) → t < n → (nx : Values) → (k : ℕ) (cl : Clock) (a : Expression) (ds : Expressions) →
       IsHeldCall i M k cl a ds →
-      (is_on s cl t ≡ true → seen (sight_here s M at (c t) nx t (modes_of no_modes i at)) a ≡ value s cl a t) →
+      (is_on s cl t ≡ true → seen (sight_here s M at (c t) nx t (modes_of IsKnown i at)) a ≡ value s cl a t) →
       (c t).flag_at (at (in_call k (own beat))) ≡ active s (site_of i k) t
   held_beat t h nx k cl a ds e w =
       let now : Values = c t in
       let st : Stands i M cl a × (sort_of i a ≡ Flags) = condition_stands k cl a ds e in
       let g : Stage = stage i at in
-      let seen_here : worth now now (term_of g a) ≡ seen (sight_here s M at now now t (modes_of no_modes i at)) a =
+      let seen_here : worth now now (term_of g a) ≡ seen (sight_here s M at now now t (modes_of IsKnown i at)) a =
       term_shown g M (row s M at now now t) (modes_in now now g.modes) now now (state_shown g M now now) a cl st.0 in
-      let same_modes : modes_in now now (modes_of no_modes i at) ≡ modes_in now nx (modes_of no_modes i at) =
-      ap (modes_in now now) none ∙ sym (ap (modes_in now nx) none) in
-      let same_seen : seen (sight_here s M at now now t (modes_of no_modes i at)) a ≡ seen
-      (sight_here s M at now nx t (modes_of no_modes i at)) a =
+      let same_modes : modes_in now now (modes_of IsKnown i at) ≡ modes_in now nx (modes_of IsKnown i at) =
+      modes_timeless i fits at now now nx in
+      let same_seen : seen (sight_here s M at now now t (modes_of IsKnown i at)) a ≡ seen
+      (sight_here s M at now nx t (modes_of IsKnown i at)) a =
       ap (λ ms. seen (record { place = i; row = row s M at now now t; modes = ms }) a) same_modes in
       let truth_here : flag (truth_of now now (formula g a)) ≡ worth now now (term_of g a) =
       formula_worth now now (term_of g a) (has_as (sort_of i a) Flags (worth now now (term_of g a)) st.1
-      (term_has s M at (modes_of no_modes i at) now now a cl st.0)) in
+      (term_has s M at (modes_of IsKnown i at) now now a cl st.0)) in
       beat_here k e.call.counted e.call.listed t h e.call.number ∙ ap (λ z. truth_of now now (runs_where g (site_of i k) z)) e.manner
       ∙ ap (λ o. o && truth_of now now (formula g a)) (on_now t h (site_of i k).clock
       (fit k e.call.counted e.call.listed).clock ∙ ap (λ z. is_on s z t) e.clock)
       ∙ conditional (is_on s cl t) (truth_of now now (formula g a)) (value s cl a t)
       (λ o. truth_here ∙ seen_here ∙ same_seen ∙ w o)
       ∙ rw (e.manner, e.clock) refl
-    where
-      none : modes_of no_modes i at ≡ []
-      none = ap (λ ms. at_numbers at (known ms)) (items_modes i fits.0.contract)
 
   -- ---- what is held
 
@@ -187,7 +190,7 @@ module _ (d : Component) (cs : List (Name × Value)) (is : Instances) (at : Plac
 
   -- ---- all together
 
-  all_given : Gives no_modes d cs is at c n b
+  all_given : Gives IsKnown d cs is at c n b
   all_given = record {
     beats = beats;
     offs = offs;
@@ -200,16 +203,16 @@ module _ (d : Component) (cs : List (Name × Value)) (is : Instances) (at : Plac
     start_steps = λ t h q w. ordered_at (λ q. truth_of (c t) (c (suc t)) (start_next (stage i at) q) ≡ true)
         (λ q. q.number) (starts d) (mapped_all (c t) (c (suc t)) (start_next (stage i at)) (in_order
         (λ q. q.number) (starts d)) (meets.starts t h)) q.number (pred q.number) w.counted w.listed q w.found;
-    calls = λ t h nx k cl e. call_shown no_modes d cs is at c n b fits calls t h nx k e.call (plain_beat t h k cl e);
-    held_calls = λ t h nx k cl a ds e w. call_shown no_modes d cs is at c n b fits calls t h nx k e.call
+    calls = λ t h nx k cl e. call_shown IsKnown d cs is at c n b fits calls t h nx k e.call (plain_beat t h k cl e);
+    held_calls = λ t h nx k cl a ds e w. call_shown IsKnown d cs is at c n b fits calls t h nx k e.call
         (held_beat t h nx k cl a ds e w);
     conditions = λ k cl a ds e. (condition_stands k cl a ds e).0;
     held_first = λ h k cl a ds e. helds_at_first k (component_of (call_instance i k)).outputs ds e.defaults
         (first_of_held h k cl a ds e);
     held_steps = steps_of_held;
-    agrees = λ t h nx sh x m w o. absurd w;
+    agrees = agrees;
   }
 
   -- a path shows the frame at each instant
-  pub frame_shown : (t : ℕ) → t < n → (nx : Values) → OwnShown s M at (c t) nx t (modes_of no_modes i at)
-  frame_shown t h nx = shown_by no_modes d cs is at c n b fits.0 all_given t h nx
+  pub frame_shown : (t : ℕ) → t < n → (nx : Values) → OwnShown s M at (c t) nx t (modes_of IsKnown i at)
+  frame_shown t h nx = shown_by IsKnown d cs is at c n b fits.0 all_given t h nx

@@ -21,7 +21,7 @@ use Rattle.sys_meaning.specs.Part.{value_in}
 use Rattle.sys_meaning.specs.Path.{Course, bare_stage, name_by, firsts_by, frame_by}
 use Rattle.sys_meaning.specs.Translate.{present}
 use Rattle.sys_meaning.specs.System.{stage, Sources, equation_sources}
-use Rattle.sys_meaning.specs.WellTyped.{no_constant, is_declared, clock_here, IsPlainCall, TreeFits, StreamFits}
+use Rattle.sys_meaning.specs.WellTyped.{IsKnown, no_constant, is_declared, clock_here, IsPlainCall, TreeFits, StreamFits}
 use Rattle.sys_meaning.proofs.Conditions.{zero_value}
 use Rattle.sys_meaning.proofs.Shown.{value_has}
 use Rattle.sys_meaning.proofs.Rows.{OwnShown}
@@ -29,9 +29,8 @@ use Rattle.sys_meaning.proofs.Off.{typed_off, all_absent}
 use Rattle.sys_meaning.proofs.Balanced.{source_names, equations_balanced}
 use Rattle.sys_meaning.proofs.Forward.{modes_of}
 use Rattle.sys_meaning.proofs.Backward.{FrameMeets, CallsMeet, call_shown}
-use Rattle.sys_meaning.proofs.Given.{plain_beat, frame_shown}
-use Rattle.sys_meaning.proofs.ContractStatements.{terms_modes}
-use Rattle.sys_meaning.proofs.Whole.{no_modes}
+use Rattle.sys_meaning.proofs.Given.{AgreeBy, plain_beat, frame_shown}
+use Rattle.sys_meaning.proofs.ContractStatements.{modes_off}
 
 firsts_sorted : (k : ℕ) (ss : List Sort) (at : Place → ℕ) (c : Course) → have_sorts ss (firsts_by k ss at c) ≡ true
 firsts_sorted k [] at c = refl
@@ -53,7 +52,7 @@ module _ (d : Component) (cs : List (Name × Value)) (is : Instances) (at : Plac
   s = scene i b (frame_by i at c n)
 
   abbrev pub M : Key → Type 0
-  M = no_modes i
+  M = IsKnown i
 
   -- off its clock a plain call's outputs are absent
   outputs_off : (k t : ℕ) (vs : List Variable) →
@@ -72,15 +71,15 @@ module _ (d : Component) (cs : List (Name × Value)) (is : Instances) (at : Plac
   swapped [] a = tt
   swapped (e ∷ es) a = ((λ t h. (a t h).0), swapped es (λ t h. (a t h).1))
 
-  module _ (m : Manner) (act : Formula) (given : Sources) (fits : TreeFits no_modes i)
+  module _ (m : Manner) (act : Formula) (given : Sources) (fits : TreeFits IsKnown i)
       (meets : FrameMeets c n m i at act given) (calls : CallsMeet c n is (stage i at))
       (beats : (t : ℕ) → t < n → (c t).flag_at (at (own beat)) ≡ b t)
       (offs : (t : ℕ) → t < n → (x : Name) → is_declared i (λ key. ⊥) x → no_constant i (λ key. ⊥) x → truth_of
       (c t) (c t) (present (bare_stage i at) (clock_here i (λ key. ⊥) x)) ≡ false →
       value_in (c t) (sort_of_name i x) (at (own (named x))) ≡ zero_value (sort_of_name i x))
-      (distinct : AreDistinct (source_names (given ++ equation_sources (stage i at) (equations d)))) where
-    sh : (t : ℕ) → t < n → OwnShown s M at (c t) (c t) t (modes_of no_modes i at)
-    sh t h = frame_shown d cs is at c n b m act given fits meets calls beats offs t h (c t)
+      (agrees : AgreeBy i at c n b) (distinct : AreDistinct (source_names (given ++ equation_sources (stage i at) (equations d)))) where
+    sh : (t : ℕ) → t < n → OwnShown s M at (c t) (c t) t (modes_of IsKnown i at)
+    sh t h = frame_shown d cs is at c n b m act given fits meets calls beats offs agrees t h (c t)
 
     types_kept : (vs : List Variable) → AllByRecursion (StreamFits i M) vs →
         AllByRecursion (λ v. (t : ℕ) → t < n → is_typed v.sort (is_on s (clock_from v.clock) t) (entry
@@ -98,13 +97,9 @@ module _ (d : Component) (cs : List (Name × Value)) (is : Instances) (at : Plac
     plain_off : (t : ℕ) → t < n → (k : ℕ) (cl : Clock) → IsPlainCall i M k cl → is_on s cl t ≡ false →
         all_absent (at_instant t (call_outputs s k))
     plain_off t h k cl e o = outputs_off k t (component_of (call_instance i k)).outputs
-        (call_shown no_modes d cs is at c n b fits calls t h (c t) k e.call
-        (plain_beat d cs is at c n b m act given fits meets calls beats offs t h k cl e)).typed
+        (call_shown IsKnown d cs is at c n b fits calls t h (c t) k e.call
+        (plain_beat d cs is at c n b m act given fits meets calls beats offs agrees t h k cl e)).typed
         (rw (ap (λ z. is_on s z t) e.clock ∙ o) refl)
-
-    no_mode : (t : ℕ) (q : Option Name) (x : Name) → mode_stream s q x t ≡ absent
-    no_mode t q x = ap (λ ms. mode_stream (scene_with i ms b (frame_by i at c n)) q x t)
-        (terms_modes i fits.0.contract)
 
     -- the frame of a path keeps its text
     pub path_keeps : KeepsText n s
@@ -113,7 +108,7 @@ module _ (d : Component) (cs : List (Name × Value)) (is : Instances) (at : Plac
       lengths = sampled_lengths n (name_by i at c) (variables d);
       firsts = firsts_sorted 1 (first_sorts i) at c;
       types = types_kept (variables d) fits.0.streams;
-      equations = swapped (equations d) (λ t h. equations_balanced s M at (modes_of no_modes i at) (c t) (c t) t
-          (sh t h) (λ q x w o. absurd w) given fits.0 (meets.names t h) (plain_off t h)
-          (λ q x o. no_mode t q x) distinct);
+      equations = swapped (equations d) (λ t h. equations_balanced s M at (modes_of IsKnown i at) (c t) (c t) t
+          (sh t h) (agrees t h (c t) (sh t h)) given fits.0 (meets.names t h)
+          (plain_off t h) (modes_off b t i (frame_by i at c n)) distinct);
     }

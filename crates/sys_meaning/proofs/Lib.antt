@@ -17,6 +17,7 @@ pub mod Owned
 pub mod Forward
 pub mod Onward
 pub mod Begin
+pub mod SameText
 pub mod ContractStatements
 pub mod RunPath
 pub mod Offs

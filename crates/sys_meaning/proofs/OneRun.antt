@@ -29,7 +29,7 @@ use Rattle.sys_meaning.specs.Path.{Course, bare_stage, name_by, firsts_by, frame
 use Rattle.sys_meaning.specs.Translate.{present}
 use Rattle.sys_meaning.specs.System.{below_call, stage, number_of, system_of}
 use Rattle.sys_meaning.specs.Law.{IsRunOf, PathsToRuns, RunsArePathsLaw}
-use Rattle.sys_meaning.specs.WellTyped.{MemoryFits, StreamFits, TreeFits, CallsFit, WellTyped}
+use Rattle.sys_meaning.specs.WellTyped.{IsKnown, MemoryFits, StreamFits, TreeFits, CallsFit, WellTyped}
 use Rattle.sys_meaning.proofs.Present.{present_on}
 use Rattle.sys_meaning.proofs.Rows.{OwnShown, as_it_is}
 use Rattle.sys_meaning.proofs.Owned.{found_one}
@@ -38,7 +38,7 @@ use Rattle.sys_meaning.proofs.Taken.{first_by}
 use Rattle.sys_meaning.proofs.Shows.{Reads, state_reads}
 use Rattle.sys_meaning.proofs.Forward.{drop_calls, drop_frames, later_calls, later_frames, calls_later, frames_later, modes_of, Contracts, call_at_reads, own_fits, shown_here}
 use Rattle.sys_meaning.proofs.PathStates.{path_is_run_of, some_length}
-use Rattle.sys_meaning.proofs.Whole.{no_modes, no_contracts, runs_to_paths}
+use Rattle.sys_meaning.proofs.Whole.{known_contracts, runs_to_paths}
 use Rattle.sys_meaning.proofs.Truths.{truths_in_runs}
 
 -- ---- rows
@@ -156,7 +156,7 @@ module _ (Modes : Instance → Key → Type 0) (contracts : Contracts Modes) (c 
         (frames_later p (calls_in f) ∙ ap later_frames d) r.2 w.2 in
         rw (one, rest) refl
 
--- ---- paths without modes and imports
+-- ---- paths without imports
 
 -- the state of an instant is the one listed there
 pub state_listed : (i : Instance) (f : Frame) (n t u : ℕ) → u < n →
@@ -166,19 +166,19 @@ state_listed i f (suc n) t zero h = let here : t ≡ t + 0 = omega arith in ap (
 state_listed i f (suc n) t (suc u) h = let there : suc t + u ≡ t + suc u = omega arith in
     state_listed i f n (suc t) u (omega arith) ∙ ap (state_of i f) there
 
-pub only_run : (i : Instance) → WellTyped no_modes i → (states : List (List Entry)) → IsPath (system_of i) states →
+pub only_run : (i : Instance) → WellTyped IsKnown i → (states : List (List Entry)) → IsPath (system_of i) states →
     (g : Frame) → IsRunOf i states g → g ≡ frame_of_path i states
 only_run i w states path g r =
-    one_frame no_modes no_contracts (course_of states) (length states) (some_length states path.loose.some) i
+    one_frame IsKnown known_contracts (course_of states) (length states) (some_length states path.loose.some) i
     (number_of i) throughout g r.run w.tree reads
   where
     here : (t : ℕ) → t < length states → state_of i g t ≡ get_or states t []
     here t h = let from : t ≡ 0 + t = omega arith in
         ap (state_of i g) from ∙ sym (state_listed i g (length states) 0 t h) ∙ ap (λ z. get_or z t []) r.goes
 
-    reads : (t : ℕ) → t < length states → Reads no_modes i (number_of i) throughout g t (course_of states t)
-    reads t h = subst (λ z. Reads no_modes i (number_of i) throughout g t (values_of z)) (here t h)
-        (state_reads no_modes i w g t)
+    reads : (t : ℕ) → t < length states → Reads IsKnown i (number_of i) throughout g t (course_of states t)
+    reads t h = subst (λ z. Reads IsKnown i (number_of i) throughout g t (values_of z)) (here t h)
+        (state_reads IsKnown i w g t)
 
 -- the second direction
 pub paths_to_runs : PathsToRuns

@@ -27,10 +27,10 @@ use Rattle.sys_meaning.specs.System.{becomes, below_call, stage, memory_next, st
 use Rattle.sys_meaning.specs.WellTyped.{MemoryFits, StartFits, IsHeldCall, OwnFits, CallFits, TreeFits, CallsFit}
 use Rattle.sys_meaning.proofs.Rows.{OwnShown, CallShown}
 use Rattle.sys_meaning.proofs.Pools.{true_all, all_both}
-use Rattle.sys_meaning.proofs.Shows.{Reads}
+use Rattle.sys_meaning.proofs.Shows.{FlagReads, Reads}
 use Rattle.sys_meaning.proofs.Owned.{found_one, call_of}
 use Rattle.sys_meaning.proofs.Steps.{memory_made, start_made, held_made}
-use Rattle.sys_meaning.proofs.Forward.{drop_calls, drop_frames, first_instance, instance_dropped, later_calls, later_frames, calls_later, frames_later, modes_of, Contracts, call_at_reads, calls_of_run, own_fits, shown_here, agreed_here}
+use Rattle.sys_meaning.proofs.Forward.{call_at_flag, drop_calls, drop_frames, first_instance, instance_dropped, later_calls, later_frames, calls_later, frames_later, modes_of, Contracts, call_at_reads, calls_of_run, own_fits, shown_here, agreed_here}
 
 -- what all have, those in order have
 pub ordered_all : {A : Type 0} (P : A → Type 0) (f : A → ℕ) (xs : List A) → AllByRecursion P xs →
@@ -55,11 +55,11 @@ map_all P now next f h (x ∷ xs) a = (h x a.0, map_all P now next f h xs a.1)
 
 -- what a contract's flag becomes, and what it is at first
 pub record SoFar (Modes : Instance → Key → Type 0) (c : Course) (n : ℕ) : Type 0 where
-  pub next : (m : Manner) (i : Instance) (at : Place → ℕ) (b : Instants) (f : Frame) → OwnFits i (Modes i) →
-      IsRun i n b f → ((t : ℕ) → t < n → Reads Modes i at b f t (c t)) → (t : ℕ) → suc t < n →
+  pub next : (m : Manner) (i : Instance) (at : Place → ℕ) (b : Instants) (f : Frame) → TreeFits Modes i →
+      IsRun i n b f → ((t : ℕ) → t < n → Reads Modes i at b f t (c t)) → FlagReads Modes m i at c n b f → (t : ℕ) → suc t < n →
       true_all (c t) (c (suc t)) (so_far_next (stage i at) m)
-  pub first : (m : Manner) (i : Instance) (at : Place → ℕ) (b : Instants) (f : Frame) → OwnFits i (Modes i) →
-      IsRun i n b f → ((t : ℕ) → t < n → Reads Modes i at b f t (c t)) → 0 < n →
+  pub first : (m : Manner) (i : Instance) (at : Place → ℕ) (b : Instants) (f : Frame) → TreeFits Modes i →
+      IsRun i n b f → ((t : ℕ) → t < n → Reads Modes i at b f t (c t)) → FlagReads Modes m i at c n b f → 0 < n →
       true_all (c 0) (c 0) (so_far_first (stage i at) m)
 
 module _ (Modes : Instance → Key → Type 0) (contracts : Contracts Modes) (c : Course) (n : ℕ)
@@ -153,9 +153,10 @@ module _ (Modes : Instance → Key → Type 0) (contracts : Contracts Modes) (c 
 
   mutual
     pub next_true : (m : Manner) (i : Instance) (at : Place → ℕ) (b : Instants) (f : Frame) (run : IsRun i n b f)
-        (fits : TreeFits Modes i) (reads : (t : ℕ) → t < n → Reads Modes i at b f t (c t)) (t : ℕ) (h : suc t < n) →
+        (fits : TreeFits Modes i) (reads : (t : ℕ) → t < n → Reads Modes i at b f t (c t))
+        (flags : FlagReads Modes m i at c n b f) (t : ℕ) (h : suc t < n) →
         true_all (c t) (c (suc t)) (next_of m i at)
-    next_true m (instance d cs is) at b f run fits reads t h =
+    next_true m (instance d cs is) at b f run fits reads flags t h =
         let i : Instance = instance d cs is in
         let T : Formula → Type 0 = λ z. truth_of (c t) (c (suc t)) z ≡ true in
         let ms : List Formula = map (memory_next (stage i at)) (in_order (λ m. m.number) (memories d)) in
@@ -163,7 +164,7 @@ module _ (Modes : Instance → Key → Type 0) (contracts : Contracts Modes) (c 
         all_both T (ms ++ ss ++ so_far_next (stage i at) m) (calls_next is (stage i at))
         (all_both T (ms ++ ss) (so_far_next (stage i at) m) (all_both T ms ss
         (memories_next i at b f run fits reads t h) (starts_next i at b f run fits reads t h))
-        (so_far.next m i at b f fits.0 run reads t h))
+        (so_far.next m i at b f fits run reads flags t h))
         (calls_next_true is i at b f run fits reads t h 0 (calls_in f) refl refl run.1 fits.1)
 
     calls_next_true : (is : Instances) (i : Instance) (at : Place → ℕ) (b : Instants) (f : Frame)
@@ -181,6 +182,7 @@ module _ (Modes : Instance → Key → Type 0) (contracts : Contracts Modes) (c 
         (calls_next is (stage i at))
         (all_both T (held_next (stage i at) a a.manner k) (next_of a.manner k (below_call a.number at))
         (held_at i at b f run fits reads t h a k is p w.0 e a.manner refl)
-        (next_true a.manner k (below_call a.number at) (active (scene i b f) a) g r.1 w.1 below t h))
+        (next_true a.manner k (below_call a.number at) (active (scene i b f) a) g r.1 w.1 below
+        (call_at_flag Modes i at c n b f reads a k is g fs p w.0 e d) t h))
         (calls_next_true is i at b f run fits reads t h (suc p) fs (calls_later p (calls_of i) ∙ ap later_calls e)
         (frames_later p (calls_in f) ∙ ap later_frames d) r.2 w.2)

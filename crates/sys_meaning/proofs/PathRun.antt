@@ -1,4 +1,4 @@
--- For declarations without modes and imports: each path is the states of a run, its frame.
+-- For declarations without imports: each path is the states of a run, its frame.
 use Rattle.std.proofs.Common.{◌≡◌, ℕ, zero, suc, ◌<◌, Bool, true, false, ◌||◌, List, [], ◌∷◌, length, refl, ap, ◌∙◌, sym, arith, All, get_or}
 use Rattle.std.specs.List.{AllByRecursion}
 use Rattle.std.proofs.Common.{None}
@@ -23,13 +23,12 @@ use Rattle.sys_meaning.specs.Path.{Course, course_of, frame_of_path}
 use Rattle.sys_meaning.specs.Translate.{present}
 use Rattle.sys_meaning.specs.System.{stage, equation_sources, number_of, system_of, clock_of_variable}
 use Rattle.sys_meaning.specs.Law.{TreeDistinct}
-use Rattle.sys_meaning.specs.WellTyped.{IsNameOn, clock_here, StreamFits, WellTyped}
+use Rattle.sys_meaning.specs.WellTyped.{IsKnown, IsNameOn, clock_here, StreamFits, WellTyped}
 use Rattle.sys_meaning.proofs.Pools.{true_all}
 use Rattle.sys_meaning.proofs.Offs.{names_off, present_same}
 use Rattle.sys_meaning.proofs.Forward.{own_fits}
 use Rattle.sys_meaning.proofs.Backward.{TreeMeets, tree_meets, own_meets}
 use Rattle.sys_meaning.proofs.Runs.{Offs, run_by}
-use Rattle.sys_meaning.proofs.Whole.{no_modes}
 
 pub from_places : {A : Type 0} (P : A → Type 0) (xs : List A) → All P xs → AllByRecursion P xs
 from_places P [] a = tt
@@ -50,7 +49,7 @@ joined_at i (x ∷ []) a t h = absurd (omega arith)
 joined_at i (x ∷ y ∷ rest) a zero h = a.0
 joined_at i (x ∷ y ∷ rest) a (suc t) h = joined_at i (y ∷ rest) a.1 t (omega arith)
 
-module _ (i : Instance) (w : WellTyped no_modes i) (states : List (List Entry)) (path : IsPath
+module _ (i : Instance) (w : WellTyped IsKnown i) (states : List (List Entry)) (path : IsPath
     (system_of i) states) where
   abbrev pub c : Course
   c = course_of states
@@ -84,19 +83,19 @@ module _ (i : Instance) (w : WellTyped no_modes i) (states : List (List Entry)) 
 
   pub path_offs : Offs i (number_of i) c n
   path_offs t h x d e o =
-      names_off (scene i throughout empty_frame) (no_modes i) (number_of i) (stage i (number_of i)).modes (c t)
-      (c t) [] tt (own_fits no_modes i w.tree) ((own_meets c n plain i
+      names_off (scene i throughout empty_frame) (IsKnown i) (number_of i) (stage i (number_of i)).modes (c t)
+      (c t) [] tt (own_fits IsKnown i w.tree) ((own_meets c n plain i
       (number_of i) start [] path_meets).names t h) inputs_on x d e
       (present_same (c t) (c t) i (number_of i) (stage i (number_of i)).modes [] (length (variables
-      (component_of i))) (clock_here i (no_modes i) x) ∙ o)
+      (component_of i))) (clock_here i (IsKnown i) x) ∙ o)
     where
-      inputs_on : (v : Variable) → StreamFits i (no_modes i) v →
+      inputs_on : (v : Variable) → StreamFits i (IsKnown i) v →
           lookup (bytes_eq v.name.text) (equation_sources (stage i (number_of i)) (equations
           (component_of i))) ≡ None → named_in v.name.text (inputs_of i) ≡ true →
           truth_of (c t) (c t) (present (stage i (number_of i)) (clock_of_variable v)) ≡ true
       inputs_on v f q input =
           ap (λ k. truth_of (c t) (c t) (present (stage i (number_of i)) k)) (sym f.name.clock ∙ (named_one
-          (IsNameOn i (no_modes i) base) v.name.text (inputs_of i) w.main_inputs input).clock) ∙ begins t h
+          (IsNameOn i (IsKnown i) base) v.name.text (inputs_of i) w.main_inputs input).clock) ∙ begins t h
 
   -- the frame of a path is a run
   pub path_is_run : TreeDistinct i (number_of i) [] → IsRun i n throughout (frame_of_path i states)

@@ -1,4 +1,4 @@
--- For declarations without modes and imports: the states of a path's frame are the path, and it is lawful.
+-- For declarations without imports: the states of a path's frame are the path, and it is lawful.
 use Rattle.std.proofs.Common.{◌≡◌, ℕ, zero, suc, pred, ◌<◌, ◌+◌, true, List, [], ◌∷◌, map, length, refl, ap, ◌∙◌, sym, arith, Some, is_some, slice_get, get_or}
 use Rattle.std.specs.List.{AllByRecursion}
 use Rattle.std.proofs.lemmas.Bool.{false≢true}
@@ -24,15 +24,15 @@ use Rattle.sys_meaning.specs.Part.{value_in}
 use Rattle.sys_meaning.specs.Path.{Course, course_of, frame_of_path}
 use Rattle.sys_meaning.specs.System.{number_of, assumed, asserts_in, shape_of, system_of}
 use Rattle.sys_meaning.specs.Law.{TreeDistinct, IsRunOf}
-use Rattle.sys_meaning.specs.WellTyped.{HasPlace, WellTyped}
-use Rattle.sys_meaning.proofs.Shows.{Reads, same_both, later_value}
+use Rattle.sys_meaning.specs.WellTyped.{IsKnown, HasPlace, WellTyped}
+use Rattle.sys_meaning.proofs.Shows.{in_any, Reads, same_both, later_value}
 use Rattle.sys_meaning.proofs.Follows.{some_same}
 use Rattle.sys_meaning.proofs.Forward.{both_true, own_fits, shown_here}
 use Rattle.sys_meaning.proofs.Lawful.{all_asserted}
 use Rattle.sys_meaning.proofs.ContractStatements.{IsShownBy, assumed_all, true_listed}
 use Rattle.sys_meaning.proofs.PathRun.{from_places, start, path_meets, begins, path_offs, path_is_run}
 use Rattle.sys_meaning.proofs.Reading.{path_reads}
-use Rattle.sys_meaning.proofs.Whole.{no_modes, no_contracts}
+use Rattle.sys_meaning.proofs.Whole.{imports_forward, known_contracts}
 
 one_entry : (z : Sort) (x : Entry) (s : List Entry) (v : Value) → entry_fits (shape_of z) x ≡ true →
     value_in (values_of (x ∷ s)) z 0 ≡ v → entry_of v ≡ x
@@ -76,7 +76,7 @@ pub some_length : {A : Type 0} (xs : List A) → (xs ≡ [] → ⊥) → 0 < len
 some_length [] h = absurd (h refl)
 some_length (x ∷ xs) h = omega arith
 
-module _ (i : Instance) (w : WellTyped no_modes i) (states : List (List Entry))
+module _ (i : Instance) (w : WellTyped IsKnown i) (states : List (List Entry))
     (path : IsPath (system_of i) states) where
   abbrev pub c : Course
   c = course_of states
@@ -87,17 +87,18 @@ module _ (i : Instance) (w : WellTyped no_modes i) (states : List (List Entry))
   abbrev pub f : Frame
   f = frame_of_path i states
 
-  pub all_reads : (t : ℕ) → t < n → Reads no_modes i (number_of i) throughout f t (c t)
+  pub all_reads : (t : ℕ) → t < n → Reads IsKnown i (number_of i) throughout f t (c t)
   all_reads t h ks p z hp e = path_reads ks i (number_of i) c n throughout plain (start i w states path) [] w.tree
-      (path_meets i w states path) (begins i w states path) (path_offs i w states path) refl t h p z hp
+      (path_meets i w states path) (begins i w states path) (path_offs i w states path) t h p z
+      (in_any IsKnown plain ks i p z hp)
 
   state_same : (t : ℕ) → t < n → state_of i f t ≡ get_or states t []
   state_same t h =
       entries_same (slots i) (λ q. or_default q.sort (reading i throughout f (place_of q) t)) (get_or states t [])
       (path.loose.each t [] h).fit (λ k q d. ap (value_in (c t) q.sort) (sym (w.numbered k q d))
       ∙ path_reads q.path i (number_of i) c n throughout plain (start i w states path) [] w.tree
-      (path_meets i w states path) (begins i w states path) (path_offs i w states path) refl t h (spot_of q.cell) q.sort
-      (at_index (λ q. HasPlace no_modes q.path i (spot_of q.cell) q.sort) (slots i) w.slots k q d))
+      (path_meets i w states path) (begins i w states path) (path_offs i w states path) t h (spot_of q.cell) q.sort
+      (at_index (λ q. HasPlace IsKnown q.path i (spot_of q.cell) q.sort) (slots i) w.slots k q d))
 
   -- the states of the path's frame are the path
   pub path_goes : states_of i f n ≡ states
@@ -109,15 +110,16 @@ module _ (i : Instance) (w : WellTyped no_modes i) (states : List (List Entry))
     run = path_is_run i w states path distinct
 
     shown : (t : ℕ) → t < n → IsShownBy (number_of i) (c t) (c t) throughout f t i
-    shown t h = shown_here no_modes no_contracts c n i (number_of i) throughout f run w.tree all_reads t h (c t)
+    shown t h = shown_here IsKnown known_contracts c n i (number_of i) throughout f run w.tree all_reads t h (c t)
 
     meets_here : (t : ℕ) → t < n → meets_all i throughout f t ≡ true
     meets_here t h =
         both_true (all_assert i throughout f t) (meets_assumptions i throughout f t)
-        (all_asserted no_modes no_contracts c n i (number_of i) throughout f run w.tree all_reads t h
+        (all_asserted IsKnown known_contracts c n i (number_of i) throughout f run w.tree all_reads t h
         (right_part (λ z. truth_of (c t) (c t) z ≡ true) (assumed i (number_of i)) (asserts_in i (number_of i))
         (from_places (λ z. truth_of (c t) (c t) z ≡ true) (system_of i).legal (path.loose.each t [] h).legal)))
-        (sym (assumed_all (number_of i) (c t) (c t) throughout f t i (own_fits no_modes i w.tree) (shown t h) refl)
+        (sym (assumed_all (number_of i) (c t) (c t) throughout f t i (own_fits IsKnown i w.tree) (shown t h)
+        (imports_forward i (number_of i) c n throughout f run all_reads w.tree t h (c t)) refl)
         ∙ true_listed (c t) (c t) (assumed i (number_of i))
         (left_part (λ z. truth_of (c t) (c t) z ≡ true) (assumed i (number_of i)) (asserts_in i (number_of i))
         (from_places (λ z. truth_of (c t) (c t) z ≡ true) (system_of i).legal (path.loose.each t [] h).legal)))

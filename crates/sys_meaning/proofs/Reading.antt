@@ -20,7 +20,7 @@ use Rattle.sys_meaning.specs.Part.{a_flag, all_of, value_in}
 use Rattle.sys_meaning.specs.Path.{Course, frame_by}
 use Rattle.sys_meaning.specs.Translate.{flag_at}
 use Rattle.sys_meaning.specs.System.{assumed, below_call, stage, Sources, runs_where, from_call, has_so_far, becomes}
-use Rattle.sys_meaning.specs.WellTyped.{clock_here, OutputFits, IsCall, CallFits, TreeFits, HasSpot, HasPlace}
+use Rattle.sys_meaning.specs.WellTyped.{HasPlaceIn, IsKnown, clock_here, OutputFits, IsCall, CallFits, TreeFits, HasSpot, HasPlace}
 use Rattle.sys_meaning.proofs.Shown.{value_has}
 use Rattle.sys_meaning.proofs.Conditions.{flags_same, becomes_gives}
 use Rattle.sys_meaning.proofs.Pools.{true_all}
@@ -30,34 +30,33 @@ use Rattle.sys_meaning.proofs.Balanced.{Picked, pick, join_all}
 use Rattle.sys_meaning.proofs.Forward.{modes_of}
 use Rattle.sys_meaning.proofs.Offs.{present_same}
 use Rattle.sys_meaning.proofs.Backward.{TreeMeets, own_meets, tree_own, call_offs, frame_called, meets_called, call_fits_called}
-use Rattle.sys_meaning.proofs.Runs.{Offs, any_shown, beat_of}
-use Rattle.sys_meaning.proofs.Whole.{no_modes}
+use Rattle.sys_meaning.proofs.Runs.{any_agree, imports_backward, Offs, any_shown, beat_of}
 
 as_shown : (z : Sort) (v u : Value) → has_sort z v ≡ true → v ≡ u → v ≡ or_default z u
 as_shown z v u h e = e ∙ sym (as_it_is z u (rw (sym e) h))
 
 -- a variable of the frame's own
 pub own_reads : (i : Instance) (at : Place → ℕ) (now next : Values) (b : Instants) (f : Frame) (t : ℕ)
-    (modes : Known Formula) → OwnShown (scene i b f) (no_modes i) at now next t modes →
-    (is_some (component_of i).contract ≡ true → now.flag_at (at (own so_far)) ≡ kept_so_far i b f t) →
-    (p : Spot) (z : Sort) → HasSpot i (no_modes i) p z →
+    (modes : Known Formula) → OwnShown (scene i b f) (IsKnown i) at now next t modes →
+    (m : Manner) → (has_so_far m (component_of i) ≡ true → now.flag_at (at (own so_far)) ≡ kept_so_far i b f t) →
+    (p : Spot) (z : Sort) → HasSpot i (IsKnown i) m p z →
     value_in now z (at ([], p)) ≡ or_default z (own_reading i b f p t)
-own_reads i at now next b f t modes sh kept beat z w = rw w (ap flag sh.beats)
-own_reads i at now next b f t modes sh kept (named x) z w = rw (sym w.2) (sh.names x w.1 w.0)
-own_reads i at now next b f t modes sh kept (memory k) z w =
+own_reads i at now next b f t modes sh m kept beat z w = rw w (ap flag sh.beats)
+own_reads i at now next b f t modes sh m kept (named x) z w = rw (sym w.2) (sh.names x w.1 w.0)
+own_reads i at now next b f t modes sh m kept (memory k) z w =
     rw (sym w.3) (as_shown (sort_of i w.1) _ _ (value_has now (sort_of i w.1) (at ([], memory k)))
     (sh.memories k w.0 w.1 w.2 ∙ sym (ap (λ o. remembered (scene i b f) k o t) w.2)))
-own_reads i at now next b f t modes sh kept (starting k) z w =
+own_reads i at now next b f t modes sh m kept (starting k) z w =
     rw w.2 (ap flag (sh.starts k w.0 w.1)
     ∙ sym (ap (λ o. or_default Flags (still_starting (scene i b f) o t)) w.1))
-own_reads i at now next b f t modes sh kept so_far z w = rw w.0 (ap flag (kept w.1))
-own_reads i at now next b f t modes sh kept (held k x) z w =
-    rw (sym w.5) (by (pick x Good (component_of (call_instance i k)).outputs (join_all (OutputFits i (no_modes i) k)
+own_reads i at now next b f t modes sh m kept so_far z w = rw w.0 (ap flag (kept w.1))
+own_reads i at now next b f t modes sh m kept (held k x) z w =
+    rw (sym w.5) (by (pick x Good (component_of (call_instance i k)).outputs (join_all (OutputFits i (IsKnown i) k)
     (λ v. value_in now v.sort (at ([], held k v.name.text)) ≡ held_before (scene i b f) k v.name.text t)
     (component_of (call_instance i k)).outputs w.3.call.named (sh.held k w.0 w.1 w.2 w.3)) w.4))
   where
     Good : Variable → Type 0
-    Good v = OutputFits i (no_modes i) k v
+    Good v = OutputFits i (IsKnown i) k v
         × (value_in now v.sort (at ([], held k v.name.text)) ≡ held_before (scene i b f) k v.name.text t)
 
     by : Picked x Good →
@@ -71,10 +70,10 @@ own_reads i at now next b f t modes sh kept (held k x) z w =
 -- ---- a call of a path's frame
 
 module _ (d : Component) (cs : List (Name × Value)) (is : Instances) (at : Place → ℕ) (c : Course) (n : ℕ)
-    (b : Instants) (m : Manner) (act : Formula) (given : Sources) (fits : TreeFits no_modes (instance d cs is))
+    (b : Instants) (m : Manner) (act : Formula) (given : Sources) (fits : TreeFits IsKnown (instance d cs is))
     (meets : TreeMeets c n m (instance d cs is) at act given)
     (beats : (t : ℕ) → t < n → (c t).flag_at (at (own beat)) ≡ b t) (offs : Offs (instance d cs is) at c n)
-    (k : ℕ) (called : IsCall (instance d cs is) (no_modes (instance d cs is)) k) where
+    (k : ℕ) (called : IsCall (instance d cs is) (IsKnown (instance d cs is)) k) where
   abbrev pub i : Instance
   i = instance d cs is
 
@@ -96,29 +95,30 @@ module _ (d : Component) (cs : List (Name × Value)) (is : Instances) (at : Plac
   abbrev pub passed : Sources
   passed = from_call (stage i at) a callee
 
-  pub site_fits : CallFits no_modes i a callee (0 + pred k)
-  site_fits = (call_fits_called no_modes i k called.counted called.listed fits.1).0
+  pub site_fits : CallFits IsKnown i a callee (0 + pred k)
+  site_fits = (call_fits_called IsKnown i k called.counted called.listed fits.1).0
 
-  pub callee_fits : TreeFits no_modes callee
-  callee_fits = (call_fits_called no_modes i k called.counted called.listed fits.1).1
+  pub callee_fits : TreeFits IsKnown callee
+  callee_fits = (call_fits_called IsKnown i k called.counted called.listed fits.1).1
 
   pub callee_meets : TreeMeets c n a.manner callee below runs_here passed
   callee_meets = (meets_called c n i (stage i at) k called.counted called.listed meets.1).2
 
   pub callee_beats : (t : ℕ) → t < n → (c t).flag_at (below (own beat)) ≡ active s a t
-  callee_beats t h = beat_of i at c n b t (any_shown i at c n b m act given fits meets beats offs t h (c t)) a callee
+  callee_beats t h = beat_of i at c n b t (any_shown i at c n b m act given fits meets beats offs t h (c t))
+      (any_agree i at c n b m act given fits meets beats offs t h (c t) (any_shown i at c n b m act given fits meets beats offs t h (c t))) a callee
       (0 + pred k) site_fits ((own_meets c n a.manner callee below runs_here passed callee_meets).runs t h).0
 
   pub callee_offs : Offs callee below c n
-  callee_offs t h x v e o = call_offs no_modes i at (c t) (c t) (stage i at).modes (stage callee below).modes a callee
-      (0 + pred k) site_fits (tree_own no_modes callee callee_fits) below
+  callee_offs t h x v e o = call_offs IsKnown i at (c t) (c t) (stage i at).modes (stage callee below).modes a callee
+      (0 + pred k) site_fits (tree_own IsKnown callee callee_fits) below
       ((own_meets c n a.manner callee below runs_here passed callee_meets).names t h) x v e
       (present_same (c t) (c t) callee below (stage callee below).modes [] (length (variables
       (component_of callee))) (clock_here callee (λ key. ⊥) x) ∙ o)
 
 -- the flag of the assumptions says whether they were true so far
 so_far_is : (i : Instance) (at : Place → ℕ) (c : Course) (n : ℕ) (b : Instants) (m : Manner) (act : Formula)
-    (given : Sources) → TreeFits no_modes i → TreeMeets c n m i at act given →
+    (given : Sources) → TreeFits IsKnown i → TreeMeets c n m i at act given →
     ((t : ℕ) → t < n → (c t).flag_at (at (own beat)) ≡ b t) → Offs i at c n →
     has_so_far m (component_of i) ≡ true → (t : ℕ) → t < n →
     (c t).flag_at (at (own so_far)) ≡ kept_so_far i b (frame_by i at c n) t
@@ -141,27 +141,21 @@ so_far_is i at c n b m act given fits meets beats offs k (suc t) h =
     ∙ ap (λ o. kept_so_far i b f t && not (o && not z)) (beats t now)
     ∙ kept_on (kept_so_far i b f t) (b t) z l
     (λ o. all_of_true (c t) (c (suc t)) (assumed i at)
-    ∙ assumed_all at (c t) (c (suc t)) b f t i (tree_own no_modes i fits)
-    (any_shown i at c n b m act given fits meets beats offs t now (c (suc t))) o)
-
-keeps_contract : (m : Manner) (d : Component) → ((xs : List Name) → m ≡ as_import xs → ⊥) →
-    has_so_far m d ≡ is_some d.contract
-keeps_contract plain d h = refl
-keeps_contract (while_true a) d h = refl
-keeps_contract (as_import xs) d h = absurd (h xs refl)
+    ∙ assumed_all at (c t) (c (suc t)) b f t i (tree_own IsKnown i fits)
+    (any_shown i at c n b m act given fits meets beats offs t now (c (suc t)))
+    (imports_backward i at c n b m act given fits meets beats offs t now (c (suc t))) o)
 
 -- each variable is what the path's frame has there, absent as 0 or false
 pub path_reads : (ks : List ℕ) (i : Instance) (at : Place → ℕ) (c : Course) (n : ℕ) (b : Instants) (m : Manner)
-    (act : Formula) (given : Sources) → TreeFits no_modes i → TreeMeets c n m i at act given →
+    (act : Formula) (given : Sources) → TreeFits IsKnown i → TreeMeets c n m i at act given →
     ((t : ℕ) → t < n → (c t).flag_at (at (own beat)) ≡ b t) → Offs i at c n →
-    has_so_far m (component_of i) ≡ is_some (component_of i).contract →
-    (t : ℕ) → t < n → (p : Spot) (z : Sort) → HasPlace no_modes ks i p z →
+    (t : ℕ) → t < n → (p : Spot) (z : Sort) → HasPlaceIn IsKnown m ks i p z →
     value_in (c t) z (at (ks, p)) ≡ or_default z (reading i b (frame_by i at c n) (ks, p) t)
-path_reads [] i at c n b m act given fits meets beats offs keeps t h p z w =
-    own_reads i at (c t) (c t) b (frame_by i at c n) t (modes_of no_modes i at)
+path_reads [] i at c n b m act given fits meets beats offs t h p z w =
+    own_reads i at (c t) (c t) b (frame_by i at c n) t (modes_of IsKnown i at)
     (any_shown i at c n b m act given fits meets beats offs t h (c t))
-    (λ e. so_far_is i at c n b m act given fits meets beats offs (keeps ∙ e) t h) p z w
-path_reads (k ∷ ks) (instance d cs is) at c n b m act given fits meets beats offs keeps t h p z w =
+    m (λ e. so_far_is i at c n b m act given fits meets beats offs e t h) p z w
+path_reads (k ∷ ks) (instance d cs is) at c n b m act given fits meets beats offs t h p z w =
     let i : Instance = instance d cs is in
     let a : Site = site_of i k in
     let callee : Instance = call_instance i k in
@@ -173,7 +167,5 @@ path_reads (k ∷ ks) (instance d cs is) at c n b m act given fits meets beats o
     (callee_fits d cs is at c n b m act given fits meets beats offs k w.0)
     (callee_meets d cs is at c n b m act given fits meets beats offs k w.0)
     (callee_beats d cs is at c n b m act given fits meets beats offs k w.0)
-    (callee_offs d cs is at c n b m act given fits meets beats offs k w.0)
-    (keeps_contract a.manner (component_of callee)
-    (site_fits d cs is at c n b m act given fits meets beats offs k w.0).no_import) t h p z w.1
+    (callee_offs d cs is at c n b m act given fits meets beats offs k w.0) t h p z w.1
     ∙ sym (ap (λ g. or_default z (reading_on ks callee on g p t)) (frame_called i at c n k w.0.counted w.0.listed))

@@ -26,7 +26,7 @@ use Rattle.sys_meaning.specs.Path.{Course}
 use Rattle.sys_meaning.specs.System.{number_of, assumed, system_of, shape_of, asserts_in}
 use Rattle.sys_meaning.specs.WellTyped.{WellTyped}
 use Rattle.sys_meaning.proofs.Pools.{true_all, all_both}
-use Rattle.sys_meaning.proofs.Shows.{Reads, state_reads}
+use Rattle.sys_meaning.proofs.Shows.{state_flag, Reads, state_reads}
 use Rattle.sys_meaning.proofs.Forward.{Contracts, here_true}
 use Rattle.sys_meaning.proofs.Onward.{SoFar, next_true}
 use Rattle.sys_meaning.proofs.Begin.{and_first, and_second, first_true, asserts_true}
@@ -104,7 +104,7 @@ module _ (Modes : Instance → Key → Type 0) (contracts : Contracts Modes) (i 
   joined (suc zero) t h = tt
   joined (suc (suc m)) t h = (
     positioned (λ z. truth_of (c t) (c (suc t)) z ≡ true) (system_of i).next
-        (next_true Modes contracts c n so_far plain i (number_of i) throughout f run typed.tree reads t
+        (next_true Modes contracts c n so_far plain i (number_of i) throughout f run typed.tree reads (state_flag Modes i typed f n) t
         (omega arith)),
     joined (suc m) (suc t) (omega arith),
   )
@@ -119,7 +119,8 @@ module _ (Modes : Instance → Key → Type 0) (contracts : Contracts Modes) (i 
       joined = joined (suc t) 0 (omega arith);
     };
     first = positioned (λ z. truth_of (c 0) (c 0) z ≡ true) (system_of i).first
-        (first_true Modes contracts c n so_far (omega arith) plain i (number_of i) throughout f run typed.tree reads);
+        (first_true Modes contracts c n so_far (omega arith) plain i (number_of i) throughout f run typed.tree reads
+            (state_flag Modes i typed f n));
   }
     where
       is_some_list : List (List Entry) → Bool

@@ -229,9 +229,9 @@ module _ (g : Stage) (ModeAt : Key → Type 0) (row : Row) (modes : Known Value)
         (seen_has a (sampled_by true x.text) h.3) (has_as (sort_of g.place b) (sort_of g.place a)
         (seen sight b) h.2 (seen_has b (sampled_by false x.text) h.4))
     seen_has (call p k f as_) c h =
-        rw h.1 (outputs_has k (tr.outputs_at g k) h.0.call.outputs (shown.outputs k c h.0))
+        rw h.1 (outputs_has k (tr.outputs_at g k) h.0.outputs (shown.outputs k c h.0))
     seen_has (condact p k a f as_ ds) c h =
-        rw h.3 (latests_has k (tr.outputs_at g k) h.0.call.outputs (shown.held_beats k c a ds h.0)
+        rw h.3 (latests_has k (tr.outputs_at g k) h.0.outputs (shown.held_beats k c a ds h.0)
         (shown.held_outputs k c a ds h.0))
     seen_has (mode_name p d m) c h = rw (sym (shown.modes_same (option_to_list (option_map text_of d), m.text))) refl
 
@@ -353,13 +353,13 @@ module _ (g : Stage) (ModeAt : Key → Type 0) (row : Row) (modes : Known Value)
         let all : map (worth now next) (map (output_part g k) (tr.outputs_at g k)) ≡ map (seen_output sight k)
         (outputs_at sight k) = outputs_worth k (tr.outputs_at g k) (shown.outputs k c h.0) in
         head_worth (map (output_part g k) (tr.outputs_at g k)) (output_sort (call_instance g.place k)) (rw all
-        (outputs_has k (tr.outputs_at g k) h.0.call.outputs (shown.outputs k c h.0))) ∙ ap head_value all
+        (outputs_has k (tr.outputs_at g k) h.0.outputs (shown.outputs k c h.0))) ∙ ap head_value all
     term_shown (condact p k a f as_ ds) c h =
         let all : map (worth now next) (map (latest_part g k) (tr.outputs_at g k)) ≡ map (seen_latest sight k)
         (outputs_at sight k) =
         latests_worth k (tr.outputs_at g k) (shown.held_beats k c a ds h.0) (shown.held_outputs k c a ds h.0) in
         head_worth (map (latest_part g k) (tr.outputs_at g k)) (output_sort (call_instance g.place k)) (rw all
-        (latests_has k (tr.outputs_at g k) h.0.call.outputs (shown.held_beats k c a ds h.0)
+        (latests_has k (tr.outputs_at g k) h.0.outputs (shown.held_beats k c a ds h.0)
         (shown.held_outputs k c a ds h.0))) ∙ ap head_value all
     term_shown (mode_name p d m) c h = shown.modes_same (option_to_list (option_map text_of d), m.text)
 

@@ -1,4 +1,4 @@
--- For declarations without modes and imports: each property has the truth of its formula.
+-- Each property has the truth of its formula.
 use Rattle.std.proofs.Common.{◌≡◌, ℕ, suc, pred, ◌<◌, Bool, true, false, not, cond, ◌&&◌, List, [], ◌∷◌, ◌++◌, map, flat_map, refl, ap, ◌∙◌, sym, subst}
 use Rattle.std.specs.List.{AllByRecursion}
 use Rattle.lus_tree.specs.declared.place.Sort.TheVariants.{Bool as Flags}
@@ -6,7 +6,7 @@ use Rattle.lus_tree.specs.Tree.{Expression, Statement, equation, assertion, prop
 use Rattle.lus_meaning.specs.Value.{Value, flag}
 use Rattle.lus_meaning.specs.Frame.{Frame, Frames, no_frames, with_frame, calls_in, frame_at, call_frame}
 use Rattle.lus_meaning.specs.Scene.{base, Manner, plain, while_true, as_import, Site, Scene, Instance, Instances, instance, no_instances, with_instance, component_of, calls_of}
-use Rattle.lus_meaning.specs.Contract.{Property, terms, scene}
+use Rattle.lus_meaning.specs.Contract.{ModeTerms, Property, terms, scene}
 use Rattle.lus_meaning.specs.Run.{IsRun, CallsRun, active, sort_of}
 use Rattle.lus_meaning.specs.Property as p
 use Rattle.lus_meaning.specs.Verdict.{throughout}
@@ -15,19 +15,20 @@ use Rattle.sys_terms.specs.View.{Formula, negation, both}
 use Rattle.sys_terms.specs.Meaning.{values_of, truth_of}
 use Rattle.lus_meaning.specs.Meaning.{value}
 use Rattle.sys_meaning.specs.Slot.{Place, beat, own, in_call}
+use Rattle.sys_meaning.specs.Items.{ModeItem}
 use Rattle.sys_meaning.specs.Path.{Course}
 use Rattle.sys_meaning.specs.State.{state_of}
 use Rattle.sys_meaning.specs.Translate.{flag_at, formula}
 use Rattle.sys_meaning.specs.System.{Written, below_call, stage, number_of, contract_of, body_properties, one_mode, owed_by_site, owed_by_calls}
 use Rattle.sys_meaning.specs.Law.{Agree, TruthsInRuns}
-use Rattle.sys_meaning.specs.WellTyped.{Stands, checked, CallsFit, WellTyped}
+use Rattle.sys_meaning.specs.WellTyped.{IsKnown, Stands, checked, CallsFit, WellTyped}
 use Rattle.sys_meaning.proofs.Rows.{OwnShown}
 use Rattle.sys_meaning.proofs.Main.{formula_value}
 use Rattle.sys_meaning.proofs.Conditions.{flags_same}
 use Rattle.sys_meaning.proofs.Shows.{Reads, state_reads}
 use Rattle.sys_meaning.proofs.Forward.{drop_calls, drop_frames, first_frame, frame_dropped, later_calls, later_frames, calls_later, frames_later, modes_of, call_at_reads, own_fits, shown_here}
-use Rattle.sys_meaning.proofs.ContractStatements.{AllSame, terms_modes, items_modes, IsShownBy, assumes_same, guarantees_same}
-use Rattle.sys_meaning.proofs.Whole.{no_modes, no_contracts}
+use Rattle.sys_meaning.proofs.ContractStatements.{AllSame, SameTerms, SameModes, IsShownBy, terms_same, some_mode}
+use Rattle.sys_meaning.proofs.Whole.{imports_forward, known_contracts}
 
 agree_both : (f : Frame) (t : ℕ) (s : List Entry) (ps ps' : List Property) (qs qs' : List Formula) →
     Agree f t s ps qs → Agree f t s ps' qs' → Agree f t s (ps ++ ps') (qs ++ qs')
@@ -42,23 +43,23 @@ owed_value true true v h = sym (h refl)
 owed_value true false v h = sym (h refl)
 owed_value false z v h = refl
 
-module _ (i : Instance) (w : WellTyped no_modes i) (n : ℕ) (f : Frame) (t : ℕ) (run : IsRun i n throughout f)
+module _ (i : Instance) (w : WellTyped IsKnown i) (n : ℕ) (f : Frame) (t : ℕ) (run : IsRun i n throughout f)
     (h : t < n) where
   abbrev pub c : Course
   c t = values_of (state_of i f t)
 
-  sh : OwnShown (scene i throughout f) (no_modes i) (number_of i) (c t) (c t) t (modes_of no_modes i (number_of i))
-  sh = shown_here no_modes no_contracts c n i (number_of i) throughout f run w.tree
-      (λ t h. state_reads no_modes i w f t) t h (c t)
+  sh : OwnShown (scene i throughout f) (IsKnown i) (number_of i) (c t) (c t) t (modes_of IsKnown i (number_of i))
+  sh = shown_here IsKnown known_contracts c n i (number_of i) throughout f run w.tree
+      (λ t h. state_reads IsKnown i w f t) t h (c t)
 
-  one : (e : Expression) → Stands i (no_modes i) base e → sort_of i e ≡ Flags →
+  one : (e : Expression) → Stands i (IsKnown i) base e → sort_of i e ≡ Flags →
       flag (truth_of (c t) (c t) (formula (stage i (number_of i)) e)) ≡ value (scene i throughout f) base e t
-  one e v k = formula_value (scene i throughout f) (no_modes i) (number_of i) (modes_of no_modes i (number_of i))
-      (c t) (c t) t sh (no_contracts i (number_of i) c n throughout f run
-      (λ t h. state_reads no_modes i w f t) w.tree t h (c t) sh) e base v k refl
+  one e v k = formula_value (scene i throughout f) (IsKnown i) (number_of i) (modes_of IsKnown i (number_of i))
+      (c t) (c t) t sh (known_contracts i (number_of i) c n throughout f run
+      (λ t h. state_reads IsKnown i w f t) w.tree t h (c t) sh) e base v k refl
 
   pub body_agrees : (ss : List Statement) →
-      AllByRecursion (λ e. Stands i (no_modes i) base e × (sort_of i e ≡ Flags)) (checked ss) →
+      AllByRecursion (λ e. Stands i (IsKnown i) base e × (sort_of i e ≡ Flags)) (checked ss) →
       Agree f t (state_of i f t) (p.body_properties i ss) (body_properties (stage i (number_of i)) ss)
   body_agrees [] a = tt
   body_agrees (property l ∷ ss) a = (sym (one l.value a.0.0 a.0.1), body_agrees ss a.1)
@@ -75,29 +76,35 @@ module _ (i : Instance) (w : WellTyped no_modes i) (n : ℕ) (f : Frame) (t : �
   items_agree (p ∷ ps) [] a = absurd a
   items_agree (p ∷ ps) (q ∷ qs) a = (sym (a.0 refl), items_agree ps qs a.1)
 
+  same : SameTerms (number_of i) (c t) (c t) throughout f t (terms i) (contract_of i)
+  same = terms_same (number_of i) (c t) (c t) throughout f t i (own_fits IsKnown i w.tree) sh
+      (imports_forward i (number_of i) c n throughout f run (λ t h. state_reads IsKnown i w f t) w.tree t h (c t))
+
   guarantees_agree : Agree f t (state_of i f t) (terms i).guarantees (map (λ q. q (number_of i))
       (contract_of i).guarantees)
   guarantees_agree =
       items_agree (terms i).guarantees (contract_of i).guarantees
-      (guarantees_same (number_of i) (c t) (c t) throughout f t i (own_fits no_modes i w.tree) sh)
+      same.guarantees
 
-  no_ensures : Agree f t (state_of i f t) (flat_map (λ m. m.ensures_each) (terms i).modes)
-      (flat_map (λ m. map (λ q. q (number_of i)) m.ensures_each) (contract_of i).modes)
-  no_ensures =
-      subst (λ ms. Agree f t (state_of i f t) (flat_map (λ m. m.ensures_each) ms)
-      (flat_map (λ m. map (λ q. q (number_of i)) m.ensures_each) (contract_of i).modes))
-      (sym (terms_modes i (own_fits no_modes i w.tree).contract))
-      (subst (λ ms. Agree f t (state_of i f t) []
-      (flat_map (λ m. map (λ q. q (number_of i)) m.ensures_each) ms))
-      (sym (items_modes i (own_fits no_modes i w.tree).contract)) tt)
+  ensures_agree : (ms : List ModeTerms) (qs : List (ModeItem Written)) →
+      SameModes (number_of i) (c t) (c t) throughout f t ms qs →
+      Agree f t (state_of i f t) (flat_map (λ m. m.ensures_each) ms)
+      (flat_map (λ m. map (λ q. q (number_of i)) m.ensures_each) qs)
+  ensures_agree [] [] a = tt
+  ensures_agree [] (q ∷ qs) a = absurd a
+  ensures_agree (m ∷ ms) [] a = absurd a
+  ensures_agree (m ∷ ms) (q ∷ qs) a =
+      agree_both f t (state_of i f t) m.ensures_each (flat_map (λ m. m.ensures_each) ms)
+      (map (λ q. q (number_of i)) q.ensures_each) (flat_map (λ m. map (λ q. q (number_of i)) m.ensures_each) qs)
+      (items_agree m.ensures_each q.ensures_each a.0.ensures_each) (ensures_agree ms qs a.1)
 
-  no_one_mode : Agree f t (state_of i f t) (p.one_mode (component_of i) (terms i).modes)
-      (one_mode (contract_of i).modes (number_of i))
-  no_one_mode =
-      subst (λ ms. Agree f t (state_of i f t) (p.one_mode (component_of i) ms)
-      (one_mode (contract_of i).modes (number_of i))) (sym (terms_modes i (own_fits no_modes i w.tree).contract))
-      (subst (λ ms. Agree f t (state_of i f t) [] (one_mode ms (number_of i)))
-      (sym (items_modes i (own_fits no_modes i w.tree).contract)) tt)
+  one_mode_agrees : (ms : List ModeTerms) (qs : List (ModeItem Written)) →
+      SameModes (number_of i) (c t) (c t) throughout f t ms qs →
+      Agree f t (state_of i f t) (p.one_mode (component_of i) ms) (one_mode qs (number_of i))
+  one_mode_agrees [] [] a = tt
+  one_mode_agrees [] (q ∷ qs) a = absurd a
+  one_mode_agrees (m ∷ ms) [] a = absurd a
+  one_mode_agrees (m ∷ ms) (q ∷ qs) a = (some_mode (number_of i) (c t) (c t) throughout f t (m ∷ ms) (q ∷ qs) a refl, tt)
 
   -- ---- what a call owes
 
@@ -132,25 +139,26 @@ module _ (i : Instance) (w : WellTyped no_modes i) (n : ℕ) (f : Frame) (t : �
   owed_agrees a k (while_true y) g e o x = owed_list a k g e o (terms k).assumes (contract_of k).assumes x
 
   all_owed : (is : Instances) (p' : ℕ) (fs : Frames) → drop_calls p' (calls_of i) ≡ is →
-      drop_frames p' (calls_in f) ≡ fs → CallsRun n s is fs → CallsFit no_modes i is p' →
+      drop_frames p' (calls_in f) ≡ fs → CallsRun n s is fs → CallsFit IsKnown i is p' →
       Agree f t (state_of i f t) (p.owed_by_calls i is) (owed_by_calls (stage i (number_of i)) is)
   all_owed no_instances p' fs e d r w' = tt
   all_owed (with_instance a k is) p' no_frames e d r w' = absurd r
   all_owed (with_instance a k is) p' (with_frame g fs) e d r w' =
-      let reads : (t : ℕ) → t < n → Reads no_modes k (below a) (active s a) g t (c t) =
-      λ t h. call_at_reads no_modes i (number_of i) throughout f t (c t) a k is g fs p' w'.0 e d
-      (state_reads no_modes i w f t) in
+      let reads : (t : ℕ) → t < n → Reads IsKnown k (below a) (active s a) g t (c t) =
+      λ t h. call_at_reads IsKnown i (number_of i) throughout f t (c t) a k is g fs p' w'.0 e d
+      (state_reads IsKnown i w f t) in
       let frame : call_frame f a.number ≡ g =
       ap (λ m. frame_at (calls_in f) (pred m)) w'.0.number ∙ frame_dropped (calls_in f) p'
       ∙ ap (λ z. first_frame z (frame_at no_frames 0)) d in
       let here : IsShownBy (below a) (c t) (c t) (active s a) g t k =
-      shown_here no_modes no_contracts c n k (below a) (active s a) g r.1 w'.1 reads t h (c t) in
+      shown_here IsKnown known_contracts c n k (below a) (active s a) g r.1 w'.1 reads t h (c t) in
       agree_both f t (state_of i f t) (p.owed_by_site i a a.manner (terms k)) (p.owed_by_calls i is)
       (owed_by_site (stage i (number_of i)) a a.manner k) (owed_by_calls (stage i (number_of i)) is)
       (owed_agrees a k a.manner g frame
       (flags_same ((c t).flag_at (number_of i (in_call a.number (own beat)))) (active s a t)
       (reads t h [] beat Flags refl refl))
-      (assumes_same (below a) (c t) (c t) (active s a) g t k (own_fits no_modes k w'.1) here))
+      (terms_same (below a) (c t) (c t) (active s a) g t k (own_fits IsKnown k w'.1) here
+      (imports_forward k (below a) c n (active s a) g r.1 reads w'.1 t h (c t))).assumes)
       (all_owed is (suc p') fs (calls_later p' (calls_of i) ∙ ap later_calls e)
       (frames_later p' (calls_in f) ∙ ap later_frames d) r.2 w'.2)
 
@@ -170,11 +178,11 @@ truths_in_runs (instance d cs is) w n f t run h =
     agree_both f t s ps1 (terms i).guarantees qs1 qs2
     (body_agrees i w n f t run h d.body w.tree.0.body_properties) (guarantees_agree i w n f t run h) in
     let two : Agree f t s (ps1 ++ (terms i).guarantees ++ ps3) (qs1 ++ qs2 ++ qs3) =
-    agree_both f t s (ps1 ++ (terms i).guarantees) ps3 (qs1 ++ qs2) qs3 one (no_ensures i w n f t run h) in
+    agree_both f t s (ps1 ++ (terms i).guarantees) ps3 (qs1 ++ qs2) qs3 one (ensures_agree i w n f t run h (terms i).modes (contract_of i).modes (same i w n f t run h).modes) in
     let three : Agree f t s (ps1 ++ (terms i).guarantees ++ ps3 ++ p.one_mode d (terms i).modes)
     (qs1 ++ qs2 ++ qs3 ++ qs4) =
     agree_both f t s (ps1 ++ (terms i).guarantees ++ ps3) (p.one_mode d (terms i).modes)
-    (qs1 ++ qs2 ++ qs3) qs4 two (no_one_mode i w n f t run h) in
+    (qs1 ++ qs2 ++ qs3) qs4 two (one_mode_agrees i w n f t run h (terms i).modes (contract_of i).modes (same i w n f t run h).modes) in
     agree_both f t s (ps1 ++ (terms i).guarantees ++ ps3 ++ p.one_mode d (terms i).modes) (p.owed_by_calls i is)
     (qs1 ++ qs2 ++ qs3 ++ qs4) (owed_by_calls (stage i at) is) three
     (all_owed i w n f t run h is 0 (calls_in f) refl refl run.1 w.tree.1)

@@ -23,7 +23,7 @@ use Rattle.sys_terms.specs.Queries.{property_term}
 use Rattle.sys_meaning.specs.Slot.{Spot, named, memory, own}
 use Rattle.sys_meaning.specs.System.{number_of, system_of}
 use Rattle.sys_meaning.specs.Path.{frame_of_path, trace_of}
-use Rattle.sys_meaning.specs.WellTyped.{WellTyped}
+use Rattle.sys_meaning.specs.WellTyped.{IsKnown, WellTyped}
 use Rattle.sys_meaning.specs.Law.{TreeDistinct, RunsArePaths, TrueReachable, LemmaLaw, PropertyLaw}
 
 -- what is so of the instance of a checked program
@@ -32,7 +32,7 @@ OfChecked P = (p : Program) (d : Component) → IsBooleanChecked p d → P (inst
 
 -- its text has its types, clocks and places, and the sources of its names have different names
 abbrev pub CheckedIsWellTyped : Type 0
-CheckedIsWellTyped = OfChecked (λ i. WellTyped (λ j key. ⊥) i × TreeDistinct i (number_of i) [])
+CheckedIsWellTyped = OfChecked (λ i. WellTyped IsKnown i × TreeDistinct i (number_of i) [])
 
 -- its runs are paths, and each path is that of one run
 abbrev pub CheckedRunsArePaths : Type 0

@@ -17,7 +17,7 @@ use Rattle.sys_meaning.specs.Slot.{Place}
 use Rattle.sys_meaning.specs.Translate.{Stage}
 use Rattle.sys_meaning.specs.Path.{TraceOfPath, frame_of_path}
 use Rattle.sys_meaning.specs.System.{Sources, stage, equation_sources, below_call, from_call, number_of, system_of}
-use Rattle.sys_meaning.specs.WellTyped.{WellTyped}
+use Rattle.sys_meaning.specs.WellTyped.{IsKnown, WellTyped}
 
 -- the truth of a formula in a state
 abbrev pub true_in : List Entry → Formula → Bool
@@ -75,9 +75,9 @@ PropertyLaw i = (k : ℕ) (p : Property) (q : Formula) → slice_get (properties
 
 -- ---- for the first direction
 
--- the states of a run up to a lawful instant are a path, for a declaration without modes and imports
+-- the states of a run up to a lawful instant are a path, for a declaration without imports
 abbrev pub RunsToPaths : Type 0
-RunsToPaths = (i : Instance) → WellTyped (λ j key. ⊥) i → (n : ℕ) (f : Frame) (t : ℕ) → IsRun i n throughout f →
+RunsToPaths = (i : Instance) → WellTyped IsKnown i → (n : ℕ) (f : Frame) (t : ℕ) → IsRun i n throughout f →
     t < n → IsLawful i throughout f t → IsPath (system_of i) (states_of i f (suc t))
 
 -- what follows for lemmas and properties
@@ -86,7 +86,7 @@ WhatFollows = (i : Instance) → RunsArePaths i → LemmaLaw i × PropertyLaw i
 
 -- and each property has the truth of its formula in each state of a run
 abbrev pub TruthsInRuns : Type 0
-TruthsInRuns = (i : Instance) → WellTyped (λ j key. ⊥) i → (n : ℕ) (f : Frame) (t : ℕ) → IsRun i n throughout f →
+TruthsInRuns = (i : Instance) → WellTyped IsKnown i → (n : ℕ) (f : Frame) (t : ℕ) → IsRun i n throughout f →
     t < n → Agree f t (state_of i f t) (properties i) (system_of i).properties
 
 -- ---- for the second direction
@@ -107,19 +107,19 @@ abbrev mutual
       × CallsDistinct is g
 
 -- the frame of a path is a run of as many instants, lawful at the last, and its states are the path; no other run is;
--- for a declaration without modes and imports
+-- for a declaration without imports
 abbrev pub PathsToRuns : Type 0
-PathsToRuns = (i : Instance) → WellTyped (λ j key. ⊥) i → TreeDistinct i (number_of i) [] →
+PathsToRuns = (i : Instance) → WellTyped IsKnown i → TreeDistinct i (number_of i) [] →
     (states : List (List Entry)) → IsPath (system_of i) states →
     IsRunOf i states (frame_of_path i states)
     × ((g : Frame) → IsRunOf i states g → g ≡ frame_of_path i states)
 
 -- ---- together
 
--- runs are paths, and each path is that of one run, for a declaration without modes and imports
+-- runs are paths, and each path is that of one run, for a declaration without imports
 abbrev pub RunsArePathsLaw : Type 0
-RunsArePathsLaw = (i : Instance) → WellTyped (λ j key. ⊥) i → TreeDistinct i (number_of i) [] → RunsArePaths i
+RunsArePathsLaw = (i : Instance) → WellTyped IsKnown i → TreeDistinct i (number_of i) [] → RunsArePaths i
 
 -- and the trace of a path has the path's frame
 abbrev pub TracesOfPaths : Type 0
-TracesOfPaths = (i : Instance) → WellTyped (λ j key. ⊥) i → TreeDistinct i (number_of i) [] → TraceOfPath i
+TracesOfPaths = (i : Instance) → WellTyped IsKnown i → TreeDistinct i (number_of i) [] → TraceOfPath i

@@ -1,16 +1,18 @@
 -- What the rules of types and clocks give of a declaration's text.
-use Rattle.std.specs.Prelude.{◌≡◌, ℕ, zero, suc, pred, slice_get, ◌<◌, true, false, cond, ◌⊎◌, List, [], ◌∷◌, map, length, Option, Some, None, is_some, option_map, option_to_list}
-use Rattle.std.specs.List.{AllByRecursion}
+use Rattle.std.specs.Prelude.{◌≡◌, ℕ, zero, suc, pred, slice_get, ◌<◌, true, false, cond, ◌⊎◌, List, [], ◌∷◌, ◌++◌, map, length, Option, Some, None, is_some, option_map, option_to_list}
+use Rattle.std.specs.List.{AllByRecursion, list_any}
 use Rattle.std.specs.Map.{lookup}
 use Rattle.std.specs.Str.{bytes_eq}
 use Rattle.lus_tree.specs.declared.expression.Operator.{Operator}
 use Rattle.lus_tree.specs.declared.expression.Operator.TheVariants.{Implies, Or, Xor, And, Less, AtMost, Equal, Differs, AtLeast, More, Add, Sub, Mul, Div, Mod}
 use Rattle.lus_tree.specs.declared.place.Sort.{Sort}
 use Rattle.lus_tree.specs.declared.place.Sort.TheVariants.{Bool as Flags, Int as Numbers}
-use Rattle.lus_tree.specs.Tree.{Statement, property, ContractStatement, assume, guarantee, ghost_variable, constant, mode, «import», Name, Variable, text_of, Expression, Expressions, no_more, more, truth, number, name, negation, minus, pre, arrow, binary, choice, sampled, merged, call, condact, mode_name}
+use Rattle.lus_tree.specs.Tree.{Statement, property, Labelled, ContractStatement, assume, guarantee, ghost_variable, constant, mode, «import», Name, Variable, text_of, Expression, Expressions, no_more, more, truth, number, name, negation, minus, pre, arrow, binary, choice, sampled, merged, call, condact, mode_name}
 use Rattle.lus_meaning.specs.Value.{Value, has_sort}
 use Rattle.lus_meaning.specs.Scene.{Manner, as_import, Site, instance, Instances, no_instances, with_instance, calls_of, clock_from, Clock, base, sampled_by, plain, while_true, Instance, component_of, constants_of, outputs_of, call_instance, instance_called, clock_of, contract_statements, variables}
 use Rattle.lus_meaning.specs.Scene.{clock_of_names}
+use Rattle.lus_meaning.specs.Meaning.{mode_key}
+use Rattle.lus_meaning.specs.Contract.{terms}
 use Rattle.lus_meaning.specs.Program.{constant_value}
 use Rattle.lus_meaning.specs.Occurrences.{Memory, memories, Start, starts}
 use Rattle.lus_meaning.specs.Property.{assertions}
@@ -21,6 +23,7 @@ use Rattle.sys_meaning.specs.Defaults.{is_constant, site_of, default_of}
 use Rattle.lus_meaning.specs.Slots.{Slot, slots}
 use Rattle.sys_meaning.specs.Slot.{Spot, beat, named, memory, starting, so_far, held, Place, spot_of, place_of, same_place, number_in, memory_of, start_of}
 use Rattle.sys_meaning.specs.Items.{Key}
+use Rattle.sys_meaning.specs.System.{has_so_far}
 
 abbrev pub count_of : Instances → ℕ
 count_of no_instances = 0
@@ -76,11 +79,11 @@ module _ (i : Instance) (ModeAt : Key → Type 0) where
     pub number : (site_of i k).number ≡ k
     pub counted : 0 < k
     pub listed : pred k < count_of (calls_of i)
-    pub outputs : HasOutput k
     pub named : AllByRecursion (OutputFits k) (component_of (call_instance i k)).outputs
 
   pub record IsPlainCall (k : ℕ) (c : Clock) : Type 0 where
     pub call : IsCall k
+    pub outputs : HasOutput k
     pub clock : (site_of i k).clock ≡ c
     pub manner : (site_of i k).manner ≡ plain
 
@@ -95,6 +98,7 @@ module _ (i : Instance) (ModeAt : Key → Type 0) where
 
   pub record IsHeldCall (k : ℕ) (c : Clock) (a : Expression) (ds : Expressions) : Type 0 where
     pub call : IsCall k
+    pub outputs : HasOutput k
     pub clock : (site_of i k).clock ≡ c
     pub manner : (site_of i k).manner ≡ while_true a
     pub defaults : DefaultsFit k (component_of (call_instance i k)).outputs ds
@@ -174,46 +178,84 @@ module _ (i : Instance) (ModeAt : Key → Type 0) where
     pub listed : pred a.number < length (starts (component_of i))
     pub clock : ClockFits a.clock
 
-  -- for now assumptions and guarantees alone, without modes and imports
-  abbrev pub ContractStatementFits : ContractStatement → Type 0
-  ContractStatementFits (assume l) = Stands base l.value × (sort_of i l.value ≡ Flags)
-  ContractStatementFits (guarantee l) = Stands base l.value × (sort_of i l.value ≡ Flags)
-  ContractStatementFits (ghost_variable x e) = Unit {0}
-  ContractStatementFits (constant c) = Unit {0}
-  ContractStatementFits (mode m rs es) = ⊥
-  ContractStatementFits («import» k c as_ xs) = ⊥
+-- ---- contracts
 
+-- the mode is one of the contract, or of an import by way of its contract
+abbrev pub IsKnown : Instance → Key → Type 0
+IsKnown i key = list_any (λ m. mode_key key m.key) (terms i).modes ≡ true
+
+abbrev pub IsAmong : List Key → Key → Type 0
+IsAmong ks key = list_any (mode_key key) ks ≡ true
+
+-- a truth value on the base clock, which names modes of these keys
+abbrev pub FlagFits : Instance → List Key → Labelled → Type 0
+FlagFits i ks l = Stands i (IsAmong ks) base l.value × (sort_of i l.value ≡ Flags)
+
+-- an import stands on the base clock at its number
+pub record IsImport (i : Instance) (k : ℕ) : Type 0 where
+  pub call : IsCall i (IsKnown i) k
+  pub clock : (site_of i k).clock ≡ base
+  pub outputs : List Name
+  pub manner : (site_of i k).manner ≡ as_import outputs
+
+-- an item of a contract, where modes of these keys stand before it
+abbrev pub StatementFits : Instance → List Key → ContractStatement → Type 0
+StatementFits i ks (assume l) = FlagFits i ks l
+StatementFits i ks (guarantee l) = FlagFits i ks l
+StatementFits i ks (ghost_variable x e) = Unit {0}
+StatementFits i ks (constant c) = Unit {0}
+StatementFits i ks (mode m rs es) = AllByRecursion (FlagFits i ks) rs × AllByRecursion (FlagFits i ks) es
+StatementFits i ks («import» k c as_ xs) = IsImport i k
+
+-- the keys of an item's modes; those of an import by way of its contract
+abbrev pub own_keys : Instance → ContractStatement → List Key
+own_keys i (mode m rs es) = ([], m.text) ∷ []
+own_keys i («import» k c as_ xs) = map (λ m. (c.text ∷ m.key.0, m.key.1)) (terms (call_instance i k)).modes
+own_keys i _ = []
+
+-- in text order: a mode can be named behind it
+abbrev pub StatementsFit : Instance → List Key → List ContractStatement → Type 0
+StatementsFit i ks [] = Unit {0}
+StatementsFit i ks (c ∷ cs) = StatementFits i ks c × StatementsFit i (ks ++ own_keys i c) cs
+
+-- ---- a declaration
+
+module _ (i : Instance) (ModeAt : Key → Type 0) where
   pub record OwnFits : Type 0 where
     -- each name is declared once
     pub once : AreDistinct (map (λ v. v.name.text) (variables (component_of i)))
-    pub contract : AllByRecursion ContractStatementFits (contract_statements (component_of i))
-    pub streams : AllByRecursion StreamFits (variables (component_of i))
-    pub equations : AllByRecursion EquationFits (equations (component_of i))
+    pub contract : StatementsFit i [] (contract_statements (component_of i))
+    pub streams : AllByRecursion (StreamFits i ModeAt) (variables (component_of i))
+    pub equations : AllByRecursion (EquationFits i ModeAt) (equations (component_of i))
     -- each first value is that of a memory
-    pub firsts : (j : ℕ) → j < length (first_sorts i) → (c : Clock) × (a : Expression) × IsMemory (suc j) c a
-    pub memories : AllByRecursion MemoryFits (memories (component_of i))
-    pub starts : AllByRecursion StartFits (starts (component_of i))
-    pub asserts : AllByRecursion (λ e. Stands base e × (sort_of i e ≡ Flags)) (assertions (component_of i).body)
-    pub body_properties : AllByRecursion (λ e. Stands base e × (sort_of i e ≡ Flags)) (checked (component_of i).body)
+    pub firsts : (j : ℕ) → j < length (first_sorts i) → (c : Clock) × (a : Expression) × IsMemory i ModeAt (suc j) c a
+    pub memories : AllByRecursion (MemoryFits i ModeAt) (memories (component_of i))
+    pub starts : AllByRecursion (StartFits i ModeAt) (starts (component_of i))
+    pub asserts : AllByRecursion (λ e. Stands i ModeAt base e × (sort_of i e ≡ Flags)) (assertions (component_of i).body)
+    pub body_properties : AllByRecursion (λ e. Stands i ModeAt base e × (sort_of i e ≡ Flags)) (checked (component_of i).body)
 
   -- ---- places
 
-  -- a variable of a frame's own, and its type
-  abbrev pub HasSpot : Spot → Sort → Type 0
-  HasSpot beat z = z ≡ Flags
-  HasSpot (named x) z = is_declared x × no_constant x × (sort_of_name i x ≡ z)
-  HasSpot (memory k) z = (c : Clock) × (a : Expression) × IsMemory k c a × (sort_of i a ≡ z)
-  HasSpot (starting k) z = (c : Clock) × IsStart k c × (z ≡ Flags)
-  HasSpot so_far z = (z ≡ Flags) × (is_some (component_of i).contract ≡ true)
-  HasSpot (held k x) z = (c : Clock) × (a : Expression) × (ds : Expressions) × IsHeldCall k c a ds
+  -- a variable of the own ones of a frame that runs in this manner, and its type
+  abbrev pub HasSpot : Manner → Spot → Sort → Type 0
+  HasSpot m beat z = z ≡ Flags
+  HasSpot m (named x) z = is_declared i ModeAt x × no_constant i ModeAt x × (sort_of_name i x ≡ z)
+  HasSpot m (memory k) z = (c : Clock) × (a : Expression) × IsMemory i ModeAt k c a × (sort_of i a ≡ z)
+  HasSpot m (starting k) z = (c : Clock) × IsStart i ModeAt k c × (z ≡ Flags)
+  HasSpot m so_far z = (z ≡ Flags) × (has_so_far m (component_of i) ≡ true)
+  HasSpot m (held k x) z = (c : Clock) × (a : Expression) × (ds : Expressions) × IsHeldCall i ModeAt k c a ds
       × (named_in x (outputs_of (call_instance i k)) ≡ true) × (sort_of_name (call_instance i k) x ≡ z)
 
 -- Modes says which modes each instance knows
 module _ (Modes : Instance → Key → Type 0) where
   -- and of the frames of its calls
+  abbrev pub HasPlaceIn : Manner → List ℕ → Instance → Spot → Sort → Type 0
+  HasPlaceIn m [] i p z = HasSpot i (Modes i) m p z
+  HasPlaceIn m (k ∷ ks) i p z = IsCall i (Modes i) k × HasPlaceIn (site_of i k).manner ks (call_instance i k) p z
+
+  -- of the analysed declaration
   abbrev pub HasPlace : List ℕ → Instance → Spot → Sort → Type 0
-  HasPlace [] i p z = HasSpot i (Modes i) p z
-  HasPlace (k ∷ ks) i p z = IsCall i (Modes i) k × HasPlace ks (call_instance i k) p z
+  HasPlace ks i p z = HasPlaceIn plain ks i p z
 
   -- how a call runs
   abbrev pub MannerFits : Instance → Clock → Manner → Instance → Type 0
@@ -232,8 +274,6 @@ module _ (Modes : Instance → Key → Type 0) where
     pub manner : MannerFits i c.clock c.manner k
     pub held : (a : Expression) → c.manner ≡ while_true a → (ds : Expressions)
         × IsHeldCall i (Modes i) (suc p) c.clock a ds
-    -- for now no import
-    pub no_import : (xs : List Name) → c.manner ≡ as_import xs → ⊥
     pub inputs : AllByRecursion (IsNameOn k (Modes k) base) (inputs_of k)
     pub input_sorts : map (sort_of_name k) (inputs_of k) ≡ map (λ v. v.sort) (component_of k).inputs
     pub outputs : AllByRecursion (IsNameOn k (Modes k) base) (outputs_of k)
