@@ -7,3 +7,5 @@ pub mod Tree
 pub mod OnePlace
 pub mod Spots
 pub mod Main
+pub mod Lines
+pub mod Traces

@@ -1,4 +1,4 @@
--- What a checked declaration without modes has at each place of its text: what is known of its expressions, and the clocks
+-- What a checked declaration has at each place of its text: what is known of its expressions, and the clocks
 -- of their places, which come to the base clock; so its memories, starts and calls fit.
 use Rattle.std.proofs.Common.{◌≡◌, ℕ, zero, suc, pred, ◌≤◌, Bool, true, false, List, [], ◌∷◌, ◌++◌, map, flat_map, length, Some, refl, sym, ap, ◌∙◌, subst}
 use Rattle.std.specs.Prelude.{Contains}

@@ -388,9 +388,11 @@ mutual
       (both_parts (Placed n i) (map (behind c.number) (tree_slots c.manner k)) (tree_calls i is)
       (all_mapped (Placed n i) (behind c.number) (tree_slots c.manner k)
       (all_from (Placed c.manner k) (λ s. Placed n i (behind c.number s))
-      (λ s h. subst (λ l. HasPlaceIn IsKnown n (l ∷ s.path) i (spot_of s.cell) s.sort) (sym t.0.number)
-      (t.0.call, subst (λ (z : Manner). HasPlaceIn IsKnown z s.path (instance_at (calls_of i) q) (spot_of s.cell) s.sort) (sym (ap (λ (z : Site). z.manner) (sites 0 q (omega arith))))
-      (subst (λ o. HasPlaceIn IsKnown c.manner s.path o (spot_of s.cell) s.sort) (sym same) h)))
+      (λ s h. subst (λ l. HasPlaceIn IsKnown n (l ∷ s.path) i (spot_of s.cell) s.sort) (sym t.0.number) (
+        t.0.call,
+        subst (λ (z : Manner). HasPlaceIn IsKnown z s.path (instance_at (calls_of i) q) (spot_of s.cell) s.sort) (sym (ap (λ (z : Site). z.manner) (sites 0 q (omega arith))))
+            (subst (λ o. HasPlaceIn IsKnown c.manner s.path o (spot_of s.cell) s.sort) (sym same) h),
+      ))
       (tree_slots c.manner k) below))
       (calls_placed n i is (suc q) t.2 (λ l j e. at (suc l) j (omega (arith, e))) (λ l j e. sites (suc l) j (omega (arith, e)))))
 

@@ -1,5 +1,5 @@
 -- The laws of the translation for checked programs.
-use Rattle.std.specs.Prelude.{Contains, []}
+use Rattle.std.specs.Prelude.{◌≡◌, Bool, true, List, []}
 use Rattle.std.specs.List.{AllByRecursion}
 use Rattle.lus_tree.specs.Tree.{ContractStatement, assume, guarantee, ghost_variable, constant, mode, «import», Component, Program}
 use Rattle.lus_meaning.specs.Scene.{Instance, Instances, instance, no_instances, with_instance, clock_from, contract_statements, variables}
@@ -7,10 +7,16 @@ use Rattle.lus_meaning.specs.Program.{instance_of}
 use Rattle.lus_meaning.specs.ClockFaults.{components}
 use Rattle.lus_meaning.specs.Refusals.{IsChecked}
 use Rattle.lus_meaning.specs.RuleLaws.{OfEach}
-use Rattle.sys_meaning.specs.System.{number_of}
+use Rattle.lus_tree.specs.declared.place.Sort.TheVariants.{Int as Numbers}
+use Rattle.lus_meaning.specs.Value.{whole}
+use Rattle.lus_meaning.specs.Fits.{is_of_sort}
+use Rattle.sys_terms.specs.declared.term.Entry.{Entry}
+use Rattle.sys_terms.specs.declared.term.Entry.TheVariants as entries
+use Rattle.sys_terms.specs.Paths.{IsPath}
+use Rattle.sys_meaning.specs.System.{number_of, system_of}
 use Rattle.sys_meaning.specs.Path.{TraceOfPath}
 use Rattle.sys_meaning.specs.WellTyped.{IsKnown, ClockFits, WellTyped}
-use Rattle.sys_meaning.specs.Checked.{HoldsWhereReachable, HoldsWhereBounded, BreaksAtLast}
+use Rattle.sys_meaning.specs.Checked.{HasTrace, HoldsWhereReachable, HoldsWhereBounded, BreaksAtLast}
 use Rattle.sys_meaning.specs.Law.{TreeDistinct, RunsArePaths, LemmaLaw, PropertyLaw}
 
 -- the clocks of a declaration's streams come to the base clock
@@ -56,3 +62,18 @@ EachBounds = OfEachInstance HoldsWhereBounded
 -- a path that breaks the property of a number breaks it by its frame, at the last instant
 abbrev pub EachBreaks : Type 0
 EachBreaks = OfEachInstance BreaksAtLast
+
+-- ---- traces that fit
+
+-- every number of the states is one that a trace may list, of a size of at most 2^63 - 1
+abbrev pub is_small_entry : Entry → Bool
+is_small_entry (entries.Flag b) = true
+is_small_entry (entries.Number z) = is_of_sort Numbers (whole z)
+
+abbrev pub HasSmallNumbers : List (List Entry) → Type 0
+HasSmallNumbers states = AllByRecursion (λ s. AllByRecursion (λ e. is_small_entry e ≡ true) s) states
+
+-- then the trace of a path fits, the path's frame is its frame, and it has no other
+abbrev pub EachHasTraces : Type 0
+EachHasTraces =
+    OfEachInstance (λ i. (states : List (List Entry)) → IsPath (system_of i) states → HasSmallNumbers states → HasTrace i states)

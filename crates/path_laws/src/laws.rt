@@ -1,6 +1,6 @@
 //! The laws of the translation for checked programs.
 
-ghost use Rattle.path_laws.specs.Laws.{ClockChainsEnd, EachBounds, EachBreaks, EachHolds};
+ghost use Rattle.path_laws.specs.Laws.{ClockChainsEnd, EachBounds, EachBreaks, EachHasTraces, EachHolds};
 ghost use Rattle.path_laws.specs.Laws.{EachIsWellTyped, EachLemmas, EachProperties, EachRunsArePaths, EachTraces};
 
 /// In a checked program the clock of each stream of a declaration is the base clock, or a flag says it whose clock is
@@ -36,4 +36,10 @@ pub fn each_verdicts()
     ensures valid { EachHolds }
     ensures bounded { EachBounds }
     ensures broken { EachBreaks }
+{}
+
+/// The trace of a path whose numbers are of sizes of at most 2^63 - 1 fits the program, the path's frame is its frame,
+/// and it has no other.
+pub fn each_has_traces()
+    ensures { EachHasTraces }
 {}

@@ -250,7 +250,7 @@ free_part P d (v ∷ vs) a = go (is_defined d v.name.text) (free_part P d vs a.1
     go true r = r
     go false r = (a.0, r)
 
-input_given : (n : ℕ) (f : Frame) (vs : List Variable) →
+pub input_given : (n : ℕ) (f : Frame) (vs : List Variable) →
     AllByRecursion (λ v. is_listed (name_lines [] n f vs) [] (of_name v.name.text) ≡ true) vs
 input_given n f [] = tt
 input_given n f (v ∷ vs) = (

@@ -480,8 +480,11 @@ module _ (at : Place → ℕ) (now next : Values) (b : Instants) (f : Frame) (t 
         let later = terms_more (ks ++ []) ms cs w.1 in
         let later_items = items_more (ks ++ []) qs cs w.1 in
         record {
-          assumes = (says_same ks ms qs
-              record { same = a; keys = k; more = later.0; all = e ∙ later.1; more_items = later_items.0; all_items = d ∙ later_items.1 } l w.0, r.assumes);
+          assumes = (
+            says_same ks ms qs
+                record { same = a; keys = k; more = later.0; all = e ∙ later.1; more_items = later_items.0; all_items = d ∙ later_items.1 } l w.0,
+            r.assumes,
+          );
           guarantees = r.guarantees;
           modes = r.modes;
         }
@@ -492,8 +495,11 @@ module _ (at : Place → ℕ) (now next : Values) (b : Instants) (f : Frame) (t 
         let later_items = items_more (ks ++ []) qs cs w.1 in
         record {
           assumes = r.assumes;
-          guarantees = (says_same ks ms qs
-              record { same = a; keys = k; more = later.0; all = e ∙ later.1; more_items = later_items.0; all_items = d ∙ later_items.1 } l w.0, r.guarantees);
+          guarantees = (
+            says_same ks ms qs
+                record { same = a; keys = k; more = later.0; all = e ∙ later.1; more_items = later_items.0; all_items = d ∙ later_items.1 } l w.0,
+            r.guarantees,
+          );
           modes = r.modes;
         }
     after_same below ks ms qs (ghost_variable x v ∷ cs) w a k e d = after_same below (ks ++ []) ms qs cs w.1 a (k ∙ sym (none_more ks)) e d
@@ -543,9 +549,11 @@ module _ (at : Place → ℕ) (now next : Values) (b : Instants) (f : Frame) (t 
           (slice_index_or (items_each written is) (pred k) no_items)
       below k h =
           let same = terms_called (instance d cs is) k h.call.counted h.call.listed in
-          let items = items_called (instance d cs is) k h.call.counted h.call.listed in
-          (same, subst (λ r. SameTerms (below_call k at) now next b (call_frame f k) t r (slice_index_or (items_each written is) (pred k) no_items)) (sym same)
-          (subst (λ q. SameTerms (below_call k at) now next b (call_frame f k) t (terms (call_instance (instance d cs is) k)) q) (sym items) (imports k h)))
+          let items = items_called (instance d cs is) k h.call.counted h.call.listed in (
+            same,
+            subst (λ r. SameTerms (below_call k at) now next b (call_frame f k) t r (slice_index_or (items_each written is) (pred k) no_items)) (sym same)
+                (subst (λ q. SameTerms (below_call k at) now next b (call_frame f k) t (terms (call_instance (instance d cs is) k)) q) (sym items) (imports k h)),
+          )
 
   -- a mode is worth what its formula says
   pub modes_agreed : (i : Instance) → OwnFits i (IsKnown i) → (sh : IsShownBy i) → ImportsSame i →
@@ -683,8 +691,6 @@ module _ (now next next' : Values) where
         ≡ list_all (λ z. truth_of now next' z) (map (λ w. w at) (map (λ r. written.says i (known qs) r.value) rs))
     all_timeless ks qs a [] w = refl
     all_timeless ks qs a (r ∷ rs) w = rw (says_timeless ks qs a r w.0, all_timeless ks qs a rs w.1) refl
-
-
 
   through_timeless : (at : Place → ℕ) (k : ℕ) (x : Name) (qs : List (ModeItem Written)) → AllTimeless (below_call k at) qs →
       AllTimeless at (map (imported_item written k x) qs)

@@ -156,7 +156,7 @@ module _ (Modes : Instance → Key → Type 0) (contracts : Contracts Modes) (c 
         (frames_later p (calls_in f) ∙ ap later_frames d) r.2 w.2 in
         rw (one, rest) refl
 
--- ---- paths without imports
+-- ---- paths
 
 -- the state of an instant is the one listed there
 pub state_listed : (i : Instance) (f : Frame) (n t u : ℕ) → u < n →

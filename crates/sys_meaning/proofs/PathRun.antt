@@ -1,4 +1,4 @@
--- For declarations without imports: each path is the states of a run, its frame.
+-- Each path is the states of a run, its frame.
 use Rattle.std.proofs.Common.{◌≡◌, ℕ, zero, suc, ◌<◌, Bool, true, false, ◌||◌, List, [], ◌∷◌, length, refl, ap, ◌∙◌, sym, arith, All, get_or}
 use Rattle.std.specs.List.{AllByRecursion}
 use Rattle.std.proofs.Common.{None}

@@ -1,4 +1,4 @@
--- For declarations without imports: the states of a path's frame are the path, and it is lawful.
+-- The states of a path's frame are the path, and it is lawful.
 use Rattle.std.proofs.Common.{◌≡◌, ℕ, zero, suc, pred, ◌<◌, ◌+◌, true, List, [], ◌∷◌, map, length, refl, ap, ◌∙◌, sym, arith, Some, is_some, slice_get, get_or}
 use Rattle.std.specs.List.{AllByRecursion}
 use Rattle.std.proofs.lemmas.Bool.{false≢true}

@@ -120,7 +120,7 @@ module _ (Modes : Instance → Key → Type 0) (contracts : Contracts Modes) (i 
     };
     first = positioned (λ z. truth_of (c 0) (c 0) z ≡ true) (system_of i).first
         (first_true Modes contracts c n so_far (omega arith) plain i (number_of i) throughout f run typed.tree reads
-            (state_flag Modes i typed f n));
+        (state_flag Modes i typed f n));
   }
     where
       is_some_list : List (List Entry) → Bool

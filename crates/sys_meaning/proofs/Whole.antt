@@ -172,22 +172,21 @@ module _ (c : Course) (n : ℕ) (m : Manner) (i : Instance) (at : Place → ℕ)
           true_all (c t) (c (suc t)) (cond o (becomes (stage i at) Flags so_far (a_flag (so_far_then i at))
           ∷ []) [])
       go false e = tt
-      go true e =
-          (
-            becomes_made (c t) (c (suc t)) (stage i at) Flags so_far (a_flag (so_far_then i at)) refl
-                (ap flag (flags e (suc t) h
-                ∙ sym (kept_on (kept_so_far i b f t) (b t) (truth_of (c t) (c (suc t)) (all_of (assumed i at)))
-                (list_all (λ p. equals true (p.test b f t)) (terms i).assumes)
-                (λ o. all_of_true (c t) (c (suc t)) (assumed i at)
-                ∙ assumed_all at (c t) (c (suc t)) b f t i (own_fits IsKnown i fits) shown
-                (imports_forward i at c n b f run reads fits t now (c (suc t))) o))
-                ∙ ap (λ a. a && not (b t && not (truth_of (c t) (c (suc t)) (all_of (assumed i at)))))
-                (sym (flags e t now))
-                ∙ ap (λ o. (c t).flag_at (at (own so_far)) && not (o && not (truth_of (c t) (c (suc t)) (all_of
-                (assumed i at))))) (sym (flags_same ((c t).flag_at (at (own beat))) (b t)
-                (reads t now [] beat Flags refl refl))))),
-            tt,
-          )
+      go true e = (
+        becomes_made (c t) (c (suc t)) (stage i at) Flags so_far (a_flag (so_far_then i at)) refl
+            (ap flag (flags e (suc t) h
+            ∙ sym (kept_on (kept_so_far i b f t) (b t) (truth_of (c t) (c (suc t)) (all_of (assumed i at)))
+            (list_all (λ p. equals true (p.test b f t)) (terms i).assumes)
+            (λ o. all_of_true (c t) (c (suc t)) (assumed i at)
+            ∙ assumed_all at (c t) (c (suc t)) b f t i (own_fits IsKnown i fits) shown
+            (imports_forward i at c n b f run reads fits t now (c (suc t))) o))
+            ∙ ap (λ a. a && not (b t && not (truth_of (c t) (c (suc t)) (all_of (assumed i at)))))
+            (sym (flags e t now))
+            ∙ ap (λ o. (c t).flag_at (at (own so_far)) && not (o && not (truth_of (c t) (c (suc t)) (all_of
+            (assumed i at))))) (sym (flags_same ((c t).flag_at (at (own beat))) (b t)
+            (reads t now [] beat Flags refl refl))))),
+        tt,
+      )
 
   flag_first : 0 < n → true_all (c 0) (c 0) (so_far_first (stage i at) m)
   flag_first h = go (has_so_far m (component_of i)) refl

@@ -75,7 +75,7 @@ PropertyLaw i = (k : ℕ) (p : Property) (q : Formula) → slice_get (properties
 
 -- ---- for the first direction
 
--- the states of a run up to a lawful instant are a path, for a declaration without imports
+-- the states of a run up to a lawful instant are a path
 abbrev pub RunsToPaths : Type 0
 RunsToPaths = (i : Instance) → WellTyped IsKnown i → (n : ℕ) (f : Frame) (t : ℕ) → IsRun i n throughout f →
     t < n → IsLawful i throughout f t → IsPath (system_of i) (states_of i f (suc t))
@@ -106,8 +106,7 @@ abbrev mutual
   CallsDistinct (with_instance a k is) g = TreeDistinct k (below_call a.number g.number) (from_call g a k)
       × CallsDistinct is g
 
--- the frame of a path is a run of as many instants, lawful at the last, and its states are the path; no other run is;
--- for a declaration without imports
+-- the frame of a path is a run of as many instants, lawful at the last, and its states are the path; no other run is
 abbrev pub PathsToRuns : Type 0
 PathsToRuns = (i : Instance) → WellTyped IsKnown i → TreeDistinct i (number_of i) [] →
     (states : List (List Entry)) → IsPath (system_of i) states →
@@ -116,7 +115,7 @@ PathsToRuns = (i : Instance) → WellTyped IsKnown i → TreeDistinct i (number_
 
 -- ---- together
 
--- runs are paths, and each path is that of one run, for a declaration without imports
+-- runs are paths, and each path is that of one run
 abbrev pub RunsArePathsLaw : Type 0
 RunsArePathsLaw = (i : Instance) → WellTyped IsKnown i → TreeDistinct i (number_of i) [] → RunsArePaths i
 

@@ -2,15 +2,14 @@
 
 ghost use Rattle.sys_meaning.specs.Law.{PathsToRuns, RunsArePathsLaw, RunsToPaths, TracesOfPaths, TruthsInRuns, WhatFollows};
 
-/// The states of a run up to a lawful instant are a path of its declaration's system. The declaration and those that
-/// it reaches have no mode and no import in their contracts.
+/// The states of a run up to a lawful instant are a path of its declaration's system, where its text and those of all
+/// that it calls and imports have their types and clocks.
 pub fn runs_to_paths()
     ensures { RunsToPaths }
 {}
 
 /// The frame of a path is a run of as many instants as the path has states, it is lawful at the last, its states are the
-/// path, and no other run is such. The declaration and those that it reaches have no mode and no import in their
-/// contracts.
+/// path, and no other run is such.
 pub fn paths_to_runs()
     ensures { PathsToRuns }
 {}
@@ -20,8 +19,7 @@ pub fn truths_in_runs()
     ensures { TruthsInRuns }
 {}
 
-/// Runs are paths, each path is that of one run, and properties have the truth of their formulas. The declaration and
-/// those that it reaches have no mode and no import in their contracts.
+/// Runs are paths, each path is that of one run, and properties have the truth of their formulas.
 pub fn runs_are_paths()
     ensures { RunsArePathsLaw }
 {}
@@ -33,8 +31,7 @@ pub fn what_follows()
     ensures { WhatFollows }
 {}
 
-/// The trace of a path has the path's frame. The declaration and those that it reaches have no mode and no import in
-/// their contracts.
+/// The trace of a path has the path's frame.
 pub fn traces_of_paths()
     ensures { TracesOfPaths }
 {}
