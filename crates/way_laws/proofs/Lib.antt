@@ -13,3 +13,4 @@ pub mod Orders
 pub mod Circles
 pub mod Callees
 pub mod Rounds
+pub mod Nodes

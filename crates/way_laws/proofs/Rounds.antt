@@ -1,11 +1,11 @@
 -- A name that leads to itself in its own graph passes a left name of an equation that does, or goes along clocks alone.
-use Rattle.std.proofs.Common.{option_map, ◌≡◌, ℕ, Bool, true, false, cond, not, ◌||◌, List, [], ◌∷◌, ◌++◌, map, flat_map, refl, sym, ap, ◌∙◌, subst, Option, Some, None}
-use Rattle.std.specs.Prelude.{Contains, filter, find, unwrap_or}
+use Rattle.std.proofs.Common.{option_map, ◌≡◌, Bool, true, false, cond, not, ◌||◌, List, [], ◌∷◌, ◌++◌, map, flat_map, refl, sym, ap, ◌∙◌, subst, None}
+use Rattle.std.specs.Prelude.{filter, unwrap_or}
 use Rattle.std.specs.Str.{bytes_eq}
 use Rattle.std.proofs.Math.Logic.{◌⊎◌, inl, inr}
 use Rattle.std.proofs.lemmas.Bool.{false≢true}
 use Rattle.lus_tree.specs.Reason.{Refused, cycle}
-use Rattle.lus_tree.specs.Tree.{Name, text_of, Spelled, Variable, Statement, equation, assertion, property, main_mark, ContractStatement, assume, guarantee, ghost_variable, constant, mode, «import», Component, Program}
+use Rattle.lus_tree.specs.Tree.{Name, text_of, Spelled, Variable, Statement, equation, assertion, property, main_mark, ContractStatement, assume, guarantee, ghost_variable, constant, mode, «import», Component}
 use Rattle.lus_meaning.specs.Scene.{clock_from, clock_of, contract_statements, variables}
 use Rattle.lus_meaning.specs.Run.{Equation, equations, ghost_equations, body_equations}
 use Rattle.lus_meaning.specs.Depends.{named_in, left_names}
@@ -252,14 +252,17 @@ module _ (n : Component) (g : Summaries) (distinct : AreDistinct (names_in (vari
     where
       go : (ss : List Spelled) → IsIn ss (sides n) → named_in w (map text_of ss) ≡ true → (r : Refused) × IsOwnCircle n g r
       go [] t e = absurd (false≢true e)
-      go (v ∷ vs) t e = (fault cycle v.at, of_equation v vs (in_contains (v ∷ vs) (sides n) t) record {
-        start = l.start;
-        starts = subst (λ q. named_in q (map text_of (v ∷ vs)) ≡ true) (sym (one_named l.start w l.starts)) e;
-        first = l.first;
-        rest = l.rest;
-        way = l.way;
-        finishes = subst (λ q. named_in q (map text_of (v ∷ vs)) ≡ true) (sym (one_named (last_name l.first l.rest) w l.finishes)) e;
-      } refl)
+      go (v ∷ vs) t e = (
+        fault cycle v.at,
+        of_equation v vs (in_contains (v ∷ vs) (sides n) t) record {
+          start = l.start;
+          starts = subst (λ q. named_in q (map text_of (v ∷ vs)) ≡ true) (sym (one_named l.start w l.starts)) e;
+          first = l.first;
+          rest = l.rest;
+          way = l.way;
+          finishes = subst (λ q. named_in q (map text_of (v ∷ vs)) ≡ true) (sym (one_named (last_name l.first l.rest) w l.finishes)) e;
+        } refl,
+      )
 
   some_fault : (x : Name) → LeadsTo edges (x ∷ []) (x ∷ []) → (r : Refused) × IsOwnCircle n g r
   some_fault x l = go (named_in x (left_names n)) refl

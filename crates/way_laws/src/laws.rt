@@ -4,8 +4,11 @@ ghost use Rattle.way_laws.specs.Laws.{
   AllSummariesExact,
   CalleesLower,
   CirclesAreOwn,
+  EquationsByNodes,
+  NamesByNodes,
   NamesInCircles,
   OrdersAreOwn,
+  OrdersByNodes,
   OrdersBySteps,
   SummariesExact,
   WaysAreOwn,
@@ -41,4 +44,14 @@ pub fn circles_and_orders()
 /// the other way round; so it is of the least order.
 pub fn orders_by_steps()
     ensures { OrdersBySteps }
+{}
+
+/// With a node for each equation beside those of the names, each equation's reads are listed once: a name leads to its
+/// clock's name and to the equation that defines it, and an equation to what it reads. The ways between names are then
+/// those of the own graph. Where left names have no fault, so are those between equations, and the least order of the
+/// equations is the one by them.
+pub fn names_and_equations()
+    ensures names { NamesByNodes }
+    ensures equations { EquationsByNodes }
+    ensures orders { OrdersByNodes }
 {}
