@@ -1,5 +1,5 @@
 -- Ways by names and equations are those by names alone.
-use Rattle.std.proofs.Common.{◌≡◌, ◌↔◌, ℕ, zero, suc, Bool, true, false, cond, ◌&&◌, ◌||◌, List, [], ◌∷◌, ◌++◌, map, flat_map, length, refl, sym, ap, ◌∙◌, subst}
+use Rattle.std.proofs.Common.{◌≡◌, ◌↔◌, ℕ, zero, suc, Bool, true, false, cond, ◌||◌, List, [], ◌∷◌, ◌++◌, map, flat_map, length, refl, sym, ap, ◌∙◌, subst}
 use Rattle.std.specs.Prelude.{get_or}
 use Rattle.std.specs.List.{AllByRecursion, list_all}
 use Rattle.std.specs.Str.{bytes_eq}
@@ -30,16 +30,7 @@ use Rattle.way_laws.specs.Laws.{NamesByNodes, EquationsByNodes, OrdersByNodes}
 use Rattle.way_laws.proofs.Arguments.{kept_so, kept_here, kept_left, kept_later}
 use Rattle.way_laws.proofs.Orders.{same_orders}
 use Rattle.way_laws.proofs.Ways.{ways_are_own}
-
-itself : (x : Name) → named_in x (x ∷ []) ≡ true
-itself x = or_left (bytes_eq x x) false (self_bytes x)
-
-one_named : (x y : Name) → named_in x (y ∷ []) ≡ true → x ≡ y
-one_named x y e = go (bytes_eq x y) refl e
-  where
-    go : (b : Bool) → bytes_eq x y ≡ b → (b || false) ≡ true → x ≡ y
-    go true h e = same_bytes x y h
-    go false h e = absurd (false≢true e)
+use Rattle.way_laws.proofs.Lists.{itself, one_named}
 
 -- ---- equations that define a name
 
@@ -278,10 +269,6 @@ module _ (n : Component) (g : Summaries) where
   ghosts_have (constant c ∷ cs) = ghosts_have cs
   ghosts_have (mode m rs es ∷ cs) = ghosts_have cs
   ghosts_have («import» k c as_ xs ∷ cs) = ghosts_have cs
-
-  both_true : (a b : Bool) → (a && b) ≡ true → (a ≡ true) × (b ≡ true)
-  both_true true b e = (refl, e)
-  both_true false b e = absurd (false≢true e)
 
   body_have : (ss : List Statement) → list_all has_left_name ss ≡ true → AllByRecursion (λ e. HasLeft e.names) (body_equations ss)
   body_have [] h = tt

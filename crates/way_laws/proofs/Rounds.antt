@@ -24,6 +24,7 @@ use Rattle.way_laws.specs.Laws.{NamesInCircles}
 use Rattle.way_laws.proofs.Steps.{in_contains}
 use Rattle.way_laws.proofs.Arguments.{kept_so}
 use Rattle.way_laws.proofs.Declarations.{names_in, find_distinct}
+use Rattle.way_laws.proofs.Lists.{itself, one_named}
 
 -- ---- ways
 
@@ -34,16 +35,6 @@ ways_joined edges x (y ∷ ys) zs w v = (w.0, ways_joined edges y ys zs w.1 v)
 last_joined : (x : Name) (ys zs : List Name) → last_name x (ys ++ zs) ≡ last_name (last_name x ys) zs
 last_joined x [] zs = refl
 last_joined x (y ∷ ys) zs = last_joined y ys zs
-
-itself : (x : Name) → named_in x (x ∷ []) ≡ true
-itself x = or_left (bytes_eq x x) false (self_bytes x)
-
-one_named : (x y : Name) → named_in x (y ∷ []) ≡ true → x ≡ y
-one_named x y e = go (bytes_eq x y) refl e
-  where
-    go : (b : Bool) → bytes_eq x y ≡ b → (b || false) ≡ true → x ≡ y
-    go true h e = same_bytes x y h
-    go false h e = absurd (false≢true e)
 
 -- ---- what a name reads
 
