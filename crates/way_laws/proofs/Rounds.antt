@@ -14,7 +14,8 @@ use Rattle.lus_meaning.specs.Faults.{fault}
 use Rattle.lus_meaning.specs.WellMade.{AreDistinct}
 use Rattle.lus_meaning.proofs.BooleanOrder.{IsIn, in_left, in_right, named_either}
 use Rattle.lus_meaning.proofs.Exists.{self_bytes}
-use Rattle.lus_meaning.proofs.Lists.{named_append, or_left}
+use Rattle.lus_meaning.proofs.Lists.{named_append, or_left, or_true}
+use Rattle.lus_meaning.proofs.NamesOnce.{not_nil}
 use Rattle.lus_meaning.proofs.Unique.{same_bytes}
 use Rattle.clock_laws.proofs.OrderLaws.{names_distinct}
 use Rattle.clock_laws.proofs.Reaching.{in_either}
@@ -74,16 +75,12 @@ defined_left n g x y [] e = absurd (false≢true e)
 defined_left n g x y (q ∷ es) e = go (named_either y (cond (named_in x q.names) (equation_reads n g q) []) (defined_reads n g x es) e)
     (defined_left n g x y es)
   where
-    right : (a b : Bool) → b ≡ true → (a || b) ≡ true
-    right true b h = refl
-    right false b h = h
-
     go : (named_in y (cond (named_in x q.names) (equation_reads n g q) []) ≡ true) ⊎ (named_in y (defined_reads n g x es) ≡ true)
         → (named_in y (defined_reads n g x es) ≡ true → named_in x (flat_map (λ e. e.names) es) ≡ true)
         → named_in x (q.names ++ flat_map (λ e. e.names) es) ≡ true
     go (inl h) f = named_append x q.names (flat_map (λ e. e.names) es) ∙ or_left (named_in x q.names) _
         (kept_so (named_in x q.names) y (equation_reads n g q) h).0
-    go (inr h) f = named_append x q.names (flat_map (λ e. e.names) es) ∙ right (named_in x q.names) _ (f h)
+    go (inr h) f = named_append x q.names (flat_map (λ e. e.names) es) ∙ or_true (named_in x q.names) _ (f h)
 
 -- ---- left names
 
@@ -159,11 +156,7 @@ module _ (n : Component) (g : Summaries) (distinct : AreDistinct (names_in (vari
           (find_distinct d.variable (variables n) d.there distinct)
 
       later : (b : Bool) (z : Name) (zs : List Name) → named_in y zs ≡ true → named_in y (cond b (z ∷ zs) zs) ≡ true
-      later true z zs h = right (bytes_eq y z) (named_in y zs) h
-        where
-          right : (a b : Bool) → b ≡ true → (a || b) ≡ true
-          right true b h = refl
-          right false b h = h
+      later true z zs h = or_true (bytes_eq y z) (named_in y zs) h
       later false z zs h = h
 
       first : (z : Name) (zs : List Name) → y ≡ z → named_in y (cond (not (named_in z (left_names n))) (z ∷ zs) zs) ≡ true
@@ -212,21 +205,9 @@ module _ (n : Component) (g : Summaries) (distinct : AreDistinct (names_in (vari
       }
 
       not_none : (as_ bs : List Name) → as_ ++ (bs ++ y ∷ []) ≡ [] → ⊥
-      not_none [] [] h = false≢true (sym (ap is_cons h))
-        where
-          is_cons : List Name → Bool
-          is_cons [] = false
-          is_cons (q ∷ qs) = true
-      not_none [] (b ∷ bs) h = false≢true (sym (ap is_cons h))
-        where
-          is_cons : List Name → Bool
-          is_cons [] = false
-          is_cons (q ∷ qs) = true
-      not_none (a ∷ as_) bs h = false≢true (sym (ap is_cons h))
-        where
-          is_cons : List Name → Bool
-          is_cons [] = false
-          is_cons (q ∷ qs) = true
+      not_none [] [] h = not_nil y [] h
+      not_none [] (b ∷ bs) h = not_nil b (bs ++ y ∷ []) h
+      not_none (a ∷ as_) bs h = not_nil a (as_ ++ (bs ++ y ∷ [])) h
 
       further : named_in y (left_names n) ≡ false → Round y ys → Round z (y ∷ ys)
       further h (by_left u t c) = by_left u t c
