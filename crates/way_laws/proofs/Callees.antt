@@ -11,7 +11,7 @@ use Rattle.lus_meaning.specs.ClockFaults.{components}
 use Rattle.lus_meaning.specs.Grammatical.{IsGrammatical}
 use Rattle.lus_meaning.specs.Refusals.{IsTyped}
 use Rattle.lus_meaning.proofs.NamesOnce.{at_one}
-use Rattle.rule_laws.specs.Laws.{IsUnfolded, AreUnfolded}
+use Rattle.rule_laws.specs.Laws.{AreUnfolded}
 use Rattle.rule_laws.proofs.Callees.{GoesDown, each_site}
 use Rattle.rule_laws.proofs.Covered.{found_declared, same_instance}
 use Rattle.rule_laws.proofs.Unfolded.{component_within}
@@ -19,6 +19,7 @@ use Rattle.way_laws.specs.OwnGraph.{Summaries}
 use Rattle.way_laws.specs.Summaries.{IsSummary, IsExact, CalleesExact}
 use Rattle.way_laws.specs.Laws.{GoesLower, CalleesLower, AllSummariesExact}
 use Rattle.way_laws.proofs.Unfolded.{typed_unfolded}
+use Rattle.way_laws.proofs.Placed.{calls_unfolded}
 use Rattle.way_laws.proofs.Ways.{summaries_exact}
 
 -- how many levels an instance has
@@ -29,9 +30,6 @@ abbrev mutual
   pub most_levels : Instances → ℕ
   most_levels no_instances = 0
   most_levels (with_instance s i is) = max (levels i) (most_levels is)
-
-calls_unfolded : (p : Program) (i : Instance) (n : Component) → component_of i ≡ n → IsUnfolded p i → AreUnfolded p (all_sites n) (calls_of i)
-calls_unfolded p (instance m cs is) n e u = subst (λ k. AreUnfolded p (all_sites k) is) e u.1
 
 module _ (p : Program) (typed : IsTyped p) where
   -- the instance of a site is that of its callee, and has fewer levels

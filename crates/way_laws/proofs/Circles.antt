@@ -1,7 +1,6 @@
 -- Circles by own graphs: of equations, and of clocks.
-use Rattle.std.proofs.Common.{◌≡◌, ◌↔◌, Bool, true, false, cond, not, ◌||◌, List, [], ◌∷◌, map, length, refl, sym, ap, subst}
+use Rattle.std.proofs.Common.{◌≡◌, ◌↔◌, Bool, true, false, cond, not, List, [], ◌∷◌, map, length, refl, sym, ap, subst}
 use Rattle.std.specs.Prelude.{Contains, filter}
-use Rattle.std.specs.Str.{bytes_eq}
 use Rattle.std.proofs.lemmas.Bool.{false≢true}
 use Rattle.lus_tree.specs.Tree.{Name, text_of, Variable, Component}
 use Rattle.lus_meaning.specs.Scene.{Clock, base, sampled_by, clock_of, variables}
@@ -10,24 +9,12 @@ use Rattle.lus_meaning.specs.Run.{equations}
 use Rattle.lus_meaning.specs.Depends.{named_in, left_names}
 use Rattle.lus_meaning.specs.Order.{left_at, NeedsEquation}
 use Rattle.lus_meaning.specs.EquationFaults.{clock_names, IsClockChain, last_name, IsOnClockCircle, IsCircleFault, of_equation, of_clocks}
-use Rattle.lus_meaning.proofs.Exists.{self_bytes}
-use Rattle.lus_meaning.proofs.Lists.{or_left}
-use Rattle.lus_meaning.proofs.Unique.{same_bytes}
 use Rattle.way_laws.specs.OwnGraph.{IsOwnWay, LeadsTo}
 use Rattle.way_laws.specs.Circles.{free_clock, IsOwnCircle, of_equation as own_equation, of_clocks as own_clocks, OwnNeeds}
 use Rattle.way_laws.specs.Laws.{CirclesAreOwn, OrdersAreOwn}
 use Rattle.way_laws.proofs.Ways.{ways_are_own}
 use Rattle.way_laws.proofs.Orders.{same_orders}
-
-one_named : (x y : Name) → named_in x (y ∷ []) ≡ true → x ≡ y
-one_named x y e = go (bytes_eq x y) refl e
-  where
-    go : (b : Bool) → bytes_eq x y ≡ b → (b || false) ≡ true → x ≡ y
-    go true h e = same_bytes x y h
-    go false h e = absurd (false≢true e)
-
-itself : (x : Name) → named_in x (x ∷ []) ≡ true
-itself x = or_left (bytes_eq x x) false (self_bytes x)
+use Rattle.way_laws.proofs.Lists.{itself, one_named}
 
 module _ (n : Component) where
   abbrev is_free : Name → Bool

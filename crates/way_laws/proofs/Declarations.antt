@@ -1,9 +1,9 @@
 -- What a name of a declaration reads in the own graph stands for what it needs in the tree.
-use Rattle.std.proofs.Common.{option_map, ◌≡◌, ℕ, Bool, true, false, cond, ◌&&◌, List, [], ◌∷◌, ◌++◌, map, flat_map, refl, sym, ap, ◌∙◌, subst, Option, Some, None}
+use Rattle.std.proofs.Common.{option_map, ◌≡◌, ℕ, Bool, true, false, cond, List, [], ◌∷◌, ◌++◌, map, flat_map, refl, sym, ap, ◌∙◌, subst, Option, Some, None}
 use Rattle.std.specs.Prelude.{Contains, find, is_none, unwrap_or}
 use Rattle.std.specs.List.{AllByRecursion, list_all}
 use Rattle.std.specs.Str.{bytes_eq}
-use Rattle.std.proofs.Math.Logic.{◌⊎◌, inl, inr}
+use Rattle.std.proofs.Math.Logic.{inl, inr}
 use Rattle.std.proofs.lemmas.Bool.{false≢true}
 use Rattle.lus_tree.specs.Reason.{name_twice}
 use Rattle.lus_tree.specs.Tree.{Name, Spelled, text_of, Expression, Variable, Statement, equation, assertion, property, main_mark, ContractStatement, assume, guarantee, ghost_variable, constant, mode, «import», Component, Program}
@@ -42,6 +42,7 @@ use Rattle.way_laws.proofs.Placed.{SitePlaced, calls_placed, imports_placed, rea
 use Rattle.way_laws.proofs.Keys.{GoodKey, good_fits, Known, known_none}
 use Rattle.way_laws.proofs.Texts.{CallsPlaced, EachPlaced, Knows, text_ready, known_good, key_of}
 use Rattle.way_laws.proofs.Walk.{all_modes, GhostFits, Walked, walk}
+use Rattle.way_laws.proofs.Lists.{all_true, both_true}
 
 -- ---- faults that are not there
 
@@ -66,16 +67,6 @@ right_declaration p n (k, e) =
 each_of : {A : Type 0} (P : A → Type 0) (xs : List A) → ((x : A) → IsIn x xs → P x) → AllByRecursion P xs
 each_of P [] f = tt
 each_of P (x ∷ xs) f = (f x (inl refl), each_of P xs (λ y h. f y (inr h)))
-
-all_true : {A : Type 0} (test : A → Bool) (x : A) (xs : List A) → list_all test xs ≡ true → IsIn x xs → test x ≡ true
-all_true test x [] e h = absurd h
-all_true test x (y ∷ xs) e h = go (test y) refl e h (all_true test x xs)
-  where
-    go : (b : Bool) → test y ≡ b → (b && list_all test xs) ≡ true → (x ≡ y) ⊎ IsIn x xs → (list_all test xs ≡ true → IsIn x xs → test x ≡ true)
-        → test x ≡ true
-    go true k e (inl s) f = subst (λ z. test z ≡ true) (sym s) k
-    go true k e (inr h) f = f e h
-    go false k e h f = absurd (false≢true e)
 
 abbrev pub names_in : List Variable → List Name
 names_in vs = map (λ v. v.name.text) vs
@@ -194,10 +185,6 @@ module _ (p : Program) (grammatical : IsGrammatical p) (typed : IsTyped p) (i : 
   top_fits : (xs : List Spelled) (e : Expression) → has_left_name (equation xs e) ≡ true → sides_fit scope xs e ≡ [] → TopFits p e
   top_fits [] e h f = absurd (false≢true h)
   top_fits (x ∷ xs) e h f = side_top scope x xs e f
-
-  both_true : (a b : Bool) → (a && b) ≡ true → (a ≡ true) × (b ≡ true)
-  both_true true b e = (refl, e)
-  both_true false b e = absurd (false≢true e)
 
   body_fits : (ss : List Statement) → flat_map (statement_faults scope) ss ≡ [] → AllByRecursion Placed (flat_map (statement_texts here) ss)
       → list_all has_left_name ss ≡ true → AllByRecursion EquationFits (body_equations ss)

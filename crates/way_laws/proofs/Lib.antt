@@ -1,3 +1,4 @@
+pub mod Lists
 pub mod Steps
 pub mod Crossing
 pub mod Arguments
@@ -13,3 +14,4 @@ pub mod Orders
 pub mod Circles
 pub mod Callees
 pub mod Rounds
+pub mod Nodes

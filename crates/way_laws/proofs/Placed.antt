@@ -1,10 +1,10 @@
 -- Call occurrences and imports stand at their numbers, in the tree of a declaration whose names and types are right, each
 -- with the instance of the declaration that it names.
-use Rattle.std.proofs.Common.{◌≡◌, ℕ, zero, suc, ◌<◌, ◌≤◌, Bool, true, false, cond, ◌&&◌, List, [], ◌∷◌, ◌++◌, map, flat_map, length, Option, Some, None, unwrap_or, refl, sym, ap, ◌∙◌, subst, arith}
+use Rattle.std.proofs.Common.{◌≡◌, ℕ, zero, suc, ◌<◌, ◌≤◌, Bool, true, false, cond, List, [], ◌∷◌, ◌++◌, map, flat_map, length, Option, Some, None, unwrap_or, refl, sym, ap, ◌∙◌, subst, arith}
 use Rattle.std.specs.Prelude.{Contains, pred, is_none}
-use Rattle.std.specs.List.{AllByRecursion, list_all}
+use Rattle.std.specs.List.{AllByRecursion}
 use Rattle.std.specs.Str.{bytes_eq}
-use Rattle.std.proofs.Math.Logic.{◌⊎◌, inl, inr}
+use Rattle.std.proofs.Math.Logic.{inl, inr}
 use Rattle.std.proofs.lemmas.Bool.{false≢true}
 use Rattle.lus_tree.specs.Tree.{Variable, Expression, truth, number, name, negation, minus, pre, arrow, binary, choice, sampled, merged, call, condact, mode_name, ContractStatement, assume, guarantee, ghost_variable, constant, mode, «import», Component, Program}
 use Rattle.lus_tree.specs.Numbers.{a_call, call_number, all_numbers, import_number, numbers_in, are_counted, IsNumbered}
@@ -35,6 +35,7 @@ use Rattle.way_laws.specs.Summaries.{IsExact, CalleesExact}
 use Rattle.way_laws.proofs.Unfolded.{typed_unfolded}
 use Rattle.way_laws.proofs.Crossing.{CallAt, call_at}
 use Rattle.way_laws.proofs.Expressions.{CallReady}
+use Rattle.way_laws.proofs.Lists.{all_true}
 
 -- ---- numbers
 
@@ -104,7 +105,7 @@ at_contains (y ∷ xs) (suc k) x h =
     let l : r.0 < length xs = r.1 in
     (suc r.0, omega arith, r.2)
 
-calls_unfolded : (p : Program) (i : Instance) (n : Component) → component_of i ≡ n → IsUnfolded p i → AreUnfolded p (all_sites n) (calls_of i)
+pub calls_unfolded : (p : Program) (i : Instance) (n : Component) → component_of i ≡ n → IsUnfolded p i → AreUnfolded p (all_sites n) (calls_of i)
 calls_unfolded p (instance m cs is) n e u = subst (λ k. AreUnfolded p (all_sites k) is) e u.1
 
 by_number : (i : Instance) (k : ℕ) → 1 ≤ k → instance_at (calls_of i) (pred k) ≡ call_instance i k
@@ -159,16 +160,6 @@ module _ (p : Program) (grammatical : IsGrammatical p) (typed : IsTyped p) (n : 
       (each_import p typed n d)
 
   -- ---- outputs on the base clock
-
-  all_true : {A : Type 0} (test : A → Bool) (x : A) (xs : List A) → list_all test xs ≡ true → IsIn x xs → test x ≡ true
-  all_true test x [] e h = absurd h
-  all_true test x (y ∷ xs) e h = go (test y) refl e h (all_true test x xs)
-    where
-      go : (b : Bool) → test y ≡ b → (b && list_all test xs) ≡ true → (x ≡ y) ⊎ IsIn x xs → (list_all test xs ≡ true → IsIn x xs → test x ≡ true)
-          → test x ≡ true
-      go true k e (inl s) f = subst (λ z. test z ≡ true) (sym s) k
-      go true k e (inr h) f = f e h
-      go false k e h f = absurd (false≢true e)
 
   beat_declared : (v : Variable) → is_none v.clock ≡ true → (vs : List Variable) → IsIn v vs → IsIn the_beat (flat_map
       (λ w. cond (bytes_eq v.name.text w.name.text) (clock_needs (clock_from w.clock)) []) vs)

@@ -1,11 +1,11 @@
 -- A name that leads to itself in its own graph passes a left name of an equation that does, or goes along clocks alone.
-use Rattle.std.proofs.Common.{option_map, ◌≡◌, ℕ, Bool, true, false, cond, not, ◌||◌, List, [], ◌∷◌, ◌++◌, map, flat_map, refl, sym, ap, ◌∙◌, subst, Option, Some, None}
-use Rattle.std.specs.Prelude.{Contains, filter, find, unwrap_or}
+use Rattle.std.proofs.Common.{option_map, ◌≡◌, Bool, true, false, cond, not, ◌||◌, List, [], ◌∷◌, ◌++◌, map, flat_map, refl, sym, ap, ◌∙◌, subst, None}
+use Rattle.std.specs.Prelude.{filter, unwrap_or}
 use Rattle.std.specs.Str.{bytes_eq}
 use Rattle.std.proofs.Math.Logic.{◌⊎◌, inl, inr}
 use Rattle.std.proofs.lemmas.Bool.{false≢true}
 use Rattle.lus_tree.specs.Reason.{Refused, cycle}
-use Rattle.lus_tree.specs.Tree.{Name, text_of, Spelled, Variable, Statement, equation, assertion, property, main_mark, ContractStatement, assume, guarantee, ghost_variable, constant, mode, «import», Component, Program}
+use Rattle.lus_tree.specs.Tree.{Name, text_of, Spelled, Variable, Statement, equation, assertion, property, main_mark, ContractStatement, assume, guarantee, ghost_variable, constant, mode, «import», Component}
 use Rattle.lus_meaning.specs.Scene.{clock_from, clock_of, contract_statements, variables}
 use Rattle.lus_meaning.specs.Run.{Equation, equations, ghost_equations, body_equations}
 use Rattle.lus_meaning.specs.Depends.{named_in, left_names}
@@ -14,7 +14,8 @@ use Rattle.lus_meaning.specs.Faults.{fault}
 use Rattle.lus_meaning.specs.WellMade.{AreDistinct}
 use Rattle.lus_meaning.proofs.BooleanOrder.{IsIn, in_left, in_right, named_either}
 use Rattle.lus_meaning.proofs.Exists.{self_bytes}
-use Rattle.lus_meaning.proofs.Lists.{named_append, or_left}
+use Rattle.lus_meaning.proofs.Lists.{named_append, or_left, or_true}
+use Rattle.lus_meaning.proofs.NamesOnce.{not_nil}
 use Rattle.lus_meaning.proofs.Unique.{same_bytes}
 use Rattle.clock_laws.proofs.OrderLaws.{names_distinct}
 use Rattle.clock_laws.proofs.Reaching.{in_either}
@@ -24,6 +25,7 @@ use Rattle.way_laws.specs.Laws.{NamesInCircles}
 use Rattle.way_laws.proofs.Steps.{in_contains}
 use Rattle.way_laws.proofs.Arguments.{kept_so}
 use Rattle.way_laws.proofs.Declarations.{names_in, find_distinct}
+use Rattle.way_laws.proofs.Lists.{itself, one_named}
 
 -- ---- ways
 
@@ -34,16 +36,6 @@ ways_joined edges x (y ∷ ys) zs w v = (w.0, ways_joined edges y ys zs w.1 v)
 last_joined : (x : Name) (ys zs : List Name) → last_name x (ys ++ zs) ≡ last_name (last_name x ys) zs
 last_joined x [] zs = refl
 last_joined x (y ∷ ys) zs = last_joined y ys zs
-
-itself : (x : Name) → named_in x (x ∷ []) ≡ true
-itself x = or_left (bytes_eq x x) false (self_bytes x)
-
-one_named : (x y : Name) → named_in x (y ∷ []) ≡ true → x ≡ y
-one_named x y e = go (bytes_eq x y) refl e
-  where
-    go : (b : Bool) → bytes_eq x y ≡ b → (b || false) ≡ true → x ≡ y
-    go true h e = same_bytes x y h
-    go false h e = absurd (false≢true e)
 
 -- ---- what a name reads
 
@@ -83,16 +75,12 @@ defined_left n g x y [] e = absurd (false≢true e)
 defined_left n g x y (q ∷ es) e = go (named_either y (cond (named_in x q.names) (equation_reads n g q) []) (defined_reads n g x es) e)
     (defined_left n g x y es)
   where
-    right : (a b : Bool) → b ≡ true → (a || b) ≡ true
-    right true b h = refl
-    right false b h = h
-
     go : (named_in y (cond (named_in x q.names) (equation_reads n g q) []) ≡ true) ⊎ (named_in y (defined_reads n g x es) ≡ true)
         → (named_in y (defined_reads n g x es) ≡ true → named_in x (flat_map (λ e. e.names) es) ≡ true)
         → named_in x (q.names ++ flat_map (λ e. e.names) es) ≡ true
     go (inl h) f = named_append x q.names (flat_map (λ e. e.names) es) ∙ or_left (named_in x q.names) _
         (kept_so (named_in x q.names) y (equation_reads n g q) h).0
-    go (inr h) f = named_append x q.names (flat_map (λ e. e.names) es) ∙ right (named_in x q.names) _ (f h)
+    go (inr h) f = named_append x q.names (flat_map (λ e. e.names) es) ∙ or_true (named_in x q.names) _ (f h)
 
 -- ---- left names
 
@@ -168,11 +156,7 @@ module _ (n : Component) (g : Summaries) (distinct : AreDistinct (names_in (vari
           (find_distinct d.variable (variables n) d.there distinct)
 
       later : (b : Bool) (z : Name) (zs : List Name) → named_in y zs ≡ true → named_in y (cond b (z ∷ zs) zs) ≡ true
-      later true z zs h = right (bytes_eq y z) (named_in y zs) h
-        where
-          right : (a b : Bool) → b ≡ true → (a || b) ≡ true
-          right true b h = refl
-          right false b h = h
+      later true z zs h = or_true (bytes_eq y z) (named_in y zs) h
       later false z zs h = h
 
       first : (z : Name) (zs : List Name) → y ≡ z → named_in y (cond (not (named_in z (left_names n))) (z ∷ zs) zs) ≡ true
@@ -221,21 +205,9 @@ module _ (n : Component) (g : Summaries) (distinct : AreDistinct (names_in (vari
       }
 
       not_none : (as_ bs : List Name) → as_ ++ (bs ++ y ∷ []) ≡ [] → ⊥
-      not_none [] [] h = false≢true (sym (ap is_cons h))
-        where
-          is_cons : List Name → Bool
-          is_cons [] = false
-          is_cons (q ∷ qs) = true
-      not_none [] (b ∷ bs) h = false≢true (sym (ap is_cons h))
-        where
-          is_cons : List Name → Bool
-          is_cons [] = false
-          is_cons (q ∷ qs) = true
-      not_none (a ∷ as_) bs h = false≢true (sym (ap is_cons h))
-        where
-          is_cons : List Name → Bool
-          is_cons [] = false
-          is_cons (q ∷ qs) = true
+      not_none [] [] h = not_nil y [] h
+      not_none [] (b ∷ bs) h = not_nil b (bs ++ y ∷ []) h
+      not_none (a ∷ as_) bs h = not_nil a (as_ ++ (bs ++ y ∷ [])) h
 
       further : named_in y (left_names n) ≡ false → Round y ys → Round z (y ∷ ys)
       further h (by_left u t c) = by_left u t c
@@ -252,14 +224,17 @@ module _ (n : Component) (g : Summaries) (distinct : AreDistinct (names_in (vari
     where
       go : (ss : List Spelled) → IsIn ss (sides n) → named_in w (map text_of ss) ≡ true → (r : Refused) × IsOwnCircle n g r
       go [] t e = absurd (false≢true e)
-      go (v ∷ vs) t e = (fault cycle v.at, of_equation v vs (in_contains (v ∷ vs) (sides n) t) record {
-        start = l.start;
-        starts = subst (λ q. named_in q (map text_of (v ∷ vs)) ≡ true) (sym (one_named l.start w l.starts)) e;
-        first = l.first;
-        rest = l.rest;
-        way = l.way;
-        finishes = subst (λ q. named_in q (map text_of (v ∷ vs)) ≡ true) (sym (one_named (last_name l.first l.rest) w l.finishes)) e;
-      } refl)
+      go (v ∷ vs) t e = (
+        fault cycle v.at,
+        of_equation v vs (in_contains (v ∷ vs) (sides n) t) record {
+          start = l.start;
+          starts = subst (λ q. named_in q (map text_of (v ∷ vs)) ≡ true) (sym (one_named l.start w l.starts)) e;
+          first = l.first;
+          rest = l.rest;
+          way = l.way;
+          finishes = subst (λ q. named_in q (map text_of (v ∷ vs)) ≡ true) (sym (one_named (last_name l.first l.rest) w l.finishes)) e;
+        } refl,
+      )
 
   some_fault : (x : Name) → LeadsTo edges (x ∷ []) (x ∷ []) → (r : Refused) × IsOwnCircle n g r
   some_fault x l = go (named_in x (left_names n)) refl

@@ -1,6 +1,6 @@
 -- Each expression of a declaration whose names and types are right is ready: its calls stand at their places, and its
 -- modes are known where it stands.
-use Rattle.std.proofs.Common.{option_map, ◌≡◌, ℕ, Bool, true, false, cond, not, ◌&&◌, ◌||◌, List, [], ◌∷◌, ◌++◌, flat_map, refl, sym, subst, Option, Some, None}
+use Rattle.std.proofs.Common.{option_map, ◌≡◌, ℕ, Bool, true, false, cond, not, ◌||◌, List, [], ◌∷◌, ◌++◌, flat_map, refl, subst, Option, Some, None}
 use Rattle.std.specs.Prelude.{filter, option_to_list}
 use Rattle.std.specs.List.{AllByRecursion}
 use Rattle.std.specs.Str.{bytes_eq}
@@ -24,14 +24,7 @@ use Rattle.way_laws.proofs.Steps.{Fits}
 use Rattle.way_laws.proofs.Expressions.{CallReady, known, ReadyIn, Ready}
 use Rattle.way_laws.proofs.Placed.{SitePlaced}
 use Rattle.way_laws.proofs.Keys.{Key, GoodKey, Known}
-
-not_false : (b : Bool) → not b ≡ false → b ≡ true
-not_false true e = refl
-not_false false e = absurd (false≢true (sym e))
-
-both_true : (a b : Bool) → (a && b) ≡ true → (a ≡ true) × (b ≡ true)
-both_true true b e = (refl, e)
-both_true false b e = absurd (false≢true e)
+use Rattle.way_laws.proofs.Lists.{not_false, both_true}
 
 some_output : (vs : List Variable) → has_one vs ≡ true → (w : Variable) × (ws : List Variable) × (vs ≡ w ∷ ws)
 some_output [] e = absurd (false≢true e)

@@ -8,12 +8,13 @@ use Rattle.lus_meaning.specs.Run.{equations}
 use Rattle.lus_meaning.specs.Cycle.{Reaches}
 use Rattle.lus_meaning.specs.Order.{Passes, IsOrder, IsLeastOrder, IsEquationOrder, IsLeastEquationOrder}
 use Rattle.lus_meaning.specs.ClockFaults.{components}
-use Rattle.lus_meaning.specs.EquationFaults.{IsCircleFault}
+use Rattle.lus_meaning.specs.EquationFaults.{left_faults, IsCircleFault}
 use Rattle.lus_meaning.specs.Grammatical.{IsGrammatical}
 use Rattle.lus_meaning.specs.Refusals.{IsTyped}
 use Rattle.lus_meaning.specs.RuleLaws.{callee_of}
 use Rattle.way_laws.specs.Circles.{IsOwnCircle, OwnNeeds}
 use Rattle.way_laws.specs.Closure.{Closure}
+use Rattle.way_laws.specs.Nodes.{of_name, of_equation, NodeLeads}
 use Rattle.way_laws.specs.OwnGraph.{Summary, Summaries, LeadsTo, own_edges}
 use Rattle.way_laws.specs.Summaries.{IsSummary, IsExact, CalleesExact}
 
@@ -76,3 +77,23 @@ OrdersBySteps =
     (count : ℕ) (step : ℕ → ℕ → Bool) (ks : List ℕ) →
     (IsOrder count (Closure count (Passes step)) ks ↔ IsOrder count (Passes step) ks)
     × (IsLeastOrder count (Closure count (Passes step)) ks ↔ IsLeastOrder count (Passes step) ks)
+
+-- ---- by names and equations
+
+-- a name leads to a name by names and equations exactly where it does by names alone
+abbrev pub NamesByNodes : Type 0
+NamesByNodes =
+    (n : Component) (g : Summaries) (x y : Name) → NodeLeads n g (of_name x) (of_name y) ↔ LeadsTo (own_edges n g) (x ∷ []) (y ∷ [])
+
+-- so does an equation to an equation, where left names have no fault
+abbrev pub EquationsByNodes : Type 0
+EquationsByNodes =
+    (p : Program) → IsGrammatical p → IsTyped p → (n : Component) → Contains (components p) n → left_faults n ≡ [] → (g : Summaries) (k j : ℕ) →
+    NodeLeads n g (of_equation k) (of_equation j) ↔ OwnNeeds n g k j
+
+-- the least order of equations is the one by names and equations
+abbrev pub OrdersByNodes : Type 0
+OrdersByNodes =
+    OfEachByCallees (λ p n g. left_faults n ≡ [] → (ks : List ℕ) →
+    IsLeastEquationOrder (instance_of p n) (equations n) ks
+    ↔ IsLeastOrder (length (equations n)) (λ k j. NodeLeads n g (of_equation k) (of_equation j)) ks)

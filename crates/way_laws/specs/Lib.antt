@@ -1,5 +1,6 @@
 pub mod OwnGraph
 pub mod Summaries
 pub mod Circles
+pub mod Nodes
 pub mod Closure
 pub mod Laws

@@ -4,18 +4,21 @@ ghost use Rattle.way_laws.specs.Laws.{
   AllSummariesExact,
   CalleesLower,
   CirclesAreOwn,
+  EquationsByNodes,
+  NamesByNodes,
   NamesInCircles,
   OrdersAreOwn,
+  OrdersByNodes,
   OrdersBySteps,
   SummariesExact,
   WaysAreOwn,
 };
 
-/// The own graph of a declaration has its names alone: in place of a call stands what the arguments of those inputs read
-/// that the callee's summary says an output reads at the same instant. Where names and types of a program are right, and
-/// the summaries of what a declaration calls and imports are exact, a way of needs in the whole tree of instances leads
-/// from one name of the declaration to another exactly where its own graph has one. So the summary that its own graph
-/// gives is exact too.
+/// The own graph of a declaration has its names alone: in place of a call stands what the arguments of those inputs
+/// read that the callee's summary says an output reads at the same instant. Where names and types of a program are
+/// right, and the summaries of what a declaration calls and imports are exact, a way of needs in the whole tree of
+/// instances leads from one name of the declaration to another exactly where its own graph has one. So the summary that
+/// its own graph gives is exact too.
 pub fn own_graphs()
     ensures ways { WaysAreOwn }
     ensures summaries { SummariesExact }
@@ -29,8 +32,9 @@ pub fn callees_first()
 {}
 
 /// By exact summaries of what a declaration calls and imports, its faults of circles are those that its own graph has:
-/// an equation whose left names lead to themselves, and clocks in a circle among names without an equation. There is one
-/// where some name leads to itself. The orders of its equations, and the least ones, are those by ways in its own graph.
+/// an equation whose left names lead to themselves, and clocks in a circle among names without an equation. There is
+/// one where some name leads to itself. The orders of its equations, and the least ones, are those by ways in its own
+/// graph.
 pub fn circles_and_orders()
     ensures circles { CirclesAreOwn }
     ensures names { NamesInCircles }
@@ -41,4 +45,14 @@ pub fn circles_and_orders()
 /// the other way round; so it is of the least order.
 pub fn orders_by_steps()
     ensures { OrdersBySteps }
+{}
+
+/// With a node for each equation beside those of the names, each equation's reads are listed once: a name leads to its
+/// clock's name and to the equation that defines it, and an equation to what it reads. The ways between names are then
+/// those of the own graph. Where left names have no fault, so are those between equations, and the least order of the
+/// equations is the one by them.
+pub fn names_and_equations()
+    ensures names { NamesByNodes }
+    ensures equations { EquationsByNodes }
+    ensures orders { OrdersByNodes }
 {}
