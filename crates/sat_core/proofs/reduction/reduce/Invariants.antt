@@ -8,8 +8,8 @@ abbrev pub invariant-loop-i : goal.invariant-loop-i
 invariant-loop-i l =
     (l.i ≤ l.from)
     × ((last : Literal)
-    → IsReduced (map clause_view l.clauses) l.trail l.marked l.from last l.fn.literals.items 0 l.from (reverse l.fn.hints.items)
-    → IsReduced (map clause_view l.clauses) l.trail l.marked l.from last l.literals.items l.low l.i (reverse l.hints.items))
+    → IsReduced l.clauses l.trail l.marked l.from last l.fn.literals.items 0 l.from (reverse l.fn.hints.items)
+    → IsReduced l.clauses l.trail l.marked l.from last l.literals.items l.low l.i (reverse l.hints.items))
 
 abbrev pub decreases-loop-i : goal.decreases-loop-i
 decreases-loop-i l = l.i
