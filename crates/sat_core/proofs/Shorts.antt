@@ -1,10 +1,9 @@
 -- Clauses that watch nothing.
-use Rattle.std.specs.Prelude.{ℕ, ◌≡◌, ◌≢◌, ◌+◌, ◌<◌, Bool, true, false, Option, None, List, [], ◌∷◌, ◌++◌, Some, length, All, Contains, take, get_or, refl}
+use Rattle.std.specs.Prelude.{ℕ, ◌≡◌, ◌≢◌, ◌+◌, ◌<◌, Bool, true, false, None, List, [], ◌∷◌, ◌++◌, Some, length, All, Contains, take, get_or, refl}
 use Rattle.std.proofs.Common.{sym, ◌∙◌, ap, subst, arith, inl}
 use Rattle.std.proofs.lemmas.List.{map-append, take_more, append_assoc}
 use Rattle.std.proofs.lemmas.List.Elements.{All-nil, All-contains, All-push, Contains-push, Contains-append_left}
 use Rattle.proof_steps.specs.declared.Literal.{Literal}
-use Rattle.proof_steps.specs.Meaning.{at}
 use Rattle.sat_core.specs.declared.assigned.Assigned.{Assigned}
 use Rattle.sat_core.specs.declared.short.Short.{Short}
 use Rattle.sat_core.specs.Trail.{trues, falses, value_of, IsFalse, IsSettled, IsTrail}

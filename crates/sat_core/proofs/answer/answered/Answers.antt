@@ -1,7 +1,5 @@
-use Rattle.std.specs.Prelude.{All, map, refl}
-use Rattle.std.proofs.Common.{sym, ap, subst}
-use Rattle.proof_steps.specs.View.{clause_view}
-use Rattle.sat_core.specs.Held.{Covers}
+use Rattle.std.specs.Prelude.{refl}
+use Rattle.std.proofs.Common.{sym, subst}
 use Rattle.sat_core.specs.Propagation.{IsFalseAt}
 use Rattle.sat_core.proofs.Deciding.{has_decision, still_none, still_some}
 use Rattle.sat_core.proofs.answer.answered.Goals as goal

@@ -1,6 +1,5 @@
-use Rattle.std.specs.Prelude.{None, [], map}
-use Rattle.std.proofs.Common.{sym, ap, subst, arith}
-use Rattle.proof_steps.specs.View.{clause_view}
+use Rattle.std.specs.Prelude.{None, []}
+use Rattle.std.proofs.Common.{sym, subst, arith}
 use Rattle.sat_core.specs.Watching.{IsWatched}
 use Rattle.sat_core.proofs.Guards.{watched_more}
 use Rattle.sat_core.proofs.Visits.{watched_same}

@@ -1,5 +1,5 @@
-use Rattle.std.proofs.Common.{sym, subst, ap, ◌∙◌}
-use Rattle.std.specs.Prelude.{[], ◌∷◌, length, take, ◌-◌, ◌≡◌, ◌++◌, ◌+◌}
+use Rattle.std.proofs.Common.{subst, ap, ◌∙◌}
+use Rattle.std.specs.Prelude.{[], ◌∷◌, length, take, ◌-◌, ◌≡◌, ◌++◌}
 use Rattle.std.proofs.Common.{arith}
 use Rattle.std.proofs.lemmas.List.{length-append}
 use Rattle.proof_steps.specs.View.{clause_view}

@@ -1,4 +1,4 @@
-use Rattle.std.specs.Prelude.{◌≡◌, ◌≤◌, ◌+◌, All, length, map, true}
+use Rattle.std.specs.Prelude.{◌≡◌, ◌≤◌, ◌+◌, All, length, true}
 use Rattle.std.proofs.Common.{sym, subst, arith}
 use Rattle.sat_core.specs.declared.short.Short.{Short}
 use Rattle.sat_core.specs.Visiting.{IsGoneThrough, IsImpliedShort}

@@ -1,5 +1,3 @@
-use Rattle.std.specs.Prelude.{map}
-use Rattle.proof_steps.specs.View.{clause_view}
 use Rattle.sat_core.proofs.Shorts.{decided_shorts}
 use Rattle.sat_core.proofs.propagation.hold_shorts.Goals as goal
 

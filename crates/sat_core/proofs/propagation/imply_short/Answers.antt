@@ -1,4 +1,4 @@
-use Rattle.std.specs.Prelude.{◌∷◌, ◌++◌, [], true}
+use Rattle.std.specs.Prelude.{true}
 use Rattle.std.proofs.Common.{sym, subst}
 use Rattle.sat_core.specs.Watching.{IsWatched}
 use Rattle.sat_core.specs.Visiting.{IsImpliedShort}

@@ -1,6 +1,5 @@
-use Rattle.std.specs.Prelude.{map, false}
+use Rattle.std.specs.Prelude.{false}
 use Rattle.std.proofs.Common.{arith}
-use Rattle.proof_steps.specs.View.{clause_view}
 use Rattle.proof_steps.specs.declared.Literal.TheVariants.{Flag}
 use Rattle.sat_core.specs.declared.assigned.Assigned.{Assigned}
 use Rattle.sat_core.proofs.Places.{read}

@@ -1,6 +1,5 @@
-use Rattle.std.specs.Prelude.{◌+◌, ◌++◌, ◌∷◌, [], map, reverse, false}
+use Rattle.std.specs.Prelude.{◌+◌, ◌++◌, ◌∷◌, [], reverse, false}
 use Rattle.std.proofs.Common.{refl, sym, ◌∙◌, ap, subst}
-use Rattle.proof_steps.specs.View.{clause_view}
 use Rattle.proof_steps.specs.declared.Literal.TheVariants.{Flag}
 use Rattle.sat_core.specs.declared.assigned.Assigned.{Assigned}
 use Rattle.sat_core.specs.Reduction.{IsReduced}

@@ -1,6 +1,5 @@
-use Rattle.std.specs.Prelude.{◌≡◌, ◌+◌, ◌-◌, map, reverse}
+use Rattle.std.specs.Prelude.{◌≡◌, ◌+◌, ◌-◌, reverse}
 use Rattle.std.proofs.Common.{subst, arith}
-use Rattle.proof_steps.specs.View.{clause_view}
 use Rattle.sat_core.specs.Reduction.{IsReduced}
 use Rattle.sat_core.proofs.reduction.reduce.Goals as goal
 

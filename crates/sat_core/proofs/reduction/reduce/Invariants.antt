@@ -1,5 +1,4 @@
-use Rattle.std.specs.Prelude.{◌≤◌, map, reverse}
-use Rattle.proof_steps.specs.View.{clause_view}
+use Rattle.std.specs.Prelude.{◌≤◌, reverse}
 use Rattle.proof_steps.specs.declared.Literal.{Literal}
 use Rattle.sat_core.specs.Reduction.{IsReduced}
 use Rattle.sat_core.proofs.reduction.reduce.Given as goal

@@ -1,7 +1,5 @@
-use Rattle.std.specs.Prelude.{map}
 use Rattle.std.proofs.Common.{sym, subst, arith}
 use Rattle.std.proofs.lemmas.Grind.{common_steps}
-use Rattle.proof_steps.specs.View.{clause_view}
 use Rattle.sat_core.specs.Watching.{CanWatch, IsWatching}
 use Rattle.sat_core.proofs.Watched.{entered}
 use Rattle.sat_core.proofs.Widening.{admits_next}

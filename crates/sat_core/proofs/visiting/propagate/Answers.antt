@@ -1,6 +1,5 @@
-use Rattle.std.specs.Prelude.{◌≡◌, ◌+◌, length, map, suc}
+use Rattle.std.specs.Prelude.{◌≡◌, ◌+◌, length, suc}
 use Rattle.std.proofs.Common.{ap, subst, arith, ◌∙◌}
-use Rattle.proof_steps.specs.View.{clause_view}
 use Rattle.sat_core.specs.Watching.{IsWatched}
 use Rattle.sat_core.specs.Visiting.{IsVisitedAll}
 use Rattle.sat_core.proofs.Bounded.{bounded}

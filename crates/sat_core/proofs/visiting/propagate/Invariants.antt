@@ -1,5 +1,4 @@
-use Rattle.std.specs.Prelude.{◌≡◌, ◌-◌, length, map}
-use Rattle.proof_steps.specs.View.{clause_view}
+use Rattle.std.specs.Prelude.{◌≡◌, ◌-◌, length}
 use Rattle.sat_core.specs.Watching.{IsWatched}
 use Rattle.sat_core.specs.Visiting.{IsAdvance}
 use Rattle.sat_core.proofs.visiting.propagate.Given as goal

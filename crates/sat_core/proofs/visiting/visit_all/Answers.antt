@@ -1,6 +1,4 @@
-use Rattle.std.specs.Prelude.{map}
 use Rattle.std.proofs.Common.{arith}
-use Rattle.proof_steps.specs.View.{clause_view}
 use Rattle.sat_core.proofs.Guards.{visit_done}
 use Rattle.sat_core.proofs.visiting.visit_all.Goals as goal
 
