@@ -8,10 +8,11 @@ use Rattle.proof_steps.specs.declared.Literal.{Literal}
 use Rattle.proof_steps.specs.Meaning.{at, opposite}
 use Rattle.proof_checker.specs.Derived.{has}
 use Rattle.sat_core.specs.declared.assigned.Assigned.{Assigned}
-use Rattle.sat_core.specs.declared.watcher.Watcher.{Watcher}
+use Rattle.sat_core.specs.declared.short.Short.{Short}
 use Rattle.sat_core.specs.Trail.{trues, falses, IsApart, IsSettled}
-use Rattle.sat_core.specs.Watching.{Watching, list_at, IsListed, IsWatch, IsOther, IsShort, IsPair, IsWatching, IsGuard, IsGuarded, IsWatched, IsVisiting, IsDropped, IsMoved, HasTrue}
+use Rattle.sat_core.specs.Watching.{Watching, list_at, IsWatch, IsOther, IsShort, IsPair, IsWatching, IsGuard, IsGuarded, IsWatched, IsVisiting, IsDropped, IsMoved, HasTrue}
 use Rattle.sat_core.specs.Watching.{CanWatch, IsEntered, IsHead}
+use Rattle.sat_core.specs.Shown.{AreTrueBeside}
 use Rattle.sat_core.specs.Analysis.{IsOneOf, IsLast, IsUnseen, IsDecisionAt, IsResumed, NoneDecided}
 use Rattle.sat_core.proofs.Places.{some_is, within, get-contains, contains-get, get-push, get-append, get-take, take-within, read, from_map, to_map}
 use Rattle.proof_checker.proofs.Sets.{has-contains, has-not}
@@ -20,26 +21,26 @@ use Rattle.sat_core.proofs.Sets.{one-or-other}
 use Rattle.sat_core.proofs.Consistent.{consistent, entry_once, opposite-opposite}
 use Rattle.sat_core.proofs.Fresh.{all_from}
 use Rattle.sat_core.proofs.Rows.{eq_or}
-use Rattle.sat_core.proofs.Watched.{drop-get, get-drop, none-listed, watch-of, at-push-cases, at-within, entered, old_or_new}
+use Rattle.sat_core.proofs.Watched.{drop-get, get-drop, none-listed, watch-of, other-of, watch-is, other-once, entered, other_or_new}
 
 -- one entry more on the trail
 module _ (trail : List Assigned) (a : Assigned) where
-  pub guard_push : (clause : List Literal) (i : ℕ) → IsGuard trail clause i → IsGuard (trail ++ a ∷ []) clause i
-  guard_push clause i g = record {
+  pub guard_push : (other : Literal) (i : ℕ) → IsGuard trail other i → IsGuard (trail ++ a ∷ []) other i
+  guard_push other i g = record {
     place = g.place;
     entry = g.entry;
     is_there = get-append trail (a ∷ []) g.place g.entry g.is_there;
-    in_clause = g.in_clause;
+    is_other = g.is_other;
     undecided = λ k b l m s. elim (get-push trail a b k s) as (λ _. b.reason ≢ 0) [
       | inl x ↦ g.undecided k b l m x
       | inr x ↦ absurd (let w = within trail g.place g.entry g.is_there in let e = x.0 in omega arith)
     ];
   }
 
-  pub guarded_push : (clause : List Literal) (l : Literal) (n : ℕ) → n ≤ length trail → IsGuarded trail clause l n
-      → IsGuarded (trail ++ a ∷ []) clause l n
-  guarded_push clause l n h g = λ i b m s o. elim (get-push trail a b i s) as (λ _. IsGuard (trail ++ a ∷ []) clause i) [
-    | inl x ↦ guard_push clause i (g i b m x o)
+  pub guarded_push : (other l : Literal) (n : ℕ) → n ≤ length trail → IsGuarded trail other l n
+      → IsGuarded (trail ++ a ∷ []) other l n
+  guarded_push other l n h g = λ i b m s o. elim (get-push trail a b i s) as (λ _. IsGuard (trail ++ a ∷ []) other i) [
+    | inl x ↦ guard_push other i (g i b m x o)
     | inr x ↦ absurd (let e = x.0 in omega arith)
   ]
 
@@ -55,7 +56,7 @@ module _ (trail : List Assigned) (a : Assigned) where
           | inr e ↦ absurd (let q = x.0 in omega arith)
         ]
       ];
-      guarded = λ n c l e x. guarded_push c l head k.within (k.guarded n c l e x);
+      guarded = λ n l m x. guarded_push m l head k.within (k.guarded n l m x);
     }
 
     pub visiting_push : (f : Literal) (j : ℕ) → a.reason ≢ 0 → IsVisiting known trail w head f j
@@ -63,10 +64,10 @@ module _ (trail : List Assigned) (a : Assigned) where
     visiting_push f j ne v = record {
       watched = watched_push (inl ne) v.watched;
       is_next = (v.is_next.0, get-append trail (a ∷ []) head v.is_next.0 v.is_next.1, v.is_next.2);
-      visited = λ n c e x. elim (v.visited n c e x)
-          as (λ _. IsGuarded (trail ++ a ∷ []) c f (suc head) ⊎ IsListed (drop j (list_at w f)) n) [
-            | inl g ↦ inl (guarded_push c f (suc head) (let h = within trail head v.is_next.0 v.is_next.1 in omega arith) g)
-            | inr m ↦ inr m
+      visited = λ n m x. elim (v.visited n m x)
+          as (λ _. IsGuarded (trail ++ a ∷ []) m f (suc head) ⊎ Contains (drop j (list_at w f)) n) [
+            | inl g ↦ inl (guarded_push m f (suc head) (let h = within trail head v.is_next.0 v.is_next.1 in omega arith) g)
+            | inr y ↦ inr y
           ];
     }
 
@@ -76,7 +77,7 @@ module _ (known : List (List Literal)) (trail : List Assigned) (w : Watching) (h
   visit_first a e o k = record {
     watched = k;
     is_next = (a, e, o);
-    visited = λ n c h x. inr (k.watching.listed n f x);
+    visited = λ n m x. inr (k.watching.listed n f (watch-is w n f m x));
   }
 
   pub visit_done : (j : ℕ) → length (list_at w f) ≤ j → IsVisiting known trail w head f j → IsWatched known trail w (suc head)
@@ -84,13 +85,13 @@ module _ (known : List (List Literal)) (trail : List Assigned) (w : Watching) (h
     watching = v.watched.watching;
     within = (let x = within trail head v.is_next.0 v.is_next.1 in omega arith);
     late = λ i a l s. v.watched.late i a (omega arith) s;
-    guarded = λ n c l e x. one-or-other l f
-        (λ q. elim (v.visited n c e (subst (IsWatch w n) q x)) as (λ _. IsGuarded trail c l (suc head)) [
-          | inl g ↦ subst (λ z. IsGuarded trail c z (suc head)) (sym q) g
-          | inr m ↦ absurd (none-listed (list_at w f) j n h m)
+    guarded = λ n l m x. one-or-other l f
+        (λ q. elim (v.visited n m (subst (λ z. IsOther w n z (Some m)) q x)) as (λ _. IsGuarded trail m l (suc head)) [
+          | inl g ↦ subst (λ z. IsGuarded trail m z (suc head)) (sym q) g
+          | inr y ↦ absurd (none-listed (list_at w f) j n h y)
         ])
-        (λ ne. λ i a m s o. elim (cases_lt i head) as (λ _. IsGuard trail c i) [
-          | inl b ↦ v.watched.guarded n c l e x i a b s o
+        (λ ne. λ i a y s o. elim (cases_lt i head) as (λ _. IsGuard trail m i) [
+          | inl b ↦ v.watched.guarded n l m x i a b s o
           | inr b ↦ absurd (ne (
               let q : i ≡ head = omega arith in
               let r : a ≡ v.is_next.0 = some_is a v.is_next.0 (sym s ∙ ap (slice_get trail) q ∙ v.is_next.1) in
@@ -99,19 +100,19 @@ module _ (known : List (List Literal)) (trail : List Assigned) (w : Watching) (h
   }
 
   module _ (apart : IsApart trail) (j : ℕ) (v : IsVisiting known trail w head f j) where
-    guard_at : (clause : List Literal) → IsGuard trail clause head → IsGuarded trail clause f (suc head)
-    guard_at clause g = λ i a l s o.
+    guard_at : (other : Literal) → IsGuard trail other head → IsGuarded trail other f (suc head)
+    guard_at other g = λ i a l s o.
         let r : a.literal ≡ v.is_next.0.literal = sym (opposite-opposite a.literal) ∙ ap opposite (o ∙ sym v.is_next.2)
         ∙ opposite-opposite v.is_next.0.literal in
         let q : i ≡ head = entry_once trail apart i head a v.is_next.0 s v.is_next.1 r in
-        subst (IsGuard trail clause) (sym q) g
+        subst (IsGuard trail other) (sym q) g
 
-    pub guard_true : (clause : List Literal) (t : Literal) → Contains clause t → Contains (trues trail) t → IsGuard trail clause head
-    guard_true clause t c h = let r = from_map (λ (x : Assigned). x.literal) trail t h in record {
+    pub guard_true : (other : Literal) → Contains (trues trail) other → IsGuard trail other head
+    guard_true other h = let r = from_map (λ (x : Assigned). x.literal) trail other h in record {
       place = r.place;
       entry = r.element;
       is_there = r.is_there;
-      in_clause = subst (Contains clause) (sym r.gives) c;
+      is_other = r.gives;
       undecided = λ k b l m s. v.watched.late k b l s;
     }
 
@@ -119,43 +120,56 @@ module _ (known : List (List Literal)) (trail : List Assigned) (w : Watching) (h
     f-false = subst (Contains (falses trail)) v.is_next.2
         (to_map (λ (x : Assigned). opposite x.literal) trail head v.is_next.0 v.is_next.1)
 
-    module _ (e : Watcher) (here : slice_get (list_at w f) j ≡ Some e) where
-      -- another clause than the entry's is still to be visited
-      still : (n : ℕ) → n ≢ e.clause → IsListed (drop j (list_at w f)) n
-          → (k : ℕ) × (x : Watcher) × (j ≤ k) × (k ≢ j) × (slice_get (list_at w f) k ≡ Some x) × (x.clause ≡ n)
-      still n ne (x, c, q) = let r = drop-get (list_at w f) j x c in
-          (r.0, x, r.1, (λ z. ne (sym q ∙ ap (λ (y : Watcher). y.clause) (some_is x e (sym r.2 ∙ ap (slice_get (list_at w f)) z ∙ here)))), r.2, q)
+    -- what guards a false literal that is watched before the place is true
+    other-guards : (n : ℕ) (l m : Literal) (i : ℕ) (a : Assigned) → IsOther w n l (Some m) → i < head → slice_get trail i ≡ Some a
+        → opposite a.literal ≡ l → Contains (falses trail) m → ⊥
+    other-guards n l m i a x h s o b = let g = v.watched.guarded n l m x i a h s o in
+        consistent trail apart m (subst (Contains (trues trail)) g.is_other
+        (to_map (λ (y : Assigned). y.literal) trail g.place g.entry g.is_there)) b
 
-      pub visit_kept : (clause : List Literal) → at known e.clause ≡ Some clause → IsGuard trail clause head
+    module _ (e : ℕ) (here : slice_get (list_at w f) j ≡ Some e) where
+      -- another clause than the entry's is still to be visited
+      still : (n : ℕ) → n ≢ e → Contains (drop j (list_at w f)) n
+          → (k : ℕ) × (j ≤ k) × (k ≢ j) × (slice_get (list_at w f) k ≡ Some n)
+      still n ne c = let r = drop-get (list_at w f) j n c in
+          (r.0, r.1, (λ z. ne (some_is n e (sym r.2 ∙ ap (slice_get (list_at w f)) z ∙ here))), r.2)
+
+      pub visit_kept : (other : Literal) → IsOther w e f (Some other) → IsGuard trail other head
           → IsVisiting known trail w head f (j + 1)
-      visit_kept clause h g = record {
+      visit_kept other o g = record {
         watched = v.watched;
         is_next = v.is_next;
-        visited = λ n c d x. elim (v.visited n c d x)
-            as (λ _. IsGuarded trail c f (suc head) ⊎ IsListed (drop (j + 1) (list_at w f)) n) [
+        visited = λ n m x. elim (v.visited n m x)
+            as (λ _. IsGuarded trail m f (suc head) ⊎ Contains (drop (j + 1) (list_at w f)) n) [
               | inl y ↦ inl y
-              | inr m ↦ elim (eq_or n e.clause) as (λ _. IsGuarded trail c f (suc head) ⊎ IsListed (drop (j + 1) (list_at w f)) n) [
+              | inr y ↦ elim (eq_or n e) as (λ _. IsGuarded trail m f (suc head) ⊎ Contains (drop (j + 1) (list_at w f)) n) [
                 | inl q ↦ inl (subst (λ z. IsGuarded trail z f (suc head))
-                    (some_is clause c (sym h ∙ ap (at known) (sym q) ∙ d)) (guard_at clause g))
-                | inr ne ↦ inr (let r = still n ne m in
-                    (r.1, get-drop (list_at w f) (j + 1) r.0 r.1 (let a = r.2 in let b = r.3 in omega arith) r.4, r.5))
+                    (one-other e f other m v.watched.watching o (subst (λ z. IsOther w z f (Some m)) q x)) (guard_at other g))
+                | inr ne ↦ inr (let r = still n ne y in
+                    get-drop (list_at w f) (j + 1) r.0 n (let a = r.1 in let b = r.2 in omega arith) r.3)
               ]
             ];
-      }
+      } where
+        one-other : (n : ℕ) (l a b : Literal) → IsWatching known w → IsOther w n l (Some a) → IsOther w n l (Some b) → a ≡ b
+        one-other n l a b k x y = other-once known w n l a b k x y
 
-      module _ (w' : Watching) (m : IsDropped w w' f j) (out : IsWatch w e.clause f → ⊥) where
+      module _ (w' : Watching) (m : IsDropped w w' f j) (out : IsWatch w e f → ⊥) where
         watch-back : (n : ℕ) (l : Literal) → IsWatch w' n l → IsWatch w n l
         watch-back n l x = watch-of w w' n l (ap (λ z. at z n) m.pairs) x
 
-        listed-still : (n : ℕ) (l : Literal) → IsWatch w n l → IsListed (list_at w l) n → IsListed (list_at w' l) n
+        other-back : (n : ℕ) (l o : Literal) → IsOther w' n l (Some o) → IsOther w n l (Some o)
+        other-back n l o x = other-of w w' n l o (ap (λ z. at z n) m.pairs) x
+
+        listed-still : (n : ℕ) (l : Literal) → IsWatch w n l → Contains (list_at w l) n → Contains (list_at w' l) n
         listed-still n l x y = one-or-other l f
-            (λ q. let s = still-all n (λ z. out (subst (λ k. IsWatch w k f) z (subst (IsWatch w n) q x))) (subst (λ z. IsListed (list_at w z) n) q y) in
-            subst (λ z. IsListed (list_at w' z) n) (sym q) s)
-            (λ ne. subst (λ z. IsListed z n) (sym (m.others l ne)) y) where
-              still-all : (n : ℕ) → n ≢ e.clause → IsListed (list_at w f) n → IsListed (list_at w' f) n
-              still-all n ne (x, c, q) = let r = contains-get (list_at w f) x c in
-                  let z : r.0 ≢ j = λ z. ne (sym q ∙ ap (λ (y : Watcher). y.clause) (some_is x e (sym r.1 ∙ ap (slice_get (list_at w f)) z ∙ here))) in
-                  let t = m.from.kept r.0 x z r.1 in (x, get-contains (list_at w' f) t.0 x t.2, q)
+            (λ q. let s = still-all n (λ z. out (subst (λ k. IsWatch w k f) z (subst (IsWatch w n) q x)))
+            (subst (λ z. Contains (list_at w z) n) q y) in
+            subst (λ z. Contains (list_at w' z) n) (sym q) s)
+            (λ ne. subst (λ z. Contains z n) (sym (m.others l ne)) y) where
+              still-all : (n : ℕ) → n ≢ e → Contains (list_at w f) n → Contains (list_at w' f) n
+              still-all n ne c = let r = contains-get (list_at w f) n c in
+                  let z : r.0 ≢ j = λ z. ne (some_is n e (sym r.1 ∙ ap (slice_get (list_at w f)) z ∙ here)) in
+                  let t = m.from.kept r.0 n z r.1 in get-contains (list_at w' f) t.0 n t.2
 
         pub visit_dropped : IsVisiting known trail w' head f j
         visit_dropped = record {
@@ -165,39 +179,47 @@ module _ (known : List (List Literal)) (trail : List Assigned) (w : Watching) (h
               pairs = λ n c p d q. v.watched.watching.pairs n c p d (subst (λ z. at z n ≡ Some (Some p)) m.pairs q);
               listed = λ n l x. listed-still n l (watch-back n l x) (v.watched.watching.listed n l (watch-back n l x));
               shorts = λ n c d q. let r = v.watched.watching.shorts n c d (subst (λ z. at z n ≡ Some None) m.pairs q) in
-                  (subst (λ z. Contains z n) (sym m.shorts) r.0, r.1);
-              known_shorts = λ n h. v.watched.watching.known_shorts n (subst (λ z. Contains z n) m.shorts h);
-              blockers = λ l x h. one-or-other l f
-                  (λ q. v.watched.watching.blockers f x (m.from.only x (subst (λ z. Contains (list_at w' z) x) q h)))
-                  (λ ne. v.watched.watching.blockers l x (subst (λ z. Contains z x) (m.others l ne) h));
+                  (r.0, subst (λ z. Contains z r.0) (sym m.shorts) r.1, r.2, r.3);
+              known_shorts = λ t h. v.watched.watching.known_shorts t (subst (λ z. Contains z t) m.shorts h);
+              numbers = λ l n h. one-or-other l f
+                  (λ q. v.watched.watching.numbers f n (m.from.only n (subst (λ z. Contains (list_at w' z) n) q h)))
+                  (λ ne. v.watched.watching.numbers l n (subst (λ z. Contains z n) (m.others l ne) h));
             };
             within = v.watched.within;
             late = v.watched.late;
-            guarded = λ n c l d x. v.watched.guarded n c l d (watch-back n l x);
+            guarded = λ n l o x. v.watched.guarded n l o (other-back n l o x);
           };
           is_next = v.is_next;
-          visited = λ n c d x. elim (v.visited n c d (watch-back n f x))
-              as (λ _. IsGuarded trail c f (suc head) ⊎ IsListed (drop j (list_at w' f)) n) [
+          visited = λ n o x. elim (v.visited n o (other-back n f o x))
+              as (λ _. IsGuarded trail o f (suc head) ⊎ Contains (drop j (list_at w' f)) n) [
                 | inl y ↦ inl y
-                | inr y ↦ inr (let r = still n (λ z. out (subst (λ k. IsWatch w k f) z (watch-back n f x))) y in
-                    let t = m.from.kept r.0 r.1 r.3 r.4 in
-                    (r.1, get-drop (list_at w' f) j t.0 r.1 (t.1 r.2) t.2, r.5))
+                | inr y ↦ inr (let r = still n (λ z. out (subst (λ k. IsWatch w k f) z (watch-is w n f o (other-back n f o x)))) y in
+                    let t = m.from.kept r.0 n r.2 r.3 in
+                    get-drop (list_at w' f) j t.0 n (t.1 r.1) t.2)
               ];
         }
 
-      module _ (w' : Watching) (number : ℕ) (other found : Literal) (m : IsMoved w w' f j number other found)
-          (is : e.clause ≡ number) (clause : List Literal) (known-is : at known number ≡ Some clause)
+      module _ (w' : Watching) (other found : Literal) (m : IsMoved w w' f j e other found)
+          (clause : List Literal) (known-is : at known e ≡ Some clause)
           (in_clause : Contains clause found) (differs : found ≢ other) (nf : ¬ Contains (falses trail) found)
-          (o : IsOther w number f (Some other)) where
+          (o : IsOther w e f (Some other)) where
         pair-is : IsPair clause o.0
-        pair-is = v.watched.watching.pairs number clause o.0 known-is o.1
+        pair-is = v.watched.watching.pairs e clause o.0 known-is o.1
 
         other-in : Contains clause other
         other-in = elim o.2 as (λ _. Contains clause other)
             [ inl x ↦ subst (Contains clause) x.1 pair-is.second | inr x ↦ subst (Contains clause) x.1 pair-is.first ]
 
-        other-watched : IsWatch w number other
-        other-watched = (o.0, o.1, elim o.2 as (λ _. (o.0.0 ≡ other) ⊎ (o.0.1 ≡ other)) [ inl x ↦ inr x.1 | inr x ↦ inl x.1 ])
+        other-first : IsOther w e other (Some f)
+        other-first = (
+          o.0,
+          o.1,
+          elim o.2 as (λ _. ((o.0.0 ≡ other) × (o.0.1 ≡ f)) ⊎ ((o.0.1 ≡ other) × (o.0.0 ≡ f)))
+              [ inl x ↦ inr (x.1, x.0) | inr x ↦ inl (x.1, x.0) ],
+        )
+
+        other-watched : IsWatch w e other
+        other-watched = watch-is w e other f other-first
 
         other-not : other ≢ f
         other-not q = elim o.2 [ inl x ↦ pair-is.apart (x.0 ∙ sym q ∙ sym x.1) | inr x ↦ pair-is.apart (x.1 ∙ q ∙ sym x.0) ]
@@ -205,74 +227,74 @@ module _ (known : List (List Literal)) (trail : List Assigned) (w : Watching) (h
         found-not : found ≢ f
         found-not q = nf (subst (Contains (falses trail)) (sym q) f-false)
 
-        back : (n : ℕ) (l : Literal) → n ≢ number → IsWatch w' n l → IsWatch w n l
+        back : (n : ℕ) (l : Literal) → n ≢ e → IsWatch w' n l → IsWatch w n l
         back n l ne x = watch-of w w' n l (m.pairs n ne) x
 
-        new-watch : (l : Literal) → IsWatch w' number l → (found ≡ l) ⊎ (other ≡ l)
+        back-other : (n : ℕ) (l k : Literal) → n ≢ e → IsOther w' n l (Some k) → IsOther w n l (Some k)
+        back-other n l k ne x = other-of w w' n l k (m.pairs n ne) x
+
+        new-watch : (l : Literal) → IsWatch w' e l → (found ≡ l) ⊎ (other ≡ l)
         new-watch l (p, q, r) = let k : (found, other) ≡ p = some_is (found, other) p (some_is (Some (found, other)) (Some p) (sym m.here ∙ q)) in
             subst (λ (z : Literal × Literal). (z.0 ≡ l) ⊎ (z.1 ≡ l)) (sym k) r
 
-        grows : (l : Literal) (x : Watcher) → l ≢ f → Contains (list_at w l) x → Contains (list_at w' l) x
-        grows l x ne h = one-or-other l found
-            (λ q. subst (λ z. Contains (list_at w' z) x) (sym q) (subst (λ z. Contains z x) (sym m.to)
-            (Contains-append_left (list_at w found) (record { clause = number; blocker = other } ∷ []) x
-            (subst (λ z. Contains (list_at w z) x) q h))))
-            (λ nd. subst (λ z. Contains z x) (sym (m.others l ne nd)) h)
+        grows : (l : Literal) (n : ℕ) → l ≢ f → Contains (list_at w l) n → Contains (list_at w' l) n
+        grows l n ne h = one-or-other l found
+            (λ q. subst (λ z. Contains (list_at w' z) n) (sym q) (subst (λ z. Contains z n) (sym m.to)
+            (Contains-append_left (list_at w found) (e ∷ []) n
+            (subst (λ z. Contains (list_at w z) n) q h))))
+            (λ nd. subst (λ z. Contains z n) (sym (m.others l ne nd)) h)
 
-        kept-listed : (n : ℕ) (l : Literal) → n ≢ number → IsListed (list_at w l) n → IsListed (list_at w' l) n
-        kept-listed n l ne (x, c, q) = one-or-other l f
-            (λ y. let r = contains-get (list_at w f) x (subst (λ z. Contains (list_at w z) x) y c) in
-            let z : r.0 ≢ j = λ z. ne (sym q ∙ ap (λ (y : Watcher). y.clause)
-            (some_is x e (sym r.1 ∙ ap (slice_get (list_at w f)) z ∙ here)) ∙ is) in
-            let t = m.from.kept r.0 x z r.1 in
-            subst (λ z. IsListed (list_at w' z) n) (sym y) (x, get-contains (list_at w' f) t.0 x t.2, q))
-            (λ nf. (x, grows l x nf c, q))
+        kept-listed : (n : ℕ) (l : Literal) → n ≢ e → Contains (list_at w l) n → Contains (list_at w' l) n
+        kept-listed n l ne c = one-or-other l f
+            (λ y. let r = contains-get (list_at w f) n (subst (λ z. Contains (list_at w z) n) y c) in
+            let z : r.0 ≢ j = λ z. ne (some_is n e (sym r.1 ∙ ap (slice_get (list_at w f)) z ∙ here)) in
+            let t = m.from.kept r.0 n z r.1 in
+            subst (λ z. Contains (list_at w' z) n) (sym y) (get-contains (list_at w' f) t.0 n t.2))
+            (λ nf. grows l n nf c)
 
-        found-listed : IsListed (list_at w' found) number
-        found-listed = (
-          record { clause = number; blocker = other },
-          subst (λ z. Contains z record { clause = number; blocker = other }) (sym m.to)
-              (Contains-push (list_at w found) record { clause = number; blocker = other }),
-          refl,
-        )
+        found-listed : Contains (list_at w' found) e
+        found-listed = subst (λ z. Contains z e) (sym m.to) (Contains-push (list_at w found) e)
 
-        other-listed : IsListed (list_at w' other) number
-        other-listed = let r = v.watched.watching.listed number other other-watched in (r.0, grows other r.0 other-not r.1, r.2)
-
-        blocker-in : (x : Watcher) → record { clause = number; blocker = other } ≡ x → (c : List Literal) × (at known x.clause ≡ Some c) × Contains c x.blocker
-        blocker-in x q = subst (λ (z : Watcher). (c : List Literal) × (at known z.clause ≡ Some c) × Contains c z.blocker) q
-            (clause, known-is, other-in)
+        other-listed : Contains (list_at w' other) e
+        other-listed = grows other e other-not (v.watched.watching.listed e other other-watched)
 
         moved-watching : IsWatching known w'
         moved-watching = record {
           count = m.count ∙ v.watched.watching.count;
-          pairs = λ n c p d q. elim (eq_or n number) as (λ _. IsPair c p) [
+          pairs = λ n c p d q. elim (eq_or n e) as (λ _. IsPair c p) [
             | inl z ↦ subst (IsPair c) (some_is (found, other) p (some_is (Some (found, other)) (Some p) (sym m.here ∙ ap (at w'.pairs) (sym z) ∙ q)))
                 (subst (λ y. IsPair y (found, other)) (some_is clause c (sym known-is ∙ ap (at known) (sym z) ∙ d))
                 record { first = in_clause; second = other-in; apart = differs })
             | inr ne ↦ v.watched.watching.pairs n c p d (sym (m.pairs n ne) ∙ q)
           ];
-          listed = λ n l x. elim (eq_or n number) as (λ _. IsListed (list_at w' l) n) [
-            | inl z ↦ subst (IsListed (list_at w' l)) (sym z) (elim (new-watch l (subst (λ k. IsWatch w' k l) z x)) as (λ _. IsListed (list_at w' l) number)
-                [ inl q ↦ subst (λ y. IsListed (list_at w' y) number) q found-listed | inr q ↦ subst (λ y. IsListed (list_at w' y) number) q other-listed ])
+          listed = λ n l x. elim (eq_or n e) as (λ _. Contains (list_at w' l) n) [
+            | inl z ↦ subst (Contains (list_at w' l)) (sym z) (elim (new-watch l (subst (λ k. IsWatch w' k l) z x)) as (λ _. Contains (list_at w' l) e)
+                [ inl q ↦ subst (λ y. Contains (list_at w' y) e) q found-listed | inr q ↦ subst (λ y. Contains (list_at w' y) e) q other-listed ])
             | inr ne ↦ kept-listed n l ne (v.watched.watching.listed n l (back n l ne x))
           ];
-          shorts = λ n c d q. elim (eq_or n number) as (λ _. Contains w'.shorts n × IsShort c) [
+          shorts = λ n c d q. elim (eq_or n e) as (λ _. (t : Short) × Contains w'.shorts t × (t.number ≡ n) × IsShort c) [
             | inl z ↦ absurd (none-is (found, other) (some_is None (Some (found, other)) (sym q ∙ ap (at w'.pairs) z ∙ m.here)))
-            | inr ne ↦ (let r = v.watched.watching.shorts n c d (sym (m.pairs n ne) ∙ q) in (subst (λ z. Contains z n) (sym m.shorts) r.0, r.1))
+            | inr ne ↦ (let r = v.watched.watching.shorts n c d (sym (m.pairs n ne) ∙ q) in
+                (r.0, subst (λ z. Contains z r.0) (sym m.shorts) r.1, r.2, r.3))
           ];
-          known_shorts = λ n h. v.watched.watching.known_shorts n (subst (λ z. Contains z n) m.shorts h);
-          blockers = λ l x h. one-or-other l f
-              (λ q. v.watched.watching.blockers f x (m.from.only x (subst (λ z. Contains (list_at w' z) x) q h)))
+          known_shorts = λ t h. v.watched.watching.known_shorts t (subst (λ z. Contains z t) m.shorts h);
+          numbers = λ l n h. one-or-other l f
+              (λ q. v.watched.watching.numbers f n (m.from.only n (subst (λ z. Contains (list_at w' z) n) q h)))
               (λ nf. one-or-other l found
-              (λ q. elim (Contains-push_cases (list_at w found) record { clause = number; blocker = other } x
-              (subst (λ z. Contains z x) m.to (subst (λ z. Contains (list_at w' z) x) q h)))
-              as (λ _. (c : List Literal) × (at known x.clause ≡ Some c) × Contains c x.blocker)
-              [ inl y ↦ v.watched.watching.blockers found x y | inr y ↦ blocker-in x y ])
-              (λ nd. v.watched.watching.blockers l x (subst (λ z. Contains z x) (m.others l nf nd) h)));
+              (λ q. elim (Contains-push_cases (list_at w found) e n
+              (subst (λ z. Contains z n) m.to (subst (λ z. Contains (list_at w' z) n) q h)))
+              as (λ _. (c : List Literal) × (at known n ≡ Some c))
+              [ inl y ↦ v.watched.watching.numbers found n y | inr y ↦ subst (λ z. (c : List Literal) × (at known z ≡ Some c)) y (clause, known-is) ])
+              (λ nd. v.watched.watching.numbers l n (subst (λ z. Contains z n) (m.others l nf nd) h)));
         } where
           none-is : {X : Type 0} (x : X) → None ≡ Some x → ⊥
           none-is x e = absurd cc
+
+        -- neither of the two that are watched now became false before the place
+        early : (l : Literal) (i : ℕ) (a : Assigned) → i < head → slice_get trail i ≡ Some a → opposite a.literal ≡ l
+            → (found ≡ l) ⊎ (other ≡ l) → ⊥
+        early l i a h s t (inl q) = nf (subst (Contains (falses trail)) (t ∙ sym q) (to_map (λ (y : Assigned). opposite y.literal) trail i a s))
+        early l i a h s t (inr q) = other-guards e other f i a other-first h s (t ∙ sym q) f-false
 
         pub visit_moved : IsVisiting known trail w' head f j
         visit_moved = record {
@@ -280,40 +302,38 @@ module _ (known : List (List Literal)) (trail : List Assigned) (w : Watching) (h
             watching = moved-watching;
             within = v.watched.within;
             late = v.watched.late;
-            guarded = λ n c l d x. elim (eq_or n number) as (λ _. IsGuarded trail c l head) [
-              | inl z ↦ elim (new-watch l (subst (λ k. IsWatch w' k l) z x)) as (λ _. IsGuarded trail c l head) [
-                | inl q ↦ (λ i a h s t. absurd (nf (subst (Contains (falses trail)) (t ∙ sym q)
-                    (to_map (λ (y : Assigned). opposite y.literal) trail i a s))))
-                | inr q ↦ subst (λ y. IsGuarded trail c y head) q (v.watched.guarded n c other d (subst (λ k. IsWatch w k other) (sym z) other-watched))
-              ]
-              | inr ne ↦ v.watched.guarded n c l d (back n l ne x)
+            guarded = λ n l k x. elim (eq_or n e) as (λ _. IsGuarded trail k l head) [
+              | inl z ↦ (λ i a h s t. absurd (early l i a h s t (new-watch l (subst (λ y. IsWatch w' y l) z (watch-is w' n l k x)))))
+              | inr ne ↦ v.watched.guarded n l k (back-other n l k ne x)
             ];
           };
           is_next = v.is_next;
-          visited = λ n c d x. elim (eq_or n number) as (λ _. IsGuarded trail c f (suc head) ⊎ IsListed (drop j (list_at w' f)) n) [
-            | inl z ↦ absurd (elim (new-watch f (subst (λ k. IsWatch w' k f) z x)) [ inl q ↦ found-not q | inr q ↦ other-not q ])
-            | inr ne ↦ elim (v.visited n c d (back n f ne x)) as (λ _. IsGuarded trail c f (suc head) ⊎ IsListed (drop j (list_at w' f)) n) [
+          visited = λ n k x. elim (eq_or n e) as (λ _. IsGuarded trail k f (suc head) ⊎ Contains (drop j (list_at w' f)) n) [
+            | inl z ↦ absurd (elim (new-watch f (subst (λ y. IsWatch w' y f) z (watch-is w' n f k x))) [ inl q ↦ found-not q | inr q ↦ other-not q ])
+            | inr ne ↦ elim (v.visited n k (back-other n f k ne x)) as (λ _. IsGuarded trail k f (suc head) ⊎ Contains (drop j (list_at w' f)) n) [
               | inl y ↦ inl y
-              | inr y ↦ inr (let r = still n (λ z. ne (z ∙ is)) y in let t = m.from.kept r.0 r.1 r.3 r.4 in
-                  (r.1, get-drop (list_at w' f) j t.0 r.1 (t.1 r.2) t.2, r.5))
+              | inr y ↦ inr (let r = still n ne y in let t = m.from.kept r.0 n r.2 r.3 in
+                  get-drop (list_at w' f) j t.0 n (t.1 r.1) t.2)
             ]
           ];
         }
 
+-- where all lists were gone over and one of two watched literals is false, the other is true
+pub other_true : (known : List (List Literal)) (trail : List Assigned) (w : Watching) → IsWatched known trail w (length trail)
+    → (n : ℕ) (l m : Literal) → IsOther w n l (Some m) → Contains (falses trail) l → Contains (trues trail) m
+other_true known trail w k n l m x f = let r = from_map (λ (y : Assigned). opposite y.literal) trail l f in
+    let g = k.guarded n l m x r.place r.element (within trail r.place r.element r.is_there) r.is_there r.gives in
+    subst (Contains (trues trail)) g.is_other (to_map (λ (y : Assigned). y.literal) trail g.place g.entry g.is_there)
+
 -- where all lists were gone over, all clauses are settled
 module _ (known : List (List Literal)) (trail : List Assigned) (w : Watching) (apart : IsApart trail)
     (k : IsWatched known trail w (length trail))
-    (shorts : (n : ℕ) (c : List Literal) → Contains w.shorts n → at known n ≡ Some c → HasTrue trail c) where
+    (shorts : (t : Short) (c : List Literal) → Contains w.shorts t → at known t.number ≡ Some c → HasTrue trail c) where
   settled-true : (c : List Literal) (t : Literal) → Contains c t → Contains (trues trail) t → IsSettled trail c
   settled-true c t i h = record {
     not_false = λ f. consistent trail apart t h (All-contains (Contains (falses trail)) c t f i);
     not_unit = λ l o. subst (Contains (trues trail)) (o.others t i (λ f. consistent trail apart t h f)) h;
   }
-
-  by-guard : (n : ℕ) (c : List Literal) (l : Literal) → at known n ≡ Some c → IsWatch w n l → Contains (falses trail) l → IsSettled trail c
-  by-guard n c l e x f = let r = from_map (λ (y : Assigned). opposite y.literal) trail l f in
-      let g = k.guarded n c l e x r.place r.element (within trail r.place r.element r.is_there) r.is_there r.gives in
-      settled-true c g.entry.literal g.in_clause (to_map (λ (y : Assigned). y.literal) trail g.place g.entry g.is_there)
 
   both-open : (c : List Literal) (p : Literal × Literal) → IsPair c p → (¬ Contains (falses trail) p.0) → (¬ Contains (falses trail) p.1) → IsSettled trail c
   both-open c p i a b = record {
@@ -322,17 +342,26 @@ module _ (known : List (List Literal)) (trail : List Assigned) (w : Watching) (a
   }
 
   settled-by : (n : ℕ) (c : List Literal) (o : Option (Literal × Literal)) → at known n ≡ Some c → at w.pairs n ≡ Some o → IsSettled trail c
-  settled-by n c None e q = let r = k.watching.shorts n c e q in let t = shorts n c r.0 e in settled-true c t.0 t.1 t.2
+  settled-by n c None e q = let r = k.watching.shorts n c e q in
+      let t = shorts r.0 c r.1 (ap (at known) r.2 ∙ e) in settled-true c t.0 t.1 t.2
   settled-by n c (Some p) e q = either (has (falses trail) p.0)
-      (λ y. by-guard n c p.0 e (p, q, inl refl) (has-contains (falses trail) p.0 y))
+      (λ y. settled-true c p.1 (k.watching.pairs n c p e q).second (other_true known trail w k n p.0 p.1 (p, q, inl (refl, refl)) (has-contains (falses trail) p.0 y)))
       (λ x. either (has (falses trail) p.1)
-      (λ y. by-guard n c p.1 e (p, q, inr refl) (has-contains (falses trail) p.1 y))
+      (λ y. settled-true c p.0 (k.watching.pairs n c p e q).first (other_true known trail w k n p.1 p.0 (p, q, inr (refl, refl)) (has-contains (falses trail) p.1 y)))
       (λ z. both-open c p (k.watching.pairs n c p e q) (has-not (falses trail) p.0 x) (has-not (falses trail) p.1 z)))
 
   pub all_settled : All (IsSettled trail) known
   all_settled = all_from (IsSettled trail) known (λ c h. let r = contains-get known c h in
       let b : r.0 < length w.pairs = (let q = k.watching.count in let z = within known r.0 c r.1 in omega arith) in
       settled-by (suc r.0) c (get_or w.pairs r.0 None) r.1 (read w.pairs r.0 None b))
+
+-- where all lists were gone over, of two watched literals one is true where the other is false
+pub all_beside : (known : List (List Literal)) (trail : List Assigned) (w : Watching) (head : ℕ) → head ≡ length trail
+    → IsWatched known trail w head → AreTrueBeside trail w.pairs
+all_beside known trail w head e k = λ n p q. (
+  other_true known trail w (subst (IsWatched known trail w) e k) n p.0 p.1 (p, q, inl (refl, refl)),
+  other_true known trail w (subst (IsWatched known trail w) e k) n p.1 p.0 (p, q, inr (refl, refl)),
+)
 
 -- a trail that is cut
 module _ (known : List (List Literal)) (trail : List Assigned) (w : Watching) (head n head' : ℕ)
@@ -345,14 +374,14 @@ module _ (known : List (List Literal)) (trail : List Assigned) (w : Watching) (h
     watching = k.watching;
     within = fits;
     late = λ i a h s. let r = take-within trail n i a s in late i a h r.0 r.1;
-    guarded = λ m c l e x. λ i a h s o. let r = take-within trail n i a s in
-        let g = k.guarded m c l e x i a (omega arith) r.1 o in
+    guarded = λ m l c x. λ i a h s o. let r = take-within trail n i a s in
+        let g = k.guarded m l c x i a (omega arith) r.1 o in
         elim (cases_lt g.place n) as (λ _. IsGuard (take n trail) c i) [
           | inl y ↦ record {
             place = g.place;
             entry = g.entry;
             is_there = get-take trail n g.place y ∙ g.is_there;
-            in_clause = g.in_clause;
+            is_other = g.is_other;
             undecided = λ q b u z t. let p = take-within trail n q b t in g.undecided q b u z p.1;
           }
           | inr y ↦ absurd (let d = edge i g.place g.entry h y g.is_there in g.undecided d.0 d.1 d.2 d.3 d.4 d.5)
@@ -361,19 +390,16 @@ module _ (known : List (List Literal)) (trail : List Assigned) (w : Watching) (h
 
 -- a clause more
 pub watched_more : (known : List (List Literal)) (trail : List Assigned) (w w' : Watching) (head : ℕ) (clause : List Literal)
-    (watched : Option (Literal × Literal)) → CanWatch clause watched → IsEntered w w' watched
+    (watched : Option (Literal × Literal)) → CanWatch clause watched → IsEntered w w' clause watched
     → ((i : ℕ) (a : Assigned) → i < head → slice_get trail i ≡ Some a → (l : Literal) → IsOneOf watched l → opposite a.literal ≢ l)
     → IsWatched known trail w head → IsWatched (known ++ clause ∷ []) trail w' head
 watched_more known trail w w' head clause watched c s unseen k = record {
   watching = entered known w w' clause k.watching watched c s;
   within = k.within;
   late = k.late;
-  guarded = λ n d l e x. elim (old_or_new known w w' clause k.watching watched c s n l x) as (λ _. IsGuarded trail d l head) [
-    | inl o ↦ elim (at-push-cases known clause d n e) as (λ _. IsGuarded trail d l head) [
-      | inl y ↦ k.guarded n d l y o
-      | inr y ↦ absurd (let p = (at-within w.pairs n (Some o.0) o.1).1 in let q = k.watching.count in let z = y.0 in omega arith)
-    ]
-    | inr o ↦ (λ i a h g q. absurd (unseen i a h g l o.1 q))
+  guarded = λ n l m x. elim (other_or_new known w w' clause k.watching watched c s n l m x) as (λ _. IsGuarded trail m l head) [
+    | inl o ↦ k.guarded n l m o
+    | inr o ↦ (λ i a h g q. absurd (unseen i a h g l o q))
   ];
 }
 
@@ -407,7 +433,7 @@ watched_new known trail w e k = subst (λ t. IsWatched known t w 0) (sym e) reco
   watching = k;
   within = omega arith;
   late = λ i a h s. absurd cc;
-  guarded = λ n c l d x. λ i a h s o. absurd (omega arith);
+  guarded = λ n l m x. λ i a h s o. absurd (omega arith);
 }
 
 -- a trail that is cut before a decision, or stays, and is gone through again from just before a place on

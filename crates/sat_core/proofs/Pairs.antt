@@ -5,7 +5,7 @@ use Rattle.proof_steps.specs.declared.Literal.{Literal}
 use Rattle.proof_steps.specs.Meaning.{at}
 use Rattle.proof_checker.specs.Derived.{same}
 use Rattle.std.proofs.lemmas.List.{length-set}
-use Rattle.sat_core.specs.declared.watcher.Watcher.{Watcher}
+use Rattle.sat_core.specs.declared.short.Short.{Short}
 use Rattle.sat_core.specs.Set.{place_of}
 use Rattle.sat_core.specs.Watching.{Watching, IsOther, IsSameBut, IsWithout, IsMoved, row}
 use Rattle.sat_core.proofs.Marking.{same-number}
@@ -54,9 +54,9 @@ pub at-set-other : {X : Type 0} (xs : List X) (n : ℕ) (y : X) → 0 < n → (m
 at-set-other xs n y p zero ne = refl
 at-set-other xs n y p (suc m) ne = get-set-other xs (n - 1) y m (λ e. ne (let q : suc m ≡ n = omega arith in q))
 
-module _ (rows rows' rows'' : List (List Watcher)) (f found other : Literal) (j number : ℕ) (pairs : List (Option (Literal × Literal)))
-    (shorts : List ℕ) (p q : ℕ) (pf : p ≡ place_of f) (qf : q ≡ place_of found) where
-  pub moved : IsSameBut rows rows' q (row rows q ++ record { clause = number; blocker = other } ∷ [])
+module _ (rows rows' rows'' : List (List ℕ)) (f found other : Literal) (j number : ℕ) (pairs : List (Option (Literal × Literal)))
+    (shorts : List Short) (p q : ℕ) (pf : p ≡ place_of f) (qf : q ≡ place_of found) where
+  pub moved : IsSameBut rows rows' q (row rows q ++ number ∷ [])
       → IsWithout (row rows' p) (row rows'' p) j → ((r : ℕ) → r ≢ p → row rows'' r ≡ row rows' r)
       → found ≢ f → 0 < number → number ≤ length pairs
       → IsMoved record { lists = rows; pairs = pairs; shorts = shorts }
@@ -64,7 +64,7 @@ module _ (rows rows' rows'' : List (List Watcher)) (f found other : Literal) (j 
   moved b wo o ne pos h = record {
     from = subst (λ z. IsWithout (row rows z) (row rows'' z) j) pf
         (subst (λ z. IsWithout z (row rows'' p) j) (b.others p (λ e. ne (same-number found f (sym qf ∙ sym e ∙ pf)))) wo);
-    to = subst (λ z. row rows'' z ≡ row rows z ++ record { clause = number; blocker = other } ∷ []) qf
+    to = subst (λ z. row rows'' z ≡ row rows z ++ number ∷ []) qf
         (o q (λ e. ne (same-number found f (sym qf ∙ e ∙ pf))) ∙ b.here);
     others = λ l nf nd. o (place_of l) (λ e. nf (same-number l f (e ∙ pf))) ∙ b.others (place_of l) (λ e. nd (same-number l found (e ∙ qf)));
     here = at-set pairs number (Some (found, other)) pos h;

@@ -1,21 +1,23 @@
 -- Clauses that watch nothing.
-use Rattle.std.specs.Prelude.{ℕ, ◌≡◌, ◌≢◌, ◌+◌, ◌<◌, true, List, [], ◌∷◌, ◌++◌, Some, length, All, Contains, take, get_or, refl}
+use Rattle.std.specs.Prelude.{ℕ, ◌≡◌, ◌≢◌, ◌+◌, ◌<◌, Bool, true, false, None, List, [], ◌∷◌, ◌++◌, Some, length, All, Contains, take, get_or, refl}
 use Rattle.std.proofs.Common.{sym, ◌∙◌, ap, subst, arith, inl}
 use Rattle.std.proofs.lemmas.List.{map-append, take_more, append_assoc}
 use Rattle.std.proofs.lemmas.List.Elements.{All-nil, All-contains, All-push, Contains-push, Contains-append_left}
 use Rattle.proof_steps.specs.declared.Literal.{Literal}
-use Rattle.proof_steps.specs.Meaning.{at}
 use Rattle.sat_core.specs.declared.assigned.Assigned.{Assigned}
-use Rattle.sat_core.specs.declared.propagation.Standing.TheVariants.{Unit}
-use Rattle.sat_core.specs.Trail.{trues, falses, IsSettled, IsTrail}
+use Rattle.sat_core.specs.declared.short.Short.{Short}
+use Rattle.sat_core.specs.Trail.{trues, falses, value_of, IsFalse, IsSettled, IsTrail}
 use Rattle.sat_core.specs.Shown.{plain, Grows}
 use Rattle.sat_core.specs.Held.{Covers}
 use Rattle.sat_core.specs.Analysis.{IsLast}
-use Rattle.sat_core.specs.Propagation.{Stands}
-use Rattle.sat_core.specs.Watching.{Watching, IsShort, IsWatched, HasTrue}
-use Rattle.sat_core.specs.Visiting.{IsAdvance, IsShortAt, IsImpliedShort, HoldShorts}
+use Rattle.sat_core.specs.Propagation.{IsFalseAt, IsFree}
+use Rattle.sat_core.specs.Watching.{Watching, IsShort, IsOnly, IsShortOf, IsWatched, HasTrue}
+use Rattle.sat_core.specs.Visiting.{IsAdvance, IsImpliedShort, HoldShorts}
 use Rattle.sat_core.proofs.Places.{some_is, at-contains, get-contains, read, from_map, to_map, take-within}
-use Rattle.proof_checker.proofs.Sets.{has-not}
+use Rattle.proof_checker.specs.Derived.{has}
+use Rattle.proof_checker.specs.Rules.{IsOnlyOutside}
+use Rattle.proof_checker.proofs.Sets.{has-contains, has-not}
+use Rattle.sat_core.proofs.Standings.{value_true, value_false}
 use Rattle.sat_core.proofs.Fresh.{all_from}
 use Rattle.sat_core.proofs.Growth.{grow}
 use Rattle.sat_core.proofs.Watched.{at-within}
@@ -42,10 +44,10 @@ pub holds_more : (known : List (List Literal)) (old new : List Assigned) (n : �
     → IsImpliedShort known new n true
 holds_more known old new n (more, e) h = λ c k. subst (λ t. HasTrue t c) (sym e) (true_more old more c (h c k))
 
-pub hold_more : (known : List (List Literal)) (old new : List Assigned) (shorts : List ℕ) → Grows old new
-    → All (λ n. IsImpliedShort known old n true) shorts → All (λ n. IsImpliedShort known new n true) shorts
-hold_more known old new shorts g h = all_from (λ n. IsImpliedShort known new n true) shorts
-    (λ n c. holds_more known old new n g (All-contains (λ n. IsImpliedShort known old n true) shorts n h c))
+pub hold_more : (known : List (List Literal)) (old new : List Assigned) (shorts : List Short) → Grows old new
+    → All (λ (s : Short). IsImpliedShort known old s.number true) shorts → All (λ (s : Short). IsImpliedShort known new s.number true) shorts
+hold_more known old new shorts g h = all_from (λ (s : Short). IsImpliedShort known new s.number true) shorts
+    (λ s c. holds_more known old new s.number g (All-contains (λ (s : Short). IsImpliedShort known old s.number true) shorts s h c))
 
 taken-true : (trail : List Assigned) (d : ℕ) (clause : List Literal) → HasTrue (take d trail) clause → HasTrue trail clause
 taken-true trail d clause (l, c, t) = let r = from_map (λ (a : Assigned). a.literal) (take d trail) l t in
@@ -57,53 +59,81 @@ pub decided_shorts : (known : List (List Literal)) (trail trail' : List Assigned
     → IsLast trail' (Some d) → IsWatched known trail w head → HoldShorts known trail w
 decided_shorts known trail trail' w head d t e l k =
     let q : IsLast trail (Some d) = subst (λ x. IsLast x (Some d)) e l in
-    all_from (λ n. IsImpliedShort known trail n true) w.shorts (λ n c. λ cl a. let r = k.watching.known_shorts n c in
+    all_from (λ (z : Short). IsImpliedShort known trail z.number true) w.shorts (λ z c. λ cl a. let r = k.watching.known_shorts z c in
     let s : IsShort cl = subst IsShort (some_is r.0 cl (sym r.1 ∙ a)) r.2 in
     taken-true trail d cl (settled_short (take d trail) cl s
-    (All-contains (IsSettled (take d trail)) known cl (t.settled d q.0 q.1 q.2) (at-contains known n cl a))))
+    (All-contains (IsSettled (take d trail)) known cl (t.settled d q.0 q.1 q.2) (at-contains known z.number cl a))))
 
-module _ (known : List (List Literal)) (trail : List Assigned) (w : Watching) (head : ℕ) (t : IsTrail known trail)
-    (k : IsWatched known trail w head) (number : ℕ) (clause : List Literal) (here : at known number ≡ Some clause) where
-  pub settled_holds : IsShortAt known number → IsSettled trail clause → IsImpliedShort known trail number true
-  settled_holds s q = λ c a. subst (HasTrue trail) (some_is clause c (sym here ∙ a))
-      (settled_short trail clause (subst IsShort (some_is s.0 clause (sym s.1 ∙ here)) s.2) q)
+-- a clause with one literal
+module _ (known : List (List Literal)) (trail : List Assigned) (short : Short) (o : IsShortOf known short) where
+  pub empty_false : short.literal ≡ None → IsFalseAt known trail short.number
+  empty_false e = (o.0, o.1, subst (IsFalse trail) (sym (subst (IsOnly o.0) e o.3)) (All-nil (Contains (falses trail))))
 
-  module _ (l : Literal) (s : Stands trail clause (Unit l)) where
-    not-zero : number ≢ 0
-    not-zero z = let p = (at-within known number clause here).0 in let y : number ≡ 0 = z in omega arith
+  module _ (l : Literal) (e : short.literal ≡ Some l) where
+    in-clause : Contains o.0 l
+    in-clause = subst (IsOnly o.0) e o.3
 
-    pub unit_advance : IsAdvance known trail (trail ++ record { literal = l; reason = number } ∷ [])
-    unit_advance = record {
-      is_trail = grow known trail t record { literal = l; reason = number } (has-not (trues trail) l s.1.not_true) (has-not (falses trail) l s.1.not_false)
-          (λ ne. record { clause = clause; is_reason = here; unit = s.0 }) (λ e. absurd (not-zero e));
-      within = λ variables c x. All-push (λ (a : Assigned). Contains variables (plain a.literal)) trail record { literal = l; reason = number } x
-          (All-contains (λ y. Contains variables (plain y)) clause l
-          (All-contains (Covers variables) known clause c (at-contains known number clause here)) s.0.in_clause);
-      grows = (record { literal = l; reason = number } ∷ [], refl);
-    }
-
-    pub unit_watched : IsWatched known (trail ++ record { literal = l; reason = number } ∷ []) w head
-    unit_watched = watched_push trail record { literal = l; reason = number } known w head (inl not-zero) k
-
-    pub unit_holds : IsImpliedShort known (trail ++ record { literal = l; reason = number } ∷ []) number true
-    unit_holds = λ c a. subst (HasTrue (trail ++ record { literal = l; reason = number } ∷ [])) (some_is clause c (sym here ∙ a)) (
-      l,
-      s.0.in_clause,
-      subst (λ x. Contains x l) (sym (map-append (λ (y : Assigned). y.literal) trail (record { literal = l; reason = number } ∷ [])))
-          (Contains-push (trues trail) l),
+    pub only_false : has (falses trail) l ≡ true → IsFalseAt known trail short.number
+    only_false h = (
+      o.0,
+      o.1,
+      all_from (Contains (falses trail)) o.0
+          (λ m c. subst (Contains (falses trail)) (o.2 l m in-clause c) (has-contains (falses trail) l h)),
     )
 
--- short after short
-pub next_holds : (known : List (List Literal)) (old new : List Assigned) (shorts : List ℕ) (i d : ℕ) → i < length shorts
-    → Grows old new → All (λ m. IsImpliedShort known old m true) (take i shorts) → IsImpliedShort known new (get_or shorts i d) true
-    → All (λ m. IsImpliedShort known new m true) (take (i + 1) shorts)
-next_holds known old new shorts i d h g a p = subst (All (λ m. IsImpliedShort known new m true)) (sym (take_more shorts i d h))
-    (All-push (λ m. IsImpliedShort known new m true) (take i shorts) (get_or shorts i d) (hold_more known old new (take i shorts) g a) p)
+    pub only_true : has (trues trail) l ≡ true → IsImpliedShort known trail short.number true
+    only_true h = λ c a. subst (HasTrue trail) (some_is o.0 c (sym o.1 ∙ a)) (l, in-clause, has-contains (trues trail) l h)
 
-pub short_at : (known : List (List Literal)) (trail : List Assigned) (w : Watching) (head n i : ℕ) (shorts : List ℕ) → IsWatched known trail w head
-    → shorts ≡ w.shorts → i < length shorts → n ≡ get_or shorts i n → IsShortAt known n
-short_at known trail w head n i shorts k e h f = k.watching.known_shorts n
-    (subst (λ x. Contains x n) e (subst (Contains shorts) (sym f) (get-contains shorts i (get_or shorts i n) (read shorts i n h))))
+    pub short_value : (b : Bool) → Some b ≡ value_of trail l → IsImpliedShort known trail short.number b
+    short_value true v = only_true (value_true trail l v)
+    short_value false v = only_false (value_false trail l v)
+
+    module _ (w : Watching) (head : ℕ) (t : IsTrail known trail) (k : IsWatched known trail w head) (free : IsFree trail l) where
+      unit : IsOnlyOutside (falses trail) o.0 l
+      unit = record {
+        in_clause = in-clause;
+        outside = has-not (falses trail) l free.not_false;
+        others = λ m c n. o.2 m l c in-clause;
+      }
+
+      not-zero : short.number ≢ 0
+      not-zero z = let p = (at-within known short.number o.0 o.1).0 in let y : short.number ≡ 0 = z in omega arith
+
+      pub unit_advance : IsAdvance known trail (trail ++ record { literal = l; reason = short.number } ∷ [])
+      unit_advance = record {
+        is_trail = grow known trail t record { literal = l; reason = short.number } (has-not (trues trail) l free.not_true)
+            (has-not (falses trail) l free.not_false)
+            (λ ne. record { clause = o.0; is_reason = o.1; unit = unit }) (λ e. absurd (not-zero e));
+        within = λ variables c x. All-push (λ (a : Assigned). Contains variables (plain a.literal)) trail record { literal = l; reason = short.number } x
+            (All-contains (λ y. Contains variables (plain y)) o.0 l
+            (All-contains (Covers variables) known o.0 c (at-contains known short.number o.0 o.1)) in-clause);
+        grows = (record { literal = l; reason = short.number } ∷ [], refl);
+      }
+
+      pub unit_watched : IsWatched known (trail ++ record { literal = l; reason = short.number } ∷ []) w head
+      unit_watched = watched_push trail record { literal = l; reason = short.number } known w head (inl not-zero) k
+
+      pub unit_holds : IsImpliedShort known (trail ++ record { literal = l; reason = short.number } ∷ []) short.number true
+      unit_holds = λ c a. subst (HasTrue (trail ++ record { literal = l; reason = short.number } ∷ [])) (some_is o.0 c (sym o.1 ∙ a)) (
+        l,
+        in-clause,
+        subst (λ x. Contains x l) (sym (map-append (λ (y : Assigned). y.literal) trail (record { literal = l; reason = short.number } ∷ [])))
+            (Contains-push (trues trail) l),
+      )
+
+-- short after short
+pub next_holds : (known : List (List Literal)) (old new : List Assigned) (shorts : List Short) (i : ℕ) (d : Short) → i < length shorts
+    → Grows old new → All (λ (s : Short). IsImpliedShort known old s.number true) (take i shorts)
+    → IsImpliedShort known new (get_or shorts i d).number true
+    → All (λ (s : Short). IsImpliedShort known new s.number true) (take (i + 1) shorts)
+next_holds known old new shorts i d h g a p = subst (All (λ (s : Short). IsImpliedShort known new s.number true)) (sym (take_more shorts i d h))
+    (All-push (λ (s : Short). IsImpliedShort known new s.number true) (take i shorts) (get_or shorts i d)
+    (hold_more known old new (take i shorts) g a) p)
+
+pub short_at : (known : List (List Literal)) (trail : List Assigned) (w : Watching) (head i : ℕ) (s : Short) (shorts : List Short)
+    → IsWatched known trail w head → shorts ≡ w.shorts → i < length shorts → s ≡ get_or shorts i s → IsShortOf known s
+short_at known trail w head i s shorts k e h f = k.watching.known_shorts s
+    (subst (λ x. Contains x s) e (subst (Contains shorts) (sym f) (get-contains shorts i (get_or shorts i s) (read shorts i s h))))
 
 pub grows_more : (a b c : List Assigned) → Grows a b → Grows b c → Grows a c
 grows_more a b c (x, p) (y, q) = (x ++ y, q ∙ ap (λ z. z ++ y) p ∙ append_assoc a x y)
@@ -112,5 +142,5 @@ grows_more a b c (x, p) (y, q) = (x ++ y, q ∙ ap (λ z. z ++ y) p ∙ append_a
 pub all_done : (known : List (List Literal)) (old new : List Assigned) (w w' : Watching) (head : ℕ) → IsAdvance known old new → head ≡ length new
     → IsWatched known new w' head → w'.shorts ≡ w.shorts → HoldShorts known old w → All (IsSettled new) known
 all_done known old new w w' head a e k s h = all_settled known new w' a.is_trail.apart (subst (IsWatched known new w') e k)
-    (λ n c m q. All-contains (λ m. IsImpliedShort known new m true) w'.shorts n
-    (subst (All (λ m. IsImpliedShort known new m true)) (sym s) (hold_more known old new w.shorts a.grows h)) m c q)
+    (λ t c m q. All-contains (λ (z : Short). IsImpliedShort known new z.number true) w'.shorts t
+    (subst (All (λ (z : Short). IsImpliedShort known new z.number true)) (sym s) (hold_more known old new w.shorts a.grows h)) m c q)

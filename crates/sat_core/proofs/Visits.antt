@@ -8,7 +8,6 @@ use Rattle.proof_steps.specs.declared.Literal.{Literal}
 use Rattle.proof_steps.specs.Meaning.{at, opposite}
 use Rattle.proof_checker.specs.Derived.{has}
 use Rattle.sat_core.specs.declared.assigned.Assigned.{Assigned}
-use Rattle.sat_core.specs.declared.watcher.Watcher.{Watcher}
 use Rattle.sat_core.specs.declared.visiting.Visit.TheVariants.{Next, Failed}
 use Rattle.sat_core.specs.Trail.{trues, falses, IsTrail}
 use Rattle.sat_core.specs.Shown.{plain}
@@ -20,7 +19,7 @@ use Rattle.proof_checker.proofs.Sets.{has-contains, has-not}
 use Rattle.sat_core.proofs.Sets.{one-or-other}
 use Rattle.sat_core.proofs.Growth.{grow}
 use Rattle.sat_core.proofs.Fresh.{all_from}
-use Rattle.sat_core.proofs.Watched.{watch-of, watching_same, at-within}
+use Rattle.sat_core.proofs.Watched.{other-of, watching_same, at-within}
 use Rattle.sat_core.proofs.Guards.{visiting_push, guard_true, visit_kept, visit_moved, visit_dropped}
 
 pub advance_none : (known : List (List Literal)) (trail : List Assigned) → IsTrail known trail → IsAdvance known trail trail
@@ -42,7 +41,7 @@ watched_same known trail w w' head u k = record {
   watching = watching_same known w w' u k.watching;
   within = k.within;
   late = k.late;
-  guarded = λ n c l e x. k.guarded n c l e (watch-of w w' n l (ap (λ z. at z n) u.pairs) x);
+  guarded = λ n l m x. k.guarded n l m (other-of w w' n l m (ap (λ z. at z n) u.pairs) x);
 }
 
 -- one literal is implied by a clause whose others are false
@@ -72,53 +71,47 @@ module _ (known : List (List Literal)) (trail : List Assigned) (t : IsTrail know
   }
 
 module _ (known : List (List Literal)) (trail : List Assigned) (t : IsTrail known trail) (w : Watching) (head : ℕ) (f : Literal) (j : ℕ)
-    (v : IsVisiting known trail w head f j) (e : Watcher) (here : slice_get (list_at w f) j ≡ Some e) where
-  entry-clause : (c : List Literal) × (at known e.clause ≡ Some c) × Contains c e.blocker
-  entry-clause = v.watched.watching.blockers f e (get-contains (list_at w f) j e here)
+    (v : IsVisiting known trail w head f j) (e : ℕ) (here : slice_get (list_at w f) j ≡ Some e) where
+  entry-clause : (c : List Literal) × (at known e ≡ Some c)
+  entry-clause = v.watched.watching.numbers f e (get-contains (list_at w f) j e here)
 
-  pub entry_number : (0 < e.clause) × (e.clause ≤ length known)
-  entry_number = at-within known e.clause entry-clause.0 entry-clause.1
+  pub entry_number : (0 < e) × (e ≤ length known)
+  entry_number = at-within known e entry-clause.0 entry-clause.1
 
-  kept : (c : List Literal) (l : Literal) → at known e.clause ≡ Some c → Contains c l → Contains (trues trail) l
-      → IsVisit known trail w w head f j (Next (j + 1))
-  kept c l k i h = (
-    visit_kept known trail w head f t.apart j v e here c k (guard_true known trail w head f t.apart j v c l i h),
-    (let q = within (list_at w f) j e here in omega arith),
-  )
-
-  pub blocked : has (trues trail) e.blocker ≡ true → IsVisit known trail w w head f j (Next (j + 1))
-  blocked h = kept entry-clause.0 e.blocker entry-clause.1 entry-clause.2 (has-contains (trues trail) e.blocker h)
-
-  pub forgotten : (w' : Watching) → IsDropped w w' f j → IsOther w e.clause f None → IsVisit known trail w w' head f j (Next j)
+  pub forgotten : (w' : Watching) → IsDropped w w' f j → IsOther w e f None → IsVisit known trail w w' head f j (Next j)
   forgotten w' m out = (
     visit_dropped known trail w head f t.apart j v e here w' m out,
     (let q = within (list_at w f) j e here in let z = m.from.fewer in omega arith),
   )
 
-  module _ (other : Literal) (o : IsOther w e.clause f (Some other)) where
-    pair-in : (c : List Literal) → at known e.clause ≡ Some c → Contains c other
-    pair-in c k = let p = v.watched.watching.pairs e.clause c o.0 k o.1 in elim o.2 as (λ _. Contains c other)
+  module _ (other : Literal) (o : IsOther w e f (Some other)) where
+    pair-in : (c : List Literal) → at known e ≡ Some c → Contains c other
+    pair-in c k = let p = v.watched.watching.pairs e c o.0 k o.1 in elim o.2 as (λ _. Contains c other)
         [ inl x ↦ subst (Contains c) x.1 p.second | inr x ↦ subst (Contains c) x.1 p.first ]
 
-    pub other_true : has (trues trail) other ≡ true → IsVisit known trail w w head f j (Next (j + 1))
-    other_true h = kept entry-clause.0 other entry-clause.1 (pair-in entry-clause.0 entry-clause.1) (has-contains (trues trail) other h)
+    pub other_is : has (trues trail) other ≡ true → IsVisit known trail w w head f j (Next (j + 1))
+    other_is h = (
+      visit_kept known trail w head f t.apart j v e here other o
+          (guard_true known trail w head f t.apart j v other (has-contains (trues trail) other h)),
+      (let q = within (list_at w f) j e here in omega arith),
+    )
 
-    pub found_apart : (c : List Literal) (found : Literal) → at known e.clause ≡ Some c → IsReplacement trail c other (Some found)
+    pub found_apart : (c : List Literal) (found : Literal) → at known e ≡ Some c → IsReplacement trail c other (Some found)
         → found ≢ f
     found_apart c found k r q = has-not (falses trail) found r.1.1 (subst (Contains (falses trail)) (sym q) f-is) where
       f-is : Contains (falses trail) f
       f-is = subst (Contains (falses trail)) v.is_next.2
           (to_map (λ (x : Assigned). opposite x.literal) trail head v.is_next.0 v.is_next.1)
 
-    pub replaced : (c : List Literal) (found : Literal) (w' : Watching) → at known e.clause ≡ Some c → IsReplacement trail c other (Some found)
-        → IsMoved w w' f j e.clause other found → IsVisit known trail w w' head f j (Next j)
+    pub replaced : (c : List Literal) (found : Literal) (w' : Watching) → at known e ≡ Some c → IsReplacement trail c other (Some found)
+        → IsMoved w w' f j e other found → IsVisit known trail w w' head f j (Next j)
     replaced c found w' k r m = (
-      visit_moved known trail w head f t.apart j v e here w' e.clause other found m refl c k r.0 r.1.0 (has-not (falses trail) found r.1.1) o,
+      visit_moved known trail w head f t.apart j v e here w' other found m c k r.0 r.1.0 (has-not (falses trail) found r.1.1) o,
       (let q = within (list_at w f) j e here in let z = m.from.fewer in omega arith),
     )
 
-    pub failed : (c : List Literal) → at known e.clause ≡ Some c → IsReplacement trail c other None → has (falses trail) other ≡ true
-        → IsVisit known trail w w head f j (Failed e.clause)
+    pub failed : (c : List Literal) → at known e ≡ Some c → IsReplacement trail c other None → has (falses trail) other ≡ true
+        → IsVisit known trail w w head f j (Failed e)
     failed c k r h = (
       (
         c,
@@ -130,20 +123,19 @@ module _ (known : List (List Literal)) (trail : List Assigned) (t : IsTrail know
       v.watched,
     )
 
-    module _ (c : List Literal) (k : at known e.clause ≡ Some c) (r : IsReplacement trail c other None)
+    module _ (c : List Literal) (k : at known e ≡ Some c) (r : IsReplacement trail c other None)
         (nt : has (trues trail) other ≡ false) (nf : has (falses trail) other ≡ false) where
-      pub pushed_advance : IsAdvance known trail (trail ++ record { literal = other; reason = e.clause } ∷ [])
-      pushed_advance = advance_push known trail t e.clause c k other (pair-in c k) r nt nf
+      pub pushed_advance : IsAdvance known trail (trail ++ record { literal = other; reason = e } ∷ [])
+      pushed_advance = advance_push known trail t e c k other (pair-in c k) r nt nf
 
-      pub pushed : IsVisit known (trail ++ record { literal = other; reason = e.clause } ∷ []) w w head f j (Next (j + 1))
+      pub pushed : IsVisit known (trail ++ record { literal = other; reason = e } ∷ []) w w head f j (Next (j + 1))
       pushed =
-          let more = trail ++ record { literal = other; reason = e.clause } ∷ [] in
-          let v' = visiting_push trail record { literal = other; reason = e.clause } known w head f j
-          (λ z. let p = entry_number.0 in let y : e.clause ≡ 0 = z in omega arith) v in
+          let v' = visiting_push trail record { literal = other; reason = e } known w head f j
+          (λ z. let p = entry_number.0 in let y : e ≡ 0 = z in omega arith) v in
           let apart = pushed_advance.is_trail.apart in (
-            visit_kept known (trail ++ record { literal = other; reason = e.clause } ∷ []) w head f apart j v' e here c k
-                (guard_true known (trail ++ record { literal = other; reason = e.clause } ∷ []) w head f apart j v' c other (pair-in c k)
-                (subst (λ x. Contains x other) (sym (map-append (λ (x : Assigned). x.literal) trail (record { literal = other; reason = e.clause } ∷ [])))
+            visit_kept known (trail ++ record { literal = other; reason = e } ∷ []) w head f apart j v' e here other o
+                (guard_true known (trail ++ record { literal = other; reason = e } ∷ []) w head f apart j v' other
+                (subst (λ x. Contains x other) (sym (map-append (λ (x : Assigned). x.literal) trail (record { literal = other; reason = e } ∷ [])))
                 (Contains-push (trues trail) other))),
             (let q = within (list_at w f) j e here in omega arith),
           )

@@ -1,4 +1,5 @@
 pub mod Trail
+pub mod Store
 pub mod Shown
 pub mod Held
 pub mod Set

@@ -4,13 +4,14 @@ use Rattle.proof_steps.specs.declared.Literal.{Literal}
 use Rattle.proof_steps.specs.Meaning.{at}
 use Rattle.proof_checker.specs.Derived.{has}
 use Rattle.sat_core.specs.declared.assigned.Assigned.{Assigned}
+use Rattle.sat_core.specs.declared.short.Short.{Short}
 use Rattle.sat_core.specs.declared.visiting.Visit.{Visit}
 use Rattle.sat_core.specs.declared.visiting.Visit.TheVariants.{Next, Failed}
 use Rattle.sat_core.specs.Trail.{falses, IsTrail}
 use Rattle.sat_core.specs.Held.{Covers, IsWithin}
 use Rattle.sat_core.specs.Shown.{Grows}
 use Rattle.sat_core.specs.Propagation.{IsFalseAt}
-use Rattle.sat_core.specs.Watching.{Watching, list_at, IsVisiting, IsWatched, IsShort, HasTrue}
+use Rattle.sat_core.specs.Watching.{Watching, list_at, IsVisiting, IsWatched, HasTrue}
 
 -- another literal, which is not false
 abbrev pub CanStand : List Assigned → Literal → Literal → Bool → Type 0
@@ -42,10 +43,6 @@ abbrev pub IsGoneThrough : List (List Literal) → List Assigned → ℕ → Opt
 IsGoneThrough known new head None = head ≡ length new
 IsGoneThrough known new head (Some n) = IsFalseAt known new n
 
--- the numbered clause has no two different literals
-abbrev pub IsShortAt : List (List Literal) → ℕ → Type 0
-IsShortAt known n = (c : List Literal) × (at known n ≡ Some c) × IsShort c
-
 -- the numbered clause has a true literal, or is false
 abbrev pub IsImpliedShort : List (List Literal) → List Assigned → ℕ → Bool → Type 0
 IsImpliedShort known trail n true = (c : List Literal) → at known n ≡ Some c → HasTrue trail c
@@ -53,7 +50,7 @@ IsImpliedShort known trail n false = IsFalseAt known trail n
 
 -- the clauses that watch nothing have true literals
 abbrev pub HoldShorts : List (List Literal) → List Assigned → Watching → Type 0
-HoldShorts known trail w = All (λ n. IsImpliedShort known trail n true) w.shorts
+HoldShorts known trail w = All (λ (s : Short). IsImpliedShort known trail s.number true) w.shorts
 
 abbrev pub AreShortsImplied : List (List Literal) → List Assigned → Watching → Option ℕ → Type 0
 AreShortsImplied known trail w None = HoldShorts known trail w

@@ -5,29 +5,26 @@ use Rattle.std.specs.declared.alloc.Global.{Global}
 use Rattle.proof_steps.specs.declared.Literal.{Literal}
 use Rattle.proof_steps.specs.Meaning.{at, opposite}
 use Rattle.sat_core.specs.declared.assigned.Assigned.{Assigned}
-use Rattle.sat_core.specs.declared.watcher.Watcher.{Watcher}
+use Rattle.sat_core.specs.declared.short.Short.{Short}
 use Rattle.sat_core.specs.Set.{place_of}
 use Rattle.sat_core.specs.Trail.{trues}
+use Rattle.sat_core.specs.Shown.{IsTold}
 
--- the lists of the clauses that watch a literal, by its place, with a literal of each clause; of
--- each clause the two literals that it watches; and the numbers of the clauses that watch none
+-- the lists of the clauses that watch a literal, by its place; of each clause the two literals that it
+-- watches; and the clauses that watch none
 pub record Watching : Type 0 where
-  pub lists : List (List Watcher)
+  pub lists : List (List ℕ)
   pub pairs : List (Option (Literal × Literal))
-  pub shorts : List ℕ
+  pub shorts : List Short
 
-abbrev pub lists_of : List (Vec Watcher Global) → List (List Watcher)
-lists_of rows = map (λ (v : Vec Watcher Global). v.items) rows
+abbrev pub lists_of : List (Vec ℕ Global) → List (List ℕ)
+lists_of rows = map (λ (v : Vec ℕ Global). v.items) rows
 
-abbrev pub row : List (List Watcher) → ℕ → List Watcher
+abbrev pub row : List (List ℕ) → ℕ → List ℕ
 row lists p = get_or lists p []
 
-abbrev pub list_at : Watching → Literal → List Watcher
+abbrev pub list_at : Watching → Literal → List ℕ
 list_at w l = row w.lists (place_of l)
-
--- the numbered clause is listed
-abbrev pub IsListed : List Watcher → ℕ → Type 0
-IsListed list n = (e : Watcher) × Contains list e × (e.clause ≡ n)
 
 -- the literal is one of the two that the numbered clause watches
 abbrev pub IsWatch : Watching → ℕ → Literal → Type 0
@@ -42,12 +39,20 @@ IsOther w n l (Some m) =
 
 -- the two that the numbered clause watches, if there is one and it watches any
 abbrev pub IsPairAt : Watching → ℕ → Option (Literal × Literal) → Type 0
-IsPairAt w n (Some p) = at w.pairs n ≡ Some (Some p)
-IsPairAt w n None = (p : Literal × Literal) → at w.pairs n ≡ Some (Some p) → ⊥
+IsPairAt w n r = IsTold w.pairs n r
 
 -- the clause has no two different literals
 abbrev pub IsShort : List Literal → Type 0
 IsShort clause = (l m : Literal) → Contains clause l → Contains clause m → l ≡ m
+
+-- the literal is the clause's only one; there is none where the clause is empty
+abbrev pub IsOnly : List Literal → Option Literal → Type 0
+IsOnly clause None = clause ≡ []
+IsOnly clause (Some l) = Contains clause l
+
+-- so is the short clause of that number
+abbrev pub IsShortOf : List (List Literal) → Short → Type 0
+IsShortOf known s = (c : List Literal) × (at known s.number ≡ Some c) × IsShort c × IsOnly c s.literal
 
 pub record IsPair (clause : List Literal) (p : Literal × Literal) : Type 0 where
   pub first : Contains clause p.0
@@ -59,61 +64,59 @@ pub record IsWatching (known : List (List Literal)) (w : Watching) : Type 0 wher
   pub count : length w.pairs ≡ length known
   pub pairs : (n : ℕ) (c : List Literal) (p : Literal × Literal) → at known n ≡ Some c
       → at w.pairs n ≡ Some (Some p) → IsPair c p
-  pub listed : (n : ℕ) (l : Literal) → IsWatch w n l → IsListed (list_at w l) n
+  pub listed : (n : ℕ) (l : Literal) → IsWatch w n l → Contains (list_at w l) n
   pub shorts : (n : ℕ) (c : List Literal) → at known n ≡ Some c → at w.pairs n ≡ Some None
-      → Contains w.shorts n × IsShort c
-  pub known_shorts : (n : ℕ) → Contains w.shorts n → (c : List Literal) × (at known n ≡ Some c) × IsShort c
-  pub blockers : (l : Literal) (e : Watcher) → Contains (list_at w l) e
-      → (c : List Literal) × (at known e.clause ≡ Some c) × Contains c e.blocker
+      → (s : Short) × Contains w.shorts s × (s.number ≡ n) × IsShort c
+  pub known_shorts : (s : Short) → Contains w.shorts s → IsShortOf known s
+  pub numbers : (l : Literal) (n : ℕ) → Contains (list_at w l) n → (c : List Literal) × (at known n ≡ Some c)
 
--- a literal of the clause is true, and no decision stands after the place up to it
-pub record IsGuard (trail : List Assigned) (clause : List Literal) (i : ℕ) : Type 0 where
+-- the literal is true, and no decision stands after the place up to it
+pub record IsGuard (trail : List Assigned) (other : Literal) (i : ℕ) : Type 0 where
   pub place : ℕ
   pub entry : Assigned
   pub is_there : slice_get trail place ≡ Some entry
-  pub in_clause : Contains clause entry.literal
+  pub is_other : entry.literal ≡ other
   pub undecided : (k : ℕ) (b : Assigned) → i < k → k ≤ place → slice_get trail k ≡ Some b → b.reason ≢ 0
 
--- where the literal became false before place n, such a literal of the clause is true
-abbrev pub IsGuarded : List Assigned → List Literal → Literal → ℕ → Type 0
-IsGuarded trail clause l n =
-    (i : ℕ) (a : Assigned) → i < n → slice_get trail i ≡ Some a → opposite a.literal ≡ l → IsGuard trail clause i
+-- where the literal became false before place n, the other one is so true
+abbrev pub IsGuarded : List Assigned → Literal → Literal → ℕ → Type 0
+IsGuarded trail other l n =
+    (i : ℕ) (a : Assigned) → i < n → slice_get trail i ≡ Some a → opposite a.literal ≡ l → IsGuard trail other i
 
 -- the lists of what became false before place `head` were gone over; decisions stand no later
 pub record IsWatched (known : List (List Literal)) (trail : List Assigned) (w : Watching) (head : ℕ) : Type 0 where
   pub watching : IsWatching known w
   pub within : head ≤ length trail
   pub late : (i : ℕ) (a : Assigned) → head < i → slice_get trail i ≡ Some a → a.reason ≢ 0
-  pub guarded : (n : ℕ) (c : List Literal) (l : Literal) → at known n ≡ Some c → IsWatch w n l
-      → IsGuarded trail c l head
+  pub guarded : (n : ℕ) (l other : Literal) → IsOther w n l (Some other) → IsGuarded trail other l head
 
 -- of the list of what became false at `head` the entries before place j were gone over
 pub record IsVisiting (known : List (List Literal)) (trail : List Assigned) (w : Watching) (head : ℕ) (f : Literal)
     (j : ℕ) : Type 0 where
   pub watched : IsWatched known trail w head
   pub is_next : (a : Assigned) × (slice_get trail head ≡ Some a) × (opposite a.literal ≡ f)
-  pub visited : (n : ℕ) (c : List Literal) → at known n ≡ Some c → IsWatch w n f
-      → IsGuarded trail c f (suc head) ⊎ IsListed (drop j (list_at w f)) n
+  pub visited : (n : ℕ) (other : Literal) → IsOther w n f (Some other)
+      → IsGuarded trail other f (suc head) ⊎ Contains (drop j (list_at w f)) n
 
 -- one element less: those from place j on but it are there from place j on
-pub record IsWithout (old new : List Watcher) (j : ℕ) : Type 0 where
+pub record IsWithout (old new : List ℕ) (j : ℕ) : Type 0 where
   pub fewer : length new + 1 ≡ length old
-  pub kept : (k : ℕ) (e : Watcher) → k ≢ j → slice_get old k ≡ Some e
+  pub kept : (k e : ℕ) → k ≢ j → slice_get old k ≡ Some e
       → (i : ℕ) × (j ≤ k → j ≤ i) × (slice_get new i ≡ Some e)
-  pub only : (e : Watcher) → Contains new e → Contains old e
+  pub only : (e : ℕ) → Contains new e → Contains old e
 
 -- the list at a place has changed, and no other
-pub record IsSameBut (old new : List (List Watcher)) (p : ℕ) (list : List Watcher) : Type 0 where
+pub record IsSameBut (old new : List (List ℕ)) (p : ℕ) (list : List ℕ) : Type 0 where
   pub here : row new p ≡ list
   pub others : (q : ℕ) → q ≢ p → row new q ≡ row old q
 
-abbrev pub AreSame : List (List Watcher) → List (List Watcher) → Type 0
+abbrev pub AreSame : List (List ℕ) → List (List ℕ) → Type 0
 AreSame old new = (p : ℕ) → row new p ≡ row old p
 
 -- an entry more in each of two lists
-pub record AreBoth (old new : List (List Watcher)) (number : ℕ) (a b : Literal) : Type 0 where
-  pub first : row new (place_of a) ≡ row old (place_of a) ++ record { clause = number; blocker = b } ∷ []
-  pub second : row new (place_of b) ≡ row old (place_of b) ++ record { clause = number; blocker = a } ∷ []
+pub record AreBoth (old new : List (List ℕ)) (number : ℕ) (a b : Literal) : Type 0 where
+  pub first : row new (place_of a) ≡ row old (place_of a) ++ number ∷ []
+  pub second : row new (place_of b) ≡ row old (place_of b) ++ number ∷ []
   pub others : (l : Literal) → l ≢ a → l ≢ b → row new (place_of l) ≡ row old (place_of l)
 
 abbrev pub IsApartPair : Option (Literal × Literal) → Type 0
@@ -136,7 +139,7 @@ pub record IsDropped (old new : Watching) (f : Literal) (j : ℕ) : Type 0 where
 -- the numbered clause watches another literal, and its entry stands there
 pub record IsMoved (old new : Watching) (f : Literal) (j : ℕ) (number : ℕ) (other found : Literal) : Type 0 where
   pub from : IsWithout (list_at old f) (list_at new f) j
-  pub to : list_at new found ≡ list_at old found ++ record { clause = number; blocker = other } ∷ []
+  pub to : list_at new found ≡ list_at old found ++ number ∷ []
   pub others : (l : Literal) → l ≢ f → l ≢ found → list_at new l ≡ list_at old l
   pub here : at new.pairs number ≡ Some (Some (found, other))
   pub pairs : (n : ℕ) → n ≢ number → at new.pairs n ≡ at old.pairs n
@@ -150,19 +153,22 @@ HasTrue trail clause = (l : Literal) × Contains clause l × Contains (trues tra
 -- one clause more, which watches two literals or none
 pub record IsPaired (old new : Watching) (a b : Literal) : Type 0 where
   pub pairs : new.pairs ≡ old.pairs ++ Some (a, b) ∷ []
-  pub first : list_at new a ≡ list_at old a ++ record { clause = length old.pairs + 1; blocker = b } ∷ []
-  pub second : list_at new b ≡ list_at old b ++ record { clause = length old.pairs + 1; blocker = a } ∷ []
+  pub first : list_at new a ≡ list_at old a ++ (length old.pairs + 1) ∷ []
+  pub second : list_at new b ≡ list_at old b ++ (length old.pairs + 1) ∷ []
   pub others : (l : Literal) → l ≢ a → l ≢ b → list_at new l ≡ list_at old l
   pub shorts : new.shorts ≡ old.shorts
 
-pub record IsShortened (old new : Watching) : Type 0 where
+pub record IsShortened (old new : Watching) (only : Option Literal) : Type 0 where
   pub pairs : new.pairs ≡ old.pairs ++ None ∷ []
   pub lists : new.lists ≡ old.lists
-  pub shorts : new.shorts ≡ old.shorts ++ (length old.pairs + 1) ∷ []
+  pub shorts : new.shorts ≡ old.shorts ++ record { number = length old.pairs + 1; literal = only } ∷ []
 
-abbrev pub IsEntered : Watching → Watching → Option (Literal × Literal) → Type 0
-IsEntered old new None = IsShortened old new
-IsEntered old new (Some p) = IsPaired old new p.0 p.1
+abbrev pub IsEnteredWith : Watching → Watching → Option Literal → Option (Literal × Literal) → Type 0
+IsEnteredWith old new only None = IsShortened old new only
+IsEnteredWith old new only (Some p) = IsPaired old new p.0 p.1
+
+abbrev pub IsEntered : Watching → Watching → List Literal → Option (Literal × Literal) → Type 0
+IsEntered old new clause watched = (only : Option Literal) × IsOnly clause only × IsEnteredWith old new only watched
 
 -- these two literals of the clause may be watched, or it is short
 abbrev pub CanWatch : List Literal → Option (Literal × Literal) → Type 0

@@ -1,14 +1,15 @@
 //! What propagation came to.
 
 ghost use Rattle.std.specs.Prelude.{◌≡◌, ◌<◌, OnErr, IfOk, OnOk, All, map, length};
-ghost use Rattle.proof_steps.specs.View.{clause_view, step_view};
+ghost use Rattle.proof_steps.specs.View.{step_view};
 ghost use Rattle.sat_core.specs.Trail.{IsTrail};
 ghost use Rattle.sat_core.specs.Held.{Covers, IsWithin, IsPlain};
-ghost use Rattle.sat_core.specs.Shown.{Grows};
+ghost use Rattle.sat_core.specs.Shown.{AreTrueBeside, Grows};
 ghost use Rattle.sat_core.specs.Analysis.{IsLast};
 ghost use Rattle.sat_core.specs.Propagation.{IsFalseAt};
 ghost use Rattle.sat_core.specs.Watching.{IsWatched};
 ghost use Rattle.sat_core.specs.Answer.{IsEnded, IsAnswered};
+ghost use Rattle.sat_core.specs.declared.answer.Answer.TheVariants.{Full};
 
 use crate::analysis::last_decision;
 use crate::assigned::Assigned;
@@ -16,8 +17,9 @@ use crate::assignment::Assignment;
 use crate::derived::refuted;
 use crate::order::Order;
 use crate::propagation::run;
+use crate::store::{ClauseStore, Looks};
 use crate::watches::Watches;
-use proof_steps::{Clause, Literal, Step};
+use proof_steps::{Literal, Step};
 use std::alloc::{AllocError, Global};
 
 /// As many clauses as numbers can name.
@@ -35,7 +37,7 @@ pub enum Answer {
 /// Derives the empty clause from a false one, unless it is known.
 fn end(
     alloc: Global,
-    clauses: &mut Vec<Clause>,
+    clauses: &mut ClauseStore,
     watches: &mut Watches,
     log: &mut Vec<Step>,
     trail: &[Assigned],
@@ -43,15 +45,15 @@ fn end(
     head: usize,
     ended: bool,
 ) -> Result<(), AllocError>
-    requires is_trail { IsTrail (map clause_view clauses.old.items) trail.now }
-    requires is_false { IsFalseAt (map clause_view clauses.old.items) trail.now number }
+    requires is_trail { IsTrail clauses.old trail.now }
+    requires is_false { IsFalseAt clauses.old trail.now number }
     requires no_decision { IsLast trail.now None }
-    requires watched { IsWatched (map clause_view clauses.old.items) trail.now watches.old head }
-    ensures ok { OnOk result (IsEnded ended (map clause_view clauses.old.items) (map clause_view clauses.new.items)
+    requires watched { IsWatched clauses.old trail.now watches.old head }
+    ensures ok { OnOk result (IsEnded ended clauses.old clauses.new
         (map step_view log.old.items) (map step_view log.new.items)) }
-    ensures clauses { OnErr result (clauses.new.items ≡ clauses.old.items) }
+    ensures clauses { OnErr result (clauses.new ≡ clauses.old) }
     ensures log { OnErr result (log.new.items ≡ log.old.items) }
-    ensures watched { IsWatched (map clause_view clauses.new.items) trail.now watches.new head }
+    ensures watched { IsWatched clauses.new trail.now watches.new head }
 {
     if ended {
         return Ok(());
@@ -66,7 +68,8 @@ fn end(
 /// Goes on with what is assigned; where a clause is false with no decision, derives the empty clause.
 pub fn answered(
     alloc: Global,
-    clauses: &mut Vec<Clause>,
+    clauses: &mut ClauseStore,
+    looks: &mut Looks,
     variables: &[Literal],
     watches: &mut Watches,
     log: &mut Vec<Step>,
@@ -75,22 +78,26 @@ pub fn answered(
     order: &mut Order,
     ended: bool,
 ) -> Result<Answer, AllocError>
-    requires is_trail { IsTrail (map clause_view clauses.old.items) assignment.old }
-    requires covers { All (Covers variables.now) (map clause_view clauses.old.items) }
+    requires is_trail { IsTrail clauses.old assignment.old }
+    requires covers { All (Covers variables.now) clauses.old }
     requires within { IsWithin variables.now assignment.old }
     requires plains { All IsPlain variables.now }
-    requires watched { IsWatched (map clause_view clauses.old.items) assignment.old watches.old head.old }
-    ensures answer { IfOk result (λ a. IsAnswered ended (map clause_view clauses.old.items)
-        (map clause_view clauses.new.items) (map step_view log.old.items) (map step_view log.new.items) variables.now
+    requires watched { IsWatched clauses.old assignment.old watches.old head.old }
+    ensures answer { IfOk result (λ a. IsAnswered ended clauses.old
+        clauses.new (map step_view log.old.items) (map step_view log.new.items) variables.now
         assignment.new a) }
-    ensures clauses { OnErr result (clauses.new.items ≡ clauses.old.items) }
+    ensures beside { IfOk result (λ a. a ≡ Full → AreTrueBeside assignment.new watches.new.pairs) }
+    ensures clauses { OnErr result (clauses.new ≡ clauses.old) }
     ensures log { OnErr result (log.new.items ≡ log.old.items) }
-    ensures is_trail { IsTrail (map clause_view clauses.old.items) assignment.new }
+    ensures is_trail { IsTrail clauses.old assignment.new }
     ensures within { IsWithin variables.now assignment.new }
     ensures grows { Grows assignment.old assignment.new }
-    ensures watched { IsWatched (map clause_view clauses.new.items) assignment.new watches.new head.new }
+    ensures watched { IsWatched clauses.new assignment.new watches.new head.new }
 {
-    let Some(number) = run(alloc, clauses, variables, watches, assignment, head, order)? else {
+    let Some(number) = run(
+        alloc, clauses, looks, variables, watches, assignment, head, order,
+    )?
+    else {
         return Ok(Answer::Full);
     };
     let trail = assignment.entries();

@@ -2,15 +2,15 @@
 //! after Sörensson and Biere, "Minimizing learned clauses", 2009.
 
 ghost use Rattle.std.specs.Prelude.{◌≡◌, ◌+◌, ◌<◌, ◌≤◌, ℕ, IfOk, IsTrue, map, length, reverse};
-ghost use Rattle.proof_steps.specs.View.{clause_view};
 ghost use Rattle.proof_steps.specs.declared.Literal.{Literal as SignedLiteral};
 ghost use Rattle.sat_core.specs.Trail.{IsTrail};
 ghost use Rattle.sat_core.specs.Reduction.{IsMarkedBut, AreMarkedBut, IsSpareAt, IsReduced};
 
-use crate::analysis::{clause_at, is_marked, opposite};
+use crate::analysis::{is_marked, opposite};
 use crate::assigned::Assigned;
 use crate::set::{LiteralSet, same};
-use proof_steps::{Clause, Literal};
+use crate::store::{ClauseStore, Looks};
+use proof_steps::Literal;
 use smallvec::SmallVec;
 use std::alloc::AllocError;
 
@@ -34,23 +34,30 @@ fn all_marked(marked: &LiteralSet, clause: &[Literal], but: Literal) -> bool
 }
 
 /// Whether the entry at a place has a reason all of whose other literals are marked.
-fn is_spare(clauses: &[Clause], trail: &[Assigned], marked: &LiteralSet, at: usize) -> bool
-    requires is_trail { IsTrail (map clause_view clauses.now) trail.now }
+fn is_spare(
+    clauses: &ClauseStore,
+    looks: &mut Looks,
+    trail: &[Assigned],
+    marked: &LiteralSet,
+    at: usize,
+) -> bool
+    requires is_trail { IsTrail clauses.now trail.now }
     requires within { at < length trail.now }
-    ensures { IsTrue result → IsSpareAt (map clause_view clauses.now) trail.now marked.now at }
+    ensures { IsTrue result → IsSpareAt clauses.now trail.now marked.now at }
 {
     let entry = trail[at];
     if entry.reason == 0 {
         return false;
     }
-    let reason = clause_at(clauses, entry.reason);
+    let reason = clauses.look(looks, entry.reason);
     all_marked(marked, reason.literals.as_slice(), entry.literal)
 }
 
 /// Keeps what the entry at a place made false, if that is marked; where it can be spared the hints
 /// get its reason instead.
 fn pass(
-    clauses: &[Clause],
+    clauses: &ClauseStore,
+    looks: &mut Looks,
     trail: &[Assigned],
     marked: &LiteralSet,
     at: usize,
@@ -58,19 +65,19 @@ fn pass(
     literals: &mut SmallVec<Literal, 4>,
     hints: &mut Vec<u32>,
 ) -> Result<usize, AllocError>
-    requires is_trail { IsTrail (map clause_view clauses.now) trail.now }
+    requires is_trail { IsTrail clauses.now trail.now }
     requires within { at < length trail.now }
     ensures { IfOk result (λ new. (n : ℕ) (last : SignedLiteral) → at < n
-        → IsReduced (map clause_view clauses.now) trail.now marked.now n last literals.old.items low (at + 1)
+        → IsReduced clauses.now trail.now marked.now n last literals.old.items low (at + 1)
         (reverse hints.old.items)
-        → IsReduced (map clause_view clauses.now) trail.now marked.now n last literals.new.items new at
+        → IsReduced clauses.now trail.now marked.now n last literals.new.items new at
         (reverse hints.new.items)) }
 {
     let entry = trail[at];
     if !is_marked(marked, entry) {
         return Ok(low);
     }
-    if is_spare(clauses, trail, marked, at) {
+    if is_spare(clauses, looks, trail, marked, at) {
         hints.push(entry.reason)?;
         return Ok(low);
     }
@@ -85,26 +92,27 @@ fn pass(
 /// to the first, and gives the least place from which on none of these became false.
 /// The hints come from the last to the first.
 pub fn reduce(
-    clauses: &[Clause],
+    clauses: &ClauseStore,
+    looks: &mut Looks,
     trail: &[Assigned],
     marked: &LiteralSet,
     from: usize,
     literals: &mut SmallVec<Literal, 4>,
     hints: &mut Vec<u32>,
 ) -> Result<usize, AllocError>
-    requires is_trail { IsTrail (map clause_view clauses.now) trail.now }
+    requires is_trail { IsTrail clauses.now trail.now }
     requires within { from ≤ length trail.now }
     ensures { IfOk result (λ low. (last : SignedLiteral)
-        → IsReduced (map clause_view clauses.now) trail.now marked.now from last literals.old.items 0 from
+        → IsReduced clauses.now trail.now marked.now from last literals.old.items 0 from
         (reverse hints.old.items)
-        → IsReduced (map clause_view clauses.now) trail.now marked.now from last literals.new.items low 0
+        → IsReduced clauses.now trail.now marked.now from last literals.new.items low 0
         (reverse hints.new.items)) }
 {
     let mut low = 0;
     let mut i = from;
     while i > 0 {
         i -= 1;
-        low = pass(clauses, trail, marked, i, low, literals, hints)?;
+        low = pass(clauses, looks, trail, marked, i, low, literals, hints)?;
     }
     Ok(low)
 }

@@ -1,6 +1,6 @@
 ghost use Rattle.std.specs.Prelude.{◌≡◌, ◌⊎◌, ◌++◌, ◌∷◌, ◌<◌, ◌≤◌, ◌^◌, [], OnOk, OnErr, IfOk, IsTrue, true, map, length, take, List, ℕ};
 ghost use Rattle.proof_steps.specs.View.{clause_view, step_view};
-ghost use Rattle.sat_core.specs.Shown.{Begins, IsAsBefore, Adds, Learns, Finds, IsWatchedPair, learnt_count};
+ghost use Rattle.sat_core.specs.Shown.{Begins, IsAsBefore, Adds, Learns, Finds, IsWatchedPair, IsTold, learnt_count};
 ghost use Rattle.sat_core.specs.Trail.{value_of};
 ghost use Rattle.cnf_maker.specs.View.{form_view};
 ghost use Rattle.proof_steps.specs.declared.Literal.{Literal as SignedLiteral};
@@ -16,6 +16,7 @@ use crate::found::{Found, SearchFault};
 use crate::order::Order;
 use crate::placing::{Placing, placed};
 use crate::set::LiteralSet;
+use crate::store::{ClauseStore, Looks};
 use crate::variables::{add_atoms, admit, admit_all, flags_of};
 use crate::watches::Watches;
 use cnf_maker::Cnf;
@@ -26,7 +27,8 @@ use std::marker::Model;
 /// A search over the clauses of a query and those that are added and learnt.
 #[derive(Drop)]
 pub struct Search {
-    clauses: Vec<Clause>,
+    clauses: ClauseStore,
+    looks: Looks,
     log: Vec<Step>,
     variables: Vec<Literal>,
     assignment: Assignment,
@@ -49,17 +51,19 @@ impl Model for Search {
     ghost Value = { Shown };
 
     ghost view = { λ s. record {
-      known = map clause_view s.clauses.items;
+      known = s.clauses;
       log = map step_view s.log.items;
       variables = s.variables.items;
       trail = s.assignment;
       in_conflict = s.in_conflict;
+      looks = s.looks;
+      watched = s.watches.pairs;
     } };
 
     ghost invariant = { λ s.
-        IsHeld (map clause_view s.clauses.items) (map step_view s.log.items) s.variables.items s.assignment
+        IsHeld s.clauses (map step_view s.log.items) s.variables.items s.assignment
         s.in_conflict s.conflict s.ended
-        × IsWatched (map clause_view s.clauses.items) s.assignment s.watches s.head };
+        × IsWatched s.clauses s.assignment s.watches s.head };
 }
 
 /// Leaves the first entries alone, and lets the lists be gone through again from the last decision on.
@@ -129,7 +133,7 @@ impl Search {
         add_atoms(&mut variables, &cnf.atoms)?;
         let mut order = Order::new(alloc);
         order.grow(&variables)?;
-        let mut clauses = Vec::new(alloc);
+        let mut clauses = ClauseStore::new(alloc);
         let mut watches = Watches::new(alloc);
         admit_all(
             alloc,
@@ -139,11 +143,14 @@ impl Search {
             &order,
             &cnf.clauses,
         )?;
+        let looks = Looks::new();
+        let log = Vec::new(alloc);
         let assignment = Assignment::new(alloc);
         let marked = LiteralSet::new(alloc);
         Ok(Search {
             clauses,
-            log: Vec::new(alloc),
+            looks,
+            log,
             variables,
             assignment,
             watches,
@@ -181,10 +188,19 @@ impl Search {
         self.assignment.value(literal)
     }
 
+    /// How often a clause was looked at; at the last number of 64 bits no more are counted.
+    pub fn looks(&self) -> u64
+        ensures { result ≡ self.now.looks }
+    {
+        self.looks.count()
+    }
+
     /// Two different literals of a clause that it watches; none exactly where no clause has the number,
-    /// or where it has no two different literals.
+    /// or where it has no two different literals. After `Full`, where one of the two is false the other
+    /// is true.
     pub fn watches(&self, clause: u32) -> Option<(Literal, Literal)>
-        ensures { IsWatchedPair self.now.known clause result }
+        ensures pair { IsWatchedPair self.now.known clause result }
+        ensures told { IsTold self.now.watched clause result }
     {
         self.watches.pair(clause)
     }
@@ -240,6 +256,7 @@ impl Search {
         } = analysed(
             alloc,
             &self.clauses,
+            &mut self.looks,
             entries,
             &mut self.marked,
             self.conflict,
@@ -275,6 +292,7 @@ impl Search {
         match answered(
             alloc,
             &mut self.clauses,
+            &mut self.looks,
             &self.variables,
             &mut self.watches,
             &mut self.log,

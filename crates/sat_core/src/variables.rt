@@ -6,8 +6,10 @@ ghost use Rattle.sat_core.specs.Variables.{Extends};
 ghost use Rattle.sat_core.specs.Watching.{CanWatch, IsWatching, IsEntered, IsUnmoved};
 ghost use Rattle.proof_checker.specs.Derived.{has};
 
+use crate::keeping::keep;
 use crate::order::Order;
 use crate::set::same;
+use crate::store::ClauseStore;
 use crate::watches::Watches;
 use kind_num::Shape;
 use proof_steps::{Atom, Clause, Literal};
@@ -104,33 +106,29 @@ fn two_of(clause: &[Literal]) -> Option<(Literal, Literal)>
 /// Takes in a clause with its variables, and lets it watch these of its literals.
 pub fn admit(
     alloc: Global,
-    clauses: &mut Vec<Clause>,
+    clauses: &mut ClauseStore,
     watches: &mut Watches,
     variables: &mut Vec<Literal>,
     order: &Order,
     clause: &Clause,
     watched: Option<(Literal, Literal)>,
 ) -> Result<(), AllocError>
-    requires watching { IsWatching (map clause_view clauses.old.items) watches.old }
-    requires few { length clauses.old.items < 4294967295 }
+    requires watching { IsWatching clauses.old watches.old }
+    requires few { length clauses.old < 4294967295 }
     requires can_watch { CanWatch (clause_view clause.now) watched }
-    ensures clauses { OnOk result (map clause_view clauses.new.items
-        ≡ map clause_view clauses.old.items ++ clause_view clause.now ∷ []) }
+    ensures clauses { OnOk result (clauses.new
+        ≡ clauses.old ++ clause_view clause.now ∷ []) }
     ensures variables { OnOk result (variables.new.items ≡ with_clause variables.old.items (clause_view clause.now)) }
-    ensures watching { OnOk result (IsEntered watches.old watches.new watched) }
-    ensures same_clauses { OnErr result (clauses.new.items ≡ clauses.old.items) }
+    ensures watching { OnOk result (IsEntered watches.old watches.new (clause_view clause.now) watched) }
+    ensures same_clauses { OnErr result (clauses.new ≡ clauses.old) }
     ensures same_variables { OnErr result (variables.new.items ≡ variables.old.items) }
     ensures same_watches { OnErr result (IsUnmoved watches.old watches.new) }
 {
     let copy = clause.copied(alloc)?;
-    clauses.reserve(1)?;
     let before = variables.len();
     match extend(variables, order, clause.literals.as_slice()) {
-        Ok(()) => match watches.enter(alloc, watched) {
-            Ok(()) => {
-                clauses.push_reserved(copy);
-                Ok(())
-            }
+        Ok(()) => match keep(alloc, clauses, watches, copy, watched) {
+            Ok(()) => Ok(()),
             Err(fault) => {
                 variables.truncate(before);
                 Err(fault)
@@ -146,19 +144,19 @@ pub fn admit(
 /// Takes in clauses with their variables.
 pub fn admit_all(
     alloc: Global,
-    clauses: &mut Vec<Clause>,
+    clauses: &mut ClauseStore,
     watches: &mut Watches,
     variables: &mut Vec<Literal>,
     order: &Order,
     more: &[Clause],
 ) -> Result<(), AllocError>
-    requires watching { IsWatching (map clause_view clauses.old.items) watches.old }
-    requires few { length clauses.old.items + length more.now < 2 ^ 32 }
-    ensures clauses { OnOk result (map clause_view clauses.new.items
-        ≡ map clause_view clauses.old.items ++ map clause_view more.now) }
+    requires watching { IsWatching clauses.old watches.old }
+    requires few { length clauses.old + length more.now < 2 ^ 32 }
+    ensures clauses { OnOk result (clauses.new
+        ≡ clauses.old ++ map clause_view more.now) }
     ensures variables { OnOk result
         (variables.new.items ≡ with_clauses variables.old.items (map clause_view more.now)) }
-    ensures watching { OnOk result (IsWatching (map clause_view clauses.new.items) watches.new) }
+    ensures watching { OnOk result (IsWatching clauses.new watches.new) }
 {
     for clause in more {
         let watched = two_of(clause.literals.as_slice());

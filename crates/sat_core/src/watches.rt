@@ -1,12 +1,11 @@
 //! Which clauses watch a literal.
 
 ghost use Rattle.std.specs.Prelude.{◌≡◌, ◌≢◌, ◌++◌, ◌∷◌, ◌<◌, ◌≤◌, ◌-◌, ℕ, [], take, Some, OnOk, OnErr, length, slice_get};
-ghost use Rattle.sat_core.specs.declared.watcher.Watcher.{Watcher as WatcherOf};
 ghost use Rattle.sat_core.specs.Set.{place_of};
-ghost use Rattle.sat_core.specs.Watching.{Watching, lists_of, row, list_at, AreSame, IsSameBut, IsWithout, IsDropped, IsMoved, IsOther, IsPairAt, IsUnmoved, AreBoth, IsApartPair, IsEntered};
+ghost use Rattle.sat_core.specs.Watching.{Watching, lists_of, row, list_at, AreSame, IsSameBut, IsWithout, IsDropped, IsMoved, IsOther, IsPairAt, IsUnmoved, AreBoth, IsApartPair, IsEnteredWith};
 
 use crate::set::{place, same};
-use crate::watcher::Watcher;
+use crate::short::Short;
 use proof_steps::Literal;
 use std::alloc::{AllocError, Global};
 use std::marker::Model;
@@ -15,9 +14,9 @@ use std::marker::Model;
 /// Clauses with fewer than two literals are kept apart.
 #[derive(Drop)]
 pub struct Watches {
-    lists: Vec<Vec<Watcher>>,
+    lists: Vec<Vec<u32>>,
     pairs: Vec<Option<(Literal, Literal)>>,
-    shorts: Vec<u32>,
+    shorts: Vec<Short>,
 }
 
 impl Model for Watches {
@@ -29,7 +28,7 @@ impl Model for Watches {
 }
 
 /// Makes room for the list at a place.
-fn widen(alloc: Global, lists: &mut Vec<Vec<Watcher>>, place: usize) -> Result<(), AllocError>
+fn widen(alloc: Global, lists: &mut Vec<Vec<u32>>, place: usize) -> Result<(), AllocError>
     ensures ok { OnOk result (place < length lists.new.items) }
     ensures same { AreSame (lists_of lists.old.items) (lists_of lists.new.items) }
 {
@@ -42,23 +41,23 @@ fn widen(alloc: Global, lists: &mut Vec<Vec<Watcher>>, place: usize) -> Result<(
 /// Adds an entry to the list at a place.
 fn push_at(
     alloc: Global,
-    lists: &mut Vec<Vec<Watcher>>,
+    lists: &mut Vec<Vec<u32>>,
     place: usize,
-    watcher: Watcher,
+    number: u32,
 ) -> Result<(), AllocError>
     ensures ok { OnOk result (IsSameBut (lists_of lists.old.items) (lists_of lists.new.items) place
-        (row (lists_of lists.old.items) place ++ watcher ∷ [])) }
+        (row (lists_of lists.old.items) place ++ number ∷ [])) }
     ensures err { OnErr result (AreSame (lists_of lists.old.items) (lists_of lists.new.items)) }
 {
     widen(alloc, lists, place)?;
-    match lists[place].push(watcher) {
+    match lists[place].push(number) {
         Ok(()) => Ok(()),
         Err(_) => Err(AllocError),
     }
 }
 
 /// Takes the last entry out of the list at a place.
-fn pop_at(lists: &mut Vec<Vec<Watcher>>, place: usize)
+fn pop_at(lists: &mut Vec<Vec<u32>>, place: usize)
     ensures { IsSameBut (lists_of lists.old.items) (lists_of lists.new.items) place
         (take (length (row (lists_of lists.old.items) place) - 1) (row (lists_of lists.old.items) place)) }
 {
@@ -71,7 +70,7 @@ fn pop_at(lists: &mut Vec<Vec<Watcher>>, place: usize)
 /// Adds an entry to each of two lists, or to none.
 fn push_both(
     alloc: Global,
-    lists: &mut Vec<Vec<Watcher>>,
+    lists: &mut Vec<Vec<u32>>,
     number: u32,
     first: Literal,
     second: Literal,
@@ -80,16 +79,8 @@ fn push_both(
     ensures ok { OnOk result (AreBoth (lists_of lists.old.items) (lists_of lists.new.items) number first second) }
     ensures err { OnErr result (AreSame (lists_of lists.old.items) (lists_of lists.new.items)) }
 {
-    let watcher = Watcher {
-        clause: number,
-        blocker: second,
-    };
-    push_at(alloc, lists, place(first), watcher)?;
-    let watcher = Watcher {
-        clause: number,
-        blocker: first,
-    };
-    match push_at(alloc, lists, place(second), watcher) {
+    push_at(alloc, lists, place(first), number)?;
+    match push_at(alloc, lists, place(second), number) {
         Ok(()) => Ok(()),
         Err(fault) => {
             pop_at(lists, place(first));
@@ -99,7 +90,7 @@ fn push_both(
 }
 
 /// Takes an entry out of the list at a place; the last one comes to stand there.
-fn remove_at(lists: &mut Vec<Vec<Watcher>>, place: usize, at: usize)
+fn remove_at(lists: &mut Vec<Vec<u32>>, place: usize, at: usize)
     requires { at < length (row (lists_of lists.old.items) place) }
     ensures from { IsWithout (row (lists_of lists.old.items) place) (row (lists_of lists.new.items) place) at }
     ensures others { (q : ℕ) → q ≢ place → row (lists_of lists.new.items) q ≡ row (lists_of lists.old.items) q }
@@ -131,8 +122,8 @@ impl Watches {
         }
     }
 
-    /// An entry of the literal's list.
-    pub fn entry(&self, literal: Literal, at: usize) -> Watcher
+    /// The number of a clause in the literal's list.
+    pub fn entry(&self, literal: Literal, at: usize) -> u32
         requires { at < length (list_at self.now literal) }
         ensures { slice_get (list_at self.now literal) at ≡ Some result }
     {
@@ -140,7 +131,7 @@ impl Watches {
     }
 
     /// The clauses that watch nothing.
-    pub fn shorts(&self) -> &[u32]
+    pub fn shorts(&self) -> &[Short]
         ensures { result.now ≡ self.now.shorts }
     {
         &self.shorts
@@ -204,32 +195,32 @@ impl Watches {
         ensures ok { OnOk result (IsMoved self.old self.new literal at number other found) }
         ensures err { OnErr result (IsUnmoved self.old self.new) }
     {
-        let watcher = Watcher {
-            clause: number,
-            blocker: other,
-        };
-        push_at(alloc, &mut self.lists, place(found), watcher)?;
+        push_at(alloc, &mut self.lists, place(found), number)?;
         remove_at(&mut self.lists, place(literal), at);
         self.pairs[number as usize - 1] = Some((found, other));
         Ok(())
     }
 
-    /// Lets the next clause watch two literals, or none.
+    /// Lets the next clause watch two literals, or none; then its only literal is kept.
     pub fn enter(
         &mut self,
         alloc: Global,
+        only: Option<Literal>,
         watched: Option<(Literal, Literal)>,
     ) -> Result<(), AllocError>
         requires few { length self.old.pairs < 4294967295 }
         requires apart { IsApartPair watched }
-        ensures ok { OnOk result (IsEntered self.old self.new watched) }
+        ensures ok { OnOk result (IsEnteredWith self.old self.new only watched) }
         ensures err { OnErr result (IsUnmoved self.old self.new) }
     {
         let number = self.pairs.len() as u32 + 1;
         self.pairs.reserve(1)?;
         match watched {
             Some((first, second)) => push_both(alloc, &mut self.lists, number, first, second)?,
-            None => self.shorts.push(number)?,
+            None => self.shorts.push(Short {
+                number,
+                literal: only,
+            })?,
         }
         self.pairs.push_reserved(watched);
         Ok(())

@@ -1,6 +1,7 @@
 //! Runs the search over forms of flags and prints what it answers.
 //!
-//! The first word is how many random forms are tried, each compared with all assignments. The
+//! The first word is how many random forms are tried, each compared with all assignments. Then
+//! the looks of the first answer over a chain of implications are counted. The
 //! others are files of clauses, a clause a line, of numbers other than 0: n is the flag n - 1, and -n
 //! its opposite. The first file is searched once more at the end, as for the benchmark.
 //!
@@ -10,11 +11,13 @@
 #![tactic(auto)]
 
 mod brute;
+mod chain;
 mod clauses;
 mod random;
 mod trial;
 
 use anyhow::{Result, bail};
+use chain::chain_looks;
 use clauses::read_form;
 use cnf_maker::Cnf;
 use random::random_forms;
@@ -63,6 +66,8 @@ fn try_all(rt: &HostRuntime, number: &str, names: &[String]) -> Result<()> {
     let count: u32 = number.parse()?;
     let right = random_forms(rt.alloc(), count)?;
     println!(rt; "{right} of {count} random forms answered right")?;
+    let (first, looks) = chain_looks(rt.alloc())?;
+    println!(rt; "chain of 9999 implications: {first} first, {looks} looks")?;
     for name in names {
         try_file(rt, name.as_str())?;
     }

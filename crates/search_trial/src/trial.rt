@@ -16,7 +16,7 @@ pub struct Report {
 }
 
 /// The word for an answer.
-fn word(found: Found) -> &'static str {
+pub fn word(found: Found) -> &'static str {
     match found {
         Found::Full => "full",
         Found::Conflict => "conflict",
@@ -129,12 +129,29 @@ fn are_watched(clause: &Clause, watched: Option<(Literal, Literal)>) -> bool {
     }
 }
 
-/// Whether each clause of the form watches two different literals, where it has two.
+/// Whether the other literal is true where one is false.
+fn is_beside(search: &Search, literal: Literal, other: Literal) -> bool {
+    search.value(literal) != Some(false) || search.value(other) == Some(true)
+}
+
+/// Whether of two watched literals one is true where the other is false.
+fn are_beside(search: &Search, watched: Option<(Literal, Literal)>) -> bool {
+    match watched {
+        Some((first, second)) => {
+            is_beside(search, first, second) && is_beside(search, second, first)
+        }
+        None => true,
+    }
+}
+
+/// Whether each clause of the form watches two different literals, where it has two, and these stand
+/// as they are to after all variables have values.
 fn watches_all(search: &Search, form: &Cnf) -> bool {
     let mut number = 0u32;
     for clause in &form.clauses {
         number = number.saturating_add(1);
-        if !are_watched(clause, search.watches(number)) {
+        let watched = search.watches(number);
+        if !are_watched(clause, watched) || !are_beside(search, watched) {
             return false;
         }
     }
@@ -161,7 +178,7 @@ fn shown(alloc: Global, search: &Search, form: &Cnf, found: Found) -> Result<&'s
 }
 
 /// The search over a form of few enough clauses.
-fn search_of(alloc: Global, form: &Cnf) -> Result<Search> {
+pub fn search_of(alloc: Global, form: &Cnf) -> Result<Search> {
     if form.clauses.len() > 1_000_000
         || form.atoms.len() > 1_000_000
         || form.shapes.len() > 1_000_000

@@ -1,16 +1,17 @@
-use Rattle.std.specs.Prelude.{◌≡◌, ◌≤◌, ◌+◌, All, length, map, true}
+use Rattle.std.specs.Prelude.{◌≡◌, ◌≤◌, ◌+◌, All, length, true}
 use Rattle.std.proofs.Common.{sym, subst, arith}
-use Rattle.proof_steps.specs.View.{clause_view}
+use Rattle.sat_core.specs.declared.short.Short.{Short}
 use Rattle.sat_core.specs.Visiting.{IsGoneThrough, IsImpliedShort}
 use Rattle.sat_core.proofs.Bounded.{falls, grown}
 use Rattle.sat_core.proofs.Shorts.{hold_more, all_done, grows_more}
+use Rattle.sat_core.proofs.Guards.{all_beside}
 use Rattle.sat_core.proofs.propagation.go_on.Goals as goal
 
 pub returns-in-None-clause-still : goal.returns-in-None-clause-still
 returns-in-None-clause-still c = (
-  all_done (map clause_view c.args.clauses.now) c.loop-number.assignment c.propagate.new.assignment c.loop-number.watches c.propagate.new.watches
+  all_done c.args.clauses.now c.loop-number.assignment c.propagate.new.assignment c.loop-number.watches c.propagate.new.watches
       c.propagate.new.head
-      c.propagate.ensures.advance (subst (IsGoneThrough (map clause_view c.args.clauses.now) c.propagate.new.assignment c.propagate.new.head) c.in_default.is
+      c.propagate.ensures.advance (subst (IsGoneThrough c.args.clauses.now c.propagate.new.assignment c.propagate.new.head) c.in_default.is
       c.in_ok-number.ensures.gone)
       c.propagate.ensures.watched c.propagate.ensures.shorts c.loop-number.invariant.4,
   c.in-None.ensures,
@@ -18,21 +19,21 @@ returns-in-None-clause-still c = (
 
 pub decide-requires-clause-settled : goal.decide-requires-clause-settled
 decide-requires-clause-settled c =
-    all_done (map clause_view c.args.clauses.now) c.loop-number.assignment c.propagate.new.assignment c.loop-number.watches c.propagate.new.watches
+    all_done c.args.clauses.now c.loop-number.assignment c.propagate.new.assignment c.loop-number.watches c.propagate.new.watches
     c.propagate.new.head
-    c.propagate.ensures.advance (subst (IsGoneThrough (map clause_view c.args.clauses.now) c.propagate.new.assignment c.propagate.new.head) c.in_default.is
+    c.propagate.ensures.advance (subst (IsGoneThrough c.args.clauses.now c.propagate.new.assignment c.propagate.new.head) c.in_default.is
     c.in_ok-number.ensures.gone)
     c.propagate.ensures.watched c.propagate.ensures.shorts c.loop-number.invariant.4
 
 pub loop-number-preserved : goal.loop-number-preserved
-loop-number-preserved c = let k = map clause_view c.args.clauses.now in (
+loop-number-preserved c = let k = c.args.clauses.now in (
   c.decide.ensures.is_trail,
   c.decide.ensures.within,
   grows_more c.args.assignment.now c.propagate.new.assignment c.decide.new.assignment
       (grows_more c.args.assignment.now c.loop-number.assignment c.propagate.new.assignment c.loop-number.invariant.2 c.propagate.ensures.advance.grows)
       c.decide.ensures.grows,
   c.decide.ensures.watched,
-  subst (All (λ n. IsImpliedShort k c.decide.new.assignment n true)) (sym c.propagate.ensures.shorts)
+  subst (All (λ (s : Short). IsImpliedShort k c.decide.new.assignment s.number true)) (sym c.propagate.ensures.shorts)
       (hold_more k c.loop-number.assignment c.decide.new.assignment c.loop-number.watches.shorts
       (grows_more c.loop-number.assignment c.propagate.new.assignment c.decide.new.assignment c.propagate.ensures.advance.grows c.decide.ensures.grows)
       c.loop-number.invariant.4),
@@ -43,3 +44,9 @@ loop-number-smaller c =
     let g : length c.loop-number.assignment ≤ length c.propagate.new.assignment = grown _ _ c.propagate.ensures.advance.grows in
     let l : length c.decide.new.assignment ≡ length c.propagate.new.assignment + 1 = c.in_ok-decide-in-Some-next_open.ensures.longer in
     falls c.args.variables.now c.loop-number.assignment c.decide.new.assignment (omega arith) c.decide.ensures.is_trail.apart c.decide.ensures.within
+
+pub returns-in-None-clause-beside : goal.returns-in-None-clause-beside
+returns-in-None-clause-beside c = λ e.
+    all_beside c.args.clauses.now c.propagate.new.assignment c.propagate.new.watches c.propagate.new.head
+    (subst (IsGoneThrough c.args.clauses.now c.propagate.new.assignment c.propagate.new.head) c.in_default.is c.in_ok-number.ensures.gone)
+    c.propagate.ensures.watched

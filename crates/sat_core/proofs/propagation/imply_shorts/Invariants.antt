@@ -1,11 +1,11 @@
-use Rattle.std.specs.Prelude.{All, take, map, true}
-use Rattle.proof_steps.specs.View.{clause_view}
+use Rattle.std.specs.Prelude.{All, take, true}
+use Rattle.sat_core.specs.declared.short.Short.{Short}
 use Rattle.sat_core.specs.Watching.{IsWatched}
 use Rattle.sat_core.specs.Visiting.{IsAdvance, IsImpliedShort}
 use Rattle.sat_core.proofs.propagation.imply_shorts.Given as goal
 
-abbrev pub invariant-loop-number : goal.invariant-loop-number
-invariant-loop-number l =
-    IsWatched (map clause_view l.clauses) l.assignment l.watches l.head
-    × IsAdvance (map clause_view l.clauses) l.fn.assignment l.assignment
-    × All (λ n. IsImpliedShort (map clause_view l.clauses) l.assignment n true) (take l.number-index l.shorts)
+abbrev pub invariant-loop-short : goal.invariant-loop-short
+invariant-loop-short l =
+    IsWatched l.clauses l.assignment l.watches l.head
+    × IsAdvance l.clauses l.fn.assignment l.assignment
+    × All (λ (s : Short). IsImpliedShort l.clauses l.assignment s.number true) (take l.short-index l.shorts)

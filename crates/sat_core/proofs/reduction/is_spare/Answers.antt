@@ -1,7 +1,5 @@
-use Rattle.std.specs.Prelude.{map, false}
+use Rattle.std.specs.Prelude.{false}
 use Rattle.std.proofs.Common.{arith}
-use Rattle.std.proofs.lemmas.List.{length-map}
-use Rattle.proof_steps.specs.View.{clause_view}
 use Rattle.proof_steps.specs.declared.Literal.TheVariants.{Flag}
 use Rattle.sat_core.specs.declared.assigned.Assigned.{Assigned}
 use Rattle.sat_core.proofs.Places.{read}
@@ -11,13 +9,13 @@ use Rattle.sat_core.proofs.reduction.is_spare.Goals as goal
 abbrev blank : Assigned
 blank = record { literal = Flag 0 false; reason = 0 }
 
-pub clause_at-reason-requires-clause-within : goal.clause_at-reason-requires-clause-within
-clause_at-reason-requires-clause-within c =
-    let r = reason_at (map clause_view c.args.clauses.now) c.args.trail.now c.requires.is_trail c.args.at _
+pub look-reason-requires-clause-within : goal.look-reason-requires-clause-within
+look-reason-requires-clause-within c =
+    let r = reason_at c.args.clauses.now c.args.trail.now c.requires.is_trail c.args.at _
     (read c.args.trail.now c.args.at blank c.requires.within) c.if-entry-eq0.false in
-    omega (arith, r, length-map c.args.clauses.now clause_view)
+    omega (arith, r)
 
 pub returns : goal.returns
-returns c = λ t. spare (map clause_view c.args.clauses.now) c.args.trail.now c.args.marked.now c.args.at _ _ _
-    (read c.args.trail.now c.args.at blank c.requires.within) c.if-entry-eq0.false c.clause_at-reason.ensures c.as_slice.ensures
+returns c = λ t. spare c.args.clauses.now c.args.trail.now c.args.marked.now c.args.at _ _ _
+    (read c.args.trail.now c.args.at blank c.requires.within) c.if-entry-eq0.false c.look-reason.ensures.clause c.as_slice.ensures
     (c.all_marked.ensures t)

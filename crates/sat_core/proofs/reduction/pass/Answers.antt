@@ -1,6 +1,5 @@
-use Rattle.std.specs.Prelude.{◌+◌, ◌++◌, ◌∷◌, [], map, reverse, false}
+use Rattle.std.specs.Prelude.{◌+◌, ◌++◌, ◌∷◌, [], reverse, false}
 use Rattle.std.proofs.Common.{refl, sym, ◌∙◌, ap, subst}
-use Rattle.proof_steps.specs.View.{clause_view}
 use Rattle.proof_steps.specs.declared.Literal.TheVariants.{Flag}
 use Rattle.sat_core.specs.declared.assigned.Assigned.{Assigned}
 use Rattle.sat_core.specs.Reduction.{IsReduced}
@@ -13,28 +12,28 @@ blank = record { literal = Flag 0 false; reason = 0 }
 
 pub returns-then-not-is_marked : goal.returns-then-not-is_marked
 returns-then-not-is_marked c = λ n last h r.
-    left (map clause_view c.args.clauses.now) c.args.trail.now c.requires.is_trail c.args.marked.now n last c.args.literals.now.items c.args.low c.args.at
+    left c.args.clauses.now c.args.trail.now c.requires.is_trail c.args.marked.now n last c.args.literals.now.items c.args.low c.args.at
     (reverse c.args.hints.now.items) _ (read c.args.trail.now c.args.at blank c.requires.within) h r (sym c.if-not-is_marked.ensures)
 
 pub returns-then-is_spare : goal.returns-then-is_spare
 returns-then-is_spare c = λ n last h r.
-    subst (IsReduced (map clause_view c.args.clauses.now) c.args.trail.now c.args.marked.now n last c.args.literals.now.items c.args.low c.args.at)
+    subst (IsReduced c.args.clauses.now c.args.trail.now c.args.marked.now n last c.args.literals.now.items c.args.low c.args.at)
     (sym (reverse-push c.args.hints.now.items c.push.new.self.items _ c.in_ok-push.ensures.items))
-    (spared (map clause_view c.args.clauses.now) c.args.trail.now c.requires.is_trail c.args.marked.now n last c.args.literals.now.items c.args.low c.args.at
+    (spared c.args.clauses.now c.args.trail.now c.requires.is_trail c.args.marked.now n last c.args.literals.now.items c.args.low c.args.at
     (reverse c.args.hints.now.items) _ (read c.args.trail.now c.args.at blank c.requires.within) h r (c.if-is_spare.ensures refl))
 
 pub returns-then-low-eq0 : goal.returns-then-low-eq0
 returns-then-low-eq0 c = λ n last h r.
-    subst (λ x. IsReduced (map clause_view c.args.clauses.now) c.args.trail.now c.args.marked.now n last x (c.args.at + 1) c.args.at
+    subst (λ x. IsReduced c.args.clauses.now c.args.trail.now c.args.marked.now n last x (c.args.at + 1) c.args.at
     (reverse c.args.hints.now.items)) (sym (c.in_ok-push-2.ensures.ok ∙ ap (λ l. c.args.literals.now.items ++ l ∷ []) c.opposite.ensures))
-    (kept_first (map clause_view c.args.clauses.now) c.args.trail.now c.requires.is_trail c.args.marked.now n last c.args.literals.now.items c.args.low
+    (kept_first c.args.clauses.now c.args.trail.now c.requires.is_trail c.args.marked.now n last c.args.literals.now.items c.args.low
     c.args.at (reverse c.args.hints.now.items) _ (read c.args.trail.now c.args.at blank c.requires.within) h r (sym c.if-not-is_marked.ensures)
     c.if-low-eq0.true)
 
 pub returns : goal.returns
 returns c = λ n last h r.
-    subst (λ x. IsReduced (map clause_view c.args.clauses.now) c.args.trail.now c.args.marked.now n last x c.args.low c.args.at
+    subst (λ x. IsReduced c.args.clauses.now c.args.trail.now c.args.marked.now n last x c.args.low c.args.at
     (reverse c.args.hints.now.items)) (sym (c.in_ok-push-2.ensures.ok ∙ ap (λ l. c.args.literals.now.items ++ l ∷ []) c.opposite.ensures))
-    (kept_next (map clause_view c.args.clauses.now) c.args.trail.now c.requires.is_trail c.args.marked.now n last c.args.literals.now.items c.args.low
+    (kept_next c.args.clauses.now c.args.trail.now c.requires.is_trail c.args.marked.now n last c.args.literals.now.items c.args.low
     c.args.at (reverse c.args.hints.now.items) _ (read c.args.trail.now c.args.at blank c.requires.within) h r (sym c.if-not-is_marked.ensures)
     c.if-low-eq0.false)

@@ -1,6 +1,5 @@
-use Rattle.std.specs.Prelude.{◌≡◌, ◌+◌, ◌-◌, map, reverse}
+use Rattle.std.specs.Prelude.{◌≡◌, ◌+◌, ◌-◌, reverse}
 use Rattle.std.proofs.Common.{subst, arith}
-use Rattle.proof_steps.specs.View.{clause_view}
 use Rattle.sat_core.specs.Reduction.{IsReduced}
 use Rattle.sat_core.proofs.reduction.reduce.Goals as goal
 
@@ -11,12 +10,12 @@ loop-i-preserved c =
     let up : c.loop-i.i ≡ c.loop-i.i - 1 + 1 = omega arith in (
       omega arith,
       λ last r. c.in_ok-low.ensures c.args.from last (omega arith)
-          (subst (λ x. IsReduced (map clause_view c.args.clauses.now) c.args.trail.now c.args.marked.now c.args.from last c.loop-i.literals.items c.loop-i.low x
+          (subst (λ x. IsReduced c.args.clauses.now c.args.trail.now c.args.marked.now c.args.from last c.loop-i.literals.items c.loop-i.low x
           (reverse c.loop-i.hints.items)) up (c.loop-i.invariant.1 last r)),
     )
 
 pub returns : goal.returns
 returns c = let z : c.loop-i.i ≡ 0 = (let t = c.loop-i-test.false in omega arith) in
-    λ last r. subst (λ x. IsReduced (map clause_view c.args.clauses.now) c.args.trail.now c.args.marked.now c.args.from last
+    λ last r. subst (λ x. IsReduced c.args.clauses.now c.args.trail.now c.args.marked.now c.args.from last
     c.loop-i.literals.items c.loop-i.low x
     (reverse c.loop-i.hints.items)) z (c.loop-i.invariant.1 last r)

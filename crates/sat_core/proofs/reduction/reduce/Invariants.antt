@@ -1,5 +1,4 @@
-use Rattle.std.specs.Prelude.{◌≤◌, map, reverse}
-use Rattle.proof_steps.specs.View.{clause_view}
+use Rattle.std.specs.Prelude.{◌≤◌, reverse}
 use Rattle.proof_steps.specs.declared.Literal.{Literal}
 use Rattle.sat_core.specs.Reduction.{IsReduced}
 use Rattle.sat_core.proofs.reduction.reduce.Given as goal
@@ -8,8 +7,8 @@ abbrev pub invariant-loop-i : goal.invariant-loop-i
 invariant-loop-i l =
     (l.i ≤ l.from)
     × ((last : Literal)
-    → IsReduced (map clause_view l.clauses) l.trail l.marked l.from last l.fn.literals.items 0 l.from (reverse l.fn.hints.items)
-    → IsReduced (map clause_view l.clauses) l.trail l.marked l.from last l.literals.items l.low l.i (reverse l.hints.items))
+    → IsReduced l.clauses l.trail l.marked l.from last l.fn.literals.items 0 l.from (reverse l.fn.hints.items)
+    → IsReduced l.clauses l.trail l.marked l.from last l.literals.items l.low l.i (reverse l.hints.items))
 
 abbrev pub decreases-loop-i : goal.decreases-loop-i
 decreases-loop-i l = l.i

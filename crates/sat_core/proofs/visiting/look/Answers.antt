@@ -1,87 +1,86 @@
-use Rattle.std.specs.Prelude.{◌++◌, ◌∷◌, [], Some, None, map}
+use Rattle.std.specs.Prelude.{◌++◌, ◌∷◌, [], Some, None}
 use Rattle.std.proofs.Common.{sym, subst, arith}
-use Rattle.std.proofs.lemmas.List.{length-map}
 use Rattle.proof_steps.specs.View.{clause_view}
 use Rattle.sat_core.specs.declared.visiting.Visit.TheVariants.{Next}
 use Rattle.sat_core.specs.Visiting.{IsVisit, IsReplacement}
 use Rattle.sat_core.proofs.Places.{within}
-use Rattle.sat_core.proofs.Visits.{other_true, entry_number, found_apart, replaced, failed, pushed, pushed_advance, watched_same, advance_none, advance_as}
+use Rattle.sat_core.proofs.Visits.{other_is, entry_number, found_apart, replaced, failed, pushed, pushed_advance, watched_same, advance_none, advance_as}
 use Rattle.sat_core.proofs.visiting.look.Goals as goal
 
 pub returns-then-is_true-clause-visit : goal.returns-then-is_true-clause-visit
-returns-then-is_true-clause-visit c = let k = map clause_view c.args.clauses.now in
+returns-then-is_true-clause-visit c = let k = c.args.clauses.now in
     subst (λ n. IsVisit k c.args.assignment.now c.args.watches.now c.args.watches.now c.args.head c.args.literal c.args.at (Next n))
     (sym c.requires.next)
-    (other_true k c.args.assignment.now c.requires.is_trail c.args.watches.now c.args.head c.args.literal c.args.at c.requires.visiting
-    c.args.watcher c.requires.entry c.args.other c.requires.other (sym c.if-is_true.ensures))
+    (other_is k c.args.assignment.now c.requires.is_trail c.args.watches.now c.args.head c.args.literal c.args.at c.requires.visiting
+    c.args.number c.requires.entry c.args.other c.requires.other (sym c.if-is_true.ensures))
 
-pub clause_at-clause-requires-clause-positive : goal.clause_at-clause-requires-clause-positive
-clause_at-clause-requires-clause-positive c = let k = map clause_view c.args.clauses.now in
+pub look-clause-requires-clause-positive : goal.look-clause-requires-clause-positive
+look-clause-requires-clause-positive c = let k = c.args.clauses.now in
     (entry_number k c.args.assignment.now c.requires.is_trail c.args.watches.now c.args.head c.args.literal c.args.at c.requires.visiting
-    c.args.watcher c.requires.entry).0
+    c.args.number c.requires.entry).0
 
-pub clause_at-clause-requires-clause-within : goal.clause_at-clause-requires-clause-within
-clause_at-clause-requires-clause-within c = let k = map clause_view c.args.clauses.now in
+pub look-clause-requires-clause-within : goal.look-clause-requires-clause-within
+look-clause-requires-clause-within c = let k = c.args.clauses.now in
     let n = (entry_number k c.args.assignment.now c.requires.is_trail c.args.watches.now c.args.head c.args.literal c.args.at c.requires.visiting
-    c.args.watcher c.requires.entry).1 in
-    let m = length-map c.args.clauses.now clause_view in omega arith
+    c.args.number c.requires.entry).1 in
+    omega arith
 
 pub replace-requires-clause-entry : goal.replace-requires-clause-entry
-replace-requires-clause-entry c = within _ c.args.at c.args.watcher c.requires.entry
+replace-requires-clause-entry c = within _ c.args.at c.args.number c.requires.entry
 
 pub replace-requires-clause-within : goal.replace-requires-clause-within
-replace-requires-clause-within c = let k = map clause_view c.args.clauses.now in
+replace-requires-clause-within c = let k = c.args.clauses.now in
     let n = (entry_number k c.args.assignment.now c.requires.is_trail c.args.watches.now c.args.head c.args.literal c.args.at c.requires.visiting
-    c.args.watcher c.requires.entry).1 in
+    c.args.number c.requires.entry).1 in
     let m = c.requires.visiting.watched.watching.count in omega arith
 
 pub replace-requires-clause-apart : goal.replace-requires-clause-apart
-replace-requires-clause-apart c = let k = map clause_view c.args.clauses.now in
+replace-requires-clause-apart c = let k = c.args.clauses.now in
     found_apart k c.args.assignment.now c.requires.is_trail c.args.watches.now c.args.head c.args.literal c.args.at c.requires.visiting
-    c.args.watcher c.requires.entry c.args.other c.requires.other (clause_view c.clause_at-clause.result.now) c.in-Some.found
-    c.clause_at-clause.ensures
+    c.args.number c.requires.entry c.args.other c.requires.other (clause_view c.look-clause.result.now) c.in-Some.found
+    c.look-clause.ensures.clause
     (subst (λ x. IsReplacement c.args.assignment.now x c.args.other (Some c.in-Some.found)) c.as_slice.ensures c.in-Some.ensures)
 
 pub returns-in-Err-clause-watched : goal.returns-in-Err-clause-watched
-returns-in-Err-clause-watched c = watched_same (map clause_view c.args.clauses.now) c.args.assignment.now c.args.watches.now c.replace.new.self
+returns-in-Err-clause-watched c = watched_same c.args.clauses.now c.args.assignment.now c.args.watches.now c.replace.new.self
     c.args.head c.in-Err.ensures.err c.requires.visiting.watched
 
 pub returns-in-Ok-clause-visit : goal.returns-in-Ok-clause-visit
-returns-in-Ok-clause-visit c = let k = map clause_view c.args.clauses.now in
+returns-in-Ok-clause-visit c = let k = c.args.clauses.now in
     replaced k c.args.assignment.now c.requires.is_trail c.args.watches.now c.args.head c.args.literal c.args.at c.requires.visiting
-    c.args.watcher c.requires.entry c.args.other c.requires.other (clause_view c.clause_at-clause.result.now) c.in-Some.found
-    c.replace.new.self c.clause_at-clause.ensures
+    c.args.number c.requires.entry c.args.other c.requires.other (clause_view c.look-clause.result.now) c.in-Some.found
+    c.replace.new.self c.look-clause.ensures.clause
     (subst (λ x. IsReplacement c.args.assignment.now x c.args.other (Some c.in-Some.found)) c.as_slice.ensures c.in-Some.ensures)
     c.in-Ok.ensures.ok
 
 pub returns-then-is_false-clause-visit : goal.returns-then-is_false-clause-visit
-returns-then-is_false-clause-visit c = let k = map clause_view c.args.clauses.now in
+returns-then-is_false-clause-visit c = let k = c.args.clauses.now in
     failed k c.args.assignment.now c.requires.is_trail c.args.watches.now c.args.head c.args.literal c.args.at c.requires.visiting
-    c.args.watcher c.requires.entry c.args.other c.requires.other (clause_view c.clause_at-clause.result.now)
-    c.clause_at-clause.ensures
+    c.args.number c.requires.entry c.args.other c.requires.other (clause_view c.look-clause.result.now)
+    c.look-clause.ensures.clause
     (subst (λ x. IsReplacement c.args.assignment.now x c.args.other None) c.as_slice.ensures c.in-None.ensures)
     (sym c.if-is_false.ensures)
 
 pub returns-in-Ok-push-clause-visit : goal.returns-in-Ok-push-clause-visit
-returns-in-Ok-push-clause-visit c = let k = map clause_view c.args.clauses.now in
+returns-in-Ok-push-clause-visit c = let k = c.args.clauses.now in
     subst (λ t. IsVisit k t c.args.watches.now c.args.watches.now c.args.head c.args.literal c.args.at (Next c.args.next)) (sym c.in-Ok-push.ensures.ok)
-    (subst (λ n. IsVisit k (c.args.assignment.now ++ record { literal = c.args.other; reason = c.args.watcher.clause } ∷ [])
+    (subst (λ n. IsVisit k (c.args.assignment.now ++ record { literal = c.args.other; reason = c.args.number } ∷ [])
     c.args.watches.now c.args.watches.now c.args.head c.args.literal c.args.at (Next n)) (sym c.requires.next)
     (pushed k c.args.assignment.now c.requires.is_trail c.args.watches.now c.args.head c.args.literal c.args.at c.requires.visiting
-    c.args.watcher c.requires.entry c.args.other c.requires.other (clause_view c.clause_at-clause.result.now)
-    c.clause_at-clause.ensures
+    c.args.number c.requires.entry c.args.other c.requires.other (clause_view c.look-clause.result.now)
+    c.look-clause.ensures.clause
     (subst (λ x. IsReplacement c.args.assignment.now x c.args.other None) c.as_slice.ensures c.in-None.ensures)
     (sym c.if-is_true.ensures) (sym c.if-is_false.ensures)))
 
 pub returns-in-Ok-push-clause-advance : goal.returns-in-Ok-push-clause-advance
-returns-in-Ok-push-clause-advance c = let k = map clause_view c.args.clauses.now in
+returns-in-Ok-push-clause-advance c = let k = c.args.clauses.now in
     advance_as k c.args.assignment.now _ _ c.in-Ok-push.ensures.ok
     (pushed_advance k c.args.assignment.now c.requires.is_trail c.args.watches.now c.args.head c.args.literal c.args.at c.requires.visiting
-    c.args.watcher c.requires.entry c.args.other c.requires.other (clause_view c.clause_at-clause.result.now)
-    c.clause_at-clause.ensures
+    c.args.number c.requires.entry c.args.other c.requires.other (clause_view c.look-clause.result.now)
+    c.look-clause.ensures.clause
     (subst (λ x. IsReplacement c.args.assignment.now x c.args.other None) c.as_slice.ensures c.in-None.ensures)
     (sym c.if-is_true.ensures) (sym c.if-is_false.ensures))
 
 pub returns-in-Err-push-clause-advance : goal.returns-in-Err-push-clause-advance
-returns-in-Err-push-clause-advance c = let k = map clause_view c.args.clauses.now in
+returns-in-Err-push-clause-advance c = let k = c.args.clauses.now in
     advance_as k c.args.assignment.now _ _ c.in-Err-push.ensures.err (advance_none k c.args.assignment.now c.requires.is_trail)

@@ -1,6 +1,5 @@
-use Rattle.std.specs.Prelude.{◌≡◌, ◌+◌, length, map, suc}
+use Rattle.std.specs.Prelude.{◌≡◌, ◌+◌, length, suc}
 use Rattle.std.proofs.Common.{ap, subst, arith, ◌∙◌}
-use Rattle.proof_steps.specs.View.{clause_view}
 use Rattle.sat_core.specs.Watching.{IsWatched}
 use Rattle.sat_core.specs.Visiting.{IsVisitedAll}
 use Rattle.sat_core.proofs.Bounded.{bounded}
@@ -17,7 +16,7 @@ loop-head-smaller c =
 
 pub loop-head-preserved : goal.loop-head-preserved
 loop-head-preserved c =
-    let k = map clause_view c.args.clauses.now in
+    let k = c.args.clauses.now in
     let q : suc c.loop-head.head ≡ c.loop-head.head + 1 = omega arith in (
       subst (IsWatched k c.visit_all.new.assignment c.visit_all.new.watches) q
           (subst (IsVisitedAll k c.visit_all.new.assignment c.visit_all.new.watches c.loop-head.head) c.in_default.is

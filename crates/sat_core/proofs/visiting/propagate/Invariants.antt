@@ -1,13 +1,12 @@
-use Rattle.std.specs.Prelude.{◌≡◌, ◌-◌, length, map}
-use Rattle.proof_steps.specs.View.{clause_view}
+use Rattle.std.specs.Prelude.{◌≡◌, ◌-◌, length}
 use Rattle.sat_core.specs.Watching.{IsWatched}
 use Rattle.sat_core.specs.Visiting.{IsAdvance}
 use Rattle.sat_core.proofs.visiting.propagate.Given as goal
 
 abbrev pub invariant-loop-head : goal.invariant-loop-head
 invariant-loop-head l =
-    IsWatched (map clause_view l.clauses) l.assignment l.watches l.head
-    × IsAdvance (map clause_view l.clauses) l.fn.assignment l.assignment
+    IsWatched l.clauses l.assignment l.watches l.head
+    × IsAdvance l.clauses l.fn.assignment l.assignment
     × (l.watches.shorts ≡ l.fn.watches.shorts)
 
 abbrev pub decreases-loop-head : goal.decreases-loop-head

@@ -1,13 +1,12 @@
-use Rattle.std.specs.Prelude.{◌≡◌, ◌-◌, length, map}
-use Rattle.proof_steps.specs.View.{clause_view}
+use Rattle.std.specs.Prelude.{◌≡◌, ◌-◌, length}
 use Rattle.sat_core.specs.Watching.{list_at, IsVisiting}
 use Rattle.sat_core.specs.Visiting.{IsAdvance}
 use Rattle.sat_core.proofs.visiting.visit_all.Given as goal
 
 abbrev pub invariant-loop-at : goal.invariant-loop-at
 invariant-loop-at l =
-    IsVisiting (map clause_view l.clauses) l.assignment l.watches l.head l.literal l.at
-    × IsAdvance (map clause_view l.clauses) l.fn.assignment l.assignment
+    IsVisiting l.clauses l.assignment l.watches l.head l.literal l.at
+    × IsAdvance l.clauses l.fn.assignment l.assignment
     × (l.watches.shorts ≡ l.fn.watches.shorts)
 
 abbrev pub decreases-loop-at : goal.decreases-loop-at

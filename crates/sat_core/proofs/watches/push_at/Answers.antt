@@ -6,5 +6,5 @@ returns-in-Err-clause-err c = unpushed c.args.lists.now.items c.widen.new.lists.
     c.in_ok-widen.ensures.same c.in_ok-widen.ensures.ok c.index_mut.ensures.value c.in-Err.ensures.items
 
 pub returns-in-Ok-clause-ok : goal.returns-in-Ok-clause-ok
-returns-in-Ok-clause-ok c = pushed c.args.lists.now.items c.widen.new.lists.items c.args.place c.index_mut.result.now c.push.new.self c.args.watcher
+returns-in-Ok-clause-ok c = pushed c.args.lists.now.items c.widen.new.lists.items c.args.place c.index_mut.result.now c.push.new.self c.args.number
     c.in_ok-widen.ensures.same c.in_ok-widen.ensures.ok c.index_mut.ensures.value c.in-Ok.ensures.items

@@ -14,9 +14,9 @@ invariant_of-result c =
     let few : length (map clause_view c.args.cnf.now.clauses.items) < 2 ^ 32 = omega arith in (
       held_first (form_view c.args.cnf.now) _ _ _ _ 0
           (c.in_ok-admit_all.ensures.clauses
-          ∙ ap (λ xs. map clause_view xs ++ map clause_view c.deref-4.result.now) c.new-clauses.ensures.items
+          ∙ ap (λ xs. xs ++ map clause_view c.deref-4.result.now) c.new-clauses.ensures
           ∙ ap (map clause_view) c.deref-4.ensures.value)
-          (ap (map step_view) c.new.ensures.items)
+          (ap (map step_view) c.new-log.ensures.items)
           (c.in_ok-admit_all.ensures.variables
           ∙ ap (λ x. with_clauses c.add_atoms.new.variables.items (map clause_view x)) c.deref-4.ensures.value
           ∙ ap (λ x. with_clauses x (map clause_view c.args.cnf.now.clauses.items))
@@ -25,6 +25,6 @@ invariant_of-result c =
           ∙ ap (λ x. x ++ atoms_from 1 (map atom_view c.args.cnf.now.atoms.items)) (c.in_ok-variables.ensures ∙ ap (flags_from 0) c.deref.ensures.value)))
           c.new-assignment.ensures
           few,
-      watched_new (map clause_view c.admit_all.new.clauses.items) c.new-assignment.result c.admit_all.new.watches c.new-assignment.ensures
+      watched_new c.admit_all.new.clauses c.new-assignment.result c.admit_all.new.watches c.new-assignment.ensures
           c.in_ok-admit_all.ensures.watching,
     )
