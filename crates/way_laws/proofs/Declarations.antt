@@ -41,6 +41,7 @@ use Rattle.way_laws.proofs.Expressions.{CallReady, fits_there}
 use Rattle.way_laws.proofs.Placed.{SitePlaced, calls_placed, imports_placed, ready_call}
 use Rattle.way_laws.proofs.Keys.{GoodKey, good_fits, Known, known_none}
 use Rattle.way_laws.proofs.Texts.{CallsPlaced, EachPlaced, Knows, text_ready, known_good, key_of}
+use Rattle.way_laws.specs.Modes.{ReadAsAsked}
 use Rattle.way_laws.proofs.Walk.{all_modes, GhostFits, Walked, walk}
 use Rattle.way_laws.proofs.Lists.{all_true, both_true}
 
@@ -157,6 +158,9 @@ module _ (p : Program) (grammatical : IsGrammatical p) (typed : IsTyped p) (i : 
   known_all : Known i p (mode_names (contract_statements here)) (import_names (contract_statements here)) (modes_need i) (mode_reads here g)
   known_all = subst (λ ms. Known i p (mode_names (contract_statements here)) (import_names (contract_statements here)) ms (mode_reads here g))
       (sym (all_modes i)) walked.known_all
+
+  pub modes_asked : ReadAsAsked here g (mode_reads here g) [] [] (contract_statements here)
+  modes_asked = walked.asked
 
   -- what a mode of the contract reads
   pub mode_fits : (m : Name) → named_in m (mode_names (contract_statements here)) ≡ true

@@ -175,7 +175,7 @@ module _ (i : Instance) where
         go true e f = ap (λ o. Some (map (inside j) (value o))) e
         go false e f = f e
 
-    found_reads : (x : Name) (sub : List (Name × List Name)) (ys : List Name) → lookup (bytes_eq x) sub ≡ Some ys
+    pub found_reads : (x : Name) (sub : List (Name × List Name)) (ys : List Name) → lookup (bytes_eq x) sub ≡ Some ys
         → lookup (mode_key (c ∷ [], x)) (map behind sub) ≡ Some (F ys)
     found_reads x [] ys e = absurd (false≢true (ap is_there e))
       where

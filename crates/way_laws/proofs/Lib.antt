@@ -7,6 +7,7 @@ pub mod Unfolded
 pub mod Placed
 pub mod Keys
 pub mod Texts
+pub mod Whole
 pub mod Walk
 pub mod Declarations
 pub mod Ways

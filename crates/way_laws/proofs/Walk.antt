@@ -1,5 +1,5 @@
 -- The modes of a contract in turn: what each reads in the own graph stands for what it needs in the tree.
-use Rattle.std.proofs.Common.{◌≡◌, ℕ, zero, suc, pred, ◌≤◌, Bool, true, false, cond, ◌||◌, List, [], ◌∷◌, ◌++◌, map, flat_map, refl, sym, ap, ◌∙◌, subst, arith, append_assoc, Option, Some, None}
+use Rattle.std.proofs.Common.{◌≡◌, ℕ, zero, suc, pred, ◌≤◌, Bool, true, false, cond, ◌||◌, List, [], ◌∷◌, ◌++◌, map, flat_map, refl, sym, ap, ◌∙◌, subst, arith, append_assoc, Option, Some, None, not}
 use Rattle.std.specs.Prelude.{slice_index_or, unwrap_or}
 use Rattle.std.specs.List.{AllByRecursion}
 use Rattle.std.specs.Map.{lookup}
@@ -7,21 +7,21 @@ use Rattle.std.specs.Str.{bytes_eq}
 use Rattle.std.proofs.Math.Logic.{◌⊎◌, inl, inr}
 use Rattle.std.proofs.lemmas.Bool.{false≢true}
 use Rattle.lus_tree.specs.declared.place.Sort.TheVariants.{Bool as Flags}
-use Rattle.lus_tree.specs.Tree.{Name, Spelled, text_of, Expression, Labelled, Variable, ContractStatement, assume, guarantee, ghost_variable, constant, mode, «import», Component, Program}
+use Rattle.lus_tree.specs.Tree.{Name, Spelled, text_of, Expression, Labelled, Variable, ContractStatement, assume, guarantee, ghost_variable, constant, mode, «import», Component, Program, mode_name}
 use Rattle.lus_meaning.specs.Scene.{base, as_import, Site, Instance, Instances, instance, no_instances, with_instance, component_of, outputs_of, instance_at, calls_of, call_instance, contract_statements, ghosts, clock_of, clock_of_names}
 use Rattle.lus_meaning.specs.Program.{import_site}
 use Rattle.lus_meaning.specs.Run.{Equation, ghost_equations, inputs_of}
-use Rattle.lus_meaning.specs.Occurrences.{on_clock, as_side, on_base, Text, contract_statement_texts}
+use Rattle.lus_meaning.specs.Occurrences.{on_clock, as_side, on_base, Text, contract_statement_texts, Standing, occurs, occurrences}
 use Rattle.lus_meaning.specs.Depends.{Need, the_beat, a_name, inside, needs, ModeNeeds, modes_need, modes_need_each, modes_after, asked_needs, imported_needs, known_needs, equation_needs, named_in}
 use Rattle.lus_meaning.specs.Cycle.{place_of, matching, shared_needs, caller_needs}
 use Rattle.lus_meaning.specs.Meaning.{mode_key}
 use Rattle.lus_meaning.specs.Scope.{Scope, node_named, contract_named, mode_names, import_names, contract_statement_scope}
-use Rattle.lus_meaning.specs.ExpressionFaults.{expression_faults, flag_faults, needs_sort, sides_fit, has_mode, mode_is_known}
+use Rattle.lus_meaning.specs.ExpressionFaults.{expression_faults, flag_faults, needs_sort, sides_fit, has_mode, mode_is_known, part_faults, form_faults, weight_faults}
 use Rattle.lus_meaning.specs.NameFaults.{home, flags_of, contract_statement_faults, contract_faults}
 use Rattle.lus_meaning.proofs.BooleanOrder.{IsIn, in_left, in_right, named_either}
 use Rattle.lus_meaning.proofs.Exists.{self_bytes}
 use Rattle.lus_meaning.proofs.Lists.{append_none}
-use Rattle.lus_meaning.proofs.NamesOnce.{no_parts}
+use Rattle.lus_meaning.proofs.NamesOnce.{no_parts, not_so}
 use Rattle.lus_meaning.proofs.Now.{left_part, right_part}
 use Rattle.lus_meaning.proofs.Unique.{same_bytes}
 use Rattle.clock_laws.proofs.Contracts.{side_top, mode_names_append}
@@ -34,8 +34,15 @@ use Rattle.way_laws.proofs.Crossing.{comes_back, goes_back}
 use Rattle.way_laws.proofs.Arguments.{read_by, listed_same, kept_left, kept_later, argument, matched_by, matched_named, ReadBy, read_from, SharedBy, shared_by, shared_from}
 use Rattle.way_laws.proofs.Expressions.{CallReady, fits_there}
 use Rattle.way_laws.proofs.Placed.{SitePlaced}
-use Rattle.way_laws.proofs.Keys.{Key, GoodKey, good_left, good_fits, lookup_left, Known, known_mode, known_import, imported_key}
+use Rattle.way_laws.proofs.Keys.{Key, GoodKey, good_left, good_fits, lookup_left, lookup_right, found_reads, Known, known_mode, known_import, imported_key}
 use Rattle.way_laws.proofs.Texts.{EachPlaced, Knows, text_ready, known_good, key_of}
+use Rattle.way_laws.specs.Modes.{ReadAsAsked}
+use Rattle.way_laws.proofs.Lists.{not_false}
+use Rattle.way_laws.proofs.Whole.{SameReadIn, SameRead, reads_same}
+use Rattle.lus_tree.specs.Reason.{mode_unknown}
+use Rattle.lus_meaning.proofs.RulesFit.{none_mapped}
+use Rattle.lus_meaning.proofs.EachPart.{each_part}
+use Rattle.clock_laws.proofs.Parts.{each_from}
 
 import_names_append : (xs ys : List ContractStatement) → import_names (xs ++ ys) ≡ import_names xs ++ import_names ys
 import_names_append [] ys = refl
@@ -201,6 +208,43 @@ module _ (p : Program) (k : ℕ) (i : Instance) (g : Summaries)
         let q = no_parts (expression_faults (scope_at before) (on_clock base) e) _ h in
         (text_fits true e q.0 a.0, arguments_fit as_ q.1 a.1)
 
+  -- the same over all modes of the contract
+  module _ (before : List ContractStatement) (ms : ModeNeeds) (rs : ModeReads) (k_at : KnownAt before ms rs) (y : Longer (mode_reads here g) rs) where
+    same_key : (d : Option Spelled) (w : Spelled) → mode_is_known (scope_at before) d w ≡ true
+        → known_reads rs (key_of d w) ≡ known_reads (mode_reads here g) (key_of d w)
+    same_key d w e =
+        let good : GoodKey i ms rs (key_of d w) = known_good i p (mode_names before) (import_names before) ms rs k_at (scope_at before) refl refl refl d w
+        e in
+        ap (λ o. unwrap_or o []) (good.are_read ∙ sym (ap (lookup (mode_key (key_of d w))) y.is
+        ∙ lookup_left (mode_key (key_of d w)) rs y.rest good.reads_list good.are_read))
+
+    part_same : (t : Standing) (e : Expression) → part_faults (scope_at before) (occurs t e) ≡ [] → SameReadIn here g rs (mode_reads here g) e
+    part_same t (mode_name q d w) h = same_key d w (not_false (mode_is_known (scope_at before) d w)
+        (not_so (not (mode_is_known (scope_at before) d w)) mode_unknown w.at
+        (no_parts (form_faults (scope_at before) t.whole_side (mode_name q d w)) (weight_faults (scope_at before) (mode_name q d w)) h).0))
+    part_same t _ h = tt
+
+    text_same : (e : Expression) → expression_faults (scope_at before) (on_clock base) e ≡ [] → reads here g rs base e ≡ reads here g (mode_reads here g) base e
+    text_same e h = reads_same here g rs (mode_reads here g) e (on_clock base) (each_from (λ o. part_faults (scope_at before) o ≡ [])
+        (SameRead here g rs (mode_reads here g)) (λ o q. part_same o.standing o.expression q) here (on_clock base) e
+        (each_part (λ o. part_faults (scope_at before) o ≡ []) here (on_clock base) e
+        (none_mapped (part_faults (scope_at before)) (occurrences here (on_clock base) e) h)))
+
+    labels_same : (ls : List Labelled) → flags_of (scope_at before) ls ≡ [] → asked_reads here g rs ls ≡ asked_reads here g (mode_reads here g) ls
+    labels_same [] h = refl
+    labels_same (l ∷ ls) h =
+        let q = no_parts (flag_faults (scope_at before) l.value) (flags_of (scope_at before) ls) h in
+        rw (text_same l.value (no_parts (needs_sort (scope_at before) Flags l.value) _ q.0).1, labels_same ls q.1) refl
+
+    arguments_same : (as_ : List Expression) → flat_map (expression_faults (scope_at before) (on_clock base)) as_ ≡ [] → (ys xs : List Name)
+        → listed_read here g rs ys xs as_ ≡ listed_read here g (mode_reads here g) ys xs as_
+    arguments_same [] h ys [] = refl
+    arguments_same [] h ys (x ∷ xs) = refl
+    arguments_same (e ∷ as_) h ys [] = refl
+    arguments_same (e ∷ as_) h ys (x ∷ xs) =
+        let q = no_parts (expression_faults (scope_at before) (on_clock base) e) _ h in
+        rw (text_same e q.0, arguments_same as_ q.1 ys xs) refl
+
   -- ---- an import
 
   module _ (rs : ModeReads) (j : ℕ) (c : Spelled) (as_ : List Expression) (xs : List Spelled) where
@@ -321,6 +365,7 @@ module _ (p : Program) (k : ℕ) (i : Instance) (g : Summaries)
   pub record Walked (before cs : List ContractStatement) (ms : ModeNeeds) (rs : ModeReads) : Type 0 where
     pub known_all : KnownAt (before ++ cs) (modes_after i (sub_needs i) ms cs) (mode_reads_after here g rs cs)
     pub ghosts_fit : AllByRecursion GhostFits (ghost_equations cs)
+    pub asked : ReadAsAsked here g (mode_reads here g) (mode_names before) (import_names before) cs
 
   known_more : (before : List ContractStatement) (c : ContractStatement) (ms : ModeNeeds) (rs : ModeReads)
       → Known i p (mode_names before ++ mode_names (c ∷ [])) (import_names before ++ import_names (c ∷ [])) ms rs → KnownAt (before ++ c ∷ []) ms rs
@@ -338,6 +383,30 @@ module _ (p : Program) (k : ℕ) (i : Instance) (g : Summaries)
   on : (before cs : List ContractStatement) (c : ContractStatement) (ms : ModeNeeds) (rs : ModeReads)
       → KnownAt ((before ++ c ∷ []) ++ cs) ms rs → KnownAt (before ++ c ∷ cs) ms rs
   on before cs c ms rs h = subst (λ xs. KnownAt xs ms rs) (append_assoc before (c ∷ []) cs) h
+
+  abbrev Asked : List Name → List Name → List ContractStatement → Type 0
+  Asked own imports cs = ReadAsAsked here g (mode_reads here g) own imports cs
+
+  asked_on : (before cs : List ContractStatement) (c : ContractStatement) → Asked (mode_names (before ++ c ∷ [])) (import_names (before ++ c ∷ [])) cs
+      → Asked (mode_names before ++ mode_names (c ∷ [])) (import_names before ++ import_names (c ∷ [])) cs
+  asked_on before cs c h = subst (λ xs. Asked xs (import_names before ++ import_names (c ∷ [])) cs) (mode_names_append before (c ∷ []))
+      (subst (λ ys. Asked (mode_names (before ++ c ∷ [])) ys cs) (import_names_append before (c ∷ [])) h)
+
+  no_own : (own imports : List Name) (cs : List ContractStatement) → Asked (own ++ []) imports cs → Asked own imports cs
+  no_own own imports cs h = subst (λ xs. Asked xs imports cs) (append_none own) h
+
+  no_imports : (own imports : List Name) (cs : List ContractStatement) → Asked own (imports ++ []) cs → Asked own imports cs
+  no_imports own imports cs h = subst (λ ys. Asked own ys cs) (append_none imports) h
+
+  asked_plain : (before cs : List ContractStatement) → Asked (mode_names before ++ []) (import_names before ++ []) cs
+      → Asked (mode_names before) (import_names before) cs
+  asked_plain before cs h = no_own (mode_names before) (import_names before) cs (no_imports (mode_names before ++ []) (import_names before) cs h)
+
+  -- what is found behind these is what all modes say
+  found_all : (rs others : ModeReads) (key : Key) (list : List Name) → lookup (mode_key key) rs ≡ None → lookup (mode_key key) others ≡ Some list
+      → Longer (mode_reads here g) (rs ++ others) → known_reads (mode_reads here g) key ≡ list
+  found_all rs others key list e h y = ap (λ o. unwrap_or o []) (ap (lookup (mode_key key)) y.is
+      ∙ lookup_left (mode_key key) (rs ++ others) y.rest list (lookup_right (mode_key key) rs others e ∙ h))
 
   -- a ghost variable's right side, with the modes of the whole contract
   ghost_fits : (before : List ContractStatement) (ms : ModeNeeds) (rs : ModeReads) → KnownAt before ms rs → Extended (modes_need i) ms
@@ -364,19 +433,31 @@ module _ (p : Program) (k : ℕ) (i : Instance) (g : Summaries)
       → AllByRecursion (λ d. SitePlaced p i g (contract_named p d.callee) d) (flat_map import_site cs)
       → AllByRecursion (λ v. clock_of here v.name.text ≡ base) (ghosts cs)
       → modes_need i ≡ modes_after i (sub_needs i) ms cs → mode_reads here g ≡ mode_reads_after here g rs cs → Walked before cs ms rs
-  walk before [] ms rs w h a q c e f = record { known_all = subst (λ xs. KnownAt xs ms rs) (sym (append_none before)) w; ghosts_fit = tt }
+  walk before [] ms rs w h a q c e f = record { known_all = subst (λ xs. KnownAt xs ms rs) (sym (append_none before)) w; ghosts_fit = tt; asked = tt }
   walk before (assume l ∷ cs) ms rs w h a q c e f =
       let r : Walked (before ++ assume l ∷ []) cs ms rs = walk (before ++ assume l ∷ []) cs ms rs (known_plain before (assume l) ms rs refl refl w)
       (no_parts (contract_statement_faults (scope_at before) (assume l)) _ h).1 a.1 q c e f in
-      record { known_all = on before cs (assume l) _ _ r.known_all; ghosts_fit = r.ghosts_fit }
+      record {
+        known_all = on before cs (assume l) _ _ r.known_all;
+        ghosts_fit = r.ghosts_fit;
+        asked = asked_plain before cs (asked_on before cs (assume l) r.asked);
+      }
   walk before (guarantee l ∷ cs) ms rs w h a q c e f =
       let r : Walked (before ++ guarantee l ∷ []) cs ms rs = walk (before ++ guarantee l ∷ []) cs ms rs (known_plain before (guarantee l) ms rs refl refl w)
       (no_parts (contract_statement_faults (scope_at before) (guarantee l)) _ h).1 a.1 q c e f in
-      record { known_all = on before cs (guarantee l) _ _ r.known_all; ghosts_fit = r.ghosts_fit }
+      record {
+        known_all = on before cs (guarantee l) _ _ r.known_all;
+        ghosts_fit = r.ghosts_fit;
+        asked = asked_plain before cs (asked_on before cs (guarantee l) r.asked);
+      }
   walk before (constant x ∷ cs) ms rs w h a q c e f =
       let r : Walked (before ++ constant x ∷ []) cs ms rs = walk (before ++ constant x ∷ []) cs ms rs (known_plain before (constant x) ms rs refl refl w)
       (no_parts (contract_statement_faults (scope_at before) (constant x)) _ h).1 a.1 q c e f in
-      record { known_all = on before cs (constant x) _ _ r.known_all; ghosts_fit = r.ghosts_fit }
+      record {
+        known_all = on before cs (constant x) _ _ r.known_all;
+        ghosts_fit = r.ghosts_fit;
+        asked = asked_plain before cs (asked_on before cs (constant x) r.asked);
+      }
   walk before (ghost_variable v d ∷ cs) ms rs w h a q c e f =
       let z = no_parts (contract_statement_faults (scope_at before) (ghost_variable v d)) _ h in
       let x : Extended (modes_need i) ms = subst (λ ns. Extended ns ms) (sym e) (needs_extend i (sub_needs i) ms cs) in
@@ -386,6 +467,7 @@ module _ (p : Program) (k : ℕ) (i : Instance) (g : Summaries)
       record {
         known_all = on before cs (ghost_variable v d) _ _ r.known_all;
         ghosts_fit = (ghost_fits before ms rs w x y v d z.0 a.0 c.0, r.ghosts_fit);
+        asked = asked_plain before cs (asked_on before cs (ghost_variable v d) r.asked);
       }
   walk before (mode m qs es ∷ cs) ms rs w h a q c e f =
       let z = no_parts (contract_statement_faults (scope_at before) (mode m qs es)) _ h in
@@ -401,7 +483,18 @@ module _ (p : Program) (k : ℕ) (i : Instance) (g : Summaries)
       (known_mode i p (mode_names before) (import_names before) ms rs m.text (asked_needs i ms qs) (asked_reads here g rs qs) w fit)) in
       let r : Walked (before ++ mode m qs es ∷ []) cs more others = walk (before ++ mode m qs es ∷ []) cs more others v z.1
       (right_part Placed (on_base qs ++ on_base es) (flat_map contract_statement_texts cs) a) q c e f in
-      record { known_all = on before cs (mode m qs es) _ _ r.known_all; ghosts_fit = r.ghosts_fit }
+      let y : Longer (mode_reads here g) rs = subst (λ ns. Longer ns rs) (sym f) (reads_extend here g rs (mode m qs es ∷ cs)) in
+      let z' : Longer (mode_reads here g) others = subst (λ ns. Longer ns others) (sym f) (reads_extend here g others cs) in
+      record {
+        known_all = on before cs (mode m qs es) _ _ r.known_all;
+        ghosts_fit = r.ghosts_fit;
+        asked = (
+          (λ new. found_all rs ((([], m.text), asked_reads here g rs qs) ∷ []) ([], m.text) (asked_reads here g rs qs) (w.no_name m.text new).1
+              (ap (λ b. cond b (Some (asked_reads here g rs qs)) None) (self_bytes m.text)) z'
+              ∙ labels_same before ms rs w y qs (no_parts (flags_of (scope_at before) qs) (flags_of (scope_at before) es) z.0).0),
+          no_imports (mode_names before ++ m.text ∷ []) (import_names before) cs (asked_on before cs (mode m qs es) r.asked),
+        );
+      }
   walk before («import» j d as_ xs ∷ cs) ms rs w h a q c e f =
       let z = no_parts (contract_statement_faults (scope_at before) («import» j d as_ xs)) _ h in
       let texts_here : List Text = map (λ b. (on_clock base, b)) as_ in
@@ -417,4 +510,16 @@ module _ (p : Program) (k : ℕ) (i : Instance) (g : Summaries)
       (import_key rs j d as_ xs q.0 fit))) in
       let r : Walked (before ++ «import» j d as_ xs ∷ []) cs more others = walk (before ++ «import» j d as_ xs ∷ []) cs more others v z.1
       (right_part Placed texts_here (flat_map contract_statement_texts cs) a) q.1 c e f in
-      record { known_all = on before cs («import» j d as_ xs) _ _ r.known_all; ghosts_fit = r.ghosts_fit }
+      let y : Longer (mode_reads here g) rs = subst (λ ns. Longer ns rs) (sym f) (reads_extend here g rs («import» j d as_ xs ∷ cs)) in
+      let z' : Longer (mode_reads here g) others = subst (λ ns. Longer ns others) (sym f) (reads_extend here g others cs) in
+      record {
+        known_all = on before cs («import» j d as_ xs) _ _ r.known_all;
+        ghosts_fit = r.ghosts_fit;
+        asked = (
+          (λ new u list found. found_all rs (imported_reads here g rs (g d.text) d as_ xs) (d.text ∷ [], u) (back rs j d as_ xs list)
+              (w.no_import d.text u new).1 (found_reads i d.text (pred j) (back rs j d as_ xs) u (g d.text).modes list found) z'
+              ∙ ap (λ zs. zs ++ shared_read here g list (g d.text).outputs xs) (arguments_same before ms rs w y as_
+              (no_parts (flat_map (expression_faults (scope_at before) (on_clock base)) as_) _ z.0).0 list (g d.text).inputs)),
+          no_own (mode_names before) (import_names before ++ d.text ∷ []) cs (asked_on before cs («import» j d as_ xs) r.asked),
+        );
+      }

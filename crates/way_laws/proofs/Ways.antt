@@ -16,10 +16,11 @@ use Rattle.lus_meaning.proofs.BooleanOrder.{IsIn, in_mapped, at_some}
 use Rattle.clock_laws.proofs.Reaching.{at_in, in_image, next_top}
 use Rattle.rule_laws.proofs.Unfolded.{component_within}
 use Rattle.way_laws.specs.OwnGraph.{Summary, Summaries, known_reads, mode_reads, own_edges, Edges, IsOwnWay, LeadsTo, Finds}
+use Rattle.way_laws.specs.Modes.{ReadAsAsked}
 use Rattle.way_laws.specs.Summaries.{HoldsOf, HasMode, IsSummary, Needs, IsExact, CalleesExact}
-use Rattle.way_laws.specs.Laws.{WaysAreOwn, SummariesExact}
+use Rattle.way_laws.specs.Laws.{WaysAreOwn, SummariesExact, ModesByAll}
 use Rattle.way_laws.proofs.Steps.{top, Steps, joined, steps_of, way_of, Comes, needs_come, come_needs, Earlier, Fits, fits_none, fits_both, fits_name}
-use Rattle.way_laws.proofs.Declarations.{mode_fits, edges_fit}
+use Rattle.way_laws.proofs.Declarations.{modes_asked, mode_fits, edges_fit}
 
 module _ (i : Instance) (edges : Edges) (fit : (x : Name) → Fits i (own_needs i x) (edges x)) where
   -- a way of at least one edge
@@ -190,3 +191,7 @@ ways_are_own p grammatical typed n d g exact = at_instance (λ i m. (xs ys : Lis
 pub summaries_exact : SummariesExact
 summaries_exact p grammatical typed n d g exact = at_instance (λ i m. (s : Summary) → IsSummary m g s → IsExact i s) p n
     (λ i same e. exact_summary p grammatical typed i same (subst (Contains (components p)) (sym e) d) g (subst (λ m. CalleesExact p m g) (sym e) exact))
+
+pub modes_by_all : ModesByAll
+modes_by_all p grammatical typed n d g exact = at_instance (λ i m. ReadAsAsked m g (mode_reads m g) [] [] (contract_statements m)) p n
+    (λ i same e. modes_asked p grammatical typed i same (subst (Contains (components p)) (sym e) d) g (subst (λ m. CalleesExact p m g) (sym e) exact))

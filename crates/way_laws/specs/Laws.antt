@@ -2,7 +2,7 @@
 use Rattle.std.specs.Prelude.{◌≡◌, ◌↔◌, ℕ, ◌<◌, Bool, List, [], ◌∷◌, length, Contains}
 use Rattle.lus_tree.specs.Reason.{Refused}
 use Rattle.lus_tree.specs.Tree.{Name, Component, Program}
-use Rattle.lus_meaning.specs.Scene.{Site}
+use Rattle.lus_meaning.specs.Scene.{Site, contract_statements}
 use Rattle.lus_meaning.specs.Program.{all_sites, instance_of}
 use Rattle.lus_meaning.specs.Run.{equations}
 use Rattle.lus_meaning.specs.Cycle.{Reaches}
@@ -15,7 +15,8 @@ use Rattle.lus_meaning.specs.RuleLaws.{callee_of}
 use Rattle.way_laws.specs.Circles.{IsOwnCircle, OwnNeeds}
 use Rattle.way_laws.specs.Closure.{Closure}
 use Rattle.way_laws.specs.Nodes.{of_name, of_equation, NodeLeads}
-use Rattle.way_laws.specs.OwnGraph.{Summary, Summaries, LeadsTo, own_edges}
+use Rattle.way_laws.specs.Modes.{ReadAsAsked}
+use Rattle.way_laws.specs.OwnGraph.{Summary, Summaries, LeadsTo, own_edges, mode_reads}
 use Rattle.way_laws.specs.Summaries.{IsSummary, IsExact, CalleesExact}
 
 -- what holds of each declaration of a program whose names and types are right, by exact summaries of what it calls
@@ -30,6 +31,10 @@ WaysAreOwn = OfEachByCallees (λ p n g. (xs ys : List Name) → Reaches (instanc
 -- a summary by the own graph is exact
 abbrev pub SummariesExact : Type 0
 SummariesExact = OfEachByCallees (λ p n g. (s : Summary) → IsSummary n g s → IsExact (instance_of p n) s)
+
+-- what a mode reads is said by what all modes read, those before it and those behind it
+abbrev pub ModesByAll : Type 0
+ModesByAll = OfEachByCallees (λ p n g. ReadAsAsked n g (mode_reads n g) [] [] (contract_statements n))
 
 -- ---- callees first
 

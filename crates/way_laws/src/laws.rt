@@ -5,6 +5,7 @@ ghost use Rattle.way_laws.specs.Laws.{
   CalleesLower,
   CirclesAreOwn,
   EquationsByNodes,
+  ModesByAll,
   NamesByNodes,
   NamesInCircles,
   OrdersAreOwn,
@@ -18,10 +19,12 @@ ghost use Rattle.way_laws.specs.Laws.{
 /// read that the callee's summary says an output reads at the same instant. Where names and types of a program are
 /// right, and the summaries of what a declaration calls and imports are exact, a way of needs in the whole tree of
 /// instances leads from one name of the declaration to another exactly where its own graph has one. So the summary that
-/// its own graph gives is exact too.
+/// its own graph gives is exact too. What a mode of the contract reads, of those before it as the definition says, is
+/// also said by what all modes read, so that a mode can be found by its name alone.
 pub fn own_graphs()
     ensures ways { WaysAreOwn }
     ensures summaries { SummariesExact }
+    ensures modes { ModesByAll }
 {}
 
 /// Where names and types of a program are right, its declarations have ranks by which each is above all that it calls

@@ -1,4 +1,4 @@
-use Rattle.way_laws.proofs.Ways.{ways_are_own, summaries_exact}
+use Rattle.way_laws.proofs.Ways.{ways_are_own, summaries_exact, modes_by_all}
 use Rattle.way_laws.proofs.laws.own_graphs.Goals as goal
 
 pub returns-clause-ways : goal.returns-clause-ways
@@ -6,3 +6,6 @@ returns-clause-ways c = ways_are_own
 
 pub returns-clause-summaries : goal.returns-clause-summaries
 returns-clause-summaries c = summaries_exact
+
+pub returns-clause-modes : goal.returns-clause-modes
+returns-clause-modes c = modes_by_all
