@@ -1,0 +1,11 @@
+//! The rules of equations, and the order in which they can be evaluated at one instant.
+#![tactic(auto)]
+
+mod circles;
+mod graph;
+mod least_order;
+mod order_from;
+mod left_names;
+mod reach;
+mod repeated;
+mod words;
