@@ -98,21 +98,21 @@ module _ (start : ℕ) where
 
   from_joined_less : (done : List ℕ) (k : ℕ) → nat_lt k start ≡ true → from_on start (done ++ k ∷ []) ≡ from_on start done
   from_joined_less [] k t = rw t refl
-  from_joined_less (d ∷ ds) k t = go (nat_lt d start)
+  from_joined_less (d ∷ ds) k t = go (nat_lt d start) (from_joined_less ds k t)
     where
-      go : (b : Bool) → cond b (from_on start (ds ++ k ∷ [])) (d - start ∷ from_on start (ds ++ k ∷ [])) ≡ cond b (from_on start ds)
-          (d - start ∷ from_on start ds)
-      go true = from_joined_less ds k t
-      go false = ap (λ z. d - start ∷ z) (from_joined_less ds k t)
+      go : (b : Bool) → from_on start (ds ++ k ∷ []) ≡ from_on start ds → cond b (from_on start (ds ++ k ∷ [])) ((d - start) ∷ from_on start (ds ++ k ∷ [])) ≡ cond b (from_on start ds)
+          ((d - start) ∷ from_on start ds)
+      go true e = e
+      go false e = ap (λ z. (d - start) ∷ z) e
 
   from_joined_more : (done : List ℕ) (k : ℕ) → nat_lt k start ≡ false → from_on start (done ++ k ∷ []) ≡ from_on start done ++ (k - start) ∷ []
   from_joined_more [] k f = rw f refl
-  from_joined_more (d ∷ ds) k f = go (nat_lt d start)
+  from_joined_more (d ∷ ds) k f = go (nat_lt d start) (from_joined_more ds k f)
     where
-      go : (b : Bool) → cond b (from_on start (ds ++ k ∷ [])) (d - start ∷ from_on start (ds ++ k ∷ [])) ≡ cond b (from_on start ds)
-          (d - start ∷ from_on start ds) ++ (k - start) ∷ []
-      go true = from_joined_more ds k f
-      go false = ap (λ z. d - start ∷ z) (from_joined_more ds k f)
+      go : (b : Bool) → from_on start (ds ++ k ∷ []) ≡ from_on start ds ++ (k - start) ∷ [] → cond b (from_on start (ds ++ k ∷ [])) ((d - start) ∷ from_on start (ds ++ k ∷ [])) ≡ cond b (from_on start ds)
+          ((d - start) ∷ from_on start ds) ++ (k - start) ∷ []
+      go true e = e
+      go false e = ap (λ z. (d - start) ∷ z) e
 
 module _ (rows : Rows) (start : ℕ) (all : List ℕ) (o : IsOrder (length rows) (Passes (leads rows)) all) where
   abbrev n : ℕ
@@ -157,18 +157,25 @@ module _ (rows : Rows) (start : ℕ) (all : List ℕ) (o : IsOrder (length rows)
       → (m : ℕ) × (m ≤ limit) × (is_listed done m ≡ false) × IsReady n (Passes (leads rows)) done m
   descend done limit zero i f b l s u h = absurd (omega (arith, f))
   descend done limit (suc fuel) i f b l s u h = go (ready_or_not n (leads rows) done i)
+      (λ k p c g v w. descend done limit fuel k p c g s v w)
     where
-      go : IsReady n (Passes (leads rows)) done i ⊎ ((j : ℕ) × (j < n) × (leads rows i j ≡ true) × (is_listed done j ≡ false))
-          → (m : ℕ) × (m ≤ limit) × (is_listed done m ≡ false) × IsReady n (Passes (leads rows)) done m
-      go (inl r) = (i, l, u, r)
-      go (inr q) = on (cases_lt q.0 start)
+      Found : Type 0
+      Found = (m : ℕ) × (m ≤ limit) × (is_listed done m ≡ false) × IsReady n (Passes (leads rows)) done m
+
+      Deeper : Type 0
+      Deeper = (k : ℕ) → place_in all k < fuel → k < n → k ≤ limit → is_listed done k ≡ false
+          → ((j : ℕ) → j < n → start ≤ j → LeadsTo rows k j → is_listed done j ≡ true) → Found
+
+      go : IsReady n (Passes (leads rows)) done i ⊎ ((j : ℕ) × (j < n) × (leads rows i j ≡ true) × (is_listed done j ≡ false)) → Deeper → Found
+      go (inl r) d = (i, l, u, r)
+      go (inr q) d = on (cases_lt q.0 start)
         where
-          on : (q.0 < start) ⊎ (start ≤ q.0) → (m : ℕ) × (m ≤ limit) × (is_listed done m ≡ false) × IsReady n (Passes (leads rows)) done m
+          on : (q.0 < start) ⊎ (start ≤ q.0) → Found
           on (inr g) = absurd (true≢false (sym (h q.0 q.1 g (one_step rows i q.0 q.2)) ∙ q.3))
           on (inl g) =
               let p : place_in all q.0 < place_in all i = place_lowers n (leads rows) all o i q.0 b q.1 q.2 in
-              descend done limit fuel q.0 (omega (arith, p, f)) q.1 (omega (arith, g, s)) s q.3
-              (λ j c d w. h j c d (record { first = q.0; rest = w.first ∷ w.rest; path = (q.2, w.path); last = w.last }))
+              d q.0 (omega (arith, p, f)) q.1 (omega (arith, g, s)) q.3
+              (λ j c e w. h j c e (record { first = q.0; rest = w.first ∷ w.rest; path = (q.2, w.path); last = w.last }))
 
   next_from : (done : List ℕ) (k : ℕ) → IsClosed done → start ≤ k → IsNext n (Passes (leads rows)) done k
       → IsNext (n - start) (LeadsFrom rows start) (from_on start done) (k - start)

@@ -1,5 +1,5 @@
 -- Numbers that are listed: the least open one is the next, and where none is open the listing is stuck.
-use Rattle.std.proofs.Common.{◌≡◌, ℕ, zero, suc, ◌<◌, ◌≤◌, ◌+◌, ◌-◌, Bool, true, false, not, ◌&&◌, ◌||◌, eqb, List, [], ◌∷◌, ◌++◌, length, get_or, set, take, replicate, refl, ◌∙◌, sym, subst, arith}
+use Rattle.std.proofs.Common.{◌≡◌, ℕ, zero, suc, ◌<◌, ◌≤◌, ◌+◌, ◌-◌, Bool, true, false, not, ◌&&◌, ◌||◌, eqb, List, [], ◌∷◌, ◌++◌, length, get_or, set, take, replicate, refl, ap, ◌∙◌, sym, subst, arith}
 use Rattle.std.specs.List.{list_all}
 use Rattle.std.proofs.Math.Logic.{◌⊎◌, inl, inr}
 use Rattle.std.proofs.lemmas.Bool.{true≢false, false≢true, eqb-true, eqb-false, eq-eqb, cases_Bool, cases_lt}
@@ -132,44 +132,52 @@ all_still_done bs i (j ∷ js) e =
 
 pub passed_listed : (rows : Rows) (done : List Bool) (passed : List ℕ) (i : ℕ) → ArePassed rows done passed → ArePassed rows (set done i true) passed
 passed_listed rows done passed i a =
-    record { length = a.length; done = λ k l. all_still_done done i (take (get_or passed k 0) (row_at rows k)) (a.done k l) }
+    record { whole = a.whole; listed = λ k l. all_still_done done i (take (get_or passed k 0) (row_at rows k)) (a.listed k l) }
 
 pub passed_start : (rows : Rows) (done : List Bool) → ArePassed rows done (replicate (length rows) 0)
-passed_start rows done = record { length = length-replicate (length rows) 0; done = λ k l. rw (all_same (length rows) 0 k) refl }
+passed_start rows done = record { whole = length-replicate (length rows) 0; listed = λ k l. rw (all_same {X = ℕ} (length rows) 0 k) refl }
 
 pub passed_moved : (rows : Rows) (done : List Bool) (passed : List ℕ) (k place : ℕ) → k < length rows → ArePassed rows done passed
     → IsPassed done (row_at rows k) place → ArePassed rows done (set passed k place)
-passed_moved rows done passed k place l a p = record { length = length-set passed k place ∙ a.length; done = λ j h. each j h (cases_Bool (eqb j k)) }
+passed_moved rows done passed k place l a p = record { whole = length-set passed k place ∙ a.whole; listed = λ j h. each j h (cases_Bool (eqb j k)) }
   where
     each : (j : ℕ) → j < length rows → (eqb j k ≡ true) ⊎ (eqb j k ≡ false) → are_done done (take (get_or (set passed k place) j 0) (row_at rows j)) ≡ true
     each j h (inl t) =
         let e : j ≡ k = eqb-true j k t in
-        let m : get_or (set passed k place) k 0 ≡ place = get_or-set_same passed k place 0 (subst (λ z. k < z) (sym a.length) l) in
+        let m : get_or (set passed k place) k 0 ≡ place = get_or-set_same passed k place 0 (subst (λ z. k < z) (sym a.whole) l) in
         subst (λ i. are_done done (take (get_or (set passed k place) i 0) (row_at rows i)) ≡ true) (sym e)
-        (subst (λ z. are_done done (take z (row_at rows k)) ≡ true) (sym m) p.done)
-    each j h (inr f) = subst (λ z. are_done done (take z (row_at rows j)) ≡ true) (sym (get_or-set_other passed k j place 0 (eqb-false j k f))) (a.done j h)
+        (subst (λ z. are_done done (take z (row_at rows k)) ≡ true) (sym m) p.listed)
+    each j h (inr f) = subst (λ z. are_done done (take z (row_at rows j)) ≡ true) (sym (get_or-set_other passed k j place 0 (eqb-false j k f))) (a.listed j h)
 
 -- all is listed where none is left
 pub all_passed : (done : List Bool) (row : List ℕ) (place : ℕ) → IsPassed done row place → length row ≤ place → are_done done row ≡ true
 all_passed done [] place p l = refl
 all_passed done (j ∷ row) zero p l = absurd (omega arith)
 all_passed done (j ∷ row) (suc place) p l =
-    let q : (is_done done j ≡ true) × (are_done done (take place row) ≡ true) = both_true (is_done done j) (are_done done (take place row)) p.done in
-    rw (q.0, all_passed done row place (record { done = q.1; stops = λ h. p.stops (omega (arith, h)) }) (omega (arith, l))) refl
+    let q : (is_done done j ≡ true) × (are_done done (take place row) ≡ true) = both_true (is_done done j) (are_done done (take place row)) p.listed in
+    rw (q.0, all_passed done row place (record { listed = q.1; stops = λ h. p.stops (omega (arith, h)) }) (omega (arith, l))) refl
 
 -- and not all where one is
 pub not_all_passed : (done : List Bool) (row : List ℕ) (place : ℕ) → IsPassed done row place → place < length row → are_done done row ≡ false
 not_all_passed done [] place p l = absurd (omega arith)
 not_all_passed done (j ∷ row) zero p l = rw (p.stops l) refl
 not_all_passed done (j ∷ row) (suc place) p l =
-    let q : (is_done done j ≡ true) × (are_done done (take place row) ≡ true) = both_true (is_done done j) (are_done done (take place row)) p.done in
-    rw (q.0, not_all_passed done row place (record { done = q.1; stops = λ h. p.stops (omega (arith, h)) }) (omega (arith, l))) refl
+    let q : (is_done done j ≡ true) × (are_done done (take place row) ≡ true) = both_true (is_done done j) (are_done done (take place row)) p.listed in
+    rw (q.0, not_all_passed done row place (record { listed = q.1; stops = λ h. p.stops (omega (arith, h)) }) (omega (arith, l))) refl
 
 -- one more place
 pub one_passed : (done : List Bool) (row : List ℕ) (place : ℕ) → are_done done (take place row) ≡ true → place < length row
-    → is_done done (get_or row place 0) ≡ true → are_done done (take (place + 1) row) ≡ true
+    → is_done done (get_or row place 0) ≡ true → are_done done (take (suc place) row) ≡ true
 one_passed done [] place a l e = absurd (omega arith)
 one_passed done (j ∷ row) zero a l e = rw e refl
 one_passed done (j ∷ row) (suc place) a l e =
     let q : (is_done done j ≡ true) × (are_done done (take place row) ≡ true) = both_true (is_done done j) (are_done done (take place row)) a in
     rw (q.0, one_passed done row place q.1 (omega arith) e) refl
+
+-- ---- as the code goes
+
+pub nothing_listed : (n m : ℕ) (done : List Bool) → done ≡ replicate m false → m ≡ n → (length done ≡ n) × AreListed n done []
+nothing_listed n m done e f = subst (λ z. (length z ≡ n) × AreListed n z []) (sym (e ∙ ap (λ k. replicate k false) f)) (length-replicate n false, listed_start n)
+
+pub nothing_passed : (rows : Rows) (m : ℕ) (done : List Bool) (passed : List ℕ) → passed ≡ replicate m 0 → m ≡ length rows → ArePassed rows done passed
+nothing_passed rows m done passed e f = subst (ArePassed rows done) (sym (e ∙ ap (λ k. replicate k 0) f)) (passed_start rows done)

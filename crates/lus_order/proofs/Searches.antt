@@ -9,7 +9,6 @@ use Rattle.std.proofs.lemmas.Map.Steps.{length-le_from_distinct_below}
 use Rattle.lus_meaning.specs.Order.{is_listed}
 use Rattle.lus_meaning.proofs.Lists.{both_parts}
 use Rattle.lus_meaning.proofs.Orders.{all_below, distinct-snoc, no_numbers}
-use Rattle.lus_types.proofs.Spread.{still_marked, newly_marked}
 use Rattle.lus_order.specs.Graphs.{Rows, row_at, leads, is_marked, end_of, AreReached, LeadsTo}
 use Rattle.lus_order.specs.Visits.{State, is_new, visited, visited_all}
 use Rattle.lus_order.proofs.Paths.{all_same, leads_within, one_step, one_step_more, path_keeps, starts_within}
@@ -51,6 +50,20 @@ old_marked : (ms : List Bool) (j : ℕ) → j < length ms → is_new ms j ≡ fa
 old_marked [] j l e = absurd (omega arith)
 old_marked (m ∷ ms) zero l e = not_false m e
 old_marked (m ∷ ms) (suc j) l e = old_marked ms j (omega arith) e
+
+still_marked : (bs : List Bool) (i j : ℕ) → is_marked bs j ≡ true → is_marked (set bs i true) j ≡ true
+still_marked [] i j e = absurd (false≢true e)
+still_marked (b ∷ bs) zero zero e = refl
+still_marked (b ∷ bs) zero (suc j) e = e
+still_marked (b ∷ bs) (suc i) zero e = e
+still_marked (b ∷ bs) (suc i) (suc j) e = still_marked bs i j e
+
+newly_marked : (bs : List Bool) (i j : ℕ) → is_marked (set bs i true) j ≡ true → (j ≡ i) ⊎ (is_marked bs j ≡ true)
+newly_marked bs i j e = go (cases_Bool (eqb j i))
+  where
+    go : (eqb j i ≡ true) ⊎ (eqb j i ≡ false) → (j ≡ i) ⊎ (is_marked bs j ≡ true)
+    go (inl t) = inl (eqb-true j i t)
+    go (inr f) = inr (sym (get_or-set_other bs i j true false (eqb-false j i f)) ∙ e)
 
 -- ---- what stays when numbers are met
 
@@ -166,11 +179,12 @@ visit_length s j = go (is_new s.0 j)
 
 all_marked : (s : State) (js : List ℕ) (j : ℕ) → j < length s.0 → is_listed js j ≡ true → is_marked (visited_all s js).0 j ≡ true
 all_marked s [] j l e = absurd (false≢true e)
-all_marked s (i ∷ js) j l e = go (or_cases (eqb j i) (is_listed js j) e)
+all_marked s (i ∷ js) j l e = go (or_cases (eqb j i) (is_listed js j) e) (λ m. all_marked (visited s i) js j (subst (λ z. j < z) (sym (visit_length s i)) l) m)
   where
-    go : (eqb j i ≡ true) ⊎ (is_listed js j ≡ true) → is_marked (visited_all (visited s i) js).0 j ≡ true
-    go (inl q) = (all_further (visited s i) js).marked j (subst (λ z. is_marked (visited s z).0 j ≡ true) (eqb-true j i q) (visit_marks s j l))
-    go (inr m) = all_marked (visited s i) js j (subst (λ z. j < z) (sym (visit_length s i)) l) m
+    go : (eqb j i ≡ true) ⊎ (is_listed js j ≡ true) → (is_listed js j ≡ true → is_marked (visited_all (visited s i) js).0 j ≡ true)
+        → is_marked (visited_all (visited s i) js).0 j ≡ true
+    go (inl q) r = (all_further (visited s i) js).marked j (subst (λ z. is_marked (visited s z).0 j ≡ true) (eqb-true j i q) (visit_marks s j l))
+    go (inr m) r = r m
 
 -- ---- the search
 
@@ -245,14 +259,14 @@ queue_short rows start s turn w = length-le_from_distinct_below s.1 (length rows
 
 turn_of : (ks : List ℕ) (k : ℕ) → is_listed ks k ≡ true → (t : ℕ) × (t < length ks) × (get_or ks t 0 ≡ k)
 turn_of [] k e = absurd (false≢true e)
-turn_of (i ∷ ks) k e = go (or_cases (eqb k i) (is_listed ks k) e)
+turn_of (i ∷ ks) k e = go (or_cases (eqb k i) (is_listed ks k) e) (turn_of ks k)
   where
-    go : (eqb k i ≡ true) ⊎ (is_listed ks k ≡ true) → (t : ℕ) × (t < suc (length ks)) × (get_or (i ∷ ks) t 0 ≡ k)
-    go (inl q) = (0, omega arith, sym (eqb-true k i q))
-    go (inr m) = let r : (t : ℕ) × (t < length ks) × (get_or ks t 0 ≡ k) = turn_of ks k m in let h : r.0 < length ks = r.1 in (suc r.0, omega (arith, h), r.2)
+    go : (eqb k i ≡ true) ⊎ (is_listed ks k ≡ true) → (is_listed ks k ≡ true → (t : ℕ) × (t < length ks) × (get_or ks t 0 ≡ k)) → (t : ℕ) × (t < suc (length ks)) × (get_or (i ∷ ks) t 0 ≡ k)
+    go (inl q) f = (0, omega arith, sym (eqb-true k i q))
+    go (inr m) f = let r : (t : ℕ) × (t < length ks) × (get_or ks t 0 ≡ k) = f m in let h : r.0 < length ks = r.1 in (suc r.0, omega (arith, h), r.2)
 
 pub search_ends : (rows : Rows) (start : ℕ) (s : State) (turn : ℕ) → Searching rows start s turn → length s.1 ≤ turn → AreReached rows start s.0
-search_ends rows start s turn w l = record { length = w.kept.whole; led = w.kept.sound; all = all }
+search_ends rows start s turn w l = record { whole = w.kept.whole; led = w.kept.sound; all = all }
   where
     hands_on : (k j : ℕ) → is_marked s.0 k ≡ true → j < length rows → leads rows k j ≡ true → is_marked s.0 j ≡ true
     hands_on k j m b e =
@@ -267,3 +281,24 @@ search_ends rows start s turn w l = record { length = w.kept.whole; led = w.kept
         let h : p.first < length rows = starts_within rows p.first p.rest p.path.1 e in
         subst (λ z. is_marked s.0 z ≡ true) p.last
         (path_keeps rows (λ k. is_marked s.0 k ≡ true) hands_on p.first p.rest (w.first p.first h p.path.0) p.path.1 e)
+
+-- ---- as the code goes
+
+any_default : (ks : List ℕ) (t d e : ℕ) → t < length ks → get_or ks t d ≡ get_or ks t e
+any_default [] t d e l = absurd (omega arith)
+any_default (k ∷ ks) zero d e l = refl
+any_default (k ∷ ks) (suc t) d e l = any_default ks t d e (omega arith)
+
+pub search_begins : (rows : Rows) (start n : ℕ) (ms : List Bool) (q row : List ℕ) (s : State) → ms ≡ replicate n false → n ≡ length rows → q ≡ []
+    → row ≡ row_at rows start → s ≡ visited_all (ms, q) row → Searching rows start s 0
+search_begins rows start n ms q row s e f g h is = search_starts rows start s (is ∙ ap (λ r. visited_all (ms, q) r) h
+    ∙ ap (λ z. visited_all (z, q) (row_at rows start)) (e ∙ ap (λ k. replicate k false) f) ∙ ap (λ z. visited_all (replicate (length rows) false, z) (row_at rows start)) g)
+
+pub search_step : (rows : Rows) (start number : ℕ) (row : List ℕ) (s s' : State) (turn : ℕ) → Searching rows start s turn → turn < length s.1
+    → number ≡ get_or s.1 turn number → row ≡ row_at rows number → s' ≡ visited_all s row → Searching rows start s' (turn + 1)
+search_step rows start number row s s' turn w l e f is =
+    search_goes_on rows start s s' turn w l (is ∙ ap (λ r. visited_all s r) (f ∙ ap (row_at rows) (e ∙ any_default s.1 turn number 0 l)))
+
+pub turns_left : (rows : Rows) (start : ℕ) (s : State) (turn : ℕ) → Searching rows start s turn → turn < length s.1
+    → length rows - (turn + 1) < length rows - turn
+turns_left rows start s turn w l = let h : length s.1 ≤ length rows = queue_short rows start s turn w in omega (arith, h, l)

@@ -1,6 +1,6 @@
 -- Finite directed graphs of numbers.
 use Rattle.std.specs.Prelude.{◌≡◌, ℕ, ◌<◌, ◌+◌, ◌-◌, Bool, true, false, cond, nat_lt, List, [], ◌∷◌, map, length, get_or}
-use Rattle.lus_meaning.specs.Order.{is_listed}
+use Rattle.lus_meaning.specs.Order.{Passes, is_listed, IsLeastOrder}
 use Rattle.lus_order.specs.declared.graph.Graph.{Graph}
 
 -- for each number, counted from 0, those that it leads to
@@ -41,13 +41,13 @@ is_marked marks j = get_or marks j false
 
 -- marked are the numbers that one leads to
 pub record AreReached (rows : Rows) (k : ℕ) (marks : List Bool) : Type 0 where
-  pub length : length marks ≡ length rows
+  pub whole : length marks ≡ length rows
   pub led : (j : ℕ) → is_marked marks j ≡ true → LeadsTo rows k j
   pub all : (j : ℕ) → j < length rows → LeadsTo rows k j → is_marked marks j ≡ true
 
 -- marked are the numbers that lead to themselves
 pub record AreOnCircles (rows : Rows) (marks : List Bool) : Type 0 where
-  pub length : length marks ≡ length rows
+  pub whole : length marks ≡ length rows
   pub led : (k : ℕ) → is_marked marks k ≡ true → LeadsTo rows k k
   pub all : (k : ℕ) → k < length rows → LeadsTo rows k k → is_marked marks k ≡ true
 
@@ -60,10 +60,14 @@ LeadsFrom rows start k j = LeadsTo rows (start + k) (start + j)
 -- those of a list that are no less than the start
 abbrev pub from_on : ℕ → List ℕ → List ℕ
 from_on start [] = []
-from_on start (k ∷ ks) = cond (nat_lt k start) (from_on start ks) (k - start ∷ from_on start ks)
+from_on start (k ∷ ks) = cond (nat_lt k start) (from_on start ks) ((k - start) ∷ from_on start ks)
 
 -- some number leads to itself
 pub record HasCircle (rows : Rows) : Type 0 where
   pub number : ℕ
   pub below : number < length rows
   pub circle : LeadsTo rows number number
+
+-- the numbers can be ordered, each behind those that it leads to
+abbrev pub HasOrder : Rows → Type 0
+HasOrder rows = (ks : List ℕ) × IsLeastOrder (length rows) (Passes (leads rows)) ks

@@ -16,10 +16,10 @@ is_open rows done k = not (is_done done k) && are_done done (row_at rows k)
 
 -- for each row a place before which all is listed
 pub record ArePassed (rows : Rows) (done : List Bool) (passed : List ℕ) : Type 0 where
-  pub length : length passed ≡ length rows
-  pub done : (k : ℕ) → k < length rows → are_done done (take (get_or passed k 0) (row_at rows k)) ≡ true
+  pub whole : length passed ≡ length rows
+  pub listed : (k : ℕ) → k < length rows → are_done done (take (get_or passed k 0) (row_at rows k)) ≡ true
 
 -- the place in a row before which all is listed, and at which nothing listed stands
 pub record IsPassed (done : List Bool) (row : List ℕ) (place : ℕ) : Type 0 where
-  pub done : are_done done (take place row) ≡ true
+  pub listed : are_done done (take place row) ≡ true
   pub stops : place < length row → is_done done (get_or row place 0) ≡ false

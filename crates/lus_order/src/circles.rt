@@ -1,7 +1,7 @@
 //! The numbers of a graph that lead to themselves.
 
-ghost use Rattle.std.specs.Prelude.{◌<◌, ◌↔◌, IfOk, IsTrue, length};
-ghost use Rattle.lus_order.specs.Graphs.{AreOnCircles, LeadsTo, graph_view};
+ghost use Rattle.std.specs.Prelude.{◌≡◌, ◌<◌, ◌↔◌, true, IfOk, IsTrue, length};
+ghost use Rattle.lus_order.specs.Graphs.{AreOnCircles, HasOrder, LeadsTo, graph_view};
 
 use crate::graph::Graph;
 use crate::least_order::least_order;
@@ -28,6 +28,16 @@ fn marked_by_search(alloc: Global, graph: &Graph) -> Result<Vec<bool>, AllocErro
     Ok(marks)
 }
 
+/// Whether the numbers can be ordered, so that each stands behind those that it leads to.
+fn is_ordered(alloc: Global, graph: &Graph) -> Result<bool, AllocError>
+    ensures { IfOk result (λ b. b ≡ true → HasOrder (graph_view graph.now)) }
+{
+    match least_order(alloc, graph)? {
+        Some(_) => Ok(true),
+        None => Ok(false),
+    }
+}
+
 /// Marks the numbers that lead to themselves by one step or several. Where the numbers can be
 /// ordered there are none, and nothing is searched.
 ///
@@ -37,8 +47,9 @@ fn marked_by_search(alloc: Global, graph: &Graph) -> Result<Vec<bool>, AllocErro
 pub(crate) fn on_circles(alloc: Global, graph: &Graph) -> Result<Vec<bool>, AllocError>
     ensures { IfOk result (λ v. AreOnCircles (graph_view graph.now) v.items) }
 {
-    match least_order(alloc, graph)? {
-        Some(_) => Ok(vec![in alloc; false; graph.len()]?),
-        None => marked_by_search(alloc, graph),
+    if is_ordered(alloc, graph)? {
+        let marks = vec![in alloc; false; graph.len()]?;
+        return Ok(marks);
     }
+    marked_by_search(alloc, graph)
 }

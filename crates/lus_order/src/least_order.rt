@@ -28,11 +28,11 @@ fn pass(done: &[bool], row: &[usize], from: usize) -> usize
 }
 
 /// Whether a number is not listed, and all that it leads to is.
-fn is_open(graph: &Graph, done: &[bool], passed: &mut [usize], number: usize) -> bool
+fn is_open(graph: &Graph, done: &[bool], passed: &mut Vec<usize>, number: usize) -> bool
     requires below { number < length (graph_view graph.now) }
-    requires passed { ArePassed (graph_view graph.now) done.now passed.old }
+    requires passed { ArePassed (graph_view graph.now) done.now passed.old.items }
     ensures open { result ≡ is_open (graph_view graph.now) done.now number }
-    ensures passed { ArePassed (graph_view graph.now) done.now passed.new }
+    ensures passed { ArePassed (graph_view graph.now) done.now passed.new.items }
 {
     if is_done(done, number) {
         return false;
@@ -44,13 +44,13 @@ fn is_open(graph: &Graph, done: &[bool], passed: &mut [usize], number: usize) ->
 }
 
 /// The least number of which that holds.
-fn next_open(graph: &Graph, done: &[bool], passed: &mut [usize]) -> Option<usize>
-    requires { ArePassed (graph_view graph.now) done.now passed.old }
+fn next_open(graph: &Graph, done: &[bool], passed: &mut Vec<usize>) -> Option<usize>
+    requires { ArePassed (graph_view graph.now) done.now passed.old.items }
     ensures open { MatchOption result
         ((k : ℕ) → k < length (graph_view graph.now) → is_open (graph_view graph.now) done.now k ≡ false)
         (λ k. (k < length (graph_view graph.now)) × (is_open (graph_view graph.now) done.now k ≡ true)
         × ((j : ℕ) → j < k → is_open (graph_view graph.now) done.now j ≡ false)) }
-    ensures passed { ArePassed (graph_view graph.now) done.now passed.new }
+    ensures passed { ArePassed (graph_view graph.now) done.now passed.new.items }
 {
     for number in 0..graph.len() {
         if is_open(graph, done, passed, number) {

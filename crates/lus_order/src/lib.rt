@@ -5,7 +5,4 @@ mod circles;
 mod graph;
 mod least_order;
 mod order_from;
-mod left_names;
 mod reach;
-mod repeated;
-mod words;

@@ -6,5 +6,5 @@ use Rattle.lus_order.proofs.least_order.next_open.Given as goal
 abbrev pub invariant-loop-number : goal.invariant-loop-number
 invariant-loop-number l = record {
   none : (j : ℕ) → j < l.number → is_open (graph_view l.graph) l.done j ≡ false;
-  passed : ArePassed (graph_view l.graph) l.done l.passed;
+  passed : ArePassed (graph_view l.graph) l.done l.passed.items;
 }

@@ -1,11 +1,11 @@
 -- Which numbers lead to themselves.
-use Rattle.std.proofs.Common.{◌≡◌, ℕ, zero, suc, ◌<◌, ◌≤◌, ◌+◌, Bool, true, false, List, [], ◌∷◌, ◌++◌, length, replicate, refl, ◌∙◌, sym, subst, arith, length-append}
+use Rattle.std.proofs.Common.{◌≡◌, ℕ, zero, suc, ◌<◌, ◌≤◌, ◌+◌, Bool, true, false, List, [], ◌∷◌, ◌++◌, length, replicate, refl, ap, ◌∙◌, sym, subst, arith, length-append}
 use Rattle.std.proofs.Math.Logic.{◌⊎◌, inl, inr}
 use Rattle.std.proofs.lemmas.Bool.{true≢false, cases_order}
 use Rattle.std.proofs.lemmas.List.{length-replicate, get_or_push, get_or_append_left}
 use Rattle.lus_meaning.specs.Order.{Passes, IsOrder, IsLeastOrder}
 use Rattle.lus_meaning.proofs.Orders.{place_in, place_lowers}
-use Rattle.lus_order.specs.Graphs.{Rows, leads, is_marked, IsPath, end_of, LeadsTo, AreOnCircles}
+use Rattle.lus_order.specs.Graphs.{Rows, leads, is_marked, IsPath, end_of, LeadsTo, AreOnCircles, HasOrder}
 use Rattle.lus_order.proofs.Paths.{all_same, starts_within}
 
 module _ (rows : Rows) (ks : List ℕ) (o : IsOrder (length rows) (Passes (leads rows)) ks) where
@@ -29,36 +29,36 @@ module _ (rows : Rows) (ks : List ℕ) (o : IsOrder (length rows) (Passes (leads
 
 pub none_marked : (rows : Rows) (ks : List ℕ) → IsLeastOrder (length rows) (Passes (leads rows)) ks → AreOnCircles rows (replicate (length rows) false)
 none_marked rows ks o = record {
-  length = length-replicate (length rows) false;
+  whole = length-replicate (length rows) false;
   led = λ k m. absurd (true≢false (sym m ∙ all_same (length rows) false k));
   all = λ k l p. absurd (none_on_circles rows ks o.order k l p);
 }
 
 -- those of the first so many numbers are marked that lead to themselves
 pub record AreMarked (rows : Rows) (count : ℕ) (marks : List Bool) : Type 0 where
-  pub length : length marks ≡ count
+  pub whole : length marks ≡ count
   pub led : (k : ℕ) → is_marked marks k ≡ true → LeadsTo rows k k
   pub all : (k : ℕ) → k < count → LeadsTo rows k k → is_marked marks k ≡ true
 
 pub nothing_marked : (rows : Rows) → AreMarked rows 0 []
-nothing_marked rows = record { length = refl; led = λ k e. absurd (true≢false (sym e)); all = λ k l p. absurd (omega (arith, l)) }
+nothing_marked rows = record { whole = refl; led = λ k e. absurd (true≢false (sym e)); all = λ k l p. absurd (omega (arith, l)) }
 
 pub one_marked : (rows : Rows) (marks : List Bool) (k : ℕ) (b : Bool) → AreMarked rows k marks → (b ≡ true → LeadsTo rows k k)
     → (LeadsTo rows k k → b ≡ true) → AreMarked rows (k + 1) (marks ++ b ∷ [])
 one_marked rows marks k b a there back = record {
-  length = omega (arith, length-append marks (b ∷ []), a.length);
+  whole = omega (arith, length-append marks (b ∷ []), a.whole);
   led = λ j e. led j e (cases_order j k);
   all = λ j l p. all j l p (cases_order j k);
 }
   where
     here : is_marked (marks ++ b ∷ []) k ≡ b
-    here = get_or_push marks b false k a.length
+    here = get_or_push marks b false k a.whole
 
     before : (j : ℕ) → j < k → is_marked (marks ++ b ∷ []) j ≡ is_marked marks j
-    before j h = get_or_append_left marks (b ∷ []) false j (subst (λ z. j < z) (sym a.length) h)
+    before j h = get_or_append_left marks (b ∷ []) false j (subst (λ z. j < z) (sym a.whole) h)
 
     behind : (j : ℕ) → k < j → is_marked (marks ++ b ∷ []) j ≡ false
-    behind j h = let e : length (marks ++ b ∷ []) ≤ j = omega (arith, length-append marks (b ∷ []), a.length, h) in past (marks ++ b ∷ []) j e
+    behind j h = let e : length (marks ++ b ∷ []) ≤ j = omega (arith, length-append marks (b ∷ []), a.whole, h) in past (marks ++ b ∷ []) j e
       where
         past : (ms : List Bool) (j : ℕ) → length ms ≤ j → is_marked ms j ≡ false
         past [] j l = refl
@@ -76,4 +76,7 @@ one_marked rows marks k b a there back = record {
     all j l p (inr (inr h)) = absurd (omega (arith, h, l))
 
 pub all_marked : (rows : Rows) (marks : List Bool) (k : ℕ) → k ≡ length rows → AreMarked rows k marks → AreOnCircles rows marks
-all_marked rows marks k e a = record { length = a.length ∙ e; led = a.led; all = λ j l p. a.all j (subst (λ z. j < z) (sym e) l) p }
+all_marked rows marks k e a = record { whole = a.whole ∙ e; led = a.led; all = λ j l p. a.all j (subst (λ z. j < z) (sym e) l) p }
+
+pub none_of_ordered : (rows : Rows) (n : ℕ) (marks : List Bool) → HasOrder rows → marks ≡ replicate n false → n ≡ length rows → AreOnCircles rows marks
+none_of_ordered rows n marks h e f = subst (AreOnCircles rows) (sym (e ∙ ap (λ k. replicate k false) f)) (none_marked rows h.0 h.1)
