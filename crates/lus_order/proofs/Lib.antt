@@ -1,3 +1,6 @@
+pub mod Added
+pub mod RepeatedLefts
+pub mod LeftFaults
 pub mod Paths
 pub mod Searches
 pub mod Rounds

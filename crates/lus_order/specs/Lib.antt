@@ -1,3 +1,6 @@
+pub mod Names
+pub mod Repeated
+pub mod Lefts
 pub mod Graphs
 pub mod Visits
 pub mod Rounds

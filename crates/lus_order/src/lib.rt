@@ -4,5 +4,8 @@
 mod circles;
 mod graph;
 mod least_order;
+mod left_names;
 mod order_from;
 mod reach;
+mod repeated;
+mod words;
