@@ -1,5 +1,5 @@
 -- Names that are added to a table, one behind the other.
-use Rattle.std.proofs.Common.{◌≡◌, ℕ, ◌<◌, ◌+◌, Bool, true, false, cond, ◌||◌, List, [], ◌∷◌, ◌++◌, map, take, get_or, length, refl, ap, ◌∙◌, sym, subst, append_assoc}
+use Rattle.std.proofs.Common.{◌≡◌, ℕ, ◌<◌, ◌+◌, Bool, true, false, ◌||◌, List, [], ◌∷◌, ◌++◌, map, take, get_or, length, refl, ap, ◌∙◌, sym, subst, append_assoc}
 use Rattle.std.specs.Str.{bytes_eq}
 use Rattle.std.proofs.Math.Logic.{◌⊎◌, inl, inr}
 use Rattle.std.proofs.lemmas.Bool.{cases_Bool}
@@ -11,7 +11,7 @@ use Rattle.lus_meaning.specs.Depends.{named_in}
 use Rattle.lus_meaning.proofs.Unique.{same_bytes}
 use Rattle.name_table.specs.Names.{add}
 use Rattle.name_table.proofs.Names.{in_joined}
-use Rattle.lus_order.specs.Names.{AddsNames, HasNames}
+use Rattle.lus_order.specs.Names.{AddsNames}
 
 abbrev stream_names : List Param → List Name
 stream_names ps = map (λ v. v.name.text) (map param_view ps)

@@ -1,7 +1,7 @@
 -- The least order of all numbers, of which those from one on are taken, is the least order of those by what they lead to.
 use Rattle.std.proofs.Common.{◌≡◌, ℕ, zero, suc, ◌<◌, ◌≤◌, ◌+◌, ◌-◌, Bool, true, false, cond, ◌||◌, eqb, List, [], ◌∷◌, ◌++◌, length, refl, ap, ◌∙◌, sym, subst, arith, append_assoc}
 use Rattle.std.specs.Bool.{nat_lt}
-use Rattle.std.specs.List.{AllByRecursion, IsDistinct, list_any}
+use Rattle.std.specs.List.{AllByRecursion, IsDistinct}
 use Rattle.std.proofs.Math.Logic.{◌⊎◌, inl, inr}
 use Rattle.std.proofs.lemmas.Bool.{true≢false, false≢true, eqb-true, eqb-false, eq-eqb, ne_eqb, ltb-true, cases_Bool, cases_lt}
 use Rattle.std.proofs.lemmas.List.Folds.{list_any-append}
@@ -9,7 +9,7 @@ use Rattle.lus_meaning.specs.Order.{Passes, is_listed, IsReady, AreReady, IsOrde
 use Rattle.lus_meaning.proofs.Lists.{append_none}
 use Rattle.lus_meaning.proofs.Orders.{IsWalk, last_of, distinct-snoc, no_numbers, place_in, place_lowers, ready_or_not, stuck_walk}
 use Rattle.lus_order.specs.Graphs.{Rows, leads, IsPath, end_of, LeadsTo, LeadsFrom, from_on, HasCircle}
-use Rattle.lus_order.proofs.Paths.{leads_within, one_step, path_keeps, starts_within}
+use Rattle.lus_order.proofs.Paths.{one_step, path_keeps, starts_within}
 
 -- ---- orders by any relation
 

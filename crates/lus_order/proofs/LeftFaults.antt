@@ -1,17 +1,16 @@
 -- The faults of left names, one declaration behind the other.
-use Rattle.std.proofs.Common.{◌≡◌, ◌≤◌, ◌+◌, ◌<◌, ◌∙◌, ap, refl, sym, subst, ℕ, Bool, not, List, [], ◌∷◌, ◌++◌, Option, drop, flat_map, map, length, take, get_or, ◌||◌}
+use Rattle.std.proofs.Common.{◌≡◌, ◌≤◌, ◌∙◌, ap, refl, subst, ℕ, List, [], ◌∷◌, ◌++◌, Option, flat_map, map, length}
 use Rattle.lus_tree.specs.declared.declaration.Decl.{Decl}
 use Rattle.lus_tree.specs.View.{decl_view}
-use Rattle.lus_tree.specs.Tree.{Name, Spelled, Component, Declaration, declared_constant, declared_node, declared_contract, Program}
-use Rattle.lus_tree.specs.Reason.{Refused, equation_twice, input_defined}
+use Rattle.lus_tree.specs.Tree.{Name, Spelled, Component, declared_constant, declared_node, declared_contract, Program}
+use Rattle.lus_tree.specs.Reason.{Refused, equation_twice}
 use Rattle.lus_meaning.specs.ClockFaults.{components}
-use Rattle.lus_meaning.specs.Depends.{named_in}
 use Rattle.lus_meaning.specs.EquationFaults.{body_lefts, definable, left_faults}
-use Rattle.lus_meaning.specs.Faults.{if_so, words_twice}
-use Rattle.lus_types.specs.Least.{noted_all}
-use Rattle.lus_types.specs.Notes.{Notes}
-use Rattle.lus_types.proofs.Loops.{OnTheWay, way_end_of_views}
-use Rattle.lus_types.proofs.Noting.{all_noted, both_noted}
+use Rattle.lus_meaning.specs.Faults.{words_twice}
+use Rattle.lus_scopes.specs.Least.{noted_all}
+use Rattle.lus_scopes.specs.Notes.{Notes}
+use Rattle.lus_scopes.proofs.Loops.{OnTheWay, way_end_of_views}
+use Rattle.lus_scopes.proofs.Noting.{all_noted, both_noted}
 use Rattle.lus_order.specs.Lefts.{lefts_of, outside}
 use Rattle.lus_order.specs.Names.{HasNames}
 

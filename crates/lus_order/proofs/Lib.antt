@@ -6,3 +6,4 @@ pub mod Searches
 pub mod Rounds
 pub mod OnCircles
 pub mod Contracted
+pub mod OwnReads

@@ -1,9 +1,7 @@
 -- Paths of graphs.
-use Rattle.std.proofs.Common.{◌≡◌, ℕ, zero, suc, ◌<◌, ◌≤◌, Bool, true, false, List, [], ◌∷◌, ◌++◌, length, get_or, replicate, refl, ap, ◌∙◌, sym, subst, arith}
-use Rattle.std.specs.List.{list_any}
+use Rattle.std.proofs.Common.{◌≡◌, ℕ, zero, suc, ◌<◌, ◌≤◌, true, List, [], ◌∷◌, ◌++◌, length, get_or, replicate, refl, sym, subst, arith}
 use Rattle.std.proofs.Math.Logic.{◌⊎◌, inl, inr}
-use Rattle.std.proofs.lemmas.Bool.{true≢false, false≢true, cases_lt}
-use Rattle.lus_meaning.specs.Order.{is_listed}
+use Rattle.std.proofs.lemmas.Bool.{false≢true, cases_lt}
 use Rattle.lus_order.specs.Graphs.{Rows, row_at, leads, IsPath, end_of, LeadsTo}
 
 -- of equal elements each is that one, and so is what stands past the end

@@ -4,3 +4,5 @@ pub mod Lefts
 pub mod Graphs
 pub mod Visits
 pub mod Rounds
+pub mod Reads
+pub mod OwnReads

@@ -1,5 +1,5 @@
 -- Numbers that are listed, and the entries of rows that are passed.
-use Rattle.std.specs.Prelude.{◌≡◌, ℕ, ◌<◌, ◌≤◌, Bool, true, false, not, ◌&&◌, List, length, get_or, take}
+use Rattle.std.specs.Prelude.{◌≡◌, ℕ, ◌<◌, Bool, true, false, not, ◌&&◌, List, length, get_or, take}
 use Rattle.std.specs.List.{list_all}
 use Rattle.lus_order.specs.Graphs.{Rows, row_at}
 

@@ -4,20 +4,20 @@ ghost use Rattle.std.specs.Prelude.{◌≡◌, IfOk, flat_map};
 ghost use Rattle.lus_tree.specs.View.{decl_view, node_view, program_view};
 ghost use Rattle.lus_meaning.specs.ClockFaults.{components};
 ghost use Rattle.lus_meaning.specs.EquationFaults.{left_faults};
-ghost use Rattle.lus_types.specs.Least.{least_view, noted_all};
-ghost use Rattle.lus_types.specs.Notes.{Notes};
-ghost use Rattle.lus_types.specs.Words.{words_view};
+ghost use Rattle.lus_scopes.specs.Least.{least_view, noted_all};
+ghost use Rattle.lus_scopes.specs.Notes.{Notes};
+ghost use Rattle.lus_order.specs.Names.{words_view};
 ghost use Rattle.lus_order.specs.Lefts.{lefts_of, outside};
 
 use crate::repeated::words_twice;
 use crate::words::{body_lefts, definable};
 use lus_tree::{Decl, Node, PlacedName, Program, What};
-use lus_types::least::Least;
+use lus_scopes::least::Least;
 use name_table::NameTable;
 use std::alloc::{AllocError, Global};
 
 /// Notes those of the words that are not in the table.
-#[tactic(auto, using(lus_types::proofs::Leasts::noted_append))]
+#[tactic(auto, using(lus_scopes::proofs::Leasts::noted_append))]
 fn note_outside(least: &mut Least, table: &NameTable, words: &[&PlacedName])
     ensures { least_view least.new ≡ noted_all (least_view least.old) (outside table.now (words_view words.now)) }
 {

@@ -3,9 +3,12 @@
 
 mod circles;
 mod graph;
+pub mod laws;
 mod least_order;
 mod left_names;
 mod order_from;
 mod reach;
+mod reads;
 mod repeated;
+mod setting;
 mod words;

@@ -5,14 +5,14 @@ ghost use Rattle.lus_tree.specs.Reason.{Refused, equation_twice};
 ghost use Rattle.lus_tree.specs.View.{word_view};
 ghost use Rattle.lus_meaning.specs.Faults.{later, same_word, words_twice};
 ghost use Rattle.lus_meaning.specs.Scope.{is_before};
-ghost use Rattle.lus_types.specs.Least.{least_view, noted_all};
-ghost use Rattle.lus_types.specs.Notes.{Notes};
-ghost use Rattle.lus_types.specs.Repeated.{HasSeen};
-ghost use Rattle.lus_types.specs.Words.{words_view};
+ghost use Rattle.lus_scopes.specs.Least.{least_view, noted_all};
+ghost use Rattle.lus_scopes.specs.Notes.{Notes};
+ghost use Rattle.lus_order.specs.Names.{HasSeen};
+ghost use Rattle.lus_order.specs.Names.{words_view};
 ghost use Rattle.lus_order.specs.Repeated.{met, twice_from_last};
 
 use lus_tree::{PlacedName, Pos, What};
-use lus_types::least::Least;
+use lus_scopes::least::Least;
 use name_table::NameTable;
 use std::alloc::{AllocError, Global};
 

@@ -4,7 +4,7 @@ ghost use Rattle.std.specs.Prelude.{◌≡◌, ◌∷◌, [], IfOk, flat_map, ma
 ghost use Rattle.lus_tree.specs.Tree.{Spelled};
 ghost use Rattle.lus_tree.specs.View.{item_view, node_view, param_view, word_view};
 ghost use Rattle.lus_meaning.specs.EquationFaults.{body_lefts, body_sides, definable};
-ghost use Rattle.lus_types.specs.Words.{Adds, words_view};
+ghost use Rattle.lus_order.specs.Names.{Adds, words_view};
 ghost use Rattle.lus_order.specs.Names.{AddsNames, HasNames};
 
 use lus_tree::{Item, Node, Param, PlacedName};

@@ -1,4 +1,3 @@
-use Rattle.std.proofs.Common.{length}
 use Rattle.lus_order.specs.Graphs.{graph_view}
 use Rattle.lus_order.proofs.OnCircles.{AreMarked}
 use Rattle.lus_order.proofs.circles.marked_by_search.Given as goal

@@ -1,4 +1,4 @@
-use Rattle.std.proofs.Common.{◌<◌, ◌≡◌, length, arith, rules, sym, subst}
+use Rattle.std.proofs.Common.{◌<◌, length, arith, rules}
 use Rattle.std.proofs.lemmas.Grind.{common_steps}
 use Rattle.lus_meaning.proofs.Orders.{whole_order}
 use Rattle.lus_order.specs.Graphs.{graph_view, leads}

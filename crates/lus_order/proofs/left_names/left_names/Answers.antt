@@ -1,5 +1,5 @@
 use Rattle.std.proofs.Common.{arith, subst, length, ◌≤◌}
-use Rattle.lus_types.specs.Least.{least_view}
+use Rattle.lus_scopes.specs.Least.{least_view}
 use Rattle.lus_order.proofs.LeftFaults.{lefts_end}
 use Rattle.lus_order.proofs.left_names.left_names.Goals as goal
 

@@ -1,6 +1,6 @@
 use Rattle.lus_tree.specs.View.{decl_view}
-use Rattle.lus_types.specs.Least.{least_view}
-use Rattle.lus_types.proofs.Loops.{OnTheWay}
+use Rattle.lus_scopes.specs.Least.{least_view}
+use Rattle.lus_scopes.proofs.Loops.{OnTheWay}
 use Rattle.lus_order.specs.Lefts.{lefts_of}
 use Rattle.lus_order.proofs.left_names.left_names.Given as goal
 

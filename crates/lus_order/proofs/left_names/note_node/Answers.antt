@@ -1,6 +1,6 @@
 use Rattle.lus_tree.specs.View.{node_view}
-use Rattle.lus_types.specs.Least.{least_view}
-use Rattle.lus_types.specs.Words.{words_view}
+use Rattle.lus_scopes.specs.Least.{least_view}
+use Rattle.lus_order.specs.Names.{words_view}
 use Rattle.lus_order.proofs.LeftFaults.{node_noted}
 use Rattle.lus_order.proofs.left_names.note_node.Goals as goal
 

@@ -1,6 +1,6 @@
 use Rattle.std.proofs.Common.{◌≡◌, drop}
-use Rattle.lus_types.specs.Least.{least_view, noted_all}
-use Rattle.lus_types.specs.Words.{words_view}
+use Rattle.lus_scopes.specs.Least.{least_view, noted_all}
+use Rattle.lus_order.specs.Names.{words_view}
 use Rattle.lus_order.specs.Lefts.{outside}
 use Rattle.lus_order.proofs.left_names.note_outside.Given as goal
 

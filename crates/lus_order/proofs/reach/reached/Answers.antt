@@ -1,4 +1,4 @@
-use Rattle.std.proofs.Common.{rules, sym}
+use Rattle.std.proofs.Common.{rules}
 use Rattle.lus_order.specs.Graphs.{graph_view}
 use Rattle.lus_order.specs.Visits.{state_view}
 use Rattle.lus_order.proofs.Searches.{search_begins, search_ends, search_step, turns_left}

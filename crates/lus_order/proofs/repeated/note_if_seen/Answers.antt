@@ -1,6 +1,6 @@
 use Rattle.std.proofs.Common.{refl, sym}
 use Rattle.lus_tree.specs.View.{word_view}
-use Rattle.lus_types.specs.Words.{words_view}
+use Rattle.lus_order.specs.Names.{words_view}
 use Rattle.lus_order.proofs.RepeatedLefts.{none_met}
 use Rattle.lus_order.proofs.repeated.note_if_seen.Goals as goal
 

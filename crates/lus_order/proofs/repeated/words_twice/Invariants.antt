@@ -1,8 +1,8 @@
 use Rattle.std.proofs.Common.{◌≡◌, ◌≤◌, drop, length}
-use Rattle.lus_types.specs.Least.{least_view, noted_all}
-use Rattle.lus_types.specs.Repeated.{HasSeen}
+use Rattle.lus_scopes.specs.Least.{least_view, noted_all}
+use Rattle.lus_order.specs.Names.{HasSeen}
 use Rattle.lus_order.specs.Repeated.{twice_from_last}
-use Rattle.lus_types.specs.Words.{words_view}
+use Rattle.lus_order.specs.Names.{words_view}
 use Rattle.lus_order.proofs.repeated.words_twice.Given as goal
 
 abbrev pub invariant-loop-left : goal.invariant-loop-left

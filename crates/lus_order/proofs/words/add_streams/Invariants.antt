@@ -1,4 +1,4 @@
-use Rattle.std.proofs.Common.{drop, map, take}
+use Rattle.std.proofs.Common.{map, take}
 use Rattle.lus_tree.specs.View.{param_view}
 use Rattle.lus_order.specs.Names.{AddsNames}
 use Rattle.lus_order.proofs.words.add_streams.Given as goal

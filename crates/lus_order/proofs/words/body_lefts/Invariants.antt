@@ -1,7 +1,7 @@
 use Rattle.std.proofs.Common.{◌≡◌, ◌++◌, drop, map, flat_map}
 use Rattle.lus_tree.specs.View.{item_view}
 use Rattle.lus_meaning.specs.EquationFaults.{body_sides}
-use Rattle.lus_types.specs.Words.{words_view}
+use Rattle.lus_order.specs.Names.{words_view}
 use Rattle.lus_order.proofs.words.body_lefts.Given as goal
 
 -- what is there, followed by what is to come, is all

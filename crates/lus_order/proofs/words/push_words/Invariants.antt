@@ -1,6 +1,6 @@
 use Rattle.std.proofs.Common.{◌≡◌, ◌++◌, drop, map}
 use Rattle.lus_tree.specs.View.{word_view}
-use Rattle.lus_types.specs.Words.{words_view}
+use Rattle.lus_order.specs.Names.{words_view}
 use Rattle.lus_order.proofs.words.push_words.Given as goal
 
 -- what is there, followed by what is to come, is all
