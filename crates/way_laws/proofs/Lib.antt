@@ -1,0 +1,15 @@
+pub mod Steps
+pub mod Crossing
+pub mod Arguments
+pub mod Expressions
+pub mod Unfolded
+pub mod Placed
+pub mod Keys
+pub mod Texts
+pub mod Walk
+pub mod Declarations
+pub mod Ways
+pub mod Orders
+pub mod Circles
+pub mod Callees
+pub mod Rounds
