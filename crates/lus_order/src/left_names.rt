@@ -11,8 +11,8 @@ ghost use Rattle.lus_order.specs.Lefts.{lefts_of, outside};
 
 use crate::repeated::words_twice;
 use crate::words::{body_lefts, definable};
-use lus_tree::{Decl, Node, PlacedName, Program, What};
 use lus_scopes::least::Least;
+use lus_tree::{Decl, Node, PlacedName, Program, What};
 use name_table::NameTable;
 use std::alloc::{AllocError, Global};
 

@@ -42,11 +42,7 @@ impl Search {
 /// # Errors
 ///
 /// Want of memory.
-pub(crate) fn reached(
-    alloc: Global,
-    graph: &Graph,
-    start: usize,
-) -> Result<Vec<bool>, AllocError>
+pub(crate) fn reached(alloc: Global, graph: &Graph, start: usize) -> Result<Vec<bool>, AllocError>
     ensures { IfOk result (λ v. AreReached (graph_view graph.now) start v.items) }
 {
     let mut search = Search {

@@ -11,8 +11,8 @@ ghost use Rattle.lus_order.specs.Names.{HasSeen};
 ghost use Rattle.lus_order.specs.Names.{words_view};
 ghost use Rattle.lus_order.specs.Repeated.{met, twice_from_last};
 
-use lus_tree::{PlacedName, Pos, What};
 use lus_scopes::least::Least;
+use lus_tree::{PlacedName, Pos, What};
 use name_table::NameTable;
 use std::alloc::{AllocError, Global};
 

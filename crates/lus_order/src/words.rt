@@ -47,11 +47,7 @@ pub(crate) fn body_lefts(alloc: Global, node: &Node) -> Result<Vec<&PlacedName>,
 }
 
 /// The table, and in it the names of these streams.
-fn add_streams(
-    alloc: Global,
-    table: &mut NameTable,
-    params: &[Param],
-) -> Result<(), AllocError>
+fn add_streams(alloc: Global, table: &mut NameTable, params: &[Param]) -> Result<(), AllocError>
     ensures { IfOk result (λ _. AddsNames table.old table.new (map (λ v. v.name.text) (map param_view params.now))) }
 {
     for param in params {
