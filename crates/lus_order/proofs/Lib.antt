@@ -7,3 +7,4 @@ pub mod Rounds
 pub mod OnCircles
 pub mod Contracted
 pub mod OwnReads
+pub mod Numbered

@@ -1,5 +1,5 @@
 -- Paths of graphs.
-use Rattle.std.proofs.Common.{◌≡◌, ℕ, zero, suc, ◌<◌, ◌≤◌, true, List, [], ◌∷◌, ◌++◌, length, get_or, replicate, refl, sym, subst, arith}
+use Rattle.std.proofs.Common.{◌≡◌, ◌∙◌, ℕ, zero, suc, ◌<◌, ◌≤◌, true, List, [], ◌∷◌, ◌++◌, length, get_or, replicate, refl, sym, subst, arith}
 use Rattle.std.proofs.Math.Logic.{◌⊎◌, inl, inr}
 use Rattle.std.proofs.lemmas.Bool.{false≢true, cases_lt}
 use Rattle.lus_order.specs.Graphs.{Rows, row_at, leads, IsPath, end_of, LeadsTo}
@@ -51,4 +51,20 @@ one_step_more rows k i j p e = record {
   rest = p.rest ++ j ∷ [];
   path = (p.path.0, joined rows p.first p.rest j p.path.1 (subst (λ z. leads rows z j ≡ true) (sym p.last) e));
   last = end_joined p.first p.rest j;
+}
+
+path_behind : (rows : Rows) (k : ℕ) (js is : List ℕ) → IsPath rows k js → IsPath rows (end_of k js) is → IsPath rows k (js ++ is)
+path_behind rows k [] is v w = w
+path_behind rows k (j ∷ js) is v w = (v.0, path_behind rows j js is v.1 w)
+
+end_behind : (k : ℕ) (js is : List ℕ) → end_of k (js ++ is) ≡ end_of (end_of k js) is
+end_behind k [] is = refl
+end_behind k (j ∷ js) is = end_behind j js is
+
+pub both_steps : (rows : Rows) (k i j : ℕ) → LeadsTo rows k i → LeadsTo rows i j → LeadsTo rows k j
+both_steps rows k i j p q = record {
+  first = p.first;
+  rest = p.rest ++ q.first ∷ q.rest;
+  path = (p.path.0, path_behind rows p.first p.rest (q.first ∷ q.rest) p.path.1 (subst (λ z. IsPath rows z (q.first ∷ q.rest)) (sym p.last) q.path));
+  last = end_behind p.first p.rest (q.first ∷ q.rest) ∙ q.last;
 }

@@ -6,3 +6,4 @@ pub mod Visits
 pub mod Rounds
 pub mod Reads
 pub mod OwnReads
+pub mod Numbered
