@@ -1,0 +1,16 @@
+//! What is read in an expression, and numbers in place of names, by the own graph of a declaration.
+
+ghost use Rattle.lus_order.specs.Numbered.{WaysAreNumbered};
+ghost use Rattle.lus_order.specs.OwnReads.{ReadsAreOwn};
+
+/// What an expression reads by the own graph of its declaration is what is read in it, with each mode
+/// replaced by what that reads.
+pub fn reads_are_own()
+    ensures { ReadsAreOwn }
+{}
+
+/// In a graph of numbers that stands for edges between names a number leads to a name exactly where a
+/// way along the edges leads there from one of the names that it reads.
+pub fn ways_are_numbered()
+    ensures { WaysAreNumbered }
+{}
