@@ -1,0 +1,4 @@
+pub mod Instances
+pub mod Widths
+pub mod Counts
+pub mod Sizes

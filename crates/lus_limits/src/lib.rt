@@ -1,0 +1,5 @@
+//! The limits of a program: how many names, properties and variables its declarations have, and how large its terms
+//! are, counted once for each declaration and not for each of its instances.
+#![tactic(auto)]
+
+pub mod laws;
