@@ -2,3 +2,4 @@ pub mod Instances
 pub mod Widths
 pub mod Counts
 pub mod Sizes
+pub mod Occurring

@@ -2,3 +2,5 @@ pub mod Instances
 pub mod Widths
 pub mod Counts
 pub mod Sizes
+pub mod Parts
+pub mod Calls

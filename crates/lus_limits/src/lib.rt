@@ -2,4 +2,11 @@
 //! are, counted once for each declaration and not for each of its instances.
 #![tactic(auto)]
 
+mod calls;
 pub mod laws;
+mod part;
+mod sites;
+mod texts;
+
+pub use calls::{Call, Way};
+pub use part::Part;
