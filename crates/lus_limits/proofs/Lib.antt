@@ -3,3 +3,5 @@ pub mod Widths
 pub mod Counts
 pub mod Sizes
 pub mod Occurring
+pub mod Seats
+pub mod Sums

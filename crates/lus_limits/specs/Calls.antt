@@ -1,7 +1,7 @@
 -- The calls and imports of a declaration, as far as widths and counts need them.
 use Rattle.std.specs.Prelude.{ℕ, suc, List, [], ◌∷◌, ◌++◌, map, flat_map, length, cond, ◌==◌, Option, Some, None, option_map}
 use Rattle.std.specs.Borrow.{Bor}
-use Rattle.lus_tree.specs.Tree.{Name, Expression, Expressions, truth, number, name, negation, minus, pre, arrow, binary, choice, sampled, merged, call, condact, mode_name, no_more, more, ContractStatement, assume, guarantee, ghost_variable, constant, mode, «import», Component}
+use Rattle.lus_tree.specs.Tree.{Name, Spelled, Expression, Expressions, truth, number, name, negation, minus, pre, arrow, binary, choice, sampled, merged, call, condact, mode_name, no_more, more, ContractStatement, assume, guarantee, ghost_variable, constant, mode, «import», Component}
 use Rattle.lus_tree.specs.View.{word_view}
 use Rattle.lus_meaning.specs.Scene.{Manner, plain, while_true, as_import, Site, contract_statements}
 use Rattle.lus_meaning.specs.Program.{listed}
@@ -28,6 +28,10 @@ called_of s = record { number = s.number; callee = s.callee; way = way_of s.mann
 abbrev pub call_view : Call → Called
 call_view c = record { number = c.number; callee = (word_view c.callee.now).text; way = c.way; defaults = c.defaults }
 
+-- a call under a condition
+abbrev pub condition_call : ℕ → Spelled → Expressions → Called
+condition_call k f ds = record { number = k; callee = f.text; way = Condition; defaults = length (listed ds) }
+
 -- those of an expression
 abbrev mutual
   pub calls_in : Expression → List Called
@@ -44,8 +48,7 @@ abbrev mutual
   calls_in (merged p x a b) = calls_in a ++ calls_in b
   calls_in (call p k f as_) = record { number = k; callee = f.text; way = Plain; defaults = 0 } ∷ calls_among as_
   calls_in (condact p k a f as_ ds) =
-      record { number = k; callee = f.text; way = Condition; defaults = length (listed ds) }
-      ∷ calls_in a ++ (calls_among as_ ++ calls_among ds)
+      condition_call k f ds ∷ calls_in a ++ (calls_among as_ ++ calls_among ds)
   calls_in (mode_name p c m) = []
 
   pub calls_among : Expressions → List Called

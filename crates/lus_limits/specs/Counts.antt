@@ -34,13 +34,23 @@ counted t = record {
   modes = length t.modes;
 }
 
+abbrev pub one_assumption : Counts
+one_assumption = record none_counted { assumes = 1 }
+
+abbrev pub one_guarantee : Counts
+one_guarantee = record none_counted { guarantees = 1 }
+
+-- a mode with so many ensures
+abbrev pub one_mode : ℕ → Counts
+one_mode k = record none_counted { ensures = k; modes = 1 }
+
 -- of a statement, where imports have counts by their numbers
 abbrev pub statement_counts : (ℕ → Counts) → ContractStatement → Counts
-statement_counts sub (assume l) = record none_counted { assumes = 1 }
-statement_counts sub (guarantee l) = record none_counted { guarantees = 1 }
+statement_counts sub (assume l) = one_assumption
+statement_counts sub (guarantee l) = one_guarantee
 statement_counts sub (ghost_variable v e) = none_counted
 statement_counts sub (constant c) = none_counted
-statement_counts sub (mode m rs es) = record none_counted { ensures = length es; modes = 1 }
+statement_counts sub (mode m rs es) = one_mode (length es)
 statement_counts sub («import» k c as_ xs) = sub k
 
 abbrev pub contract_counts : (ℕ → Counts) → List ContractStatement → Counts

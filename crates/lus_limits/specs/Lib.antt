@@ -4,3 +4,4 @@ pub mod Counts
 pub mod Sizes
 pub mod Parts
 pub mod Calls
+pub mod Summaries

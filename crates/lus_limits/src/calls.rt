@@ -1,8 +1,8 @@
 //! The calls of expressions.
 
-ghost use Rattle.std.specs.Prelude.{◌≡◌, ◌++◌, IfOk, map, flat_map};
-ghost use Rattle.lus_tree.specs.View.{contract_item_view, expr_view, exprs_view, joined};
-ghost use Rattle.lus_limits.specs.Calls.{call_view, calls_among, calls_in, found_calls, import_call};
+ghost use Rattle.std.specs.Prelude.{◌≡◌, ◌++◌, ◌∷◌, [], IfOk, map, flat_map};
+ghost use Rattle.lus_tree.specs.View.{contract_item_view, expr_view, exprs_view, joined, word_view};
+ghost use Rattle.lus_limits.specs.Calls.{call_view, calls_among, calls_in, condition_call, found_calls, import_call};
 ghost use Rattle.lus_limits.specs.Parts.{part_view, sides_view};
 
 use crate::part::{Part, contract_items};
@@ -11,7 +11,7 @@ use lus_tree::{ContractItem, Expr, Form, PlacedName};
 use std::alloc::{AllocError, Global};
 
 /// How a call runs: on its clock, where besides a condition is true, or as an import.
-#[derive(Clone, Copy, PartialEq, Eq)]
+#[derive(Clone, Copy)]
 pub enum Way {
     Plain,
     Condition,
@@ -27,9 +27,29 @@ pub struct Call<'a> {
     pub defaults: usize,
 }
 
+/// The calls, and behind them one under a condition.
+#[tactic(auto, using(crate::proofs::Occurring::listed_length))]
+fn push_condition<'a>(
+    calls: &mut Vec<Call<'a>>,
+    number: u32,
+    callee: &'a PlacedName,
+    defaults: &[Expr],
+) -> Result<(), AllocError>
+    ensures { IfOk result (λ _. map call_view calls.new.items ≡ map call_view calls.old.items
+        ++ condition_call number (word_view callee.now) (joined (exprs_view defaults.now)) ∷ []) }
+{
+    calls.push(Call {
+        number,
+        callee,
+        way: Way::Condition,
+        defaults: defaults.len(),
+    })?;
+    Ok(())
+}
+
 /// The calls, and behind them those of an expression.
 #[cycle(calls)]
-#[tactic(auto, using(lus_tree::proofs::Views::form_views, crate::proofs::Occurring::all_listed))]
+#[tactic(auto, using(lus_tree::proofs::Views::form_views))]
 fn push_calls<'a>(calls: &mut Vec<Call<'a>>, e: &'a Expr) -> Result<(), AllocError>
     ensures { IfOk result (λ _. map call_view calls.new.items ≡ map call_view calls.old.items
         ++ calls_in (expr_view e.now)) }
@@ -57,12 +77,7 @@ fn push_calls<'a>(calls: &mut Vec<Call<'a>>, e: &'a Expr) -> Result<(), AllocErr
             push_calls_among(calls, arguments)
         }
         Form::Condact(number, a, callee, arguments, defaults) => {
-            calls.push(Call {
-                number: *number,
-                callee,
-                way: Way::Condition,
-                defaults: defaults.len(),
-            })?;
+            push_condition(calls, *number, callee, defaults)?;
             push_calls(calls, a)?;
             push_calls_among(calls, arguments)?;
             push_calls_among(calls, defaults)

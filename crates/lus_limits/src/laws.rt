@@ -3,6 +3,7 @@
 ghost use Rattle.lus_limits.specs.Instances.{MadeOfCallees};
 ghost use Rattle.lus_limits.specs.Widths.{WidthByText, WidthIsPlain, WidthCuts};
 ghost use Rattle.lus_limits.specs.Counts.{ContractByText, PropertiesByText, CountCuts, PropertyCuts};
+ghost use Rattle.lus_limits.specs.Summaries.{SummaryByText};
 ghost use Rattle.lus_limits.specs.Sizes.{ContractSizesByText, FramesByText, TermsByText, BesideCuts, AboveCuts};
 
 /// The instance of a declaration of a checked program is made of its text and of the instances of its callees.
@@ -37,4 +38,10 @@ pub fn sizes_by_text()
     ensures terms { TermsByText }
     ensures beside { BesideCuts }
     ensures above { AboveCuts }
+{}
+
+/// In a checked program what callers need of a declaration, each number cut, is known from its own text and from what
+/// is needed of its callees.
+pub fn summary_by_text()
+    ensures { SummaryByText }
 {}

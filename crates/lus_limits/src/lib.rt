@@ -6,7 +6,10 @@ mod calls;
 pub mod laws;
 mod part;
 mod sites;
+mod summing;
 mod texts;
 
 pub use calls::{Call, Way};
 pub use part::Part;
+pub use sites::calls_of;
+pub use summing::{ItemCounts, Link, Summary};
