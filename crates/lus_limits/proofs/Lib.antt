@@ -5,3 +5,4 @@ pub mod Sizes
 pub mod Occurring
 pub mod Seats
 pub mod Sums
+pub mod Cutting

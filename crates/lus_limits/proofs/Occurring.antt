@@ -1,8 +1,8 @@
 -- The calls of a declaration are those of its occurrences.
-use Rattle.std.proofs.Common.{◌≡◌, suc, length, true, false, List, [], ◌∷◌, ◌++◌, map, flat_map, refl, ap, ◌∙◌, sym}
+use Rattle.std.proofs.Common.{◌≡◌, ℕ, suc, length, true, false, List, [], ◌∷◌, ◌++◌, map, flat_map, refl, ap, ◌∙◌, sym}
 use Rattle.std.proofs.lemmas.List.{append-nil}
 use Rattle.std.proofs.lemmas.Grind.{flat_map-append}
-use Rattle.lus_tree.specs.Tree.{Expression, Expressions, truth, number, name, negation, minus, pre, arrow, binary, choice, sampled, merged, call, condact, mode_name, no_more, more, Constant, Labelled, Statement, equation, assertion, property, main_mark, ContractStatement, assume, guarantee, ghost_variable, constant, mode, «import», Component}
+use Rattle.lus_tree.specs.Tree.{Spelled, Expression, Expressions, truth, number, name, negation, minus, pre, arrow, binary, choice, sampled, merged, call, condact, mode_name, no_more, more, Constant, Labelled, Statement, equation, assertion, property, main_mark, ContractStatement, assume, guarantee, ghost_variable, constant, mode, «import», Component}
 use Rattle.lus_tree.specs.declared.expression.Expr.{Expr}
 use Rattle.lus_tree.specs.View.{exprs_view, joined}
 use Rattle.lus_meaning.specs.Scene.{base, clock_of, contract_statements, sampled_by, Site}
@@ -10,7 +10,7 @@ use Rattle.lus_meaning.specs.Occurrences.{Occurrence, Standing, Text, before, co
 use Rattle.lus_meaning.specs.Program.{listed, site_in, import_site}
 use Rattle.lus_meaning.proofs.Lists.{map_append}
 use Rattle.lus_limits.specs.Parts.{constant_sides, contract_sides, sides, statement_sides, values_of}
-use Rattle.lus_limits.specs.Calls.{Called, called_of, calls_in, calls_among, import_call, found_calls}
+use Rattle.lus_limits.specs.Calls.{Called, called_of, calls_in, calls_among, with_defaults, condition_call, import_call, found_calls}
 
 pub listed_length : (es : List Expr) → length (listed (joined (exprs_view es))) ≡ length es
 listed_length [] = refl
@@ -142,3 +142,8 @@ found_are n =
       sides_are n,
       imports_are (contract_statements n),
     ) refl)
+
+-- one call under a condition more
+pub condition_pushed : (new old : List Called) (k : ℕ) (w : Spelled) (ds : List Expr) → new ≡ old ++ with_defaults k w (length ds) ∷ []
+    → new ≡ old ++ condition_call k w (joined (exprs_view ds)) ∷ []
+condition_pushed new old k w ds e = e ∙ ap (λ j. old ++ with_defaults k w j ∷ []) (sym (listed_length ds))

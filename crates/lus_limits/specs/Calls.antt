@@ -29,8 +29,11 @@ abbrev pub call_view : Call → Called
 call_view c = record { number = c.number; callee = (word_view c.callee.now).text; way = c.way; defaults = c.defaults }
 
 -- a call under a condition
+abbrev pub with_defaults : ℕ → Spelled → ℕ → Called
+with_defaults k f many = record { number = k; callee = f.text; way = Condition; defaults = many }
+
 abbrev pub condition_call : ℕ → Spelled → Expressions → Called
-condition_call k f ds = record { number = k; callee = f.text; way = Condition; defaults = length (listed ds) }
+condition_call k f ds = with_defaults k f (length (listed ds))
 
 -- those of an expression
 abbrev mutual

@@ -2,7 +2,7 @@
 
 ghost use Rattle.std.specs.Prelude.{◌≡◌, ◌++◌, ◌∷◌, [], IfOk, map, flat_map};
 ghost use Rattle.lus_tree.specs.View.{contract_item_view, expr_view, exprs_view, joined, word_view};
-ghost use Rattle.lus_limits.specs.Calls.{call_view, calls_among, calls_in, condition_call, found_calls, import_call};
+ghost use Rattle.lus_limits.specs.Calls.{call_view, calls_among, calls_in, condition_call, found_calls, import_call, with_defaults};
 ghost use Rattle.lus_limits.specs.Parts.{part_view, sides_view};
 
 use crate::part::{Part, contract_items};
@@ -27,8 +27,26 @@ pub struct Call<'a> {
     pub defaults: usize,
 }
 
+/// The calls, and behind them one under a condition, with so many defaults.
+fn push_counted<'a>(
+    calls: &mut Vec<Call<'a>>,
+    number: u32,
+    callee: &'a PlacedName,
+    defaults: usize,
+) -> Result<(), AllocError>
+    ensures { IfOk result (λ _. map call_view calls.new.items ≡ map call_view calls.old.items
+        ++ with_defaults number (word_view callee.now) defaults ∷ []) }
+{
+    calls.push(Call {
+        number,
+        callee,
+        way: Way::Condition,
+        defaults,
+    })?;
+    Ok(())
+}
+
 /// The calls, and behind them one under a condition.
-#[tactic(auto, using(crate::proofs::Occurring::listed_length))]
 fn push_condition<'a>(
     calls: &mut Vec<Call<'a>>,
     number: u32,
@@ -38,12 +56,7 @@ fn push_condition<'a>(
     ensures { IfOk result (λ _. map call_view calls.new.items ≡ map call_view calls.old.items
         ++ condition_call number (word_view callee.now) (joined (exprs_view defaults.now)) ∷ []) }
 {
-    calls.push(Call {
-        number,
-        callee,
-        way: Way::Condition,
-        defaults: defaults.len(),
-    })?;
+    push_counted(calls, number, callee, defaults.len())?;
     Ok(())
 }
 

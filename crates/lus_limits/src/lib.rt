@@ -12,4 +12,4 @@ mod texts;
 pub use calls::{Call, Way};
 pub use part::Part;
 pub use sites::calls_of;
-pub use summing::{ItemCounts, Link, Summary};
+pub use summing::{ItemCounts, Link, Summary, summed};

@@ -1,12 +1,12 @@
 //! Declarations with parts, and what stands in them.
 
-ghost use Rattle.std.specs.Prelude.{◌≡◌, ◌++◌, ◌∷◌, [], IfOk, map};
-ghost use Rattle.lus_tree.specs.View.{contract_item_view, contract_view, decl_view, definition_view, item_view, program_view};
+ghost use Rattle.std.specs.Prelude.{◌≡◌, ◌++◌, ◌∷◌, [], IfOk, is_none, map, not};
+ghost use Rattle.lus_tree.specs.View.{contract_item_view, contract_view, decl_view, definition_view, item_view, param_view, program_view};
 ghost use Rattle.lus_meaning.specs.Scene.{contract_statements};
 ghost use Rattle.lus_meaning.specs.ClockFaults.{components};
 ghost use Rattle.lus_limits.specs.Parts.{part_view, statements_of};
 
-use lus_tree::{ContractItem, ContractNode, Decl, Definition, Item, Node, Program};
+use lus_tree::{ContractItem, ContractNode, Decl, Definition, Item, Node, Param, Program};
 use std::alloc::{AllocError, Global};
 
 /// A node, a function or a contract node.
@@ -33,6 +33,46 @@ pub(crate) fn contract_items(part: Part<'_>) -> &[ContractItem]
     match part {
         Part::Node(node) => items_of(&node.contract),
         Part::Contract(contract) => &contract.items,
+    }
+}
+
+/// Whether a declaration has a contract.
+pub(crate) fn has_contract(part: Part<'_>) -> bool
+    ensures { result ≡ not (is_none (part_view part.entry).contract) }
+{
+    match part {
+        Part::Node(node) => node.contract.is_some(),
+        Part::Contract(_) => true,
+    }
+}
+
+/// The inputs of a declaration.
+pub(crate) fn inputs(part: Part<'_>) -> &[Param]
+    ensures { map param_view result.now ≡ (part_view part.entry).inputs }
+{
+    match part {
+        Part::Node(node) => &node.inputs,
+        Part::Contract(contract) => &contract.inputs,
+    }
+}
+
+/// The outputs of a declaration.
+pub(crate) fn outputs(part: Part<'_>) -> &[Param]
+    ensures { map param_view result.now ≡ (part_view part.entry).outputs }
+{
+    match part {
+        Part::Node(node) => &node.outputs,
+        Part::Contract(contract) => &contract.outputs,
+    }
+}
+
+/// The locals of a declaration.
+pub(crate) fn locals(part: Part<'_>) -> &[Param]
+    ensures { map param_view result.now ≡ (part_view part.entry).locals }
+{
+    match part {
+        Part::Node(node) => &node.locals,
+        Part::Contract(_) => &[],
     }
 }
 

@@ -1,13 +1,17 @@
 //! What callers need of a declaration, by its own text and the same of its callees.
 
-ghost use Rattle.std.specs.Prelude.{◌≡◌, ◌+◌, map};
+ghost use Rattle.std.specs.Prelude.{◌≡◌, ◌+◌, IfOk, length, map};
 ghost use Rattle.lus_tree.specs.View.{contract_item_view, expr_view, exprs_view, item_view, joined};
-ghost use Rattle.lus_limits.specs.Counts.{body_count, contract_counts, cut_counts, none_counted, one_assumption, one_guarantee, one_mode, statement_counts, with_counts};
-ghost use Rattle.lus_limits.specs.Parts.{part_view, sides_view};
-ghost use Rattle.lus_limits.specs.Summaries.{bound, counts_view, cut, link_counts, links_owed, links_width, owed_of, sofar_count, state_count, states_among, states_in};
+ghost use Rattle.lus_meaning.specs.Scene.{ghosts, variables};
+ghost use Rattle.lus_limits.specs.Counts.{property_count, body_count, contract_counts, cut_counts, none_counted, one_assumption, one_guarantee, one_mode, statement_counts, with_counts};
+ghost use Rattle.lus_limits.specs.Parts.{part_view, sides, sides_view};
+ghost use Rattle.lus_limits.specs.Summaries.{bound, counts_view, cut, link_counts, links_owed, links_width, own_count, owed_of, sofar_count, state_count, states_among, states_in, summary_by};
 
 use crate::calls::Way;
+use crate::part::{Part, body, contract_items, has_contract, inputs, locals, outputs};
+use crate::texts::sides_of;
 use lus_tree::{ContractItem, Expr, Form, Item};
+use std::alloc::{AllocError, Global};
 
 /// One past the greatest limit of a count. Greater counts are cut there.
 const BOUND: usize = 20_001;
@@ -54,7 +58,7 @@ fn sum(left: usize, right: usize) -> usize
 
 /// How many occurrences of `pre` and `->` an expression has.
 #[cycle(states)]
-#[tactic(auto, using(lus_tree::proofs::Views::form_views))]
+#[tactic(auto, using(lus_tree::proofs::Views::form_views, crate::proofs::Cutting::cut_sums))]
 fn state_count(e: &Expr) -> usize
     ensures { result ≡ cut (state_count (expr_view e.now)) }
 {
@@ -75,6 +79,7 @@ fn state_count(e: &Expr) -> usize
 
 /// How many these have.
 #[cycle(states)]
+#[tactic(auto, using(crate::proofs::Cutting::cut_on, crate::proofs::Cutting::cut_once, crate::proofs::Cutting::cut_end))]
 fn states_among(values: &[Expr]) -> usize
     ensures { result ≡ cut (states_among (joined (exprs_view values.now))) }
 {
@@ -86,6 +91,7 @@ fn states_among(values: &[Expr]) -> usize
 }
 
 /// How many the expressions of a declaration have.
+#[tactic(auto, using(crate::proofs::Cutting::cut_on, crate::proofs::Cutting::cut_once, crate::proofs::Cutting::cut_end))]
 pub(crate) fn states_in(sides: &[&Expr]) -> usize
     ensures { result ≡ cut (states_in (sides_view sides.now)) }
 {
@@ -113,6 +119,7 @@ fn sofar_count(way: Way, contract: bool) -> usize
 }
 
 /// How many variables a call takes: those that its caller holds, and those of its frame.
+#[tactic(auto, using(crate::proofs::Cutting::cut_on))]
 fn link_width(link: &Link) -> usize
     ensures { result ≡ cut (link.now.held + (link.now.callee.frame
         + sofar_count link.now.way link.now.callee.contract)) }
@@ -124,6 +131,7 @@ fn link_width(link: &Link) -> usize
 }
 
 /// How many variables calls take.
+#[tactic(auto, using(crate::proofs::Cutting::cut_on, crate::proofs::Cutting::cut_once, crate::proofs::Cutting::cut_end))]
 pub(crate) fn links_width(links: &[Link]) -> usize
     ensures { result ≡ cut (links_width links.now) }
 {
@@ -145,6 +153,7 @@ fn owed_of(link: &Link) -> usize
 }
 
 /// How many assumptions are owed for calls.
+#[tactic(auto, using(crate::proofs::Cutting::cut_on, crate::proofs::Cutting::cut_once, crate::proofs::Cutting::cut_end))]
 pub(crate) fn links_owed(links: &[Link]) -> usize
     ensures { result ≡ cut (links_owed links.now) }
 {
@@ -156,6 +165,7 @@ pub(crate) fn links_owed(links: &[Link]) -> usize
 }
 
 /// How many properties stand in a body.
+#[tactic(auto, using(crate::proofs::Cutting::cut_on, crate::proofs::Cutting::cut_once, crate::proofs::Cutting::cut_end))]
 pub(crate) fn body_count(items: &[Item]) -> usize
     ensures { result ≡ cut (body_count (map item_view items.now)) }
 {
@@ -263,4 +273,67 @@ pub(crate) fn contract_counts(items: &[ContractItem], links: &[Link]) -> ItemCou
         counts = with_counts(counts, statement_counts(item, links));
     }
     counts
+}
+
+/// How many ghost variables a contract has.
+#[tactic(auto, using(crate::proofs::Cutting::cut_on, crate::proofs::Cutting::cut_once, crate::proofs::Cutting::cut_end))]
+fn ghost_count(items: &[ContractItem]) -> usize
+    ensures { result ≡ cut (length (ghosts (map contract_item_view items.now))) }
+{
+    let mut count = 0;
+    for item in items {
+        if let ContractItem::Ghost(_, _) = item {
+            count = sum(count, 1);
+        }
+    }
+    count
+}
+
+/// How many streams a declaration has.
+#[tactic(auto, using(crate::proofs::Cutting::names_counted))]
+fn name_count(part: Part<'_>) -> usize
+    ensures { result ≡ cut (length (variables (part_view part.entry))) }
+{
+    let ghosts = ghost_count(contract_items(part));
+    let inner = sum(locals(part).len(), ghosts);
+    sum(inputs(part).len(), sum(outputs(part).len(), inner))
+}
+
+/// How many cells a declaration's frame has of its own where it runs as an import.
+#[tactic(auto, using(crate::proofs::Cutting::own_cut))]
+fn own_count(part: Part<'_>, texts: &[&Expr]) -> usize
+    requires { sides_view texts.now ≡ sides (part_view part) }
+    ensures { result ≡ cut (own_count (part_view part.entry)) }
+{
+    sum(1, sum(name_count(part), states_in(texts)))
+}
+
+/// How many properties a declaration has, by what its contract counts and what it owes.
+#[tactic(auto, using(crate::proofs::Cutting::properties_cut))]
+fn property_count(items: &[Item], counts: ItemCounts, owed: usize) -> usize
+    ensures { result ≡ cut (property_count (map item_view items.now) (counts_view counts.entry) owed.entry) }
+{
+    let active = if counts.modes == 0 { 0 } else { 1 };
+    let contract = sum(counts.ensured, sum(active, owed));
+    sum(body_count(items), sum(counts.guarantees, contract))
+}
+
+/// What callers need of a declaration, by its own text and what is needed of its callees: `links`
+/// has its calls and imports by number.
+///
+/// # Errors
+///
+/// Want of memory.
+#[tactic(auto, using(crate::proofs::Cutting::summary_cut))]
+pub fn summed(alloc: Global, part: Part<'_>, links: &[Link]) -> Result<Summary, AllocError>
+    ensures { IfOk result (λ s. s ≡ summary_by (part_view part.entry) links.now) }
+{
+    let texts = sides_of(alloc, part)?;
+    let counts = contract_counts(contract_items(part), links);
+    Ok(Summary {
+        frame: sum(own_count(part, &texts), links_width(links)),
+        contract: has_contract(part),
+        counts,
+        properties: property_count(body(part), counts, links_owed(links)),
+    })
 }
