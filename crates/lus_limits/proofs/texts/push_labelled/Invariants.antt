@@ -1,0 +1,9 @@
+use Rattle.std.proofs.Common.{◌≡◌, ◌++◌, drop, map, flat_map}
+use Rattle.lus_tree.specs.View.{named_view}
+use Rattle.lus_limits.specs.Parts.{sides_view, values_of}
+use Rattle.lus_limits.proofs.texts.push_labelled.Given as goal
+
+-- what is there, followed by what is to come, is all
+abbrev pub invariant-loop-named : goal.invariant-loop-named
+invariant-loop-named l = sides_view l.sides.items ++ values_of (map named_view (drop l.named-index l.labelled))
+    ≡ sides_view l.initial.sides.items ++ values_of (map named_view l.labelled)
