@@ -11,7 +11,7 @@ use std::alloc::Global;
 use std::{fs, io};
 
 /// A table of cases is a file, and what each of its lines says.
-const TABLES: [Table; 18] = [
+const TABLES: [Table; 19] = [
     ("first_replays", Ask::Replay),
     ("order_of_properties", Ask::Replay),
     ("order_of_equations", Ask::Replay),
@@ -21,6 +21,7 @@ const TABLES: [Table; 18] = [
     ("longest_trace", Ask::Replay),
     ("comments", Ask::Replay),
     ("not_built", Ask::Replay),
+    ("broken_rules", Ask::Replay),
     ("no_tree", Ask::Replay),
     ("limits", Ask::Replay),
     ("misfits", Ask::Replay),

@@ -1,23 +1,38 @@
 -- The source of a command.
-use Rattle.std.specs.Prelude.{◌≡◌, ◌≤◌, ℕ, List, length}
+use Rattle.std.specs.Prelude.{◌≡◌, ◌⊎◌, ◌≤◌, ℕ, List, length, None}
 use Rattle.kind_io.specs.Told.{Told, MayHold, MayExceed}
 use Rattle.lus_tree.specs.Tree.{Program}
-use Rattle.lus_tree.specs.Reason.{Refused}
+use Rattle.lus_tree.specs.Reason.{Refused, memory}
 use Rattle.lus_meaning.specs.BooleanRules.{BreaksNoBooleanRule}
+use Rattle.lus_meaning.specs.Refusals.{IsClocked, IsRefusedFor}
 use Rattle.lus_grammar.specs.Source.{IsSource, IsRefused as IsMisread}
 use Rattle.kind_main.specs.Lines.{Line, too_long_line, not_built_line, refused_line}
 use Rattle.kind_main.specs.Fetched.{limit}
 use Rattle.kind_main.specs.Ending.{Ending, usage, unread, refused, done}
 
--- the bytes are a source, and its tree is not one of a program that is built and follows the rules
+-- the bytes are a source, and its tree breaks a rule: this is the first fault of the earliest phase that has one
+pub record IsRuledOut (bytes : List ℕ) (r : Refused) : Type 0 where
+  pub tree : Program
+  pub source : IsSource bytes tree
+  pub broken : IsRefusedFor tree None r
+
+-- why a tree is refused by the phases of rules that are built, or memory ran out
+abbrev pub IsRuling : Program → Refused → Type 0
+IsRuling p r = (r.reason ≡ memory) ⊎ IsRefusedFor p None r
+
+-- the bytes are a source, whose names, types, numbers and clocks are right, and its tree is not one of a program that is built
+-- and follows the other rules
 pub record IsNotBuilt (bytes : List ℕ) : Type 0 where
   pub tree : Program
   pub source : IsSource bytes tree
+  pub clocked : IsClocked tree
   pub because : BreaksNoBooleanRule tree → ⊥
 
--- why the bytes of a source are refused, and the line that says so: their tokens or their grammar have a first fault, or they are not built
+-- why the bytes of a source are refused, and the line that says so: their tokens or their grammar have a first fault, or they
+-- break a rule, or they are not built
 pub data IsRefusedSource (bytes : List ℕ) (line : Line) : Type 0 where
   misread : (r : Refused) → IsMisread bytes r → line ≡ refused_line r → IsRefusedSource bytes line
+  ruled_out : (r : Refused) → IsRuledOut bytes r → line ≡ refused_line r → IsRefusedSource bytes line
   unbuilt : IsNotBuilt bytes → line ≡ not_built_line → IsRefusedSource bytes line
 
 -- how a command ends whose source is refused
@@ -33,6 +48,7 @@ pub record HoldsSource (told : Told) (p : Program) : Type 0 where
   pub held : MayHold told bytes
   pub short : length bytes ≤ limit
   pub source : IsSource bytes p
+  pub clocked : IsClocked p
   pub follows : BreaksNoBooleanRule p
 
 -- why a file is refused as a source, and the line that says so
