@@ -13,6 +13,7 @@ use Rattle.lus_clocks.specs.declared.found.Part.{Part}
 use Rattle.lus_clocks.specs.Clocks.{clocks_seen}
 use Rattle.lus_clocks.specs.Parts.{IsPart, stand_notes, fit_notes, fits_on}
 use Rattle.lus_clocks.specs.Walk.{pair_own, triple_own, pair_clock, triple_clock, branches_own, condition_own, walk, walk_among, walk_each}
+use Rattle.lus_clocks.proofs.Elses.{or_else_of_three}
 
 -- ---- lists noted one behind the other
 
@@ -130,10 +131,6 @@ module _ (n : Component) where
       (ap (λ z. noted_all o' (walk_among n z rest)) d ∙ ap (λ z. noted_all z (walk_among n c rest)) g
       ∙ sym (noted_append o own (walk_among n c rest))
       ∙ ap (λ ys. noted_all o (walk_among n k (joined (map expr_view ys)))) (sym l))
-
-  pub or_else_of_three : (k c d : Option Clock) → or_else (or_else k c) d ≡ or_else k (or_else c d)
-  or_else_of_three None c d = refl
-  or_else_of_three (Some b) c d = refl
 
   pub clock_step : (xs : List Expr) (i : ℕ) (x : Expr) (k k' : Option Clock) → i < length xs → x ≡ get_or xs i x
       → k' ≡ or_else k (clock_in n (expr_view x))

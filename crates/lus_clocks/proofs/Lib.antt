@@ -1,7 +1,11 @@
+pub mod Elses
 pub mod Behind
+pub mod Firsts
 pub mod Begins
 pub mod Arms
 pub mod Walks
 pub mod Sides
 pub mod Same
 pub mod Seeks
+pub mod Numbered
+pub mod Written

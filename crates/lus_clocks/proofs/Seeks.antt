@@ -10,29 +10,28 @@ use Rattle.lus_meaning.specs.ClockFaults.{or_else}
 use Rattle.lus_clocks.specs.declared.occurrence.Occurrence.{Occurrence as Sought}
 use Rattle.lus_clocks.specs.declared.occurrence.Occurrence.TheVariants.{Pre, Arrow, Call}
 use Rattle.lus_clocks.specs.Sought.{is_pre, is_arrow, is_call, if_there, clock_at, clock_at_among, clock_at_texts, import_at, occurrence_clock}
-use Rattle.lus_clocks.proofs.Arms.{or_else_of_three}
+use Rattle.lus_clocks.proofs.Elses.{or_else_none, or_else_of_three}
 use Rattle.lus_clocks.proofs.Behind.{found_behind}
-
-pub or_else_none : (o : Option Clock) → or_else o None ≡ o
-or_else_none None = refl
-or_else_none (Some c) = refl
 
 pub texts_append : (n : Component) (s : Sought) (xs ys : List Text) → clock_at_texts n s (xs ++ ys) ≡ or_else (clock_at_texts n s xs) (clock_at_texts n s ys)
 texts_append n s [] ys = refl
 texts_append n s (x ∷ xs) ys =
     ap (or_else (clock_at n s x.0.clock x.1)) (texts_append n s xs ys)
-    ∙ sym (or_else_of_three n (clock_at n s x.0.clock x.1) (clock_at_texts n s xs) (clock_at_texts n s ys))
+    ∙ sym (or_else_of_three (clock_at n s x.0.clock x.1) (clock_at_texts n s xs) (clock_at_texts n s ys))
 
-pub one_more_text : (n : Component) (s : Sought) {X Y : Type 0} (f : Y → List Text) (v : X → Y) (xs : List X) (i : ℕ) (x : X) (r : Option Clock)
-    → i < length xs → x ≡ get_or xs i x → r ≡ clock_at_texts n s (f (v x))
-    → or_else r (clock_at_texts n s (flat_map f (map v (drop (i + 1) xs)))) ≡ clock_at_texts n s (flat_map f (map v (drop i xs)))
-one_more_text n s f v xs i x r h e d =
+-- what is kept of one more text, followed by what is to come, is what was kept, followed by that text too
+pub one_more_text : (n : Component) (s : Sought) {X Y : Type 0} (f : Y → List Text) (v : X → Y) (xs : List X) (i : ℕ) (x : X) (k k' : Option Clock)
+    → i < length xs → x ≡ get_or xs i x → k' ≡ or_else k (clock_at_texts n s (f (v x)))
+    → or_else k' (clock_at_texts n s (flat_map f (map v (drop (i + 1) xs)))) ≡ or_else k (clock_at_texts n s (flat_map f (map v (drop i xs))))
+one_more_text n s f v xs i x k k' h e d =
     let a : i + 1 ≡ suc i = omega arith in
     let l : drop i xs ≡ x ∷ drop (suc i) xs = drop-cons xs i x h ∙ ap (λ y. y ∷ drop (suc i) xs) (sym e) in
     let rest : List Text = flat_map f (map v (drop (suc i) xs)) in
     rw a
-    (ap (λ z. or_else z (clock_at_texts n s rest)) d ∙ sym (texts_append n s (f (v x)) rest)
-    ∙ ap (λ ys. clock_at_texts n s (flat_map f (map v ys))) (sym l))
+    (ap (λ z. or_else z (clock_at_texts n s rest)) d
+    ∙ or_else_of_three k (clock_at_texts n s (f (v x))) (clock_at_texts n s rest)
+    ∙ ap (or_else k) (sym (texts_append n s (f (v x)) rest))
+    ∙ ap (λ ys. or_else k (clock_at_texts n s (flat_map f (map v ys)))) (sym l))
 
 -- ---- among all occurrences
 
@@ -53,7 +52,7 @@ module _ (n : Component) (s : Sought) where
   first_append [] ys = refl
   first_append (x ∷ xs) ys =
       ap (or_else (if_there (is_it s x.expression) x.standing.clock)) (first_append xs ys)
-      ∙ sym (or_else_of_three n (if_there (is_it s x.expression) x.standing.clock) (first xs) (first ys))
+      ∙ sym (or_else_of_three (if_there (is_it s x.expression) x.standing.clock) (first xs) (first ys))
 
   two_in : (a b : Option Clock) (xs ys : List Occurrence) → a ≡ first xs → b ≡ first ys → or_else a b ≡ first (xs ++ ys)
   two_in a b xs ys d e = ap (λ z. or_else z b) d ∙ ap (or_else (first xs)) e ∙ sym (first_append xs ys)

@@ -1,6 +1,11 @@
 pub mod Clocks
+pub mod Owner
+pub mod Streams
 pub mod Names
 pub mod Parts
 pub mod Walk
 pub mod Items
+pub mod Cells
+pub mod Table
 pub mod Sought
+pub mod Program

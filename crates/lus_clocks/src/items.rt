@@ -10,11 +10,11 @@ ghost use Rattle.lus_clocks.specs.Names.{names_view};
 use crate::clock::Clock;
 use crate::equation::{equation, placed};
 use crate::names::Names;
-use lus_tree::{ContractItem, Expr, Item, Named};
 use lus_scopes::least::Least;
+use lus_tree::{ContractItem, Expr, Item, Named};
 
 /// Notes the faults of an item of a body.
-fn statement(names: Names<'_>, least: &mut Least, item: &Item)
+fn statement(names: Names<'_, '_>, least: &mut Least, item: &Item)
     ensures { least_view least.new ≡ noted_all (least_view least.old)
         (statement_walk (names_view names.entry) (item_view item.now)) }
 {
@@ -28,7 +28,7 @@ fn statement(names: Names<'_>, least: &mut Least, item: &Item)
 
 /// Notes the faults of the items of a body.
 #[tactic(auto, using(lus_scopes::proofs::Leasts::noted_append))]
-fn statements(names: Names<'_>, least: &mut Least, items: &[Item])
+fn statements(names: Names<'_, '_>, least: &mut Least, items: &[Item])
     ensures { least_view least.new ≡ noted_all (least_view least.old)
         (flat_map (statement_walk (names_view names.entry)) (map item_view items.now)) }
 {
@@ -39,7 +39,7 @@ fn statements(names: Names<'_>, least: &mut Least, items: &[Item])
 
 /// Notes the faults of expressions with labels.
 #[tactic(auto, using(lus_scopes::proofs::Leasts::noted_append))]
-fn labelled(names: Names<'_>, least: &mut Least, all: &[Named])
+fn labelled(names: Names<'_, '_>, least: &mut Least, all: &[Named])
     ensures { least_view least.new ≡ noted_all (least_view least.old)
         (labelled_walk (names_view names.entry) (map named_view all.now)) }
 {
@@ -50,7 +50,7 @@ fn labelled(names: Names<'_>, least: &mut Least, all: &[Named])
 
 /// Notes the faults of expressions on the base clock.
 #[tactic(auto, using(lus_scopes::proofs::Leasts::noted_append))]
-fn arguments(names: Names<'_>, least: &mut Least, all: &[Expr])
+fn arguments(names: Names<'_, '_>, least: &mut Least, all: &[Expr])
     ensures { least_view least.new ≡ noted_all (least_view least.old)
         (flat_map (placed_walk (names_view names.entry) base) (exprs_view all.now)) }
 {
@@ -61,7 +61,7 @@ fn arguments(names: Names<'_>, least: &mut Least, all: &[Expr])
 
 /// Notes the faults of an item of a contract.
 #[tactic(auto, using(lus_scopes::proofs::Leasts::noted_append))]
-fn contract_item(names: Names<'_>, least: &mut Least, item: &ContractItem)
+fn contract_item(names: Names<'_, '_>, least: &mut Least, item: &ContractItem)
     ensures { least_view least.new ≡ noted_all (least_view least.old)
         (contract_statement_walk (names_view names.entry) (contract_item_view item.now)) }
 {
@@ -80,7 +80,7 @@ fn contract_item(names: Names<'_>, least: &mut Least, item: &ContractItem)
 
 /// Notes the faults of the items of a contract.
 #[tactic(auto, using(lus_scopes::proofs::Leasts::noted_append))]
-fn contract_items(names: Names<'_>, least: &mut Least, items: &[ContractItem])
+fn contract_items(names: Names<'_, '_>, least: &mut Least, items: &[ContractItem])
     ensures { least_view least.new ≡ noted_all (least_view least.old)
         (flat_map (contract_statement_walk (names_view names.entry)) (map contract_item_view items.now)) }
 {
@@ -91,7 +91,7 @@ fn contract_items(names: Names<'_>, least: &mut Least, items: &[ContractItem])
 
 /// Notes the faults of a declaration.
 #[tactic(auto, using(lus_scopes::proofs::Leasts::noted_append))]
-pub(crate) fn component(names: Names<'_>, least: &mut Least)
+pub(crate) fn component(names: Names<'_, '_>, least: &mut Least)
     ensures { least_view least.new ≡ noted_all (least_view least.old) (component_walk (names_view names.entry)) }
 {
     contract_items(names, least, names.owner.contract());

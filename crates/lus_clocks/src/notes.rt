@@ -10,8 +10,8 @@ ghost use Rattle.lus_clocks.specs.Parts.{fit_notes, stand_notes};
 
 use crate::clock::{Clock, is_same, or_else};
 use crate::found::Part;
-use lus_tree::{PlacedName, What};
 use lus_scopes::least::Least;
+use lus_tree::{PlacedName, What};
 
 /// Whether a clock that is known is another one.
 fn is_other(wanted: Clock<'_>, clock: Option<Clock<'_>>) -> bool

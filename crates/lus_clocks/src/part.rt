@@ -14,14 +14,14 @@ use crate::clock::{Clock, or_base, or_else};
 use crate::found::Part;
 use crate::names::Names;
 use crate::notes::{branches, fits_on, pair, stands_on, triple};
-use lus_tree::{Expr, Form};
 use lus_scopes::least::Least;
+use lus_tree::{Expr, Form};
 
 /// Notes the faults of an expression, and gives what is known of it. The faults of its parts are
 /// noted before its own.
 #[cycle(part)]
 #[tactic(auto, using(lus_tree::proofs::Views::form_views, crate::proofs::Begins::begins))]
-pub(crate) fn part<'a>(names: Names<'a>, least: &mut Least, e: &'a Expr) -> Part<'a>
+pub(crate) fn part<'a>(names: Names<'a, '_>, least: &mut Least, e: &'a Expr) -> Part<'a>
     ensures part { IsPart (names_view names.entry) (expr_view e.now) result }
     ensures least { least_view least.new ≡ noted_all (least_view least.old)
         (walk (names_view names.entry) (expr_view e.now)) }
@@ -36,7 +36,7 @@ pub(crate) fn part<'a>(names: Names<'a>, least: &mut Least, e: &'a Expr) -> Part
 /// The same of a form: its clock.
 #[cycle(part)]
 #[tactic(auto, using(lus_tree::proofs::Views::form_views))]
-fn form_clock<'a>(names: Names<'a>, least: &mut Least, form: &'a Form) -> Option<Clock<'a>>
+fn form_clock<'a>(names: Names<'a, '_>, least: &mut Least, form: &'a Form) -> Option<Clock<'a>>
     ensures clock { (p : Place) → clocks_seen result ≡ clock_in (names_view names.entry) (form_view form.now p) }
     ensures least { (p : Place) → least_view least.new ≡ noted_all (least_view least.old)
         (walk (names_view names.entry) (form_view form.now p)) }
@@ -88,7 +88,7 @@ fn form_clock<'a>(names: Names<'a>, least: &mut Least, form: &'a Form) -> Option
 
 /// Values that are to be on one clock, and that clock.
 #[cycle(part)]
-fn among<'a>(names: Names<'a>, least: &mut Least, values: &'a [Expr]) -> Option<Clock<'a>>
+fn among<'a>(names: Names<'a, '_>, least: &mut Least, values: &'a [Expr]) -> Option<Clock<'a>>
     ensures clock { clocks_seen result ≡ clock_among (names_view names.entry) (joined (exprs_view values.now)) }
     ensures least { least_view least.new ≡ noted_all (least_view least.old)
         (walk_among (names_view names.entry) None (joined (exprs_view values.now))) }
@@ -103,7 +103,7 @@ fn among<'a>(names: Names<'a>, least: &mut Least, values: &'a [Expr]) -> Option<
 /// A value behind others, of which the clock is known or not.
 #[cycle(part)]
 fn one_among<'a>(
-    names: Names<'a>,
+    names: Names<'a, '_>,
     least: &mut Least,
     clock: Option<Clock<'a>>,
     value: &'a Expr,
@@ -123,7 +123,7 @@ fn one_among<'a>(
 
 /// Values by themselves.
 #[cycle(part)]
-fn each(names: Names<'_>, least: &mut Least, values: &[Expr])
+fn each(names: Names<'_, '_>, least: &mut Least, values: &[Expr])
     ensures { least_view least.new ≡ noted_all (least_view least.old)
         (walk_each (names_view names.entry) (joined (exprs_view values.now))) }
 {

@@ -1,168 +1,208 @@
-//! The clock of a numbered occurrence in a declaration.
+//! The clocks of the numbered occurrences of a declaration.
 
-ghost use Rattle.std.specs.Prelude.{◌≡◌, flat_map, map};
-ghost use Rattle.lus_tree.specs.View.{contract_item_view, definition_view, exprs_view, item_view, named_view};
-ghost use Rattle.lus_meaning.specs.Occurrences.{constant_texts, contract_statement_texts, on_base, on_clock, statement_texts, texts};
+ghost use Rattle.std.specs.Prelude.{◌≡◌, ◌∷◌, [], IfOk, flat_map, map};
+ghost use Rattle.lus_tree.specs.View.{contract_item_view, definition_view, item_view, named_view};
+ghost use Rattle.lus_tree.specs.View.{expr_view, exprs_view};
+ghost use Rattle.lus_meaning.specs.Occurrences.{constant_texts, contract_statement_texts, statement_texts, texts};
+ghost use Rattle.lus_meaning.specs.Occurrences.{on_base, on_clock};
 ghost use Rattle.lus_meaning.specs.Scene.{base, contract_statements};
-ghost use Rattle.lus_clocks.specs.Clocks.{clocks_seen};
+ghost use Rattle.lus_clocks.specs.Clocks.{clock_seen};
 ghost use Rattle.lus_clocks.specs.Names.{names_view};
-ghost use Rattle.lus_clocks.specs.Sought.{clock_at_texts, import_at, occurrence_clock};
+ghost use Rattle.lus_clocks.specs.Program.{KeepsOf};
+ghost use Rattle.lus_clocks.specs.Sought.{clock_at_texts, import_at};
+ghost use Rattle.lus_clocks.specs.Table.{Writes};
 
 use crate::clock::Clock;
-use crate::equation::side_clock;
+use crate::lookup::side_clock;
 use crate::names::Names;
-use crate::occurrence::{Occurrence, is_call};
-use crate::seek::seek;
+use crate::table::Table;
+use crate::write::write;
 use lus_tree::{ContractItem, Definition, Expr, Item, Named};
+use std::alloc::{AllocError, Global};
 
-/// In expressions with labels.
-fn in_labelled<'a>(names: Names<'a>, sought: Occurrence, all: &'a [Named]) -> Option<Clock<'a>>
-    ensures { clocks_seen result ≡ clock_at_texts (names_view names.entry) sought (on_base (map named_view all.now)) }
+/// Writes those of an expression of an item.
+#[tactic(auto, using(crate::proofs::Elses::or_else_none))]
+fn in_text(
+    alloc: Global,
+    names: Names<'_, '_>,
+    table: &mut Table,
+    clock: Clock<'_>,
+    e: &Expr,
+) -> Result<(), AllocError>
+    ensures { IfOk result (λ _. Writes table.old table.new (λ s. clock_at_texts (names_view names.entry) s
+        ((on_clock (clock_seen clock.entry), expr_view e.now) ∷ []))) }
+{
+    write(alloc, names, table, clock, e)
+}
+
+/// Writes those of expressions with labels.
+fn in_labelled(
+    alloc: Global,
+    names: Names<'_, '_>,
+    table: &mut Table,
+    all: &[Named],
+) -> Result<(), AllocError>
+    ensures { IfOk result (λ _. Writes table.old table.new
+        (λ s. clock_at_texts (names_view names.entry) s (on_base (map named_view all.now)))) }
 {
     for named in all {
-        if let Some(found) = seek(names, sought, Clock::Base, &named.value) {
-            return Some(found);
-        }
+        in_text(alloc, names, table, Clock::Base, &named.value)?;
     }
-    None
+    Ok(())
 }
 
-/// In the arguments of an import.
-fn in_arguments<'a>(names: Names<'a>, sought: Occurrence, all: &'a [Expr]) -> Option<Clock<'a>>
-    ensures { clocks_seen result
-        ≡ clock_at_texts (names_view names.entry) sought (map (λ a. (on_clock base, a)) (exprs_view all.now)) }
+/// Writes those of the arguments of an import.
+fn in_arguments(
+    alloc: Global,
+    names: Names<'_, '_>,
+    table: &mut Table,
+    all: &[Expr],
+) -> Result<(), AllocError>
+    ensures { IfOk result (λ _. Writes table.old table.new
+        (λ s. clock_at_texts (names_view names.entry) s (map (λ a. (on_clock base, a)) (exprs_view all.now)))) }
 {
     for argument in all {
-        if let Some(found) = seek(names, sought, Clock::Base, argument) {
-            return Some(found);
-        }
+        in_text(alloc, names, table, Clock::Base, argument)?;
     }
-    None
+    Ok(())
 }
 
-/// In constants.
-fn in_constants<'a>(
-    names: Names<'a>,
-    sought: Occurrence,
-    all: &'a [Definition],
-) -> Option<Clock<'a>>
-    ensures { clocks_seen result
-        ≡ clock_at_texts (names_view names.entry) sought (constant_texts (map definition_view all.now)) }
+/// Writes those of constants.
+fn in_constants(
+    alloc: Global,
+    names: Names<'_, '_>,
+    table: &mut Table,
+    all: &[Definition],
+) -> Result<(), AllocError>
+    ensures { IfOk result (λ _. Writes table.old table.new
+        (λ s. clock_at_texts (names_view names.entry) s (constant_texts (map definition_view all.now)))) }
 {
     for definition in all {
-        if let Some(found) = seek(names, sought, Clock::Base, &definition.value) {
-            return Some(found);
-        }
+        in_text(alloc, names, table, Clock::Base, &definition.value)?;
     }
-    None
+    Ok(())
 }
 
-/// In an item of a contract.
-#[tactic(auto, using(crate::proofs::Seeks::texts_append, crate::proofs::Seeks::or_else_none))]
-fn in_contract_item<'a>(
-    names: Names<'a>,
-    sought: Occurrence,
-    item: &'a ContractItem,
-) -> Option<Clock<'a>>
-    ensures { clocks_seen result
-        ≡ clock_at_texts (names_view names.entry) sought (contract_statement_texts (contract_item_view item.now)) }
-{
-    match item {
-        ContractItem::Assume(assumed) => seek(names, sought, Clock::Base, &assumed.value),
-        ContractItem::Guarantee(guaranteed) => seek(names, sought, Clock::Base, &guaranteed.value),
-        ContractItem::Ghost(_, e) => seek(names, sought, Clock::Base, e),
-        ContractItem::Constant(definition) => seek(names, sought, Clock::Base, &definition.value),
-        ContractItem::Mode(_, conditions, promises) => {
-            if let Some(found) = in_labelled(names, sought, conditions) {
-                return Some(found);
-            }
-            in_labelled(names, sought, promises)
-        }
-        ContractItem::Import(_, _, values, _) => in_arguments(names, sought, values),
-    }
-}
-
-/// In the items of a contract.
-fn in_contract<'a>(
-    names: Names<'a>,
-    sought: Occurrence,
-    items: &'a [ContractItem],
-) -> Option<Clock<'a>>
-    ensures { clocks_seen result ≡ clock_at_texts (names_view names.entry) sought
-        (flat_map contract_statement_texts (map contract_item_view items.now)) }
-{
-    for item in items {
-        match in_contract_item(names, sought, item) {
-            Some(found) => return Some(found),
-            None => {}
-        }
-    }
-    None
-}
-
-/// In an item of a body.
-#[tactic(auto, using(crate::proofs::Seeks::or_else_none))]
-fn in_statement<'a>(names: Names<'a>, sought: Occurrence, item: &'a Item) -> Option<Clock<'a>>
-    ensures { clocks_seen result ≡ clock_at_texts (names_view names.entry) sought
-        (statement_texts (names_view names.entry) (item_view item.now)) }
-{
-    match item {
-        Item::Equation(words, e) => seek(names, sought, side_clock(names, words), e),
-        Item::Assert(e) => seek(names, sought, Clock::Base, e),
-        Item::Property(property) => seek(names, sought, Clock::Base, &property.value),
-        Item::Main(_) => None,
-    }
-}
-
-/// In the items of a body.
-fn in_body<'a>(names: Names<'a>, sought: Occurrence, items: &'a [Item]) -> Option<Clock<'a>>
-    ensures { clocks_seen result ≡ clock_at_texts (names_view names.entry) sought
-        (flat_map (statement_texts (names_view names.entry)) (map item_view items.now)) }
-{
-    for item in items {
-        match in_statement(names, sought, item) {
-            Some(found) => return Some(found),
-            None => {}
-        }
-    }
-    None
-}
-
-/// In all expressions of a declaration.
+/// Writes those of an item of a contract.
 #[tactic(auto, using(crate::proofs::Seeks::texts_append))]
-fn in_texts<'a>(names: Names<'a>, sought: Occurrence) -> Option<Clock<'a>>
-    ensures { clocks_seen result ≡ clock_at_texts (names_view names.entry) sought (texts (names_view names.entry)) }
+fn in_contract_item(
+    alloc: Global,
+    names: Names<'_, '_>,
+    table: &mut Table,
+    item: &ContractItem,
+) -> Result<(), AllocError>
+    ensures { IfOk result (λ _. Writes table.old table.new
+        (λ s. clock_at_texts (names_view names.entry) s (contract_statement_texts (contract_item_view item.now)))) }
 {
-    if let Some(found) = in_contract(names, sought, names.owner.contract()) {
-        return Some(found);
+    match item {
+        ContractItem::Assume(assumed) => in_text(alloc, names, table, Clock::Base, &assumed.value),
+        ContractItem::Guarantee(guaranteed) => {
+            in_text(alloc, names, table, Clock::Base, &guaranteed.value)
+        }
+        ContractItem::Ghost(_, e) => in_text(alloc, names, table, Clock::Base, e),
+        ContractItem::Constant(definition) => {
+            in_text(alloc, names, table, Clock::Base, &definition.value)
+        }
+        ContractItem::Mode(_, conditions, promises) => {
+            in_labelled(alloc, names, table, conditions)?;
+            in_labelled(alloc, names, table, promises)
+        }
+        ContractItem::Import(_, _, values, _) => in_arguments(alloc, names, table, values),
     }
-    if let Some(found) = in_constants(names, sought, names.owner.constants()) {
-        return Some(found);
-    }
-    in_body(names, sought, names.owner.body())
 }
 
-/// Whether an import is sought. Imports run on the base clock.
-fn at_import<'a>(sought: Occurrence, items: &'a [ContractItem]) -> Option<Clock<'a>>
-    ensures { clocks_seen result ≡ import_at sought (map contract_item_view items.now) }
+/// Writes those of the items of a contract.
+fn in_contract(
+    alloc: Global,
+    names: Names<'_, '_>,
+    table: &mut Table,
+    items: &[ContractItem],
+) -> Result<(), AllocError>
+    ensures { IfOk result (λ _. Writes table.old table.new (λ s. clock_at_texts (names_view names.entry) s
+        (flat_map contract_statement_texts (map contract_item_view items.now)))) }
 {
     for item in items {
-        if let ContractItem::Import(number, _, _, _) = item {
-            if is_call(sought, *number) {
-                return Some(Clock::Base);
-            }
-        }
+        in_contract_item(alloc, names, table, item)?;
     }
-    None
+    Ok(())
 }
 
-/// The clock of the place of a numbered occurrence, where the declaration has it.
-#[tactic(auto, using(crate::proofs::Seeks::occurrence_is))]
-pub(crate) fn occurrence_clock<'a>(names: Names<'a>, sought: Occurrence) -> Option<Clock<'a>>
-    ensures { clocks_seen result ≡ occurrence_clock (names_view names.entry) sought }
+/// Writes those of an item of a body.
+fn in_statement(
+    alloc: Global,
+    names: Names<'_, '_>,
+    table: &mut Table,
+    item: &Item,
+) -> Result<(), AllocError>
+    ensures { IfOk result (λ _. Writes table.old table.new (λ s. clock_at_texts (names_view names.entry) s
+        (statement_texts (names_view names.entry) (item_view item.now)))) }
 {
-    if let Some(found) = in_texts(names, sought) {
-        return Some(found);
+    match item {
+        Item::Equation(words, e) => in_text(alloc, names, table, side_clock(names, words), e),
+        Item::Assert(e) => in_text(alloc, names, table, Clock::Base, e),
+        Item::Property(property) => in_text(alloc, names, table, Clock::Base, &property.value),
+        Item::Main(_) => Ok(()),
     }
-    at_import(sought, names.owner.contract())
+}
+
+/// Writes those of the items of a body.
+fn in_body(
+    alloc: Global,
+    names: Names<'_, '_>,
+    table: &mut Table,
+    items: &[Item],
+) -> Result<(), AllocError>
+    ensures { IfOk result (λ _. Writes table.old table.new (λ s. clock_at_texts (names_view names.entry) s
+        (flat_map (statement_texts (names_view names.entry)) (map item_view items.now)))) }
+{
+    for item in items {
+        in_statement(alloc, names, table, item)?;
+    }
+    Ok(())
+}
+
+/// Writes the clock of an import, where the item is one: imports run on the base clock.
+fn in_import(alloc: Global, table: &mut Table, item: &ContractItem) -> Result<(), AllocError>
+    ensures { IfOk result (λ _. Writes table.old table.new (λ s. import_at s (contract_item_view item.now ∷ []))) }
+{
+    if let ContractItem::Import(number, _, _, _) = item {
+        table.call(alloc, *number, Clock::Base)?;
+    }
+    Ok(())
+}
+
+/// Writes the clocks of imports.
+fn in_imports(alloc: Global, table: &mut Table, items: &[ContractItem]) -> Result<(), AllocError>
+    ensures { IfOk result (λ _. Writes table.old table.new (λ s. import_at s (map contract_item_view items.now))) }
+{
+    for item in items {
+        in_import(alloc, table, item)?;
+    }
+    Ok(())
+}
+
+/// Writes those of all expressions of a declaration.
+#[tactic(auto, using(crate::proofs::Seeks::texts_append))]
+fn in_texts(alloc: Global, names: Names<'_, '_>, table: &mut Table) -> Result<(), AllocError>
+    ensures { IfOk result (λ _. Writes table.old table.new
+        (λ s. clock_at_texts (names_view names.entry) s (texts (names_view names.entry)))) }
+{
+    in_contract(alloc, names, table, names.owner.contract())?;
+    in_constants(alloc, names, table, names.owner.constants())?;
+    in_body(alloc, names, table, names.owner.body())
+}
+
+/// The clocks of a declaration's numbered occurrences.
+///
+/// # Errors
+///
+/// Want of memory.
+#[tactic(auto, using(crate::proofs::Seeks::occurrence_is))]
+pub(crate) fn table_of(alloc: Global, names: Names<'_, '_>) -> Result<Table, AllocError>
+    ensures { IfOk result (λ t. KeepsOf t (names_view names.entry)) }
+{
+    let mut table = Table::new(alloc);
+    in_texts(alloc, names, &mut table)?;
+    in_imports(alloc, &mut table, names.owner.contract())?;
+    Ok(table)
 }

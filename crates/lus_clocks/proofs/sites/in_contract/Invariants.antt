@@ -1,11 +1,14 @@
 use Rattle.std.proofs.Common.{◌≡◌, drop, map, flat_map}
 use Rattle.lus_tree.specs.View.{contract_item_view}
 use Rattle.lus_meaning.specs.Occurrences.{contract_statement_texts}
+use Rattle.lus_meaning.specs.ClockFaults.{or_else}
+use Rattle.lus_clocks.specs.declared.occurrence.Occurrence.{Occurrence}
 use Rattle.lus_clocks.specs.Names.{names_view}
 use Rattle.lus_clocks.specs.Sought.{clock_at_texts}
+use Rattle.lus_clocks.specs.Table.{kept}
 use Rattle.lus_clocks.proofs.sites.in_contract.Given as goal
 
--- what stands in those to come is what stands in all
+-- what is kept, followed by what is to come, is all
 abbrev pub invariant-loop-item : goal.invariant-loop-item
-invariant-loop-item l = clock_at_texts (names_view l.names) l.sought (flat_map contract_statement_texts (map contract_item_view (drop l.item-index l.items)))
-    ≡ clock_at_texts (names_view l.names) l.sought (flat_map contract_statement_texts (map contract_item_view l.items))
+invariant-loop-item l = (s : Occurrence) → or_else (kept l.table s) (clock_at_texts (names_view l.names) s (flat_map contract_statement_texts (map contract_item_view (drop l.item-index l.items))))
+    ≡ or_else (kept l.fn.table s) (clock_at_texts (names_view l.names) s (flat_map contract_statement_texts (map contract_item_view l.items)))

@@ -1,0 +1,12 @@
+use Rattle.std.proofs.Common.{◌≡◌, drop, map}
+use Rattle.lus_tree.specs.View.{contract_item_view}
+use Rattle.lus_meaning.specs.ClockFaults.{or_else}
+use Rattle.lus_clocks.specs.declared.occurrence.Occurrence.{Occurrence}
+use Rattle.lus_clocks.specs.Sought.{import_at}
+use Rattle.lus_clocks.specs.Table.{kept}
+use Rattle.lus_clocks.proofs.sites.in_imports.Given as goal
+
+-- what is kept, followed by what is to come, is all
+abbrev pub invariant-loop-item : goal.invariant-loop-item
+invariant-loop-item l = (s : Occurrence) → or_else (kept l.table s) (import_at s (map contract_item_view (drop l.item-index l.items)))
+    ≡ or_else (kept l.fn.table s) (import_at s (map contract_item_view l.items))
