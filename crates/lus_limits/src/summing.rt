@@ -108,13 +108,7 @@ fn sofar_count(way: Way, contract: bool) -> usize
 {
     match way {
         Way::Import => 0,
-        Way::Plain | Way::Condition => {
-            if contract {
-                1
-            } else {
-                0
-            }
-        }
+        Way::Plain | Way::Condition => { if contract { 1 } else { 0 } }
     }
 }
 
@@ -126,7 +120,10 @@ fn link_width(link: &Link) -> usize
 {
     sum(
         link.held,
-        sum(link.callee.frame, sofar_count(link.way, link.callee.contract)),
+        sum(
+            link.callee.frame,
+            sofar_count(link.way, link.callee.contract),
+        ),
     )
 }
 
@@ -311,7 +308,7 @@ fn own_count(part: Part<'_>, texts: &[&Expr]) -> usize
 /// How many properties a declaration has, by what its contract counts and what it owes.
 #[tactic(auto, using(crate::proofs::Cutting::properties_cut))]
 fn property_count(items: &[Item], counts: ItemCounts, owed: usize) -> usize
-    ensures { result ≡ cut (property_count (map item_view items.now) (counts_view counts.entry) owed.entry) }
+    ensures { result ≡ cut (property_count (map item_view items.now) (counts_view counts) owed) }
 {
     let active = if counts.modes == 0 { 0 } else { 1 };
     let contract = sum(counts.ensured, sum(active, owed));
