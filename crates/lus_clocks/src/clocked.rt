@@ -60,6 +60,13 @@ impl Clocked {
         self.typed.program()
     }
 
+    /// The program alone.
+    pub fn into_program(self) -> Program
+        ensures { program_view result ≡ program_view self }
+    {
+        self.typed.into_program()
+    }
+
     /// The clock of the place of a numbered occurrence, in the declaration of that number, constants
     /// included, counted from 0 in text order. None exactly where it is the base clock, and where
     /// the declaration has no such occurrence.

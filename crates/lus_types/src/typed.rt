@@ -50,6 +50,13 @@ impl Typed {
     {
         &self.program
     }
+
+    /// The program alone.
+    pub fn into_program(self) -> Program
+        ensures { program_view result ≡ program_view self }
+    {
+        self.program
+    }
 }
 
 /// The refusal of a program for want of memory.
