@@ -50,6 +50,14 @@ impl Typed {
     {
         &self.program
     }
+
+    /// The same program.
+    pub fn into_program(self) -> Program
+        ensures same { program_view result ≡ program_view self }
+        ensures typed { IsTyped (program_view result) }
+    {
+        self.program
+    }
 }
 
 /// The refusal of a program for want of memory.
