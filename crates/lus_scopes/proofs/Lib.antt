@@ -15,3 +15,5 @@ pub mod Nothing
 pub mod Behind
 pub mod Noting
 pub mod Loops
+pub mod FirstNamed
+pub mod Tables

@@ -15,7 +15,6 @@ use crate::equation::equation;
 use crate::expression::{definition, expression, flag};
 use crate::imports::{note_fit, note_outputs};
 use crate::least::Least;
-use crate::lookup::contract;
 use crate::scope::Scope;
 use lus_tree::{ContractItem, Expr, Named, PlacedName};
 
@@ -65,7 +64,7 @@ fn note_import(
 {
     expressions(scope, least, arguments);
     note_outputs(scope, least, outputs);
-    let imported = contract(scope.program, &word.text);
+    let imported = scope.declarations.contract(&word.text);
     note_fit(scope, least, word, arguments, outputs, imported);
 }
 

@@ -16,7 +16,7 @@ ghost use Rattle.lus_scopes.specs.Sides.{outputs_notes, sides_notes, value_notes
 
 use crate::found::Part;
 use crate::least::Least;
-use crate::lookup::{looked_up, node};
+use crate::lookup::looked_up;
 use crate::notes::differ;
 use crate::part::{Manner, part};
 use crate::scope::Scope;
@@ -109,7 +109,7 @@ fn note_sides(scope: &Scope<'_>, least: &mut Least, words: &[PlacedName], e: &Ex
 {
     match &e.form {
         Form::Call(_, callee, _) | Form::Condact(_, _, callee, _, _) => {
-            let node = node(scope.program, &callee.text);
+            let node = scope.declarations.node(&callee.text);
             note_outputs(scope, least, words, found.from, callee, node);
         }
         Form::Truth(_)

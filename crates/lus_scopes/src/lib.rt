@@ -2,16 +2,20 @@
 #![tactic(auto)]
 
 pub mod bodies;
+mod callee;
 mod calls;
 pub mod contracts;
+pub mod declarations;
 mod equation;
 pub mod expression;
 mod forms;
 pub mod found;
 mod imports;
+pub mod layer;
 pub mod least;
 pub mod lookup;
 pub mod meant;
+pub mod names;
 mod notes;
 mod owner;
 mod part;

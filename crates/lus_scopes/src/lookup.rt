@@ -1,19 +1,20 @@
-//! Names, callees, contracts and modes of a scope.
+//! Names and modes of a scope.
 
-ghost use Rattle.std.specs.Prelude.{◌≡◌, ◌==◌, ◌&&◌, cond, false, Some, length, filter, find, map, option_map};
+ghost use Rattle.std.specs.Prelude.{◌≡◌, ◌==◌, ◌&&◌, Bool, cond, false, Some, length, filter, find, map, option_map};
 ghost use Rattle.std.specs.Str.{bytes_eq};
-ghost use Rattle.lus_tree.specs.View.{contract_item_view, contract_node_view, node_view, program_view, word_view};
+ghost use Rattle.lus_tree.specs.View.{contract_item_view, word_view};
 ghost use Rattle.lus_meaning.specs.Depends.{named_in};
-ghost use Rattle.lus_meaning.specs.Scope.{contract_named, entry_of, holds_of, is_constant_name, is_constant_role, is_ghost_role, is_known, is_output_role, mode_names, name_weight, node_named, size_of, sort_of_entry, value_of_entry, worth};
+ghost use Rattle.lus_meaning.specs.Scope.{entry_of, holds_of, is_constant_name, is_constant_role, is_ghost_role, is_known, is_output_role, mode_names, name_weight, size_of, sort_of_entry, value_of_entry, worth};
 ghost use Rattle.lus_meaning.specs.ExpressionFaults.{has_mode, has_one, is_imported_mode, mode_is_known};
 ghost use Rattle.lus_scopes.specs.Cut.{cut_worth};
-ghost use Rattle.lus_scopes.specs.Scopes.{entry_view, is_reached, layer_view, meaning_view, scope_view};
+ghost use Rattle.lus_scopes.specs.Scopes.{entry_view, is_reached, layer_view, scope_view};
 ghost use Rattle.lus_scopes.specs.Worth.{worth_view};
 
-use crate::scope::{Entry, Extent, Layer, Meaning, Role, Scope};
+use crate::layer::Layer;
+use crate::scope::{Entry, Extent, Meaning, Role, Scope};
 use crate::worth::Worth;
 use crate::worths::{of_constant, weighing};
-use lus_tree::{ContractItem, ContractNode, Decl, Node, PlacedName, Program, Sort};
+use lus_tree::{ContractItem, PlacedName, Sort};
 
 /// What the rules ask of a name.
 #[derive(Clone, Copy)]
@@ -25,27 +26,12 @@ pub(crate) struct Known {
     pub(crate) worth: Worth,
 }
 
-/// The word of a name.
-fn word<'a>(meaning: &Meaning<'a>) -> &'a PlacedName
-    ensures { word_view result.now ≡ (meaning_view meaning.now false).word }
-{
-    match meaning {
-        Meaning::Stream(_, param) => &param.name,
-        Meaning::Constant(definition, _, _) => &definition.name,
-    }
-}
-
 /// The first name of a list that is this one.
-fn entry<'a>(layer: Layer<'a>, hidden: bool, name: &str) -> Option<Entry<'a>>
-    ensures { option_map (entry_view layer.entry.extent hidden) result
+fn entry<'a>(layer: Layer<'a>, name: &str) -> Option<Entry<'a>>
+    ensures { (hidden : Bool) → option_map (entry_view layer.entry.extent hidden) result
         ≡ find (λ e. bytes_eq name.now e.word.text) (layer_view layer.entry hidden) }
 {
-    for entry in layer.entries {
-        if name == word(&entry.meaning).text.as_str() {
-            return Some(*entry);
-        }
-    }
-    None
+    layer.table.get(name).copied()
 }
 
 /// A name, and which constants of its list may be used.
@@ -61,12 +47,12 @@ fn meaning_of<'a>(scope: &Scope<'a>, name: &str) -> Option<Placed<'a>>
     ensures { option_map (λ p. entry_view p.extent scope.now.hidden p.found) result
         ≡ entry_of (scope_view scope.now) name.now }
 {
-    match entry(scope.own, scope.hidden, name) {
+    match entry(scope.own, name) {
         Some(found) => Some(Placed {
             found,
             extent: scope.own.extent,
         }),
-        None => match entry(scope.outer, scope.hidden, name) {
+        None => match entry(scope.outer, name) {
             Some(found) => Some(Placed {
                 found,
                 extent: scope.outer.extent,
@@ -152,50 +138,6 @@ pub fn is_ghost(scope: &Scope<'_>, name: &str) -> bool
     }
 }
 
-/// The first declaration with parts of this name, where it is a node or function.
-pub fn node<'a>(program: &'a Program, name: &str) -> Option<&'a Node>
-    ensures { option_map (λ n. node_view n.now) result ≡ node_named (program_view program.now) name.now }
-{
-    for decl in &program.decls {
-        match decl {
-            Decl::Constant(_) => {}
-            Decl::Node(node) => {
-                if name == node.name.text.as_str() {
-                    return Some(node);
-                }
-            }
-            Decl::Contract(contract) => {
-                if name == contract.name.text.as_str() {
-                    return None;
-                }
-            }
-        }
-    }
-    None
-}
-
-/// The first declaration with parts of this name, where it is a contract node.
-pub fn contract<'a>(program: &'a Program, name: &str) -> Option<&'a ContractNode>
-    ensures { option_map (λ n. contract_node_view n.now) result ≡ contract_named (program_view program.now) name.now }
-{
-    for decl in &program.decls {
-        match decl {
-            Decl::Constant(_) => {}
-            Decl::Node(node) => {
-                if name == node.name.text.as_str() {
-                    return None;
-                }
-            }
-            Decl::Contract(contract) => {
-                if name == contract.name.text.as_str() {
-                    return Some(contract);
-                }
-            }
-        }
-    }
-    None
-}
-
 /// Whether these names have this one.
 fn has(names: &[&str], name: &str) -> bool
     ensures { result ≡ named_in name.now (map (λ x. x.now) names.now) }
@@ -242,7 +184,7 @@ fn is_imported_mode(scope: &Scope<'_>, contract_name: &str, mode: &str) -> bool
     if count(scope.imports, contract_name) != 1 {
         return false;
     }
-    match contract(scope.program, contract_name) {
+    match scope.declarations.contract(contract_name) {
         Some(contract) => has_mode(&contract.items, mode),
         None => false,
     }

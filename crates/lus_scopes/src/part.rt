@@ -20,7 +20,6 @@ use crate::forms::{
 };
 use crate::found::Part;
 use crate::least::Least;
-use crate::lookup::node;
 use crate::notes::needs_sort;
 use crate::scope::Scope;
 use crate::weights::is_heavy;
@@ -199,7 +198,7 @@ fn form_part(
             merged_part(scope, least, from, clock, &on, &off)
         }
         Form::Call(_, word, arguments) => {
-            let callee = node(scope.program, &word.text);
+            let callee = scope.declarations.node(&word.text);
             arguments_of(scope, least, constant, callee, arguments);
             let count = arguments.len();
             call_part(least, manner.whole_side, from, word, count, callee)
@@ -207,7 +206,7 @@ fn form_part(
         Form::Condact(_, a, word, arguments, defaults) => {
             let active = operand(scope, least, constant, a);
             needs_sort(least, Sort::Bool, &active);
-            let activated = node(scope.program, &word.text);
+            let activated = scope.declarations.node(&word.text);
             arguments_of(scope, least, constant, activated, arguments);
             defaults_of(scope, least, activated, defaults);
             let given = arguments.len();

@@ -1,7 +1,9 @@
 //! What names mean where an expression stands.
 
+use crate::declarations::Declarations;
+use crate::layer::Layer;
 use lus_meaning::Value;
-use lus_tree::{ContractNode, Definition, Node, Param, Program, Sort};
+use lus_tree::{ContractNode, Definition, Node, Param, Sort};
 
 /// What a stream is.
 #[derive(Clone, Copy, PartialEq, Eq)]
@@ -36,13 +38,6 @@ pub enum Extent {
     First(usize),
 }
 
-/// A list of names, of which these constants may be used.
-#[derive(Clone, Copy)]
-pub struct Layer<'a> {
-    pub entries: &'a [Entry<'a>],
-    pub extent: Extent,
-}
-
 /// The declaration in which an expression stands.
 #[derive(Clone, Copy)]
 pub enum Owner<'a> {
@@ -52,11 +47,11 @@ pub enum Owner<'a> {
     Contract(&'a ContractNode),
 }
 
-/// Where an expression stands: the program, the declaration, its names and behind them those of the
+/// Where an expression stands: the declarations of the program, its own, its names and behind them those of the
 /// program's constants, whether the locals may not be used, and the modes and the imports before it.
 #[derive(Clone, Copy)]
 pub struct Scope<'a> {
-    pub program: &'a Program,
+    pub declarations: &'a Declarations<'a>,
     pub owner: Owner<'a>,
     pub own: Layer<'a>,
     pub outer: Layer<'a>,

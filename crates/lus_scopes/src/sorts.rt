@@ -7,7 +7,7 @@ ghost use Rattle.lus_scopes.specs.Scopes.{scope_view};
 
 use crate::calls::call_sort;
 use crate::forms::operator_sort;
-use crate::lookup::{looked_up, node};
+use crate::lookup::looked_up;
 use crate::scope::Scope;
 use lus_tree::{Expr, Form, Sort};
 
@@ -26,7 +26,7 @@ pub(crate) fn sort_of(scope: &Scope<'_>, e: &Expr) -> Option<Sort>
         }
         Form::Merge(_, a, _) => sort_of(scope, a),
         Form::Call(_, callee, _) | Form::Condact(_, _, callee, _, _) => {
-            call_sort(node(scope.program, &callee.text))
+            call_sort(scope.declarations.node(&callee.text))
         }
     }
 }

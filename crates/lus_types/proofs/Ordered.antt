@@ -15,10 +15,11 @@ use Rattle.lus_types.specs.Entries.{AreOrdered, behind, behind_all}
 use Rattle.lus_tree.specs.Tree.{Program}
 use Rattle.lus_types.specs.declared.naming.Declared.{Declared as CodeDeclared}
 use Rattle.lus_scopes.proofs.Loops.{dropped}
+use Rattle.lus_scopes.specs.declared.layer.Layer.{Layer}
 use Rattle.lus_types.specs.declared.home.Home.{Home}
 use Rattle.lus_types.specs.declared.before.Before.{Before}
 use Rattle.lus_types.specs.Before.{earlier_view, home_view, scope_at}
-use Rattle.lus_scopes.specs.Scopes.{entry_view, meaning_view, known_as, is_reached, owner_view, scope_view}
+use Rattle.lus_scopes.specs.Scopes.{entry_view, layer_view, meaning_view, known_as, is_reached, owner_view, scope_view}
 use Rattle.lus_types.specs.Homes.{declared_view}
 
 -- ---- one more name
@@ -92,28 +93,35 @@ names_behind true k x es os fs i =
     rw (map-append hide_local fs (map (entry_view x false) os), all_hidden (First k) es, all_hidden x os, i) refl
 names_behind false k x es os fs i = rw i refl
 
-pub scope_is : (h : Home) (b : Before) (hidden : Bool) (k : ℕ) (i j : ℕ × ℕ) → k ≡ length b.constants.items
+pub scope_is : (h : Home) (b : Before) (own : Layer) (hidden : Bool) (k : ℕ) (i j : ℕ × ℕ) → own.entries.now ≡ h.own.entries.now
+    → own.extent ≡ First k → k ≡ length b.constants.items
     → scope_view record {
-      program = h.program;
+      declarations = h.declarations;
       owner = h.owner;
-      own = record { entries = h.own; extent = First k };
+      own = own;
       outer = h.outer;
       hidden = hidden;
       modes = record { ref_ptr = i; now = b.modes.items };
       imports = record { ref_ptr = j; now = b.imports.items };
     } ≡ scope_at (home_view h) (earlier_view b) hidden
-scope_is h b hidden k i j e =
+scope_is h b own hidden k i j f g e =
+    let same : layer_view own hidden ≡ map (entry_view (First k) hidden) h.own.entries.now = rw (f, g) refl in
     ap (λ (names : List Entry). let z : Scope = record {
-      program = program_view h.program.now;
+      program = program_view h.declarations.now;
       owner = owner_view h.owner;
       names = names;
       modes = map (λ x. x.now) b.modes.items;
       imports = map (λ x. x.now) b.imports.items;
     } in z)
-    (names_behind hidden k h.outer.extent h.own.now h.outer.entries.now
+    (ap (λ es. es ++ layer_view h.outer hidden) same ∙ names_behind hidden k h.outer.extent h.own.entries.now h.outer.entries.now
     (first_constants (length (map (λ d. definition_view d.now) b.constants.items)) (own_names (home_view h)))
     (h.named k ∙ ap (λ n. first_constants n (own_names (home_view h)))
     (e ∙ sym (length-map b.constants.items (λ d. definition_view d.now)))))
+
+-- ---- all names of a list
+
+pub layer_of : (l : Layer) (es : List CodeEntry) → l.entries.now ≡ es → l.extent ≡ All → layer_view l false ≡ map (entry_view All false) es
+layer_of l es i j = rw (i, j) refl
 
 -- ---- the next name of a list
 

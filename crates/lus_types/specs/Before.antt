@@ -9,7 +9,7 @@ use Rattle.lus_types.specs.declared.home.Home.{Home as CodeHome}
 use Rattle.lus_types.specs.Homes.{home_of}
 
 abbrev pub home_view : CodeHome → Home
-home_view h = home_of h.program.now h.owner h.outer
+home_view h = home_of h.declarations.now h.owner h.outer
 
 -- the constants, the modes and the imports
 pub record Earlier : Type 0 where

@@ -1,9 +1,9 @@
 -- What contracts see of a declared name, and of a declaration with the program's constants.
 use Rattle.std.specs.Prelude.{false}
-use Rattle.lus_tree.specs.declared.declaration.Program.{Program as ProgramCode}
-use Rattle.lus_tree.specs.View.{param_view, definition_view, program_view}
+use Rattle.lus_tree.specs.View.{definition_view, param_view, program_view}
 use Rattle.lus_meaning.specs.Scope.{Home, Declared, a_stream, a_fixed}
-use Rattle.lus_scopes.specs.declared.scope.Layer.{Layer}
+use Rattle.lus_tree.specs.declared.declaration.Program.{Program as ProgramCode}
+use Rattle.lus_scopes.specs.declared.layer.Layer.{Layer}
 use Rattle.lus_scopes.specs.declared.scope.Owner.{Owner}
 use Rattle.lus_scopes.specs.Scopes.{layer_view, owner_view, role_view}
 use Rattle.lus_types.specs.declared.naming.Declared.{Declared as CodeDeclared}

@@ -9,7 +9,7 @@ ghost use Rattle.lus_types.specs.Before.{earlier, earlier_view, home_view, one_b
 ghost use Rattle.lus_scopes.specs.Scopes.{scope_view};
 
 use crate::home::Home;
-use lus_scopes::scope::{Extent, Layer, Scope};
+use lus_scopes::scope::{Extent, Scope};
 use lus_tree::{ContractItem, Definition};
 use std::alloc::{AllocError, Global};
 
@@ -72,12 +72,9 @@ fn scope_behind<'b>(before: &'b Before<'_>, home: &'b Home<'_>, hidden: bool) ->
     ensures { scope_view result ≡ scope_at (home_view home.now) (earlier_view before.now) hidden }
 {
     Scope {
-        program: home.program,
+        declarations: home.declarations,
         owner: home.owner,
-        own: Layer {
-            entries: home.own,
-            extent: Extent::First(before.constants.len()),
-        },
+        own: home.own.within(Extent::First(before.constants.len())),
         outer: home.outer,
         hidden,
         modes: &before.modes,

@@ -31,7 +31,7 @@ fn names_twice(
     owner: Owner<'_>,
 ) -> Result<(), AllocError>
     ensures { IfOk result (λ _. Notes (least_view least.old) (least_view least.new)
-        (own_twice (constant_words (program_view setting.entry.program.now)) (owner_view owner.entry))) }
+        (own_twice (constant_words (program_view setting.entry.declarations.now)) (owner_view owner.entry))) }
 {
     let own = own_words(alloc, owner)?;
     words_twice(alloc, least, &own)?;
@@ -59,12 +59,12 @@ fn inner(
     owner: Owner<'_>,
 ) -> Result<(), AllocError>
     ensures { IfOk result (λ _. Notes (least_view least.old) (least_view least.new)
-        (inner_faults (home (program_view setting.entry.program.now) known (owner_view owner.entry)))) }
+        (inner_faults (home (program_view setting.entry.declarations.now) known (owner_view owner.entry)))) }
 {
     let outer = setting.constants_before(known);
     let declared = declared_in(alloc, owner)?;
-    let own = entries(alloc, setting.program, outer, &declared)?;
-    let home = with_names(setting.program, owner, &own, outer);
+    let own = entries(alloc, setting.declarations, outer, &declared)?;
+    let home = with_names(setting.declarations, owner, own.layer(), outer);
     contract_and_body(alloc, &home, least)?;
     Ok(())
 }
@@ -78,12 +78,12 @@ fn component(
     owner: Owner<'_>,
 ) -> Result<(), AllocError>
     ensures { IfOk result (λ _. Notes (least_view least.old) (least_view least.new)
-        (alone_faults (home (program_view setting.entry.program.now) known (owner_view owner.entry))
-        (constant_words (program_view setting.entry.program.now)))) }
+        (alone_faults (home (program_view setting.entry.declarations.now) known (owner_view owner.entry))
+        (constant_words (program_view setting.entry.declarations.now)))) }
 {
     names_twice(alloc, setting, least, owner)?;
     marks_twice(alloc, least, owner)?;
-    state(alloc, setting.program, least, owner)?;
+    state(alloc, setting.declarations, least, owner)?;
     inner(alloc, setting, least, known, owner)?;
     Ok(())
 }
@@ -101,7 +101,7 @@ pub(crate) fn declaration(
     decl: &Decl,
 ) -> Result<(), AllocError>
     ensures { IfOk result (λ _. Notes (least_view least.old) (least_view least.new)
-        (alone_of (program_view setting.entry.program.now) known (decl_view decl.now))) }
+        (alone_of (program_view setting.entry.declarations.now) known (decl_view decl.now))) }
 {
     match decl {
         Decl::Constant(constant) => {

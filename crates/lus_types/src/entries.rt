@@ -4,13 +4,17 @@ ghost use Rattle.std.specs.Prelude.{◌≡◌, ◌<◌, ◌++◌, IfOk, [], fals
 ghost use Rattle.lus_tree.specs.View.{program_view};
 ghost use Rattle.lus_meaning.specs.Scope.{entries_from, entry_for, names_only};
 ghost use Rattle.lus_types.specs.Entries.{AreOrdered, behind, behind_all};
+ghost use Rattle.lus_scopes.specs.declared.scope.Extent.TheVariants.{All};
 ghost use Rattle.lus_scopes.specs.Scopes.{entry_view, layer_view, meaning_view, scope_view};
 ghost use Rattle.lus_types.specs.Homes.{declared_view};
+ghost use Rattle.lus_scopes.specs.Meanings.{IsTable};
 
 use crate::naming::Declared;
+use lus_scopes::declarations::Declarations;
+use lus_scopes::layer::Layer;
 use lus_scopes::meant::constant;
-use lus_scopes::scope::{Entry, Extent, Layer, Meaning, Owner, Scope};
-use lus_tree::Program;
+use lus_scopes::names::Names;
+use lus_scopes::scope::{Entry, Meaning, Owner, Scope};
 use std::alloc::{AllocError, Global};
 
 /// What a name means by the names before it.
@@ -24,17 +28,14 @@ fn meant<'a>(scope: &Scope<'_>, declared: Declared<'a>) -> Meaning<'a>
 }
 
 /// The scope in which only names are known, these of a list and those outer ones.
-fn names_only<'a>(program: &'a Program, own: &'a [Entry<'a>], outer: Layer<'a>) -> Scope<'a>
-    ensures { scope_view result ≡ names_only (program_view program.now)
-        (map (entry_view Extent.All false) own.now ++ layer_view outer.entry false) }
+fn names_only<'a>(declarations: &'a Declarations<'a>, own: Layer<'a>, outer: Layer<'a>) -> Scope<'a>
+    ensures { scope_view result ≡ names_only (program_view declarations.now)
+        (layer_view own.entry false ++ layer_view outer.entry false) }
 {
     Scope {
-        program,
+        declarations,
         owner: Owner::Nothing,
-        own: Layer {
-            entries: own,
-            extent: Extent::All,
-        },
+        own,
         outer,
         hidden: false,
         modes: &[],
@@ -60,20 +61,22 @@ fn behind(meaning: &Meaning<'_>, order: usize) -> usize
 /// Want of memory.
 pub(crate) fn entries<'a>(
     alloc: Global,
-    program: &'a Program,
+    declarations: &'a Declarations<'a>,
     outer: Layer<'a>,
     names: &[Declared<'a>],
-) -> Result<Vec<Entry<'a>>, AllocError>
-    ensures entries { IfOk result (λ v. map (entry_view Extent.All false) v.items
-        ≡ entries_from (program_view program.now) (layer_view outer.entry false) [] (map declared_view names.now)) }
-    ensures order { IfOk result (λ v. AreOrdered 0 v.items) }
+) -> Result<Names<'a>, AllocError>
+    ensures entries { IfOk result (λ n. map (entry_view All false) n.entries.items
+        ≡ entries_from (program_view declarations.now) (layer_view outer.entry false) []
+        (map declared_view names.now)) }
+    ensures order { IfOk result (λ n. AreOrdered 0 n.entries.items) }
+    ensures table { IfOk result (λ n. IsTable n.entries.items n.table) }
 {
-    let mut entries = Vec::new(alloc);
+    let mut own = Names::new(alloc);
     let mut order = 0;
     for name in names {
-        let meaning = meant(&names_only(program, &entries, outer), *name);
-        entries.push(Entry { meaning, order })?;
+        let meaning = meant(&names_only(&*declarations, own.layer(), outer), *name);
+        own.push(Entry { meaning, order })?;
         order = behind(&meaning, order);
     }
-    Ok(entries)
+    Ok(own)
 }

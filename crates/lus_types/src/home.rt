@@ -6,16 +6,17 @@ ghost use Rattle.lus_scopes.specs.declared.scope.Extent.TheVariants.{First};
 ghost use Rattle.lus_scopes.specs.Scopes.{entry_view};
 ghost use Rattle.lus_types.specs.Homes.{home_of};
 
-use lus_scopes::scope::{Entry, Layer, Owner};
-use lus_tree::Program;
+use lus_scopes::declarations::Declarations;
+use lus_scopes::layer::Layer;
+use lus_scopes::scope::Owner;
 
 /// A declaration with its names, and the program's constants behind them.
 #[derive(Clone, Copy)]
 pub(crate) struct Home<'a> {
-    pub(crate) program: &'a Program,
+    pub(crate) declarations: &'a Declarations<'a>,
     pub(crate) owner: Owner<'a>,
-    pub(crate) own: &'a [Entry<'a>],
+    pub(crate) own: Layer<'a>,
     pub(crate) outer: Layer<'a>,
-    ghost named: { (k : ℕ) → map (entry_view (First k) false) own.now
-        ≡ first_constants k (own_names (home_of program.now owner outer)) },
+    ghost named: { (k : ℕ) → map (entry_view (First k) false) own.entries.now
+        ≡ first_constants k (own_names (home_of declarations.now owner outer)) },
 }

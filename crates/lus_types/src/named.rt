@@ -8,23 +8,25 @@ ghost use Rattle.lus_scopes.specs.Scopes.{entry_view};
 ghost use Rattle.lus_types.specs.Homes.{home_of};
 
 use crate::home::Home;
-use lus_scopes::scope::{Entry, Extent, Layer, Owner};
-use lus_tree::Program;
+use lus_scopes::declarations::Declarations;
+use lus_scopes::layer::Layer;
+use lus_scopes::scope::{Extent, Owner};
 
 /// A declaration with the names that were made for it.
 #[tactic(auto, using(crate::proofs::Ordered::all_first_known))]
 pub(crate) fn with_names<'a>(
-    program: &'a Program,
+    declarations: &'a Declarations<'a>,
     owner: Owner<'a>,
-    own: &'a [Entry<'a>],
+    own: Layer<'a>,
     outer: Layer<'a>,
 ) -> Home<'a>
-    requires entries { map (entry_view Extent.All false) own.now ≡ own_names (home_of program.now owner outer) }
-    requires order { AreOrdered 0 own.now }
-    ensures { home_view result ≡ home_of program.now owner.entry outer.entry }
+    requires entries { map (entry_view Extent.All false) own.entries.now
+        ≡ own_names (home_of declarations.now owner outer) }
+    requires order { AreOrdered 0 own.entries.now }
+    ensures { home_view result ≡ home_of declarations.now owner.entry outer.entry }
 {
     Home {
-        program,
+        declarations,
         owner,
         own,
         outer,

@@ -1,7 +1,7 @@
 //! Circles of declarations.
 
 ghost use Rattle.std.specs.Prelude.{◌≡◌, ◌++◌, ◌<◌, ◌∷◌, [], IfOk, List, Some, false, true, map, length, slice_get, cond, set};
-ghost use Rattle.lus_tree.specs.Tree.{Component, Program as Declarations};
+ghost use Rattle.lus_tree.specs.Tree.{Component, Program as ProgramTree};
 ghost use Rattle.lus_tree.specs.Reason.{Refused};
 ghost use Rattle.lus_tree.specs.View.{contract_node_view, decl_view, node_view, program_view, word_view};
 ghost use Rattle.lus_meaning.specs.ClockFaults.{components};
@@ -17,8 +17,8 @@ ghost use Rattle.name_table.specs.Names.{number_of};
 use crate::called::{contract_calls, contract_items, imports_of, node_calls};
 use crate::marks::{Link, Row, is_marked, spread};
 use crate::ranks::{rank_of, ranks_of};
+use lus_scopes::declarations::Declarations;
 use lus_scopes::least::Least;
-use lus_scopes::lookup::{contract, node};
 use lus_tree::{ContractNode, Decl, Node, PlacedName, Program, What};
 use name_table::NameTable;
 use std::alloc::{AllocError, Global};
@@ -88,14 +88,14 @@ fn push_link(links: &mut Vec<Link>, names: &NameTable, word: &PlacedName) -> Res
 /// The links, and behind them one to this name, where it is a node's or function's.
 fn push_node_link(
     links: &mut Vec<Link>,
-    program: &Program,
+    declarations: &Declarations<'_>,
     names: &NameTable,
     word: &PlacedName,
 ) -> Result<(), AllocError>
     ensures { IfOk result (λ _. map link_view links.new.items ≡ map link_view links.old.items
-        ++ node_links (program_view program.now) names.now (word_view word.now ∷ [])) }
+        ++ node_links (program_view declarations.now) names.now (word_view word.now ∷ [])) }
 {
-    if node(program, &word.text).is_some() {
+    if declarations.node(&word.text).is_some() {
         push_link(links, names, word)?;
     }
     Ok(())
@@ -104,14 +104,14 @@ fn push_node_link(
 /// The links, and behind them one to this name, where it is a contract node's.
 fn push_contract_link(
     links: &mut Vec<Link>,
-    program: &Program,
+    declarations: &Declarations<'_>,
     names: &NameTable,
     word: &PlacedName,
 ) -> Result<(), AllocError>
     ensures { IfOk result (λ _. map link_view links.new.items ≡ map link_view links.old.items
-        ++ contract_links (program_view program.now) names.now (word_view word.now ∷ [])) }
+        ++ contract_links (program_view declarations.now) names.now (word_view word.now ∷ [])) }
 {
-    if contract(program, &word.text).is_some() {
+    if declarations.contract(&word.text).is_some() {
         push_link(links, names, word)?;
     }
     Ok(())
@@ -120,15 +120,15 @@ fn push_contract_link(
 /// The links, and behind them those to the nodes and functions of these names.
 fn push_node_links(
     links: &mut Vec<Link>,
-    program: &Program,
+    declarations: &Declarations<'_>,
     names: &NameTable,
     words: &[&PlacedName],
 ) -> Result<(), AllocError>
     ensures { IfOk result (λ _. map link_view links.new.items ≡ map link_view links.old.items
-        ++ node_links (program_view program.now) names.now (words_view words.now)) }
+        ++ node_links (program_view declarations.now) names.now (words_view words.now)) }
 {
     for word in words {
-        push_node_link(links, program, names, word)?;
+        push_node_link(links, declarations, names, word)?;
     }
     Ok(())
 }
@@ -136,15 +136,15 @@ fn push_node_links(
 /// The links, and behind them those to the contract nodes of these names.
 fn push_contract_links(
     links: &mut Vec<Link>,
-    program: &Program,
+    declarations: &Declarations<'_>,
     names: &NameTable,
     words: &[&PlacedName],
 ) -> Result<(), AllocError>
     ensures { IfOk result (λ _. map link_view links.new.items ≡ map link_view links.old.items
-        ++ contract_links (program_view program.now) names.now (words_view words.now)) }
+        ++ contract_links (program_view declarations.now) names.now (words_view words.now)) }
 {
     for word in words {
-        push_contract_link(links, program, names, word)?;
+        push_contract_link(links, declarations, names, word)?;
     }
     Ok(())
 }
@@ -152,18 +152,18 @@ fn push_contract_links(
 /// The row of a declaration by what it calls and imports.
 fn row_by(
     alloc: Global,
-    program: &Program,
+    declarations: &Declarations<'_>,
     names: &NameTable,
     name: &str,
     calls: &[&PlacedName],
     imports: &[&PlacedName],
 ) -> Result<Row, AllocError>
     ensures { IfOk result (λ r. row_view r
-        ≡ row_by (program_view program.now) names.now name.now (words_view calls.now) (words_view imports.now)) }
+        ≡ row_by (program_view declarations.now) names.now name.now (words_view calls.now) (words_view imports.now)) }
 {
     let mut links = Vec::new(alloc);
-    push_node_links(&mut links, program, names, calls)?;
-    push_contract_links(&mut links, program, names, imports)?;
+    push_node_links(&mut links, declarations, names, calls)?;
+    push_contract_links(&mut links, declarations, names, imports)?;
     Ok(Row {
         from: number_of(names, name),
         links,
@@ -173,51 +173,65 @@ fn row_by(
 /// The row of a node or function.
 fn node_row(
     alloc: Global,
-    program: &Program,
+    declarations: &Declarations<'_>,
     names: &NameTable,
     node: &Node,
 ) -> Result<Row, AllocError>
-    ensures { IfOk result (λ r. row_view r ≡ row_of (program_view program.now) names.now (node_view node.now)) }
+    ensures { IfOk result (λ r. row_view r ≡ row_of (program_view declarations.now) names.now (node_view node.now)) }
 {
     let calls = node_calls(alloc, node)?;
     let imports = imports_of(alloc, contract_items(node))?;
-    row_by(alloc, program, names, &node.name.text, &calls, &imports)
+    row_by(
+        alloc,
+        declarations,
+        names,
+        &node.name.text,
+        &calls,
+        &imports,
+    )
 }
 
 /// The row of a contract node.
 fn contract_row(
     alloc: Global,
-    program: &Program,
+    declarations: &Declarations<'_>,
     names: &NameTable,
     contract: &ContractNode,
 ) -> Result<Row, AllocError>
     ensures { IfOk result (λ r. row_view r
-        ≡ row_of (program_view program.now) names.now (contract_node_view contract.now)) }
+        ≡ row_of (program_view declarations.now) names.now (contract_node_view contract.now)) }
 {
     let calls = contract_calls(alloc, contract)?;
     let imports = imports_of(alloc, &contract.items)?;
-    row_by(alloc, program, names, &contract.name.text, &calls, &imports)
+    row_by(
+        alloc,
+        declarations,
+        names,
+        &contract.name.text,
+        &calls,
+        &imports,
+    )
 }
 
 /// The rows, and behind them that of a declaration with parts.
 fn push_row(
     alloc: Global,
     rows: &mut Vec<Row>,
-    program: &Program,
+    declarations: &Declarations<'_>,
     names: &NameTable,
     decl: &Decl,
 ) -> Result<(), AllocError>
     ensures { IfOk result (λ _. map row_view rows.new.items ≡ map row_view rows.old.items
-        ++ map (row_of (program_view program.now) names.now) (components (decl_view decl.now ∷ []))) }
+        ++ map (row_of (program_view declarations.now) names.now) (components (decl_view decl.now ∷ []))) }
 {
     match decl {
         Decl::Constant(_) => {}
         Decl::Node(node) => {
-            let row = node_row(alloc, program, names, node)?;
+            let row = node_row(alloc, declarations, names, node)?;
             rows.push(row)?;
         }
         Decl::Contract(contract) => {
-            let row = contract_row(alloc, program, names, contract)?;
+            let row = contract_row(alloc, declarations, names, contract)?;
             rows.push(row)?;
         }
     }
@@ -225,13 +239,18 @@ fn push_row(
 }
 
 /// A row for each declaration with parts.
-fn rows_of(alloc: Global, program: &Program, names: &NameTable) -> Result<Vec<Row>, AllocError>
+fn rows_of(
+    alloc: Global,
+    declarations: &Declarations<'_>,
+    names: &NameTable,
+    decls: &[Decl],
+) -> Result<Vec<Row>, AllocError>
     ensures { IfOk result (λ v. map row_view v.items
-        ≡ map (row_of (program_view program.now) names.now) (components (program_view program.now))) }
+        ≡ map (row_of (program_view declarations.now) names.now) (components (map decl_view decls.now))) }
 {
     let mut rows = Vec::new(alloc);
-    for decl in &program.decls {
-        push_row(alloc, &mut rows, program, names, decl)?;
+    for decl in decls {
+        push_row(alloc, &mut rows, declarations, names, decl)?;
     }
     Ok(rows)
 }
@@ -261,11 +280,11 @@ fn all_fall(ranks: &[usize], rows: &[Row]) -> bool
 }
 
 /// What the declarations of a program call and import.
-pub(crate) fn graph_of(alloc: Global, program: &Program) -> Result<Graph, AllocError>
-    ensures { IfOk result (λ g. IsGraph (program_view program.now) g) }
+pub(crate) fn graph_of(alloc: Global, declarations: &Declarations<'_>) -> Result<Graph, AllocError>
+    ensures { IfOk result (λ g. IsGraph (program_view declarations.now) g) }
 {
-    let names = names_of(alloc, program)?;
-    let rows = rows_of(alloc, program, &names)?;
+    let names = names_of(alloc, declarations.program())?;
+    let rows = rows_of(alloc, declarations, &names, &declarations.program().decls)?;
     let ranks = ranks_of(alloc, &rows, names.len())?;
     let falls = all_fall(&ranks, &rows);
     Ok(Graph {
@@ -318,7 +337,7 @@ pub(crate) fn recursion(
     number: usize,
 ) -> Result<(), AllocError>
     requires { number < length graph.now.rows.items }
-    ensures { IfOk result (λ _. (p : Declarations) (n : Component) → IsGraph p graph.now
+    ensures { IfOk result (λ _. (p : ProgramTree) (n : Component) → IsGraph p graph.now
         → slice_get (components p) number ≡ Some n
         → Notes (least_view least.old) (least_view least.new) (recursion_faults p n)) }
 {

@@ -11,12 +11,10 @@ ghost use Rattle.lus_scopes.specs.Least.{least_view, noted_all};
 ghost use Rattle.lus_scopes.specs.Scopes.{owner_view};
 ghost use Rattle.lus_types.specs.States.{PlacesOn, callee_state, states, states_among, states_in};
 
+use lus_scopes::declarations::Declarations;
 use lus_scopes::least::Least;
-use lus_scopes::lookup::node;
 use lus_scopes::scope::Owner;
-use lus_tree::{
-    ContractItem, Definition, Expr, Form, Item, Named, Node, PlacedName, Pos, Program, What,
-};
+use lus_tree::{ContractItem, Definition, Expr, Form, Item, Named, Node, PlacedName, Pos, What};
 use std::alloc::{AllocError, Global};
 
 /// Whether a callee has state: a node, which is no function.
@@ -32,13 +30,13 @@ fn has_state(callee: Option<&Node>) -> bool
 /// The places, and behind them that of a callee that has state.
 fn push_callee(
     places: &mut Vec<Pos>,
-    program: &Program,
+    declarations: &Declarations<'_>,
     callee: &PlacedName,
 ) -> Result<(), AllocError>
     ensures { IfOk result (λ _. PlacesOn places.old.items places.new.items
-        (callee_state (program_view program.now) (word_view callee.now))) }
+        (callee_state (program_view declarations.now) (word_view callee.now))) }
 {
-    if has_state(node(program, &callee.text)) {
+    if has_state(declarations.node(&callee.text)) {
         places.push(callee.at)?;
     }
     Ok(())
@@ -47,38 +45,42 @@ fn push_callee(
 /// The places, and behind them those where an expression has state.
 #[cycle(states)]
 #[tactic(auto, using(lus_tree::proofs::Views::form_views))]
-fn push_state(places: &mut Vec<Pos>, program: &Program, e: &Expr) -> Result<(), AllocError>
-    ensures { IfOk result (λ _. PlacesOn places.old.items places.new.items (states (program_view program.now) (expr_view e.now))) }
+fn push_state(
+    places: &mut Vec<Pos>,
+    declarations: &Declarations<'_>,
+    e: &Expr,
+) -> Result<(), AllocError>
+    ensures { IfOk result (λ _. PlacesOn places.old.items places.new.items (states (program_view declarations.now) (expr_view e.now))) }
 {
     match &e.form {
-        Form::Not(a) | Form::Minus(a) | Form::When(a, _, _) => push_state(places, program, a),
+        Form::Not(a) | Form::Minus(a) | Form::When(a, _, _) => push_state(places, declarations, a),
         Form::Pre(_, a) => {
             places.push(e.at)?;
-            push_state(places, program, a)
+            push_state(places, declarations, a)
         }
         Form::Arrow(_, a, b) => {
-            push_state(places, program, a)?;
+            push_state(places, declarations, a)?;
             places.push(e.at)?;
-            push_state(places, program, b)
+            push_state(places, declarations, b)
         }
         Form::Binary(_, a, b) | Form::Merge(_, a, b) => {
-            push_state(places, program, a)?;
-            push_state(places, program, b)
+            push_state(places, declarations, a)?;
+            push_state(places, declarations, b)
         }
         Form::If(a, b, c) => {
-            push_state(places, program, a)?;
-            push_state(places, program, b)?;
-            push_state(places, program, c)
+            push_state(places, declarations, a)?;
+            push_state(places, declarations, b)?;
+            push_state(places, declarations, c)
         }
         Form::Call(_, callee, arguments) => {
-            push_callee(places, program, callee)?;
-            push_state_among(places, program, arguments)
+            push_callee(places, declarations, callee)?;
+            push_state_among(places, declarations, arguments)
         }
         Form::Condact(_, a, _, arguments, defaults) => {
             places.push(e.at)?;
-            push_state(places, program, a)?;
-            push_state_among(places, program, arguments)?;
-            push_state_among(places, program, defaults)
+            push_state(places, declarations, a)?;
+            push_state_among(places, declarations, arguments)?;
+            push_state_among(places, declarations, defaults)
         }
         Form::Truth(_) | Form::Number(_) | Form::Name(_) | Form::ModeName(_, _) => Ok(()),
     }
@@ -88,14 +90,14 @@ fn push_state(places: &mut Vec<Pos>, program: &Program, e: &Expr) -> Result<(), 
 #[cycle(states)]
 fn push_state_among(
     places: &mut Vec<Pos>,
-    program: &Program,
+    declarations: &Declarations<'_>,
     values: &[Expr],
 ) -> Result<(), AllocError>
     ensures { IfOk result (λ _. PlacesOn places.old.items places.new.items
-        (states_among (program_view program.now) (joined (exprs_view values.now)))) }
+        (states_among (program_view declarations.now) (joined (exprs_view values.now)))) }
 {
     for value in values {
-        push_state(places, program, value)?;
+        push_state(places, declarations, value)?;
     }
     Ok(())
 }
@@ -103,15 +105,15 @@ fn push_state_among(
 /// The places, and behind them those where these labelled expressions have state.
 fn push_state_labelled(
     places: &mut Vec<Pos>,
-    program: &Program,
+    declarations: &Declarations<'_>,
     labelled: &[Named],
 ) -> Result<(), AllocError>
     ensures { IfOk result
         (λ _. PlacesOn places.old.items places.new.items
-        (states_in (program_view program.now) (values_of (map named_view labelled.now)))) }
+        (states_in (program_view declarations.now) (values_of (map named_view labelled.now)))) }
 {
     for named in labelled {
-        push_state(places, program, &named.value)?;
+        push_state(places, declarations, &named.value)?;
     }
     Ok(())
 }
@@ -119,15 +121,15 @@ fn push_state_labelled(
 /// The places, and behind them those where the values of these constants have state.
 fn push_state_constants(
     places: &mut Vec<Pos>,
-    program: &Program,
+    declarations: &Declarations<'_>,
     constants: &[Definition],
 ) -> Result<(), AllocError>
     ensures { IfOk result
         (λ _. PlacesOn places.old.items places.new.items
-        (states_in (program_view program.now) (constant_sides (map definition_view constants.now)))) }
+        (states_in (program_view declarations.now) (constant_sides (map definition_view constants.now)))) }
 {
     for constant in constants {
-        push_state(places, program, &constant.value)?;
+        push_state(places, declarations, &constant.value)?;
     }
     Ok(())
 }
@@ -135,14 +137,14 @@ fn push_state_constants(
 /// The places, and behind them those where the arguments of an import have state.
 fn push_state_arguments(
     places: &mut Vec<Pos>,
-    program: &Program,
+    declarations: &Declarations<'_>,
     arguments: &[Expr],
 ) -> Result<(), AllocError>
     ensures { IfOk result (λ _. PlacesOn places.old.items places.new.items
-        (states_in (program_view program.now) (map expr_view arguments.now))) }
+        (states_in (program_view declarations.now) (map expr_view arguments.now))) }
 {
     for argument in arguments {
-        push_state(places, program, argument)?;
+        push_state(places, declarations, argument)?;
     }
     Ok(())
 }
@@ -150,25 +152,27 @@ fn push_state_arguments(
 /// The places, and behind them those where an item of a contract has state.
 fn push_state_contract_item(
     places: &mut Vec<Pos>,
-    program: &Program,
+    declarations: &Declarations<'_>,
     item: &ContractItem,
 ) -> Result<(), AllocError>
     ensures { IfOk result
         (λ _. PlacesOn places.old.items places.new.items
-        (states_in (program_view program.now) (contract_sides (contract_item_view item.now)))) }
+        (states_in (program_view declarations.now) (contract_sides (contract_item_view item.now)))) }
 {
     match item {
         ContractItem::Assume(named) | ContractItem::Guarantee(named) => {
-            push_state(places, program, &named.value)
+            push_state(places, declarations, &named.value)
         }
-        ContractItem::Ghost(_, value) => push_state(places, program, value),
-        ContractItem::Constant(constant) => push_state(places, program, &constant.value),
+        ContractItem::Ghost(_, value) => push_state(places, declarations, value),
+        ContractItem::Constant(constant) => push_state(places, declarations, &constant.value),
         ContractItem::Mode(_, required, ensured) => {
-            push_state_labelled(places, program, required)?;
-            push_state_labelled(places, program, ensured)
+            push_state_labelled(places, declarations, required)?;
+            push_state_labelled(places, declarations, ensured)
         }
         ContractItem::Import(_, _, arguments, _) => push_state_arguments(
-            places, program, arguments,
+            places,
+            declarations,
+            arguments,
         ),
     }
 }
@@ -176,28 +180,32 @@ fn push_state_contract_item(
 /// The places, and behind them those where the items of a contract have state.
 fn push_state_contract(
     places: &mut Vec<Pos>,
-    program: &Program,
+    declarations: &Declarations<'_>,
     items: &[ContractItem],
 ) -> Result<(), AllocError>
     ensures { IfOk result
         (λ _. PlacesOn places.old.items places.new.items
-        (states_in (program_view program.now) (flat_map contract_sides (map contract_item_view items.now)))) }
+        (states_in (program_view declarations.now) (flat_map contract_sides (map contract_item_view items.now)))) }
 {
     for item in items {
-        push_state_contract_item(places, program, item)?;
+        push_state_contract_item(places, declarations, item)?;
     }
     Ok(())
 }
 
 /// The places, and behind them those where an item of a body has state.
-fn push_state_item(places: &mut Vec<Pos>, program: &Program, item: &Item) -> Result<(), AllocError>
+fn push_state_item(
+    places: &mut Vec<Pos>,
+    declarations: &Declarations<'_>,
+    item: &Item,
+) -> Result<(), AllocError>
     ensures { IfOk result
         (λ _. PlacesOn places.old.items places.new.items
-        (states_in (program_view program.now) (statement_sides (item_view item.now)))) }
+        (states_in (program_view declarations.now) (statement_sides (item_view item.now)))) }
 {
     match item {
-        Item::Equation(_, value) | Item::Assert(value) => push_state(places, program, value),
-        Item::Property(named) => push_state(places, program, &named.value),
+        Item::Equation(_, value) | Item::Assert(value) => push_state(places, declarations, value),
+        Item::Property(named) => push_state(places, declarations, &named.value),
         Item::Main(_) => Ok(()),
     }
 }
@@ -205,27 +213,31 @@ fn push_state_item(places: &mut Vec<Pos>, program: &Program, item: &Item) -> Res
 /// The places, and behind them those where the items of a body have state.
 fn push_state_body(
     places: &mut Vec<Pos>,
-    program: &Program,
+    declarations: &Declarations<'_>,
     items: &[Item],
 ) -> Result<(), AllocError>
     ensures { IfOk result
         (λ _. PlacesOn places.old.items places.new.items
-        (states_in (program_view program.now) (flat_map statement_sides (map item_view items.now)))) }
+        (states_in (program_view declarations.now) (flat_map statement_sides (map item_view items.now)))) }
 {
     for item in items {
-        push_state_item(places, program, item)?;
+        push_state_item(places, declarations, item)?;
     }
     Ok(())
 }
 
 /// Where a declaration has state.
-fn places_of(alloc: Global, program: &Program, owner: Owner<'_>) -> Result<Vec<Pos>, AllocError>
-    ensures { IfOk result (λ v. v.items ≡ gathered (state_in (program_view program.now)) (owner_view owner.entry)) }
+fn places_of(
+    alloc: Global,
+    declarations: &Declarations<'_>,
+    owner: Owner<'_>,
+) -> Result<Vec<Pos>, AllocError>
+    ensures { IfOk result (λ v. v.items ≡ gathered (state_in (program_view declarations.now)) (owner_view owner.entry)) }
 {
     let mut places = Vec::new(alloc);
-    push_state_contract(&mut places, program, owner.contract())?;
-    push_state_constants(&mut places, program, owner.constants())?;
-    push_state_body(&mut places, program, owner.body())?;
+    push_state_contract(&mut places, declarations, owner.contract())?;
+    push_state_constants(&mut places, declarations, owner.constants())?;
+    push_state_body(&mut places, declarations, owner.body())?;
     Ok(places)
 }
 
@@ -245,15 +257,15 @@ fn note_places(least: &mut Least, places: &[Pos])
 /// Want of memory.
 pub(crate) fn state(
     alloc: Global,
-    program: &Program,
+    declarations: &Declarations<'_>,
     least: &mut Least,
     owner: Owner<'_>,
 ) -> Result<(), AllocError>
     ensures { IfOk result (λ _. least_view least.new ≡ noted_all (least_view least.old)
-        (state_faults (program_view program.now) (owner_view owner.entry))) }
+        (state_faults (program_view declarations.now) (owner_view owner.entry))) }
 {
     if owner.is_function() {
-        let places = places_of(alloc, program, owner)?;
+        let places = places_of(alloc, declarations, owner)?;
         note_places(least, &places);
     }
     Ok(())

@@ -51,9 +51,10 @@ impl Typed {
         &self.program
     }
 
-    /// The program alone.
+    /// The same program.
     pub fn into_program(self) -> Program
-        ensures { program_view result ≡ program_view self }
+        ensures same { program_view result ≡ program_view self }
+        ensures typed { IsTyped (program_view result) }
     {
         self.program
     }

@@ -7,10 +7,12 @@ ghost use Rattle.lus_meaning.specs.Scope.{constants_declared, entries_from};
 ghost use Rattle.lus_meaning.specs.NameFaults.{recursion_faults, typing_faults};
 ghost use Rattle.lus_types.specs.Declarations.{alone_from};
 ghost use Rattle.lus_types.specs.Entries.{AreOrdered};
+ghost use Rattle.lus_scopes.specs.declared.scope.Extent.TheVariants.{All};
 ghost use Rattle.lus_scopes.specs.Least.{IsLeast, least_view};
 ghost use Rattle.lus_scopes.specs.Notes.{Notes};
-ghost use Rattle.lus_scopes.specs.Scopes.{entry_view};
+ghost use Rattle.lus_scopes.specs.Scopes.{entry_view, layer_view};
 ghost use Rattle.lus_types.specs.Homes.{declared_view};
+ghost use Rattle.lus_scopes.specs.Meanings.{IsTable};
 
 use crate::component::{constants_after, declaration};
 use crate::entries::entries;
@@ -19,8 +21,10 @@ use crate::program_rules::{constant_words, declarations_twice, note_no_node};
 use crate::recursion::{graph_of, recursion};
 use crate::repeated::texts_of;
 use crate::setting::Setting;
+use lus_scopes::declarations::Declarations;
+use lus_scopes::layer::Layer;
 use lus_scopes::least::Least;
-use lus_scopes::scope::{Entry, Extent, Layer};
+use lus_scopes::names::Names;
 use lus_tree::{Decl, Program};
 use std::alloc::{AllocError, Global};
 
@@ -47,16 +51,17 @@ fn constants_declared(alloc: Global, program: &Program) -> Result<Vec<Declared<'
 }
 
 /// Notes the faults of declarations, but for those of circles.
-fn declarations(
+fn all_declarations(
     alloc: Global,
     setting: Setting<'_, '_>,
     least: &mut Least,
+    decls: &[Decl],
 ) -> Result<(), AllocError>
     ensures { IfOk result (λ _. Notes (least_view least.old) (least_view least.new)
-        (alone_from (program_view setting.entry.program.now) 0 (program_view setting.entry.program.now))) }
+        (alone_from (program_view setting.entry.declarations.now) 0 (map decl_view decls.now))) }
 {
     let mut known = 0;
-    for decl in &setting.program.decls {
+    for decl in decls {
         declaration(alloc, setting, least, known, decl)?;
         known = constants_after(known, decl);
     }
@@ -67,47 +72,82 @@ fn declarations(
 /// constants mean.
 fn with_constants<'a>(
     alloc: Global,
-    program: &'a Program,
-    constants: &'a [Entry<'a>],
+    declarations: &'a Declarations<'a>,
+    constants: Layer<'a>,
+    nothing: Layer<'a>,
     least: &mut Least,
 ) -> Result<(), AllocError>
-    requires entries { map (entry_view Extent.All false) constants.now
-        ≡ entries_from (program_view program.now) [] [] (constants_declared (program_view program.now)) }
-    requires order { AreOrdered 0 constants.now }
+    requires entries { map (entry_view All false) constants.entries.now
+        ≡ entries_from (program_view declarations.now) [] [] (constants_declared (program_view declarations.now)) }
+    requires order { AreOrdered 0 constants.entries.now }
+    requires nothing { layer_view nothing false ≡ [] }
     ensures { IfOk result (λ _. Notes (least_view least.old) (least_view least.new)
-        (alone_from (program_view program.now) 0 (program_view program.now))) }
+        (alone_from (program_view declarations.now) 0 (program_view declarations.now))) }
 {
-    let words = constant_words(alloc, program)?;
+    let words = constant_words(alloc, declarations.program())?;
     let seen = texts_of(alloc, &words)?;
-    let setting = Setting::new(program, constants, &words, &seen);
-    declarations(alloc, setting, least)?;
+    let setting = Setting::new(declarations, constants, nothing, &words, &seen);
+    all_declarations(alloc, setting, least, &declarations.program().decls)?;
     Ok(())
 }
 
-/// Notes the faults of all declarations of a program, but for those of circles.
-fn alone(alloc: Global, program: &Program, least: &mut Least) -> Result<(), AllocError>
-    ensures { IfOk result (λ _. Notes (least_view least.old) (least_view least.new)
-        (alone_from (program_view program.now) 0 (program_view program.now))) }
+/// What the constants of a program mean.
+fn constants_of<'a>(
+    alloc: Global,
+    declarations: &'a Declarations<'a>,
+    nothing: Layer<'a>,
+) -> Result<Names<'a>, AllocError>
+    requires { layer_view nothing false ≡ [] }
+    ensures entries { IfOk result (λ n. map (entry_view All false) n.entries.items
+        ≡ entries_from (program_view declarations.now) [] [] (constants_declared (program_view declarations.now))) }
+    ensures order { IfOk result (λ n. AreOrdered 0 n.entries.items) }
+    ensures table { IfOk result (λ n. IsTable n.entries.items n.table) }
 {
-    let outer = Layer {
-        entries: &[],
-        extent: Extent::All,
-    };
-    let declared = constants_declared(alloc, program)?;
-    let constants = entries(alloc, program, outer, &declared)?;
-    with_constants(alloc, program, &constants, least)
+    let declared = constants_declared(alloc, declarations.program())?;
+    entries(alloc, declarations, nothing, &declared)
+}
+
+/// Notes the faults of all declarations of a program, but for those of circles.
+fn alone(
+    alloc: Global,
+    declarations: &Declarations<'_>,
+    least: &mut Least,
+) -> Result<(), AllocError>
+    ensures { IfOk result (λ _. Notes (least_view least.old) (least_view least.new)
+        (alone_from (program_view declarations.now) 0 (program_view declarations.now))) }
+{
+    let none = Names::new(alloc);
+    let nothing = none.layer();
+    let constants = constants_of(alloc, declarations, nothing)?;
+    with_constants(alloc, declarations, constants.layer(), nothing, least)
 }
 
 /// Notes the calls and imports of a program that are on circles of declarations.
-fn circles(alloc: Global, program: &Program, least: &mut Least) -> Result<(), AllocError>
+fn circles(
+    alloc: Global,
+    declarations: &Declarations<'_>,
+    least: &mut Least,
+) -> Result<(), AllocError>
     ensures { IfOk result (λ _. Notes (least_view least.old) (least_view least.new)
-        (flat_map (recursion_faults (program_view program.now)) (components (program_view program.now)))) }
+        (flat_map (recursion_faults (program_view declarations.now)) (components (program_view declarations.now)))) }
 {
-    let graph = graph_of(alloc, program)?;
+    let graph = graph_of(alloc, declarations)?;
     for number in 0..graph.rows.len() {
         recursion(alloc, &graph, least, number)?;
     }
     Ok(())
+}
+
+/// The least of a program's faults of names, types and numbers.
+fn least_fault(alloc: Global, declarations: &Declarations<'_>) -> Result<Least, AllocError>
+    ensures { IfOk result (λ l. IsLeast (least_view l) (typing_faults (program_view declarations.now))) }
+{
+    let mut least = Least::new();
+    note_no_node(&mut least, declarations.program());
+    declarations_twice(alloc, &mut least, declarations.program())?;
+    alone(alloc, declarations, &mut least)?;
+    circles(alloc, declarations, &mut least)?;
+    Ok(least)
 }
 
 /// The first fault of a program's names, types and numbers.
@@ -118,10 +158,6 @@ fn circles(alloc: Global, program: &Program, least: &mut Least) -> Result<(), Al
 pub(crate) fn first_fault(alloc: Global, program: &Program) -> Result<Least, AllocError>
     ensures { IfOk result (λ l. IsLeast (least_view l) (typing_faults (program_view program.now))) }
 {
-    let mut least = Least::new();
-    note_no_node(&mut least, program);
-    declarations_twice(alloc, &mut least, program)?;
-    alone(alloc, program, &mut least)?;
-    circles(alloc, program, &mut least)?;
-    Ok(least)
+    let declarations = Declarations::of(alloc, program)?;
+    least_fault(alloc, &declarations)
 }

@@ -8,9 +8,9 @@ use Rattle.lus_types.proofs.Stateless.{gathered_states, three_steps}
 use Rattle.lus_types.proofs.state.places_of.Goals as goal
 
 pub returns : goal.returns
-returns c = rw (gathered_states (program_view c.args.program.now) (owner_view c.args.owner)) (three_steps
+returns c = rw (gathered_states (program_view c.args.declarations.now) (owner_view c.args.owner)) (three_steps
     c.push_state_contract.new.places.items c.push_state_constants.new.places.items c.push_state_body.new.places.items
-    (states_in (program_view c.args.program.now) (flat_map contract_sides (contract_statements (owner_view c.args.owner))))
-    (states_in (program_view c.args.program.now) (constant_sides (owner_view c.args.owner).constants))
-    (states_in (program_view c.args.program.now) (flat_map statement_sides (owner_view c.args.owner).body))
+    (states_in (program_view c.args.declarations.now) (flat_map contract_sides (contract_statements (owner_view c.args.owner))))
+    (states_in (program_view c.args.declarations.now) (constant_sides (owner_view c.args.owner).constants))
+    (states_in (program_view c.args.declarations.now) (flat_map statement_sides (owner_view c.args.owner).body))
     (search rules) (search rules) (search rules))

@@ -4,5 +4,5 @@ use Rattle.lus_types.specs.States.{states_in}
 use Rattle.lus_types.proofs.state.push_state_arguments.Given as goal
 
 abbrev pub invariant-loop-argument : goal.invariant-loop-argument
-invariant-loop-argument l = l.places.items ++ states_in (program_view l.program) (map expr_view (drop l.argument-index l.arguments))
-    ≡ l.initial.places.items ++ states_in (program_view l.program) (map expr_view l.arguments)
+invariant-loop-argument l = l.places.items ++ states_in (program_view l.declarations) (map expr_view (drop l.argument-index l.arguments))
+    ≡ l.initial.places.items ++ states_in (program_view l.declarations) (map expr_view l.arguments)

@@ -7,5 +7,5 @@ use Rattle.lus_types.proofs.walk.circles.Given as goal
 
 abbrev pub invariant-loop-number : goal.invariant-loop-number
 invariant-loop-number l =
-    OnTheWay (recursion_faults (program_view l.program)) (components (program_view l.program)) l.number (least_view l.initial.least)
+    OnTheWay (recursion_faults (program_view l.declarations)) (components (program_view l.declarations)) l.number (least_view l.initial.least)
     (least_view l.least)

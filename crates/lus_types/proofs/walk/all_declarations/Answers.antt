@@ -1,0 +1,20 @@
+use Rattle.std.proofs.Common.{arith, subst, sym, ◌+◌, ◌≤◌}
+use Rattle.lus_tree.specs.View.{decl_view, program_view}
+use Rattle.lus_scopes.specs.Least.{least_view}
+use Rattle.lus_types.proofs.Circled.{after_most, declarations_end, declarations_next}
+use Rattle.lus_types.proofs.walk.all_declarations.Goals as goal
+
+pub loop-decl-preserved : goal.loop-decl-preserved
+loop-decl-preserved c = record {
+  within = subst (λ k. k ≤ c.loop-decl.decl-index + 1) (sym c.constants_after-known.ensures)
+      (after_most (decl_view c.decl-item.result) c.loop-decl.known c.loop-decl.decl-index c.loop-decl.invariant.within);
+  noted = declarations_next (program_view c.args.setting.declarations.now) c.args.decls.now c.loop-decl.decl-index c.decl-item.result
+      c.loop-decl.known c.constants_after-known.result (least_view c.args.least.now) (least_view c.loop-decl.least)
+      (least_view c.declaration.new.least) (omega arith) c.decl-item.is c.loop-decl.invariant.noted c.constants_after-known.ensures
+      c.in_ok-declaration.ensures;
+}
+
+pub returns : goal.returns
+returns c =
+    declarations_end (program_view c.args.setting.declarations.now) c.args.decls.now c.loop-decl.decl-index c.loop-decl.known
+    (least_view c.args.least.now) (least_view c.loop-decl.least) (omega arith) c.loop-decl.invariant.noted
