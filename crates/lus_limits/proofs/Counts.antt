@@ -3,13 +3,13 @@ use Rattle.std.proofs.Common.{◌≡◌, ℕ, zero, suc, pred, ◌+◌, List, []
 use Rattle.std.specs.Prelude.{min}
 use Rattle.std.proofs.lemmas.Grind.{flat_map-append}
 use Rattle.lus_tree.specs.Tree.{Name, Statement, equation, assertion, property, main_mark, ContractStatement, assume, guarantee, ghost_variable, constant, mode, «import», Component, Program}
-use Rattle.lus_meaning.specs.Scene.{Manner, plain, while_true, as_import, Site, Instance, Instances, instance, no_instances, with_instance, component_of, contract_statements}
+use Rattle.lus_meaning.specs.Scene.{Manner, plain, while_true, as_import, Site, Instance, Instances, instance, contract_statements}
 use Rattle.lus_meaning.specs.Program.{all_sites, constants_in, instances_with, instance_of}
 use Rattle.lus_meaning.specs.Contract.{Property, ModeTerms, Terms, no_terms, imported, imported_mode, mode_terms, terms_after, terms, terms_each}
 use Rattle.lus_meaning.specs.Property.{body_properties, one_mode, owed, owed_by_site, owed_by_calls, properties}
 use Rattle.lus_meaning.proofs.Exists.{length_mapped}
-use Rattle.lus_limits.specs.Instances.{callee, instance_called_so}
-use Rattle.lus_limits.specs.Counts.{Counts, none_counted, with_counts, counted, statement_counts, contract_counts, counts_at, callee_counts, ContractByText, body_count, owed_count, owed_counts, property_count, PropertiesByText, cut_counts, CountCuts, PropertyCuts}
+use Rattle.lus_limits.specs.Instances.{instance_called_so}
+use Rattle.lus_limits.specs.Counts.{Counts, none_counted, with_counts, counted, contract_counts, counts_at, callee_counts, ContractByText, body_count, owed_count, owed_counts, property_count, PropertiesByText, cut_counts, CountCuts, PropertyCuts}
 use Rattle.lus_limits.proofs.Instances.{made_of_callees}
 
 same_counts : (a b : Counts) → a.assumes ≡ b.assumes → a.guarantees ≡ b.guarantees → a.ensures ≡ b.ensures → a.modes ≡ b.modes → a ≡ b

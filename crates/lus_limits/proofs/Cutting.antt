@@ -1,9 +1,7 @@
 -- Cut sums.
-use Rattle.std.proofs.Common.{◌≡◌, ℕ, suc, ◌+◌, List, ◌++◌, length, length-append, ◌∙◌, arith}
-use Rattle.std.specs.Prelude.{min}
-use Rattle.lus_tree.specs.Tree.{Variable, ContractStatement, Statement, Component}
+use Rattle.std.proofs.Common.{◌≡◌, ℕ, suc, ◌+◌, List, ◌++◌, length, length-append, arith}
+use Rattle.lus_tree.specs.Tree.{Variable, Component}
 use Rattle.lus_meaning.specs.Scene.{ghosts, contract_statements, variables}
-use Rattle.lus_limits.specs.Counts.{Counts, body_count, property_count}
 use Rattle.lus_limits.specs.Summaries.{cut}
 
 -- a sum so far, cut, with one part more that is cut, and what is to come

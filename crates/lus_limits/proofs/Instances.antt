@@ -1,15 +1,13 @@
 -- An unfolded instance of a declaration is made of those of its callees.
-use Rattle.std.proofs.Common.{◌≡◌, ℕ, List, [], ◌∷◌, length, Option, Some, unwrap_or, refl, sym, ap, ◌∙◌, subst}
-use Rattle.std.specs.Prelude.{Contains}
+use Rattle.std.proofs.Common.{◌≡◌, List, [], ◌∷◌, length, Some, unwrap_or, refl, sym, ap, ◌∙◌}
 use Rattle.lus_tree.specs.Tree.{Component, Program}
 use Rattle.lus_meaning.specs.Scene.{Site, Instance, Instances, instance, no_instances, with_instance, component_of, no_component}
 use Rattle.lus_meaning.specs.Program.{all_sites, component_named, constants_in, instances_with, instance_of}
-use Rattle.lus_meaning.specs.ClockFaults.{components}
 use Rattle.lus_meaning.specs.Refusals.{IsChecked}
 use Rattle.rule_laws.specs.Laws.{IsUnfolded, AreUnfolded}
 use Rattle.rule_laws.proofs.Unfolded.{component_within, each_unfolded}
 use Rattle.rule_laws.proofs.Covered.{found_declared, one_instance}
-use Rattle.lus_limits.specs.Instances.{callee, instance_called_so, MadeOfCallees}
+use Rattle.lus_limits.specs.Instances.{instance_called_so, MadeOfCallees}
 
 pub component_called : (p : Program) (n : Component) → component_of (instance_of p n) ≡ n
 component_called p n = component_within (length p) p n

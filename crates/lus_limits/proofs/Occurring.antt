@@ -5,7 +5,7 @@ use Rattle.std.proofs.lemmas.Grind.{flat_map-append}
 use Rattle.lus_tree.specs.Tree.{Spelled, Expression, Expressions, truth, number, name, negation, minus, pre, arrow, binary, choice, sampled, merged, call, condact, mode_name, no_more, more, Constant, Labelled, Statement, equation, assertion, property, main_mark, ContractStatement, assume, guarantee, ghost_variable, constant, mode, «import», Component}
 use Rattle.lus_tree.specs.declared.expression.Expr.{Expr}
 use Rattle.lus_tree.specs.View.{exprs_view, joined}
-use Rattle.lus_meaning.specs.Scene.{base, clock_of, contract_statements, sampled_by, Site}
+use Rattle.lus_meaning.specs.Scene.{base, clock_of, contract_statements, sampled_by}
 use Rattle.lus_meaning.specs.Occurrences.{Occurrence, Standing, Text, before, constant_texts, contract_statement_texts, gathered, moved, occurrences, occurrences_among, on_base, on_clock, statement_texts, texts, within}
 use Rattle.lus_meaning.specs.Program.{listed, site_in, import_site}
 use Rattle.lus_meaning.proofs.Lists.{map_append}

@@ -1,15 +1,15 @@
 -- The sizes of terms by those of callees.
-use Rattle.std.proofs.Common.{◌≡◌, ℕ, zero, suc, pred, ◌+◌, Bool, true, false, ◌||◌, List, [], ◌∷◌, ◌++◌, map, slice_index_or, refl, sym, ap, ◌∙◌, arith}
+use Rattle.std.proofs.Common.{◌≡◌, ℕ, suc, pred, ◌+◌, Bool, true, false, ◌||◌, List, [], ◌∷◌, ◌++◌, map, slice_index_or, refl, sym, ap, ◌∙◌, arith}
 use Rattle.std.specs.Prelude.{min, max}
 use Rattle.std.specs.List.{list_any}
 use Rattle.std.proofs.lemmas.List.Folds.{list_any-append}
-use Rattle.lus_tree.specs.Tree.{Name, ContractStatement, assume, guarantee, ghost_variable, constant, mode, «import», Component, Program}
-use Rattle.lus_meaning.specs.Scene.{Manner, Site, Instance, Instances, instance, no_instances, with_instance, component_of, contract_statements}
+use Rattle.lus_tree.specs.Tree.{Name, Component, Program}
+use Rattle.lus_meaning.specs.Scene.{Site, Instance, instance, component_of, contract_statements}
 use Rattle.lus_meaning.specs.Program.{all_sites, constants_in, instances_with, instance_of}
 use Rattle.lus_meaning.specs.Depends.{from_caller}
 use Rattle.lus_meaning.specs.Sizes.{Size, beside, above, ModeSizes, ContractSizes, no_sizes, sizes_after, contract_sizes, contract_sizes_each, own_sizes, site_sizes, frame_sizes, call_sizes, property_sizes, some_of, owed_sizes, owed_by_sites, term_sizes}
 use Rattle.lus_limits.specs.Instances.{callee, instance_called_so}
-use Rattle.lus_limits.specs.Sizes.{sizes_at, callee_sizes, ContractSizesByText, frame_passes, sites_pass, FramesByText, owed_pass, own_pass, TermsByText, cut_size, BesideCuts, AboveCuts}
+use Rattle.lus_limits.specs.Sizes.{sizes_at, callee_sizes, ContractSizesByText, sites_pass, FramesByText, owed_pass, own_pass, TermsByText, cut_size, BesideCuts, AboveCuts}
 use Rattle.lus_limits.proofs.Instances.{component_called, made_of_callees}
 
 -- what is made of a declaration's text and of its callees

@@ -1,15 +1,14 @@
 -- What callers need of a declaration is known from its text and what is needed of its callees.
-use Rattle.std.proofs.Common.{◌≡◌, ℕ, zero, suc, pred, ◌+◌, Bool, true, false, cond, not, List, [], ◌∷◌, ◌++◌, map, flat_map, length, length-append, slice_index_or, Option, Some, None, refl, sym, ap, ◌∙◌, subst, arith}
-use Rattle.std.specs.Prelude.{min, is_none, Contains}
-use Rattle.std.proofs.lemmas.Grind.{flat_map-append}
-use Rattle.lus_tree.specs.Numbers.{a_pre, an_arrow, arrow_number, pre_number, all_numbers, import_number, numbers_in, are_counted, IsNumbered}
-use Rattle.lus_tree.specs.Tree.{Expression, Expressions, truth, number, name, negation, minus, pre, arrow, binary, choice, sampled, merged, call, condact, mode_name, no_more, more, Statement, ContractStatement, assume, guarantee, ghost_variable, constant, mode, «import», Component, declared_constant, declared_node, declared_contract, Program}
-use Rattle.lus_meaning.specs.Scene.{base, clock_of, sampled_by, Manner, plain, while_true, as_import, Site, Instance, Instances, instance, component_of, contract_statements, variables}
+use Rattle.std.proofs.Common.{◌≡◌, ℕ, zero, suc, pred, ◌+◌, true, false, not, List, [], ◌∷◌, ◌++◌, map, flat_map, length, length-append, slice_index_or, Option, Some, None, refl, sym, ap, ◌∙◌, subst, arith}
+use Rattle.std.specs.Prelude.{is_none, Contains}
+use Rattle.lus_tree.specs.Numbers.{a_pre, an_arrow, arrow_number, pre_number, all_numbers, import_number, are_counted, IsNumbered}
+use Rattle.lus_tree.specs.Tree.{Expression, Expressions, truth, number, name, negation, minus, pre, arrow, binary, choice, sampled, merged, call, condact, mode_name, no_more, more, ContractStatement, assume, guarantee, ghost_variable, constant, mode, «import», Component, Program}
+use Rattle.lus_meaning.specs.Scene.{clock_of, sampled_by, Manner, plain, while_true, as_import, Site, Instance, instance, component_of, contract_statements, variables}
 use Rattle.lus_meaning.specs.Program.{in_order, all_sites, instance_of}
-use Rattle.lus_meaning.specs.Occurrences.{Occurrence, Standing, Text, before, moved, within, occurrences, occurrences_among, texts, gathered, Memory, Start, memory_in, start_in, memories, starts}
+use Rattle.lus_meaning.specs.Occurrences.{Occurrence, Standing, Text, before, moved, within, occurrences, occurrences_among, texts, Memory, Start, memory_in, start_in, memories, starts}
 use Rattle.lus_meaning.specs.Contract.{terms}
 use Rattle.lus_meaning.specs.Property.{properties}
-use Rattle.lus_meaning.specs.Slots.{Cell, Slot, slot, name_cell, memory_cell, start_cell, contract_cells, own_cells, held_cells, slots_in, call_slots}
+use Rattle.lus_meaning.specs.Slots.{Cell, slot, name_cell, memory_cell, start_cell, contract_cells, own_cells, held_cells, slots_in, call_slots}
 use Rattle.lus_meaning.specs.ClockFaults.{components}
 use Rattle.lus_meaning.specs.Refusals.{IsChecked}
 use Rattle.lus_meaning.specs.RuleLaws.{sites_width}
@@ -18,16 +17,14 @@ use Rattle.lus_meaning.proofs.InOrder.{in_order_length}
 use Rattle.lus_meaning.proofs.Lists.{append_none}
 use Rattle.lus_meaning.proofs.Numbering.{memory_numbers, start_numbers}
 use Rattle.rule_laws.proofs.Places.{numbered}
-use Rattle.lus_limits.specs.declared.calls.Way.{Way}
-use Rattle.lus_limits.specs.declared.calls.Way.TheVariants.{Plain, Condition, Import}
 use Rattle.lus_limits.specs.declared.summing.Summary.{Summary}
 use Rattle.lus_limits.specs.declared.summing.Link.{Link}
 use Rattle.lus_limits.specs.Calls.{way_of}
 use Rattle.lus_limits.specs.Counts.{Counts, none_counted, with_counts, counted, statement_counts, contract_counts, counts_at, callee_counts, owed_count, owed_counts, property_count, cut_counts}
-use Rattle.lus_limits.specs.Instances.{callee, instance_called_so}
+use Rattle.lus_limits.specs.Instances.{callee}
 use Rattle.lus_limits.specs.Parts.{sides}
 use Rattle.lus_limits.specs.Widths.{frame_width}
-use Rattle.lus_limits.specs.Summaries.{bound, cut, counts_view, as_code, summary_of, link_of, state_count, states_among, states_in, own_count, sofar_count, links_width, owed_of, links_owed, link_counts, counts_by, summary_by, SummaryByText}
+use Rattle.lus_limits.specs.Summaries.{bound, cut, counts_view, as_code, link_of, state_count, states_among, states_in, own_count, sofar_count, links_width, owed_of, links_owed, link_counts, counts_by, SummaryByText}
 use Rattle.lus_limits.proofs.Instances.{component_called}
 use Rattle.lus_limits.proofs.Widths.{width_by_text}
 use Rattle.lus_limits.proofs.Counts.{contract_by_text, properties_by_text, count_cuts, property_cuts}

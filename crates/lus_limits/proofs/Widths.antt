@@ -1,11 +1,11 @@
 -- The width of a frame by the widths of its callees' frames.
-use Rattle.std.proofs.Common.{◌≡◌, ℕ, zero, suc, ◌+◌, List, [], ◌∷◌, ◌++◌, map, length, length-append, refl, sym, ap, ◌∙◌, arith}
+use Rattle.std.proofs.Common.{◌≡◌, ℕ, ◌+◌, List, [], ◌∷◌, ◌++◌, map, length, length-append, refl, sym, ap, ◌∙◌, arith}
 use Rattle.std.specs.Prelude.{min}
-use Rattle.lus_tree.specs.Tree.{Name, Component, Program}
-use Rattle.lus_meaning.specs.Scene.{Manner, plain, Site, Instance, instance, Instances, no_instances, with_instance, component_of}
+use Rattle.lus_tree.specs.Tree.{Component, Program}
+use Rattle.lus_meaning.specs.Scene.{Manner, Site, Instance, instance, component_of}
 use Rattle.lus_meaning.specs.Program.{all_sites, constants_in, instances_with, instance_of}
 use Rattle.lus_meaning.specs.Slots.{Slot, slot, own_cells, held_cells, slots_in, call_slots}
-use Rattle.lus_meaning.specs.RuleLaws.{sites_width, width_within}
+use Rattle.lus_meaning.specs.RuleLaws.{sites_width}
 use Rattle.lus_meaning.proofs.Exists.{length_mapped}
 use Rattle.lus_meaning.proofs.Widths.{frame_width as width_of_frame}
 use Rattle.lus_limits.specs.Instances.{callee, instance_called_so}

@@ -1,7 +1,6 @@
 -- The calls and imports of a declaration, as far as widths and counts need them.
 use Rattle.std.specs.Prelude.{ℕ, suc, List, [], ◌∷◌, ◌++◌, map, flat_map, length, cond, ◌==◌, Option, Some, None, option_map}
-use Rattle.std.specs.Borrow.{Bor}
-use Rattle.lus_tree.specs.Tree.{Name, Spelled, Expression, Expressions, truth, number, name, negation, minus, pre, arrow, binary, choice, sampled, merged, call, condact, mode_name, no_more, more, ContractStatement, assume, guarantee, ghost_variable, constant, mode, «import», Component}
+use Rattle.lus_tree.specs.Tree.{Name, Spelled, Expression, Expressions, truth, number, name, negation, minus, pre, arrow, binary, choice, sampled, merged, call, condact, mode_name, no_more, more, ContractStatement, «import», Component}
 use Rattle.lus_tree.specs.View.{word_view}
 use Rattle.lus_meaning.specs.Scene.{Manner, plain, while_true, as_import, Site, contract_statements}
 use Rattle.lus_meaning.specs.Program.{listed}

@@ -1,6 +1,6 @@
 -- How many properties a declaration has, by its own text and what is counted of its callees' contracts.
 use Rattle.std.specs.Prelude.{◌≡◌, ℕ, suc, pred, ◌+◌, min, List, [], ◌∷◌, map, flat_map, length, slice_index_or}
-use Rattle.lus_tree.specs.Tree.{Name, Statement, property, ContractStatement, assume, guarantee, ghost_variable, constant, mode, «import», Component, Program}
+use Rattle.lus_tree.specs.Tree.{Name, Statement, property, ContractStatement, assume, guarantee, ghost_variable, constant, mode, «import», Program}
 use Rattle.lus_meaning.specs.Scene.{Manner, plain, while_true, as_import, Site, contract_statements}
 use Rattle.lus_meaning.specs.Program.{all_sites, instance_of}
 use Rattle.lus_meaning.specs.Contract.{Terms, terms}

@@ -1,8 +1,8 @@
 -- Whether a term passes a limit, by the declaration's own text and what is known of its callees.
-use Rattle.std.specs.Prelude.{◌≡◌, ℕ, pred, min, Bool, false, ◌||◌, nat_lt, List, [], ◌∷◌, map, slice_index_or}
+use Rattle.std.specs.Prelude.{◌≡◌, ℕ, pred, min, Bool, false, ◌||◌, List, [], ◌∷◌, map, slice_index_or}
 use Rattle.std.specs.List.{list_any}
 use Rattle.lus_tree.specs.Tree.{Name, Component, Program}
-use Rattle.lus_meaning.specs.Scene.{Manner, plain, while_true, as_import, Site, Instance, component_of, contract_statements}
+use Rattle.lus_meaning.specs.Scene.{Site, contract_statements}
 use Rattle.lus_meaning.specs.Program.{all_sites, instance_of}
 use Rattle.lus_meaning.specs.Depends.{from_caller}
 use Rattle.lus_meaning.specs.Sizes.{Size, beside, above, ModeSizes, ContractSizes, no_sizes, sizes_after, contract_sizes, own_sizes, site_sizes, frame_sizes, property_sizes, some_of, owed_sizes, term_sizes}

@@ -1,6 +1,6 @@
 -- What callers need of a declaration, cut at a bound past all limits of widths and counts, and the same by its own text.
-use Rattle.std.specs.Prelude.{◌≡◌, ℕ, suc, pred, ◌+◌, min, Bool, true, false, cond, not, is_none, List, [], ◌∷◌, map, flat_map, length, slice_index_or}
-use Rattle.lus_tree.specs.Tree.{Expression, Expressions, truth, number, name, negation, minus, pre, arrow, binary, choice, sampled, merged, call, condact, mode_name, no_more, more, Statement, ContractStatement, assume, guarantee, ghost_variable, constant, mode, «import», Component, Program}
+use Rattle.std.specs.Prelude.{◌≡◌, ℕ, suc, pred, ◌+◌, min, Bool, cond, not, is_none, List, [], ◌∷◌, map, length, slice_index_or}
+use Rattle.lus_tree.specs.Tree.{Expression, Expressions, truth, number, name, negation, minus, pre, arrow, binary, choice, sampled, merged, call, condact, mode_name, no_more, more, Component, Program}
 use Rattle.lus_meaning.specs.Scene.{as_import, Site, contract_statements, variables}
 use Rattle.lus_meaning.specs.Program.{all_sites, instance_of}
 use Rattle.lus_meaning.specs.Contract.{terms}
@@ -13,7 +13,7 @@ use Rattle.lus_limits.specs.declared.summing.ItemCounts.{ItemCounts}
 use Rattle.lus_limits.specs.declared.summing.Summary.{Summary}
 use Rattle.lus_limits.specs.declared.summing.Link.{Link}
 use Rattle.lus_limits.specs.Calls.{way_of}
-use Rattle.lus_limits.specs.Counts.{Counts, none_counted, with_counts, counted, body_count, contract_counts, property_count, cut_counts}
+use Rattle.lus_limits.specs.Counts.{Counts, none_counted, counted, contract_counts, property_count, cut_counts}
 use Rattle.lus_limits.specs.Instances.{callee}
 use Rattle.lus_limits.specs.Parts.{sides}
 use Rattle.lus_limits.specs.Widths.{frame_width}

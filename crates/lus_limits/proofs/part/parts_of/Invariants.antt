@@ -1,4 +1,4 @@
-use Rattle.std.proofs.Common.{◌≡◌, ◌++◌, drop, map, flat_map}
+use Rattle.std.proofs.Common.{◌≡◌, ◌++◌, drop, map}
 use Rattle.lus_tree.specs.View.{decl_view}
 use Rattle.lus_meaning.specs.ClockFaults.{components}
 use Rattle.lus_limits.specs.Parts.{part_view}

@@ -1,4 +1,4 @@
-use Rattle.std.proofs.Common.{◌≡◌, ◌+◌, drop, map}
+use Rattle.std.proofs.Common.{◌≡◌, ◌+◌, drop}
 use Rattle.lus_tree.specs.View.{exprs_view, joined}
 use Rattle.lus_limits.specs.Summaries.{cut, states_among}
 use Rattle.lus_limits.proofs.summing.+states.Given as goal

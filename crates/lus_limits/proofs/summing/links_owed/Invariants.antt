@@ -1,4 +1,4 @@
-use Rattle.std.proofs.Common.{◌≡◌, ◌+◌, drop, map}
+use Rattle.std.proofs.Common.{◌≡◌, ◌+◌, drop}
 use Rattle.lus_limits.specs.Summaries.{cut, links_owed}
 use Rattle.lus_limits.proofs.summing.links_owed.Given as goal
 

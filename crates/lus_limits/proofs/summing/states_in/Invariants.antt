@@ -1,4 +1,4 @@
-use Rattle.std.proofs.Common.{◌≡◌, ◌+◌, drop, map}
+use Rattle.std.proofs.Common.{◌≡◌, ◌+◌, drop}
 use Rattle.lus_limits.specs.Parts.{sides_view}
 use Rattle.lus_limits.specs.Summaries.{cut, states_in}
 use Rattle.lus_limits.proofs.summing.states_in.Given as goal

@@ -1,4 +1,4 @@
-use Rattle.std.proofs.Common.{◌≡◌, ◌++◌, drop, map, flat_map}
+use Rattle.std.proofs.Common.{◌≡◌, ◌++◌, drop, map}
 use Rattle.lus_tree.specs.View.{named_view}
 use Rattle.lus_limits.specs.Parts.{sides_view, values_of}
 use Rattle.lus_limits.proofs.texts.push_labelled.Given as goal
