@@ -7,8 +7,8 @@ use Rattle.lus_tree.specs.View.{expr_view, joined}
 use Rattle.lus_tree.specs.Reason.{Refused}
 use Rattle.lus_meaning.specs.Scene.{Clock, base, sampled_by}
 use Rattle.lus_meaning.specs.ClockFaults.{clock_in, clock_among, or_else, stands_on}
-use Rattle.lus_types.specs.Least.{noted_all}
-use Rattle.lus_types.proofs.Leasts.{noted_append}
+use Rattle.lus_scopes.specs.Least.{noted_all}
+use Rattle.lus_scopes.proofs.Leasts.{noted_append}
 use Rattle.lus_clocks.specs.declared.found.Part.{Part}
 use Rattle.lus_clocks.specs.Clocks.{clocks_seen}
 use Rattle.lus_clocks.specs.Parts.{IsPart, stand_notes, fit_notes, fits_on}

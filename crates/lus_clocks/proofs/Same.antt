@@ -6,10 +6,10 @@ use Rattle.lus_meaning.specs.Scene.{base, clock_of_names, contract_statements}
 use Rattle.lus_meaning.specs.Occurrences.{begin}
 use Rattle.lus_meaning.specs.Faults.{if_so}
 use Rattle.lus_meaning.specs.ClockFaults.{clock_faults, clock_faults_of, component_clock_faults, contract_statement_clock_faults, statement_clock_faults, side_faults, all_on_base}
-use Rattle.lus_types.specs.Least.{IsLeast, noted_all}
-use Rattle.lus_types.proofs.Alike.{AreSame, least_same}
-use Rattle.lus_types.proofs.Leasts.{least_of_all}
-use Rattle.lus_types.proofs.Walks.{failing, failing_append}
+use Rattle.lus_scopes.specs.Least.{IsLeast, noted_all}
+use Rattle.lus_scopes.proofs.Alike.{AreSame, least_same}
+use Rattle.lus_scopes.proofs.Leasts.{least_of_all}
+use Rattle.lus_scopes.proofs.Walks.{failing, failing_append}
 use Rattle.lus_clocks.specs.Items.{some_other, placed_walk, side_walk, labelled_walk, contract_statement_walk, statement_walk, component_walk, declaration_walk}
 use Rattle.lus_clocks.proofs.Walks.{placed}
 

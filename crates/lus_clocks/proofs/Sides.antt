@@ -7,8 +7,8 @@ use Rattle.lus_tree.specs.Reason.{Refused, clock_clash}
 use Rattle.lus_meaning.specs.Scene.{Clock, clock_of_names}
 use Rattle.lus_meaning.specs.Occurrences.{begin}
 use Rattle.lus_meaning.specs.Faults.{if_so}
-use Rattle.lus_types.specs.Least.{noted_all}
-use Rattle.lus_types.proofs.Leasts.{noted_append}
+use Rattle.lus_scopes.specs.Least.{noted_all}
+use Rattle.lus_scopes.proofs.Leasts.{noted_append}
 use Rattle.lus_clocks.specs.Items.{placed_walk, side_walk, some_other}
 use Rattle.lus_clocks.proofs.Arms.{two}
 use Rattle.lus_clocks.proofs.Begins.{begins}

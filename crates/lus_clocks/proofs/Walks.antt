@@ -7,7 +7,7 @@ use Rattle.lus_meaning.specs.Scene.{Clock, sampled_by, clock_of}
 use Rattle.lus_meaning.specs.Program.{listed}
 use Rattle.lus_meaning.specs.Occurrences.{Standing, on_clock, within, before, moved, Occurrence, occurs, occurrences, occurrences_among}
 use Rattle.lus_meaning.specs.ClockFaults.{clock_in, clock_among, or_else, stands_on, all_on, clock_form_faults, clock_faults_of}
-use Rattle.lus_types.proofs.Walks.{failing, failing_append}
+use Rattle.lus_scopes.proofs.Walks.{failing, failing_append}
 use Rattle.lus_clocks.specs.Parts.{fits_on}
 use Rattle.lus_clocks.specs.Walk.{pair_own, triple_own, pair_clock, triple_clock, branches_own, condition_own, walk, walk_among, walk_each}
 

@@ -5,7 +5,7 @@ ghost use Rattle.lus_tree.specs.Tree.{text_of};
 ghost use Rattle.lus_tree.specs.View.{expr_view, word_view};
 ghost use Rattle.lus_meaning.specs.ClockFaults.{same_clock};
 ghost use Rattle.lus_meaning.specs.Scene.{clock_of, clock_of_names};
-ghost use Rattle.lus_types.specs.Least.{least_view, noted_all};
+ghost use Rattle.lus_scopes.specs.Least.{least_view, noted_all};
 ghost use Rattle.lus_clocks.specs.Clocks.{clock_seen};
 ghost use Rattle.lus_clocks.specs.Items.{placed_walk, side_walk, some_other};
 ghost use Rattle.lus_clocks.specs.Names.{names_view};
@@ -15,7 +15,7 @@ use crate::names::Names;
 use crate::notes::stands_on;
 use crate::part::part;
 use lus_tree::{Expr, PlacedName, What};
-use lus_types::least::Least;
+use lus_scopes::least::Least;
 
 /// Notes the faults of an expression at a place of this clock.
 pub(crate) fn placed(names: Names<'_>, least: &mut Least, clock: Clock<'_>, e: &Expr)

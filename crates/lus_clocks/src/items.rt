@@ -3,7 +3,7 @@
 ghost use Rattle.std.specs.Prelude.{◌≡◌, ◌++◌, flat_map, map};
 ghost use Rattle.lus_tree.specs.View.{contract_item_view, exprs_view, item_view, named_view};
 ghost use Rattle.lus_meaning.specs.Scene.{base};
-ghost use Rattle.lus_types.specs.Least.{least_view, noted_all};
+ghost use Rattle.lus_scopes.specs.Least.{least_view, noted_all};
 ghost use Rattle.lus_clocks.specs.Items.{component_walk, contract_statement_walk, labelled_walk, placed_walk, statement_walk};
 ghost use Rattle.lus_clocks.specs.Names.{names_view};
 
@@ -11,7 +11,7 @@ use crate::clock::Clock;
 use crate::equation::{equation, placed};
 use crate::names::Names;
 use lus_tree::{ContractItem, Expr, Item, Named};
-use lus_types::least::Least;
+use lus_scopes::least::Least;
 
 /// Notes the faults of an item of a body.
 fn statement(names: Names<'_>, least: &mut Least, item: &Item)
@@ -27,7 +27,7 @@ fn statement(names: Names<'_>, least: &mut Least, item: &Item)
 }
 
 /// Notes the faults of the items of a body.
-#[tactic(auto, using(lus_types::proofs::Leasts::noted_append))]
+#[tactic(auto, using(lus_scopes::proofs::Leasts::noted_append))]
 fn statements(names: Names<'_>, least: &mut Least, items: &[Item])
     ensures { least_view least.new ≡ noted_all (least_view least.old)
         (flat_map (statement_walk (names_view names.entry)) (map item_view items.now)) }
@@ -38,7 +38,7 @@ fn statements(names: Names<'_>, least: &mut Least, items: &[Item])
 }
 
 /// Notes the faults of expressions with labels.
-#[tactic(auto, using(lus_types::proofs::Leasts::noted_append))]
+#[tactic(auto, using(lus_scopes::proofs::Leasts::noted_append))]
 fn labelled(names: Names<'_>, least: &mut Least, all: &[Named])
     ensures { least_view least.new ≡ noted_all (least_view least.old)
         (labelled_walk (names_view names.entry) (map named_view all.now)) }
@@ -49,7 +49,7 @@ fn labelled(names: Names<'_>, least: &mut Least, all: &[Named])
 }
 
 /// Notes the faults of expressions on the base clock.
-#[tactic(auto, using(lus_types::proofs::Leasts::noted_append))]
+#[tactic(auto, using(lus_scopes::proofs::Leasts::noted_append))]
 fn arguments(names: Names<'_>, least: &mut Least, all: &[Expr])
     ensures { least_view least.new ≡ noted_all (least_view least.old)
         (flat_map (placed_walk (names_view names.entry) base) (exprs_view all.now)) }
@@ -60,7 +60,7 @@ fn arguments(names: Names<'_>, least: &mut Least, all: &[Expr])
 }
 
 /// Notes the faults of an item of a contract.
-#[tactic(auto, using(lus_types::proofs::Leasts::noted_append))]
+#[tactic(auto, using(lus_scopes::proofs::Leasts::noted_append))]
 fn contract_item(names: Names<'_>, least: &mut Least, item: &ContractItem)
     ensures { least_view least.new ≡ noted_all (least_view least.old)
         (contract_statement_walk (names_view names.entry) (contract_item_view item.now)) }
@@ -79,7 +79,7 @@ fn contract_item(names: Names<'_>, least: &mut Least, item: &ContractItem)
 }
 
 /// Notes the faults of the items of a contract.
-#[tactic(auto, using(lus_types::proofs::Leasts::noted_append))]
+#[tactic(auto, using(lus_scopes::proofs::Leasts::noted_append))]
 fn contract_items(names: Names<'_>, least: &mut Least, items: &[ContractItem])
     ensures { least_view least.new ≡ noted_all (least_view least.old)
         (flat_map (contract_statement_walk (names_view names.entry)) (map contract_item_view items.now)) }
@@ -90,7 +90,7 @@ fn contract_items(names: Names<'_>, least: &mut Least, items: &[ContractItem])
 }
 
 /// Notes the faults of a declaration.
-#[tactic(auto, using(lus_types::proofs::Leasts::noted_append))]
+#[tactic(auto, using(lus_scopes::proofs::Leasts::noted_append))]
 pub(crate) fn component(names: Names<'_>, least: &mut Least)
     ensures { least_view least.new ≡ noted_all (least_view least.old) (component_walk (names_view names.entry)) }
 {

@@ -4,14 +4,14 @@ ghost use Rattle.std.specs.Prelude.{◌≡◌, ◌++◌, false, true};
 ghost use Rattle.lus_tree.specs.View.{word_view};
 ghost use Rattle.lus_meaning.specs.ClockFaults.{is_other, or_else};
 ghost use Rattle.lus_meaning.specs.Scene.{sampled_by};
-ghost use Rattle.lus_types.specs.Least.{least_view, noted_all};
+ghost use Rattle.lus_scopes.specs.Least.{least_view, noted_all};
 ghost use Rattle.lus_clocks.specs.Clocks.{clock_seen, clocks_seen};
 ghost use Rattle.lus_clocks.specs.Parts.{fit_notes, stand_notes};
 
 use crate::clock::{Clock, is_same, or_else};
 use crate::found::Part;
 use lus_tree::{PlacedName, What};
-use lus_types::least::Least;
+use lus_scopes::least::Least;
 
 /// Whether a clock that is known is another one.
 fn is_other(wanted: Clock<'_>, clock: Option<Clock<'_>>) -> bool
@@ -40,7 +40,7 @@ pub(crate) fn fits_on(least: &mut Least, wanted: Option<Clock<'_>>, part: &Part<
 }
 
 /// Notes two parts that aren't on one clock, and gives that clock.
-#[tactic(auto, using(lus_types::proofs::Leasts::noted_append))]
+#[tactic(auto, using(lus_scopes::proofs::Leasts::noted_append))]
 pub(crate) fn pair<'a>(least: &mut Least, first: &Part<'a>, second: &Part<'a>) -> Option<Clock<'a>>
     ensures clock { clocks_seen result ≡ or_else (clocks_seen first.now.clock) (clocks_seen second.now.clock) }
     ensures least { least_view least.new ≡ noted_all (least_view least.old)
@@ -53,7 +53,7 @@ pub(crate) fn pair<'a>(least: &mut Least, first: &Part<'a>, second: &Part<'a>) -
 }
 
 /// Notes three parts that aren't on one clock, and gives that clock.
-#[tactic(auto, using(lus_types::proofs::Leasts::noted_append))]
+#[tactic(auto, using(lus_scopes::proofs::Leasts::noted_append))]
 pub(crate) fn triple<'a>(
     least: &mut Least,
     first: &Part<'a>,
@@ -73,7 +73,7 @@ pub(crate) fn triple<'a>(
 }
 
 /// Notes branches of a merge that aren't on the two clocks of its word.
-#[tactic(auto, using(lus_types::proofs::Leasts::noted_append))]
+#[tactic(auto, using(lus_scopes::proofs::Leasts::noted_append))]
 pub(crate) fn branches(least: &mut Least, word: &PlacedName, on: &Part<'_>, off: &Part<'_>)
     ensures { least_view least.new ≡ noted_all (least_view least.old)
         (stand_notes (sampled_by true (word_view word.now).text) on.now

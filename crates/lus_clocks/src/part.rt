@@ -4,7 +4,7 @@ ghost use Rattle.std.specs.Prelude.{◌≡◌, ◌++◌, None};
 ghost use Rattle.lus_tree.specs.Tree.{Place};
 ghost use Rattle.lus_tree.specs.View.{expr_view, exprs_view, form_view, joined};
 ghost use Rattle.lus_meaning.specs.ClockFaults.{clock_among, clock_in, or_else};
-ghost use Rattle.lus_types.specs.Least.{least_view, noted_all};
+ghost use Rattle.lus_scopes.specs.Least.{least_view, noted_all};
 ghost use Rattle.lus_clocks.specs.Clocks.{clocks_seen};
 ghost use Rattle.lus_clocks.specs.Names.{names_view};
 ghost use Rattle.lus_clocks.specs.Parts.{IsPart, fits_on};
@@ -15,7 +15,7 @@ use crate::found::Part;
 use crate::names::Names;
 use crate::notes::{branches, fits_on, pair, stands_on, triple};
 use lus_tree::{Expr, Form};
-use lus_types::least::Least;
+use lus_scopes::least::Least;
 
 /// Notes the faults of an expression, and gives what is known of it. The faults of its parts are
 /// noted before its own.

@@ -5,16 +5,16 @@ ghost use Rattle.lus_tree.specs.Reason.{refusal_view};
 ghost use Rattle.lus_tree.specs.View.{decl_view, program_view};
 ghost use Rattle.lus_meaning.specs.Faults.{IsFirst};
 ghost use Rattle.lus_meaning.specs.Refusals.{HasNone, IsClockFault};
-ghost use Rattle.lus_types.specs.Least.{least_view, noted_all};
+ghost use Rattle.lus_scopes.specs.Least.{least_view, noted_all};
 ghost use Rattle.lus_clocks.specs.Items.{component_walk, declaration_walk};
 
 use crate::items::component;
 use crate::names::{Names, Owner};
 use lus_tree::{Decl, Program, Refusal};
-use lus_types::least::Least;
+use lus_scopes::least::Least;
 
 /// Notes the faults of a declaration with parts.
-#[tactic(auto, using(lus_types::proofs::Leasts::noted_append))]
+#[tactic(auto, using(lus_scopes::proofs::Leasts::noted_append))]
 fn declaration(least: &mut Least, decl: &Decl)
     ensures { least_view least.new ≡ noted_all (least_view least.old) (declaration_walk (decl_view decl.now)) }
 {
@@ -36,7 +36,7 @@ fn declaration(least: &mut Least, decl: &Decl)
 }
 
 /// Notes the faults of declarations.
-#[tactic(auto, using(lus_types::proofs::Leasts::noted_append))]
+#[tactic(auto, using(lus_scopes::proofs::Leasts::noted_append))]
 fn declarations(least: &mut Least, decls: &[Decl])
     ensures { least_view least.new ≡ noted_all (least_view least.old)
         (flat_map declaration_walk (map decl_view decls.now)) }

@@ -18,13 +18,13 @@ use Rattle.lus_types.specs.declared.recursion.Graph.{Graph}
 use Rattle.lus_types.specs.Called.{names_behind, row_of}
 use Rattle.lus_types.specs.Circles.{IsGraph}
 use Rattle.lus_types.specs.Declarations.{after, alone_faults, alone_from, alone_of}
-use Rattle.lus_types.specs.Least.{IsLeast, noted_all}
+use Rattle.lus_scopes.specs.Least.{IsLeast, noted_all}
 use Rattle.lus_types.specs.Marks.{row_view}
-use Rattle.lus_types.specs.Notes.{Notes}
-use Rattle.lus_types.proofs.Leasts.{least_of_all}
-use Rattle.lus_types.proofs.Loops.{OnTheWay, dropped, way_next, way_end}
-use Rattle.lus_types.proofs.Noting.{all_noted, alike_noted, both_noted, nothing_noted}
-use Rattle.lus_types.proofs.Walks.{failing, failing_append}
+use Rattle.lus_scopes.specs.Notes.{Notes}
+use Rattle.lus_scopes.proofs.Leasts.{least_of_all}
+use Rattle.lus_scopes.proofs.Loops.{OnTheWay, dropped, way_next, way_end}
+use Rattle.lus_scopes.proofs.Noting.{all_noted, alike_noted, both_noted, nothing_noted}
+use Rattle.lus_scopes.proofs.Walks.{failing, failing_append}
 
 -- ---- circles
 

@@ -12,10 +12,10 @@ use Rattle.lus_meaning.specs.Program.{contract_statement_constants}
 use Rattle.lus_meaning.specs.Scope.{Home, Scope, body_scope, constant_scope, contract_statement_scope, import_names, mode_names, scope_with}
 use Rattle.lus_meaning.specs.NameFaults.{body_faults, clock_words, contract_faults, contract_statement_faults, local_constant_faults, statement_faults}
 use Rattle.lus_types.specs.Before.{Earlier, earlier, one_behind}
-use Rattle.lus_types.specs.Notes.{Notes}
-use Rattle.lus_types.proofs.Loops.{dropped}
-use Rattle.lus_types.proofs.Noting.{all_noted, both_noted, nothing_noted, second_first}
-use Rattle.lus_types.specs.Least.{noted_all}
+use Rattle.lus_scopes.specs.Notes.{Notes}
+use Rattle.lus_scopes.proofs.Loops.{dropped}
+use Rattle.lus_scopes.proofs.Noting.{all_noted, both_noted, nothing_noted, second_first}
+use Rattle.lus_scopes.specs.Least.{noted_all}
 
 -- ---- one more
 

@@ -19,8 +19,8 @@ use Rattle.name_table.proofs.Names.{itself}
 use Rattle.name_table.proofs.Numbers.{name_of_number, number_below}
 use Rattle.lus_types.specs.Called.{link_of}
 use Rattle.lus_types.specs.Given.{IsGiven, output_names}
-use Rattle.lus_types.specs.Least.{IsLeast, noted_all}
-use Rattle.lus_types.proofs.Leasts.{least_noted_all}
+use Rattle.lus_scopes.specs.Least.{IsLeast, noted_all}
+use Rattle.lus_scopes.proofs.Leasts.{least_noted_all}
 use Rattle.lus_types.specs.Marks.{Link, has_open, is_backed, is_free, is_marked, is_open, leads_on}
 use Rattle.lus_types.specs.Reads.{Reading, added, ghost_readings, is_given, names_read, read_among, read_faults, read_in, reading_row, seeded}
 use Rattle.lus_types.proofs.Callees.{split}

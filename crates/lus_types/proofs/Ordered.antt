@@ -5,20 +5,21 @@ use Rattle.std.proofs.lemmas.Bool.Decides.{nat_tests}
 use Rattle.std.proofs.lemmas.List.{map-append, length-map}
 use Rattle.lus_tree.specs.View.{definition_view, program_view}
 use Rattle.lus_meaning.specs.Scope.{Entry, Scope, own_names, entries_from, entry_for, names_only, first_constants, known_after, left_after, hide_local}
-use Rattle.lus_types.specs.declared.scope.Role.TheVariants.{Input, Output, Local, Ghost}
-use Rattle.lus_types.specs.declared.scope.Meaning.{Meaning}
-use Rattle.lus_types.specs.declared.scope.Meaning.TheVariants.{Stream, Constant}
-use Rattle.lus_types.specs.declared.scope.Extent.{Extent}
-use Rattle.lus_types.specs.declared.scope.Extent.TheVariants.{All, First}
-use Rattle.lus_types.specs.declared.scope.Entry.{Entry as CodeEntry}
+use Rattle.lus_scopes.specs.declared.scope.Role.TheVariants.{Input, Output, Local, Ghost}
+use Rattle.lus_scopes.specs.declared.scope.Meaning.{Meaning}
+use Rattle.lus_scopes.specs.declared.scope.Meaning.TheVariants.{Stream, Constant}
+use Rattle.lus_scopes.specs.declared.scope.Extent.{Extent}
+use Rattle.lus_scopes.specs.declared.scope.Extent.TheVariants.{All, First}
+use Rattle.lus_scopes.specs.declared.scope.Entry.{Entry as CodeEntry}
 use Rattle.lus_types.specs.Entries.{AreOrdered, behind, behind_all}
 use Rattle.lus_tree.specs.Tree.{Program}
-use Rattle.lus_types.specs.declared.scope.Declared.{Declared as CodeDeclared}
-use Rattle.lus_types.proofs.Loops.{dropped}
+use Rattle.lus_types.specs.declared.naming.Declared.{Declared as CodeDeclared}
+use Rattle.lus_scopes.proofs.Loops.{dropped}
 use Rattle.lus_types.specs.declared.home.Home.{Home}
 use Rattle.lus_types.specs.declared.before.Before.{Before}
 use Rattle.lus_types.specs.Before.{earlier_view, home_view, scope_at}
-use Rattle.lus_types.specs.Scopes.{entry_view, meaning_view, known_as, declared_view, is_reached, owner_view, scope_view}
+use Rattle.lus_scopes.specs.Scopes.{entry_view, meaning_view, known_as, is_reached, owner_view, scope_view}
+use Rattle.lus_types.specs.Homes.{declared_view}
 
 -- ---- one more name
 

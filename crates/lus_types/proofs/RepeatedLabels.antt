@@ -15,11 +15,11 @@ use Rattle.name_table.specs.Names.{add}
 use Rattle.name_table.proofs.Names.{in_joined}
 use Rattle.lus_types.specs.declared.labels.Label.{Label}
 use Rattle.lus_types.specs.Labels.{HasLabels, label_view, labels_view, tags_from_last}
-use Rattle.lus_types.specs.Least.{noted_all}
-use Rattle.lus_types.specs.Notes.{Notes}
-use Rattle.lus_types.proofs.Leasts.{noted_append}
-use Rattle.lus_types.proofs.Walks.{failing, failing_append}
-use Rattle.lus_types.proofs.Alike.{AreSame, least_behind}
+use Rattle.lus_scopes.specs.Least.{noted_all}
+use Rattle.lus_scopes.specs.Notes.{Notes}
+use Rattle.lus_scopes.proofs.Leasts.{noted_append}
+use Rattle.lus_scopes.proofs.Walks.{failing, failing_append}
+use Rattle.lus_scopes.proofs.Alike.{AreSame, least_behind}
 use Rattle.lus_types.proofs.CircleFaults.{or_false}
 
 abbrev met : Tag → List Tag → List Refused

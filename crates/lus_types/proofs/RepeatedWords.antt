@@ -8,7 +8,7 @@ use Rattle.std.proofs.lemmas.List.{take_all, length-drop}
 use Rattle.lus_tree.specs.declared.place.PlacedName.{PlacedName}
 use Rattle.lus_tree.specs.View.{word_view}
 use Rattle.lus_types.specs.Words.{words_view}
-use Rattle.lus_types.proofs.Leasts.{noted_append}
+use Rattle.lus_scopes.proofs.Leasts.{noted_append}
 use Rattle.lus_tree.specs.Tree.{Name, Spelled, text_of}
 use Rattle.lus_tree.specs.Reason.{Refused, name_twice}
 use Rattle.lus_meaning.specs.Depends.{named_in}
@@ -17,10 +17,10 @@ use Rattle.lus_meaning.specs.NameFaults.{outer_twice}
 use Rattle.lus_meaning.proofs.Unique.{same_bytes}
 use Rattle.name_table.specs.Names.{add}
 use Rattle.name_table.proofs.Names.{in_joined}
-use Rattle.lus_types.specs.Least.{IsLeast, noted_all}
+use Rattle.lus_scopes.specs.Least.{IsLeast, noted_all}
 use Rattle.lus_types.specs.Repeated.{HasSeen, twice_from_last}
-use Rattle.lus_types.proofs.Walks.{failing, failing_append}
-use Rattle.lus_types.proofs.Alike.{AreSame, least_behind}
+use Rattle.lus_scopes.proofs.Walks.{failing, failing_append}
+use Rattle.lus_scopes.proofs.Alike.{AreSame, least_behind}
 use Rattle.lus_types.proofs.CircleFaults.{or_false}
 
 abbrev met : Spelled → List Spelled → List Refused

@@ -11,10 +11,10 @@ use Rattle.lus_types.specs.declared.marks.Row.{Row as CodeRow}
 use Rattle.lus_types.specs.declared.recursion.Graph.{Graph}
 use Rattle.lus_types.specs.Called.{all_fall, marked_faults, names_behind, row_of}
 use Rattle.lus_types.specs.Circles.{IsGraph, IsLeading}
-use Rattle.lus_types.specs.Least.{IsLeast, noted_all}
+use Rattle.lus_scopes.specs.Least.{IsLeast, noted_all}
 use Rattle.lus_types.specs.Marks.{Row, link_view, row_view}
-use Rattle.lus_types.proofs.Leasts.{least_noted_all}
-use Rattle.lus_types.proofs.Nothing.{nothing_behind}
+use Rattle.lus_scopes.proofs.Leasts.{least_noted_all}
+use Rattle.lus_scopes.proofs.Nothing.{nothing_behind}
 use Rattle.lus_types.proofs.CircleFaults.{faults_found, no_faults}
 
 in_some : (a b : Row) → Some a ≡ Some b → a ≡ b

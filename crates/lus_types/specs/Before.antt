@@ -6,7 +6,7 @@ use Rattle.lus_meaning.specs.Program.{contract_statement_constants}
 use Rattle.lus_meaning.specs.Scope.{Entry, Home, Scope, first_constants, hide_local, mode_names, import_names, own_names}
 use Rattle.lus_types.specs.declared.before.Before.{Before}
 use Rattle.lus_types.specs.declared.home.Home.{Home as CodeHome}
-use Rattle.lus_types.specs.Scopes.{home_of}
+use Rattle.lus_types.specs.Homes.{home_of}
 
 abbrev pub home_view : CodeHome → Home
 home_view h = home_of h.program.now h.owner h.outer

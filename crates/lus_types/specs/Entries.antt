@@ -1,8 +1,8 @@
 -- Lists of names, of which each knows how many constants stand before it.
 use Rattle.std.specs.Prelude.{◌≡◌, ℕ, suc, List, [], ◌∷◌, ⊤}
-use Rattle.lus_types.specs.declared.scope.Meaning.{Meaning}
-use Rattle.lus_types.specs.declared.scope.Meaning.TheVariants.{Stream, Constant}
-use Rattle.lus_types.specs.declared.scope.Entry.{Entry}
+use Rattle.lus_scopes.specs.declared.scope.Meaning.{Meaning}
+use Rattle.lus_scopes.specs.declared.scope.Meaning.TheVariants.{Stream, Constant}
+use Rattle.lus_scopes.specs.declared.scope.Entry.{Entry}
 
 -- how many constants stand before the next name
 abbrev pub behind : Meaning → ℕ → ℕ

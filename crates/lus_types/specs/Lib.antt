@@ -1,13 +1,5 @@
-pub mod Least
-pub mod Notes
-pub mod Cut
-pub mod Worth
-pub mod Scopes
+pub mod Homes
 pub mod Entries
-pub mod Walk
-pub mod Parts
-pub mod Made
-pub mod Sides
 pub mod Before
 pub mod Marks
 pub mod Words

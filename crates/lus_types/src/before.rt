@@ -6,10 +6,10 @@ ghost use Rattle.lus_tree.specs.View.{contract_item_view, definition_view};
 ghost use Rattle.lus_meaning.specs.Program.{contract_statement_constants};
 ghost use Rattle.lus_meaning.specs.Scope.{contract_statement_scope, scope_with};
 ghost use Rattle.lus_types.specs.Before.{earlier, earlier_view, home_view, one_behind, scope_at};
-ghost use Rattle.lus_types.specs.Scopes.{scope_view};
+ghost use Rattle.lus_scopes.specs.Scopes.{scope_view};
 
 use crate::home::Home;
-use crate::scope::{Extent, Layer, Scope};
+use lus_scopes::scope::{Extent, Layer, Scope};
 use lus_tree::{ContractItem, Definition};
 use std::alloc::{AllocError, Global};
 

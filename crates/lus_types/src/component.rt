@@ -4,22 +4,22 @@ ghost use Rattle.std.specs.Prelude.{◌≡◌, ◌<◌, IfOk};
 ghost use Rattle.lus_tree.specs.View.{decl_view, program_view};
 ghost use Rattle.lus_meaning.specs.NameFaults.{constant_words, home};
 ghost use Rattle.lus_types.specs.Declarations.{after, alone_faults, alone_of, inner_faults, marks_twice, own_twice};
-ghost use Rattle.lus_types.specs.Least.{least_view};
-ghost use Rattle.lus_types.specs.Notes.{Notes};
-ghost use Rattle.lus_types.specs.Scopes.{owner_view};
+ghost use Rattle.lus_scopes.specs.Least.{least_view};
+ghost use Rattle.lus_scopes.specs.Notes.{Notes};
+ghost use Rattle.lus_scopes.specs.Scopes.{owner_view};
 
 use crate::declared::declared_in;
 use crate::entries::entries;
-use crate::expression::definition;
 use crate::labels::labels_twice;
-use crate::least::Least;
 use crate::named::with_names;
 use crate::repeated::{outer_twice, words_twice};
 use crate::rules::contract_and_body;
-use crate::scope::Owner;
 use crate::setting::Setting;
 use crate::state::state;
 use crate::words::{mode_words, own_words};
+use lus_scopes::expression::definition;
+use lus_scopes::least::Least;
+use lus_scopes::scope::Owner;
 use lus_tree::Decl;
 use std::alloc::{AllocError, Global};
 
@@ -40,7 +40,7 @@ fn names_twice(
 }
 
 /// Notes the modes and the labels of a declaration that stand twice.
-#[tactic(auto, using(crate::proofs::Noting::both_noted))]
+#[tactic(auto, using(lus_scopes::proofs::Noting::both_noted))]
 fn marks_twice(alloc: Global, least: &mut Least, owner: Owner<'_>) -> Result<(), AllocError>
     ensures { IfOk result (λ _. Notes (least_view least.old) (least_view least.new)
         (marks_twice (owner_view owner.entry))) }

@@ -4,10 +4,12 @@ ghost use Rattle.std.specs.Prelude.{◌≡◌, ◌≤◌, ◌++◌, ◌∷◌, [
 ghost use Rattle.lus_tree.specs.View.{contract_item_view, definition_view, param_view};
 ghost use Rattle.lus_meaning.specs.Scene.{contract_statements};
 ghost use Rattle.lus_meaning.specs.Scope.{a_fixed, a_local, a_stream, contract_statement_names, declared_in, interleaved, is_before, word_of};
-ghost use Rattle.lus_types.specs.Scopes.{declared_view, owner_view, role_view};
+ghost use Rattle.lus_scopes.specs.Scopes.{owner_view, role_view};
+ghost use Rattle.lus_types.specs.Homes.{declared_view};
 
-use crate::least::is_before;
-use crate::scope::{Declared, Owner, Role};
+use crate::naming::Declared;
+use lus_scopes::least::is_before;
+use lus_scopes::scope::{Owner, Role};
 use lus_tree::{ContractItem, Definition, Param, Pos};
 use std::alloc::{AllocError, Global};
 

@@ -1,40 +1,17 @@
 //! What the names of a list mean, each by those before it.
 
 ghost use Rattle.std.specs.Prelude.{◌≡◌, ◌<◌, ◌++◌, IfOk, [], false, true, map};
-ghost use Rattle.lus_tree.specs.View.{definition_view, program_view};
-ghost use Rattle.lus_meaning.specs.Scope.{a_fixed, entries_from, entry_for, given_or_found, names_only};
+ghost use Rattle.lus_tree.specs.View.{program_view};
+ghost use Rattle.lus_meaning.specs.Scope.{entries_from, entry_for, names_only};
 ghost use Rattle.lus_types.specs.Entries.{AreOrdered, behind, behind_all};
-ghost use Rattle.lus_types.specs.Scopes.{declared_view, entry_view, layer_view, meaning_view, scope_view};
+ghost use Rattle.lus_scopes.specs.Scopes.{entry_view, layer_view, meaning_view, scope_view};
+ghost use Rattle.lus_types.specs.Homes.{declared_view};
 
-use crate::least::Least;
-use crate::part::{Manner, part};
-use crate::scope::{Declared, Entry, Extent, Layer, Meaning, Owner, Scope};
-use lus_tree::{Definition, Program, Sort};
+use crate::naming::Declared;
+use lus_scopes::meant::constant;
+use lus_scopes::scope::{Entry, Extent, Layer, Meaning, Owner, Scope};
+use lus_tree::Program;
 use std::alloc::{AllocError, Global};
-
-/// A type that is written, or else the one that was found.
-fn given_or_found(given: Option<Sort>, found: Option<Sort>) -> Option<Sort>
-    ensures { result ≡ given_or_found given found }
-{
-    match given {
-        Some(sort) => Some(sort),
-        None => found,
-    }
-}
-
-/// A constant, with its type and its value by the names before it.
-fn constant<'a>(scope: &Scope<'_>, definition: &'a Definition) -> Meaning<'a>
-    ensures { meaning_view result true ≡ entry_for (scope_view scope.now) (a_fixed (definition_view definition.now)) }
-{
-    let manner = Manner {
-        whole_side: false,
-        constant: true,
-    };
-    let mut unused = Least::new();
-    let found = part(scope, &mut unused, manner, &definition.value);
-    let sort = given_or_found(definition.sort, found.sort);
-    Meaning::Constant(definition, sort, found.worth.value)
-}
 
 /// What a name means by the names before it.
 fn meant<'a>(scope: &Scope<'_>, declared: Declared<'a>) -> Meaning<'a>

@@ -2,10 +2,11 @@
 
 ghost use Rattle.std.specs.Prelude.{◌≡◌, ℕ, false, map};
 ghost use Rattle.lus_meaning.specs.Scope.{first_constants, own_names};
-ghost use Rattle.lus_types.specs.declared.scope.Extent.TheVariants.{First};
-ghost use Rattle.lus_types.specs.Scopes.{entry_view, home_of};
+ghost use Rattle.lus_scopes.specs.declared.scope.Extent.TheVariants.{First};
+ghost use Rattle.lus_scopes.specs.Scopes.{entry_view};
+ghost use Rattle.lus_types.specs.Homes.{home_of};
 
-use crate::scope::{Entry, Layer, Owner};
+use lus_scopes::scope::{Entry, Layer, Owner};
 use lus_tree::Program;
 
 /// A declaration with its names, and the program's constants behind them.

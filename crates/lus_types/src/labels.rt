@@ -6,13 +6,13 @@ ghost use Rattle.lus_tree.specs.View.{contract_item_view, item_view, named_view}
 ghost use Rattle.lus_meaning.specs.Faults.{meets};
 ghost use Rattle.lus_meaning.specs.NameFaults.{assume_tags, ensure_tags, guarantee_tags, labels_twice, property_tags, same_tag, tag, tags_twice};
 ghost use Rattle.lus_types.specs.Labels.{HasLabels, LabelsOn, label_view, labels_view, tags_from_last};
-ghost use Rattle.lus_types.specs.Least.{least_view, noted_all};
-ghost use Rattle.lus_types.specs.Notes.{Notes};
-ghost use Rattle.lus_types.specs.Scopes.{owner_view};
+ghost use Rattle.lus_scopes.specs.Least.{least_view, noted_all};
+ghost use Rattle.lus_scopes.specs.Notes.{Notes};
+ghost use Rattle.lus_scopes.specs.Scopes.{owner_view};
 
-use crate::least::Least;
 use crate::repeated::later;
-use crate::scope::Owner;
+use lus_scopes::least::Least;
+use lus_scopes::scope::Owner;
 use lus_tree::{ContractItem, Item, Named, Pos, What};
 use name_table::NameTable;
 use std::alloc::{AllocError, Global};
@@ -101,7 +101,7 @@ fn note_twice(alloc: Global, least: &mut Least, labels: &[Label<'_>]) -> Result<
 }
 
 /// The labels, and behind them that of an expression.
-#[tactic(auto, using(crate::proofs::Placed::begin_of))]
+#[tactic(auto, using(lus_scopes::proofs::Placed::begin_of))]
 fn push_label<'a>(
     labels: &mut Vec<Label<'a>>,
     of: &'a str,

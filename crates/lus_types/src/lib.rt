@@ -1,28 +1,16 @@
-//! The rules of names, types and numbers.
+//! The rules of names, types and numbers, of declarations and of a program.
 #![tactic(auto)]
 
 mod before;
-mod bodies;
 mod called;
-mod calls;
 mod component;
-mod contracts;
 mod declared;
 mod entries;
-mod equation;
-mod expression;
-mod forms;
-mod found;
 mod home;
-mod imports;
 mod labels;
-pub mod least;
-mod lookup;
 mod marks;
 mod named;
-mod notes;
-mod owner;
-mod part;
+mod naming;
 mod program_rules;
 mod ranks;
 mod reading;
@@ -30,17 +18,10 @@ mod reads;
 mod recursion;
 mod repeated;
 mod rules;
-mod scope;
 mod setting;
-mod sorts;
 mod state;
-mod statement;
 mod typed;
-mod values;
 mod walk;
-mod weights;
 mod words;
-mod worth;
-mod worths;
 
 pub use typed::{Typed, types};

@@ -4,10 +4,11 @@ ghost use Rattle.std.specs.Prelude.{◌≡◌, false, map};
 ghost use Rattle.lus_meaning.specs.Scope.{own_names};
 ghost use Rattle.lus_types.specs.Before.{home_view};
 ghost use Rattle.lus_types.specs.Entries.{AreOrdered};
-ghost use Rattle.lus_types.specs.Scopes.{entry_view, home_of};
+ghost use Rattle.lus_scopes.specs.Scopes.{entry_view};
+ghost use Rattle.lus_types.specs.Homes.{home_of};
 
 use crate::home::Home;
-use crate::scope::{Entry, Extent, Layer, Owner};
+use lus_scopes::scope::{Entry, Extent, Layer, Owner};
 use lus_tree::Program;
 
 /// A declaration with the names that were made for it.

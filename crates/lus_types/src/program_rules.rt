@@ -6,12 +6,12 @@ ghost use Rattle.lus_tree.specs.Reason.{Refused, name_twice, no_node};
 ghost use Rattle.lus_tree.specs.View.{decl_view, program_view, word_view};
 ghost use Rattle.lus_meaning.specs.Faults.{if_so, words_twice};
 ghost use Rattle.lus_meaning.specs.NameFaults.{constant_words, declaration_word, start_of_text};
-ghost use Rattle.lus_types.specs.Least.{least_view, noted_all};
-ghost use Rattle.lus_types.specs.Notes.{Notes};
+ghost use Rattle.lus_scopes.specs.Least.{least_view, noted_all};
+ghost use Rattle.lus_scopes.specs.Notes.{Notes};
 ghost use Rattle.lus_types.specs.Words.{Adds, words_view};
 
-use crate::least::Least;
 use crate::repeated::words_twice;
+use lus_scopes::least::Least;
 use lus_tree::{Decl, PlacedName, Pos, Program, What};
 use std::alloc::{AllocError, Global};
 

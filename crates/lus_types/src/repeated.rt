@@ -5,12 +5,12 @@ ghost use Rattle.lus_tree.specs.Reason.{Refused, name_twice};
 ghost use Rattle.lus_tree.specs.View.{word_view};
 ghost use Rattle.lus_meaning.specs.Faults.{later, meets, same_word, words_twice};
 ghost use Rattle.lus_meaning.specs.NameFaults.{outer_twice};
-ghost use Rattle.lus_types.specs.Least.{least_view, noted_all};
-ghost use Rattle.lus_types.specs.Notes.{Notes};
+ghost use Rattle.lus_scopes.specs.Least.{least_view, noted_all};
+ghost use Rattle.lus_scopes.specs.Notes.{Notes};
 ghost use Rattle.lus_types.specs.Repeated.{HasSeen, twice_from_last};
 ghost use Rattle.lus_types.specs.Words.{words_view};
 
-use crate::least::{Least, is_before};
+use lus_scopes::least::{Least, is_before};
 use lus_tree::{PlacedName, Pos, What};
 use name_table::NameTable;
 use std::alloc::{AllocError, Global};
@@ -131,7 +131,7 @@ fn add_word(
 
 /// Notes each of these words that is a constant of the program, at the later of the two. `seen` has
 /// the texts of the constants.
-#[tactic(auto, using(crate::proofs::Leasts::noted_append))]
+#[tactic(auto, using(lus_scopes::proofs::Leasts::noted_append))]
 pub(crate) fn outer_twice(
     least: &mut Least,
     seen: &NameTable,

@@ -10,16 +10,16 @@ ghost use Rattle.lus_meaning.specs.ExpressionFaults.{definition_faults};
 ghost use Rattle.lus_meaning.specs.NameFaults.{assumption_faults, body_faults, contract_faults, contract_statement_faults, local_constant_faults};
 ghost use Rattle.lus_types.specs.Before.{earlier, earlier_view, home_view, one_behind};
 ghost use Rattle.lus_types.specs.Declarations.{inner_faults};
-ghost use Rattle.lus_types.specs.Least.{least_view};
-ghost use Rattle.lus_types.specs.Notes.{Notes};
+ghost use Rattle.lus_scopes.specs.Least.{least_view};
+ghost use Rattle.lus_scopes.specs.Notes.{Notes};
 
 use crate::before::{Before, body_scope, contract_scope};
-use crate::bodies::{clocks, statements};
-use crate::contracts::contract_item;
-use crate::expression::definition;
 use crate::home::Home;
-use crate::least::Least;
 use crate::reading::assumption;
+use lus_scopes::bodies::{clocks, statements};
+use lus_scopes::contracts::contract_item;
+use lus_scopes::expression::definition;
+use lus_scopes::least::Least;
 use lus_tree::{ContractItem, Definition};
 use std::alloc::{AllocError, Global};
 
@@ -125,7 +125,7 @@ fn body<'a>(
 /// # Errors
 ///
 /// Want of memory.
-#[tactic(auto, using(crate::proofs::Noting::both_noted))]
+#[tactic(auto, using(lus_scopes::proofs::Noting::both_noted))]
 pub(crate) fn contract_and_body(
     alloc: Global,
     home: &Home<'_>,

@@ -4,13 +4,13 @@ ghost use Rattle.std.specs.Prelude.{◌≡◌, ℕ, [], false, map};
 ghost use Rattle.lus_tree.specs.View.{program_view};
 ghost use Rattle.lus_meaning.specs.Scope.{constants_declared, entries_from, outer_names};
 ghost use Rattle.lus_meaning.specs.NameFaults.{constant_words, outer_scope};
-ghost use Rattle.lus_types.specs.declared.scope.Extent.TheVariants.{All, First};
+ghost use Rattle.lus_scopes.specs.declared.scope.Extent.TheVariants.{All, First};
 ghost use Rattle.lus_types.specs.Entries.{AreOrdered};
 ghost use Rattle.lus_types.specs.Repeated.{HasSeen};
-ghost use Rattle.lus_types.specs.Scopes.{entry_view, layer_view, scope_view};
+ghost use Rattle.lus_scopes.specs.Scopes.{entry_view, layer_view, scope_view};
 ghost use Rattle.lus_types.specs.Words.{words_view};
 
-use crate::scope::{Entry, Extent, Layer, Owner, Scope};
+use lus_scopes::scope::{Entry, Extent, Layer, Owner, Scope};
 use lus_tree::{PlacedName, Program};
 use name_table::NameTable;
 

@@ -7,13 +7,13 @@ ghost use Rattle.lus_meaning.specs.Faults.{faults_at};
 ghost use Rattle.lus_meaning.specs.NameFaults.{callee_has_state, state_faults, state_in};
 ghost use Rattle.lus_meaning.specs.Occurrences.{gathered};
 ghost use Rattle.lus_types.specs.Called.{constant_sides, contract_sides, statement_sides, values_of};
-ghost use Rattle.lus_types.specs.Least.{least_view, noted_all};
-ghost use Rattle.lus_types.specs.Scopes.{owner_view};
+ghost use Rattle.lus_scopes.specs.Least.{least_view, noted_all};
+ghost use Rattle.lus_scopes.specs.Scopes.{owner_view};
 ghost use Rattle.lus_types.specs.States.{PlacesOn, callee_state, states, states_among, states_in};
 
-use crate::least::Least;
-use crate::lookup::node;
-use crate::scope::Owner;
+use lus_scopes::least::Least;
+use lus_scopes::lookup::node;
+use lus_scopes::scope::Owner;
 use lus_tree::{
     ContractItem, Definition, Expr, Form, Item, Named, Node, PlacedName, Pos, Program, What,
 };

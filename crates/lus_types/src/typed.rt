@@ -1,9 +1,9 @@
 //! A program whose names, types and numbers are right.
 
-ghost use Rattle.std.specs.Prelude.{◌≡◌, IfErr, IfOk};
-ghost use Rattle.lus_tree.specs.Reason.{refusal_view};
+ghost use Rattle.std.specs.Prelude.{◌≡◌, IfErr, IfOk, IsErr};
+ghost use Rattle.lus_tree.specs.Reason.{Refused, refusal_view};
 ghost use Rattle.lus_tree.specs.View.{program_view};
-ghost use Rattle.lus_meaning.specs.Refusals.{IsTyped};
+ghost use Rattle.lus_meaning.specs.Refusals.{IsTyped, IsTypingFault};
 ghost use Rattle.lus_types.specs.Refusals.{IsRefusal};
 
 use crate::walk::first_fault;
@@ -67,11 +67,12 @@ fn no_memory() -> Refusal
 /// # Errors
 ///
 /// The first of its faults by place, and at one place that of the rule with the smallest number:
-/// `NameTwice` to `Heavy`, and `NodeRecursion` to `NoNode`, and `ModeUnknown`. Or `Memory`. The
-/// program is then dropped.
+/// `NameTwice` to `Heavy`, and `NodeRecursion` to `NoNode`, and `ModeUnknown`. Or `Memory`, at 1:1.
+/// The program is then dropped.
 pub fn types(alloc: Global, program: Program) -> Result<Typed, Refusal>
     ensures same { IfOk result (λ t. program_view t ≡ program_view program) }
     ensures typed { IfOk result (λ _. IsTyped (program_view program)) }
+    ensures faulty { (r : Refused) → IsTypingFault (program_view program) r → IsErr result }
     ensures refused { IfErr result (λ e. IsRefusal (program_view program) (refusal_view e)) }
 {
     match first_fault(alloc, &program) {

@@ -7,18 +7,20 @@ ghost use Rattle.lus_meaning.specs.Scope.{constants_declared, entries_from};
 ghost use Rattle.lus_meaning.specs.NameFaults.{recursion_faults, typing_faults};
 ghost use Rattle.lus_types.specs.Declarations.{alone_from};
 ghost use Rattle.lus_types.specs.Entries.{AreOrdered};
-ghost use Rattle.lus_types.specs.Least.{IsLeast, least_view};
-ghost use Rattle.lus_types.specs.Notes.{Notes};
-ghost use Rattle.lus_types.specs.Scopes.{declared_view, entry_view};
+ghost use Rattle.lus_scopes.specs.Least.{IsLeast, least_view};
+ghost use Rattle.lus_scopes.specs.Notes.{Notes};
+ghost use Rattle.lus_scopes.specs.Scopes.{entry_view};
+ghost use Rattle.lus_types.specs.Homes.{declared_view};
 
 use crate::component::{constants_after, declaration};
 use crate::entries::entries;
-use crate::least::Least;
+use crate::naming::Declared;
 use crate::program_rules::{constant_words, declarations_twice, note_no_node};
 use crate::recursion::{graph_of, recursion};
 use crate::repeated::texts_of;
-use crate::scope::{Declared, Entry, Extent, Layer};
 use crate::setting::Setting;
+use lus_scopes::least::Least;
+use lus_scopes::scope::{Entry, Extent, Layer};
 use lus_tree::{Decl, Program};
 use std::alloc::{AllocError, Global};
 

@@ -5,10 +5,10 @@ ghost use Rattle.lus_tree.specs.View.{contract_item_view, definition_view, param
 ghost use Rattle.lus_meaning.specs.Program.{contract_statement_constants};
 ghost use Rattle.lus_meaning.specs.Scene.{ghosts, variables};
 ghost use Rattle.lus_meaning.specs.NameFaults.{mode_words, own_words};
-ghost use Rattle.lus_types.specs.Scopes.{owner_view};
+ghost use Rattle.lus_scopes.specs.Scopes.{owner_view};
 ghost use Rattle.lus_types.specs.Words.{Adds, words_view};
 
-use crate::scope::Owner;
+use lus_scopes::scope::Owner;
 use lus_tree::{ContractItem, Definition, Param, PlacedName};
 use std::alloc::{AllocError, Global};
 

@@ -1,6 +1,6 @@
 use Rattle.std.proofs.Common.{refl}
 use Rattle.lus_tree.specs.View.{expr_view}
-use Rattle.lus_types.specs.Least.{least_view}
+use Rattle.lus_scopes.specs.Least.{least_view}
 use Rattle.lus_clocks.specs.Clocks.{clock_seen}
 use Rattle.lus_clocks.specs.Names.{names_view}
 use Rattle.lus_clocks.proofs.Arms.{stand_behind}

@@ -1,6 +1,6 @@
 use Rattle.std.proofs.Common.{◌∙◌, ap, map, flat_map, None}
 use Rattle.lus_tree.specs.View.{decl_view, program_view}
-use Rattle.lus_types.specs.Least.{least_view, noted_all}
+use Rattle.lus_scopes.specs.Least.{least_view, noted_all}
 use Rattle.lus_meaning.specs.ClockFaults.{clock_faults}
 use Rattle.lus_clocks.specs.Items.{declaration_walk}
 use Rattle.lus_clocks.proofs.Same.{least_of_program}

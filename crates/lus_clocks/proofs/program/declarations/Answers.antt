@@ -1,7 +1,7 @@
 use Rattle.std.proofs.Common.{arith, ◌∙◌}
 use Rattle.lus_tree.specs.View.{decl_view}
 use Rattle.lus_clocks.specs.Items.{declaration_walk}
-use Rattle.lus_types.specs.Least.{least_view}
+use Rattle.lus_scopes.specs.Least.{least_view}
 use Rattle.lus_clocks.proofs.Sides.{one_more}
 use Rattle.lus_clocks.proofs.program.declarations.Goals as goal
 

@@ -1,7 +1,7 @@
 use Rattle.std.proofs.Common.{◌≡◌, drop, map, flat_map}
 use Rattle.lus_tree.specs.View.{decl_view}
 use Rattle.lus_clocks.specs.Items.{declaration_walk}
-use Rattle.lus_types.specs.Least.{least_view, noted_all}
+use Rattle.lus_scopes.specs.Least.{least_view, noted_all}
 use Rattle.lus_clocks.proofs.program.declarations.Given as goal
 
 -- what was noted, followed by what is to come, is all

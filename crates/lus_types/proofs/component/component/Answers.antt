@@ -1,9 +1,9 @@
 use Rattle.lus_tree.specs.View.{program_view}
 use Rattle.lus_meaning.specs.NameFaults.{constant_words, home, state_faults}
 use Rattle.lus_types.specs.Declarations.{inner_faults, marks_twice, own_twice}
-use Rattle.lus_types.specs.Least.{least_view}
-use Rattle.lus_types.specs.Scopes.{owner_view}
-use Rattle.lus_types.proofs.Noting.{all_noted, four_noted}
+use Rattle.lus_scopes.specs.Least.{least_view}
+use Rattle.lus_scopes.specs.Scopes.{owner_view}
+use Rattle.lus_scopes.proofs.Noting.{all_noted, four_noted}
 use Rattle.lus_types.proofs.component.component.Goals as goal
 
 pub returns : goal.returns

@@ -2,9 +2,9 @@ use Rattle.std.proofs.Common.{List, ap, subst, ◌∙◌}
 use Rattle.lus_tree.specs.View.{program_view}
 use Rattle.lus_meaning.specs.Scope.{Entry, Home}
 use Rattle.lus_types.specs.Declarations.{inner_faults}
-use Rattle.lus_types.specs.Least.{least_view}
-use Rattle.lus_types.specs.Notes.{Notes}
-use Rattle.lus_types.specs.Scopes.{owner_view}
+use Rattle.lus_scopes.specs.Least.{least_view}
+use Rattle.lus_scopes.specs.Notes.{Notes}
+use Rattle.lus_scopes.specs.Scopes.{owner_view}
 use Rattle.lus_types.proofs.component.inner.Goals as goal
 
 pub returns : goal.returns

@@ -1,10 +1,10 @@
 use Rattle.std.proofs.Common.{ap, ◌∙◌}
 use Rattle.lus_tree.specs.View.{program_view}
 use Rattle.lus_meaning.specs.NameFaults.{constant_words, own_words}
-use Rattle.lus_types.specs.Least.{least_view}
-use Rattle.lus_types.specs.Scopes.{owner_view}
+use Rattle.lus_scopes.specs.Least.{least_view}
+use Rattle.lus_scopes.specs.Scopes.{owner_view}
 use Rattle.lus_types.specs.Words.{words_view}
-use Rattle.lus_types.proofs.Noting.{own_noted}
+use Rattle.lus_scopes.proofs.Noting.{own_noted}
 use Rattle.lus_types.proofs.component.names_twice.Goals as goal
 
 pub returns : goal.returns

@@ -1,6 +1,7 @@
 use Rattle.std.proofs.Common.{map, ap}
 use Rattle.lus_tree.specs.View.{contract_item_view, definition_view, param_view}
-use Rattle.lus_types.specs.Scopes.{declared_view, owner_view}
+use Rattle.lus_scopes.specs.Scopes.{owner_view}
+use Rattle.lus_types.specs.Homes.{declared_view}
 use Rattle.lus_types.proofs.Interleaved.{declared_is}
 use Rattle.lus_types.proofs.declared.declared_in.Goals as goal
 

@@ -1,7 +1,7 @@
 use Rattle.std.proofs.Common.{◌≡◌, ◌++◌, drop, map, flat_map}
 use Rattle.lus_tree.specs.View.{contract_item_view}
 use Rattle.lus_meaning.specs.Scope.{contract_statement_names}
-use Rattle.lus_types.specs.Scopes.{declared_view}
+use Rattle.lus_types.specs.Homes.{declared_view}
 use Rattle.lus_types.proofs.declared.push_contract.Given as goal
 
 -- what is there, followed by what is to come, is all

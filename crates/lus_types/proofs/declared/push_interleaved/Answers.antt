@@ -3,9 +3,9 @@ use Rattle.lus_tree.specs.declared.place.Param.{Param}
 use Rattle.std.proofs.Common.{List}
 use Rattle.lus_tree.specs.View.{definition_view, param_view}
 use Rattle.lus_meaning.specs.Scope.{a_fixed, a_local, a_stream, interleaved}
-use Rattle.lus_types.specs.Scopes.{declared_view}
+use Rattle.lus_types.specs.Homes.{declared_view}
 use Rattle.lus_types.proofs.Interleaved.{interleaved_step}
-use Rattle.lus_types.proofs.Loops.{dropped}
+use Rattle.lus_scopes.proofs.Loops.{dropped}
 use Rattle.lus_types.proofs.declared.push_interleaved.Goals as goal
 
 pub loop-param-preserved : goal.loop-param-preserved

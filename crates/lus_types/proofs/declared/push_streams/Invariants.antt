@@ -1,7 +1,8 @@
 use Rattle.std.proofs.Common.{◌≡◌, ◌++◌, drop, map}
 use Rattle.lus_tree.specs.View.{param_view}
 use Rattle.lus_meaning.specs.Scope.{a_stream}
-use Rattle.lus_types.specs.Scopes.{declared_view, role_view}
+use Rattle.lus_scopes.specs.Scopes.{role_view}
+use Rattle.lus_types.specs.Homes.{declared_view}
 use Rattle.lus_types.proofs.declared.push_streams.Given as goal
 
 -- what is there, followed by what is to come, is all

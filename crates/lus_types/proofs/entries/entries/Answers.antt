@@ -1,8 +1,9 @@
 use Rattle.std.proofs.Common.{◌∙◌, ap, map, [], false, ◌++◌, arith}
 use Rattle.lus_tree.specs.View.{program_view}
 use Rattle.lus_meaning.specs.Scope.{entries_from, names_only}
-use Rattle.lus_types.specs.declared.scope.Extent.TheVariants.{All}
-use Rattle.lus_types.specs.Scopes.{declared_view, entry_view, layer_view, scope_view}
+use Rattle.lus_scopes.specs.declared.scope.Extent.TheVariants.{All}
+use Rattle.lus_scopes.specs.Scopes.{entry_view, layer_view, scope_view}
+use Rattle.lus_types.specs.Homes.{declared_view}
 use Rattle.lus_types.proofs.Ordered.{entries_next}
 use Rattle.lus_types.proofs.entries.entries.Goals as goal
 

@@ -1,9 +1,10 @@
 use Rattle.std.proofs.Common.{◌≡◌, ◌≤◌, [], drop, map, false}
 use Rattle.lus_tree.specs.View.{program_view}
 use Rattle.lus_meaning.specs.Scope.{entries_from}
-use Rattle.lus_types.specs.declared.scope.Extent.TheVariants.{All}
+use Rattle.lus_scopes.specs.declared.scope.Extent.TheVariants.{All}
 use Rattle.lus_types.specs.Entries.{AreOrdered, behind_all}
-use Rattle.lus_types.specs.Scopes.{declared_view, entry_view, layer_view}
+use Rattle.lus_scopes.specs.Scopes.{entry_view, layer_view}
+use Rattle.lus_types.specs.Homes.{declared_view}
 use Rattle.lus_types.proofs.entries.entries.Given as goal
 
 -- those to come, behind those that are there, are all; each knows how many constants stand before it

@@ -3,7 +3,7 @@ use Rattle.lus_tree.specs.Reason.{name_twice}
 use Rattle.lus_meaning.specs.Faults.{meets}
 use Rattle.lus_meaning.specs.NameFaults.{same_tag}
 use Rattle.lus_types.specs.Labels.{label_view, labels_view}
-use Rattle.lus_types.specs.Least.{least_view, noted_all}
+use Rattle.lus_scopes.specs.Least.{least_view, noted_all}
 use Rattle.lus_types.proofs.labels.note_meets.Given as goal
 
 abbrev pub invariant-loop-other : goal.invariant-loop-other

@@ -1,5 +1,5 @@
 use Rattle.std.proofs.Common.{rules}
-use Rattle.lus_types.specs.Least.{least_view}
+use Rattle.lus_scopes.specs.Least.{least_view}
 use Rattle.lus_types.proofs.RepeatedLabels.{all_noted}
 use Rattle.lus_types.proofs.labels.note_twice.Goals as goal
 

@@ -1,6 +1,6 @@
 use Rattle.std.proofs.Common.{◌≡◌, ◌≤◌, drop, length}
 use Rattle.lus_types.specs.Labels.{HasLabels, labels_view, tags_from_last}
-use Rattle.lus_types.specs.Least.{least_view, noted_all}
+use Rattle.lus_scopes.specs.Least.{least_view, noted_all}
 use Rattle.lus_types.proofs.labels.note_twice.Given as goal
 
 abbrev pub invariant-loop-left : goal.invariant-loop-left

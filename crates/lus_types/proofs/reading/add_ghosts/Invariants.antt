@@ -1,7 +1,7 @@
 use Rattle.std.proofs.Common.{◌≡◌, drop, map, flat_map}
 use Rattle.lus_tree.specs.View.{contract_item_view}
 use Rattle.lus_types.specs.Reads.{added, ghost_readings, names_read}
-use Rattle.lus_types.specs.Scopes.{scope_view}
+use Rattle.lus_scopes.specs.Scopes.{scope_view}
 use Rattle.lus_types.proofs.reading.add_ghosts.Given as goal
 
 abbrev pub invariant-loop-item : goal.invariant-loop-item

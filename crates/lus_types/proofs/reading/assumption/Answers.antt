@@ -1,8 +1,8 @@
 use Rattle.std.proofs.Common.{map, rules}
 use Rattle.lus_tree.specs.View.{contract_item_view, param_view}
-use Rattle.lus_types.specs.Least.{least_view}
+use Rattle.lus_scopes.specs.Least.{least_view}
 use Rattle.lus_types.specs.Reads.{read_view}
-use Rattle.lus_types.specs.Scopes.{scope_view}
+use Rattle.lus_scopes.specs.Scopes.{scope_view}
 use Rattle.lus_types.proofs.GivenNow.{read_noted}
 use Rattle.lus_types.proofs.reading.assumption.Goals as goal
 

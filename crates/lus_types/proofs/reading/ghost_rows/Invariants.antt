@@ -2,7 +2,7 @@ use Rattle.std.proofs.Common.{◌≡◌, ◌++◌, drop, map, flat_map}
 use Rattle.lus_tree.specs.View.{contract_item_view}
 use Rattle.lus_types.specs.Marks.{row_view}
 use Rattle.lus_types.specs.Reads.{ghost_readings, reading_row}
-use Rattle.lus_types.specs.Scopes.{scope_view}
+use Rattle.lus_scopes.specs.Scopes.{scope_view}
 use Rattle.lus_types.proofs.reading.ghost_rows.Given as goal
 
 -- what is there, followed by what is to come, is all

@@ -1,6 +1,6 @@
 use Rattle.std.proofs.Common.{◌≡◌, drop, map}
 use Rattle.lus_types.specs.Called.{marked_faults}
-use Rattle.lus_types.specs.Least.{least_view, noted_all}
+use Rattle.lus_scopes.specs.Least.{least_view, noted_all}
 use Rattle.lus_types.specs.Marks.{link_view}
 use Rattle.lus_types.proofs.recursion.note_marked.Given as goal
 

@@ -2,7 +2,7 @@ use Rattle.std.proofs.Common.{◌≡◌, drop}
 use Rattle.lus_tree.specs.Reason.{name_twice}
 use Rattle.lus_tree.specs.View.{word_view}
 use Rattle.lus_meaning.specs.Faults.{meets, same_word}
-use Rattle.lus_types.specs.Least.{least_view, noted_all}
+use Rattle.lus_scopes.specs.Least.{least_view, noted_all}
 use Rattle.lus_types.specs.Words.{words_view}
 use Rattle.lus_types.proofs.repeated.note_meets.Given as goal
 

@@ -1,5 +1,5 @@
 use Rattle.std.proofs.Common.{add-one, suc}
-use Rattle.lus_types.specs.Least.{least_view}
+use Rattle.lus_scopes.specs.Least.{least_view}
 use Rattle.lus_types.proofs.RepeatedWords.{noted_front, seen_front, whole_rest}
 use Rattle.lus_types.proofs.repeated.note_word.Goals as goal
 

@@ -1,4 +1,4 @@
-use Rattle.lus_types.specs.Least.{least_view}
+use Rattle.lus_scopes.specs.Least.{least_view}
 use Rattle.lus_types.specs.Words.{words_view}
 use Rattle.lus_types.proofs.RepeatedWords.{outer_front}
 use Rattle.lus_types.proofs.repeated.outer_twice.Goals as goal

@@ -1,6 +1,6 @@
 use Rattle.std.proofs.Common.{◌≡◌, drop}
 use Rattle.lus_meaning.specs.NameFaults.{outer_twice}
-use Rattle.lus_types.specs.Least.{least_view, noted_all}
+use Rattle.lus_scopes.specs.Least.{least_view, noted_all}
 use Rattle.lus_types.specs.Words.{words_view}
 use Rattle.lus_types.proofs.repeated.outer_twice.Given as goal
 

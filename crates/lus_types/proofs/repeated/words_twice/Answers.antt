@@ -1,5 +1,5 @@
 use Rattle.std.proofs.Common.{rules}
-use Rattle.lus_types.specs.Least.{least_view}
+use Rattle.lus_scopes.specs.Least.{least_view}
 use Rattle.lus_types.proofs.RepeatedWords.{all_noted}
 use Rattle.lus_types.proofs.repeated.words_twice.Goals as goal
 

@@ -1,5 +1,5 @@
 use Rattle.std.proofs.Common.{◌≡◌, ◌≤◌, drop, length}
-use Rattle.lus_types.specs.Least.{least_view, noted_all}
+use Rattle.lus_scopes.specs.Least.{least_view, noted_all}
 use Rattle.lus_types.specs.Repeated.{HasSeen, twice_from_last}
 use Rattle.lus_types.specs.Words.{words_view}
 use Rattle.lus_types.proofs.repeated.words_twice.Given as goal

@@ -4,10 +4,10 @@ use Rattle.lus_meaning.specs.Scene.{contract_statements}
 use Rattle.lus_meaning.specs.Scope.{body_scope}
 use Rattle.lus_meaning.specs.NameFaults.{assumption_faults, body_faults}
 use Rattle.lus_types.specs.Before.{home_view}
-use Rattle.lus_types.specs.Notes.{Notes}
-use Rattle.lus_types.proofs.Noting.{both_noted}
-use Rattle.lus_types.specs.Least.{least_view}
-use Rattle.lus_types.specs.Scopes.{scope_view}
+use Rattle.lus_scopes.specs.Notes.{Notes}
+use Rattle.lus_scopes.proofs.Noting.{both_noted}
+use Rattle.lus_scopes.specs.Least.{least_view}
+use Rattle.lus_scopes.specs.Scopes.{scope_view}
 use Rattle.lus_types.proofs.Earlier.{behind_all_constants, body_noted}
 use Rattle.lus_types.proofs.rules.body.Goals as goal
 

@@ -1,7 +1,7 @@
 use Rattle.std.proofs.Common.{arith}
 use Rattle.std.proofs.lemmas.List.{take_all}
 use Rattle.lus_types.specs.Before.{earlier_view, home_view}
-use Rattle.lus_types.specs.Least.{least_view}
+use Rattle.lus_scopes.specs.Least.{least_view}
 use Rattle.lus_types.proofs.Earlier.{constants_next, constants_end, all_constants}
 use Rattle.lus_types.proofs.rules.constants.Goals as goal
 

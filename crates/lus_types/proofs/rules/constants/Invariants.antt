@@ -1,5 +1,5 @@
 use Rattle.lus_types.specs.Before.{earlier_view, home_view}
-use Rattle.lus_types.specs.Least.{least_view}
+use Rattle.lus_scopes.specs.Least.{least_view}
 use Rattle.lus_types.proofs.Earlier.{OnConstants}
 use Rattle.lus_types.proofs.rules.constants.Given as goal
 

@@ -2,7 +2,7 @@ use Rattle.std.proofs.Common.{arith}
 use Rattle.std.proofs.lemmas.List.{take_all}
 use Rattle.lus_tree.specs.View.{contract_item_view}
 use Rattle.lus_types.specs.Before.{earlier_view, home_view}
-use Rattle.lus_types.specs.Least.{least_view}
+use Rattle.lus_scopes.specs.Least.{least_view}
 use Rattle.lus_types.proofs.Earlier.{contract_next, contract_end, all_before}
 use Rattle.lus_types.proofs.rules.contract.Goals as goal
 

@@ -1,6 +1,6 @@
 use Rattle.lus_tree.specs.View.{contract_item_view}
 use Rattle.lus_types.specs.Before.{earlier_view, home_view}
-use Rattle.lus_types.specs.Least.{least_view}
+use Rattle.lus_scopes.specs.Least.{least_view}
 use Rattle.lus_types.proofs.Earlier.{OnContract}
 use Rattle.lus_types.proofs.rules.contract.Given as goal
 

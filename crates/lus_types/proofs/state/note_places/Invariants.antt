@@ -1,7 +1,7 @@
 use Rattle.std.proofs.Common.{◌≡◌, drop}
 use Rattle.lus_tree.specs.Reason.{not_stateless}
 use Rattle.lus_meaning.specs.Faults.{faults_at}
-use Rattle.lus_types.specs.Least.{least_view, noted_all}
+use Rattle.lus_scopes.specs.Least.{least_view, noted_all}
 use Rattle.lus_types.proofs.state.note_places.Given as goal
 
 abbrev pub invariant-loop-place : goal.invariant-loop-place

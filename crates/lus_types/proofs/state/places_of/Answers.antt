@@ -2,7 +2,7 @@ use Rattle.std.proofs.Common.{flat_map, rules}
 use Rattle.lus_tree.specs.View.{program_view}
 use Rattle.lus_meaning.specs.Scene.{contract_statements}
 use Rattle.lus_types.specs.Called.{constant_sides, contract_sides, statement_sides}
-use Rattle.lus_types.specs.Scopes.{owner_view}
+use Rattle.lus_scopes.specs.Scopes.{owner_view}
 use Rattle.lus_types.specs.States.{states_in}
 use Rattle.lus_types.proofs.Stateless.{gathered_states, three_steps}
 use Rattle.lus_types.proofs.state.places_of.Goals as goal

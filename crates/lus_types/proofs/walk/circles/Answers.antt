@@ -1,6 +1,6 @@
 use Rattle.std.proofs.Common.{arith}
 use Rattle.lus_tree.specs.View.{program_view}
-use Rattle.lus_types.specs.Least.{least_view}
+use Rattle.lus_scopes.specs.Least.{least_view}
 use Rattle.lus_types.proofs.Circled.{circle_next, circles_end}
 use Rattle.lus_types.proofs.walk.circles.Goals as goal
 

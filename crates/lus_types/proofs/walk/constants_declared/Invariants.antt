@@ -1,7 +1,7 @@
 use Rattle.std.proofs.Common.{◌≡◌, ◌++◌, drop, map}
 use Rattle.lus_tree.specs.View.{decl_view}
 use Rattle.lus_meaning.specs.Scope.{constants_declared}
-use Rattle.lus_types.specs.Scopes.{declared_view}
+use Rattle.lus_types.specs.Homes.{declared_view}
 use Rattle.lus_types.proofs.walk.constants_declared.Given as goal
 
 -- what is there, followed by what is to come, is all

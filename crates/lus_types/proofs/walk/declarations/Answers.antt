@@ -1,6 +1,6 @@
 use Rattle.std.proofs.Common.{arith, subst, sym, get_or, length, ◌≡◌, ◌+◌, ◌<◌, ◌≤◌}
 use Rattle.lus_tree.specs.View.{decl_view, program_view}
-use Rattle.lus_types.specs.Least.{least_view}
+use Rattle.lus_scopes.specs.Least.{least_view}
 use Rattle.lus_types.proofs.Circled.{after_most, declarations_end, declarations_next}
 use Rattle.lus_types.proofs.walk.declarations.Goals as goal
 

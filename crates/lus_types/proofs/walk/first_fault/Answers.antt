@@ -1,6 +1,6 @@
 use Rattle.std.proofs.Common.{rules}
 use Rattle.lus_tree.specs.View.{program_view}
-use Rattle.lus_types.specs.Least.{least_view}
+use Rattle.lus_scopes.specs.Least.{least_view}
 use Rattle.lus_types.proofs.Circled.{program_noted}
 use Rattle.lus_types.proofs.walk.first_fault.Goals as goal
 

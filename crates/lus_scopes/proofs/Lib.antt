@@ -1,0 +1,17 @@
+pub mod Order
+pub mod Leasts
+pub mod Cuts
+pub mod Bounds
+pub mod CutWorths
+pub mod Parts
+pub mod Placed
+pub mod Shapes
+pub mod CallParts
+pub mod Arms
+pub mod Walks
+pub mod Alike
+pub mod EquationParts
+pub mod Nothing
+pub mod Behind
+pub mod Noting
+pub mod Loops

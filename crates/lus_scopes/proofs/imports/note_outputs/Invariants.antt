@@ -1,0 +1,11 @@
+use Rattle.std.proofs.Common.{◌≡◌, drop, map, flat_map}
+use Rattle.lus_tree.specs.View.{word_view}
+use Rattle.lus_meaning.specs.NameFaults.{output_known}
+use Rattle.lus_scopes.specs.Least.{least_view, noted_all}
+use Rattle.lus_scopes.specs.Scopes.{scope_view}
+use Rattle.lus_scopes.proofs.imports.note_outputs.Given as goal
+
+abbrev pub invariant-loop-word : goal.invariant-loop-word
+invariant-loop-word l =
+    noted_all (least_view l.least) (flat_map (output_known (scope_view l.scope)) (map word_view (drop l.word-index l.words)))
+    ≡ noted_all (least_view l.initial.least) (flat_map (output_known (scope_view l.scope)) (map word_view l.words))
