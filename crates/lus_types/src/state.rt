@@ -50,7 +50,8 @@ fn push_state(
     declarations: &Declarations<'_>,
     e: &Expr,
 ) -> Result<(), AllocError>
-    ensures { IfOk result (λ _. PlacesOn places.old.items places.new.items (states (program_view declarations.now) (expr_view e.now))) }
+    ensures { IfOk result (λ _. PlacesOn places.old.items places.new.items
+        (states (program_view declarations.now) (expr_view e.now))) }
 {
     match &e.form {
         Form::Not(a) | Form::Minus(a) | Form::When(a, _, _) => push_state(places, declarations, a),
@@ -232,7 +233,8 @@ fn places_of(
     declarations: &Declarations<'_>,
     owner: Owner<'_>,
 ) -> Result<Vec<Pos>, AllocError>
-    ensures { IfOk result (λ v. v.items ≡ gathered (state_in (program_view declarations.now)) (owner_view owner.entry)) }
+    ensures { IfOk result (λ v. v.items
+        ≡ gathered (state_in (program_view declarations.now)) (owner_view owner.entry)) }
 {
     let mut places = Vec::new(alloc);
     push_state_contract(&mut places, declarations, owner.contract())?;

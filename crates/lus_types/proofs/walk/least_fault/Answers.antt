@@ -11,6 +11,7 @@ use Rattle.lus_types.proofs.walk.least_fault.Goals as goal
 pub returns : goal.returns
 returns c =
     program_noted (program_view c.args.declarations.now) (least_view c.note_no_node.new.least) (least_view c.declarations_twice.new.least)
-    (least_view c.alone.new.least) (least_view c.circles.new.least) (search rules) (subst (λ p. Notes (least_view c.note_no_node.new.least) (least_view c.declarations_twice.new.least)
+    (least_view c.alone.new.least) (least_view c.circles.new.least) (search rules)
+    (subst (λ p. Notes (least_view c.note_no_node.new.least) (least_view c.declarations_twice.new.least)
     (words_twice name_twice (map declaration_word (program_view p)))) c.program-2.ensures c.in_ok-declarations_twice.ensures) c.in_ok-alone.ensures
     c.in_ok-circles.ensures
