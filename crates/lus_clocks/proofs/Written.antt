@@ -1,6 +1,6 @@
 -- What is written of one more, followed by what is to come.
-use Rattle.std.proofs.Common.{◌≡◌, ℕ, zero, suc, ◌+◌, ◌<◌, List, [], ◌∷◌, ◌++◌, map, take, drop, length, get_or, refl, ap, sym, ◌∙◌, arith, drop-cons, Option, Some, None}
-use Rattle.std.proofs.lemmas.List.{map_more, map-append}
+use Rattle.std.proofs.Common.{◌≡◌, ℕ, suc, ◌+◌, ◌<◌, ◌≤◌, List, [], ◌∷◌, ◌++◌, map, take, drop, length, get_or, refl, ap, sym, subst, ◌∙◌, arith, drop-cons, Option, Some, None}
+use Rattle.std.proofs.lemmas.List.{map_more, map-append, length-map, get_or-map, get_or_past}
 use Rattle.lus_tree.specs.View.{decl_view}
 use Rattle.lus_tree.specs.declared.declaration.Decl.{Decl}
 use Rattle.lus_tree.specs.Tree.{Component, Program}
@@ -9,7 +9,6 @@ use Rattle.lus_meaning.specs.Occurrences.{Text}
 use Rattle.lus_meaning.specs.ClockFaults.{or_else}
 use Rattle.lus_clocks.specs.declared.occurrence.Occurrence.{Occurrence as Sought}
 use Rattle.lus_clocks.specs.declared.table.Table.{Table}
-use Rattle.std.specs.Prelude.{slice_get}
 use Rattle.lus_clocks.specs.Program.{KeepAll, declared_clock, program_clock}
 use Rattle.lus_clocks.specs.Table.{kept}
 use Rattle.lus_clocks.specs.Sought.{clock_at, clock_at_texts}
@@ -44,19 +43,12 @@ one_table s ts t ds i d h e k a =
 
 -- ---- by the number of a declaration
 
-there : (s : Sought) (ts : List Table) (d : ℕ) (t : Table) → slice_get ts d ≡ Some t → get_or (map (λ (z : Table). kept z s) ts) d None ≡ kept t s
-there s [] d t e = grind (arith, e)
-there s (u ∷ ts) zero t e = let h : u ≡ t = grind (arith, e) in ap (λ (z : Table). kept z s) h
-there s (u ∷ ts) (suc d) t e = there s ts d t e
-
-nowhere : (s : Sought) (ts : List Table) (d : ℕ) → slice_get ts d ≡ None → get_or (map (λ (z : Table). kept z s) ts) d None ≡ None
-nowhere s [] d e = refl
-nowhere s (u ∷ ts) zero e = grind (arith, e)
-nowhere s (u ∷ ts) (suc d) e = nowhere s ts d e
-
-pub table_there : (s : Sought) (ts : List Table) (p : Program) (d : ℕ) (t : Table) → KeepAll ts p → slice_get ts d ≡ Some t
+pub table_there : (s : Sought) (ts : List Table) (p : Program) (d : ℕ) (t : Table) → KeepAll ts p → d < length ts → t ≡ get_or ts d t
     → kept t s ≡ program_clock p d s
-table_there s ts p d t a e = sym (there s ts d t e) ∙ ap (λ os. get_or os d None) (a s)
+table_there s ts p d t a l e =
+    ap (λ (z : Table). kept z s) e ∙ sym (get_or-map (λ (z : Table). kept z s) ts d t None l) ∙ ap (λ os. get_or os d None) (a s)
 
-pub no_table : (s : Sought) (ts : List Table) (p : Program) (d : ℕ) → KeepAll ts p → slice_get ts d ≡ None → program_clock p d s ≡ None
-no_table s ts p d a e = ap (λ os. get_or os d None) (sym (a s)) ∙ nowhere s ts d e
+pub no_table : (s : Sought) (ts : List Table) (p : Program) (d : ℕ) → KeepAll ts p → length ts ≤ d → program_clock p d s ≡ None
+no_table s ts p d a l =
+    ap (λ os. get_or os d None) (sym (a s))
+    ∙ get_or_past (map (λ (z : Table). kept z s) ts) d None (subst (λ k. k ≤ d) (sym (length-map ts (λ (z : Table). kept z s))) l)

@@ -2,9 +2,9 @@
 use Rattle.std.specs.Prelude.{◌≡◌, ◌⊎◌, ℕ, List, map, Option, None, get_or}
 use Rattle.lus_tree.specs.Tree.{Component, Declaration, declared_constant, declared_node, declared_contract, Program}
 use Rattle.lus_tree.specs.Reason.{Refused, memory}
-use Rattle.lus_tree.specs.declared.place.Pos.{Pos}
 use Rattle.lus_meaning.specs.Scene.{Clock}
 use Rattle.lus_meaning.specs.Faults.{IsFirst, fault}
+use Rattle.lus_meaning.specs.NameFaults.{start_of_text}
 use Rattle.lus_meaning.specs.Refusals.{IsClockFault}
 use Rattle.lus_clocks.specs.declared.occurrence.Occurrence.{Occurrence}
 use Rattle.lus_clocks.specs.declared.table.Table.{Table}
@@ -32,6 +32,6 @@ Keeps t d = (s : Occurrence) → kept t s ≡ declared_clock s d
 abbrev pub KeepAll : List Table → Program → Type 0
 KeepAll ts p = (s : Occurrence) → map (λ t. kept t s) ts ≡ map (declared_clock s) p
 
--- memory ran out, or it is the first fault of clocks
+-- memory ran out, which is said at 1:1, or it is the first fault of clocks
 abbrev pub IsRefusal : Program → Refused → Type 0
-IsRefusal p r = (r ≡ fault memory record { line = 1; column = 1 }) ⊎ IsFirst (IsClockFault p) r
+IsRefusal p r = (r ≡ fault memory start_of_text) ⊎ IsFirst (IsClockFault p) r

@@ -1,10 +1,13 @@
 //! A program whose clocks are right.
 
-ghost use Rattle.std.specs.Prelude.{◌≡◌, IfErr, IfOk, unwrap_or};
-ghost use Rattle.lus_tree.specs.Reason.{refusal_view};
+ghost use Rattle.std.specs.Prelude.{◌≡◌, IfErr, IfOk, IsErr, unwrap_or};
+ghost use Rattle.lus_tree.specs.Reason.{Refused, refusal_view};
 ghost use Rattle.lus_tree.specs.View.{program_view};
-ghost use Rattle.lus_meaning.specs.Refusals.{HasNone, IsClocked, IsClockFault};
+ghost use Rattle.lus_meaning.specs.ClockFaults.{clock_faults};
+ghost use Rattle.lus_meaning.specs.Faults.{IsFirst};
+ghost use Rattle.lus_meaning.specs.Refusals.{IsClockFault, IsClocked, IsTyped};
 ghost use Rattle.lus_meaning.specs.Scene.{base};
+ghost use Rattle.lus_scopes.specs.Least.{IsLeast, least_view};
 ghost use Rattle.lus_clocks.specs.Cells.{clock_given};
 ghost use Rattle.lus_clocks.specs.Program.{IsRefusal, KeepAll, program_clock};
 
@@ -90,6 +93,20 @@ fn no_memory() -> Refusal
     }
 }
 
+/// The program where none of its faults was found, with the clocks that were.
+fn with_clocks(typed: Typed, found: Found) -> Result<Clocked, Refusal>
+    requires typed { IsTyped (program_view typed) }
+    requires least { IsLeast (least_view found.least) (clock_faults (program_view typed)) }
+    requires kept { KeepAll found.tables.items (program_view typed) }
+    ensures same { IfOk result (λ c. program_view c ≡ program_view typed) }
+    ensures clocked { IfOk result (λ _. IsClocked (program_view typed)) }
+    ensures first { IfErr result (λ e. IsFirst (IsClockFault (program_view typed)) (refusal_view e)) }
+{
+    let Found { least, tables } = found;
+    least.into_result()?;
+    Ok(Clocked::of(typed, tables))
+}
+
 /// The program, with the fact that it breaks no rule of clocks, and the clocks of its numbered
 /// occurrences.
 ///
@@ -99,13 +116,11 @@ fn no_memory() -> Refusal
 pub fn clocks(alloc: Global, typed: Typed) -> Result<Clocked, Refusal>
     ensures same { IfOk result (λ c. program_view c ≡ program_view typed) }
     ensures clocked { IfOk result (λ _. IsClocked (program_view typed)) }
+    ensures faulty { (r : Refused) → IsClockFault (program_view typed) r → IsErr result }
     ensures refused { IfErr result (λ e. IsRefusal (program_view typed) (refusal_view e)) }
 {
     match checked(alloc, typed.program()) {
-        Ok(Found { least, tables }) => {
-            least.into_result()?;
-            Ok(Clocked::of(typed, tables))
-        }
+        Ok(found) => with_clocks(typed, found),
         Err(_) => Err(no_memory()),
     }
 }

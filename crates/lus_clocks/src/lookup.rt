@@ -1,6 +1,6 @@
 //! The clocks of a declaration's names.
 
-ghost use Rattle.std.specs.Prelude.{◌≡◌, map, option_map};
+ghost use Rattle.std.specs.Prelude.{◌≡◌, ◌<◌, length, map, option_map, slice_index_or};
 ghost use Rattle.lus_tree.specs.Tree.{text_of};
 ghost use Rattle.lus_tree.specs.View.{param_view, word_view};
 ghost use Rattle.lus_meaning.specs.ClockFaults.{name_clock};
@@ -24,6 +24,14 @@ pub(crate) fn with_streams<'a, 's>(owner: Owner<'a>, streams: &'s Streams<'a>) -
     Names { owner, streams }
 }
 
+/// The stream of that number.
+fn numbered<'a>(streams: &[&'a Param], number: usize) -> &'a Param
+    requires { number < length streams.now }
+    ensures { result ≡ slice_index_or streams.now number result }
+{
+    streams[number]
+}
+
 impl<'a, 's> Names<'a, 's> {
     /// The first stream of that name.
     fn stream(self, name: &str) -> Option<&'a Param>
@@ -31,10 +39,7 @@ impl<'a, 's> Names<'a, 's> {
             ≡ stream_named (variables (names_view self.entry)) name.now }
     {
         match self.streams.numbers.number(name) {
-            Some(number) => {
-                let firsts = self.streams.firsts.as_slice();
-                Some(firsts[number])
-            }
+            Some(number) => Some(numbered(&self.streams.firsts, number)),
             None => None,
         }
     }

@@ -4,19 +4,19 @@ use Rattle.lus_clocks.specs.Streams.{params_view}
 use Rattle.lus_clocks.proofs.Firsts.{found_nowhere, number_within, stream_at}
 use Rattle.lus_clocks.proofs.names.Names.stream.Goals as goal
 
-pub bounds-firsts-number : goal.bounds-firsts-number
-bounds-firsts-number c =
-    subst (λ bs. c.in-Some.number < length bs) (sym c.as_slice-firsts.ensures.value)
+pub numbered-requires : goal.numbered-requires
+numbered-requires c =
+    subst (λ bs. c.in-Some.number < length bs) (sym c.deref.ensures.value)
     (subst (λ k. k < length c.args.self.streams.now.firsts.items) (sym c.in-Some.ensures.1)
     (number_within c.args.name.now c.args.self.streams.now.numbers c.args.self.streams.now.firsts.items c.args.self.named c.in-Some.ensures.0))
 
 pub returns-in-Some : goal.returns-in-Some
 returns-in-Some c =
-    stream_at c.args.name.now c.args.self.streams.now.numbers c.args.self.streams.now.firsts.items c.index-firsts-number.result c.args.self.named
+    stream_at c.args.name.now c.args.self.streams.now.numbers c.args.self.streams.now.firsts.items c.numbered.result c.args.self.named
     c.in-Some.ensures.0
-    (subst (λ k. c.index-firsts-number.result ≡ get_or c.args.self.streams.now.firsts.items k c.index-firsts-number.result) c.in-Some.ensures.1
-    (subst (λ bs. c.index-firsts-number.result ≡ get_or bs c.in-Some.number c.index-firsts-number.result) c.as_slice-firsts.ensures.value
-    c.index-firsts-number.is))
+    (subst (λ k. c.numbered.result ≡ get_or c.args.self.streams.now.firsts.items k c.numbered.result) c.in-Some.ensures.1
+    (subst (λ bs. c.numbered.result ≡ get_or bs c.in-Some.number c.numbered.result) c.deref.ensures.value
+    c.numbered.ensures))
     ∙ c.args.self.first c.args.name.now
 
 pub returns-in-None : goal.returns-in-None
