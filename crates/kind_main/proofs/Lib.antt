@@ -15,3 +15,4 @@ pub mod Deciding
 pub mod Cutting
 pub mod Readable
 pub mod Ready
+pub mod Ruling

@@ -32,7 +32,8 @@ fn refused(alloc: Global, refusal: &Refusal) -> Stopped
     }
 }
 
-/// A program of which the rules of names, types, numbers and clocks are kept.
+/// The program, of which the rules of names, types, numbers and clocks are kept.
+#[tactic(auto, using(crate::proofs::Ruling::typing_ruling, crate::proofs::Ruling::clocks_ruling))]
 fn ruled(alloc: Global, program: Program) -> Result<Program, Refusal>
     ensures same { IfOk result (λ p. program_view p ≡ program_view program) }
     ensures clocked { IfOk result (λ p. IsClocked (program_view program)) }

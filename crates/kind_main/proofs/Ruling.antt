@@ -1,0 +1,16 @@
+-- What the checks of rules refuse is refused by the first fault of the earliest phase that has one.
+use Rattle.std.proofs.Common.{◌≡◌, ◌⊎◌, inl, inr, None, ap}
+use Rattle.lus_tree.specs.Tree.{Program}
+use Rattle.lus_tree.specs.Reason.{Refused, memory}
+use Rattle.lus_meaning.specs.Refusals.{IsTyped, IsRefusedFor, by_typing, by_clocks}
+use Rattle.lus_types.specs.Refusals as T
+use Rattle.lus_clocks.specs.Program as C
+use Rattle.kind_main.specs.Source.{IsRuling}
+
+pub typing_ruling : (p : Program) (r : Refused) → T.IsRefusal p r → IsRuling p r
+typing_ruling p r (inl m) = inl (ap (λ (x : Refused). x.reason) m)
+typing_ruling p r (inr f) = inr (by_typing f)
+
+pub clocks_ruling : (p : Program) (r : Refused) → IsTyped p → C.IsRefusal p r → IsRuling p r
+clocks_ruling p r t (inl m) = inl (ap (λ (x : Refused). x.reason) m)
+clocks_ruling p r t (inr f) = inr (by_clocks t f)
