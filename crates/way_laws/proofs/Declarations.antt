@@ -32,7 +32,6 @@ use Rattle.lus_meaning.proofs.Unique.{same_bytes}
 use Rattle.rule_laws.proofs.Places.{all_grammatical}
 use Rattle.clock_laws.proofs.Contracts.{side_top}
 use Rattle.clock_laws.proofs.OrderLaws.{names_distinct}
-use Rattle.clock_laws.proofs.Parts.{all_parts}
 use Rattle.clock_laws.proofs.Texts.{HasOutputs, TopFits}
 use Rattle.way_laws.specs.OwnGraph.{Summaries, known_reads, mode_reads, declared_reads, equation_reads, defined_reads, own_edges}
 use Rattle.way_laws.specs.Summaries.{CalleesExact}
@@ -43,7 +42,7 @@ use Rattle.way_laws.proofs.Keys.{GoodKey, good_fits, Known, known_none}
 use Rattle.way_laws.proofs.Texts.{CallsPlaced, EachPlaced, Knows, text_ready, known_good, key_of}
 use Rattle.way_laws.specs.Modes.{ReadAsAsked}
 use Rattle.way_laws.proofs.Walk.{all_modes, GhostFits, Walked, walk}
-use Rattle.way_laws.proofs.Lists.{all_true, both_true}
+use Rattle.way_laws.proofs.Lists.{all_parts, all_true, both_true}
 
 -- ---- faults that are not there
 

@@ -1,6 +1,6 @@
 -- Names in a list, and tests that hold.
-use Rattle.std.proofs.Common.{◌≡◌, Bool, true, false, not, ◌&&◌, ◌||◌, List, [], ◌∷◌, refl, sym, subst}
-use Rattle.std.specs.List.{list_all}
+use Rattle.std.proofs.Common.{◌≡◌, Bool, true, false, not, ◌&&◌, ◌||◌, List, [], ◌∷◌, flat_map, refl, sym, subst}
+use Rattle.std.specs.List.{AllByRecursion, list_all}
 use Rattle.std.specs.Str.{bytes_eq}
 use Rattle.std.proofs.Math.Logic.{◌⊎◌, inl, inr}
 use Rattle.std.proofs.lemmas.Bool.{false≢true}
@@ -9,6 +9,7 @@ use Rattle.lus_meaning.specs.Depends.{named_in}
 use Rattle.lus_meaning.proofs.BooleanOrder.{IsIn}
 use Rattle.lus_meaning.proofs.Exists.{self_bytes}
 use Rattle.lus_meaning.proofs.Lists.{or_left}
+use Rattle.lus_meaning.proofs.Now.{left_part, right_part}
 use Rattle.lus_meaning.proofs.Unique.{same_bytes}
 
 pub not_false : (b : Bool) → not b ≡ false → b ≡ true
@@ -38,3 +39,8 @@ all_true test x (y ∷ xs) e h = go (test y) refl e h (all_true test x xs)
     go true k e (inl s) f = subst (λ z. test z ≡ true) (sym s) k
     go true k e (inr h) f = f e h
     go false k e h f = absurd (false≢true e)
+
+pub all_parts : {A B : Type 0} (P : B → Type 0) (f : A → List B) (xs : List A) → AllByRecursion P (flat_map f xs) → AllByRecursion
+    (λ x. AllByRecursion P (f x)) xs
+all_parts P f [] a = tt
+all_parts P f (x ∷ xs) a = (left_part P (f x) (flat_map f xs) a, all_parts P f xs (right_part P (f x) (flat_map f xs) a))
