@@ -4,9 +4,12 @@
 ghost use Rattle.std.specs.Prelude.{List};
 ghost use Rattle.sys_terms.specs.View.{Formula, Machine, Task, Question};
 ghost use Rattle.smt_solver.specs.Boolean.{BooleanQueriesHaveNoAtoms};
+ghost use Rattle.smt_solver.specs.NumberStates.{WholeValuesMeet};
 ghost use Rattle.smt_solver.specs.Run.{ClausesFit};
-ghost use Rattle.smt_solver.specs.NeedRoom.{FlagsBoundConflicts, StopsNeedAtoms};
+ghost use Rattle.smt_solver.specs.Stops.{BrokenNumbersSplit, LongChecksAreLong, PastChecksArePast};
+ghost use Rattle.smt_solver.specs.NeedRoom.{FlagsBoundConflicts, RangesSuffice, SplitsNeedRoom, StopsNeedAtoms};
 
+use line_laws::laws::bounds_say_what_literals_say;
 use sat_core::laws::new_clauses_are_few;
 
 /// Where no term compares numbers, the query has no atom.
@@ -29,4 +32,41 @@ pub fn flags_bound_conflicts()
 /// Without atoms there is no true stop but of conflicts.
 pub fn stops_need_atoms()
     ensures { StopsNeedAtoms }
+{}
+
+/// Where each number has a range, splits are at most as many as there is room in the ranges.
+pub fn splits_need_room()
+    ensures { SplitsNeedRoom }
+{}
+
+/// Where each number has a range, splits never use up a budget above the room, nor conflicts one of 3 to the
+/// number of flags, atoms and room.
+pub fn ranges_suffice()
+    ensures { RangesSuffice }
+{
+    new_clauses_are_few();
+}
+
+/// Where a tableau's values are whole and meet the bounds of an assignment that makes the clauses true,
+/// the states that they make meet the query's conditions.
+pub fn whole_values_meet()
+    ensures { WholeValuesMeet }
+{
+    bounds_say_what_literals_say();
+}
+
+/// Where they are not all whole, the least column whose value is not is a number of the query, and its
+/// split at that value's floor is a true one.
+pub fn broken_numbers_split()
+    ensures { BrokenNumbersSplit }
+{}
+
+/// A check that is stopped for its pivots is a true stop of the query with its splits.
+pub fn long_checks_are_long()
+    ensures { LongChecksAreLong }
+{}
+
+/// A check that is stopped for an operation outside 128 bits is a true stop of the query with its splits.
+pub fn past_checks_are_past()
+    ensures { PastChecksArePast }
 {}
