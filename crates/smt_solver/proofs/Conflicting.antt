@@ -31,7 +31,7 @@ use Rattle.smt_solver.specs.Used.{used_of, used_by, divisor_at}
 use Rattle.smt_solver.specs.Asserting.{signed_bound, bound_by_value, bound_at, bounds_at}
 use Rattle.smt_solver.specs.Run.{Standing}
 use Rattle.smt_solver.specs.Growing.{SaysMore}
-use Rattle.smt_solver.specs.Conflicting.{AreMeaningsOf, IsSettled, AreRefuted}
+use Rattle.smt_solver.specs.Conflicting.{AreMeaningsOf, IsSettled, AreRefuted, IsConflictOf}
 use Rattle.smt_solver.proofs.Turns.{all-of}
 use Rattle.smt_solver.proofs.Valued.{stands, order}
 
@@ -129,8 +129,8 @@ module _ (f : Form) (ms : List Meaning) (h : AreMeaningsOf f ms) where
 
   pub atom-at : (k : ℕ) (m : Meaning) → slice_get ms k ≡ Some m → (i : Inequality) × (slice_get f.atoms k ≡ Some i)
   atom-at k m e = some-at ms f.atoms k m (
-    let a = length-map ms (λ (m : Meaning). m.divisor) in let b = length-map f.atoms divisor_in in
-    let c = ap length h.divisors in omega arith) e
+      let a = length-map ms (λ (m : Meaning). m.divisor) in let b = length-map f.atoms divisor_in in
+      let c = ap length h.divisors in omega arith) e
 
   one-up : (k : ℕ) → 1 + k ≡ suc k
   one-up k = omega arith
@@ -142,10 +142,14 @@ module _ (f : Form) (ms : List Meaning) (h : AreMeaningsOf f ms) where
       let j = atom-at a.place a.meaning a.is_meaning in
       let e : b ≡ standing (suc a.place) (signed_bound a.sign a.meaning) =
       a.is_bound ∙ ap (λ k. standing k (signed_bound a.sign a.meaning)) (one-up a.place) in
-      subst (IsOfLiteral f) (sym e) (j.0, a.sign, record {
-        named = j.1;
-        means = literal-bound a.place a.meaning a.sign a.is_meaning;
-      })
+      subst (IsOfLiteral f) (sym e) (
+        j.0,
+        a.sign,
+        record {
+          named = j.1;
+          means = literal-bound a.place a.meaning a.sign a.is_meaning;
+        },
+      )
 
   -- ---- a part of bounds of true literals
 
@@ -173,11 +177,11 @@ module _ (f : Form) (ms : List Meaning) (h : AreMeaningsOf f ms) where
     -- the part's sign is the value
     sign-is : p.sign ≡ source.sign
     sign-is = sides p.sign source.sign source.meaning.upper source.meaning refl (
-      upper-of (signed_bound p.sign source.meaning)
-          record { column = p.bound.column; upper = p.bound.upper; limit = p.bound.limit }
-          (sym (literal-bound source.place source.meaning p.sign source.is_meaning)
-          ∙ ap (λ n. bound_of_literal f [] (Atom n p.sign)) (sym number) ∙ q.means)
-      ∙ ap (λ (b : Limit). b.upper) source.is_bound)
+        upper-of (signed_bound p.sign source.meaning)
+        record { column = p.bound.column; upper = p.bound.upper; limit = p.bound.limit }
+        (sym (literal-bound source.place source.meaning p.sign source.is_meaning)
+        ∙ ap (λ n. bound_of_literal f [] (Atom n p.sign)) (sym number) ∙ q.means)
+        ∙ ap (λ (b : Limit). b.upper) source.is_bound)
 
     pub part-value : value_of trail (Atom p.bound.literal true) ≡ Some p.sign
     part-value = value-is ∙ ap (λ b. Some b) (sym sign-is)
@@ -288,11 +292,6 @@ module _ (s : Standing) (h : IsSettled s) where
 some-part : (ps : List Part) → limits (multipliers_of ps) (bounds_of ps) <ℤ pos 0 → ps ≢ []
 some-part [] l e = absurd (omega (arith, ints))
 some-part (p ∷ ps) l e = absurd cc
-
-pub record IsConflictOf (s : Standing) (ms : List Meaning) (parts : List (ℤ × ℕ)) : Type 0 where
-  pub step : IsStepOf s.form s.search.known (bounds_at s.search.trail 1 ms) parts
-  pub uses : map used_of step.parts ≡ map (used_by s.search.trail ms) parts
-  pub more : SaysMore s.search.known (map denied step.parts)
 
 pub conflict-of : RefutationsGiveSteps → (s : Standing) (ms : List Meaning) (parts : List (ℤ × ℕ)) → AreRefuted s ms parts
     → IsConflictOf s ms parts

@@ -186,9 +186,12 @@ module _ (t : Standing) (h : IsRun t) (more : List Inequality) where
 
   over-more : (x : Literal) → IsOver t.form [] x → IsOver form [] x
   over-more (l.Flag n b) o = o
-  over-more (l.Atom n b) o = (o.0, (
-      let a = append-nil t.form.atoms in let d = append-nil (t.form.atoms ++ more) in
-      let e = ap length a in let g = ap length d in let m = length-append t.form.atoms more in let q = o.1 in omega arith))
+  over-more (l.Atom n b) o = (
+    o.0,
+    (
+        let a = append-nil t.form.atoms in let d = append-nil (t.form.atoms ++ more) in
+        let e = ap length a in let g = ap length d in let m = length-append t.form.atoms more in let q = o.1 in omega arith),
+  )
 
   learnt-later : (known : List (List Literal)) (c : List Literal) → Contains t.listed c → IsLearnt t.form [] known c
       → IsLearnt form [] known c

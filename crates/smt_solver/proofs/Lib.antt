@@ -8,12 +8,10 @@ pub mod Valued
 pub mod Split
 pub mod Used
 pub mod Growing
+pub mod NumberEntries
 pub mod Adding
-pub mod Testing
 pub mod Splitting
 pub mod Conflicting
 pub mod NumberValued
 pub mod SplitTruth
 pub mod StopTruth
-pub mod Asserting
-pub mod Meanings

@@ -49,7 +49,7 @@ grown-plain f x c p h = All-append (IsPlainAtom f.shapes) f.atoms (split_atom (x
 module _ (decided : AtomsAreDecided) (fitting : FittingStepsAreTaken) (fit : SplitStepsFit) (f : Form) (x : ℕ) (c : ℤ)
     (plain : IsPlain f) (number : slice_get f.shapes x ≡ Some Number) (h : within c ≡ true)
     (o : within (negsuc 0 -ℤ c) ≡ true) where
-  form : Form
+  abbrev form : Form
   form = grown f (split_atom (x, c) ∷ [])
 
   limit : bound_by x (pos 1) c ≡ Some record { column = x; upper = true; limit = c }

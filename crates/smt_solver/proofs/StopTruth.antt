@@ -127,10 +127,11 @@ module _ (f : Form) (pairs : List (ℕ × ℤ)) (ms : List Meaning) (trail : Lis
 
   is-bound : (b : Limit) → Contains t.bounds b → IsBound f pairs (bound_view (plain b))
   is-bound b i =
-      let a = source b i in
-      (l.Atom (suc a.place) a.sign,
-      ap (bound_if a.sign) (meant-at a.place a.meaning a.is_meaning) ∙ sign-if a.sign a.meaning
-      ∙ ap (λ (c : Limit). Some (bound_view (plain c))) (sym a.is_bound))
+      let a = source b i in (
+        l.Atom (suc a.place) a.sign,
+        ap (bound_if a.sign) (meant-at a.place a.meaning a.is_meaning) ∙ sign-if a.sign a.meaning
+            ∙ ap (λ (c : Limit). Some (bound_view (plain c))) (sym a.is_bound),
+      )
 
   all-bounds : (bs : List Limit) → ((b : Limit) → Contains bs b → IsBound f pairs (bound_view (plain b)))
       → AllByRecursion (λ b. IsBound f pairs (bound_view b)) (map plain bs)
@@ -166,21 +167,26 @@ module _ (f : Form) (pairs : List (ℕ × ℤ)) (ms : List Meaning) (trail : Lis
       → IsLimit f (signed_bound sign m).limit
   own-limit a m sign e b = (
     signed_bound sign m,
-    (l.Atom (suc a) sign,
-    subst (λ (atoms : List Inequality). bound_if sign (slice_get (bounds_from (length f.shapes) atoms) a) ≡ Some (signed_bound sign m))
-    (sym (append-nil f.atoms))
-    (ap (bound_if sign) (sym (prefix-same (length f.shapes) f.atoms (map split_atom pairs) a b) ∙ meant-at a m e)
-    ∙ sign-if sign m)),
+    (
+      l.Atom (suc a) sign,
+      subst (λ (atoms : List Inequality). bound_if sign (slice_get (bounds_from (length f.shapes) atoms) a) ≡ Some (signed_bound sign m))
+          (sym (append-nil f.atoms))
+          (ap (bound_if sign) (sym (prefix-same (length f.shapes) f.atoms (map split_atom pairs) a b) ∙ meant-at a m e)
+          ∙ sign-if sign m),
+    ),
     refl,
   )
 
   ends : (j x : ℕ) (c : ℤ) (m : Meaning) (sign : Bool) → slice_get pairs j ≡ Some (x, c)
       → meaning_view m ≡ record { column = x; upper = true; limit = c } → IsSplitEnd pairs (signed_bound sign m).limit
   ends j x c m true e q = (x, inl (subst (λ z. Contains pairs (x, z)) (sym (ap (λ (b : Bound). b.limit) q)) (listed_at pairs j (x, c) e)))
-  ends j x c m false e q = (x, inr (subst (λ z. Contains pairs (x, z)) (back (opposite_bound (meaning_view m)).limit
-      (ap (λ (b : Bound). (opposite_bound b).limit) q)) (listed_at pairs j (x, c) e))) where
-        back : (z : ℤ) → z ≡ c +ℤ pos 1 → c ≡ z -ℤ pos 1
-        back z e = omega (arith, ints)
+  ends j x c m false e q = (
+    x,
+    inr (subst (λ z. Contains pairs (x, z)) (back (opposite_bound (meaning_view m)).limit
+        (ap (λ (b : Bound). (opposite_bound b).limit) q)) (listed_at pairs j (x, c) e)),
+  ) where
+    back : (z : ℤ) → z ≡ c +ℤ pos 1 → c ≡ z -ℤ pos 1
+    back z e = omega (arith, ints)
 
   split-limit : (j : ℕ) (m : Meaning) (sign : Bool) → slice_get ms (length f.atoms + j) ≡ Some m → j < length pairs
       → IsSplitEnd pairs (signed_bound sign m).limit

@@ -4,12 +4,17 @@
 ghost use Rattle.std.specs.Prelude.{List};
 ghost use Rattle.sys_terms.specs.View.{Formula, Machine, Task, Question};
 ghost use Rattle.smt_solver.specs.Boolean.{BooleanQueriesHaveNoAtoms};
+ghost use Rattle.smt_solver.specs.Conflicting.{RefutedBoundsConflict};
+ghost use Rattle.smt_solver.specs.Growing.{RunsGrow, RunsTakeSteps, SplitsAreTaken};
 ghost use Rattle.smt_solver.specs.NumberStates.{WholeValuesMeet};
 ghost use Rattle.smt_solver.specs.Run.{ClausesFit};
 ghost use Rattle.smt_solver.specs.Stops.{BrokenNumbersSplit, LongChecksAreLong, PastChecksArePast};
 ghost use Rattle.smt_solver.specs.NeedRoom.{FlagsBoundConflicts, RangesSuffice, SplitsNeedRoom, StopsNeedAtoms};
 
-use line_laws::laws::bounds_say_what_literals_say;
+use line_laws::laws::{
+    atoms_are_decided, bounds_say_what_literals_say, fitting_steps_are_taken,
+    refutations_give_steps, split_steps_fit,
+};
 use sat_core::laws::new_clauses_are_few;
 
 /// Where no term compares numbers, the query has no atom.
@@ -70,3 +75,31 @@ pub fn long_checks_are_long()
 pub fn past_checks_are_past()
     ensures { PastChecksArePast }
 {}
+
+/// What holds of a run at every turn still holds when its form gets further atoms.
+pub fn runs_grow()
+    ensures { RunsGrow }
+{}
+
+/// It holds too when the clause of a theory step that breaks no rule is added, also as a conflict where
+/// the clause says more than the known ones.
+pub fn runs_take_steps()
+    ensures { RunsTakeSteps }
+{}
+
+/// The step that a split's atom or its opposite is true breaks no rule.
+pub fn splits_are_taken()
+    ensures { SplitsAreTaken }
+{
+    atoms_are_decided();
+    fitting_steps_are_taken();
+    split_steps_fit();
+}
+
+/// Where bounds of true literals refute each other, the clause that one of these is false is that of a
+/// theory step, unless a number is outside 128 bits, and says more than the known clauses.
+pub fn refuted_bounds_conflict()
+    ensures { RefutedBoundsConflict }
+{
+    refutations_give_steps();
+}

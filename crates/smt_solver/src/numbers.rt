@@ -1,10 +1,6 @@
 //! The parts of a solver for queries that compare numbers. Nothing calls them yet.
 
-pub mod asserting;
-pub mod conflicting;
-pub mod growing;
 pub mod meanings;
 pub mod rows;
-pub mod splitting;
 pub mod states;
 pub mod steps;
