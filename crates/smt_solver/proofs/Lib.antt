@@ -8,7 +8,6 @@ pub mod Valued
 pub mod Split
 pub mod Used
 pub mod Growing
-pub mod NumberEntries
 pub mod Adding
 pub mod Splitting
 pub mod Conflicting

@@ -1,17 +1,16 @@
 //! The values of a query's variables, from a search and a tableau.
 
-ghost use Rattle.std.specs.Prelude.{◌≡◌, ◌<◌, ◌≤◌, true, length, IfOk};
-ghost use Rattle.smt_solver.specs.NumberStates.{number_entry, number_entries};
+ghost use Rattle.std.specs.Prelude.{◌≡◌, ◌<◌, true};
+ghost use Rattle.smt_solver.specs.NumberStates.{number_entry};
 
 use int_simplex::Tableau;
 use kind_num::Shape;
 use proof_steps::Literal;
 use sat_core::Search;
-use std::alloc::{AllocError, Global};
 use sys_terms::Entry;
 
 /// The value of a variable. A number's is the upper number of its column's fraction.
-fn entry(search: &Search, tableau: &Tableau, number: u32, shape: Shape) -> Entry
+pub fn entry(search: &Search, tableau: &Tableau, number: u32, shape: Shape) -> Entry
     requires usable { tableau.now.usable ≡ true }
     requires in_range { number < tableau.now.columns }
     ensures { result ≡ number_entry search.now.trail tableau.now.values number shape }
@@ -26,22 +25,4 @@ fn entry(search: &Search, tableau: &Tableau, number: u32, shape: Shape) -> Entry
             Entry::Number(top)
         }
     }
-}
-
-/// The values of the variables of these shapes.
-pub fn entries(
-    alloc: Global,
-    search: &Search,
-    tableau: &Tableau,
-    shapes: &[Shape],
-) -> Result<Vec<Entry>, AllocError>
-    requires usable { tableau.now.usable ≡ true }
-    requires columns { length shapes.now ≤ tableau.now.columns }
-    ensures { IfOk result (λ v. v.items ≡ number_entries search.now.trail tableau.now.values 0 shapes.now) }
-{
-    let mut entries = Vec::new(alloc);
-    for i in 0..shapes.len() {
-        entries.push(entry(search, tableau, i as u32, shapes[i]))?;
-    }
-    Ok(entries)
 }
