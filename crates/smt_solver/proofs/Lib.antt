@@ -1,6 +1,16 @@
 pub mod Literals
 pub mod Booleans
 pub mod NeedRoom
+pub mod Rooms
+pub mod Sums
 pub mod Turns
 pub mod Valued
 pub mod Split
+pub mod Used
+pub mod Growing
+pub mod Adding
+pub mod Splitting
+pub mod Conflicting
+pub mod NumberValued
+pub mod SplitTruth
+pub mod StopTruth

@@ -22,7 +22,7 @@ flags-within n [] = omega arith
 flags-within n (k.Flag ∷ shapes) = let i = flags-within (n + 1) shapes in omega arith
 flags-within n (k.Number ∷ shapes) = let i = flags-within (n + 1) shapes in omega arith
 
-power-grows : (m n : ℕ) → m ≤ n → 3 ^ m ≤ 3 ^ n
+pub power-grows : (m n : ℕ) → m ≤ n → 3 ^ m ≤ 3 ^ n
 power-grows zero zero h = omega arith
 power-grows zero (suc n) h = let i = power-grows zero n (omega arith) in omega arith
 power-grows (suc m) zero h = absurd (omega arith)

@@ -35,7 +35,7 @@ each P (x ∷ xs) g = (g x (0, omega arith, refl), each P xs (λ y c. g y (suc c
 pub all-of : {X : Type 0} (P : X → Type 0) (xs : List X) → ((x : X) → Contains xs x → P x) → All P xs
 all-of P xs g = All-from_recursion P xs (each P xs g)
 
-one : {X : Type 0} (P : X → Type 0) (x : X) → P x → All P (x ∷ [])
+pub one : {X : Type 0} (P : X → Type 0) (x : X) → P x → All P (x ∷ [])
 one P x h = All-from_recursion P (x ∷ []) (h, tt)
 
 -- the steps that are there, or the last one
@@ -50,7 +50,7 @@ get-last (z ∷ xs) x y (suc n) h = elim (get-last xs x y n h)
     [ inl p ↦ inl ((let l = p.0 in omega arith), p.1) | inr p ↦ inr (ap suc p.0, p.1) ]
 
 module _ (shapes : List Shape) (atoms : List Inequality) (clauses : List (List Literal)) where
-  right-more : (moves : List Move) (m : Move) → AreRight shapes atoms clauses moves
+  pub right-more : (moves : List Move) (m : Move) → AreRight shapes atoms clauses moves
       → move_fault shapes atoms (clauses ++ map added moves) m ≡ None
       → AreRight shapes atoms clauses (moves ++ m ∷ [])
   right-more moves m h g n x e = elim (get-last moves m x n e) [
@@ -72,7 +72,7 @@ step-right law f known clause hints h o m =
     (sym (append-nil f.atoms))
     (law f.shapes (length f.atoms) known clause hints h o m)
 
-known-more : (clauses : List (List Literal)) (moves : List Move) (m : Move)
+pub known-more : (clauses : List (List Literal)) (moves : List Move) (m : Move)
     → (clauses ++ map added moves) ++ added m ∷ [] ≡ clauses ++ map added (moves ++ m ∷ [])
 known-more clauses moves m =
     append_assoc clauses (map added moves) (added m ∷ [])
@@ -114,7 +114,7 @@ kept-run t new h e = record {
   among = subst (λ known. All (Contains known) t.listed) (sym e.known) h.among;
 }
 
-fit-of : (f : Form) (known : List (List Literal)) (clause : List Literal) (hints : List ℕ)
+pub fit-of : (f : Form) (known : List (List Literal)) (clause : List Literal) (hints : List ℕ)
     → derived_fault f.shapes (length f.atoms) known clause hints ≡ None
     → literals_fit f.shapes (length f.atoms) clause ≡ true
 fit-of f known clause hints e = go (literals_fit f.shapes (length f.atoms) clause) e where
@@ -139,14 +139,14 @@ one-over f (l.Atom zero b) h = absurd cc
 one-over f (l.Atom (suc n) b) h =
     let e = ap length (append-nil f.atoms) in (omega arith, grind (arith, nat_tests))
 
-all-over : (f : Form) (xs : List Literal) → literals_fit f.shapes (length f.atoms) xs ≡ true
+pub all-over : (f : Form) (xs : List Literal) → literals_fit f.shapes (length f.atoms) xs ≡ true
     → AllByRecursion (IsOver f []) xs
 all-over f [] h = tt
 all-over f (x ∷ xs) h =
     let k2 = both (literal_fits f.shapes (length f.atoms) x) (literals_fit f.shapes (length f.atoms) xs) h in
     (one-over f x k2.0, all-over f xs k2.1)
 
-learnt-more : (f : Form) (known cs : List (List Literal)) (c : List Literal) → AreLearnt f [] known cs
+pub learnt-more : (f : Form) (known cs : List (List Literal)) (c : List Literal) → AreLearnt f [] known cs
     → IsLearnt f [] (known ++ cs) c → AreLearnt f [] known (cs ++ c ∷ [])
 learnt-more f known [] c h g = (subst (λ ds. IsLearnt f [] ds c) (append-nil known) g, tt)
 learnt-more f known (d ∷ ds) c h g = (

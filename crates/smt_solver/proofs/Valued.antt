@@ -65,28 +65,28 @@ entries-fit trail n [] = refl
 entries-fit trail n (k.Flag ∷ shapes) = entries-fit trail (suc n) shapes
 entries-fit trail n (k.Number ∷ shapes) = entries-fit trail (suc n) shapes
 
-set-true : (trail : List Assigned) (x : Literal) → is_set (value_of trail x) ≡ has (trues trail) x
+pub set-true : (trail : List Assigned) (x : Literal) → is_set (value_of trail x) ≡ has (trues trail) x
 set-true trail x = go (has (trues trail) x) (has (falses trail) x) where
   go : (a b : Bool) → is_set (cond a (Some true) (cond b (Some false) None)) ≡ a
   go true b = refl
   go false true = refl
   go false false = refl
 
-some-shape : (shapes : List Shape) (x : ℕ) → x < length shapes → (s : Shape) × (slice_get shapes x ≡ Some s)
+pub some-shape : (shapes : List Shape) (x : ℕ) → x < length shapes → (s : Shape) × (slice_get shapes x ≡ Some s)
 some-shape [] x h = absurd (omega arith)
 some-shape (s ∷ shapes) zero h = (s, refl)
 some-shape (s ∷ shapes) (suc x) h = some-shape shapes x (omega arith)
 
 -- where a true literal stands
-abbrev StandsAt : List Assigned → Literal → Type 0
+abbrev pub StandsAt : List Assigned → Literal → Type 0
 StandsAt trail y = (i : ℕ) × (a : Assigned) × (slice_get trail i ≡ Some a) × (a.literal ≡ y)
 
-stands : (trail : List Assigned) (y : Literal) → Contains (trues trail) y → StandsAt trail y
+pub stands : (trail : List Assigned) (y : Literal) → Contains (trues trail) y → StandsAt trail y
 stands [] y (i, h, q) = absurd (omega arith)
 stands (a ∷ trail) y (zero, h, q) = (0, a, refl, q)
 stands (a ∷ trail) y (suc i, h, q) = let s = stands trail y (i, omega arith, q) in (suc s.0, s.1, s.2, s.3)
 
-order : (i j : ℕ) → (i < j) ⊎ ((j < i) ⊎ (i ≡ j))
+pub order : (i j : ℕ) → (i < j) ⊎ ((j < i) ⊎ (i ≡ j))
 order zero zero = inr (inr refl)
 order zero (suc j) = inl (omega arith)
 order (suc i) zero = inr (inl (omega arith))
@@ -116,7 +116,7 @@ both : (a b : Bool) → cond a b false ≡ true → (a ≡ true) × (b ≡ true)
 both true b e = (refl, e)
 both false b e = absurd cc
 
-fits-in : (shapes : List Shape) (atoms : ℕ) (clause : List Literal) (x : Literal)
+pub fits-in : (shapes : List Shape) (atoms : ℕ) (clause : List Literal) (x : Literal)
     → literals_fit shapes atoms clause ≡ true → Contains clause x → literal_fits shapes atoms x ≡ true
 fits-in shapes atoms [] x h (i, m, q) = absurd (omega arith)
 fits-in shapes atoms (y ∷ ys) x h (zero, m, q) =
@@ -124,7 +124,7 @@ fits-in shapes atoms (y ∷ ys) x h (zero, m, q) =
 fits-in shapes atoms (y ∷ ys) x h (suc i, m, q) =
     fits-in shapes atoms ys x (both (literal_fits shapes atoms y) (literals_fit shapes atoms ys) h).1 (i, omega arith, q)
 
-clause-of : (atoms : List Inequality) (w : Values) (c : List Literal) (x : Literal) → Contains c x
+pub clause-of : (atoms : List Inequality) (w : Values) (c : List Literal) (x : Literal) → Contains c x
     → literal_true atoms w x ≡ true → clause_true atoms w c ≡ true
 clause-of atoms w [] x (i, m, q) h = absurd (omega arith)
 clause-of atoms w (y ∷ ys) x (zero, m, q) h =

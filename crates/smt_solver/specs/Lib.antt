@@ -1,6 +1,14 @@
 pub mod View
 pub mod Answered
+pub mod Asserting
 pub mod Boolean
+pub mod Conflicting
+pub mod Growing
 pub mod NeedRoom
+pub mod NumberStates
+pub mod Room
 pub mod Run
 pub mod States
+pub mod Stops
+pub mod Sums
+pub mod Used

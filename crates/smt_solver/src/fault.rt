@@ -3,6 +3,7 @@
 ghost use Rattle.std.specs.Prelude.{◌≡◌, alloc_error};
 ghost use Rattle.smt_solver.specs.declared.fault.SolveFault.TheVariants.{Memory};
 
+use int_simplex::TableauFault;
 use sat_core::SearchFault;
 use std::alloc::{AllocError, AllocFailed};
 use sys_terms::QueryFault;
@@ -44,6 +45,14 @@ impl From<SearchFault> for SolveFault {
     fn from(fault: SearchFault) -> SolveFault {
         match fault {
             SearchFault::Memory(error) => SolveFault::Memory(error),
+        }
+    }
+}
+
+impl From<TableauFault> for SolveFault {
+    fn from(fault: TableauFault) -> SolveFault {
+        match fault {
+            TableauFault::Memory(error) => SolveFault::Memory(error),
         }
     }
 }

@@ -4,9 +4,17 @@
 ghost use Rattle.std.specs.Prelude.{List};
 ghost use Rattle.sys_terms.specs.View.{Formula, Machine, Task, Question};
 ghost use Rattle.smt_solver.specs.Boolean.{BooleanQueriesHaveNoAtoms};
+ghost use Rattle.smt_solver.specs.Conflicting.{RefutedBoundsConflict};
+ghost use Rattle.smt_solver.specs.Growing.{RunsGrow, RunsTakeSteps, SplitsAreTaken};
+ghost use Rattle.smt_solver.specs.NumberStates.{WholeValuesMeet};
 ghost use Rattle.smt_solver.specs.Run.{ClausesFit};
-ghost use Rattle.smt_solver.specs.NeedRoom.{FlagsBoundConflicts, StopsNeedAtoms};
+ghost use Rattle.smt_solver.specs.Stops.{BrokenNumbersSplit, LongChecksAreLong, PastChecksArePast};
+ghost use Rattle.smt_solver.specs.NeedRoom.{FlagsBoundConflicts, RangesSuffice, SplitsNeedRoom, StopsNeedAtoms};
 
+use line_laws::laws::{
+    atoms_are_decided, bounds_say_what_literals_say, fitting_steps_are_taken,
+    refutations_give_steps, split_steps_fit,
+};
 use sat_core::laws::new_clauses_are_few;
 
 /// Where no term compares numbers, the query has no atom.
@@ -30,3 +38,68 @@ pub fn flags_bound_conflicts()
 pub fn stops_need_atoms()
     ensures { StopsNeedAtoms }
 {}
+
+/// Where each number has a range, splits are at most as many as there is room in the ranges.
+pub fn splits_need_room()
+    ensures { SplitsNeedRoom }
+{}
+
+/// Where each number has a range, splits never use up a budget above the room, nor conflicts one of 3 to the
+/// number of flags, atoms and room.
+pub fn ranges_suffice()
+    ensures { RangesSuffice }
+{
+    new_clauses_are_few();
+}
+
+/// Where a tableau's values are whole and meet the bounds of an assignment that makes the clauses true,
+/// the states that they make meet the query's conditions.
+pub fn whole_values_meet()
+    ensures { WholeValuesMeet }
+{
+    bounds_say_what_literals_say();
+}
+
+/// Where they are not all whole, the least column whose value is not is a number of the query, and its
+/// split at that value's floor is a true one.
+pub fn broken_numbers_split()
+    ensures { BrokenNumbersSplit }
+{}
+
+/// A check that is stopped for its pivots is a true stop of the query with its splits.
+pub fn long_checks_are_long()
+    ensures { LongChecksAreLong }
+{}
+
+/// A check that is stopped for an operation outside 128 bits is a true stop of the query with its splits.
+pub fn past_checks_are_past()
+    ensures { PastChecksArePast }
+{}
+
+/// What holds of a run at every turn still holds when its form gets further atoms.
+pub fn runs_grow()
+    ensures { RunsGrow }
+{}
+
+/// It holds too when the clause of a theory step that breaks no rule is added, also as a conflict where
+/// the clause says more than the known ones.
+pub fn runs_take_steps()
+    ensures { RunsTakeSteps }
+{}
+
+/// The step that a split's atom or its opposite is true breaks no rule.
+pub fn splits_are_taken()
+    ensures { SplitsAreTaken }
+{
+    atoms_are_decided();
+    fitting_steps_are_taken();
+    split_steps_fit();
+}
+
+/// Where bounds of true literals refute each other, the clause that one of these is false is that of a
+/// theory step, unless a number is outside 128 bits, and says more than the known clauses.
+pub fn refuted_bounds_conflict()
+    ensures { RefutedBoundsConflict }
+{
+    refutations_give_steps();
+}

@@ -9,6 +9,7 @@ mod answer;
 mod boolean;
 mod fault;
 pub mod laws;
+mod numbers;
 mod run;
 mod solving;
 mod states;

@@ -49,7 +49,7 @@ pub fn last_step(alloc: Global, log: &[Step]) -> Result<Step, AllocError>
 }
 
 /// The clause that the step adds.
-fn added_clause(step: &Step) -> &Clause
+pub fn added_clause(step: &Step) -> &Clause
     ensures { clause_view result.now ≡ added (step_view step.now) }
 {
     match step {

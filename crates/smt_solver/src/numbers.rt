@@ -1,0 +1,6 @@
+//! The parts of a solver for queries that compare numbers. Nothing calls them yet.
+
+pub mod meanings;
+pub mod rows;
+pub mod states;
+pub mod steps;
