@@ -14,7 +14,7 @@ returns-in_err-checked g c =
 pub proof_report-requires : goal.proof_report-requires
 proof_report-requires g c =
     let read = rw c.deref.ensures.value at c.in_ok-checked.ensures in
-    readable_source c.identified_sources.ensures c.in_ok-bytes.bytes.items (program_view c.in_ok-checked.checked) read.0 read.1.1
+    readable_source c.identified_sources.ensures c.in_ok-bytes.bytes.items (program_view c.in_ok-checked.checked) read.0 read.2
 
 pub returns : goal.returns
 returns g c =
@@ -22,5 +22,5 @@ returns g c =
     let read = rw c.deref.ensures.value at c.in_ok-checked.ensures in
     proof_done (g.H.Shelf.told c.args.shelf.now) (g.H.Shelf.faults c.args.shelf.now) (g.H.Shelf.faults c.fetch.new.shelf) c.args.source.now
     (program_view c.in_ok-checked.checked)
-    (held_source _ (program_view c.in_ok-checked.checked) c.in_ok-bytes.bytes.items held.0 held.1 read.0 read.1.0 read.1.1)
+    (held_source _ (program_view c.in_ok-checked.checked) c.in_ok-bytes.bytes.items held.0 held.1 read.0 read.1 read.2)
     _ _ c.in_ok-proof_report.ensures
