@@ -19,6 +19,7 @@ fn contract_of(node: &Node) -> &[ContractItem]
 }
 
 impl<'a> Owner<'a> {
+    /// Its inputs, in text order. Nothing has none.
     pub fn inputs(self) -> &'a [Param]
         ensures { map param_view result.now ≡ (owner_view self.entry).inputs }
     {
@@ -29,6 +30,7 @@ impl<'a> Owner<'a> {
         }
     }
 
+    /// Its outputs, in text order. Nothing has none.
     pub fn outputs(self) -> &'a [Param]
         ensures { map param_view result.now ≡ (owner_view self.entry).outputs }
     {
@@ -39,6 +41,7 @@ impl<'a> Owner<'a> {
         }
     }
 
+    /// Its locals, in text order. A contract node has none.
     pub fn locals(self) -> &'a [Param]
         ensures { map param_view result.now ≡ (owner_view self.entry).locals }
     {
@@ -48,6 +51,7 @@ impl<'a> Owner<'a> {
         }
     }
 
+    /// The constants of its body, in text order. A contract node has none.
     pub fn constants(self) -> &'a [Definition]
         ensures { map definition_view result.now ≡ (owner_view self.entry).constants }
     {
@@ -57,6 +61,7 @@ impl<'a> Owner<'a> {
         }
     }
 
+    /// The items of its contract, in text order. A node without a contract has none.
     pub fn contract(self) -> &'a [ContractItem]
         ensures { map contract_item_view result.now ≡ contract_statements (owner_view self.entry) }
     {
@@ -67,6 +72,7 @@ impl<'a> Owner<'a> {
         }
     }
 
+    /// The items of its body, in text order. A contract node has none.
     pub fn body(self) -> &'a [Item]
         ensures { map item_view result.now ≡ (owner_view self.entry).body }
     {
@@ -76,6 +82,7 @@ impl<'a> Owner<'a> {
         }
     }
 
+    /// Whether it is a function.
     pub fn is_function(self) -> bool
         ensures { result ≡ (owner_view self.entry).function }
     {
