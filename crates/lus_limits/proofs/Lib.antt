@@ -6,3 +6,5 @@ pub mod Occurring
 pub mod Seats
 pub mod Sums
 pub mod Cutting
+pub mod Peaks
+pub mod SizeSummaries

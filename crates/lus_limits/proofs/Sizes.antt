@@ -13,7 +13,7 @@ use Rattle.lus_limits.specs.Sizes.{sizes_at, callee_sizes, ContractSizesByText, 
 use Rattle.lus_limits.proofs.Instances.{component_called, made_of_callees}
 
 -- what is made of a declaration's text and of its callees
-abbrev made : Program → Component → Instance
+abbrev pub made : Program → Component → Instance
 made p n = instance n (constants_in p n) (instances_with (instance_called_so p) (all_sites n))
 
 -- ---- contracts
@@ -99,7 +99,7 @@ terms_by_text p c n i f =
 
 -- ---- cuts
 
-same_size : (a b : Size) → a.levels ≡ b.levels → a.parts ≡ b.parts → a ≡ b
+pub same_size : (a b : Size) → a.levels ≡ b.levels → a.parts ≡ b.parts → a ≡ b
 same_size a b e f = ap (λ x. record { levels = x; parts = a.parts }) e ∙ ap (λ x. record { levels = b.levels; parts = x }) f
 
 greatest_cut : (k a b : ℕ) → min k (max a b) ≡ min k (max (min k a) (min k b))

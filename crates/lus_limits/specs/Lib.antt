@@ -5,3 +5,5 @@ pub mod Sizes
 pub mod Parts
 pub mod Calls
 pub mod Summaries
+pub mod Peaks
+pub mod SizeSummaries

@@ -4,6 +4,7 @@ ghost use Rattle.lus_limits.specs.Instances.{MadeOfCallees};
 ghost use Rattle.lus_limits.specs.Widths.{WidthByText, WidthIsPlain, WidthCuts};
 ghost use Rattle.lus_limits.specs.Counts.{ContractByText, PropertiesByText, CountCuts, PropertyCuts};
 ghost use Rattle.lus_limits.specs.Summaries.{SummaryByText};
+ghost use Rattle.lus_limits.specs.SizeSummaries.{SizeSummaryByText, TermsBySummaries, LimitsByPeaks};
 ghost use Rattle.lus_limits.specs.Sizes.{ContractSizesByText, FramesByText, TermsByText, BesideCuts, AboveCuts};
 
 /// The instance of a declaration of a checked program is made of its text and of the instances of its callees.
@@ -44,4 +45,13 @@ pub fn sizes_by_text()
 /// is needed of its callees.
 pub fn summary_by_text()
     ensures { SummaryByText }
+{}
+
+/// In a checked program what callers need of the sizes of a declaration's terms is finite, and known from its own text
+/// and from what is needed of its callees; so are the greatest levels and parts of the terms of a node's system, which
+/// tell whether some term passes a limit.
+pub fn size_summary_by_text()
+    ensures summaries { SizeSummaryByText }
+    ensures terms { TermsBySummaries }
+    ensures limits { LimitsByPeaks }
 {}
