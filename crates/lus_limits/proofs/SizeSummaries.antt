@@ -15,7 +15,7 @@ use Rattle.lus_meaning.proofs.Lists.{append_none}
 use Rattle.lus_limits.specs.Instances.{callee, instance_called_so}
 use Rattle.lus_limits.specs.Sizes.{sizes_at, callee_sizes}
 use Rattle.lus_limits.specs.Peaks.{no_size, greater, peak, by_and, by_or, chain, followed, alone}
-use Rattle.lus_limits.specs.SizeSummaries.{can_be_named, is_own, those_with, ContractPeaks, no_peaks, contract_peaks, with_assumption, with_promises, with_mode, with_import, peaks_after, SizeSummary, inputs_given, all_given, size_summary_of, sofar_by, own_by, frame_of, sites_by, frame_by, contract_by, size_summary_by, owed_size, owed_by, all_owed_by, terms_by, summaries_in, SizeSummaryByText, TermsBySummaries, LimitsByPeaks}
+use Rattle.lus_limits.specs.SizeSummaries.{can_be_named, is_own, those_with, ContractPeaks, no_peaks, contract_peaks, with_assumption, with_promises, with_mode, with_import, peaks_after, SizeSummary, inputs_given, all_given, size_summary_of, sofar_by, own_by, frame_of, sites_by, frame_by, contract_by, size_summary_by, owed_size, owed_by, all_owed_by, terms_by, contract_at, summaries_at, SizeSummaryByText, TermsBySummaries, LimitsByPeaks}
 use Rattle.lus_limits.proofs.Instances.{component_called, made_of_callees}
 use Rattle.lus_limits.proofs.Peaks.{greater_none, peak_both, levels_pass, parts_pass, chain_both, chain_one, all_chained, some_chained}
 use Rattle.lus_limits.proofs.Sizes.{made, same_size, contract_sizes_by_text}
@@ -179,16 +179,19 @@ mapped_twice : {A B C : Type 0} (f : B → C) (g : A → B) (xs : List A) → ma
 mapped_twice f g [] = refl
 mapped_twice f g (x ∷ xs) = ap (λ r. f (g x) ∷ r) (mapped_twice f g xs)
 
+at_is : (p : Program) (ss : List Site) (k : ℕ) → contract_peaks (sizes_at (callee_sizes p) ss k) ≡ contract_at (summaries_at p ss) k
+at_is p ss k =
+    index_mapped contract_peaks (map (λ s. callee_sizes p s.callee) ss) (pred k) no_sizes
+    ∙ ap (λ rs. slice_index_or rs (pred k) no_peaks)
+    (mapped_twice contract_peaks (λ s. callee_sizes p s.callee) ss
+    ∙ sym (mapped_twice (λ z. z.contract) (λ s. size_summary_of p (callee p s.callee)) ss))
+
 contract_is : (p : Program) (n : Component) →
-    contract_peaks (sizes_after n (sizes_at (callee_sizes p) (all_sites n)) no_sizes (contract_statements n)) ≡ contract_by (summaries_in p) n
+    contract_peaks (sizes_after n (sizes_at (callee_sizes p) (all_sites n)) no_sizes (contract_statements n))
+    ≡ contract_by (summaries_at p (all_sites n)) n
 contract_is p n =
     by_statements n (sizes_at (callee_sizes p) (all_sites n)) no_sizes (contract_statements n)
-    ∙ ap (λ sub. peaks_after n sub no_peaks (contract_statements n)) (λ i k. sub_is k i) where
-  sub_is : (k : ℕ) → contract_peaks (sizes_at (callee_sizes p) (all_sites n) k)
-      ≡ slice_index_or (map (λ s. (summaries_in p s.callee).contract) (all_sites n)) (pred k) no_peaks
-  sub_is k =
-      index_mapped contract_peaks (map (λ s. callee_sizes p s.callee) (all_sites n)) (pred k) no_sizes
-      ∙ ap (λ rs. slice_index_or rs (pred k) no_peaks) (mapped_twice contract_peaks (λ s. callee_sizes p s.callee) (all_sites n))
+    ∙ ap (λ sub. peaks_after n sub no_peaks (contract_statements n)) (λ i k. at_is p (all_sites n) k i)
 
 -- ---- frames
 
@@ -262,7 +265,7 @@ frame_is p s c =
     ∙ frame_of_is p s.manner c
 
 sites_are : (p : Program) (n : Component) (ms : ModeSizes) (ss : List Site) →
-    peak (call_sizes n ms (instances_with (instance_called_so p) ss)) ≡ sites_by (summaries_in p) n (near ms) ss
+    peak (call_sizes n ms (instances_with (instance_called_so p) ss)) ≡ sites_by n (near ms) ss (summaries_at p ss)
 sites_are p n ms [] = refl
 sites_are p n ms (s ∷ ss) =
     let k : Instance = instance_called_so p s.callee in
@@ -272,10 +275,10 @@ sites_are p n ms (s ∷ ss) =
     ∙ ap (greater (peak (site_sizes n (near ms) s no_component s.manner)))
     (peak_both (frame_sizes (from_caller s k) k) rest
     ∙ ap (λ x. greater x (peak rest)) (frame_is p s (callee p s.callee))
-    ∙ ap (greater (frame_of s.manner (summaries_in p s.callee))) (sites_are p n ms ss))
+    ∙ ap (greater (frame_of s.manner (size_summary_of p (callee p s.callee)))) (sites_are p n ms ss))
 
 frame_made : (p : Program) (n : Component) (given : List Name) →
-    peak (frame_sizes given (made p n)) ≡ frame_by (summaries_in p) given n (contract_peaks (contract_sizes (made p n)))
+    peak (frame_sizes given (made p n)) ≡ frame_by (summaries_at p (all_sites n)) given n (contract_peaks (contract_sizes (made p n)))
 frame_made p n given =
     let r : ContractSizes = contract_sizes (made p n) in
     let calls : List Size = call_sizes n r.modes (instances_with (instance_called_so p) (all_sites n)) in
@@ -289,13 +292,13 @@ same_summary a b e f g = λ i. record { contract = e i; called = f i; imported =
 pub size_summary_by_text : SizeSummaryByText
 size_summary_by_text p c n i =
     let e : instance_of p n ≡ made p n = made_of_callees p c n i in
-    let r : contract_peaks (contract_sizes (instance_of p n)) ≡ contract_by (summaries_in p) n =
+    let r : contract_peaks (contract_sizes (instance_of p n)) ≡ contract_by (summaries_at p (all_sites n)) n =
     ap contract_peaks (contract_sizes_by_text p c n i) ∙ contract_is p n in
-    let q : contract_peaks (contract_sizes (made p n)) ≡ contract_by (summaries_in p) n =
+    let q : contract_peaks (contract_sizes (made p n)) ≡ contract_by (summaries_at p (all_sites n)) n =
     ap (λ k. contract_peaks (contract_sizes k)) (sym e) ∙ r in
-    let f : (given : List Name) → peak (frame_sizes given (instance_of p n)) ≡ frame_by (summaries_in p) given n (contract_by (summaries_in p) n) =
-    λ given. ap (λ k. peak (frame_sizes given k)) e ∙ frame_made p n given ∙ ap (frame_by (summaries_in p) given n) q in
-    same_summary (size_summary_of p n) (size_summary_by (summaries_in p) n) r (f (inputs_given n)) (f (all_given n))
+    let f : (given : List Name) → peak (frame_sizes given (instance_of p n)) ≡ frame_by (summaries_at p (all_sites n)) given n (contract_by (summaries_at p (all_sites n)) n) =
+    λ given. ap (λ k. peak (frame_sizes given k)) e ∙ frame_made p n given ∙ ap (frame_by (summaries_at p (all_sites n)) given n) q in
+    same_summary (size_summary_of p n) (size_summary_by (summaries_at p (all_sites n)) n) r (f (inputs_given n)) (f (all_given n))
 
 -- ---- a node's system
 
@@ -313,7 +316,7 @@ owed_is plain k = owed_peak (contract_sizes k).assumes
 owed_is (while_true a) k = owed_peak (contract_sizes k).assumes
 
 all_owed_are : (p : Program) (ss : List Site) →
-    peak (owed_by_sites (instances_with (instance_called_so p) ss)) ≡ all_owed_by (summaries_in p) ss
+    peak (owed_by_sites (instances_with (instance_called_so p) ss)) ≡ all_owed_by ss (summaries_at p ss)
 all_owed_are p [] = refl
 all_owed_are p (s ∷ ss) =
     let k : Instance = instance_called_so p s.callee in
@@ -321,16 +324,16 @@ all_owed_are p (s ∷ ss) =
     peak_both (owed_sizes s.manner k) rest ∙ ap (λ x. greater x (peak rest)) (owed_is s.manner k)
     ∙ ap (greater (owed_by s.manner (contract_peaks (contract_sizes k)))) (all_owed_are p ss)
 
--- the greatest of the terms, by the frame's and by the contract's
-abbrev terms_with : (Name → SizeSummary) → Component → Size → ContractPeaks → Size
-terms_with g n called r =
-    greater called
-    (greater r.assumes
-    (greater (peak (property_sizes n r.modes n.body))
-    (greater r.promises (greater r.active.whole (all_owed_by g (all_sites n))))))
+-- what is seen of an instance
+abbrev seen_of : Component → Instance → SizeSummary
+seen_of n k = record {
+  contract = contract_peaks (contract_sizes k);
+  called = peak (frame_sizes (inputs_given n) k);
+  imported = peak (frame_sizes (all_given n) k);
+}
 
 terms_made : (p : Program) (n : Component) → peak (term_sizes (made p n))
-    ≡ terms_with (summaries_in p) n (peak (frame_sizes (inputs_given n) (made p n))) (contract_peaks (contract_sizes (made p n)))
+    ≡ terms_by (summaries_at p (all_sites n)) n (seen_of n (made p n))
 terms_made p n =
     let r : ContractSizes = contract_sizes (made p n) in
     let fs : List Size = frame_sizes (inputs_given n) (made p n) in
@@ -351,10 +354,7 @@ terms_made p n =
 pub terms_by_summaries : TermsBySummaries
 terms_by_summaries p c n i =
     let e : instance_of p n ≡ made p n = made_of_callees p c n i in
-    let z : size_summary_of p n ≡ size_summary_by (summaries_in p) n = size_summary_by_text p c n i in
-    ap (λ k. peak (term_sizes k)) e ∙ terms_made p n
-    ∙ ap (λ k. terms_with (summaries_in p) n (peak (frame_sizes (inputs_given n) k)) (contract_peaks (contract_sizes k))) (sym e)
-    ∙ ap (λ s. terms_with (summaries_in p) n s.called s.contract) z
+    ap (λ k. peak (term_sizes k)) e ∙ terms_made p n ∙ ap (λ k. terms_by (summaries_at p (all_sites n)) n (seen_of n k)) (sym e)
 
 pub limits_by_peaks : LimitsByPeaks
 limits_by_peaks k ss = (levels_pass k ss, parts_pass k ss)

@@ -121,25 +121,27 @@ frame_of (as_import xs) z = z.imported
 frame_of plain z = z.called
 frame_of (while_true a) z = z.called
 
--- what stands for each call, and its frame
-abbrev pub sites_by : (Name → SizeSummary) → Component → ModeSizes → List Site → Size
-sites_by g n ms [] = no_size
-sites_by g n ms (s ∷ ss) =
-    greater (peak (site_sizes n ms s no_component s.manner))
-    (greater (frame_of s.manner (g s.callee)) (sites_by g n ms ss))
+-- what stands for each call, and its frame; callees have summaries by the numbers of the calls
+abbrev pub sites_by : Component → ModeSizes → List Site → List SizeSummary → Size
+sites_by n ms [] zs = no_size
+sites_by n ms (s ∷ ss) [] = no_size
+sites_by n ms (s ∷ ss) (z ∷ zs) =
+    greater (peak (site_sizes n ms s no_component s.manner)) (greater (frame_of s.manner z) (sites_by n ms ss zs))
 
-abbrev pub frame_by : (Name → SizeSummary) → List Name → Component → ContractPeaks → Size
-frame_by g given n r = greater (peak (own_by given n r)) (sites_by g n r.modes (all_sites n))
+abbrev pub frame_by : List SizeSummary → List Name → Component → ContractPeaks → Size
+frame_by zs given n r = greater (peak (own_by given n r)) (sites_by n r.modes (all_sites n) zs)
 
-abbrev pub contract_by : (Name → SizeSummary) → Component → ContractPeaks
-contract_by g n =
-    peaks_after n (λ k. slice_index_or (map (λ s. (g s.callee).contract) (all_sites n)) (pred k) no_peaks) no_peaks
-    (contract_statements n)
+-- that of the call or import with that number
+abbrev pub contract_at : List SizeSummary → ℕ → ContractPeaks
+contract_at zs k = slice_index_or (map (λ z. z.contract) zs) (pred k) no_peaks
 
-abbrev pub size_summary_by : (Name → SizeSummary) → Component → SizeSummary
-size_summary_by g n =
-    let r : ContractPeaks = contract_by g n in
-    record { contract = r; called = frame_by g (inputs_given n) n r; imported = frame_by g (all_given n) n r }
+abbrev pub contract_by : List SizeSummary → Component → ContractPeaks
+contract_by zs n = peaks_after n (contract_at zs) no_peaks (contract_statements n)
+
+abbrev pub size_summary_by : List SizeSummary → Component → SizeSummary
+size_summary_by zs n =
+    let r : ContractPeaks = contract_by zs n in
+    record { contract = r; called = frame_by zs (inputs_given n) n r; imported = frame_by zs (all_given n) n r }
 
 -- ---- a node's system
 
@@ -152,34 +154,35 @@ owed_by (as_import xs) r = no_size
 owed_by plain r = cond r.assumed.is_none no_size (owed_size r.assumes)
 owed_by (while_true a) r = cond r.assumed.is_none no_size (owed_size r.assumes)
 
-abbrev pub all_owed_by : (Name → SizeSummary) → List Site → Size
-all_owed_by g [] = no_size
-all_owed_by g (s ∷ ss) = greater (owed_by s.manner (g s.callee).contract) (all_owed_by g ss)
+abbrev pub all_owed_by : List Site → List SizeSummary → Size
+all_owed_by [] zs = no_size
+all_owed_by (s ∷ ss) [] = no_size
+all_owed_by (s ∷ ss) (z ∷ zs) = greater (owed_by s.manner z.contract) (all_owed_by ss zs)
 
--- the greatest sizes of the terms of a node's system
-abbrev pub terms_by : (Name → SizeSummary) → Component → Size
-terms_by g n =
-    let z : SizeSummary = size_summary_by g n in
+-- the greatest sizes of the terms of a node's system, by its own summary and those of its callees
+abbrev pub terms_by : List SizeSummary → Component → SizeSummary → Size
+terms_by zs n z =
     greater z.called
     (greater z.contract.assumes
     (greater (peak (property_sizes n z.contract.modes n.body))
-    (greater z.contract.promises (greater z.contract.active.whole (all_owed_by g (all_sites n))))))
+    (greater z.contract.promises (greater z.contract.active.whole (all_owed_by (all_sites n) zs)))))
 
 -- ---- what is proved
 
--- the summaries of callees
-abbrev pub summaries_in : Program → Name → SizeSummary
-summaries_in p x = size_summary_of p (callee p x)
+-- the summaries of what a declaration calls and imports, by number
+abbrev pub summaries_at : Program → List Site → List SizeSummary
+summaries_at p ss = map (λ s. size_summary_of p (callee p s.callee)) ss
 
 -- in a checked program the summary of a declaration is known from its own text and the summaries of its callees
 abbrev pub SizeSummaryByText : Type 0
-SizeSummaryByText = OfEach (λ p n. size_summary_of p n ≡ size_summary_by (summaries_in p) n)
+SizeSummaryByText = OfEach (λ p n. size_summary_of p n ≡ size_summary_by (summaries_at p (all_sites n)) n)
 
--- whether a term of a node's system has more levels or parts than a limit
+-- and so are the greatest levels and parts of the terms of a node's system
 abbrev pub TermsBySummaries : Type 0
 TermsBySummaries =
-    OfEach (λ p n. peak (term_sizes (instance_of p n)) ≡ terms_by (summaries_in p) n)
+    OfEach (λ p n. peak (term_sizes (instance_of p n)) ≡ terms_by (summaries_at p (all_sites n)) n (size_summary_of p n))
 
+-- they tell whether some term passes a limit
 abbrev pub LimitsByPeaks : Type 0
 LimitsByPeaks =
     (k : ℕ) (ss : List Size) →
