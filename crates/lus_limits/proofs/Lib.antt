@@ -8,3 +8,4 @@ pub mod Sums
 pub mod Cutting
 pub mod Peaks
 pub mod SizeSummaries
+pub mod SizeCuts

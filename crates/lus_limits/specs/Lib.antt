@@ -7,3 +7,4 @@ pub mod Calls
 pub mod Summaries
 pub mod Peaks
 pub mod SizeSummaries
+pub mod SizeCuts

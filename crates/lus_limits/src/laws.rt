@@ -4,6 +4,7 @@ ghost use Rattle.lus_limits.specs.Instances.{MadeOfCallees};
 ghost use Rattle.lus_limits.specs.Widths.{WidthByText, WidthIsPlain, WidthCuts};
 ghost use Rattle.lus_limits.specs.Counts.{ContractByText, PropertiesByText, CountCuts, PropertyCuts};
 ghost use Rattle.lus_limits.specs.Summaries.{SummaryByText};
+ghost use Rattle.lus_limits.specs.SizeCuts.{SizeSummaryCuts, TermsCut};
 ghost use Rattle.lus_limits.specs.SizeSummaries.{SizeSummaryByText, TermsBySummaries, LimitsByPeaks};
 ghost use Rattle.lus_limits.specs.Sizes.{ContractSizesByText, FramesByText, TermsByText, BesideCuts, AboveCuts};
 
@@ -54,4 +55,11 @@ pub fn size_summary_by_text()
     ensures summaries { SizeSummaryByText }
     ensures terms { TermsBySummaries }
     ensures limits { LimitsByPeaks }
+{}
+
+/// What callers need of the sizes of a declaration's terms is known, cut past the limits, from what is needed of its
+/// callees, cut as well.
+pub fn size_summaries_cut()
+    ensures summaries { SizeSummaryCuts }
+    ensures terms { TermsCut }
 {}
