@@ -8,3 +8,4 @@ pub mod Summaries
 pub mod Peaks
 pub mod SizeSummaries
 pub mod SizeCuts
+pub mod Measured

@@ -6,6 +6,7 @@ mod calls;
 pub mod laws;
 mod part;
 mod sites;
+mod term_size;
 mod summing;
 mod texts;
 
