@@ -4,8 +4,14 @@
 
 mod calls;
 pub mod laws;
+mod clock;
+mod lookup;
+mod measuring;
+mod names;
+mod owner;
 mod part;
 mod sites;
+mod streams;
 mod term_size;
 mod summing;
 mod texts;

@@ -40,6 +40,16 @@ fn greatest(left: u32, right: u32) -> u32
     if left < right { right } else { left }
 }
 
+/// A size, cut.
+pub(crate) fn cut(size: Size) -> Size
+    ensures { size_view result ≡ cut_term (size_view size) }
+{
+    Size {
+        levels: cut_levels(size.levels),
+        parts: cut_parts(size.parts),
+    }
+}
+
 /// Of no term.
 pub(crate) fn no_size() -> Size
     ensures { size_view result ≡ no_size }
