@@ -36,13 +36,13 @@ pub cut_greater : (a b : Size) → cut_term (greater a b) ≡ cut_term (greater 
 cut_greater a b = same_size (cut_term (greater a b)) (cut_term (greater (cut_term a) (cut_term b))) (omega arith) (omega arith)
 
 -- what is alike once cut
-abbrev Alike : Size → Size → Type 0
+abbrev pub Alike : Size → Size → Type 0
 Alike a b = cut_term a ≡ cut_term b
 
 one_alike : (a b : Size) → Alike a b → Alike (one a) (one b)
 one_alike a b e = cut_one a ∙ ap (λ x. cut_term (one x)) e ∙ sym (cut_one b)
 
-two_alike : (a b c d : Size) → Alike a b → Alike c d → Alike (two a c) (two b d)
+pub two_alike : (a b c d : Size) → Alike a b → Alike c d → Alike (two a c) (two b d)
 two_alike a b c d e f =
     cut_two a c ∙ ap (λ x. cut_term (two x (cut_term c))) e ∙ ap (λ x. cut_term (two (cut_term b) x)) f ∙ sym (cut_two b d)
 

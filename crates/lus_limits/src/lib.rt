@@ -10,6 +10,7 @@ mod measuring;
 mod names;
 mod owner;
 mod part;
+mod presence;
 mod sites;
 mod streams;
 mod term_size;
