@@ -12,3 +12,4 @@ pub mod SizeCuts
 pub mod Behind
 pub mod Firsts
 pub mod Measures
+pub mod Greatest

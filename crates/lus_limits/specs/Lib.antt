@@ -9,6 +9,7 @@ pub mod Peaks
 pub mod SizeSummaries
 pub mod SizeCuts
 pub mod Measured
+pub mod Keeping
 pub mod Clocks
 pub mod Streams
 pub mod Names

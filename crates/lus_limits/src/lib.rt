@@ -5,6 +5,7 @@
 mod calls;
 pub mod laws;
 mod clock;
+mod keeping;
 mod lookup;
 mod measuring;
 mod names;

@@ -1,0 +1,21 @@
+-- The greatest sizes so far, cut.
+use Rattle.std.proofs.Common.{◌≡◌, sym, ◌∙◌, ap, arith}
+use Rattle.lus_meaning.specs.Sizes.{Size}
+use Rattle.lus_limits.specs.Peaks.{no_size, greater}
+use Rattle.lus_limits.specs.SizeCuts.{cut_term}
+use Rattle.lus_limits.proofs.Sizes.{same_size}
+use Rattle.lus_limits.proofs.Peaks.{greater_none}
+
+-- one more that is cut, and what is to come
+pub greatest_on : (a x r : Size) → cut_term (greater (greater a (cut_term x)) r) ≡ cut_term (greater a (greater x r))
+greatest_on a x r =
+    same_size (cut_term (greater (greater a (cut_term x)) r)) (cut_term (greater a (greater x r))) (omega arith) (omega arith)
+
+pub greatest_cut : (a x : Size) → cut_term a ≡ a → cut_term (greater a (cut_term x)) ≡ greater a (cut_term x)
+greatest_cut a x e =
+    let f : cut_term (greater (cut_term a) (cut_term x)) ≡ greater (cut_term a) (cut_term x) =
+    same_size (cut_term (greater (cut_term a) (cut_term x))) (greater (cut_term a) (cut_term x)) (omega arith) (omega arith) in
+    ap (λ z. cut_term (greater z (cut_term x))) (sym e) ∙ f ∙ ap (λ z. greater z (cut_term x)) e
+
+pub greatest_end : (a t : Size) → cut_term a ≡ a → cut_term (greater a no_size) ≡ t → a ≡ t
+greatest_end a t e f = sym e ∙ ap cut_term (sym (greater_none a)) ∙ f
