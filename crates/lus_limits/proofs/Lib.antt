@@ -13,3 +13,4 @@ pub mod Behind
 pub mod Firsts
 pub mod Measures
 pub mod Greatest
+pub mod OwnTerms

@@ -10,6 +10,7 @@ pub mod SizeSummaries
 pub mod SizeCuts
 pub mod Measured
 pub mod Keeping
+pub mod OwnTerms
 pub mod Clocks
 pub mod Streams
 pub mod Names

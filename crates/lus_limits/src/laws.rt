@@ -4,6 +4,7 @@ ghost use Rattle.lus_limits.specs.Instances.{MadeOfCallees};
 ghost use Rattle.lus_limits.specs.Widths.{WidthByText, WidthIsPlain, WidthCuts};
 ghost use Rattle.lus_limits.specs.Counts.{ContractByText, PropertiesByText, CountCuts, PropertyCuts};
 ghost use Rattle.lus_limits.specs.Summaries.{SummaryByText};
+ghost use Rattle.lus_limits.specs.OwnTerms.{OwnTermsByItems};
 ghost use Rattle.lus_limits.specs.SizeCuts.{SizeSummaryCuts, TermsCut};
 ghost use Rattle.lus_limits.specs.SizeSummaries.{SizeSummaryByText, TermsBySummaries, LimitsByPeaks};
 ghost use Rattle.lus_limits.specs.Sizes.{ContractSizesByText, FramesByText, TermsByText, BesideCuts, AboveCuts};
@@ -62,4 +63,9 @@ pub fn size_summary_by_text()
 pub fn size_summaries_cut()
     ensures summaries { SizeSummaryCuts }
     ensures terms { TermsCut }
+{}
+
+/// The greatest sizes of a declaration's own terms are those of its items, one by one, and of its free streams.
+pub fn own_terms_by_items()
+    ensures { OwnTermsByItems }
 {}
