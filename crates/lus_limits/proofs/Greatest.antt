@@ -1,6 +1,7 @@
 -- The greatest sizes so far, cut.
-use Rattle.std.proofs.Common.{◌≡◌, sym, ◌∙◌, ap, arith}
-use Rattle.lus_meaning.specs.Sizes.{Size}
+use Rattle.lus_limits.proofs.SizeCuts.{twice, two_alike, three_alike}
+use Rattle.std.proofs.Common.{◌≡◌, refl, sym, ◌∙◌, ap, arith}
+use Rattle.lus_meaning.specs.Sizes.{Size, leaf, given_size}
 use Rattle.lus_limits.specs.Peaks.{no_size, greater}
 use Rattle.lus_limits.specs.SizeCuts.{cut_term}
 use Rattle.lus_limits.proofs.Sizes.{same_size}
@@ -19,3 +20,10 @@ greatest_cut a x e =
 
 pub greatest_end : (a t : Size) → cut_term a ≡ a → cut_term (greater a no_size) ≡ t → a ≡ t
 greatest_end a t e f = sym e ∙ ap cut_term (sym (greater_none a)) ∙ f
+
+pub greater_cuts : (a b : Size) → greater (cut_term a) (cut_term b) ≡ cut_term (greater a b)
+greater_cuts a b = same_size (greater (cut_term a) (cut_term b)) (cut_term (greater a b)) (omega arith) (omega arith)
+
+pub given_cut : (p a : Size) → cut_term (given_size (cut_term p) (cut_term a)) ≡ cut_term (given_size p a)
+given_cut p a =
+    two_alike leaf leaf _ _ refl (three_alike (cut_term p) p (cut_term a) a leaf leaf (twice p) (twice a) refl)

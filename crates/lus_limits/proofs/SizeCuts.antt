@@ -46,7 +46,7 @@ pub two_alike : (a b c d : Size) → Alike a b → Alike c d → Alike (two a c)
 two_alike a b c d e f =
     cut_two a c ∙ ap (λ x. cut_term (two x (cut_term c))) e ∙ ap (λ x. cut_term (two (cut_term b) x)) f ∙ sym (cut_two b d)
 
-three_alike : (a b c d x y : Size) → Alike a b → Alike c d → Alike x y → Alike (three a c x) (three b d y)
+pub three_alike : (a b c d x y : Size) → Alike a b → Alike c d → Alike x y → Alike (three a c x) (three b d y)
 three_alike a b c d x y e f g =
     cut_three a c x
     ∙ ap (λ z. cut_term (three z (cut_term c) (cut_term x))) e

@@ -63,3 +63,7 @@ own_terms given n r =
 -- they are those of the declaration's own terms
 abbrev pub OwnTermsByItems : Type 0
 OwnTermsByItems = (given : List Name) (n : Component) (r : ContractPeaks) → peak (own_by given n r) ≡ own_terms given n r
+
+-- an equation on a clock, and what its right side keeps on another
+abbrev pub side_on : Component → ModeSizes → Clock → Clock → Expression → Size
+side_on n ms own c e = greater (given_size (presence n own) (size_in n ms e)) (kept_in n ms c e)

@@ -9,6 +9,7 @@ mod keeping;
 mod lookup;
 mod measuring;
 mod names;
+mod own;
 mod owner;
 mod part;
 mod presence;
