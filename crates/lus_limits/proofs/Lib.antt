@@ -9,8 +9,6 @@ pub mod Cutting
 pub mod Peaks
 pub mod SizeSummaries
 pub mod SizeCuts
-pub mod Behind
-pub mod Firsts
 pub mod Measures
 pub mod Greatest
 pub mod OwnTerms

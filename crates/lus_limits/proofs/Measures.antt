@@ -6,10 +6,10 @@ use Rattle.lus_tree.specs.Tree.{Name, Variable, ContractStatement, Component}
 use Rattle.lus_meaning.specs.ClockFaults.{name_clock}
 use Rattle.lus_meaning.specs.Depends.{named_in}
 use Rattle.lus_meaning.specs.Scene.{Clock, base, sampled_by, clock_of, variables, ghosts, contract_statements, clock_from}
-use Rattle.lus_limits.proofs.Firsts.{next_ghosts}
+use Rattle.lus_streams.proofs.Firsts.{next_ghosts}
 use Rattle.lus_meaning.specs.Sizes.{Size, leaf, one, two, presence_within, presence}
-use Rattle.lus_limits.specs.declared.clock.Clock.{Clock as CodeClock}
-use Rattle.lus_limits.specs.Clocks.{clocks_seen}
+use Rattle.lus_streams.specs.declared.clock.Clock.{Clock as CodeClock}
+use Rattle.lus_streams.specs.Clocks.{clocks_seen}
 use Rattle.lus_limits.specs.Measured.{wrapped, negations, passes}
 use Rattle.lus_limits.specs.SizeCuts.{cut_term}
 use Rattle.lus_limits.proofs.SizeCuts.{twice, two_alike}

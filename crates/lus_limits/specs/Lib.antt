@@ -11,7 +11,3 @@ pub mod SizeCuts
 pub mod Measured
 pub mod Keeping
 pub mod OwnTerms
-pub mod Clocks
-pub mod Streams
-pub mod Names
-pub mod Owner

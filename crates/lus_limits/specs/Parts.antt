@@ -5,12 +5,6 @@ use Rattle.lus_tree.specs.declared.expression.Expr.{Expr}
 use Rattle.lus_tree.specs.Tree.{Expression, Constant, Labelled, Statement, equation, assertion, property, main_mark, ContractStatement, assume, guarantee, ghost_variable, constant, mode, «import», Component}
 use Rattle.lus_tree.specs.View.{expr_view, node_view, contract_node_view}
 use Rattle.lus_meaning.specs.Scene.{contract_statements}
-use Rattle.lus_limits.specs.declared.part.Part.{Part}
-use Rattle.lus_limits.specs.declared.part.Part.TheVariants.{Node, Contract}
-
-abbrev pub part_view : Part → Component
-part_view (Node n) = node_view n.now
-part_view (Contract c) = contract_node_view c.now
 
 abbrev pub statements_of : Option (List ContractStatement) → List ContractStatement
 statements_of c = unwrap_or c []

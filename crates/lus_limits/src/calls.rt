@@ -3,10 +3,12 @@
 ghost use Rattle.std.specs.Prelude.{◌≡◌, ◌++◌, ◌∷◌, [], IfOk, map, flat_map};
 ghost use Rattle.lus_tree.specs.View.{contract_item_view, expr_view, exprs_view, joined, word_view};
 ghost use Rattle.lus_limits.specs.Calls.{call_view, calls_among, calls_in, condition_call, found_calls, import_call, with_defaults};
-ghost use Rattle.lus_limits.specs.Parts.{part_view, sides_view};
+ghost use Rattle.lus_streams.specs.Owner.{owner_view};
+ghost use Rattle.lus_limits.specs.Parts.{sides_view};
 
-use crate::part::{Part, contract_items};
+
 use crate::texts::sides_of;
+use lus_streams::owner::Owner;
 use lus_tree::{ContractItem, Expr, Form, PlacedName};
 use std::alloc::{AllocError, Global};
 
@@ -161,12 +163,12 @@ fn push_imports<'a>(calls: &mut Vec<Call<'a>>, items: &'a [ContractItem]) -> Res
 /// # Errors
 ///
 /// Want of memory.
-pub(crate) fn found_calls(alloc: Global, part: Part<'_>) -> Result<Vec<Call<'_>>, AllocError>
-    ensures { IfOk result (λ v. map call_view v.items ≡ found_calls (part_view part.entry)) }
+pub(crate) fn found_calls(alloc: Global, part: Owner<'_>) -> Result<Vec<Call<'_>>, AllocError>
+    ensures { IfOk result (λ v. map call_view v.items ≡ found_calls (owner_view part.entry)) }
 {
     let sides = sides_of(alloc, part)?;
     let mut calls = Vec::new(alloc);
     push_calls_of_sides(&mut calls, &sides)?;
-    push_imports(&mut calls, contract_items(part))?;
+    push_imports(&mut calls, part.contract())?;
     Ok(calls)
 }

@@ -2,13 +2,13 @@
 
 ghost use Rattle.std.specs.Prelude.{◌≡◌};
 ghost use Rattle.lus_tree.specs.View.{expr_view, exprs_view, form_view, joined};
-ghost use Rattle.lus_limits.specs.Clocks.{clock_seen};
+ghost use Rattle.lus_streams.specs.Clocks.{clock_seen};
 ghost use Rattle.lus_limits.specs.Keeping.{kept_among, kept_in, memory_of, start_of};
 ghost use Rattle.lus_limits.specs.Measured.{modes_view, size_view};
-ghost use Rattle.lus_limits.specs.Names.{names_view};
+ghost use Rattle.lus_streams.specs.Names.{names_view};
 ghost use Rattle.lus_limits.specs.SizeCuts.{cut_term};
 
-use crate::clock::Clock;
+use lus_streams::clock::Clock;
 use crate::measuring::{Scope, measure};
 use crate::presence::presence;
 use crate::term_size::{Size, greater, leaf, no_size, one, three, two};

@@ -9,10 +9,10 @@ ghost use Rattle.lus_meaning.specs.Scene.{variables};
 ghost use Rattle.lus_meaning.specs.Meaning.{mode_key, same_path};
 ghost use Rattle.lus_meaning.specs.Sizes.{either, is_fixed, leaf, operator_size, size_in};
 ghost use Rattle.lus_limits.specs.Measured.{mode_view, modes_view, name_seen, size_view};
-ghost use Rattle.lus_limits.specs.Names.{names_view};
+ghost use Rattle.lus_streams.specs.Names.{names_view};
 ghost use Rattle.lus_limits.specs.SizeCuts.{cut_term};
 
-use crate::names::Names;
+use lus_streams::names::Names;
 use crate::term_size::{Size, cut, leaf, one, three, two};
 use lus_tree::{Expr, Form, Operator, PlacedName};
 

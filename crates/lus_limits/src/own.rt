@@ -6,19 +6,19 @@ ghost use Rattle.lus_tree.specs.View.{contract_item_view, definition_view, expr_
 ghost use Rattle.lus_meaning.specs.Depends.{named_in};
 ghost use Rattle.lus_meaning.specs.Scene.{base, clock_from, clock_of_names};
 ghost use Rattle.lus_meaning.specs.Sizes.{free_size, given_size, leaf, one, presence, size_in, two};
-ghost use Rattle.lus_limits.specs.Clocks.{clock_seen};
+ghost use Rattle.lus_streams.specs.Clocks.{clock_seen};
 ghost use Rattle.lus_limits.specs.Keeping.{kept_in};
 ghost use Rattle.lus_limits.specs.Measured.{modes_view, size_view};
-ghost use Rattle.lus_limits.specs.Names.{names_view};
+ghost use Rattle.lus_streams.specs.Names.{names_view};
 ghost use Rattle.lus_limits.specs.OwnTerms.{all_contract_terms, body_terms, constant_terms, contract_terms, free_terms, kept_each, kept_labelled, side_on, statement_terms};
 ghost use Rattle.lus_limits.specs.Peaks.{no_size};
 ghost use Rattle.lus_limits.specs.SizeCuts.{cut_term};
 
-use crate::clock::{Clock, declared};
+use lus_streams::clock::{Clock, declared};
 use crate::keeping::kept;
-use crate::lookup::side_clock;
+use lus_streams::lookup::side_clock;
 use crate::measuring::{Scope, measure};
-use crate::names::Names;
+use lus_streams::names::Names;
 use crate::presence::presence;
 use crate::term_size::{Size, greater, leaf, no_size, one, three, two};
 use lus_tree::{ContractItem, Definition, Expr, Item, Named, Param};

@@ -4,14 +4,14 @@ ghost use Rattle.std.specs.Prelude.{◌≡◌, ◌+◌, ◌∷◌, [], ℕ, leng
 ghost use Rattle.lus_tree.specs.View.{contract_item_view};
 ghost use Rattle.lus_meaning.specs.Scene.{ghosts};
 ghost use Rattle.lus_meaning.specs.Sizes.{presence};
-ghost use Rattle.lus_limits.specs.Clocks.{clock_seen};
+ghost use Rattle.lus_streams.specs.Clocks.{clock_seen};
 ghost use Rattle.lus_limits.specs.Measured.{passes};
-ghost use Rattle.lus_limits.specs.Names.{names_view};
+ghost use Rattle.lus_streams.specs.Names.{names_view};
 ghost use Rattle.lus_limits.specs.SizeCuts.{cut_term};
 ghost use Rattle.lus_limits.specs.Measured.{size_view};
 
-use crate::clock::Clock;
-use crate::names::Names;
+use lus_streams::clock::Clock;
+use lus_streams::names::Names;
 use crate::term_size::{Size, cut, leaf, one, two};
 use lus_tree::{ContractItem, Param};
 

@@ -4,12 +4,14 @@ ghost use Rattle.std.specs.Prelude.{◌≡◌, ◌+◌, IfOk, length, map};
 ghost use Rattle.lus_tree.specs.View.{contract_item_view, expr_view, exprs_view, item_view, joined};
 ghost use Rattle.lus_meaning.specs.Scene.{ghosts, variables};
 ghost use Rattle.lus_limits.specs.Counts.{property_count, body_count, contract_counts, cut_counts, none_counted, one_assumption, one_guarantee, one_mode, statement_counts, with_counts};
-ghost use Rattle.lus_limits.specs.Parts.{part_view, sides, sides_view};
+ghost use Rattle.lus_streams.specs.Owner.{owner_view};
+ghost use Rattle.lus_limits.specs.Parts.{sides, sides_view};
 ghost use Rattle.lus_limits.specs.Summaries.{bound, counts_view, cut, link_counts, links_owed, links_width, own_count, owed_of, sofar_count, state_count, states_among, states_in, summary_by};
 
 use crate::calls::Way;
-use crate::part::{Part, body, contract_items, has_contract, inputs, locals, outputs};
+use crate::part::has_contract;
 use crate::texts::sides_of;
+use lus_streams::owner::Owner;
 use lus_tree::{ContractItem, Expr, Form, Item};
 use std::alloc::{AllocError, Global};
 
@@ -288,19 +290,19 @@ fn ghost_count(items: &[ContractItem]) -> usize
 
 /// How many streams a declaration has.
 #[tactic(auto, using(crate::proofs::Cutting::names_counted))]
-fn name_count(part: Part<'_>) -> usize
-    ensures { result ≡ cut (length (variables (part_view part.entry))) }
+fn name_count(part: Owner<'_>) -> usize
+    ensures { result ≡ cut (length (variables (owner_view part.entry))) }
 {
-    let ghosts = ghost_count(contract_items(part));
-    let inner = sum(locals(part).len(), ghosts);
-    sum(inputs(part).len(), sum(outputs(part).len(), inner))
+    let ghosts = ghost_count(part.contract());
+    let inner = sum(part.locals().len(), ghosts);
+    sum(part.inputs().len(), sum(part.outputs().len(), inner))
 }
 
 /// How many cells a declaration's frame has of its own where it runs as an import.
 #[tactic(auto, using(crate::proofs::Cutting::own_cut))]
-fn own_count(part: Part<'_>, texts: &[&Expr]) -> usize
-    requires { sides_view texts.now ≡ sides (part_view part) }
-    ensures { result ≡ cut (own_count (part_view part.entry)) }
+fn own_count(part: Owner<'_>, texts: &[&Expr]) -> usize
+    requires { sides_view texts.now ≡ sides (owner_view part) }
+    ensures { result ≡ cut (own_count (owner_view part.entry)) }
 {
     sum(1, sum(name_count(part), states_in(texts)))
 }
@@ -322,15 +324,15 @@ fn property_count(items: &[Item], counts: ItemCounts, owed: usize) -> usize
 ///
 /// Want of memory.
 #[tactic(auto, using(crate::proofs::Cutting::summary_cut))]
-pub fn summed(alloc: Global, part: Part<'_>, links: &[Link]) -> Result<Summary, AllocError>
-    ensures { IfOk result (λ s. s ≡ summary_by (part_view part.entry) links.now) }
+pub fn summed(alloc: Global, part: Owner<'_>, links: &[Link]) -> Result<Summary, AllocError>
+    ensures { IfOk result (λ s. s ≡ summary_by (owner_view part.entry) links.now) }
 {
     let texts = sides_of(alloc, part)?;
-    let counts = contract_counts(contract_items(part), links);
+    let counts = contract_counts(part.contract(), links);
     Ok(Summary {
         frame: sum(own_count(part, &texts), links_width(links)),
         contract: has_contract(part),
         counts,
-        properties: property_count(body(part), counts, links_owed(links)),
+        properties: property_count(part.body(), counts, links_owed(links)),
     })
 }

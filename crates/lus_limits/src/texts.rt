@@ -2,9 +2,11 @@
 
 ghost use Rattle.std.specs.Prelude.{◌≡◌, ◌++◌, IfOk, map, flat_map};
 ghost use Rattle.lus_tree.specs.View.{contract_item_view, definition_view, expr_view, item_view, named_view};
-ghost use Rattle.lus_limits.specs.Parts.{Adds, constant_sides, contract_sides, part_view, sides, sides_view, statement_sides, values_of};
+ghost use Rattle.lus_streams.specs.Owner.{owner_view};
+ghost use Rattle.lus_limits.specs.Parts.{Adds, constant_sides, contract_sides, sides, sides_view, statement_sides, values_of};
 
-use crate::part::{Part, body, constants, contract_items};
+
+use lus_streams::owner::Owner;
 use lus_tree::{ContractItem, Definition, Expr, Item, Named};
 use std::alloc::{AllocError, Global};
 
@@ -114,12 +116,12 @@ fn push_body<'a>(sides: &mut Vec<&'a Expr>, items: &'a [Item]) -> Result<(), All
 /// # Errors
 ///
 /// Want of memory.
-pub(crate) fn sides_of(alloc: Global, part: Part<'_>) -> Result<Vec<&Expr>, AllocError>
-    ensures { IfOk result (λ v. sides_view v.items ≡ sides (part_view part.entry)) }
+pub(crate) fn sides_of(alloc: Global, part: Owner<'_>) -> Result<Vec<&Expr>, AllocError>
+    ensures { IfOk result (λ v. sides_view v.items ≡ sides (owner_view part.entry)) }
 {
     let mut sides = Vec::new(alloc);
-    push_contract(&mut sides, contract_items(part))?;
-    push_constants(&mut sides, constants(part))?;
-    push_body(&mut sides, body(part))?;
+    push_contract(&mut sides, part.contract())?;
+    push_constants(&mut sides, part.constants())?;
+    push_body(&mut sides, part.body())?;
     Ok(sides)
 }

@@ -1,9 +1,9 @@
 use Rattle.std.proofs.Common.{◌≡◌, drop}
 use Rattle.lus_tree.specs.View.{exprs_view, joined}
-use Rattle.lus_limits.specs.Clocks.{clock_seen}
+use Rattle.lus_streams.specs.Clocks.{clock_seen}
 use Rattle.lus_limits.specs.Keeping.{kept_among}
 use Rattle.lus_limits.specs.Measured.{modes_view, size_view}
-use Rattle.lus_limits.specs.Names.{names_view}
+use Rattle.lus_streams.specs.Names.{names_view}
 use Rattle.lus_limits.specs.Peaks.{greater}
 use Rattle.lus_limits.specs.SizeCuts.{cut_term}
 use Rattle.lus_limits.proofs.keeping.+kept.Given as goal

@@ -1,7 +1,7 @@
 use Rattle.std.proofs.Common.{◌≡◌, drop, map}
 use Rattle.lus_tree.specs.View.{contract_item_view}
 use Rattle.lus_limits.specs.Measured.{modes_view, size_view}
-use Rattle.lus_limits.specs.Names.{names_view}
+use Rattle.lus_streams.specs.Names.{names_view}
 use Rattle.lus_limits.specs.OwnTerms.{all_contract_terms}
 use Rattle.lus_limits.specs.Peaks.{greater}
 use Rattle.lus_limits.specs.SizeCuts.{cut_term}

@@ -1,9 +1,9 @@
 use Rattle.std.proofs.Common.{◌≡◌, ◌+◌, ◌∷◌, [], ℕ, length, map, take, ap, ◌∙◌}
 use Rattle.lus_tree.specs.View.{contract_item_view}
 use Rattle.lus_meaning.specs.Scene.{ghosts}
-use Rattle.lus_limits.specs.Clocks.{clock_seen}
+use Rattle.lus_streams.specs.Clocks.{clock_seen}
 use Rattle.lus_limits.specs.Measured.{passes, size_view}
-use Rattle.lus_limits.specs.Names.{names_view}
+use Rattle.lus_streams.specs.Names.{names_view}
 use Rattle.lus_limits.proofs.Measures.{ghosts_counted}
 use Rattle.lus_limits.proofs.presence.ghost_steps.Goals as goal
 

@@ -2,9 +2,9 @@ use Rattle.std.proofs.Common.{◌≡◌, ◌+◌, ℕ, List, length, map, ap, sy
 use Rattle.std.proofs.lemmas.List.{length-map}
 use Rattle.lus_tree.specs.View.{contract_item_view, param_view}
 use Rattle.lus_meaning.specs.Scene.{ghosts}
-use Rattle.lus_limits.specs.Clocks.{clock_seen}
+use Rattle.lus_streams.specs.Clocks.{clock_seen}
 use Rattle.lus_limits.specs.Measured.{passes}
-use Rattle.lus_limits.specs.Names.{names_view}
+use Rattle.lus_streams.specs.Names.{names_view}
 use Rattle.lus_limits.proofs.Measures.{presence_passed, streams_counted}
 use Rattle.lus_limits.proofs.presence.presence.Goals as goal
 

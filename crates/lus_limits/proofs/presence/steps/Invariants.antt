@@ -1,7 +1,7 @@
 use Rattle.std.proofs.Common.{◌≡◌, ◌+◌, ℕ}
-use Rattle.lus_limits.specs.Clocks.{clock_seen}
+use Rattle.lus_streams.specs.Clocks.{clock_seen}
 use Rattle.lus_limits.specs.Measured.{passes, size_view}
-use Rattle.lus_limits.specs.Names.{names_view}
+use Rattle.lus_streams.specs.Names.{names_view}
 use Rattle.lus_limits.proofs.presence.steps.Given as goal
 
 -- a step for each stream so far

@@ -1,8 +1,8 @@
 use Rattle.std.proofs.Common.{◌≡◌, ◌<◌, length, get_or, false, subst, sym, ◌∙◌}
 use Rattle.lus_meaning.specs.Depends.{named_in}
-use Rattle.lus_limits.specs.Streams.{params_view}
-use Rattle.lus_limits.proofs.Firsts.{found_nowhere, number_within, stream_at}
-use Rattle.lus_limits.proofs.names.Names.stream.Goals as goal
+use Rattle.lus_streams.specs.Streams.{params_view}
+use Rattle.lus_streams.proofs.Firsts.{found_nowhere, number_within, stream_at}
+use Rattle.lus_streams.proofs.names.Names.stream.Goals as goal
 
 pub numbered-requires : goal.numbered-requires
 numbered-requires c =

@@ -14,8 +14,8 @@ use Rattle.lus_meaning.specs.Depends.{named_in}
 use Rattle.lus_meaning.proofs.Unique.{same_bytes}
 use Rattle.name_table.specs.Names.{add, number_of}
 use Rattle.name_table.proofs.Numbers.{number_below}
-use Rattle.lus_limits.specs.Streams.{names_of, params_view, stream_named, AreFirst}
-use Rattle.lus_limits.proofs.Behind.{found_behind}
+use Rattle.lus_streams.specs.Streams.{names_of, params_view, stream_named, AreFirst}
+use Rattle.lus_streams.proofs.Behind.{found_behind}
 
 pub or_none : {X : Type 0} (o : Option X) → option_or o None ≡ o
 or_none None = refl

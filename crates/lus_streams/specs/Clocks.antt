@@ -2,8 +2,8 @@
 use Rattle.std.specs.Prelude.{Option, option_map}
 use Rattle.lus_tree.specs.View.{word_view}
 use Rattle.lus_meaning.specs.Scene.{Clock, base, sampled_by}
-use Rattle.lus_limits.specs.declared.clock.Clock.{Clock as CodeClock}
-use Rattle.lus_limits.specs.declared.clock.Clock.TheVariants.{Base, Sampled}
+use Rattle.lus_streams.specs.declared.clock.Clock.{Clock as CodeClock}
+use Rattle.lus_streams.specs.declared.clock.Clock.TheVariants.{Base, Sampled}
 
 abbrev pub clock_seen : CodeClock → Clock
 clock_seen Base = base

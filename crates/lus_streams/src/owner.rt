@@ -3,13 +3,13 @@
 ghost use Rattle.std.specs.Prelude.{◌≡◌, map};
 ghost use Rattle.lus_tree.specs.View.{contract_item_view, definition_view, item_view, node_view, param_view};
 ghost use Rattle.lus_meaning.specs.Scene.{contract_statements};
-ghost use Rattle.lus_limits.specs.Owner.{owner_view};
+ghost use Rattle.lus_streams.specs.Owner.{owner_view};
 
 use lus_tree::{ContractItem, ContractNode, Definition, Item, Node, Param};
 
 /// A declaration with streams.
 #[derive(Clone, Copy)]
-pub(crate) enum Owner<'a> {
+pub enum Owner<'a> {
     Node(&'a Node),
     Contract(&'a ContractNode),
 }
@@ -25,7 +25,7 @@ fn contract_of(node: &Node) -> &[ContractItem]
 }
 
 impl<'a> Owner<'a> {
-    pub(crate) fn inputs(self) -> &'a [Param]
+    pub fn inputs(self) -> &'a [Param]
         ensures { map param_view result.now ≡ (owner_view self.entry).inputs }
     {
         match self {
@@ -34,7 +34,7 @@ impl<'a> Owner<'a> {
         }
     }
 
-    pub(crate) fn outputs(self) -> &'a [Param]
+    pub fn outputs(self) -> &'a [Param]
         ensures { map param_view result.now ≡ (owner_view self.entry).outputs }
     {
         match self {
@@ -43,7 +43,7 @@ impl<'a> Owner<'a> {
         }
     }
 
-    pub(crate) fn locals(self) -> &'a [Param]
+    pub fn locals(self) -> &'a [Param]
         ensures { map param_view result.now ≡ (owner_view self.entry).locals }
     {
         match self {
@@ -52,7 +52,7 @@ impl<'a> Owner<'a> {
         }
     }
 
-    pub(crate) fn contract(self) -> &'a [ContractItem]
+    pub fn contract(self) -> &'a [ContractItem]
         ensures { map contract_item_view result.now ≡ contract_statements (owner_view self.entry) }
     {
         match self {
@@ -61,7 +61,7 @@ impl<'a> Owner<'a> {
         }
     }
 
-    pub(crate) fn constants(self) -> &'a [Definition]
+    pub fn constants(self) -> &'a [Definition]
         ensures { map definition_view result.now ≡ (owner_view self.entry).constants }
     {
         match self {
@@ -70,7 +70,7 @@ impl<'a> Owner<'a> {
         }
     }
 
-    pub(crate) fn body(self) -> &'a [Item]
+    pub fn body(self) -> &'a [Item]
         ensures { map item_view result.now ≡ (owner_view self.entry).body }
     {
         match self {

@@ -1,8 +1,8 @@
 //! A declaration with its streams by their names.
 
 ghost use Rattle.lus_meaning.specs.Scene.{variables};
-ghost use Rattle.lus_limits.specs.Owner.{owner_view};
-ghost use Rattle.lus_limits.specs.Streams.{names_of, params_view, stream_named};
+ghost use Rattle.lus_streams.specs.Owner.{owner_view};
+ghost use Rattle.lus_streams.specs.Streams.{names_of, params_view, stream_named};
 ghost use Rattle.std.specs.Prelude.{◌≡◌};
 ghost use Rattle.lus_tree.specs.Tree.{Name};
 
@@ -12,9 +12,9 @@ use crate::streams::Streams;
 /// What a place knows of the clocks of names: the declaration in which it stands, and a table of its
 /// streams.
 #[derive(Clone, Copy)]
-pub(crate) struct Names<'a, 's> {
-    pub(crate) owner: Owner<'a>,
-    pub(crate) streams: &'s Streams<'a>,
+pub struct Names<'a, 's> {
+    pub owner: Owner<'a>,
+    pub streams: &'s Streams<'a>,
     ghost named: { streams.now.numbers ≡ names_of (params_view streams.now.firsts.items) },
     ghost first: { (x : Name) → stream_named (params_view streams.now.firsts.items) x
         ≡ stream_named (variables (owner_view owner)) x },

@@ -5,10 +5,10 @@ ghost use Rattle.lus_tree.specs.Tree.{text_of};
 ghost use Rattle.lus_tree.specs.View.{param_view, word_view};
 ghost use Rattle.lus_meaning.specs.ClockFaults.{name_clock};
 ghost use Rattle.lus_meaning.specs.Scene.{clock_of, clock_of_names, variables};
-ghost use Rattle.lus_limits.specs.Clocks.{clock_seen, clocks_seen};
-ghost use Rattle.lus_limits.specs.Names.{names_view};
-ghost use Rattle.lus_limits.specs.Owner.{owner_view};
-ghost use Rattle.lus_limits.specs.Streams.{AreOf, stream_named};
+ghost use Rattle.lus_streams.specs.Clocks.{clock_seen, clocks_seen};
+ghost use Rattle.lus_streams.specs.Names.{names_view};
+ghost use Rattle.lus_streams.specs.Owner.{owner_view};
+ghost use Rattle.lus_streams.specs.Streams.{AreOf, stream_named};
 
 use crate::clock::{Clock, declared};
 use crate::names::Names;
@@ -17,7 +17,7 @@ use crate::streams::Streams;
 use lus_tree::{Param, PlacedName};
 
 /// A declaration with its streams.
-pub(crate) fn with_streams<'a, 's>(owner: Owner<'a>, streams: &'s Streams<'a>) -> Names<'a, 's>
+pub fn with_streams<'a, 's>(owner: Owner<'a>, streams: &'s Streams<'a>) -> Names<'a, 's>
     requires { AreOf streams.now (variables (owner_view owner)) }
     ensures { names_view result ≡ owner_view owner.entry }
 {
@@ -45,7 +45,7 @@ impl<'a, 's> Names<'a, 's> {
     }
 
     /// The clock of a stream; a constant has none.
-    pub(crate) fn clock(self, name: &str) -> Option<Clock<'a>>
+    pub fn clock(self, name: &str) -> Option<Clock<'a>>
         ensures { clocks_seen result ≡ name_clock (names_view self.entry) name.now }
     {
         match self.stream(name) {
@@ -55,7 +55,7 @@ impl<'a, 's> Names<'a, 's> {
     }
 
     /// The clock of a stream, and the base clock of what is none.
-    pub(crate) fn clock_or_base(self, name: &str) -> Clock<'a>
+    pub fn clock_or_base(self, name: &str) -> Clock<'a>
         ensures { clock_seen result ≡ clock_of (names_view self.entry) name.now }
     {
         match self.stream(name) {
@@ -66,7 +66,7 @@ impl<'a, 's> Names<'a, 's> {
 }
 
 /// The clock of an equation of these left names.
-pub(crate) fn side_clock<'a>(names: Names<'a, '_>, words: &[PlacedName]) -> Clock<'a>
+pub fn side_clock<'a>(names: Names<'a, '_>, words: &[PlacedName]) -> Clock<'a>
     ensures { clock_seen result ≡ clock_of_names (names_view names.entry) (map text_of (map word_view words.now)) }
 {
     match words {

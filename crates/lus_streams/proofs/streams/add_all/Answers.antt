@@ -1,9 +1,9 @@
 use Rattle.std.proofs.Common.{arith, subst, sym, ◌++◌, map, take}
 use Rattle.std.proofs.lemmas.List.{take_all}
 use Rattle.lus_tree.specs.View.{param_view}
-use Rattle.lus_limits.specs.Streams.{AreOf}
-use Rattle.lus_limits.proofs.Firsts.{next_stream}
-use Rattle.lus_limits.proofs.streams.add_all.Goals as goal
+use Rattle.lus_streams.specs.Streams.{AreOf}
+use Rattle.lus_streams.proofs.Firsts.{next_stream}
+use Rattle.lus_streams.proofs.streams.add_all.Goals as goal
 
 pub loop-stream-preserved : goal.loop-stream-preserved
 loop-stream-preserved c = λ vs a.

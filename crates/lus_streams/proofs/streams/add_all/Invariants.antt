@@ -1,7 +1,7 @@
 use Rattle.std.proofs.Common.{map, take}
 use Rattle.lus_tree.specs.View.{param_view}
-use Rattle.lus_limits.specs.Streams.{Adds}
-use Rattle.lus_limits.proofs.streams.add_all.Given as goal
+use Rattle.lus_streams.specs.Streams.{Adds}
+use Rattle.lus_streams.proofs.streams.add_all.Given as goal
 
 -- behind those that were there stand those that were gone through
 abbrev pub invariant-loop-stream : goal.invariant-loop-stream

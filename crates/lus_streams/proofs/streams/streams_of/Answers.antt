@@ -1,7 +1,7 @@
 use Rattle.std.proofs.Common.{refl, subst, sym, ◌++◌, map, []}
 use Rattle.lus_tree.specs.View.{param_view}
-use Rattle.lus_limits.specs.Streams.{AreFirst, params_view}
-use Rattle.lus_limits.proofs.streams.streams_of.Goals as goal
+use Rattle.lus_streams.specs.Streams.{AreFirst, params_view}
+use Rattle.lus_streams.proofs.streams.streams_of.Goals as goal
 
 pub returns : goal.returns
 returns c =

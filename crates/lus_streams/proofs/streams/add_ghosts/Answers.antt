@@ -2,9 +2,9 @@ use Rattle.std.proofs.Common.{arith, subst, sym, ◌++◌, map, take}
 use Rattle.std.proofs.lemmas.List.{take_all}
 use Rattle.lus_tree.specs.View.{contract_item_view}
 use Rattle.lus_meaning.specs.Scene.{ghosts}
-use Rattle.lus_limits.specs.Streams.{AreOf}
-use Rattle.lus_limits.proofs.Firsts.{next_ghosts}
-use Rattle.lus_limits.proofs.streams.add_ghosts.Goals as goal
+use Rattle.lus_streams.specs.Streams.{AreOf}
+use Rattle.lus_streams.proofs.Firsts.{next_ghosts}
+use Rattle.lus_streams.proofs.streams.add_ghosts.Goals as goal
 
 pub loop-item-preserved : goal.loop-item-preserved
 loop-item-preserved c = λ vs a.

@@ -4,13 +4,13 @@ ghost use Rattle.std.specs.Prelude.{◌≡◌, unwrap_or};
 ghost use Rattle.lus_tree.specs.View.{clock_view};
 ghost use Rattle.lus_meaning.specs.ClockFaults.{or_else, same_clock};
 ghost use Rattle.lus_meaning.specs.Scene.{base, clock_from};
-ghost use Rattle.lus_limits.specs.Clocks.{clock_seen, clocks_seen};
+ghost use Rattle.lus_streams.specs.Clocks.{clock_seen, clocks_seen};
 
 use lus_tree::PlacedName;
 
 /// The clock of a stream or of an expression.
 #[derive(Clone, Copy)]
-pub(crate) enum Clock<'a> {
+pub enum Clock<'a> {
     /// The base clock.
     Base,
     /// The instants at which this name has that truth value.
@@ -18,7 +18,7 @@ pub(crate) enum Clock<'a> {
 }
 
 /// The clock that is declared.
-pub(crate) fn declared(clock: &Option<(bool, PlacedName)>) -> Clock<'_>
+pub fn declared(clock: &Option<(bool, PlacedName)>) -> Clock<'_>
     ensures { clock_seen result ≡ clock_from (clock_view clock.now) }
 {
     match clock {
@@ -28,7 +28,7 @@ pub(crate) fn declared(clock: &Option<(bool, PlacedName)>) -> Clock<'_>
 }
 
 /// Whether the two are one clock.
-pub(crate) fn is_same(first: Clock<'_>, second: Clock<'_>) -> bool
+pub fn is_same(first: Clock<'_>, second: Clock<'_>) -> bool
     ensures { result ≡ same_clock (clock_seen first.entry) (clock_seen second.entry) }
 {
     match (first, second) {
@@ -41,7 +41,7 @@ pub(crate) fn is_same(first: Clock<'_>, second: Clock<'_>) -> bool
 }
 
 /// The first clock, or the second where there is no first one.
-pub(crate) fn or_else<'a>(first: Option<Clock<'a>>, second: Option<Clock<'a>>) -> Option<Clock<'a>>
+pub fn or_else<'a>(first: Option<Clock<'a>>, second: Option<Clock<'a>>) -> Option<Clock<'a>>
     ensures { clocks_seen result ≡ or_else (clocks_seen first.entry) (clocks_seen second.entry) }
 {
     match first {
@@ -51,7 +51,7 @@ pub(crate) fn or_else<'a>(first: Option<Clock<'a>>, second: Option<Clock<'a>>) -
 }
 
 /// A clock, and the base clock where there is none.
-pub(crate) fn or_base(clock: Option<Clock<'_>>) -> Clock<'_>
+pub fn or_base(clock: Option<Clock<'_>>) -> Clock<'_>
     ensures { clock_seen result ≡ unwrap_or (clocks_seen clock.entry) base }
 {
     match clock {

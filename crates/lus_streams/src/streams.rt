@@ -3,8 +3,8 @@
 ghost use Rattle.std.specs.Prelude.{◌∷◌, [], IfOk, map};
 ghost use Rattle.lus_tree.specs.View.{contract_item_view, param_view};
 ghost use Rattle.lus_meaning.specs.Scene.{ghosts, variables};
-ghost use Rattle.lus_limits.specs.Owner.{owner_view};
-ghost use Rattle.lus_limits.specs.Streams.{Adds, AreOf};
+ghost use Rattle.lus_streams.specs.Owner.{owner_view};
+ghost use Rattle.lus_streams.specs.Streams.{Adds, AreOf};
 
 use crate::owner::Owner;
 use lus_tree::{ContractItem, Param};
@@ -13,9 +13,9 @@ use std::alloc::{AllocError, Global};
 
 /// Streams by their names, the first of each name, in the order of the table's numbers.
 #[derive(Drop)]
-pub(crate) struct Streams<'a> {
-    pub(crate) numbers: NameTable,
-    pub(crate) firsts: Vec<&'a Param>,
+pub struct Streams<'a> {
+    pub numbers: NameTable,
+    pub firsts: Vec<&'a Param>,
 }
 
 /// Adds a stream, where it is the first of its name.
@@ -72,7 +72,7 @@ fn add_ghosts<'a>(
 /// # Errors
 ///
 /// Want of memory.
-pub(crate) fn streams_of(alloc: Global, owner: Owner<'_>) -> Result<Streams<'_>, AllocError>
+pub fn streams_of(alloc: Global, owner: Owner<'_>) -> Result<Streams<'_>, AllocError>
     ensures { IfOk result (λ s. AreOf s (variables (owner_view owner.entry))) }
 {
     let mut streams = Streams {

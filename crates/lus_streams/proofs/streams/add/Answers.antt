@@ -3,9 +3,9 @@ use Rattle.std.proofs.lemmas.List.{map-append}
 use Rattle.std.specs.Borrow.{Bor}
 use Rattle.lus_tree.specs.declared.place.Param.{Param}
 use Rattle.lus_tree.specs.View.{param_view}
-use Rattle.lus_limits.specs.Streams.{AreFirst, params_view}
-use Rattle.lus_limits.proofs.Firsts.{add_seen, add_new}
-use Rattle.lus_limits.proofs.streams.add.Goals as goal
+use Rattle.lus_streams.specs.Streams.{AreFirst, params_view}
+use Rattle.lus_streams.proofs.Firsts.{add_seen, add_new}
+use Rattle.lus_streams.proofs.streams.add.Goals as goal
 
 pub returns-then-not-branch : goal.returns-then-not-branch
 returns-then-not-branch c = λ vs a.

@@ -3,7 +3,7 @@ use Rattle.std.specs.Prelude.{◌≡◌, List, ◌++◌, map, Option, find}
 use Rattle.std.specs.Borrow.{Bor}
 use Rattle.std.specs.Str.{bytes_eq}
 use Rattle.lus_tree.specs.declared.place.Param.{Param}
-use Rattle.lus_limits.specs.declared.streams.Streams.{Streams}
+use Rattle.lus_streams.specs.declared.streams.Streams.{Streams}
 use Rattle.lus_tree.specs.Tree.{Name, Variable}
 use Rattle.lus_tree.specs.View.{param_view}
 

@@ -1,8 +1,8 @@
 use Rattle.std.proofs.Common.{map, take}
 use Rattle.lus_tree.specs.View.{contract_item_view}
 use Rattle.lus_meaning.specs.Scene.{ghosts}
-use Rattle.lus_limits.specs.Streams.{Adds}
-use Rattle.lus_limits.proofs.streams.add_ghosts.Given as goal
+use Rattle.lus_streams.specs.Streams.{Adds}
+use Rattle.lus_streams.proofs.streams.add_ghosts.Given as goal
 
 -- behind those that were there stand those that were gone through
 abbrev pub invariant-loop-item : goal.invariant-loop-item

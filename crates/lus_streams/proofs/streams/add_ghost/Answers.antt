@@ -1,8 +1,8 @@
 use Rattle.std.proofs.Common.{subst, sym, ◌++◌, ◌∷◌, []}
 use Rattle.lus_tree.specs.View.{contract_item_view}
 use Rattle.lus_meaning.specs.Scene.{ghosts}
-use Rattle.lus_limits.specs.Streams.{AreOf}
-use Rattle.lus_limits.proofs.streams.add_ghost.Goals as goal
+use Rattle.lus_streams.specs.Streams.{AreOf}
+use Rattle.lus_streams.proofs.streams.add_ghost.Goals as goal
 
 pub returns-in_ok-add : goal.returns-in_ok-add
 returns-in_ok-add c = λ vs a.

@@ -1,0 +1,4 @@
+pub mod Clocks
+pub mod Streams
+pub mod Names
+pub mod Owner
