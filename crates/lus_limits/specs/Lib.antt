@@ -9,5 +9,6 @@ pub mod Peaks
 pub mod SizeSummaries
 pub mod SizeCuts
 pub mod Measured
+pub mod Chained
 pub mod Keeping
 pub mod OwnTerms

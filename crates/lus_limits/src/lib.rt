@@ -3,6 +3,7 @@
 #![tactic(auto)]
 
 mod calls;
+mod chains;
 pub mod laws;
 mod keeping;
 mod measuring;

@@ -1,6 +1,6 @@
 //! How many levels and parts terms have, cut one past the limits.
 
-ghost use Rattle.std.specs.Prelude.{◌≡◌, max, min};
+ghost use Rattle.std.specs.Prelude.{◌≡◌, ◌+◌, max, min};
 ghost use Rattle.lus_meaning.specs.Sizes.{leaf, one, three, two};
 ghost use Rattle.lus_limits.specs.Peaks.{greater, no_size};
 ghost use Rattle.lus_limits.specs.SizeCuts.{cut_term, level_bound, part_bound};
@@ -20,7 +20,7 @@ pub struct Size {
 }
 
 /// Levels, cut.
-fn cut_levels(levels: u32) -> u32
+pub(crate) fn cut_levels(levels: u32) -> u32
     ensures { result ≡ min level_bound levels }
 {
     if levels < LEVEL_BOUND { levels } else { LEVEL_BOUND }
@@ -33,8 +33,15 @@ fn cut_parts(parts: u32) -> u32
     if parts < PART_BOUND { parts } else { PART_BOUND }
 }
 
+/// A sum of parts, cut.
+pub(crate) fn sum_parts(left: u32, right: u32) -> u32
+    ensures { result ≡ min part_bound (left + right) }
+{
+    cut_parts(left.saturating_add(right))
+}
+
 /// The greater of two numbers.
-fn greatest(left: u32, right: u32) -> u32
+pub(crate) fn greatest(left: u32, right: u32) -> u32
     ensures { result ≡ max left right }
 {
     if left < right { right } else { left }
