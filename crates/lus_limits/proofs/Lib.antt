@@ -12,3 +12,4 @@ pub mod SizeCuts
 pub mod Measures
 pub mod Greatest
 pub mod OwnTerms
+pub mod Contracted

@@ -54,7 +54,7 @@ three_alike a b c d x y e f g =
     ∙ ap (λ z. cut_term (three (cut_term b) (cut_term d) z)) g
     ∙ sym (cut_three b d y)
 
-greater_alike : (a b c d : Size) → Alike a b → Alike c d → Alike (greater a c) (greater b d)
+pub greater_alike : (a b c d : Size) → Alike a b → Alike c d → Alike (greater a c) (greater b d)
 greater_alike a b c d e f =
     cut_greater a c ∙ ap (λ x. cut_term (greater x (cut_term c))) e ∙ ap (λ x. cut_term (greater (cut_term b) x)) f ∙ sym (cut_greater b d)
 
@@ -162,12 +162,12 @@ cut_alone j a =
     same_chain (cut_chain (alone j a)) (cut_chain (alone j (cut_term a))) refl (sym (twice a)) refl
     (same_size (cut_term (alone j a).behind) (cut_term (alone j (cut_term a)).behind) (omega arith) (omega arith))
 
-chain_alike : (c d x y : Chain) → cut_chain c ≡ cut_chain d → cut_chain x ≡ cut_chain y → cut_chain (followed c x) ≡ cut_chain (followed d y)
+pub chain_alike : (c d x y : Chain) → cut_chain c ≡ cut_chain d → cut_chain x ≡ cut_chain y → cut_chain (followed c x) ≡ cut_chain (followed d y)
 chain_alike c d x y e f =
     cut_followed c x ∙ ap (λ z. cut_chain (followed z (cut_chain x))) e ∙ ap (λ z. cut_chain (followed (cut_chain d) z)) f
     ∙ sym (cut_followed d y)
 
-alone_alike : (j : Joint) (a b : Size) → Alike a b → cut_chain (alone j a) ≡ cut_chain (alone j b)
+pub alone_alike : (j : Joint) (a b : Size) → Alike a b → cut_chain (alone j a) ≡ cut_chain (alone j b)
 alone_alike j a b e = cut_alone j a ∙ ap (λ x. cut_chain (alone j x)) e ∙ sym (cut_alone j b)
 
 -- terms that are joined by a fold
@@ -182,7 +182,7 @@ all_alike as_ bs h = all_cut as_ ∙ ap (λ ss. cut_term (all_of ss)) h ∙ sym 
 
 -- ---- contracts
 
-same_peaks : (a b : ContractPeaks) → a.assumes ≡ b.assumes → a.assumed ≡ b.assumed → a.promises ≡ b.promises → a.active ≡ b.active → a.modes ≡ b.modes → a ≡ b
+pub same_peaks : (a b : ContractPeaks) → a.assumes ≡ b.assumes → a.assumed ≡ b.assumed → a.promises ≡ b.promises → a.active ≡ b.active → a.modes ≡ b.modes → a ≡ b
 same_peaks a b e f g h k = λ i. record { assumes = e i; assumed = f i; promises = g i; active = h i; modes = k i }
 
 abbrev Same : ContractPeaks → ContractPeaks → Type 0
@@ -272,10 +272,10 @@ after_alike n sub tub g («import» k c as_ xs ∷ cs) r q h =
 after_alike n sub tub g (ghost_variable v e ∷ cs) r q h = after_alike n sub tub g cs r q h
 after_alike n sub tub g (constant c ∷ cs) r q h = after_alike n sub tub g cs r q h
 
-twice_chain : (c : Chain) → cut_chain (cut_chain c) ≡ cut_chain c
+pub twice_chain : (c : Chain) → cut_chain (cut_chain c) ≡ cut_chain c
 twice_chain c = same_chain (cut_chain (cut_chain c)) (cut_chain c) refl (twice c.whole) (omega arith) (twice c.behind)
 
-twice_modes : (ms : ModeSizes) → cut_modes (cut_modes ms) ≡ cut_modes ms
+pub twice_modes : (ms : ModeSizes) → cut_modes (cut_modes ms) ≡ cut_modes ms
 twice_modes [] = refl
 twice_modes (m ∷ ms) = ap (λ x. (m.0, x) ∷ cut_modes (cut_modes ms)) (twice m.1) ∙ ap (λ r. (m.0, cut_term m.1) ∷ r) (twice_modes ms)
 

@@ -12,3 +12,4 @@ pub mod Measured
 pub mod Chained
 pub mod Keeping
 pub mod OwnTerms
+pub mod Contracted

@@ -4,6 +4,7 @@
 
 mod calls;
 mod chains;
+mod contract_size;
 pub mod laws;
 mod keeping;
 mod measuring;
