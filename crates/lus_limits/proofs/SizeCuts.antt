@@ -39,7 +39,7 @@ cut_greater a b = same_size (cut_term (greater a b)) (cut_term (greater (cut_ter
 abbrev pub Alike : Size → Size → Type 0
 Alike a b = cut_term a ≡ cut_term b
 
-one_alike : (a b : Size) → Alike a b → Alike (one a) (one b)
+pub one_alike : (a b : Size) → Alike a b → Alike (one a) (one b)
 one_alike a b e = cut_one a ∙ ap (λ x. cut_term (one x)) e ∙ sym (cut_one b)
 
 pub two_alike : (a b c d : Size) → Alike a b → Alike c d → Alike (two a c) (two b d)
@@ -201,7 +201,7 @@ promises_alike r q s t h e =
     (ap (λ z. z.assumes) h) (ap (λ z. z.assumed) h) (greater_alike _ _ _ _ (ap (λ z. z.promises) h) e)
     (ap (λ z. z.active) h) (ap (λ z. z.modes) h)
 
-modes_both : (ms ns : ModeSizes) → cut_modes (ms ++ ns) ≡ cut_modes ms ++ cut_modes ns
+pub modes_both : (ms ns : ModeSizes) → cut_modes (ms ++ ns) ≡ cut_modes ms ++ cut_modes ns
 modes_both ms ns = map_append (λ m. (m.0, cut_term m.1)) ms ns
 
 mode_alike : (r q : ContractPeaks) (m : Name) (s t : Size) → Same r q → Alike s t → Same (with_mode r m s) (with_mode q m t)
@@ -212,7 +212,7 @@ mode_alike r q m s t h e =
     (modes_both r.modes ((([], m), s) ∷ []) ∙ ap (λ x. x ++ (([], m), cut_term s) ∷ []) (ap (λ z. z.modes) h)
     ∙ ap (λ x. cut_modes q.modes ++ (([], m), x) ∷ []) e ∙ sym (modes_both q.modes ((([], m), t) ∷ [])))
 
-imported_cut : (c : Name) (ms : ModeSizes) → cut_modes (map (imported_size c) (those_with is_own ms)) ≡ map (imported_size c) (those_with is_own (cut_modes ms))
+pub imported_cut : (c : Name) (ms : ModeSizes) → cut_modes (map (imported_size c) (those_with is_own ms)) ≡ map (imported_size c) (those_with is_own (cut_modes ms))
 imported_cut c [] = refl
 imported_cut c (m ∷ ms) = by_case (is_own m.0.0) (imported_cut c ms) where
   by_case : (b : Bool) → cut_modes (map (imported_size c) (those_with is_own ms)) ≡ map (imported_size c) (those_with is_own (cut_modes ms)) →
@@ -221,7 +221,7 @@ imported_cut c (m ∷ ms) = by_case (is_own m.0.0) (imported_cut c ms) where
   by_case true h = ap (λ r. ((c ∷ m.0.0, m.0.1), cut_term m.1) ∷ r) h
   by_case false h = h
 
-import_alike : (r q : ContractPeaks) (c : Name) (k l : ContractPeaks) → Same r q → Same k l → Same (with_import r c k) (with_import q c l)
+pub import_alike : (r q : ContractPeaks) (c : Name) (k l : ContractPeaks) → Same r q → Same k l → Same (with_import r c k) (with_import q c l)
 import_alike r q c k l h e =
     same_peaks (cut_peaks (with_import r c k)) (cut_peaks (with_import q c l))
     (greater_alike _ _ _ _ (ap (λ z. z.assumes) h) (ap (λ z. z.assumes) e))

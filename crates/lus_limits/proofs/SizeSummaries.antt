@@ -175,7 +175,7 @@ index_mapped f [] k d = refl
 index_mapped f (x ∷ xs) zero d = refl
 index_mapped f (x ∷ xs) (suc k) d = index_mapped f xs k d
 
-mapped_twice : {A B C : Type 0} (f : B → C) (g : A → B) (xs : List A) → map f (map g xs) ≡ map (λ x. f (g x)) xs
+pub mapped_twice : {A B C : Type 0} (f : B → C) (g : A → B) (xs : List A) → map f (map g xs) ≡ map (λ x. f (g x)) xs
 mapped_twice f g [] = refl
 mapped_twice f g (x ∷ xs) = ap (λ r. f (g x) ∷ r) (mapped_twice f g xs)
 

@@ -4,7 +4,7 @@ ghost use Rattle.std.specs.Prelude.{◌≡◌, ◌++◌, ◌∷◌, [], IfOk, On
 ghost use Rattle.lus_tree.specs.View.{contract_item_view, expr_view, named_view, word_view};
 ghost use Rattle.lus_meaning.specs.Sizes.{all_of, asked_size, imported_size, size_in, sizes_of};
 ghost use Rattle.lus_limits.specs.Contracted.{IsCut, contract_seen, item_after, summaries_seen};
-ghost use Rattle.lus_limits.specs.Measured.{modes_view, size_view};
+ghost use Rattle.lus_limits.specs.Measured.{mode_view, modes_view, size_view};
 ghost use Rattle.lus_limits.specs.Peaks.{peak};
 ghost use Rattle.lus_limits.specs.SizeCuts.{cut_modes, cut_peaks, cut_term};
 ghost use Rattle.lus_limits.specs.SizeSummaries.{contract_at, is_own, no_peaks, peaks_after, those_with, with_assumption, with_import, with_mode, with_promises};
@@ -73,4 +73,107 @@ fn add_promises(contract: &mut ContractSize<'_>, size: Size)
     ensures { contract_seen contract.new ≡ cut_peaks (with_promises (contract_seen contract.old) (size_view size)) }
 {
     contract.promises = cut(greater(contract.promises, size));
+}
+
+/// All requires of a mode, joined.
+fn required<'a>(scope: Scope<'a, '_>, labelled: &'a [Named]) -> Size
+    ensures { size_view result ≡ cut_term (all_of (sizes_of (names_view scope.entry.names)
+        (modes_view scope.entry.modes.now) (map named_view labelled.now))) }
+{
+    let mut chain = no_chain();
+    for named in labelled {
+        chain = followed(chain, asked(measure(scope, &named.value).size));
+    }
+    chain.whole
+}
+
+/// Of a promise under requires of that size.
+#[tactic(auto, using(crate::proofs::Contracted::asked_cut))]
+fn promised<'a>(scope: Scope<'a, '_>, asked: Size, e: &'a Expr) -> Size
+    ensures { size_view result ≡ cut_term (asked_size (size_view asked) (size_in (names_view scope.entry.names)
+        (modes_view scope.entry.modes.now) (expr_view e.now))) }
+{
+    one(two(asked, one(measure(scope, e).size)))
+}
+
+/// The greatest of what a mode ensures under requires of that size.
+#[tactic(auto, using(crate::proofs::Greatest::greatest_on, crate::proofs::Greatest::greatest_cut, crate::proofs::Greatest::greatest_end))]
+fn ensured<'a>(scope: Scope<'a, '_>, asked: Size, labelled: &'a [Named]) -> Size
+    ensures { size_view result ≡ cut_term (peak (map (asked_size (size_view asked)) (sizes_of (names_view scope.entry.names)
+        (modes_view scope.entry.modes.now) (map named_view labelled.now)))) }
+{
+    let mut size = no_size();
+    for named in labelled {
+        size = greater(size, promised(scope, asked, &named.value));
+    }
+    size
+}
+
+/// One more mode, whose requires have that size.
+#[tactic(auto, using(crate::proofs::Contracted::mode_added))]
+fn add_mode<'a>(contract: &mut ContractSize<'a>, mode: &'a PlacedName, size: Size) -> Result<(), AllocError>
+    requires { IsCut (contract_seen contract.old) }
+    ensures { OnOk result (contract_seen contract.new
+        ≡ cut_peaks (with_mode (contract_seen contract.old) (word_view mode.now).text (size_view size))) }
+{
+    contract.modes.push(ModeSize {
+        contract: None,
+        mode,
+        size: cut(size),
+    })?;
+    contract.active = followed(contract.active, offered(size));
+    Ok(())
+}
+
+/// The modes, and behind them a mode, where it is one of the imported contract's own.
+fn push_imported<'a>(
+    modes: &mut Vec<ModeSize<'a>>,
+    contract: &'a PlacedName,
+    mode: &ModeSize<'a>,
+) -> Result<(), AllocError>
+    ensures { OnOk result (modes_view modes.new.items ≡ modes_view modes.old.items
+        ++ cut_modes (map (imported_size (word_view contract.now).text) (those_with is_own (mode_view mode.now ∷ [])))) }
+{
+    if mode.contract.is_none() {
+        modes.push(ModeSize {
+            contract: Some(contract),
+            mode: mode.mode,
+            size: cut(mode.size),
+        })?;
+    }
+    Ok(())
+}
+
+/// The modes, and behind them the imported contract's own ones.
+fn push_all_imported<'a>(
+    modes: &mut Vec<ModeSize<'a>>,
+    contract: &'a PlacedName,
+    imported: &[ModeSize<'a>],
+) -> Result<(), AllocError>
+    ensures { OnOk result (modes_view modes.new.items ≡ modes_view modes.old.items
+        ++ cut_modes (map (imported_size (word_view contract.now).text) (those_with is_own (modes_view imported.now)))) }
+{
+    for mode in imported {
+        push_imported(modes, contract, mode)?;
+    }
+    Ok(())
+}
+
+/// One more import.
+#[tactic(auto, using(crate::proofs::Contracted::import_added))]
+fn add_import<'a>(
+    contract: &mut ContractSize<'a>,
+    name: &'a PlacedName,
+    imported: &ContractSize<'a>,
+) -> Result<(), AllocError>
+    requires { IsCut (contract_seen contract.old) }
+    ensures { OnOk result (contract_seen contract.new
+        ≡ cut_peaks (with_import (contract_seen contract.old) (word_view name.now).text (contract_seen imported.now))) }
+{
+    push_all_imported(&mut contract.modes, name, &imported.modes)?;
+    contract.assumes = cut(greater(contract.assumes, imported.assumes));
+    contract.assumed = followed(contract.assumed, imported.assumed);
+    contract.promises = cut(greater(contract.promises, imported.promises));
+    contract.active = followed(contract.active, imported.active);
+    Ok(())
 }
