@@ -195,7 +195,7 @@ assumption_alike r q s t h e =
     (chain_alike _ _ _ _ (ap (λ z. z.assumed) h) (alone_alike by_and s t e))
     (ap (λ z. z.promises) h) (ap (λ z. z.active) h) (ap (λ z. z.modes) h)
 
-promises_alike : (r q : ContractPeaks) (s t : Size) → Same r q → Alike s t → Same (with_promises r s) (with_promises q t)
+pub promises_alike : (r q : ContractPeaks) (s t : Size) → Same r q → Alike s t → Same (with_promises r s) (with_promises q t)
 promises_alike r q s t h e =
     same_peaks (cut_peaks (with_promises r s)) (cut_peaks (with_promises q t))
     (ap (λ z. z.assumes) h) (ap (λ z. z.assumed) h) (greater_alike _ _ _ _ (ap (λ z. z.promises) h) e)
@@ -204,7 +204,7 @@ promises_alike r q s t h e =
 pub modes_both : (ms ns : ModeSizes) → cut_modes (ms ++ ns) ≡ cut_modes ms ++ cut_modes ns
 modes_both ms ns = map_append (λ m. (m.0, cut_term m.1)) ms ns
 
-mode_alike : (r q : ContractPeaks) (m : Name) (s t : Size) → Same r q → Alike s t → Same (with_mode r m s) (with_mode q m t)
+pub mode_alike : (r q : ContractPeaks) (m : Name) (s t : Size) → Same r q → Alike s t → Same (with_mode r m s) (with_mode q m t)
 mode_alike r q m s t h e =
     same_peaks (cut_peaks (with_mode r m s)) (cut_peaks (with_mode q m t))
     (ap (λ z. z.assumes) h) (ap (λ z. z.assumed) h) (ap (λ z. z.promises) h)
@@ -237,7 +237,7 @@ import_alike r q c k l h e =
 sizes_alike : (n : Component) (ms ns : ModeSizes) → cut_modes ms ≡ cut_modes ns → (ls : List Labelled) → AllAlike (sizes_of n ms ls) (sizes_of n ns ls)
 sizes_alike n ms ns h ls = each_alike (λ l. size_in n ms l.value) (λ l. size_in n ns l.value) (λ l. expression_alike n ms ns h l.value) ls
 
-asked_alike : (s t : Size) → Alike s t → (as_ bs : List Size) → AllAlike as_ bs → AllAlike (map (asked_size s) as_) (map (asked_size t) bs)
+pub asked_alike : (s t : Size) → Alike s t → (as_ bs : List Size) → AllAlike as_ bs → AllAlike (map (asked_size s) as_) (map (asked_size t) bs)
 asked_alike s t e as_ bs h = asked_cut s as_ ∙ ap (λ ss. map cut_term (map (asked_size s) ss)) h ∙ sym (asked_cut s bs) ∙ each_alike (asked_size s) (asked_size t) (one_asked) bs where
   asked_cut : (s : Size) (ss : List Size) → AllAlike (map (asked_size s) ss) (map (asked_size s) (map cut_term ss))
   asked_cut s [] = refl

@@ -3,7 +3,7 @@
 ghost use Rattle.std.specs.Prelude.{◌≡◌, ◌++◌, ◌∷◌, [], IfOk, OnOk, map};
 ghost use Rattle.lus_tree.specs.View.{contract_item_view, expr_view, named_view, word_view};
 ghost use Rattle.lus_meaning.specs.Sizes.{all_of, asked_size, imported_size, size_in, sizes_of};
-ghost use Rattle.lus_limits.specs.Contracted.{IsCut, contract_seen, item_after, summaries_seen};
+ghost use Rattle.lus_limits.specs.Contracted.{IsCut, contract_seen, item_after, mode_after, summaries_seen};
 ghost use Rattle.lus_limits.specs.Measured.{mode_view, modes_view, size_view};
 ghost use Rattle.lus_limits.specs.Peaks.{peak};
 ghost use Rattle.lus_limits.specs.SizeCuts.{cut_modes, cut_peaks, cut_term};
@@ -20,25 +20,25 @@ use std::alloc::{AllocError, Global};
 /// Of the terms of a contract: the greatest of its assumptions, these joined, the greatest of what it promises, its
 /// modes joined, and the modes that its text can name.
 #[derive(Drop)]
-pub(crate) struct ContractSize<'a> {
+pub(crate) struct ContractSize {
     pub(crate) assumes: Size,
     pub(crate) assumed: Chain,
     pub(crate) promises: Size,
     pub(crate) active: Chain,
-    pub(crate) modes: Vec<ModeSize<'a>>,
+    pub(crate) modes: Vec<ModeSize>,
 }
 
 /// What callers need of the sizes of a declaration's terms: its contract's, and the greatest of its frame where the
 /// caller gives the inputs, and where it gives the outputs too.
 #[derive(Drop)]
-pub(crate) struct SizeSummary<'a> {
-    pub(crate) contract: ContractSize<'a>,
+pub(crate) struct SizeSummary {
+    pub(crate) contract: ContractSize,
     pub(crate) called: Size,
     pub(crate) imported: Size,
 }
 
 /// Of no contract.
-fn nothing<'a>(alloc: Global) -> ContractSize<'a>
+fn nothing(alloc: Global) -> ContractSize
     ensures { contract_seen result ≡ no_peaks }
 {
     ContractSize {
@@ -52,7 +52,7 @@ fn nothing<'a>(alloc: Global) -> ContractSize<'a>
 
 /// One more assumption.
 #[tactic(auto, using(crate::proofs::Contracted::assumption_added))]
-fn add_assumption<'a>(names: Names<'a, '_>, contract: &mut ContractSize<'a>, e: &'a Expr)
+fn add_assumption<'a>(names: Names<'a, '_>, contract: &mut ContractSize, e: &'a Expr)
     requires { IsCut (contract_seen contract.old) }
     ensures { contract_seen contract.new ≡ cut_peaks (with_assumption (contract_seen contract.old)
         (size_in (names_view names.entry) (modes_view contract.old.modes.items) (expr_view e.now))) }
@@ -68,7 +68,7 @@ fn add_assumption<'a>(names: Names<'a, '_>, contract: &mut ContractSize<'a>, e: 
 
 /// More promises, of which that is the greatest.
 #[tactic(auto, using(crate::proofs::Contracted::promises_added))]
-fn add_promises(contract: &mut ContractSize<'_>, size: Size)
+fn add_promises(contract: &mut ContractSize, size: Size)
     requires { IsCut (contract_seen contract.old) }
     ensures { contract_seen contract.new ≡ cut_peaks (with_promises (contract_seen contract.old) (size_view size)) }
 {
@@ -111,11 +111,17 @@ fn ensured<'a>(scope: Scope<'a, '_>, asked: Size, labelled: &'a [Named]) -> Size
 
 /// One more mode, whose requires have that size.
 #[tactic(auto, using(crate::proofs::Contracted::mode_added))]
-fn add_mode<'a>(contract: &mut ContractSize<'a>, mode: &'a PlacedName, size: Size) -> Result<(), AllocError>
+fn add_mode(
+    alloc: Global,
+    contract: &mut ContractSize,
+    mode: &PlacedName,
+    size: Size,
+) -> Result<(), AllocError>
     requires { IsCut (contract_seen contract.old) }
     ensures { OnOk result (contract_seen contract.new
         ≡ cut_peaks (with_mode (contract_seen contract.old) (word_view mode.now).text (size_view size))) }
 {
+    let mode = mode.copied(alloc)?;
     contract.modes.push(ModeSize {
         contract: None,
         mode,
@@ -126,54 +132,159 @@ fn add_mode<'a>(contract: &mut ContractSize<'a>, mode: &'a PlacedName, size: Siz
 }
 
 /// The modes, and behind them a mode, where it is one of the imported contract's own.
-fn push_imported<'a>(
-    modes: &mut Vec<ModeSize<'a>>,
-    contract: &'a PlacedName,
-    mode: &ModeSize<'a>,
+fn push_imported(
+    alloc: Global,
+    modes: &mut Vec<ModeSize>,
+    contract: &PlacedName,
+    mode: &ModeSize,
 ) -> Result<(), AllocError>
     ensures { OnOk result (modes_view modes.new.items ≡ modes_view modes.old.items
         ++ cut_modes (map (imported_size (word_view contract.now).text) (those_with is_own (mode_view mode.now ∷ [])))) }
 {
-    if mode.contract.is_none() {
-        modes.push(ModeSize {
-            contract: Some(contract),
-            mode: mode.mode,
-            size: cut(mode.size),
-        })?;
+    if mode.contract.is_some() {
+        return Ok(());
     }
+    let name = mode.mode.copied(alloc)?;
+    let contract = contract.copied(alloc)?;
+    modes.push(ModeSize {
+        contract: Some(contract),
+        mode: name,
+        size: cut(mode.size),
+    })?;
     Ok(())
 }
 
 /// The modes, and behind them the imported contract's own ones.
-fn push_all_imported<'a>(
-    modes: &mut Vec<ModeSize<'a>>,
-    contract: &'a PlacedName,
-    imported: &[ModeSize<'a>],
+fn push_all_imported(
+    alloc: Global,
+    modes: &mut Vec<ModeSize>,
+    contract: &PlacedName,
+    imported: &[ModeSize],
 ) -> Result<(), AllocError>
     ensures { OnOk result (modes_view modes.new.items ≡ modes_view modes.old.items
         ++ cut_modes (map (imported_size (word_view contract.now).text) (those_with is_own (modes_view imported.now)))) }
 {
     for mode in imported {
-        push_imported(modes, contract, mode)?;
+        push_imported(alloc, modes, contract, mode)?;
     }
     Ok(())
 }
 
 /// One more import.
 #[tactic(auto, using(crate::proofs::Contracted::import_added))]
-fn add_import<'a>(
-    contract: &mut ContractSize<'a>,
-    name: &'a PlacedName,
-    imported: &ContractSize<'a>,
+fn add_import(
+    alloc: Global,
+    contract: &mut ContractSize,
+    name: &PlacedName,
+    imported: &ContractSize,
 ) -> Result<(), AllocError>
     requires { IsCut (contract_seen contract.old) }
     ensures { OnOk result (contract_seen contract.new
         ≡ cut_peaks (with_import (contract_seen contract.old) (word_view name.now).text (contract_seen imported.now))) }
 {
-    push_all_imported(&mut contract.modes, name, &imported.modes)?;
+    push_all_imported(alloc, &mut contract.modes, name, &imported.modes)?;
     contract.assumes = cut(greater(contract.assumes, imported.assumes));
     contract.assumed = followed(contract.assumed, imported.assumed);
     contract.promises = cut(greater(contract.promises, imported.promises));
     contract.active = followed(contract.active, imported.active);
     Ok(())
+}
+
+/// One more mode of a contract, with what it promises.
+#[tactic(auto, using(crate::proofs::Contracted::mode_item_added))]
+fn add_mode_item<'a>(
+    alloc: Global,
+    names: Names<'a, '_>,
+    contract: &mut ContractSize,
+    mode: &'a PlacedName,
+    conditions: &'a [Named],
+    promises: &'a [Named],
+) -> Result<(), AllocError>
+    requires { IsCut (contract_seen contract.old) }
+    ensures { OnOk result (contract_seen contract.new ≡ cut_peaks (mode_after (names_view names.entry)
+        (contract_seen contract.old) (word_view mode.now).text (map named_view conditions.now) (map named_view promises.now))) }
+{
+    let scope = Scope {
+        names,
+        modes: &contract.modes,
+    };
+    let asked = required(scope, conditions);
+    let promised = ensured(scope, asked, promises);
+    add_promises(contract, promised);
+    add_mode(alloc, contract, mode, asked)?;
+    Ok(())
+}
+
+/// The contract of the import with that number, counted from 1.
+fn imported_at<'s>(
+    links: &[&'s SizeSummary],
+    none: &'s ContractSize,
+    number: u32,
+) -> &'s ContractSize
+    requires { contract_seen none.now ≡ no_peaks }
+    ensures { contract_seen result.now ≡ contract_at (summaries_seen links.now) number }
+{
+    let place = (number as usize).saturating_sub(1);
+    if place < links.len() {
+        &links[place].contract
+    } else {
+        none
+    }
+}
+
+/// One more item; the contracts of imports are those of `links`, by number.
+fn add_item<'a>(
+    alloc: Global,
+    names: Names<'a, '_>,
+    contract: &mut ContractSize,
+    item: &'a ContractItem,
+    links: &[&SizeSummary],
+    none: &ContractSize,
+) -> Result<(), AllocError>
+    requires cut { IsCut (contract_seen contract.old) }
+    requires none { contract_seen none.now ≡ no_peaks }
+    ensures { OnOk result (contract_seen contract.new ≡ cut_peaks (item_after (names_view names.entry)
+        (contract_at (summaries_seen links.now)) (contract_seen contract.old) (contract_item_view item.now))) }
+{
+    match item {
+        ContractItem::Assume(named) => add_assumption(names, contract, &named.value),
+        ContractItem::Guarantee(named) => {
+            let scope = Scope {
+                names,
+                modes: &contract.modes,
+            };
+            let size = measure(scope, &named.value).size;
+            add_promises(contract, size);
+        }
+        ContractItem::Mode(mode, conditions, promises) => {
+            add_mode_item(alloc, names, contract, mode, conditions, promises)?;
+        }
+        ContractItem::Import(number, name, _, _) => {
+            add_import(alloc, contract, name, imported_at(links, none, *number))?;
+        }
+        ContractItem::Ghost(_, _) | ContractItem::Constant(_) => {}
+    }
+    Ok(())
+}
+
+/// Of the items of a contract; the contracts of imports are those of `links`, by number.
+///
+/// # Errors
+///
+/// Want of memory.
+pub(crate) fn contract_size<'a>(
+    alloc: Global,
+    names: Names<'a, '_>,
+    items: &'a [ContractItem],
+    links: &[&SizeSummary],
+) -> Result<ContractSize, AllocError>
+    ensures { IfOk result (λ c. contract_seen c ≡ cut_peaks (peaks_after (names_view names.entry)
+        (contract_at (summaries_seen links.now)) no_peaks (map contract_item_view items.now))) }
+{
+    let none = nothing(alloc);
+    let mut contract = nothing(alloc);
+    for item in items {
+        add_item(alloc, names, &mut contract, item, links, &none)?;
+    }
+    Ok(contract)
 }

@@ -17,10 +17,10 @@ use crate::term_size::{Size, cut, leaf, one, three, two};
 use lus_tree::{Expr, Form, Operator, PlacedName};
 
 /// The size of a mode's requires: of one of the contract itself, or of one that it imports.
-#[derive(Clone, Copy)]
-pub(crate) struct ModeSize<'a> {
-    pub(crate) contract: Option<&'a PlacedName>,
-    pub(crate) mode: &'a PlacedName,
+#[derive(Drop)]
+pub(crate) struct ModeSize {
+    pub(crate) contract: Option<PlacedName>,
+    pub(crate) mode: PlacedName,
     pub(crate) size: Size,
 }
 
@@ -28,7 +28,7 @@ pub(crate) struct ModeSize<'a> {
 #[derive(Clone, Copy)]
 pub(crate) struct Scope<'a, 's> {
     pub(crate) names: Names<'a, 's>,
-    pub(crate) modes: &'s [ModeSize<'a>],
+    pub(crate) modes: &'s [ModeSize],
 }
 
 /// Whether an expression is a constant, and its size.
@@ -39,9 +39,9 @@ pub(crate) struct Measured {
 }
 
 /// Whether two names, where they are given, are the same, or neither is given.
-fn is_same_contract(left: Option<&PlacedName>, right: Option<&PlacedName>) -> bool
-    ensures { result ≡ same_path (option_to_list (option_map name_seen left.entry))
-        (option_to_list (option_map name_seen right.entry)) }
+fn is_same_contract(left: &Option<PlacedName>, right: &Option<PlacedName>) -> bool
+    ensures { result ≡ same_path (option_to_list (option_map name_seen left.now))
+        (option_to_list (option_map name_seen right.now)) }
 {
     match (left, right) {
         (Some(left), Some(right)) => left.text.as_str() == right.text.as_str(),
@@ -51,17 +51,17 @@ fn is_same_contract(left: Option<&PlacedName>, right: Option<&PlacedName>) -> bo
 }
 
 /// Whether it is that mode.
-fn is_named(entry: &ModeSize<'_>, contract: Option<&PlacedName>, mode: &PlacedName) -> bool
-    ensures { result ≡ mode_key (option_to_list (option_map name_seen contract.entry), (word_view mode.now).text)
+fn is_named(entry: &ModeSize, contract: &Option<PlacedName>, mode: &PlacedName) -> bool
+    ensures { result ≡ mode_key (option_to_list (option_map name_seen contract.now), (word_view mode.now).text)
         (mode_view entry.now).0 }
 {
-    is_same_contract(contract, entry.contract) && mode.text.as_str() == entry.mode.text.as_str()
+    is_same_contract(contract, &entry.contract) && mode.text.as_str() == entry.mode.text.as_str()
 }
 
 /// The size of the first mode of that name, cut.
-fn mode_size(modes: &[ModeSize<'_>], contract: Option<&PlacedName>, mode: &PlacedName) -> Size
+fn mode_size(modes: &[ModeSize], contract: &Option<PlacedName>, mode: &PlacedName) -> Size
     ensures { size_view result ≡ cut_term (unwrap_or (lookup
-        (mode_key (option_to_list (option_map name_seen contract.entry), (word_view mode.now).text))
+        (mode_key (option_to_list (option_map name_seen contract.now), (word_view mode.now).text))
         (modes_view modes.now)) leaf) }
 {
     for entry in modes {
@@ -174,7 +174,7 @@ pub(crate) fn measure(scope: Scope<'_, '_>, e: &Expr) -> Measured
         },
         Form::ModeName(contract, mode) => Measured {
             fixed: false,
-            size: mode_size(scope.modes, contract.as_ref(), mode),
+            size: mode_size(scope.modes, contract, mode),
         },
     }
 }
