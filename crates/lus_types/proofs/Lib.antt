@@ -12,3 +12,4 @@ pub mod RepeatedWords
 pub mod Stateless
 pub mod RepeatedLabels
 pub mod Circled
+pub mod Noted

@@ -11,4 +11,6 @@ pub mod Repeated
 pub mod States
 pub mod Labels
 pub mod Declarations
+pub mod Names
+pub mod Constants
 pub mod Refusals

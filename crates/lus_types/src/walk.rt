@@ -92,7 +92,7 @@ fn with_constants<'a>(
 }
 
 /// What the constants of a program mean.
-fn constants_of<'a>(
+pub(crate) fn constants_of<'a>(
     alloc: Global,
     declarations: &'a Declarations<'a>,
     nothing: Layer<'a>,

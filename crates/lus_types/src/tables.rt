@@ -1,0 +1,218 @@
+//! Tables of the names of a program.
+
+ghost use Rattle.std.specs.Prelude.{◌≡◌, ◌∷◌, [], None, Some, cond, false, true, IfOk, OnOk, map};
+ghost use Rattle.std.specs.Option.{option_or};
+ghost use Rattle.std.specs.Str.{bytes_eq};
+ghost use Rattle.indexmap.specs.IndexMap.{get_by_text};
+ghost use Rattle.lus_tree.specs.Tree.{Name};
+ghost use Rattle.lus_tree.specs.View.{decl_view, program_view, word_view};
+ghost use Rattle.lus_meaning.specs.Scope.{own_names};
+ghost use Rattle.lus_scopes.specs.declared.scope.Extent.TheVariants.{All};
+ghost use Rattle.lus_scopes.specs.Scopes.{entry_view, meaning_view, role_view};
+ghost use Rattle.lus_types.specs.Constants.{AreConstants};
+ghost use Rattle.lus_types.specs.Homes.{home_of};
+ghost use Rattle.lus_types.specs.Names.{Finds, HaveNames, declaration_named, declared_from, found_in, found_view, kind_view, known_among, known_from, names_from, names_of};
+
+use crate::component::constants_after;
+use crate::declared::declared_in;
+use crate::entries::entries;
+use crate::found::{Found, Kind, note};
+use crate::walk::constants_of;
+use indexmap::IndexMap;
+use lus_scopes::declarations::Declarations;
+use lus_scopes::layer::Layer;
+use lus_scopes::names::Names;
+use lus_scopes::scope::{Entry, Extent, Meaning, Owner, Role};
+use lus_tree::{Decl, PlacedName, Program};
+use std::alloc::{AllocError, Global};
+
+/// Names with what they are, of each name the first.
+pub(crate) type Table = IndexMap<String, Found>;
+
+/// The names of a program: those of each declaration by its number, its constants, and of the
+/// declarations with parts the number of the first of each name.
+#[derive(Drop)]
+pub(crate) struct Tables {
+    pub(crate) own: Vec<Table>,
+    pub(crate) constants: Table,
+    pub(crate) declared: IndexMap<String, usize>,
+}
+
+/// The word of a name.
+fn word<'a>(meaning: &Meaning<'a>) -> &'a PlacedName
+    ensures { word_view result.now ≡ (meaning_view meaning.now true).word }
+{
+    match meaning {
+        Meaning::Stream(_, param) => &param.name,
+        Meaning::Constant(definition, _, _) => &definition.name,
+    }
+}
+
+/// What a role is as a name.
+fn kind_of(role: Role) -> Kind
+    ensures { kind_view result ≡ role_view role }
+{
+    match role {
+        Role::Input => Kind::Input,
+        Role::Output => Kind::Output,
+        Role::Local => Kind::Local,
+        Role::Ghost => Kind::Ghost,
+    }
+}
+
+/// A name that means this.
+fn found_as(meaning: &Meaning<'_>, number: usize) -> Found
+    ensures { found_view result ≡ record {
+        role = (meaning_view meaning.now true).role; number = number; sort = (meaning_view meaning.now true).sort } }
+{
+    match meaning {
+        Meaning::Stream(role, param) => Found {
+            kind: kind_of(*role),
+            number,
+            sort: Some(param.sort),
+        },
+        Meaning::Constant(_, sort, _) => Found {
+            kind: Kind::Constant,
+            number,
+            sort: *sort,
+        },
+    }
+}
+
+/// Notes a name that is new, with this number.
+fn note_name(
+    alloc: Global,
+    table: &mut Table,
+    entry: &Entry<'_>,
+    number: usize,
+) -> Result<(), AllocError>
+    ensures { OnOk result ((x : Name) → found_in table.new x ≡ option_or (found_in table.old x)
+        (known_from number (entry_view All false entry.now ∷ []) x)) }
+{
+    let name = word(&entry.meaning).text.as_str();
+    note(alloc, table, name, found_as(&entry.meaning, number))?;
+    Ok(())
+}
+
+/// A table of these names.
+fn table_of(alloc: Global, names: &[Entry<'_>]) -> Result<Table, AllocError>
+    ensures { IfOk result (λ t. Finds t (map (entry_view All false) names.now)) }
+{
+    let mut table = IndexMap::new(alloc);
+    for (number, entry) in names.iter().enumerate() {
+        note_name(alloc, &mut table, entry, number)?;
+    }
+    Ok(table)
+}
+
+/// A table of the names of a declaration with parts.
+fn own_table<'a>(
+    alloc: Global,
+    declarations: &'a Declarations<'a>,
+    outer: Layer<'a>,
+    owner: Owner<'a>,
+) -> Result<Table, AllocError>
+    ensures { IfOk result (λ t. Finds t (own_names (home_of declarations.now owner.entry outer.entry))) }
+{
+    let declared = declared_in(alloc, owner)?;
+    let own = entries(alloc, declarations, outer, &declared)?;
+    table_of(alloc, &own.entries)
+}
+
+/// A table of the names of a declaration behind so many constants of the program.
+fn table_behind<'a>(
+    alloc: Global,
+    declarations: &'a Declarations<'a>,
+    constants: Layer<'a>,
+    known: usize,
+    decl: &'a Decl,
+) -> Result<Table, AllocError>
+    requires { AreConstants declarations.now constants }
+    ensures { IfOk result (λ t. Finds t (names_of (program_view declarations.now) known (decl_view decl.now))) }
+{
+    let outer = constants.within(Extent::First(known));
+    match decl {
+        Decl::Constant(_) => Ok(IndexMap::new(alloc)),
+        Decl::Node(node) => own_table(alloc, declarations, outer, Owner::Node(node)),
+        Decl::Contract(contract) => {
+            own_table(alloc, declarations, outer, Owner::Contract(contract))
+        }
+    }
+}
+
+/// Tables of the names of these declarations.
+fn own_tables<'a>(
+    alloc: Global,
+    declarations: &'a Declarations<'a>,
+    constants: Layer<'a>,
+    decls: &'a [Decl],
+) -> Result<Vec<Table>, AllocError>
+    requires { AreConstants declarations.now constants }
+    ensures { IfOk result (λ ts. (x : Name) → map (λ t. found_in t x) ts.items
+        ≡ map (λ es. known_among es x) (names_from (program_view declarations.now) 0 (map decl_view decls.now))) }
+{
+    let mut known = 0;
+    let mut tables = Vec::new(alloc);
+    for decl in decls {
+        tables.push(table_behind(alloc, declarations, constants, known, decl)?)?;
+        known = constants_after(known, decl);
+    }
+    Ok(tables)
+}
+
+/// Notes a declaration with parts.
+fn note_declaration(
+    alloc: Global,
+    declared: &mut IndexMap<String, usize>,
+    decl: &Decl,
+    number: usize,
+) -> Result<(), AllocError>
+    ensures { OnOk result ((x : Name) → get_by_text declared.new x ≡ option_or (get_by_text declared.old x)
+        (declared_from number (decl_view decl.now ∷ []) x)) }
+{
+    match decl {
+        Decl::Constant(_) => Ok(()),
+        Decl::Node(node) => note(alloc, declared, &node.name.text, number),
+        Decl::Contract(contract) => note(alloc, declared, &contract.name.text, number),
+    }
+}
+
+/// The numbers of the declarations with parts, of each name the first.
+fn declared_names(alloc: Global, decls: &[Decl]) -> Result<IndexMap<String, usize>, AllocError>
+    ensures { IfOk result (λ m. (x : Name) → get_by_text m x ≡ declaration_named (map decl_view decls.now) x) }
+{
+    let mut declared = IndexMap::new(alloc);
+    for (number, decl) in decls.iter().enumerate() {
+        note_declaration(alloc, &mut declared, decl, number)?;
+    }
+    Ok(declared)
+}
+
+/// The tables of a program.
+fn with_declarations(
+    alloc: Global,
+    declarations: &Declarations<'_>,
+) -> Result<Tables, AllocError>
+    ensures { IfOk result (λ t. HaveNames (program_view declarations.now) t) }
+{
+    let none = Names::new(alloc);
+    let constants = constants_of(alloc, declarations, none.layer())?;
+    let decls = &declarations.program().decls;
+    Ok(Tables {
+        own: own_tables(alloc, declarations, constants.layer(), decls)?,
+        constants: table_of(alloc, &constants.entries)?,
+        declared: declared_names(alloc, decls)?,
+    })
+}
+
+/// The tables of a program.
+///
+/// # Errors
+///
+/// Want of memory.
+pub(crate) fn tables_of(alloc: Global, program: &Program) -> Result<Tables, AllocError>
+    ensures { IfOk result (λ t. HaveNames (program_view program.now) t) }
+{
+    let declarations = Declarations::of(alloc, program)?;
+    with_declarations(alloc, &declarations)
+}
