@@ -13,3 +13,5 @@ pub mod Stateless
 pub mod RepeatedLabels
 pub mod Circled
 pub mod Noted
+pub mod SortsBy
+pub mod AtPlace

@@ -28,7 +28,7 @@ abbrev meant : Meaning → ℕ → Known
 meant m i = record { role = (meaning_view m true).role; number = i; sort = (meaning_view m true).sort }
 
 seen : (m : Meaning) (i : ℕ) (x : Name) → known_from i (meaning_view m (known_as m false true) ∷ []) x
-    ≡ cond (bytes_eq x (meaning_view m true).word.text) (Some (meant m i)) None
+    ≡ cond (bytes_eq x (meaning_view m false).word.text) (Some (meant m i)) None
 seen (Stream r p) i x = refl
 seen (Constant d q v) i x = refl
 
@@ -38,7 +38,7 @@ viewed (Some g) b f = refl
 viewed None true f = refl
 viewed None false f = refl
 
-pub one_noted : (m : Meaning) (i : ℕ) (x y : Name) (f : Found) (old new : Option Found) → y ≡ (meaning_view m true).word.text
+pub one_noted : (m : Meaning) (i : ℕ) (x y : Name) (f : Found) (old new : Option Found) → y ≡ (meaning_view m false).word.text
     → found_view f ≡ meant m i → new ≡ option_or old (cond (bytes_eq x y) (Some f) None)
     → option_map found_view new ≡ option_or (option_map found_view old) (known_from i (meaning_view m (known_as m false true) ∷ []) x)
 one_noted m i x y f old new w v n =

@@ -13,4 +13,5 @@ pub mod Labels
 pub mod Declarations
 pub mod Names
 pub mod Constants
+pub mod Places
 pub mod Refusals

@@ -12,6 +12,7 @@ mod labels;
 mod marks;
 mod named;
 mod naming;
+mod place;
 mod program_rules;
 mod ranks;
 mod reading;
@@ -26,4 +27,5 @@ mod typed;
 mod walk;
 mod words;
 
+pub use found::{Found, Kind};
 pub use typed::{Typed, types};

@@ -1,11 +1,11 @@
 //! Tables of the names of a program.
 
-ghost use Rattle.std.specs.Prelude.{◌≡◌, ◌∷◌, [], None, Some, cond, false, true, IfOk, OnOk, map};
+ghost use Rattle.std.specs.Prelude.{◌≡◌, ◌∷◌, [], None, Some, cond, false, true, IfOk, OnOk, map, option_map};
 ghost use Rattle.std.specs.Option.{option_or};
 ghost use Rattle.std.specs.Str.{bytes_eq};
 ghost use Rattle.indexmap.specs.IndexMap.{get_by_text};
 ghost use Rattle.lus_tree.specs.Tree.{Name};
-ghost use Rattle.lus_tree.specs.View.{decl_view, program_view, word_view};
+ghost use Rattle.lus_tree.specs.View.{decl_view, program_view};
 ghost use Rattle.lus_meaning.specs.Scope.{own_names};
 ghost use Rattle.lus_scopes.specs.declared.scope.Extent.TheVariants.{All};
 ghost use Rattle.lus_scopes.specs.Scopes.{entry_view, meaning_view, role_view};
@@ -21,13 +21,20 @@ use crate::walk::constants_of;
 use indexmap::IndexMap;
 use lus_scopes::declarations::Declarations;
 use lus_scopes::layer::Layer;
-use lus_scopes::names::Names;
+use lus_scopes::names::{Names, word};
 use lus_scopes::scope::{Entry, Extent, Meaning, Owner, Role};
-use lus_tree::{Decl, PlacedName, Program};
+use lus_tree::{Decl, Program};
 use std::alloc::{AllocError, Global};
 
 /// Names with what they are, of each name the first.
 pub(crate) type Table = IndexMap<String, Found>;
+
+/// What a name is by a table.
+pub(crate) fn found(table: &Table, name: &str) -> Option<Found>
+    ensures { option_map found_view result ≡ found_in table.now name.now }
+{
+    table.get(name).copied()
+}
 
 /// The names of a program: those of each declaration by its number, its constants, and of the
 /// declarations with parts the number of the first of each name.
@@ -36,16 +43,6 @@ pub(crate) struct Tables {
     pub(crate) own: Vec<Table>,
     pub(crate) constants: Table,
     pub(crate) declared: IndexMap<String, usize>,
-}
-
-/// The word of a name.
-fn word<'a>(meaning: &Meaning<'a>) -> &'a PlacedName
-    ensures { word_view result.now ≡ (meaning_view meaning.now true).word }
-{
-    match meaning {
-        Meaning::Stream(_, param) => &param.name,
-        Meaning::Constant(definition, _, _) => &definition.name,
-    }
 }
 
 /// What a role is as a name.
