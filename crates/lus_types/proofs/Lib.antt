@@ -15,3 +15,6 @@ pub mod Circled
 pub mod Noted
 pub mod SortsBy
 pub mod AtPlace
+pub mod SortedParts
+pub mod SortedTexts
+pub mod HasSort

@@ -14,4 +14,5 @@ pub mod Declarations
 pub mod Names
 pub mod Constants
 pub mod Places
+pub mod Standing
 pub mod Refusals

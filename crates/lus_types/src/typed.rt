@@ -1,11 +1,12 @@
 //! A program whose names, types and numbers are right.
 
-ghost use Rattle.std.specs.Prelude.{◌≡◌, IfErr, IfOk, IsErr, option_map};
+ghost use Rattle.std.specs.Prelude.{◌≡◌, IfErr, IfOk, IsErr, Some, option_map, true};
 ghost use Rattle.lus_tree.specs.Reason.{Refused, refusal_view};
 ghost use Rattle.lus_tree.specs.View.{expr_view, program_view};
 ghost use Rattle.lus_meaning.specs.Refusals.{IsTyped, IsTypingFault};
 ghost use Rattle.lus_types.specs.Names.{HaveNames, constant_in, declaration_named, found_view, name_in, sort_in};
 ghost use Rattle.lus_types.specs.Refusals.{IsRefusal};
+ghost use Rattle.lus_types.specs.Standing.{StandsIn, has_one_value};
 
 use crate::found::Found;
 use crate::place::Place;
@@ -109,6 +110,17 @@ impl Typed {
             }
             None => None,
         }
+    }
+
+    /// The type of an expression of the declaration of that number, in which it stands, and which has
+    /// one value.
+    pub fn sort(&self, declaration: u32, e: &Expr) -> Sort
+        requires stands { StandsIn (program_view self.now) declaration (expr_view e.now) }
+        requires one { has_one_value (program_view self.now) (expr_view e.now) ≡ true }
+        ensures { sort_in (program_view self.now) declaration (expr_view e.now) ≡ Some result }
+    {
+        let _ = &self.program;
+        self.type_of(declaration, e).unwrap()
     }
 }
 
