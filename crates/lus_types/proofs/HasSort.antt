@@ -1,18 +1,18 @@
 -- In a program without faults of names and types each expression that stands in a declaration has a type, where it has
 -- one value.
-use Rattle.std.proofs.Common.{◌≡◌, ℕ, zero, suc, ◌<◌, Bool, true, false, cond, ◌||◌, List, [], ◌∷◌, ◌++◌, map, flat_map, get_or, Option, Some, None, refl, sym, ap, ◌∙◌, subst, arith}
+use Rattle.std.proofs.Common.{◌≡◌, ℕ, zero, suc, Bool, true, false, cond, ◌||◌, List, [], ◌∷◌, ◌++◌, map, flat_map, get_or, Some, refl, ap, subst, arith}
 use Rattle.std.specs.Prelude.{is_some, slice_get, find, Contains}
 use Rattle.std.specs.Option.{option_and_then}
 use Rattle.std.specs.List.{AllByRecursion}
 use Rattle.std.specs.Str.{bytes_eq}
 use Rattle.std.proofs.lemmas.Bool.{false≢true}
-use Rattle.lus_tree.specs.Tree.{Place, Name, text_of, Spelled, Expression, Expressions, name, call, condact, Constant, Component, Declaration, declared_constant, declared_node, declared_contract, Program}
+use Rattle.lus_tree.specs.Tree.{Place, Name, text_of, Expression, name, Constant, Component, Declaration, declared_constant, declared_node, declared_contract, Program}
 use Rattle.lus_tree.specs.Reason.{name_twice, not_constant}
 use Rattle.lus_meaning.specs.Scene.{base, no_component}
-use Rattle.lus_meaning.specs.Occurrences.{Standing, on_clock, Occurrence, occurs, occurrences}
+use Rattle.lus_meaning.specs.Occurrences.{on_clock, Occurrence, occurrences}
 use Rattle.lus_meaning.specs.Depends.{named_in}
 use Rattle.lus_meaning.specs.WellMade.{AreDistinct}
-use Rattle.lus_meaning.specs.Scope.{Entry, Scope, is_constant_name, is_constant_role, sort_of_entry, call_sort, type_of, first_constants, left_after, known_after, constants_declared}
+use Rattle.lus_meaning.specs.Scope.{Entry, Scope, is_constant_name, type_of, first_constants, left_after, known_after, constants_declared}
 use Rattle.lus_meaning.specs.Faults.{fault, words_twice}
 use Rattle.lus_meaning.specs.ExpressionFaults.{definition_faults, expression_faults, hinders_constant, not_allowed}
 use Rattle.lus_meaning.specs.NameFaults.{component_faults, constant_words, declaration_faults, declaration_word, home, outer_scope, typing_faults}
@@ -24,7 +24,6 @@ use Rattle.rule_laws.proofs.Cleaned.{outer_clean, outer_table}
 use Rattle.rule_laws.proofs.Constants.{Good, Values, all_good, fixed_in, fixed_of, is_word}
 use Rattle.rule_laws.proofs.Texts.{no_positions}
 use Rattle.rule_laws.proofs.Truths.{first_false, second_false}
-use Rattle.lus_types.specs.Declarations.{after}
 use Rattle.lus_types.specs.Names.{scope_of, scopes_from, sort_in}
 use Rattle.lus_types.specs.Standing.{StandsIn, has_one_value, occurrences_of}
 use Rattle.lus_types.proofs.SortedParts.{all_sorted}

@@ -1,16 +1,15 @@
 -- An expression has a type where the names in it have one, and its calls one output.
-use Rattle.std.proofs.Common.{◌≡◌, ℕ, suc, Bool, true, false, not, ◌&&◌, List, [], ◌∷◌, ◌++◌, length, Option, Some, None, refl, sym, ap, ◌∙◌, arith}
+use Rattle.std.proofs.Common.{◌≡◌, ℕ, suc, Bool, true, false, not, ◌&&◌, List, [], ◌∷◌, ◌++◌, length, Option, Some, None, refl, arith}
 use Rattle.std.specs.Prelude.{is_some, ◌==◌}
 use Rattle.std.specs.Option.{option_and_then}
 use Rattle.std.specs.List.{AllByRecursion}
 use Rattle.std.proofs.lemmas.Bool.{false≢true, eqb-true}
-use Rattle.lus_tree.specs.declared.place.Pos.{Pos}
 use Rattle.lus_tree.specs.Tree.{Place, Name, Spelled, Expression, Expressions, truth, number, name, negation, minus, pre, arrow, binary, choice, sampled, merged, call, condact, mode_name, Variable, Component}
 use Rattle.lus_tree.specs.Reason.{arity_clash}
 use Rattle.lus_meaning.specs.Scene.{clock_of, sampled_by}
 use Rattle.lus_meaning.specs.Occurrences.{Standing, within, before, moved, Occurrence, occurs, occurrences}
-use Rattle.lus_meaning.specs.Scope.{Scope, call_sort, node_named, only_sort, sort_of_entry, type_of}
-use Rattle.lus_meaning.specs.Faults.{fault, if_so}
+use Rattle.lus_meaning.specs.Scope.{Scope, call_sort, only_sort, sort_of_entry, type_of}
+use Rattle.lus_meaning.specs.Faults.{if_so}
 use Rattle.lus_meaning.specs.ExpressionFaults.{arguments_fit, call_faults, has_one}
 use Rattle.lus_meaning.proofs.EachPart.{Each, each_part}
 use Rattle.lus_meaning.proofs.Lists.{all_from}

@@ -1,12 +1,12 @@
 -- Tables of the names that a typed program declares, and what is found in them.
-use Rattle.std.specs.Prelude.{◌≡◌, ℕ, suc, cond, List, [], ◌∷◌, map, length, Option, Some, None, option_map, slice_get}
+use Rattle.std.specs.Prelude.{◌≡◌, ℕ, suc, cond, List, [], ◌∷◌, map, Option, Some, None, option_map, slice_get}
 use Rattle.std.specs.Option.{option_and_then, option_or}
 use Rattle.std.specs.Str.{bytes_eq}
 use Rattle.std.specs.declared.string.String.{String}
 use Rattle.indexmap.specs.IndexMap.{IndexMap, get_by_text}
 use Rattle.lus_tree.specs.declared.place.Sort.{Sort}
 use Rattle.lus_tree.specs.declared.place.Sort.TheVariants.{Bool as Flags, Int as Numbers}
-use Rattle.lus_tree.specs.Tree.{Name, Expression, truth, number, name, negation, minus, pre, arrow, binary, choice, sampled, merged, call, condact, mode_name, Component, Declaration, declared_constant, declared_node, declared_contract, Program}
+use Rattle.lus_tree.specs.Tree.{Name, Expression, truth, number, name, negation, minus, pre, arrow, binary, choice, sampled, merged, call, condact, mode_name, Declaration, declared_constant, declared_node, declared_contract, Program}
 use Rattle.lus_meaning.specs.Run.{sort_of_operator}
 use Rattle.lus_meaning.specs.Scope.{Entry, Role, an_input, an_output, a_local, a_ghost, a_constant, Scope, body_scope, constants_declared, entries_from, only_sort, own_names, type_of}
 use Rattle.lus_meaning.specs.NameFaults.{home, outer_scope}

@@ -1,6 +1,6 @@
 -- The expressions that stand in a declaration, and those that have one value.
 use Rattle.std.specs.Prelude.{◌≡◌, ℕ, Bool, true, false, List, [], map, get_or, Option, Some, None, Contains}
-use Rattle.lus_tree.specs.Tree.{Expression, truth, number, name, negation, minus, pre, arrow, binary, choice, sampled, merged, call, condact, mode_name, Component, Declaration, declared_constant, declared_node, declared_contract, Program}
+use Rattle.lus_tree.specs.Tree.{Expression, call, condact, Component, Declaration, declared_constant, declared_node, declared_contract, Program}
 use Rattle.lus_meaning.specs.Scene.{base, no_component}
 use Rattle.lus_meaning.specs.Occurrences.{Occurrence, all_occurrences, occurrences, on_clock}
 use Rattle.lus_meaning.specs.Scope.{node_named}

@@ -60,7 +60,10 @@ fn kind_of(role: Role) -> Kind
 /// A name that means this.
 fn found_as(meaning: &Meaning<'_>, number: usize) -> Found
     ensures { found_view result ≡ record {
-        role = (meaning_view meaning.now true).role; number = number; sort = (meaning_view meaning.now true).sort } }
+      role = (meaning_view meaning.now true).role;
+      number = number;
+      sort = (meaning_view meaning.now true).sort;
+    } }
 {
     match meaning {
         Meaning::Stream(role, param) => Found {
@@ -186,10 +189,7 @@ fn declared_names(alloc: Global, decls: &[Decl]) -> Result<IndexMap<String, usiz
 }
 
 /// The tables of a program.
-fn with_declarations(
-    alloc: Global,
-    declarations: &Declarations<'_>,
-) -> Result<Tables, AllocError>
+fn with_declarations(alloc: Global, declarations: &Declarations<'_>) -> Result<Tables, AllocError>
     ensures { IfOk result (λ t. HaveNames (program_view declarations.now) t) }
 {
     let none = Names::new(alloc);

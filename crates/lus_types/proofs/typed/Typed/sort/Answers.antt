@@ -1,4 +1,4 @@
-use Rattle.std.proofs.Common.{◌≡◌, ◌∙◌, ap, subst, true}
+use Rattle.std.proofs.Common.{◌∙◌, ap, subst}
 use Rattle.std.specs.Prelude.{is_some}
 use Rattle.lus_tree.specs.View.{expr_view, program_view}
 use Rattle.lus_meaning.specs.Refusals.{IsTyped}
