@@ -10,6 +10,7 @@ use Rattle.lus_tree.specs.Tree.{Place, Name, text_of, Expression, name, Constant
 use Rattle.lus_tree.specs.Reason.{name_twice, not_constant}
 use Rattle.lus_meaning.specs.Scene.{base, no_component}
 use Rattle.lus_meaning.specs.Occurrences.{on_clock, Occurrence, occurrences}
+use Rattle.lus_meaning.specs.Program.{constant_values}
 use Rattle.lus_meaning.specs.Depends.{named_in}
 use Rattle.lus_meaning.specs.WellMade.{AreDistinct}
 use Rattle.lus_meaning.specs.Scope.{Entry, Scope, is_constant_name, type_of, first_constants, left_after, known_after, constants_declared}
@@ -68,16 +69,21 @@ fixed_sort cs x k (e ∷ es) a f = go (bytes_eq x e.word.text) f (fixed_sort cs 
     go true g r = ap is_some (a.0 g).is_sort
     go false g r = r g
 
-first_of : {A : Type 0} (x : A) (xs : List A) → Contains (x ∷ xs) x
+pub first_of : {A : Type 0} (x : A) (xs : List A) → Contains (x ∷ xs) x
 first_of x xs = (0, omega arith, refl)
 
-behind_first : {A : Type 0} (y x : A) (xs : List A) → Contains xs x → Contains (y ∷ xs) x
+pub behind_first : {A : Type 0} (y x : A) (xs : List A) → Contains xs x → Contains (y ∷ xs) x
 behind_first y x xs (k, l, e) = (suc k, omega arith, e)
 
 module _ (p : Program) (typed : IsTyped p) where
   abbrev later_faults : (words_twice name_twice (map declaration_word p) ≡ []) × (declaration_faults p 0 p ≡ [])
   later_faults = no_parts (words_twice name_twice (map declaration_word p)) (declaration_faults p 0 p)
       (no_parts _ (words_twice name_twice (map declaration_word p) ++ declaration_faults p 0 p) (empty_of (typing_faults p) typed)).1
+
+  pub fixed_good : AllByRecursion (Good (constant_values [] (fixed_of (constants_declared p)))) (outer_table p)
+  fixed_good =
+      all_good p (outer_table p) [] [] (constants_declared p) [] refl tt tt
+      (fixed_once p (none_twice name_twice (map declaration_word p) later_faults.0)) (outer_clean p 0 p later_faults.1)
 
   -- the expressions of a declaration behind so many constants have types, where they have one value
   abbrev HasSort : ℕ → Declaration → Occurrence → Type 0
@@ -89,10 +95,8 @@ module _ (p : Program) (typed : IsTyped p) where
       let s : Scope = outer_scope p k in
       let allowed : not_allowed s c.value ≡ [] = (no_parts (not_allowed s c.value) (expression_faults s (on_clock base) c.value)
       (no_parts (not_allowed s c.value ++ expression_faults s (on_clock base) c.value) _ f).0).0 in
-      let good = all_good p (outer_table p) [] [] (constants_declared p) [] refl tt tt
-      (fixed_once p (none_twice name_twice (map declaration_word p) later_faults.0)) (outer_clean p 0 p later_faults.1) in
       all_sorted (λ o. hinders_constant s o.expression ≡ []) no_component s
-      (λ t q x h. fixed_sort _ x k (outer_table p) good (is_fixed s x q h))
+      (λ t q x h. fixed_sort _ x k (outer_table p) fixed_good (is_fixed s x q h))
       (λ t q j g as_ h w. not_nil _ _ h) (λ t q j a g as_ ds h w. not_nil _ _ h) (on_clock base) c.value
       (none_mapped (λ o. hinders_constant s o.expression) (occurrences no_component (on_clock base) c.value)
       (no_positions (fault not_constant) (flat_map (λ o. hinders_constant s o.expression) (occurrences no_component (on_clock base) c.value)) allowed))

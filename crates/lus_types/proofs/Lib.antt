@@ -18,3 +18,4 @@ pub mod AtPlace
 pub mod SortedParts
 pub mod SortedTexts
 pub mod HasSort
+pub mod NamedSorts

@@ -14,6 +14,7 @@ use Rattle.lus_types.specs.Declarations.{after}
 use Rattle.lus_types.specs.declared.found.Kind.{Kind}
 use Rattle.lus_types.specs.declared.found.Kind.TheVariants.{Input, Output, Local, Ghost, Constant}
 use Rattle.lus_types.specs.declared.found.Found.{Found}
+use Rattle.lus_types.specs.declared.found.Named.{Named}
 use Rattle.lus_types.specs.declared.tables.Tables.{Tables}
 
 -- ---- the names of a list by their numbers
@@ -110,6 +111,9 @@ kind_view Constant = a_constant
 
 abbrev pub found_view : Found → Known
 found_view f = record { role = kind_view f.kind; number = f.number; sort = f.sort }
+
+abbrev pub named_view : Named → Known
+named_view n = record { role = kind_view n.kind; number = n.number; sort = Some n.sort }
 
 abbrev pub found_in : {A S : Type 0} → IndexMap (String A) Found S → Name → Option Known
 found_in t x = option_map found_view (get_by_text t x)

@@ -27,5 +27,5 @@ mod typed;
 mod walk;
 mod words;
 
-pub use found::{Found, Kind};
+pub use found::{Kind, Named};
 pub use typed::{Typed, types};

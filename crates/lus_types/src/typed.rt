@@ -4,11 +4,11 @@ ghost use Rattle.std.specs.Prelude.{◌≡◌, IfErr, IfOk, IsErr, Some, option_
 ghost use Rattle.lus_tree.specs.Reason.{Refused, refusal_view};
 ghost use Rattle.lus_tree.specs.View.{expr_view, program_view};
 ghost use Rattle.lus_meaning.specs.Refusals.{IsTyped, IsTypingFault};
-ghost use Rattle.lus_types.specs.Names.{HaveNames, constant_in, declaration_named, found_view, name_in, sort_in};
+ghost use Rattle.lus_types.specs.Names.{HaveNames, constant_in, declaration_named, found_view, name_in, named_view, sort_in};
 ghost use Rattle.lus_types.specs.Refusals.{IsRefusal};
 ghost use Rattle.lus_types.specs.Standing.{StandsIn, has_one_value};
 
-use crate::found::Found;
+use crate::found::{Found, Named};
 use crate::place::Place;
 use crate::tables::{Tables, found, tables_of};
 use crate::walk::first_fault;
@@ -70,7 +70,18 @@ impl Typed {
     /// What a name is that is declared in the declaration of that number, constants included, counted
     /// from 0 in text order: the first of that name. None exactly where there is none; a constant of
     /// the program declares no names of its own.
-    pub fn name(&self, declaration: u32, name: &str) -> Option<Found>
+    pub fn name(&self, declaration: u32, name: &str) -> Option<Named>
+        ensures { option_map named_view result ≡ name_in (program_view self.now) declaration name.now }
+    {
+        let _ = &self.program;
+        match self.own_name(declaration, name) {
+            Some(found) => Some(found.typed()),
+            None => None,
+        }
+    }
+
+    /// The same, with its type where it has one.
+    fn own_name(&self, declaration: u32, name: &str) -> Option<Found>
         ensures { option_map found_view result ≡ name_in (program_view self.now) declaration name.now }
     {
         match self.tables.own.get(declaration as usize) {
@@ -80,10 +91,13 @@ impl Typed {
     }
 
     /// What a constant of the program is: the first of that name. None exactly where there is none.
-    pub fn constant(&self, name: &str) -> Option<Found>
-        ensures { option_map found_view result ≡ constant_in (program_view self.now) name.now }
+    pub fn constant(&self, name: &str) -> Option<Named>
+        ensures { option_map named_view result ≡ constant_in (program_view self.now) name.now }
     {
-        found(&self.tables.constants, name)
+        match found(&self.tables.constants, name) {
+            Some(found) => Some(found.typed()),
+            None => None,
+        }
     }
 
     /// The number of the first declaration with parts of that name, constants included, counted from 0
