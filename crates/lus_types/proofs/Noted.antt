@@ -5,24 +5,18 @@ use Rattle.std.specs.Str.{bytes_eq}
 use Rattle.std.specs.declared.string.String.{String}
 use Rattle.std.proofs.lemmas.List.{drop_all, map-append}
 use Rattle.indexmap.specs.IndexMap.{IndexMap}
-use Rattle.lus_tree.specs.Tree.{Name, Component, Program}
-use Rattle.lus_tree.specs.View.{decl_view, program_view}
+use Rattle.lus_tree.specs.Tree.{Name, Program}
+use Rattle.lus_tree.specs.View.{decl_view}
 use Rattle.lus_tree.specs.declared.declaration.Decl.{Decl}
-use Rattle.lus_tree.specs.declared.declaration.Program.{Program as ProgramCode}
-use Rattle.lus_meaning.specs.Scope.{Entry, Home}
-use Rattle.lus_meaning.specs.NameFaults.{home}
+use Rattle.lus_meaning.specs.Scope.{Entry}
 use Rattle.lus_meaning.proofs.Lists.{append_none}
-use Rattle.lus_scopes.specs.declared.layer.Layer.{Layer}
-use Rattle.lus_scopes.specs.declared.scope.Extent.TheVariants.{First}
 use Rattle.lus_scopes.proofs.Loops.{dropped}
 use Rattle.lus_scopes.specs.declared.scope.Meaning.{Meaning}
 use Rattle.lus_scopes.specs.declared.scope.Meaning.TheVariants.{Stream, Constant}
-use Rattle.lus_scopes.specs.Scopes.{known_as, layer_view, meaning_view}
+use Rattle.lus_scopes.specs.Scopes.{known_as, meaning_view}
 use Rattle.lus_types.specs.declared.found.Found.{Found}
-use Rattle.lus_types.specs.Constants.{AreConstants}
 use Rattle.lus_types.specs.Declarations.{after}
-use Rattle.lus_types.specs.Names.{Finds, Known, constant_entries, found_in, found_view, known_among, known_from, names_from, names_of}
-use Rattle.lus_types.proofs.Ordered.{all_first_known}
+use Rattle.lus_types.specs.Names.{Finds, Known, found_in, found_view, known_among, known_from, names_from, names_of}
 
 abbrev meant : Meaning → ℕ → Known
 meant m i = record { role = (meaning_view m true).role; number = i; sort = (meaning_view m true).sort }
@@ -73,12 +67,3 @@ pub tables_end : {A S : Type 0} (p : Program) (ds : List Decl) (i k : ℕ) (ts :
 tables_end p ds i k ts l w = λ x.
     sym (append_none (map (λ t. found_in t x) ts))
     ∙ ap (λ zs. map (λ t. found_in t x) ts ++ map (λ es. known_among es x) (names_from p k (map decl_view zs))) (sym (drop_all i ds l)) ∙ w x
-
--- ---- the constants of the program
-
-pub home_behind : (p : ProgramCode) (n : Component) (l m : Layer) (k : ℕ) → AreConstants p l → m.entries.now ≡ l.entries.now
-    → m.extent ≡ First k
-    → (let h : Home = record { program = program_view p; owner = n; outer = layer_view m false } in h) ≡ home (program_view p) k n
-home_behind p n l m k a e x =
-    ap (λ (es : List Entry). let h : Home = record { program = program_view p; owner = n; outer = es } in h)
-    (rw (e, x) (all_first_known l.entries.now (constant_entries (program_view p)) k a.entries a.order))

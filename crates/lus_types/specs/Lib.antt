@@ -12,7 +12,6 @@ pub mod States
 pub mod Labels
 pub mod Declarations
 pub mod Names
-pub mod Constants
 pub mod Places
 pub mod Standing
 pub mod Refusals

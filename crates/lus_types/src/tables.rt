@@ -5,25 +5,16 @@ ghost use Rattle.std.specs.Option.{option_or};
 ghost use Rattle.std.specs.Str.{bytes_eq};
 ghost use Rattle.indexmap.specs.IndexMap.{get_by_text};
 ghost use Rattle.lus_tree.specs.Tree.{Name};
-ghost use Rattle.lus_tree.specs.View.{decl_view, program_view};
-ghost use Rattle.lus_meaning.specs.Scope.{own_names};
+ghost use Rattle.lus_tree.specs.View.{decl_view};
 ghost use Rattle.lus_scopes.specs.declared.scope.Extent.TheVariants.{All};
 ghost use Rattle.lus_scopes.specs.Scopes.{entry_view, meaning_view, role_view};
-ghost use Rattle.lus_types.specs.Constants.{AreConstants};
-ghost use Rattle.lus_types.specs.Homes.{home_of};
-ghost use Rattle.lus_types.specs.Names.{Finds, HaveNames, declaration_named, declared_from, found_in, found_view, kind_view, known_among, known_from, names_from, names_of};
+ghost use Rattle.lus_types.specs.Names.{Finds, declaration_named, declared_from, found_in, found_view, kind_view, known_from};
 
-use crate::component::constants_after;
-use crate::declared::declared_in;
-use crate::entries::entries;
 use crate::found::{Found, Kind, note};
-use crate::walk::constants_of;
 use indexmap::IndexMap;
-use lus_scopes::declarations::Declarations;
-use lus_scopes::layer::Layer;
-use lus_scopes::names::{Names, word};
-use lus_scopes::scope::{Entry, Extent, Meaning, Owner, Role};
-use lus_tree::{Decl, Program};
+use lus_scopes::names::word;
+use lus_scopes::scope::{Entry, Meaning, Role};
+use lus_tree::Decl;
 use std::alloc::{AllocError, Global};
 
 /// Names with what they are, of each name the first.
@@ -95,7 +86,11 @@ fn note_name(
 }
 
 /// A table of these names.
-fn table_of(alloc: Global, names: &[Entry<'_>]) -> Result<Table, AllocError>
+///
+/// # Errors
+///
+/// Want of memory.
+pub(crate) fn table_of(alloc: Global, names: &[Entry<'_>]) -> Result<Table, AllocError>
     ensures { IfOk result (λ t. Finds t (map (entry_view All false) names.now)) }
 {
     let mut table = IndexMap::new(alloc);
@@ -103,61 +98,6 @@ fn table_of(alloc: Global, names: &[Entry<'_>]) -> Result<Table, AllocError>
         note_name(alloc, &mut table, entry, number)?;
     }
     Ok(table)
-}
-
-/// A table of the names of a declaration with parts.
-fn own_table<'a>(
-    alloc: Global,
-    declarations: &'a Declarations<'a>,
-    outer: Layer<'a>,
-    owner: Owner<'a>,
-) -> Result<Table, AllocError>
-    ensures { IfOk result (λ t. Finds t (own_names (home_of declarations.now owner.entry outer.entry))) }
-{
-    let declared = declared_in(alloc, owner)?;
-    let own = entries(alloc, declarations, outer, &declared)?;
-    table_of(alloc, &own.entries)
-}
-
-/// A table of the names of a declaration behind so many constants of the program.
-fn table_behind<'a>(
-    alloc: Global,
-    declarations: &'a Declarations<'a>,
-    constants: Layer<'a>,
-    known: usize,
-    decl: &'a Decl,
-) -> Result<Table, AllocError>
-    requires { AreConstants declarations.now constants }
-    ensures { IfOk result (λ t. Finds t (names_of (program_view declarations.now) known (decl_view decl.now))) }
-{
-    let outer = constants.within(Extent::First(known));
-    match decl {
-        Decl::Constant(_) => Ok(IndexMap::new(alloc)),
-        Decl::Node(node) => own_table(alloc, declarations, outer, Owner::Node(node)),
-        Decl::Contract(contract) => {
-            own_table(alloc, declarations, outer, Owner::Contract(contract))
-        }
-    }
-}
-
-/// Tables of the names of these declarations.
-fn own_tables<'a>(
-    alloc: Global,
-    declarations: &'a Declarations<'a>,
-    constants: Layer<'a>,
-    decls: &'a [Decl],
-) -> Result<Vec<Table>, AllocError>
-    requires { AreConstants declarations.now constants }
-    ensures { IfOk result (λ ts. (x : Name) → map (λ t. found_in t x) ts.items
-        ≡ map (λ es. known_among es x) (names_from (program_view declarations.now) 0 (map decl_view decls.now))) }
-{
-    let mut known = 0;
-    let mut tables = Vec::new(alloc);
-    for decl in decls {
-        tables.push(table_behind(alloc, declarations, constants, known, decl)?)?;
-        known = constants_after(known, decl);
-    }
-    Ok(tables)
 }
 
 /// Notes a declaration with parts.
@@ -178,7 +118,14 @@ fn note_declaration(
 }
 
 /// The numbers of the declarations with parts, of each name the first.
-fn declared_names(alloc: Global, decls: &[Decl]) -> Result<IndexMap<String, usize>, AllocError>
+///
+/// # Errors
+///
+/// Want of memory.
+pub(crate) fn declared_names(
+    alloc: Global,
+    decls: &[Decl],
+) -> Result<IndexMap<String, usize>, AllocError>
     ensures { IfOk result (λ m. (x : Name) → get_by_text m x ≡ declaration_named (map decl_view decls.now) x) }
 {
     let mut declared = IndexMap::new(alloc);
@@ -186,30 +133,4 @@ fn declared_names(alloc: Global, decls: &[Decl]) -> Result<IndexMap<String, usiz
         note_declaration(alloc, &mut declared, decl, number)?;
     }
     Ok(declared)
-}
-
-/// The tables of a program.
-fn with_declarations(alloc: Global, declarations: &Declarations<'_>) -> Result<Tables, AllocError>
-    ensures { IfOk result (λ t. HaveNames (program_view declarations.now) t) }
-{
-    let none = Names::new(alloc);
-    let constants = constants_of(alloc, declarations, none.layer())?;
-    let decls = &declarations.program().decls;
-    Ok(Tables {
-        own: own_tables(alloc, declarations, constants.layer(), decls)?,
-        constants: table_of(alloc, &constants.entries)?,
-        declared: declared_names(alloc, decls)?,
-    })
-}
-
-/// The tables of a program.
-///
-/// # Errors
-///
-/// Want of memory.
-pub(crate) fn tables_of(alloc: Global, program: &Program) -> Result<Tables, AllocError>
-    ensures { IfOk result (λ t. HaveNames (program_view program.now) t) }
-{
-    let declarations = Declarations::of(alloc, program)?;
-    with_declarations(alloc, &declarations)
 }

@@ -3,17 +3,20 @@
 ghost use Rattle.std.specs.Prelude.{◌≡◌, IfErr, IfOk, IsErr, Some, option_map, true};
 ghost use Rattle.lus_tree.specs.Reason.{Refused, refusal_view};
 ghost use Rattle.lus_tree.specs.View.{expr_view, program_view};
+ghost use Rattle.lus_meaning.specs.Faults.{IsFirst};
+ghost use Rattle.lus_meaning.specs.NameFaults.{typing_faults};
 ghost use Rattle.lus_meaning.specs.Refusals.{IsTyped, IsTypingFault};
+ghost use Rattle.lus_scopes.specs.Least.{IsLeast, least_view};
 ghost use Rattle.lus_types.specs.Names.{HaveNames, constant_in, declaration_named, found_view, name_in, named_view, sort_in};
 ghost use Rattle.lus_types.specs.Refusals.{IsRefusal};
 ghost use Rattle.lus_types.specs.Standing.{StandsIn, has_one_value};
 
 use crate::found::{Found, Named};
 use crate::place::Place;
-use crate::tables::{Tables, found, tables_of};
-use crate::walk::first_fault;
+use crate::tables::{Tables, found};
+use crate::walk::{Checked, first_fault};
 use lus_tree::{Expr, Pos, Program, Refusal, Sort, What};
-use std::alloc::{AllocError, Global};
+use std::alloc::Global;
 use std::marker::Model;
 
 /// A program that breaks no rule of names, types and numbers, as `types` makes it, with tables of its
@@ -148,16 +151,16 @@ fn no_memory() -> Refusal
     }
 }
 
-/// A program that breaks no such rule, with its tables.
-///
-/// # Errors
-///
-/// Want of memory. The program is then dropped.
-fn with_tables(alloc: Global, program: Program) -> Result<Typed, AllocError>
-    requires { IsTyped (program_view program) }
-    ensures { IfOk result (λ t. program_view t ≡ program_view program) }
+/// The program where none of its faults was found, with the tables that were made.
+fn with_names(program: Program, found: Checked) -> Result<Typed, Refusal>
+    requires least { IsLeast (least_view found.least) (typing_faults (program_view program)) }
+    requires names { HaveNames (program_view program) found.tables }
+    ensures same { IfOk result (λ t. program_view t ≡ program_view program) }
+    ensures typed { IfOk result (λ _. IsTyped (program_view program)) }
+    ensures first { IfErr result (λ e. IsFirst (IsTypingFault (program_view program)) (refusal_view e)) }
 {
-    let tables = tables_of(alloc, &program)?;
+    let Checked { least, tables } = found;
+    least.into_result()?;
     Ok(Typed::of(program, tables))
 }
 
@@ -175,13 +178,7 @@ pub fn types(alloc: Global, program: Program) -> Result<Typed, Refusal>
     ensures refused { IfErr result (λ e. IsRefusal (program_view program) (refusal_view e)) }
 {
     match first_fault(alloc, &program) {
-        Ok(least) => {
-            least.into_result()?;
-            match with_tables(alloc, program) {
-                Ok(typed) => Ok(typed),
-                Err(_) => Err(no_memory()),
-            }
-        }
+        Ok(found) => with_names(program, found),
         Err(_) => Err(no_memory()),
     }
 }
