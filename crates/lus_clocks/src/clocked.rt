@@ -1,13 +1,15 @@
 //! A program whose clocks are right.
 
-ghost use Rattle.std.specs.Prelude.{◌≡◌, IfErr, IfOk, IsErr, unwrap_or};
+ghost use Rattle.std.specs.Prelude.{◌≡◌, IfErr, IfOk, IsErr, Some, true, unwrap_or};
 ghost use Rattle.lus_tree.specs.Reason.{Refused, refusal_view};
-ghost use Rattle.lus_tree.specs.View.{program_view};
+ghost use Rattle.lus_tree.specs.View.{expr_view, program_view};
 ghost use Rattle.lus_meaning.specs.ClockFaults.{clock_faults};
 ghost use Rattle.lus_meaning.specs.Faults.{IsFirst};
 ghost use Rattle.lus_meaning.specs.Refusals.{IsClockFault, IsClocked, IsTyped};
 ghost use Rattle.lus_meaning.specs.Scene.{base};
 ghost use Rattle.lus_scopes.specs.Least.{IsLeast, least_view};
+ghost use Rattle.lus_types.specs.Names.{sort_in};
+ghost use Rattle.lus_types.specs.Standing.{StandsIn, has_one_value};
 ghost use Rattle.lus_clocks.specs.Cells.{clock_given};
 ghost use Rattle.lus_clocks.specs.Program.{IsRefusal, KeepAll, program_clock};
 
@@ -15,7 +17,7 @@ use crate::cells::Sampling;
 use crate::occurrence::Occurrence;
 use crate::program::{Found, checked};
 use crate::table::Table;
-use lus_tree::{Pos, Program, Refusal, What};
+use lus_tree::{Expr, Pos, Program, Refusal, Sort, What};
 use lus_types::Typed;
 use std::alloc::Global;
 use std::marker::Model;
@@ -68,6 +70,23 @@ impl Clocked {
         ensures { program_view result ≡ program_view self }
     {
         self.typed.into_program()
+    }
+
+    /// The program with what is known of its names and types.
+    pub fn typed(&self) -> &Typed
+        ensures { program_view result.now ≡ program_view self.now }
+    {
+        &self.typed
+    }
+
+    /// The type of an expression of the declaration of that number, constants included, counted from 0 in
+    /// text order. It stands there, and has one value.
+    pub fn sort(&self, declaration: u32, e: &Expr) -> Sort
+        requires stands { StandsIn (program_view self.now) declaration (expr_view e.now) }
+        requires one { has_one_value (program_view self.now) (expr_view e.now) ≡ true }
+        ensures { sort_in (program_view self.now) declaration (expr_view e.now) ≡ Some result }
+    {
+        self.typed.sort(declaration, e)
     }
 
     /// The clock of the place of a numbered occurrence, in the declaration of that number, constants

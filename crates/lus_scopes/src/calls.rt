@@ -1,13 +1,12 @@
 //! Faults of a call by its callee, and what is known of a name.
 
-ghost use Rattle.std.specs.Prelude.{◌≡◌, map, option_and_then, option_map, slice_get};
+ghost use Rattle.std.specs.Prelude.{◌≡◌, map, option_map, slice_get};
 ghost use Rattle.lus_tree.specs.View.{node_view, param_view, word_view};
-ghost use Rattle.lus_meaning.specs.Scope.{only_sort};
 ghost use Rattle.lus_scopes.specs.Least.{least_view, noted_all};
 ghost use Rattle.lus_scopes.specs.Walk.{as_many, call_own, default_own, inputs_for, outputs_for};
 
 use crate::least::Least;
-use lus_tree::{Node, Param, PlacedName, Sort, What};
+use lus_tree::{Node, Param, PlacedName, What};
 
 /// The streams that values go to, where there are as many.
 fn as_many(streams: &[Param], count: usize) -> &[Param]
@@ -33,16 +32,6 @@ pub(crate) fn outputs_for(callee: Option<&Node>, count: usize) -> &[Param]
     match callee {
         Some(node) => as_many(&node.outputs, count),
         None => &[],
-    }
-}
-
-/// The type of a call of a callee with one output.
-pub(crate) fn call_sort(callee: Option<&Node>) -> Option<Sort>
-    ensures { result ≡ option_and_then (λ n. only_sort n.outputs) (option_map (λ n. node_view n.now) callee.entry) }
-{
-    match callee?.outputs.as_slice() {
-        [output] => Some(output.sort),
-        _ => None,
     }
 }
 

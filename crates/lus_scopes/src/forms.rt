@@ -17,12 +17,13 @@ ghost use Rattle.lus_scopes.specs.Scopes.{scope_view};
 ghost use Rattle.lus_scopes.specs.Walk.{call_own, default_own};
 ghost use Rattle.lus_scopes.specs.Worth.{worth_view};
 
-use crate::calls::{call_sort, note_call, note_defaults};
+use crate::calls::{note_call, note_defaults};
 use crate::found::Part;
 use crate::least::Least;
 use crate::lookup::{is_mode, looked_up};
 use crate::notes::{agree, needs_sort, note_operator, used_as_clock};
 use crate::scope::Scope;
+use crate::sorts::{call_sort, operator_sort};
 use crate::worths::{chosen, either, minus, not, operated, weighing};
 use lus_tree::{Node, Operator, PlacedName, Pos, Sort, What};
 
@@ -96,25 +97,6 @@ pub(crate) fn arrow_part(least: &mut Least, from: Pos, first: &Part, second: &Pa
         sort: first.sort,
         constant: false,
         worth: either(first.worth, second.worth),
-    }
-}
-
-/// The type of an operator's results.
-pub(crate) fn operator_sort(operator: Operator) -> Sort
-    ensures { result ≡ sort_of_operator operator }
-{
-    match operator {
-        Operator::Add | Operator::Sub | Operator::Mul | Operator::Div | Operator::Mod => Sort::Int,
-        Operator::Implies
-        | Operator::Or
-        | Operator::Xor
-        | Operator::And
-        | Operator::Less
-        | Operator::AtMost
-        | Operator::Equal
-        | Operator::Differs
-        | Operator::AtLeast
-        | Operator::More => Sort::Bool,
     }
 }
 

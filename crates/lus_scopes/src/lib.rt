@@ -20,7 +20,7 @@ mod notes;
 mod owner;
 mod part;
 pub mod scope;
-mod sorts;
+pub mod sorts;
 mod statement;
 mod values;
 mod weights;

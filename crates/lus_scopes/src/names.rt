@@ -21,7 +21,7 @@ pub struct Names<'a> {
 }
 
 /// The word of a name.
-fn word<'a>(meaning: &Meaning<'a>) -> &'a PlacedName
+pub fn word<'a>(meaning: &Meaning<'a>) -> &'a PlacedName
     ensures { word_view result.now ≡ (meaning_view meaning.now false).word }
 {
     match meaning {

@@ -12,3 +12,10 @@ pub mod RepeatedWords
 pub mod Stateless
 pub mod RepeatedLabels
 pub mod Circled
+pub mod Noted
+pub mod SortsBy
+pub mod AtPlace
+pub mod SortedParts
+pub mod SortedTexts
+pub mod HasSort
+pub mod NamedSorts

@@ -11,4 +11,7 @@ pub mod Repeated
 pub mod States
 pub mod Labels
 pub mod Declarations
+pub mod Names
+pub mod Places
+pub mod Standing
 pub mod Refusals

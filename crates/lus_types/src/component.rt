@@ -3,7 +3,9 @@
 ghost use Rattle.std.specs.Prelude.{◌≡◌, ◌<◌, IfOk};
 ghost use Rattle.lus_tree.specs.View.{decl_view, program_view};
 ghost use Rattle.lus_meaning.specs.NameFaults.{constant_words, home};
+ghost use Rattle.lus_meaning.specs.Scope.{own_names};
 ghost use Rattle.lus_types.specs.Declarations.{after, alone_faults, alone_of, inner_faults, marks_twice, own_twice};
+ghost use Rattle.lus_types.specs.Names.{Finds, names_of};
 ghost use Rattle.lus_scopes.specs.Least.{least_view};
 ghost use Rattle.lus_scopes.specs.Notes.{Notes};
 ghost use Rattle.lus_scopes.specs.Scopes.{owner_view};
@@ -16,7 +18,9 @@ use crate::repeated::{outer_twice, words_twice};
 use crate::rules::contract_and_body;
 use crate::setting::Setting;
 use crate::state::state;
+use crate::tables::{Table, table_of};
 use crate::words::{mode_words, own_words};
+use indexmap::IndexMap;
 use lus_scopes::expression::definition;
 use lus_scopes::least::Least;
 use lus_scopes::scope::Owner;
@@ -50,45 +54,52 @@ fn marks_twice(alloc: Global, least: &mut Least, owner: Owner<'_>) -> Result<(),
     labels_twice(alloc, least, owner)
 }
 
-/// Notes the faults of what stands in the contract and in the body of a declaration.
+/// Notes the faults of what stands in the contract and in the body of a declaration, and gives a
+/// table of its names.
 fn inner(
     alloc: Global,
     setting: Setting<'_, '_>,
     least: &mut Least,
     known: usize,
     owner: Owner<'_>,
-) -> Result<(), AllocError>
-    ensures { IfOk result (λ _. Notes (least_view least.old) (least_view least.new)
+) -> Result<Table, AllocError>
+    ensures noted { IfOk result (λ _. Notes (least_view least.old) (least_view least.new)
         (inner_faults (home (program_view setting.entry.declarations.now) known (owner_view owner.entry)))) }
+    ensures names { IfOk result (λ t. Finds t
+        (own_names (home (program_view setting.entry.declarations.now) known (owner_view owner.entry)))) }
 {
     let outer = setting.constants_before(known);
     let declared = declared_in(alloc, owner)?;
     let own = entries(alloc, setting.declarations, outer, &declared)?;
     let home = with_names(setting.declarations, owner, own.layer(), outer);
     contract_and_body(alloc, &home, least)?;
-    Ok(())
+    let names = table_of(alloc, &own.entries)?;
+    Ok(names)
 }
 
-/// Notes the faults of a declaration with parts.
+/// Notes the faults of a declaration with parts, and gives a table of its names.
 fn component(
     alloc: Global,
     setting: Setting<'_, '_>,
     least: &mut Least,
     known: usize,
     owner: Owner<'_>,
-) -> Result<(), AllocError>
-    ensures { IfOk result (λ _. Notes (least_view least.old) (least_view least.new)
+) -> Result<Table, AllocError>
+    ensures noted { IfOk result (λ _. Notes (least_view least.old) (least_view least.new)
         (alone_faults (home (program_view setting.entry.declarations.now) known (owner_view owner.entry))
         (constant_words (program_view setting.entry.declarations.now)))) }
+    ensures names { IfOk result (λ t. Finds t
+        (own_names (home (program_view setting.entry.declarations.now) known (owner_view owner.entry)))) }
 {
     names_twice(alloc, setting, least, owner)?;
     marks_twice(alloc, least, owner)?;
     state(alloc, setting.declarations, least, owner)?;
-    inner(alloc, setting, least, known, owner)?;
-    Ok(())
+    let names = inner(alloc, setting, least, known, owner)?;
+    Ok(names)
 }
 
-/// Notes the faults of a declaration behind so many constants, but for those of circles.
+/// Notes the faults of a declaration behind so many constants, but for those of circles, and gives a
+/// table of its names.
 ///
 /// # Errors
 ///
@@ -99,15 +110,17 @@ pub(crate) fn declaration(
     least: &mut Least,
     known: usize,
     decl: &Decl,
-) -> Result<(), AllocError>
-    ensures { IfOk result (λ _. Notes (least_view least.old) (least_view least.new)
+) -> Result<Table, AllocError>
+    ensures noted { IfOk result (λ _. Notes (least_view least.old) (least_view least.new)
         (alone_of (program_view setting.entry.declarations.now) known (decl_view decl.now))) }
+    ensures names { IfOk result (λ t. Finds t
+        (names_of (program_view setting.entry.declarations.now) known (decl_view decl.now))) }
 {
     match decl {
         Decl::Constant(constant) => {
             let scope = setting.constant_scope(known);
             definition(&scope, least, constant.sort, &constant.value);
-            Ok(())
+            Ok(IndexMap::new(alloc))
         }
         Decl::Node(node) => component(alloc, setting, least, known, Owner::Node(node)),
         Decl::Contract(contract) => {

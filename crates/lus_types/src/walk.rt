@@ -11,7 +11,9 @@ ghost use Rattle.lus_scopes.specs.declared.scope.Extent.TheVariants.{All};
 ghost use Rattle.lus_scopes.specs.Least.{IsLeast, least_view};
 ghost use Rattle.lus_scopes.specs.Notes.{Notes};
 ghost use Rattle.lus_scopes.specs.Scopes.{entry_view, layer_view};
+ghost use Rattle.lus_tree.specs.Tree.{Name};
 ghost use Rattle.lus_types.specs.Homes.{declared_view};
+ghost use Rattle.lus_types.specs.Names.{HaveNames, found_in, known_among, names_from};
 ghost use Rattle.lus_scopes.specs.Meanings.{IsTable};
 
 use crate::component::{constants_after, declaration};
@@ -21,6 +23,7 @@ use crate::program_rules::{constant_words, declarations_twice, note_no_node};
 use crate::recursion::{graph_of, recursion};
 use crate::repeated::texts_of;
 use crate::setting::Setting;
+use crate::tables::{Table, Tables, declared_names, table_of};
 use lus_scopes::declarations::Declarations;
 use lus_scopes::layer::Layer;
 use lus_scopes::least::Least;
@@ -50,45 +53,50 @@ fn constants_declared(alloc: Global, program: &Program) -> Result<Vec<Declared<'
     Ok(names)
 }
 
-/// Notes the faults of declarations, but for those of circles.
+/// Notes the faults of declarations, but for those of circles, and gives tables of their names.
 fn all_declarations(
     alloc: Global,
     setting: Setting<'_, '_>,
     least: &mut Least,
     decls: &[Decl],
-) -> Result<(), AllocError>
-    ensures { IfOk result (λ _. Notes (least_view least.old) (least_view least.new)
+) -> Result<Vec<Table>, AllocError>
+    ensures noted { IfOk result (λ _. Notes (least_view least.old) (least_view least.new)
         (alone_from (program_view setting.entry.declarations.now) 0 (map decl_view decls.now))) }
+    ensures names { IfOk result (λ ts. (x : Name) → map (λ t. found_in t x) ts.items
+        ≡ map (λ es. known_among es x)
+        (names_from (program_view setting.entry.declarations.now) 0 (map decl_view decls.now))) }
 {
     let mut known = 0;
+    let mut tables = Vec::new(alloc);
     for decl in decls {
-        declaration(alloc, setting, least, known, decl)?;
+        tables.push(declaration(alloc, setting, least, known, decl)?)?;
         known = constants_after(known, decl);
     }
-    Ok(())
+    Ok(tables)
 }
 
 /// Notes the faults of all declarations of a program, but for those of circles, by what its
-/// constants mean.
+/// constants mean, and gives tables of their names.
 fn with_constants<'a>(
     alloc: Global,
     declarations: &'a Declarations<'a>,
     constants: Layer<'a>,
     nothing: Layer<'a>,
     least: &mut Least,
-) -> Result<(), AllocError>
+) -> Result<Vec<Table>, AllocError>
     requires entries { map (entry_view All false) constants.entries.now
         ≡ entries_from (program_view declarations.now) [] [] (constants_declared (program_view declarations.now)) }
     requires order { AreOrdered 0 constants.entries.now }
     requires nothing { layer_view nothing false ≡ [] }
-    ensures { IfOk result (λ _. Notes (least_view least.old) (least_view least.new)
+    ensures noted { IfOk result (λ _. Notes (least_view least.old) (least_view least.new)
         (alone_from (program_view declarations.now) 0 (program_view declarations.now))) }
+    ensures names { IfOk result (λ ts. (x : Name) → map (λ t. found_in t x) ts.items
+        ≡ map (λ es. known_among es x) (names_from (program_view declarations.now) 0 (program_view declarations.now))) }
 {
     let words = constant_words(alloc, declarations.program())?;
     let seen = texts_of(alloc, &words)?;
     let setting = Setting::new(declarations, constants, nothing, &words, &seen);
-    all_declarations(alloc, setting, least, &declarations.program().decls)?;
-    Ok(())
+    all_declarations(alloc, setting, least, &declarations.program().decls)
 }
 
 /// What the constants of a program mean.
@@ -107,19 +115,25 @@ fn constants_of<'a>(
     entries(alloc, declarations, nothing, &declared)
 }
 
-/// Notes the faults of all declarations of a program, but for those of circles.
+/// Notes the faults of all declarations of a program, but for those of circles, and gives tables of its
+/// names.
 fn alone(
     alloc: Global,
     declarations: &Declarations<'_>,
     least: &mut Least,
-) -> Result<(), AllocError>
-    ensures { IfOk result (λ _. Notes (least_view least.old) (least_view least.new)
+) -> Result<Tables, AllocError>
+    ensures names { IfOk result (λ t. HaveNames (program_view declarations.now) t) }
+    ensures noted { IfOk result (λ _. Notes (least_view least.old) (least_view least.new)
         (alone_from (program_view declarations.now) 0 (program_view declarations.now))) }
 {
     let none = Names::new(alloc);
     let nothing = none.layer();
     let constants = constants_of(alloc, declarations, nothing)?;
-    with_constants(alloc, declarations, constants.layer(), nothing, least)
+    Ok(Tables {
+        own: with_constants(alloc, declarations, constants.layer(), nothing, least)?,
+        constants: table_of(alloc, &constants.entries)?,
+        declared: declared_names(alloc, &declarations.program().decls)?,
+    })
 }
 
 /// Notes the calls and imports of a program that are on circles of declarations.
@@ -138,25 +152,34 @@ fn circles(
     Ok(())
 }
 
-/// The least of a program's faults of names, types and numbers.
-fn least_fault(alloc: Global, declarations: &Declarations<'_>) -> Result<Least, AllocError>
-    ensures { IfOk result (λ l. IsLeast (least_view l) (typing_faults (program_view declarations.now))) }
+/// The least of a program's faults of names, types and numbers, and tables of its names.
+#[derive(Drop)]
+pub(crate) struct Checked {
+    pub(crate) least: Least,
+    pub(crate) tables: Tables,
+}
+
+/// What is found in a program by its declarations.
+fn least_fault(alloc: Global, declarations: &Declarations<'_>) -> Result<Checked, AllocError>
+    ensures least { IfOk result (λ f. IsLeast (least_view f.least) (typing_faults (program_view declarations.now))) }
+    ensures names { IfOk result (λ f. HaveNames (program_view declarations.now) f.tables) }
 {
     let mut least = Least::new();
     note_no_node(&mut least, declarations.program());
     declarations_twice(alloc, &mut least, declarations.program())?;
-    alone(alloc, declarations, &mut least)?;
+    let tables = alone(alloc, declarations, &mut least)?;
     circles(alloc, declarations, &mut least)?;
-    Ok(least)
+    Ok(Checked { least, tables })
 }
 
-/// The first fault of a program's names, types and numbers.
+/// What is found in a program.
 ///
 /// # Errors
 ///
 /// Want of memory.
-pub(crate) fn first_fault(alloc: Global, program: &Program) -> Result<Least, AllocError>
-    ensures { IfOk result (λ l. IsLeast (least_view l) (typing_faults (program_view program.now))) }
+pub(crate) fn first_fault(alloc: Global, program: &Program) -> Result<Checked, AllocError>
+    ensures least { IfOk result (λ f. IsLeast (least_view f.least) (typing_faults (program_view program.now))) }
+    ensures names { IfOk result (λ f. HaveNames (program_view program.now) f.tables) }
 {
     let declarations = Declarations::of(alloc, program)?;
     least_fault(alloc, &declarations)
