@@ -10,7 +10,7 @@ use Rattle.lus_meaning.specs.ClockFaults.{clock_in, clock_among, or_else, stands
 use Rattle.lus_scopes.specs.Least.{noted_all}
 use Rattle.lus_scopes.proofs.Leasts.{noted_append}
 use Rattle.lus_clocks.specs.declared.found.Part.{Part}
-use Rattle.lus_clocks.specs.Clocks.{clocks_seen}
+use Rattle.lus_streams.specs.Clocks.{clocks_seen}
 use Rattle.lus_clocks.specs.Parts.{IsPart, stand_notes, fit_notes, fits_on}
 use Rattle.lus_clocks.specs.Walk.{pair_own, triple_own, pair_clock, triple_clock, branches_own, condition_own, walk, walk_among, walk_each}
 use Rattle.lus_clocks.proofs.Elses.{or_else_of_three}

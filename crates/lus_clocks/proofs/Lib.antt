@@ -1,6 +1,5 @@
 pub mod Elses
 pub mod Behind
-pub mod Firsts
 pub mod Begins
 pub mod Arms
 pub mod Walks

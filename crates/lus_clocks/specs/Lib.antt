@@ -1,7 +1,3 @@
-pub mod Clocks
-pub mod Owner
-pub mod Streams
-pub mod Names
 pub mod Parts
 pub mod Walk
 pub mod Items

@@ -7,7 +7,7 @@ use Rattle.lus_meaning.specs.Occurrences.{begin}
 use Rattle.lus_meaning.specs.Faults.{if_so}
 use Rattle.lus_meaning.specs.ClockFaults.{clock_in, is_other, stands_on}
 use Rattle.lus_clocks.specs.declared.found.Part.{Part}
-use Rattle.lus_clocks.specs.Clocks.{clocks_seen}
+use Rattle.lus_streams.specs.Clocks.{clocks_seen}
 
 -- it is what the definitions say of the expression
 pub record IsPart (n : Component) (e : Expression) (p : Part) : Type 0 where

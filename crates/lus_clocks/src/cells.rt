@@ -4,10 +4,10 @@ ghost use Rattle.std.specs.Prelude.{◌≡◌, ◌<◌, ◌==◌, ℕ, Some, IfO
 ghost use Rattle.lus_meaning.specs.ClockFaults.{or_else};
 ghost use Rattle.lus_meaning.specs.Scene.{base};
 ghost use Rattle.lus_clocks.specs.Cells.{cell_at, cell_view, clock_given};
-ghost use Rattle.lus_clocks.specs.Clocks.{clock_seen};
+ghost use Rattle.lus_streams.specs.Clocks.{clock_seen};
 ghost use Rattle.lus_clocks.specs.Sought.{if_there};
 
-use crate::clock::Clock;
+use lus_streams::clock::Clock;
 use lus_tree::PlacedName;
 use std::alloc::{AllocError, Global};
 

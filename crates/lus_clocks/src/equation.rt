@@ -6,13 +6,13 @@ ghost use Rattle.lus_tree.specs.View.{expr_view, word_view};
 ghost use Rattle.lus_meaning.specs.ClockFaults.{same_clock};
 ghost use Rattle.lus_meaning.specs.Scene.{clock_of};
 ghost use Rattle.lus_scopes.specs.Least.{least_view, noted_all};
-ghost use Rattle.lus_clocks.specs.Clocks.{clock_seen};
+ghost use Rattle.lus_streams.specs.Clocks.{clock_seen};
 ghost use Rattle.lus_clocks.specs.Items.{placed_walk, side_walk, some_other};
-ghost use Rattle.lus_clocks.specs.Names.{names_view};
+ghost use Rattle.lus_streams.specs.Names.{names_view};
 
-use crate::clock::{Clock, is_same};
-use crate::lookup::side_clock;
-use crate::names::Names;
+use lus_streams::clock::{Clock, is_same};
+use lus_streams::lookup::side_clock;
+use lus_streams::names::Names;
 use crate::notes::stands_on;
 use crate::part::part;
 use lus_scopes::least::Least;

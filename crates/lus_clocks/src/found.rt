@@ -1,6 +1,6 @@
 //! What is known of a part of an expression.
 
-use crate::clock::Clock;
+use lus_streams::clock::Clock;
 use lus_tree::Pos;
 
 /// What is known of a part of an expression: where it begins, and its clock, where it holds a name

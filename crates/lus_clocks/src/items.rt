@@ -5,11 +5,11 @@ ghost use Rattle.lus_tree.specs.View.{contract_item_view, exprs_view, item_view,
 ghost use Rattle.lus_meaning.specs.Scene.{base};
 ghost use Rattle.lus_scopes.specs.Least.{least_view, noted_all};
 ghost use Rattle.lus_clocks.specs.Items.{component_walk, contract_statement_walk, labelled_walk, placed_walk, statement_walk};
-ghost use Rattle.lus_clocks.specs.Names.{names_view};
+ghost use Rattle.lus_streams.specs.Names.{names_view};
 
-use crate::clock::Clock;
+use lus_streams::clock::Clock;
 use crate::equation::{equation, placed};
-use crate::names::Names;
+use lus_streams::names::Names;
 use lus_scopes::least::Least;
 use lus_tree::{ContractItem, Expr, Item, Named};
 

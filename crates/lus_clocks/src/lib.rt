@@ -2,20 +2,15 @@
 #![tactic(auto)]
 
 mod cells;
-mod clock;
 mod clocked;
 mod equation;
 mod found;
 mod items;
-mod lookup;
-mod names;
 mod notes;
 mod occurrence;
-mod owner;
 mod part;
 mod program;
 mod sites;
-mod streams;
 mod table;
 mod write;
 

@@ -5,10 +5,10 @@ ghost use Rattle.lus_tree.specs.View.{word_view};
 ghost use Rattle.lus_meaning.specs.ClockFaults.{is_other, or_else};
 ghost use Rattle.lus_meaning.specs.Scene.{sampled_by};
 ghost use Rattle.lus_scopes.specs.Least.{least_view, noted_all};
-ghost use Rattle.lus_clocks.specs.Clocks.{clock_seen, clocks_seen};
+ghost use Rattle.lus_streams.specs.Clocks.{clock_seen, clocks_seen};
 ghost use Rattle.lus_clocks.specs.Parts.{fit_notes, stand_notes};
 
-use crate::clock::{Clock, is_same, or_else};
+use lus_streams::clock::{Clock, is_same, or_else};
 use crate::found::Part;
 use lus_scopes::least::Least;
 use lus_tree::{PlacedName, What};

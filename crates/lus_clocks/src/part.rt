@@ -5,14 +5,14 @@ ghost use Rattle.lus_tree.specs.Tree.{Place};
 ghost use Rattle.lus_tree.specs.View.{expr_view, exprs_view, form_view, joined};
 ghost use Rattle.lus_meaning.specs.ClockFaults.{clock_among, clock_in, or_else};
 ghost use Rattle.lus_scopes.specs.Least.{least_view, noted_all};
-ghost use Rattle.lus_clocks.specs.Clocks.{clocks_seen};
-ghost use Rattle.lus_clocks.specs.Names.{names_view};
+ghost use Rattle.lus_streams.specs.Clocks.{clocks_seen};
+ghost use Rattle.lus_streams.specs.Names.{names_view};
 ghost use Rattle.lus_clocks.specs.Parts.{IsPart, fits_on};
 ghost use Rattle.lus_clocks.specs.Walk.{walk, walk_among, walk_each};
 
-use crate::clock::{Clock, or_base, or_else};
+use lus_streams::clock::{Clock, or_base, or_else};
 use crate::found::Part;
-use crate::names::Names;
+use lus_streams::names::Names;
 use crate::notes::{branches, fits_on, pair, stands_on, triple};
 use lus_scopes::least::Least;
 use lus_tree::{Expr, Form};

@@ -5,14 +5,14 @@ ghost use Rattle.lus_tree.specs.View.{decl_view, program_view};
 ghost use Rattle.lus_meaning.specs.ClockFaults.{clock_faults};
 ghost use Rattle.lus_scopes.specs.Least.{IsLeast, least_view, noted_all};
 ghost use Rattle.lus_clocks.specs.Items.{component_walk, declaration_walk};
-ghost use Rattle.lus_clocks.specs.Owner.{owner_view};
+ghost use Rattle.lus_streams.specs.Owner.{owner_view};
 ghost use Rattle.lus_clocks.specs.Program.{KeepAll, Keeps, KeepsOf};
 
 use crate::items::component;
-use crate::lookup::with_streams;
-use crate::owner::Owner;
+use lus_streams::lookup::with_streams;
+use lus_streams::owner::Owner;
 use crate::sites::table_of;
-use crate::streams::streams_of;
+use lus_streams::streams::streams_of;
 use crate::table::Table;
 use lus_scopes::least::Least;
 use lus_tree::{Decl, Program};

@@ -4,12 +4,12 @@ ghost use Rattle.std.specs.Prelude.{◌≡◌, None, IfOk, unwrap_or};
 ghost use Rattle.lus_meaning.specs.ClockFaults.{or_else};
 ghost use Rattle.lus_meaning.specs.Scene.{base};
 ghost use Rattle.lus_clocks.specs.Cells.{clock_given};
-ghost use Rattle.lus_clocks.specs.Clocks.{clock_seen};
+ghost use Rattle.lus_streams.specs.Clocks.{clock_seen};
 ghost use Rattle.lus_clocks.specs.Sought.{if_there, is_arrow, is_call, is_pre};
 ghost use Rattle.lus_clocks.specs.Table.{Writes, kept};
 
 use crate::cells::{Cell, Sampling, read, write};
-use crate::clock::Clock;
+use lus_streams::clock::Clock;
 use crate::occurrence::Occurrence;
 use std::alloc::{AllocError, Global};
 

@@ -4,13 +4,13 @@ ghost use Rattle.std.specs.Prelude.{◌≡◌, IfOk};
 ghost use Rattle.lus_tree.specs.Tree.{Place};
 ghost use Rattle.lus_tree.specs.View.{expr_view, exprs_view, form_view, joined};
 ghost use Rattle.lus_meaning.specs.ClockFaults.{or_else};
-ghost use Rattle.lus_clocks.specs.Clocks.{clock_seen};
-ghost use Rattle.lus_clocks.specs.Names.{names_view};
+ghost use Rattle.lus_streams.specs.Clocks.{clock_seen};
+ghost use Rattle.lus_streams.specs.Names.{names_view};
 ghost use Rattle.lus_clocks.specs.Sought.{clock_at, clock_at_among};
 ghost use Rattle.lus_clocks.specs.Table.{Writes};
 
-use crate::clock::Clock;
-use crate::names::Names;
+use lus_streams::clock::Clock;
+use lus_streams::names::Names;
 use crate::table::Table;
 use lus_tree::{Expr, Form};
 use std::alloc::{AllocError, Global};

@@ -1,7 +1,7 @@
 use Rattle.std.proofs.Common.{◌==◌, ap, sym, ◌∙◌, is_none}
 use Rattle.lus_meaning.specs.ClockFaults.{or_else}
 use Rattle.lus_clocks.specs.Cells.{cell_at}
-use Rattle.lus_clocks.specs.Clocks.{clock_seen}
+use Rattle.lus_streams.specs.Clocks.{clock_seen}
 use Rattle.lus_clocks.specs.Sought.{if_there}
 use Rattle.lus_clocks.proofs.Numbered.{written}
 use Rattle.lus_clocks.proofs.cells.write.Goals as goal

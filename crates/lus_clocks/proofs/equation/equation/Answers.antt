@@ -2,8 +2,8 @@ use Rattle.std.proofs.Common.{map}
 use Rattle.lus_tree.specs.Tree.{text_of}
 use Rattle.lus_tree.specs.View.{word_view}
 use Rattle.lus_scopes.specs.Least.{least_view}
-use Rattle.lus_clocks.specs.Clocks.{clock_seen}
-use Rattle.lus_clocks.specs.Names.{names_view}
+use Rattle.lus_streams.specs.Clocks.{clock_seen}
+use Rattle.lus_streams.specs.Names.{names_view}
 use Rattle.lus_clocks.proofs.Sides.{side_behind}
 use Rattle.lus_clocks.proofs.equation.equation.Goals as goal
 

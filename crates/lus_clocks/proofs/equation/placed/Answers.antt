@@ -1,8 +1,8 @@
 use Rattle.std.proofs.Common.{refl}
 use Rattle.lus_tree.specs.View.{expr_view}
 use Rattle.lus_scopes.specs.Least.{least_view}
-use Rattle.lus_clocks.specs.Clocks.{clock_seen}
-use Rattle.lus_clocks.specs.Names.{names_view}
+use Rattle.lus_streams.specs.Clocks.{clock_seen}
+use Rattle.lus_streams.specs.Names.{names_view}
 use Rattle.lus_clocks.proofs.Arms.{stand_behind}
 use Rattle.lus_clocks.proofs.equation.placed.Goals as goal
 

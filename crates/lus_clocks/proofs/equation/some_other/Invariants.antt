@@ -1,8 +1,8 @@
 use Rattle.std.proofs.Common.{◌≡◌, drop, map}
 use Rattle.lus_tree.specs.Tree.{text_of}
 use Rattle.lus_tree.specs.View.{word_view}
-use Rattle.lus_clocks.specs.Clocks.{clock_seen}
-use Rattle.lus_clocks.specs.Names.{names_view}
+use Rattle.lus_streams.specs.Clocks.{clock_seen}
+use Rattle.lus_streams.specs.Names.{names_view}
 use Rattle.lus_clocks.specs.Items.{some_other}
 use Rattle.lus_clocks.proofs.equation.some_other.Given as goal
 

@@ -2,7 +2,7 @@ use Rattle.std.proofs.Common.{arith, ◌∙◌}
 use Rattle.lus_tree.specs.View.{expr_view}
 use Rattle.lus_meaning.specs.Scene.{base}
 use Rattle.lus_clocks.specs.Items.{placed_walk}
-use Rattle.lus_clocks.specs.Names.{names_view}
+use Rattle.lus_streams.specs.Names.{names_view}
 use Rattle.lus_scopes.specs.Least.{least_view}
 use Rattle.lus_clocks.proofs.Sides.{one_more}
 use Rattle.lus_clocks.proofs.items.arguments.Goals as goal

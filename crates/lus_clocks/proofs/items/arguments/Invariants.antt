@@ -2,7 +2,7 @@ use Rattle.std.proofs.Common.{◌≡◌, drop, map, flat_map}
 use Rattle.lus_tree.specs.View.{expr_view}
 use Rattle.lus_meaning.specs.Scene.{base}
 use Rattle.lus_clocks.specs.Items.{placed_walk}
-use Rattle.lus_clocks.specs.Names.{names_view}
+use Rattle.lus_streams.specs.Names.{names_view}
 use Rattle.lus_scopes.specs.Least.{least_view, noted_all}
 use Rattle.lus_clocks.proofs.items.arguments.Given as goal
 

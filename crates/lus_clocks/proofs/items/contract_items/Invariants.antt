@@ -1,7 +1,7 @@
 use Rattle.std.proofs.Common.{◌≡◌, drop, map, flat_map}
 use Rattle.lus_tree.specs.View.{contract_item_view}
 use Rattle.lus_clocks.specs.Items.{contract_statement_walk}
-use Rattle.lus_clocks.specs.Names.{names_view}
+use Rattle.lus_streams.specs.Names.{names_view}
 use Rattle.lus_scopes.specs.Least.{least_view, noted_all}
 use Rattle.lus_clocks.proofs.items.contract_items.Given as goal
 

@@ -2,8 +2,8 @@ use Rattle.std.proofs.Common.{map, arith, ◌∙◌}
 use Rattle.lus_tree.specs.View.{expr_view, joined, word_view}
 use Rattle.lus_meaning.specs.Scene.{clock_of}
 use Rattle.lus_scopes.specs.Least.{least_view}
-use Rattle.lus_clocks.specs.Clocks.{clock_seen, clocks_seen}
-use Rattle.lus_clocks.specs.Names.{names_view}
+use Rattle.lus_streams.specs.Clocks.{clock_seen, clocks_seen}
+use Rattle.lus_streams.specs.Names.{names_view}
 use Rattle.lus_scopes.proofs.Shapes.{is_arrow, is_binary, is_choice, is_sampled, is_merged, is_condact}
 use Rattle.lus_clocks.proofs.Arms.{walk_of, pair_behind, triple_behind, stand_behind, branches_behind, condact_behind, among_behind, among_step, clock_step, each_step}
 use Rattle.lus_clocks.proofs.part.+part.Goals as goal

@@ -3,8 +3,8 @@ use Rattle.lus_tree.specs.View.{expr_view, joined}
 use Rattle.std.specs.Prelude.{None}
 use Rattle.lus_meaning.specs.ClockFaults.{clock_among, or_else}
 use Rattle.lus_scopes.specs.Least.{least_view, noted_all}
-use Rattle.lus_clocks.specs.Clocks.{clocks_seen}
-use Rattle.lus_clocks.specs.Names.{names_view}
+use Rattle.lus_streams.specs.Clocks.{clocks_seen}
+use Rattle.lus_streams.specs.Names.{names_view}
 use Rattle.lus_clocks.specs.Walk.{walk_among, walk_each}
 use Rattle.lus_clocks.proofs.part.+part.Given as goal
 

@@ -3,7 +3,7 @@ use Rattle.lus_tree.specs.Tree.{Expression}
 use Rattle.lus_tree.specs.View.{expr_view}
 use Rattle.lus_meaning.specs.Scene.{base}
 use Rattle.lus_meaning.specs.Occurrences.{on_clock}
-use Rattle.lus_clocks.specs.Names.{names_view}
+use Rattle.lus_streams.specs.Names.{names_view}
 use Rattle.lus_clocks.specs.Table.{kept}
 use Rattle.lus_clocks.proofs.Written.{one_mapped}
 use Rattle.lus_clocks.proofs.sites.in_arguments.Goals as goal

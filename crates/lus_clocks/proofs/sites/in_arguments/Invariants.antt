@@ -4,7 +4,7 @@ use Rattle.lus_meaning.specs.Scene.{base}
 use Rattle.lus_meaning.specs.Occurrences.{on_clock}
 use Rattle.lus_meaning.specs.ClockFaults.{or_else}
 use Rattle.lus_clocks.specs.declared.occurrence.Occurrence.{Occurrence}
-use Rattle.lus_clocks.specs.Names.{names_view}
+use Rattle.lus_streams.specs.Names.{names_view}
 use Rattle.lus_clocks.specs.Sought.{clock_at_texts}
 use Rattle.lus_clocks.specs.Table.{kept}
 use Rattle.lus_clocks.proofs.sites.in_arguments.Given as goal

@@ -3,7 +3,7 @@ use Rattle.lus_tree.specs.View.{item_view}
 use Rattle.lus_meaning.specs.Occurrences.{statement_texts}
 use Rattle.lus_meaning.specs.ClockFaults.{or_else}
 use Rattle.lus_clocks.specs.declared.occurrence.Occurrence.{Occurrence}
-use Rattle.lus_clocks.specs.Names.{names_view}
+use Rattle.lus_streams.specs.Names.{names_view}
 use Rattle.lus_clocks.specs.Sought.{clock_at_texts}
 use Rattle.lus_clocks.specs.Table.{kept}
 use Rattle.lus_clocks.proofs.sites.in_body.Given as goal

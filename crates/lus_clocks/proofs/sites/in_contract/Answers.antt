@@ -1,7 +1,7 @@
 use Rattle.std.proofs.Common.{arith, ◌∙◌}
 use Rattle.lus_tree.specs.View.{contract_item_view}
 use Rattle.lus_meaning.specs.Occurrences.{contract_statement_texts}
-use Rattle.lus_clocks.specs.Names.{names_view}
+use Rattle.lus_streams.specs.Names.{names_view}
 use Rattle.lus_clocks.specs.Table.{kept}
 use Rattle.lus_clocks.proofs.Seeks.{one_more_text}
 use Rattle.lus_clocks.proofs.sites.in_contract.Goals as goal

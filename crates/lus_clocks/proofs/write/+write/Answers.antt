@@ -1,7 +1,7 @@
 use Rattle.std.proofs.Common.{IfOk, subst, sym}
 use Rattle.lus_tree.proofs.Views.{view-Expr}
-use Rattle.lus_clocks.specs.Clocks.{clock_seen}
-use Rattle.lus_clocks.specs.Names.{names_view}
+use Rattle.lus_streams.specs.Clocks.{clock_seen}
+use Rattle.lus_streams.specs.Names.{names_view}
 use Rattle.lus_clocks.specs.Sought.{clock_at}
 use Rattle.lus_clocks.specs.Table.{Writes}
 use Rattle.lus_clocks.proofs.write.+write.Goals as goal

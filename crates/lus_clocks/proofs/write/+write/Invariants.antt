@@ -2,8 +2,8 @@ use Rattle.std.proofs.Common.{◌≡◌, drop, map}
 use Rattle.lus_tree.specs.View.{expr_view, joined}
 use Rattle.lus_meaning.specs.ClockFaults.{or_else}
 use Rattle.lus_clocks.specs.declared.occurrence.Occurrence.{Occurrence}
-use Rattle.lus_clocks.specs.Clocks.{clock_seen}
-use Rattle.lus_clocks.specs.Names.{names_view}
+use Rattle.lus_streams.specs.Clocks.{clock_seen}
+use Rattle.lus_streams.specs.Names.{names_view}
 use Rattle.lus_clocks.specs.Sought.{clock_at_among}
 use Rattle.lus_clocks.specs.Table.{kept}
 use Rattle.lus_clocks.proofs.write.+write.Given as goal
