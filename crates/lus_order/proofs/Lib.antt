@@ -6,5 +6,8 @@ pub mod Searches
 pub mod Rounds
 pub mod OnCircles
 pub mod Contracted
+pub mod Statements
+pub mod Stands
+pub mod OwnEdges
 pub mod OwnReads
 pub mod Numbered

@@ -5,5 +5,12 @@ pub mod Graphs
 pub mod Visits
 pub mod Rounds
 pub mod Reads
+pub mod Owner
+pub mod Streams
+pub mod Library
+pub mod Sides
+pub mod Rows
+pub mod OwnRows
+pub mod Stands
 pub mod OwnReads
 pub mod Numbered
