@@ -11,3 +11,7 @@ pub mod Stands
 pub mod OwnEdges
 pub mod OwnReads
 pub mod Numbered
+pub mod Declared
+pub mod ModeRows
+pub mod OwnNodes
+pub mod Widened

@@ -19,7 +19,8 @@ use Rattle.lus_order.specs.declared.setting.Callees.{Callees}
 use Rattle.lus_order.specs.Graphs.{Rows, row_at}
 use Rattle.lus_order.specs.Rows.{ModeRows, equation_row}
 use Rattle.lus_order.specs.OwnRows.{with_edge, with_left, with_lefts, with_equation, with_equations}
-use Rattle.lus_order.proofs.Stands.{or_either, or_left, or_right, listed_joined}
+use Rattle.lus_order.proofs.Searches.{or_cases, or_right}
+use Rattle.lus_order.proofs.Stands.{or_left, listed_joined}
 
 row_of : (rs : List (Vec ℕ Global)) (i : ℕ) (r : Vec ℕ Global) → i < length rs → r ≡ get_or rs i r → r.items ≡ row_at (map (λ v. v.items) rs) i
 row_of [] i r l e = absurd (omega arith)
@@ -183,7 +184,7 @@ hit_is y to (x ∷ xs) j e = go (bytes_eq y x) e (hit_is y to xs j)
     go : (b : Bool) → is_listed (cond b (to ∷ []) [] ++ hits y to xs) j ≡ true → (is_listed (hits y to xs) j ≡ true → (j ≡ to) × (named_in y xs ≡ true))
         → (j ≡ to) × ((b || named_in y xs) ≡ true)
     go false h f = f h
-    go true h f = (either (or_either (eqb j to) (is_listed (hits y to xs) j) h), refl)
+    go true h f = (either (or_cases (eqb j to) (is_listed (hits y to xs) j) h), refl)
       where
         either : (eqb j to ≡ true) ⊎ (is_listed (hits y to xs) j ≡ true) → j ≡ to
         either (inl q) = eqb-true j to q
@@ -200,7 +201,7 @@ is_hit y to (x ∷ xs) e = go (bytes_eq y x) e (is_hit y to xs)
 
 pub hits_are : (y : Name) (k : ℕ) (es : List Equation) (j : ℕ) → is_listed (all_hits y k es) j ≡ true → Hit y k es j
 hits_are y k [] j e = absurd (false≢true e)
-hits_are y k (q ∷ es) j e = go (or_either (is_listed (hits y k q.names) j) (is_listed (all_hits y (suc k) es) j)
+hits_are y k (q ∷ es) j e = go (or_cases (is_listed (hits y k q.names) j) (is_listed (all_hits y (suc k) es) j)
     (sym (listed_joined j (hits y k q.names) (all_hits y (suc k) es)) ∙ e)) (hits_are y (suc k) es j)
   where
     go : (is_listed (hits y k q.names) j ≡ true) ⊎ (is_listed (all_hits y (suc k) es) j ≡ true)

@@ -1,5 +1,5 @@
 -- Rows of numbers that stand for lists of names.
-use Rattle.std.proofs.Common.{◌≡◌, ℕ, ◌<◌, Bool, true, false, cond, ◌||◌, List, [], ◌∷◌, ◌++◌, length, get_or, flat_map, refl, ap, ◌∙◌, sym, subst, arith}
+use Rattle.std.proofs.Common.{◌≡◌, ℕ, ◌<◌, Bool, true, false, ◌||◌, List, [], ◌∷◌, ◌++◌, length, get_or, refl, ap, ◌∙◌, sym, subst}
 use Rattle.std.specs.Prelude.{eqb}
 use Rattle.std.specs.Str.{bytes_eq}
 use Rattle.std.proofs.Math.Logic.{◌⊎◌, inl, inr}
@@ -12,31 +12,20 @@ use Rattle.lus_meaning.proofs.Unique.{same_bytes}
 use Rattle.name_table.specs.Names.{number_of}
 use Rattle.name_table.proofs.Names.{itself, in_joined}
 use Rattle.name_table.proofs.Numbers.{number_below, name_of_number, number_at, in_list}
+use Rattle.std.proofs.lemmas.List.Folds.{list_any-append}
+use Rattle.lus_order.proofs.Searches.{or_cases, or_right}
 use Rattle.lus_order.specs.Stands.{Stands}
 use Rattle.lus_order.specs.Rows.{number_list}
 use Rattle.lus_order.specs.OwnRows.{numbers_of}
 
 -- ---- tests
 
-pub or_either : (a b : Bool) → (a || b) ≡ true → (a ≡ true) ⊎ (b ≡ true)
-or_either true b e = inl refl
-or_either false b e = inr e
-
-pub or_right : (a b : Bool) → b ≡ true → (a || b) ≡ true
-or_right true b e = refl
-or_right false b e = e
-
 pub or_left : (a b : Bool) → a ≡ true → (a || b) ≡ true
 or_left true b e = refl
 or_left false b e = absurd (false≢true e)
 
 pub listed_joined : (j : ℕ) (xs ys : List ℕ) → is_listed (xs ++ ys) j ≡ (is_listed xs j || is_listed ys j)
-listed_joined j [] ys = refl
-listed_joined j (x ∷ xs) ys = rw (listed_joined j xs ys) (go (eqb j x))
-  where
-    go : (c : Bool) → (c || (is_listed xs j || is_listed ys j)) ≡ ((c || is_listed xs j) || is_listed ys j)
-    go true = refl
-    go false = refl
+listed_joined j xs ys = list_any-append (eqb j) xs ys
 
 -- ---- joined
 
@@ -47,14 +36,14 @@ pub stand_joined : (names : List Name) (r q : List ℕ) (xs ys : List Name) → 
 stand_joined names r q xs ys a b = record { below = below; listed = listed; whole = whole }
   where
     below : (j : ℕ) → is_listed (r ++ q) j ≡ true → j < length names
-    below j e = go (or_either (is_listed r j) (is_listed q j) (sym (listed_joined j r q) ∙ e))
+    below j e = go (or_cases (is_listed r j) (is_listed q j) (sym (listed_joined j r q) ∙ e))
       where
         go : (is_listed r j ≡ true) ⊎ (is_listed q j ≡ true) → j < length names
         go (inl t) = a.below j t
         go (inr t) = b.below j t
 
     listed : (j : ℕ) → is_listed (r ++ q) j ≡ true → named_in (get_or names j []) (xs ++ ys) ≡ true
-    listed j e = in_joined (get_or names j []) xs ys ∙ go (or_either (is_listed r j) (is_listed q j) (sym (listed_joined j r q) ∙ e))
+    listed j e = in_joined (get_or names j []) xs ys ∙ go (or_cases (is_listed r j) (is_listed q j) (sym (listed_joined j r q) ∙ e))
       where
         go : (is_listed r j ≡ true) ⊎ (is_listed q j ≡ true) → (named_in (get_or names j []) xs || named_in (get_or names j []) ys) ≡ true
         go (inl t) = or_left _ _ (a.listed j t)
@@ -62,7 +51,7 @@ stand_joined names r q xs ys a b = record { below = below; listed = listed; whol
 
     whole : (j : ℕ) → j < length names → named_in (get_or names j []) (xs ++ ys) ≡ true → is_listed (r ++ q) j ≡ true
     whole j l e = listed_joined j r q
-        ∙ go (or_either (named_in (get_or names j []) xs) (named_in (get_or names j []) ys) (sym (in_joined (get_or names j []) xs ys) ∙ e))
+        ∙ go (or_cases (named_in (get_or names j []) xs) (named_in (get_or names j []) ys) (sym (in_joined (get_or names j []) xs ys) ∙ e))
       where
         go : (named_in (get_or names j []) xs ≡ true) ⊎ (named_in (get_or names j []) ys ≡ true) → (is_listed r j || is_listed q j) ≡ true
         go (inl t) = or_left _ _ (a.whole j l t)

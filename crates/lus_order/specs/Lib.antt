@@ -14,3 +14,5 @@ pub mod OwnRows
 pub mod Stands
 pub mod OwnReads
 pub mod Numbered
+pub mod ModeRows
+pub mod OwnNodes

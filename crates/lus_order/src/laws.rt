@@ -1,6 +1,7 @@
 //! What is read in an expression, and numbers in place of names, by the own graph of a declaration.
 
 ghost use Rattle.lus_order.specs.Numbered.{WaysAreNumbered};
+ghost use Rattle.lus_order.specs.OwnNodes.{RowsAreNodes};
 ghost use Rattle.lus_order.specs.OwnReads.{ReadsAreOwn};
 
 /// What an expression reads by the own graph of its declaration is what is read in it, with each mode
@@ -13,4 +14,10 @@ pub fn reads_are_own()
 /// way along the edges leads there from one of the names that it reads.
 pub fn ways_are_numbered()
     ensures { WaysAreNumbered }
+{}
+
+/// The rows that are made for a declaration stand for its own graph: its streams have the first numbers, in their order,
+/// and its equations those behind them. A number leads to another exactly where the node of the own graph does.
+pub fn rows_are_nodes()
+    ensures { RowsAreNodes }
 {}

@@ -22,8 +22,11 @@ fn own_mode<'a>(
     name: &'a PlacedName,
     asked: &'a [Named],
 ) -> Result<Mode<'a>, AllocError>
-    ensures { IfOk result (λ m. mode_view m ≡ (([], (word_view name.now).text), once (length clocks.now.names)
-        (asked_row clocks.now callees.now (modes_view modes.now) (map named_view asked.now)))) }
+    ensures { IfOk result (λ m. mode_view m ≡ (
+      ([], (word_view name.now).text),
+      once (length clocks.now.names)
+          (asked_row clocks.now callees.now (modes_view modes.now) (map named_view asked.now)),
+    )) }
 {
     let mut row = Vec::new(alloc);
     push_asked(alloc, &mut row, clocks, callees, modes, asked)?;

@@ -112,12 +112,7 @@ fn add_edge(graph: &mut Graph, number: usize, to: usize) -> Result<(), AllocErro
 }
 
 /// The graph, where a name leads to one more number.
-fn add_left(
-    graph: &mut Graph,
-    names: &NameTable,
-    name: &str,
-    to: usize,
-) -> Result<(), AllocError>
+fn add_left(graph: &mut Graph, names: &NameTable, name: &str, to: usize) -> Result<(), AllocError>
     ensures { IfOk result (λ _. graph_view graph.new ≡ with_left names.now to (graph_view graph.old) name.now) }
 {
     match names.number(name) {
