@@ -15,3 +15,6 @@ pub mod Declared
 pub mod ModeRows
 pub mod OwnNodes
 pub mod Widened
+pub mod OwnOrders
+pub mod MarkedNames
+pub mod FoundNodes

@@ -27,7 +27,7 @@ use Rattle.lus_order.specs.Streams.{AreTabled, names_of}
 use Rattle.lus_order.proofs.Declared.{tabled_clocks, tabled_length, declared_clock, undeclared}
 use Rattle.lus_order.proofs.ModeRows.{modes_stand, equation_stands}
 use Rattle.lus_order.proofs.OwnEdges.{hits_are, are_hit, all_hits, Hit, all_length, all_names, all_equations}
-use Rattle.lus_order.proofs.Paths.{one_step, both_steps}
+use Rattle.lus_order.proofs.Paths.{leads_within, one_step, both_steps}
 use Rattle.lus_order.proofs.Searches.{or_cases, or_right}
 use Rattle.lus_order.proofs.Stands.{listed_joined, names_stand, or_left}
 
@@ -299,10 +299,33 @@ module _ (n : Component) (g : Summaries) (s : Clocks) (t : Callees) (tabled : Ar
       go (inl r) f = both_steps rows v r.number w (one_step rows v r.number r.led) (f r.number r.below (subst (λ z. IsEdge n g z c) (sym r.is) p.0))
       go (inr h) f = absurd (no_edge b c h p.0)
 
+  -- a number past the end stands for no equation
+  none_at : (k : ℕ) (b : Node) → length es ≤ k → IsEdge n g (of_equation k) b → ⊥
+  none_at k (of_name y) l e = false≢true (sym (ap (named_in y) (nothing_at es k l)) ∙ e)
+    where
+      nothing_at : (qs : List Equation) (k : ℕ) → length qs ≤ k → get_or (map (equation_reads n g) qs) k [] ≡ []
+      nothing_at [] k l = refl
+      nothing_at (q ∷ qs) zero l = absurd (omega arith)
+      nothing_at (q ∷ qs) (suc k) l = nothing_at qs k (omega arith)
+  none_at k (of_equation j) l e = e
+
+  starts_within : (v : ℕ) (b : Node) → IsEdge n g (node v) b → v < length rows
+  starts_within v b e = go (cases_lt v (length rows))
+    where
+      go : (v < length rows) ⊎ (length rows ≤ v) → v < length rows
+      go (inl h) = h
+      go (inr h) = absurd (none_at (v - count) b (omega (arith, whole, h))
+          (subst (λ z. IsEdge n g z b) (of_number s.names v (omega (arith, whole, h))) e))
+
   pub own_nodes : AreNodes n g s.names rows
   own_nodes = record {
     whole = whole;
-    ways = λ v w l b. (to_nodes v w l, λ r. path_of v r.first r.rest w l r.way.0 r.way.1 r.last);
+    ways = λ v w. (
+      λ p. to_nodes v w (leads_within rows v p.first p.path.0) p,
+      λ r. path_of v r.first r.rest w (starts_within v r.first r.way.0) r.way.0 r.way.1 r.last,
+    );
+    closed = λ v w e. (step v w (leads_within rows v w e) e).0;
+    outside = λ x b f e. no_edge (of_name x) b f e;
   }
 
 pub rows_nodes : RowsAreNodes

@@ -8,9 +8,10 @@ use Rattle.lus_tree.specs.Tree.{Name, Variable}
 use Rattle.lus_meaning.specs.Depends.{named_in}
 use Rattle.lus_meaning.specs.Order.{left_at}
 use Rattle.lus_meaning.specs.Run.{Equation}
+use Rattle.lus_meaning.specs.WellMade.{AreDistinct}
 use Rattle.lus_meaning.proofs.Unique.{same_bytes}
 use Rattle.name_table.specs.Names.{add}
-use Rattle.name_table.proofs.Names.{itself, in_joined}
+use Rattle.name_table.proofs.Names.{distinct_added, itself, in_joined}
 use Rattle.lus_order.specs.declared.setting.Clocks.{Clocks}
 use Rattle.lus_order.specs.Reads.{clock_seen}
 use Rattle.lus_order.specs.Streams.{AreTabled, Widened, names_of, stream_clock, with_all, with_sides}
@@ -106,3 +107,11 @@ pub sides_there : (ks : List Name) (es : List Equation) (k : ℕ) (x : Name) →
 sides_there ks [] k x e = absurd (false≢true e)
 sides_there ks (q ∷ es) zero x e = kept_sides x (with_all ks q.names) es (all_there x ks q.names e)
 sides_there ks (q ∷ es) (suc k) x e = sides_there (with_all ks q.names) es k x e
+
+all_distinct : (ks xs : List Name) → AreDistinct ks → AreDistinct (with_all ks xs)
+all_distinct ks [] d = d
+all_distinct ks (x ∷ xs) d = all_distinct (add ks x) xs (distinct_added ks x d)
+
+pub sides_distinct : (ks : List Name) (es : List Equation) → AreDistinct ks → AreDistinct (with_sides ks es)
+sides_distinct ks [] d = d
+sides_distinct ks (e ∷ es) d = sides_distinct (with_all ks e.names) es (all_distinct ks e.names d)

@@ -16,3 +16,6 @@ pub mod OwnReads
 pub mod Numbered
 pub mod ModeRows
 pub mod OwnNodes
+pub mod Own
+pub mod OwnOrders
+pub mod MarkedNames

@@ -1,5 +1,5 @@
 -- The own graph of a declaration, whose nodes are the numbers of its streams and then those of its equations.
-use Rattle.std.specs.Prelude.{◌≡◌, ◌↔◌, ℕ, ◌<◌, ◌+◌, ◌-◌, true, cond, nat_lt, List, [], length}
+use Rattle.std.specs.Prelude.{◌≡◌, ◌↔◌, ℕ, ◌<◌, ◌+◌, ◌-◌, true, false, cond, nat_lt, List, [], length}
 use Rattle.lus_tree.specs.Tree.{Name, Component}
 use Rattle.lus_meaning.specs.Scene.{contract_statements, variables}
 use Rattle.lus_meaning.specs.Run.{equations}
@@ -7,10 +7,10 @@ use Rattle.lus_meaning.specs.Order.{left_at}
 use Rattle.lus_meaning.specs.Depends.{named_in}
 use Rattle.lus_meaning.specs.WellMade.{AreDistinct}
 use Rattle.way_laws.specs.OwnGraph.{Summaries}
-use Rattle.way_laws.specs.Nodes.{Node, of_name, of_equation, NodeLeads}
+use Rattle.way_laws.specs.Nodes.{Node, of_name, of_equation, IsEdge, NodeLeads}
 use Rattle.lus_order.specs.declared.setting.Clocks.{Clocks}
 use Rattle.lus_order.specs.declared.setting.Callees.{Callees}
-use Rattle.lus_order.specs.Graphs.{Rows, LeadsTo}
+use Rattle.lus_order.specs.Graphs.{Rows, leads, LeadsTo}
 use Rattle.lus_order.specs.Numbered.{name_at}
 use Rattle.lus_order.specs.OwnReads.{AreFlagsOf}
 use Rattle.lus_order.specs.OwnRows.{own_rows}
@@ -24,7 +24,9 @@ node_at names v = cond (nat_lt v (length names)) (of_name (name_at names v)) (of
 -- the rows stand for the nodes of the own graph by these summaries
 pub record AreNodes (n : Component) (g : Summaries) (names : List Name) (rows : Rows) : Type 0 where
   pub whole : length rows ≡ length names + length (equations n)
-  pub ways : (v w : ℕ) → v < length rows → w < length rows → LeadsTo rows v w ↔ NodeLeads n g (node_at names v) (node_at names w)
+  pub ways : (v w : ℕ) → LeadsTo rows v w ↔ NodeLeads n g (node_at names v) (node_at names w)
+  pub closed : (v w : ℕ) → leads rows v w ≡ true → w < length rows
+  pub outside : (x : Name) (b : Node) → named_in x names ≡ false → IsEdge n g (of_name x) b → Prim.⊥
 
 -- the modes of a declaration's contract, by numbers
 abbrev pub own_modes : Clocks → Callees → Summaries → Component → ModeRows

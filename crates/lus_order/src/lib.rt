@@ -2,6 +2,7 @@
 #![tactic(auto)]
 
 mod circles;
+mod found;
 mod graph;
 pub mod laws;
 mod least_order;
@@ -9,6 +10,7 @@ mod left_names;
 mod library;
 mod modes;
 mod order_from;
+mod own;
 mod own_rows;
 mod owner;
 mod reach;

@@ -161,7 +161,7 @@ fn add_sides(alloc: Global, clocks: &mut Clocks<'_>, sides: &[Side<'_>]) -> Resu
 /// # Errors
 ///
 /// Want of memory.
-#[tactic(auto, using(crate::proofs::Widened::table_widened, crate::proofs::Widened::sides_there))]
+#[tactic(auto, using(crate::proofs::Widened::table_widened, crate::proofs::Widened::sides_there, crate::proofs::Widened::sides_distinct))]
 pub(crate) fn table_of<'a>(
     alloc: Global,
     params: &[&'a Param],
@@ -169,6 +169,7 @@ pub(crate) fn table_of<'a>(
 ) -> Result<Clocks<'a>, AllocError>
     requires { AreDistinct (names_of (params_view params.now)) }
     ensures tabled { IfOk result (λ s. AreTabled (params_view params.now) s) }
+    ensures distinct { IfOk result (λ s. AreDistinct s.names) }
     ensures lefts { IfOk result (λ s. (k : ℕ) (x : Name) → named_in x (left_at (equations_view sides.now) k) ≡ true
         → named_in x s.names ≡ true) }
 {
