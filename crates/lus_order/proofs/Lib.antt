@@ -18,3 +18,4 @@ pub mod Widened
 pub mod OwnOrders
 pub mod MarkedNames
 pub mod FoundNodes
+pub mod Summarised

@@ -19,3 +19,4 @@ pub mod OwnNodes
 pub mod Own
 pub mod OwnOrders
 pub mod MarkedNames
+pub mod KnownModes

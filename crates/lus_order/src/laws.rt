@@ -1,5 +1,6 @@
 //! What is read in an expression, and numbers in place of names, by the own graph of a declaration.
 
+ghost use Rattle.lus_order.specs.KnownModes.{KnownAreSummaries};
 ghost use Rattle.lus_order.specs.MarkedNames.{RowsFind};
 ghost use Rattle.lus_order.specs.Numbered.{WaysAreNumbered};
 ghost use Rattle.lus_order.specs.OwnNodes.{RowsAreNodes};
@@ -34,4 +35,9 @@ pub fn orders_are_least()
 /// the names that ways along the edges find from those of the list.
 pub fn rows_find()
     ensures { RowsFind }
+{}
+
+/// What is known of a declaration by the rows that stand for its own graph is its summary by that graph.
+pub fn known_are_summaries()
+    ensures { KnownAreSummaries }
 {}

@@ -20,4 +20,5 @@ mod rows;
 mod setting;
 mod sides;
 mod streams;
+mod summary;
 mod words;

@@ -53,7 +53,7 @@ fn known_row<'m>(modes: &'m [Mode<'_>], contract: Option<&str>, name: &str) -> &
 }
 
 /// The row, and behind it these numbers.
-fn push_numbers(row: &mut Vec<usize>, numbers: &[usize]) -> Result<(), AllocError>
+pub(crate) fn push_numbers(row: &mut Vec<usize>, numbers: &[usize]) -> Result<(), AllocError>
     ensures { IfOk result (λ _. row.new.items ≡ row.old.items ++ numbers.now) }
 {
     for number in numbers {
