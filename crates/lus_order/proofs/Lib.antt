@@ -6,5 +6,16 @@ pub mod Searches
 pub mod Rounds
 pub mod OnCircles
 pub mod Contracted
+pub mod Statements
+pub mod Stands
+pub mod OwnEdges
 pub mod OwnReads
 pub mod Numbered
+pub mod Declared
+pub mod ModeRows
+pub mod OwnNodes
+pub mod Widened
+pub mod OwnOrders
+pub mod MarkedNames
+pub mod FoundNodes
+pub mod Summarised

@@ -10,6 +10,7 @@ use Rattle.lus_meaning.specs.Order.{is_listed}
 use Rattle.lus_meaning.proofs.Lists.{both_parts}
 use Rattle.lus_meaning.proofs.Orders.{all_below, distinct-snoc, no_numbers}
 use Rattle.lus_order.specs.Graphs.{Rows, row_at, leads, is_marked, end_of, AreReached, LeadsTo}
+use Rattle.lus_order.specs.Rows.{once}
 use Rattle.lus_order.specs.Visits.{State, is_new, visited, visited_all}
 use Rattle.lus_order.proofs.Paths.{all_same, leads_within, one_step, one_step_more, path_keeps, starts_within}
 
@@ -21,11 +22,11 @@ not_false : (c : Bool) → not c ≡ false → c ≡ true
 not_false true e = refl
 not_false false e = absurd (true≢false e)
 
-or_cases : (a b : Bool) → (a || b) ≡ true → (a ≡ true) ⊎ (b ≡ true)
+pub or_cases : (a b : Bool) → (a || b) ≡ true → (a ≡ true) ⊎ (b ≡ true)
 or_cases true b e = inl refl
 or_cases false b e = inr e
 
-or_right : (a b : Bool) → b ≡ true → (a || b) ≡ true
+pub or_right : (a b : Bool) → b ≡ true → (a || b) ≡ true
 or_right true b e = refl
 or_right false b e = e
 
@@ -194,14 +195,17 @@ pub record Searching (rows : Rows) (start : ℕ) (s : State) (turn : ℕ) : Type
   pub first : (j : ℕ) → j < length rows → leads rows start j ≡ true → is_marked s.0 j ≡ true
   pub done : (t : ℕ) → t < turn → (j : ℕ) → j < length rows → leads rows (get_or s.1 t 0) j ≡ true → is_marked s.0 j ≡ true
 
-nothing_met : (rows : Rows) (start : ℕ) → Kept (length rows) (LeadsTo rows start) (replicate (length rows) false, [])
-nothing_met rows start = record {
-  whole = length-replicate (length rows) false;
-  listed = λ j l. all_same (length rows) false j;
+nothing_there : (n : ℕ) (P : ℕ → Type 0) → Kept n P (replicate n false, [])
+nothing_there n P = record {
+  whole = length-replicate n false;
+  listed = λ j l. all_same n false j;
   below = tt;
   once = no_numbers;
-  sound = λ j m. absurd (true≢false (sym m ∙ all_same (length rows) false j));
+  sound = λ j m. absurd (true≢false (sym m ∙ all_same n false j));
 }
+
+nothing_met : (rows : Rows) (start : ℕ) → Kept (length rows) (LeadsTo rows start) (replicate (length rows) false, [])
+nothing_met rows start = nothing_there (length rows) (LeadsTo rows start)
 
 pub search_starts : (rows : Rows) (start : ℕ) (s : State) → s ≡ visited_all (replicate (length rows) false, []) (row_at rows start) → Searching rows start s 0
 search_starts rows start s is = subst (λ z. Searching rows start z 0) (sym is) (record {
@@ -302,3 +306,25 @@ search_step rows start number row s s' turn w l e f is =
 pub turns_left : (rows : Rows) (start : ℕ) (s : State) (turn : ℕ) → Searching rows start s turn → turn < length s.1
     → length rows - (turn + 1) < length rows - turn
 turns_left rows start s turn w l = let h : length s.1 ≤ length rows = queue_short rows start s turn w in omega (arith, h, l)
+
+-- ---- each number once
+
+listed_below : (n : ℕ) (ks : List ℕ) (j : ℕ) → AllByRecursion (λ k. k < n) ks → is_listed ks j ≡ true → j < n
+listed_below n [] j a e = absurd (false≢true e)
+listed_below n (k ∷ ks) j a e = go (or_cases (eqb j k) (is_listed ks j) e) (listed_below n ks j a.1)
+  where
+    go : (eqb j k ≡ true) ⊎ (is_listed ks j ≡ true) → (is_listed ks j ≡ true → j < n) → j < n
+    go (inl q) f = subst (λ z. z < n) (sym (eqb-true j k q)) a.0
+    go (inr m) f = f m
+
+-- the numbers of a list that stand in it once are those of the list below the count
+pub once_listed : (n : ℕ) (row : List ℕ) (j : ℕ)
+    → (is_listed (once n row) j ≡ true → is_listed row j ≡ true) × (j < n → is_listed row j ≡ true → is_listed (once n row) j ≡ true)
+once_listed n row j = (
+  λ e. kept.sound j (kept.listed j (listed_below n (once n row) j kept.below e) ∙ e),
+  λ l e. sym (kept.listed j l)
+      ∙ all_marked (replicate n false, []) row j (subst (λ z. j < z) (sym (length-replicate n false)) l) e,
+)
+  where
+    kept : Kept n (λ k. is_listed row k ≡ true) (visited_all (replicate n false, []) row)
+    kept = all_kept n (λ k. is_listed row k ≡ true) (replicate n false, []) row (λ i e. e) (nothing_there n (λ k. is_listed row k ≡ true))

@@ -2,13 +2,23 @@
 #![tactic(auto)]
 
 mod circles;
+mod found;
 mod graph;
 pub mod laws;
 mod least_order;
 mod left_names;
+mod library;
+mod modes;
 mod order_from;
+mod own;
+mod own_rows;
+mod owner;
 mod reach;
 mod reads;
 mod repeated;
+mod rows;
 mod setting;
+mod sides;
+mod streams;
+mod summary;
 mod words;

@@ -2,6 +2,7 @@
 
 ghost use Rattle.std.specs.Prelude.{◌≡◌, IfOk};
 ghost use Rattle.lus_order.specs.Graphs.{AreReached, graph_view};
+ghost use Rattle.lus_order.specs.Rows.{once};
 ghost use Rattle.lus_order.specs.Visits.{state_view, visited, visited_all};
 
 use crate::graph::Graph;
@@ -57,4 +58,20 @@ pub(crate) fn reached(alloc: Global, graph: &Graph, start: usize) -> Result<Vec<
         turn += 1;
     }
     Ok(search.marks)
+}
+
+/// Each of these numbers once, of those below a count.
+///
+/// # Errors
+///
+/// Want of memory.
+pub(crate) fn once(alloc: Global, count: usize, numbers: &[usize]) -> Result<Vec<usize>, AllocError>
+    ensures { IfOk result (λ v. v.items ≡ once count numbers.now) }
+{
+    let mut search = Search {
+        marks: vec![in alloc; false; count]?,
+        queue: Vec::new(alloc),
+    };
+    search.visit_all(numbers)?;
+    Ok(search.queue)
 }

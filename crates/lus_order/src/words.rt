@@ -12,7 +12,7 @@ use name_table::NameTable;
 use std::alloc::{AllocError, Global};
 
 /// The words, and behind them these.
-fn push_words<'a>(
+pub(crate) fn push_words<'a>(
     words: &mut Vec<&'a PlacedName>,
     names: &'a [PlacedName],
 ) -> Result<(), AllocError>
