@@ -3,6 +3,7 @@ pub mod Booleans
 pub mod NeedRoom
 pub mod Rooms
 pub mod Sums
+pub mod Meant
 pub mod Turns
 pub mod Valued
 pub mod Split

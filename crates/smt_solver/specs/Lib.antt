@@ -4,6 +4,7 @@ pub mod Asserting
 pub mod Boolean
 pub mod Conflicting
 pub mod Growing
+pub mod Near
 pub mod NeedRoom
 pub mod NumberStates
 pub mod Room

@@ -1,5 +1,6 @@
 //! The parts of a solver for queries that compare numbers. Nothing calls them yet.
 
+pub mod asserting;
 pub mod meanings;
 pub mod rows;
 pub mod states;

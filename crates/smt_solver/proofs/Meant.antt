@@ -1,0 +1,93 @@
+-- What atoms mean, one after the other.
+use Rattle.std.specs.Prelude.{ℕ, zero, suc, ◌≡◌, ◌≢◌, ◌+◌, ◌<◌, ◌≤◌, ◌^◌, Bool, true, false, cond, List, [], ◌∷◌, ◌++◌, length, map, take, get_or, nat_lt, Option, Some, None, All, Contains, unsigned_abs, refl}
+use Rattle.std.specs.Int.{int_div_euclid}
+use Rattle.std.specs.List.{AllByRecursion}
+use Rattle.std.proofs.Common.{sym, ◌∙◌, ap, subst, inl, inr, arith}
+use Rattle.std.proofs.lemmas.Int.{ints}
+use Rattle.std.proofs.lemmas.List.{append_assoc, append-nil}
+use Rattle.std.proofs.lemmas.List.Elements.{Contains-append_left, Contains-append_right, Contains-append_cases, All-contains}
+use lib.IntN.{ℤ, pos, negsuc, ◌+ℤ◌, ◌-ℤ◌, ◌*ℤ◌, neg_ℤ}
+use lib.Signed.{◌≤ℤ◌, ◌<ℤ◌}
+use Rattle.kind_num.specs.Division.{IsFloor}
+use Rattle.proof_steps.specs.View.{Inequality}
+use Rattle.proof_steps.specs.Rows.{is_long}
+use Rattle.proof_steps.specs.Bounds.{Bound, bound_by, bound_of_sum, bounds_from}
+use Rattle.int_simplex.specs.Farkas.{Refutes}
+use Rattle.int_simplex.specs.State.{Standing}
+use Rattle.sat_core.specs.declared.assigned.Assigned.{Assigned}
+use Rattle.smt_solver.specs.declared.numbers.meanings.Meaning.{Meaning}
+use Rattle.smt_solver.specs.Sums.{meaning_view, all_meant, all_divisors, divisor_in}
+use Rattle.smt_solver.specs.Asserting.{bound_at, bounds_at}
+use Rattle.smt_solver.specs.Near.{IsNear, IsMeasured}
+use Rattle.smt_solver.proofs.Turns.{all-of}
+
+-- the meanings are those so far and those that are to come
+pub record AreMeantSo (first : ℕ) (all : List Inequality) (column : ℕ) (rest : List Inequality) (ms : List Meaning) : Type 0 where
+  pub bounds : all_meant ms ++ bounds_from column rest ≡ bounds_from first all
+  pub divisors : all_divisors ms ++ map divisor_in rest ≡ map divisor_in all
+  pub near : All IsNear ms
+  pub measured : AllByRecursion IsMeasured rest
+
+-- ---- the bound of a term
+
+pub upper-by : (x : ℕ) (a b : ℤ) → pos 0 <ℤ a
+    → bound_by x a b ≡ Some record { column = x; upper = true; limit = int_div_euclid b a }
+upper-by x (pos zero) b h = absurd (omega (arith, ints))
+upper-by x (pos (suc d)) b h = refl
+upper-by x (negsuc d) b h = absurd (omega (arith, ints))
+
+pub lower-by : (x : ℕ) (a b d : ℤ) → a <ℤ pos 0 → d ≡ neg_ℤ a
+    → bound_by x a b ≡ Some record { column = x; upper = false; limit = neg_ℤ (int_div_euclid b d) }
+lower-by x (pos n) b d h e = absurd (omega (arith, ints))
+lower-by x (negsuc n) b d h e = ap (λ z. Some record { column = x; upper = false; limit = neg_ℤ (int_div_euclid b z) }) (sym e)
+
+pub size-above : (z : ℤ) → pos 0 <ℤ z → pos (unsigned_abs z) ≡ z
+size-above (pos n) h = refl
+size-above (negsuc n) h = absurd (omega (arith, ints))
+
+pub size-below : (z : ℤ) → z <ℤ pos 0 → pos (unsigned_abs z) ≡ neg_ℤ z
+size-below (pos n) h = absurd (omega (arith, ints))
+size-below (negsuc n) h = refl
+
+pub size-room : (z : ℤ) (n : ℕ) → unsigned_abs z < n → (neg_ℤ (pos n) <ℤ z) × (z <ℤ pos n)
+size-room (pos k) n h = (omega (arith, ints), omega (arith, ints))
+size-room (negsuc k) n h = (omega (arith, ints), omega (arith, ints))
+
+-- ---- the bounds that stand
+
+pub bounds-more : (trail : List Assigned) (n k : ℕ) (ms : List Meaning) (d : Meaning) → k < length ms
+    → bounds_at trail n (take (suc k) ms) ≡ bounds_at trail n (take k ms) ++ bound_at trail (n + k) (get_or ms k d)
+bounds-more trail n k [] d h = absurd (omega arith)
+bounds-more trail n zero (m ∷ ms) d h =
+    append-nil (bound_at trail n m) ∙ ap (λ i. bound_at trail i m) (same n) where
+      same : (n : ℕ) → n ≡ n + 0
+      same n = omega arith
+bounds-more trail n (suc k) (m ∷ ms) d h =
+    ap (λ bs. bound_at trail n m ++ bs) (bounds-more trail (suc n) k ms d (omega arith))
+    ∙ ap (λ i. bound_at trail n m ++ (bounds_at trail (suc n) (take k ms) ++ bound_at trail i (get_or ms k d))) (next n k)
+    ∙ sym (append_assoc (bound_at trail n m) (bounds_at trail (suc n) (take k ms)) (bound_at trail (n + suc k) (get_or ms k d))) where
+      next : (n k : ℕ) → suc n + k ≡ n + suc k
+      next n k = omega arith
+
+pub bounds-front : (trail : List Assigned) (n k : ℕ) (ms : List Meaning) (b : Standing) → Contains (bounds_at trail n (take k ms)) b
+    → Contains (bounds_at trail n ms) b
+bounds-front trail n zero ms b (i, h, e) = absurd (omega arith)
+bounds-front trail n (suc k) [] b (i, h, e) = absurd (omega arith)
+bounds-front trail n (suc k) (m ∷ ms) b i =
+    elim (Contains-append_cases (bound_at trail n m) (bounds_at trail (suc n) (take k ms)) b i) [
+      | inl j ↦ Contains-append_left (bound_at trail n m) (bounds_at trail (suc n) ms) b j
+      | inr j ↦ Contains-append_right (bound_at trail n m) (bounds_at trail (suc n) ms) b (bounds-front trail (suc n) k ms b j)
+    ]
+
+-- what some bounds refute, more bounds refute
+pub refutes-more : (given : List (List (ℕ × ℤ))) (bounds more : List Standing) (parts : List (ℤ × ℕ))
+    → ((b : Standing) → Contains bounds b → Contains more b) → Refutes given bounds parts → Refutes given more parts
+refutes-more given bounds more parts f r = record {
+  used = r.used;
+  multipliers = r.multipliers;
+  literals = r.literals;
+  stand = all-of (Contains more) r.used (λ b i. f b (All-contains (Contains bounds) r.used b r.stand i));
+  not_negative = r.not_negative;
+  cancels = r.cancels;
+  absurd = r.absurd;
+}
