@@ -1,5 +1,5 @@
 -- What atoms mean, one after the other.
-use Rattle.std.specs.Prelude.{ℕ, zero, suc, ◌≡◌, ◌≢◌, ◌+◌, ◌<◌, ◌≤◌, ◌^◌, Bool, true, false, cond, List, [], ◌∷◌, ◌++◌, length, map, take, get_or, nat_lt, Option, Some, None, All, Contains, unsigned_abs, refl}
+use Rattle.std.specs.Prelude.{ℕ, zero, suc, ◌≡◌, ◌≢◌, ◌+◌, ◌<◌, ◌≤◌, ◌^◌, Bool, true, false, cond, List, [], ◌∷◌, ◌++◌, length, map, take, get_or, nat_lt, not, Option, Some, None, Ok, Err, All, Contains, unsigned_abs, refl}
 use Rattle.std.specs.Int.{int_div_euclid}
 use Rattle.std.specs.List.{AllByRecursion}
 use Rattle.std.proofs.Common.{sym, ◌∙◌, ap, subst, inl, inr, arith}
@@ -13,11 +13,22 @@ use Rattle.proof_steps.specs.View.{Inequality}
 use Rattle.proof_steps.specs.Rows.{is_long}
 use Rattle.proof_steps.specs.Bounds.{Bound, bound_by, bound_of_sum, bounds_from}
 use Rattle.int_simplex.specs.Farkas.{Refutes}
-use Rattle.int_simplex.specs.State.{Standing}
+use Rattle.proof_steps.specs.declared.Literal.TheVariants.{Atom}
+use Rattle.proof_steps.specs.Meaning.{as_said}
+use Rattle.int_simplex.specs.State.{Standing, State}
+use Rattle.int_simplex.specs.Bounds.{tightest}
+use Rattle.int_simplex.specs.Answers.{IsAsserted, a_bound}
+use Rattle.int_simplex.specs.Refuting.{literal_in}
+use Rattle.int_simplex.specs.declared.answers.Farkas.{Farkas}
+use Rattle.int_simplex.specs.declared.answers.BoundFault.{BoundFault}
+use Rattle.int_simplex.specs.declared.answers.BoundFault.TheVariants.{Crosses}
+use Rattle.int_simplex.proofs.Asserts.{crossing_refutes}
+use Rattle.line_laws.specs.Steps.{standing}
+use Rattle.sat_core.specs.Trail.{value_of}
 use Rattle.sat_core.specs.declared.assigned.Assigned.{Assigned}
 use Rattle.smt_solver.specs.declared.numbers.meanings.Meaning.{Meaning}
 use Rattle.smt_solver.specs.Sums.{meaning_view, all_meant, all_divisors, divisor_in}
-use Rattle.smt_solver.specs.Asserting.{bound_at, bounds_at}
+use Rattle.smt_solver.specs.Asserting.{signed_bound, bound_by_value, bound_at, bounds_at, both_parts, IsAssertedBy, AreAssertedBy}
 use Rattle.smt_solver.specs.Near.{IsNear, IsMeasured}
 use Rattle.smt_solver.proofs.Turns.{all-of}
 
@@ -91,3 +102,75 @@ refutes-more given bounds more parts f r = record {
   cancels = r.cancels;
   absurd = r.absurd;
 }
+
+-- a bound that crosses the tightest one of the other side refutes with it
+pub crossed-as : (trail : List Assigned) (old new : State) (n : ℕ) (m : Meaning) (sign u : Bool) (z : ℤ) (f : Farkas) (x : BoundFault)
+    (w : ℤ × ℕ)
+    → value_of trail (Atom n true) ≡ Some sign → u ≡ (signed_bound sign m).upper → z ≡ (signed_bound sign m).limit
+    → x ≡ Crosses f → IsAsserted old new (a_bound m.column u z n) (Err x) → tightest new.bounds m.column (not u) ≡ Some w
+    → IsAssertedBy trail old new n m (Some w.1)
+crossed-as trail old new n m sign u z f x w v e g q h t =
+  let a : IsAsserted old new (a_bound m.column u z n) (Err (Crosses f)) =
+  subst (λ y. IsAsserted old new (a_bound m.column u z n) (Err y)) q h in (
+  a.2,
+  subst (λ bs. Refutes old.given (old.bounds ++ bs) (both_parts w.1 n))
+      (ap (λ b. b ∷ []) (same sign m e g) ∙ sym (ap (λ o. bound_by_value o n m) v))
+      (crossing_refutes old.given old.bounds (a_bound m.column u z n) w.1 a.0
+      (sym (ap literal_in (ap (λ (s : State). tightest s.bounds m.column (as_said u false)) (sym a.2)
+      ∙ ap (tightest new.bounds m.column) (other u) ∙ t)))),
+) where
+  other : (u : Bool) → as_said u false ≡ not u
+  other true = refl
+  other false = refl
+
+  same : (s : Bool) (m : Meaning) → u ≡ (signed_bound s m).upper → z ≡ (signed_bound s m).limit
+      → a_bound m.column u z n ≡ standing n (signed_bound s m)
+  same true m e g = ap (λ b. a_bound m.column b z n) e ∙ ap (λ y. a_bound m.column (signed_bound true m).upper y n) g
+  same false m e g = ap (λ b. a_bound m.column b z n) e ∙ ap (λ y. a_bound m.column (signed_bound false m).upper y n) g
+
+abbrev with_bounds : State → List Standing → State
+with_bounds s bounds = record {
+  given = s.given;
+  columns = s.columns;
+  basis = s.basis;
+  values = s.values;
+  bounds = bounds;
+  usable = s.usable;
+}
+
+module _ (trail : List Assigned) (s t u : State) (ms : List Meaning) (k : ℕ) (d : Meaning) (l : k < length ms)
+    (e : t ≡ with_bounds s (bounds_at trail 1 (take k ms))) where
+  one-up : (k : ℕ) → 1 + k ≡ k + 1
+  one-up k = omega arith
+
+  up : (k : ℕ) → suc k ≡ k + 1
+  up k = omega arith
+
+  next : t.bounds ++ bound_at trail (k + 1) (get_or ms k d) ≡ bounds_at trail 1 (take (k + 1) ms)
+  next =
+      ap (λ (w : State). w.bounds ++ bound_at trail (k + 1) (get_or ms k d)) e
+      ∙ ap (λ n. bounds_at trail 1 (take k ms) ++ bound_at trail n (get_or ms k d)) (sym (one-up k))
+      ∙ sym (bounds-more trail 1 k ms d l) ∙ ap (λ n. bounds_at trail 1 (take n ms)) (up k)
+
+  -- one more bound stands
+  pub asserted-more : (o : Option ℕ) → o ≡ None → IsAssertedBy trail t u (k + 1) (get_or ms k d) o
+      → u ≡ with_bounds s (bounds_at trail 1 (take (k + 1) ms))
+  asserted-more None q a = a ∙ ap (λ (w : State). with_bounds w (t.bounds ++ bound_at trail (k + 1) (get_or ms k d))) e
+      ∙ ap (with_bounds s) next
+  asserted-more (Some x) q a = absurd cc
+
+  -- or it crosses one that stands
+  pub crossed-all : (o : Option ℕ) (first : ℕ) → o ≡ Some first → IsAssertedBy trail t u (k + 1) (get_or ms k d) o
+      → AreAssertedBy trail s u ms (Some (first, k + 1))
+  crossed-all None first q a = absurd cc
+  crossed-all (Some x) first q a = (
+    a.0 ∙ e ∙ ap (with_bounds s) (sym (ap (λ (w : State). w.bounds) (a.0 ∙ e))),
+    subst (λ y. Refutes s.given (bounds_at trail 1 ms) (both_parts y (k + 1))) (is x first q)
+        (refutes-more s.given (bounds_at trail 1 (take (k + 1) ms)) (bounds_at trail 1 ms) (both_parts x (k + 1))
+        (bounds-front trail 1 (k + 1) ms)
+        (subst (λ bs. Refutes s.given bs (both_parts x (k + 1))) next
+        (subst (λ g. Refutes g (t.bounds ++ bound_at trail (k + 1) (get_or ms k d)) (both_parts x (k + 1)))
+        (ap (λ (w : State). w.given) e) a.1))),
+  ) where
+    is : (x y : ℕ) → Some x ≡ Some y → x ≡ y
+    is x y e = cc

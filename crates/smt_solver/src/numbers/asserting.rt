@@ -1,6 +1,6 @@
 //! The bounds that atoms mean by their values, asserted to a tableau.
 
-ghost use Rattle.std.specs.Prelude.{◌≡◌, ◌<◌, ◌^◌, true, All, length, IfOk};
+ghost use Rattle.std.specs.Prelude.{◌≡◌, ◌<◌, ◌-◌, ◌^◌, true, All, length, IfOk};
 ghost use Rattle.smt_solver.specs.Asserting.{signed_bound, IsAssertedBy, AreAssertedBy, HasColumnBelow};
 ghost use Rattle.smt_solver.specs.Near.{IsNear};
 

@@ -1,7 +1,8 @@
 //! The bounds that atoms mean.
 
 ghost use Rattle.std.specs.Prelude.{◌≡◌, ◌≢◌, ◌<◌, ◌^◌, Some, All, map, unsigned_abs, IfOk};
-ghost use lib.IntN.{pos};
+ghost use lib.IntN.{pos, negsuc, neg_ℤ};
+ghost use lib.Signed.{◌<ℤ◌};
 ghost use Rattle.proof_steps.specs.View.{atom_view};
 ghost use Rattle.proof_steps.specs.Bounds.{bound_by, bound_of_sum, bounds_from};
 ghost use Rattle.smt_solver.specs.Sums.{meaning_view, all_meant, all_divisors, divisor_in};
@@ -22,6 +23,13 @@ pub struct Meaning {
     pub divisor: i128,
 }
 
+fn opposite(z: i128) -> i128
+    requires { negsuc (2 ^ 126) <ℤ z }
+    ensures { result ≡ neg_ℤ z }
+{
+    -z
+}
+
 // What `coefficient * x <= bound` means.
 fn meaning_of_term(x: u32, coefficient: i128, bound: i128) -> Meaning
     requires not_zero { coefficient ≢ pos 0 }
@@ -39,12 +47,12 @@ fn meaning_of_term(x: u32, coefficient: i128, bound: i128) -> Meaning
             divisor: coefficient,
         };
     }
-    let divisor = -coefficient;
+    let divisor = opposite(coefficient);
     let quotient = div_floor(bound, divisor);
     Meaning {
         column: x,
         upper: false,
-        limit: -quotient,
+        limit: opposite(quotient),
         divisor,
     }
 }
