@@ -4,6 +4,7 @@ pub mod NeedRoom
 pub mod Rooms
 pub mod Sums
 pub mod Meant
+pub mod Shares
 pub mod Turns
 pub mod Valued
 pub mod Split

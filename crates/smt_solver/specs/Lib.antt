@@ -9,6 +9,7 @@ pub mod NeedRoom
 pub mod NumberStates
 pub mod Room
 pub mod Run
+pub mod Shares
 pub mod States
 pub mod Stops
 pub mod Sums

@@ -5,3 +5,4 @@ pub mod meanings;
 pub mod rows;
 pub mod states;
 pub mod steps;
+pub mod sums;

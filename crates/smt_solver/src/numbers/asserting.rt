@@ -11,8 +11,8 @@ use proof_steps::Literal;
 use sat_core::Search;
 use std::alloc::Global;
 
-// The side and the limit of what the atom or its opposite means.
-fn signed(meaning: Meaning, sign: bool) -> (bool, i128)
+/// The side and the limit of what the atom or its opposite means.
+pub fn signed(meaning: Meaning, sign: bool) -> (bool, i128)
     requires near { IsNear meaning }
     ensures side { result.0 ≡ (signed_bound sign meaning).upper }
     ensures limit { result.1 ≡ (signed_bound sign meaning).limit }

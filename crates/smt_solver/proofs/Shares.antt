@@ -1,0 +1,115 @@
+-- The sums of a step in the words of the code.
+use Rattle.std.specs.Prelude.{ℕ, zero, suc, ◌≡◌, ◌≢◌, ◌⊎◌, ◌==◌, ◌+◌, ◌-◌, ◌<◌, ◌≤◌, Bool, true, false, cond, List, [], ◌∷◌, ◌++◌, length, map, take, drop, get_or, All, Option, Some, None, Contains, slice_get, refl}
+use Rattle.std.proofs.Common.{sym, ◌∙◌, ap, subst, inl, inr, arith}
+use Rattle.std.proofs.lemmas.Int.{ints}
+use Rattle.std.proofs.lemmas.Bool.Decides.{nat_tests}
+use lib.IntN.{ℤ, pos, negsuc, ◌+ℤ◌, ◌*ℤ◌, +ℤ_idr, +ℤ_comm}
+use Rattle.kind_num.specs.Exact.{within}
+use Rattle.kind_num.specs.declared.Past.{Past}
+use Rattle.proof_steps.specs.Meaning.{at}
+use Rattle.proof_steps.specs.Rows.{entry}
+use Rattle.line_laws.specs.PastSteps.{sum_in, SumFits, IsSumPast}
+use Rattle.smt_solver.specs.Shares.{IsAdded, IsNotAdded}
+use Rattle.line_laws.proofs.Differing.{Differ, none-entry}
+
+-- where the columns differ, a listed term is its column's entry
+pub front-entry : (i : ℕ) (ts : List (ℕ × ℤ)) (x : ℕ) (d : ℕ × ℤ) → i < length ts → Differ (drop i ts) → (get_or ts i d).0 ≡ x
+    → entry (drop i ts) x ≡ (get_or ts i d).1
+front-entry i [] x d h f e = absurd (omega arith)
+front-entry zero ((y, a) ∷ ts) x d h f e =
+    let z : entry ts y ≡ pos 0 = none-entry y ts f.0 in
+    let q : (y == x) ≡ true = here y x e in
+    ap (λ w. cond w (a +ℤ entry ts x) (entry ts x)) q
+    ∙ ap (λ k. a +ℤ entry ts k) (sym e) ∙ ap (λ k. a +ℤ k) z ∙ +ℤ_idr a where
+      here : (y x : ℕ) → y ≡ x → (y == x) ≡ true
+      here y x e = grind (arith, nat_tests)
+front-entry (suc i) (t ∷ ts) x d h f e = front-entry i ts x d (omega arith) f e
+
+-- ---- sums of products
+
+nought : within (pos 0) ≡ true
+unfolding within
+nought = refl
+
+pub none-fit : SumFits []
+none-fit = record { each = λ k p e. absurd cc; sums = none } where
+  none : (k : ℕ) → within (sum_in (take k [])) ≡ true
+  none zero = nought
+  none (suc k) = nought
+
+pub sum-more : (i : ℕ) (ps : List (ℤ × ℤ)) (d : ℤ × ℤ) → i < length ps
+    → sum_in (take (i + 1) ps) ≡ sum_in (take i ps) +ℤ (get_or ps i d).0 *ℤ (get_or ps i d).1
+sum-more i [] d h = absurd (omega arith)
+sum-more zero (p ∷ ps) d h = +ℤ_comm (p.0 *ℤ p.1) (pos 0)
+sum-more (suc i) (p ∷ ps) d h =
+    ap (λ n. sum_in (take n (p ∷ ps))) (up i) ∙ ap (λ z. (p.0 *ℤ p.1) +ℤ z) (sum-more i ps d (omega arith))
+    ∙ joined (p.0 *ℤ p.1) (sum_in (take i ps)) ((get_or ps i d).0 *ℤ (get_or ps i d).1) where
+      up : (i : ℕ) → suc i + 1 ≡ suc (i + 1)
+      up i = omega arith
+
+      joined : (x y z : ℤ) → x +ℤ (y +ℤ z) ≡ (x +ℤ y) +ℤ z
+      joined x y z = omega (arith, ints)
+
+-- the products before one more are those of the longer list, or the whole of it
+taken : (i n : ℕ) (ps : List (ℤ × ℤ)) → (take n (take (suc i) ps) ≡ take n (take i ps)) ⊎ (take n (take (suc i) ps) ≡ take (suc i) ps)
+taken i zero ps = inl refl
+taken zero (suc n) [] = inl refl
+taken (suc i) (suc n) [] = inl refl
+taken zero (suc zero) (p ∷ ps) = inr refl
+taken zero (suc (suc n)) (p ∷ ps) = inr refl
+taken (suc i) (suc n) (p ∷ ps) = elim (taken i n ps) [
+  | inl e ↦ inl (ap (λ xs. p ∷ xs) e)
+  | inr e ↦ inr (ap (λ xs. p ∷ xs) e)
+]
+
+item : (i k : ℕ) (ps : List (ℤ × ℤ)) (d p : ℤ × ℤ) → slice_get (take (suc i) ps) k ≡ Some p
+    → (slice_get (take i ps) k ≡ Some p) ⊎ (get_or ps i d ≡ p)
+item i k [] d p e = absurd cc
+item zero zero (q ∷ ps) d p e = inr (is q p e) where
+  is : (q p : ℤ × ℤ) → Some q ≡ Some p → q ≡ p
+  is q p e = cc
+item zero (suc k) (q ∷ ps) d p e = absurd cc
+item (suc i) zero (q ∷ ps) d p e = inl e
+item (suc i) (suc k) (q ∷ ps) d p e = item i k ps d p e
+
+up : (i : ℕ) → i + 1 ≡ suc i
+up i = omega arith
+
+pub more-fit : (i : ℕ) (ps : List (ℤ × ℤ)) (d : ℤ × ℤ) (sum z : ℤ) → i < length ps → sum ≡ sum_in (take i ps)
+    → SumFits (take i ps) → IsAdded sum (get_or ps i d).0 (get_or ps i d).1 z
+    → (z ≡ sum_in (take (i + 1) ps)) × SumFits (take (i + 1) ps)
+more-fit i ps d sum z h e f a =
+    let w : z ≡ sum_in (take (i + 1) ps) = a.is ∙ ap (λ y. y +ℤ (get_or ps i d).0 *ℤ (get_or ps i d).1) e ∙ sym (sum-more i ps d h) in (
+      w,
+      record {
+        each = λ k p q. elim (item i k ps d p (subst (λ n. slice_get (take n ps) k ≡ Some p) (up i) q)) [
+          | inl x ↦ f.each k p x
+          | inr x ↦ subst (λ (y : ℤ × ℤ). within (y.0 *ℤ y.1) ≡ true) x a.product
+        ];
+        sums = λ n. elim (taken i n ps) [
+          | inl x ↦ subst (λ xs. within (sum_in xs) ≡ true) (sym (ap (λ j. take n (take j ps)) (up i) ∙ x)) (f.sums n)
+          | inr x ↦ subst (λ xs. within (sum_in xs) ≡ true) (sym (ap (λ j. take n (take j ps)) (up i) ∙ x ∙ ap (λ j. take j ps) (sym (up i))))
+              (subst (λ y. within y ≡ true) (sym a.is ∙ w) a.whole)
+        ];
+      },
+    )
+
+there : (i : ℕ) (ps : List (ℤ × ℤ)) (d : ℤ × ℤ) → i < length ps → slice_get ps i ≡ Some (get_or ps i d)
+there i [] d h = absurd (omega arith)
+there zero (p ∷ ps) d h = refl
+there (suc i) (p ∷ ps) d h = there i ps d (omega arith)
+
+pub past-here : (i : ℕ) (ps : List (ℤ × ℤ)) (d : ℤ × ℤ) (sum : ℤ) (past : Past) → i < length ps → sum ≡ sum_in (take i ps)
+    → IsNotAdded sum (get_or ps i d).0 (get_or ps i d).1 past → IsSumPast ps past
+past-here i ps d sum past h e n = record {
+  place = i;
+  product = get_or ps i d;
+  stands = there i ps d h;
+  outside = subst (λ y. IsNotAdded y (get_or ps i d).0 (get_or ps i d).1 past) e n;
+}
+
+pub all-taken : (ps : List (ℤ × ℤ)) (i : ℕ) → length ps ≤ i → take i ps ≡ ps
+all-taken [] zero h = refl
+all-taken [] (suc i) h = refl
+all-taken (p ∷ ps) zero h = absurd (omega arith)
+all-taken (p ∷ ps) (suc i) h = ap (λ xs. p ∷ xs) (all-taken ps i (omega arith))
