@@ -9,7 +9,11 @@ use Rattle.kind_num.specs.declared.Past.{Past}
 use Rattle.proof_steps.specs.Meaning.{at}
 use Rattle.proof_steps.specs.Rows.{entry}
 use Rattle.line_laws.specs.PastSteps.{sum_in, SumFits, IsSumPast}
-use Rattle.smt_solver.specs.Shares.{IsAdded, IsNotAdded}
+use Rattle.proof_steps.specs.declared.Atom.{Atom as Constraint}
+use Rattle.smt_solver.specs.declared.numbers.sums.Share.{Share}
+use Rattle.smt_solver.specs.Shares.{IsAdded, IsNotAdded, products_by, limits_by, FitsOrPast, AllFitOrPast, SharesFitOrPast, StepFitsOrPast}
+use Rattle.smt_solver.proofs.Turns.{one}
+use Rattle.std.proofs.lemmas.List.Elements.{All-append}
 use Rattle.line_laws.proofs.Differing.{Differ, none-entry}
 
 -- where the columns differ, a listed term is its column's entry
@@ -108,8 +112,36 @@ past-here i ps d sum past h e n = record {
   outside = subst (λ y. IsNotAdded y (get_or ps i d).0 (get_or ps i d).1 past) e n;
 }
 
-pub all-taken : (ps : List (ℤ × ℤ)) (i : ℕ) → length ps ≤ i → take i ps ≡ ps
-all-taken [] zero h = refl
-all-taken [] (suc i) h = refl
-all-taken (p ∷ ps) zero h = absurd (omega arith)
-all-taken (p ∷ ps) (suc i) h = ap (λ xs. p ∷ xs) (all-taken ps i (omega arith))
+-- ---- lists, gone through
+
+pub whole : {X : Type 0} (xs : List X) (i : ℕ) → length xs ≤ i → take i xs ≡ xs
+whole [] zero h = refl
+whole [] (suc i) h = refl
+whole (x ∷ xs) zero h = absurd (omega arith)
+whole (x ∷ xs) (suc i) h = ap (λ ys. x ∷ ys) (whole xs i (omega arith))
+
+last-taken : {X : Type 0} (xs : List X) (i : ℕ) (d : X) → i < length xs → take (suc i) xs ≡ take i xs ++ get_or xs i d ∷ []
+last-taken [] i d h = absurd (omega arith)
+last-taken (x ∷ xs) zero d h = refl
+last-taken (x ∷ xs) (suc i) d h = ap (λ ys. x ∷ ys) (last-taken xs i d (omega arith))
+
+pub all-more : {X : Type 0} (P : X → Type 0) (xs : List X) (i : ℕ) (d : X) → i < length xs → All P (take i xs) → P (get_or xs i d)
+    → All P (take (i + 1) xs)
+all-more P xs i d h a p =
+    subst (All P) (sym (ap (λ n. take n xs) (up i) ∙ last-taken xs i d h)) (All-append P (take i xs) (get_or xs i d ∷ []) a (one P (get_or xs i d) p))
+
+-- ---- the sums of a step
+
+pub fits-there : (products : List (ℤ × ℤ)) (o : Option Past) → o ≡ None → FitsOrPast products o → SumFits products
+fits-there products None e h = h
+fits-there products (Some p) e h = absurd cc
+
+pub all-fit-there : (atoms : List Constraint) (shares : List Share) (terms : List (ℕ × ℤ)) (o : Option Past) → o ≡ None
+    → AllFitOrPast atoms shares terms o → All (λ (t : ℕ × ℤ). SumFits (products_by atoms t.0 shares)) terms
+all-fit-there atoms shares terms None e h = h
+all-fit-there atoms shares terms (Some p) e h = absurd cc
+
+pub step-fits : (atoms : List Constraint) (shares : List Share) (o : Option Past) → SumFits (limits_by shares)
+    → SharesFitOrPast atoms shares shares o → StepFitsOrPast atoms shares o
+step-fits atoms shares None l h = (l, h)
+step-fits atoms shares (Some p) l h = (h.0, inl h.1)

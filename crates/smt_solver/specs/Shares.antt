@@ -8,6 +8,7 @@ use Rattle.kind_num.specs.declared.Past.{Past}
 use Rattle.proof_steps.specs.declared.Literal.TheVariants.{Atom}
 use Rattle.proof_steps.specs.declared.Atom.{Atom as Constraint}
 use Rattle.proof_steps.specs.View.{atom_view}
+use Rattle.proof_steps.specs.StopView.{Operation}
 use Rattle.proof_steps.specs.Meaning.{at}
 use Rattle.int_simplex.specs.Farkas.{turned}
 use Rattle.int_simplex.specs.Given.{IsInOrder}
@@ -94,3 +95,7 @@ StepFitsOrPast atoms shares (Some past) =
 
 abbrev pub AreInOrder : List Constraint → Type 0
 AreInOrder atoms = All (λ (a : Constraint). IsInOrder (atom_view a).terms) atoms
+
+-- over the row that refutes, beside which the first given one is kept
+abbrev pub a_past_step : List (ℕ × ℤ) → List (ℕ × ℤ) → Past → Operation
+a_past_step row first past = record { rows = row ∷ first ∷ []; past = past }

@@ -4,14 +4,14 @@ ghost use Rattle.std.specs.Prelude.{◌≡◌, ◌<◌, ◌^◌, ◌∷◌, [], 
 ghost use lib.IntN.{ℤ, pos, negsuc, neg_ℤ};
 ghost use lib.Signed.{◌≤ℤ◌};
 ghost use Rattle.proof_steps.specs.Meaning.{at};
-ghost use Rattle.proof_steps.specs.View.{atom_view};
+ghost use Rattle.proof_steps.specs.View.{atom_view, row_view};
 ghost use Rattle.proof_steps.specs.StopView.{past_view};
 ghost use Rattle.int_simplex.specs.Given.{IsInOrder};
 ghost use Rattle.int_simplex.specs.Farkas.{turned};
 ghost use Rattle.line_laws.specs.PastSteps.{factor_in, IsSumPast, SumFits};
 ghost use Rattle.proof_steps.specs.Rows.{entry};
 ghost use Rattle.smt_solver.specs.Near.{IsNear};
-ghost use Rattle.smt_solver.specs.Shares.{share_by, share_from, IsNotNegative, factor_at, products_by, limits_by, row_by, IsAdded, IsNotAdded, FitsOrPast, AllFitOrPast, SharesFitOrPast, StepFitsOrPast, AreInOrder};
+ghost use Rattle.smt_solver.specs.Shares.{share_by, share_from, IsNotNegative, factor_at, products_by, limits_by, row_by, IsAdded, IsNotAdded, FitsOrPast, AllFitOrPast, SharesFitOrPast, StepFitsOrPast, AreInOrder, a_past_step, terms_at};
 
 use crate::numbers::asserting::signed;
 use crate::numbers::meanings::Meaning;
@@ -164,4 +164,135 @@ fn factor_of(atoms: &[Atom], number: u32, x: u32) -> i128
         Some(atom) => factor(atom, x),
         None => 0,
     }
+}
+
+// The bounds' numbers with their limits.
+fn limit_products(alloc: Global, shares: &[Share]) -> Result<Vec<(i128, i128)>, AllocError>
+    ensures { IfOk result (λ v. v.items ≡ limits_by shares.now) }
+{
+    let mut products = Vec::new(alloc);
+    for share in shares {
+        products.push((share.number, share.limit))?;
+    }
+    Ok(products)
+}
+
+// The bounds' numbers with what their columns have of the variable.
+fn variable_products(
+    alloc: Global,
+    atoms: &[Atom],
+    shares: &[Share],
+    x: u32,
+) -> Result<Vec<(i128, i128)>, AllocError>
+    requires few { length atoms.now < 2 ^ 32 }
+    requires in_order { AreInOrder atoms.now }
+    ensures { IfOk result (λ v. v.items ≡ products_by atoms.now x shares.now) }
+{
+    let mut products = Vec::new(alloc);
+    for share in shares {
+        products.push((share.number, factor_of(atoms, share.atom, x)))?;
+    }
+    Ok(products)
+}
+
+fn variable_past(
+    alloc: Global,
+    atoms: &[Atom],
+    shares: &[Share],
+    x: u32,
+) -> Result<Option<Past>, AllocError>
+    requires few { length atoms.now < 2 ^ 32 }
+    requires in_order { AreInOrder atoms.now }
+    ensures { IfOk result (FitsOrPast (products_by atoms.now x shares.now)) }
+{
+    let products = variable_products(alloc, atoms, shares, x)?;
+    Ok(sum_past(&products))
+}
+
+// The sums of the variables of these terms.
+fn terms_past(
+    alloc: Global,
+    atoms: &[Atom],
+    shares: &[Share],
+    terms: &[(u32, i128)],
+) -> Result<Option<Past>, AllocError>
+    requires few { length atoms.now < 2 ^ 32 }
+    requires in_order { AreInOrder atoms.now }
+    ensures { IfOk result (AllFitOrPast atoms.now shares.now terms.now) }
+{
+    for (x, _) in terms {
+        if let Some(past) = variable_past(alloc, atoms, shares, *x)? {
+            return Ok(Some(past));
+        }
+    }
+    Ok(None)
+}
+
+fn share_past(
+    alloc: Global,
+    atoms: &[Atom],
+    shares: &[Share],
+    number: u32,
+) -> Result<Option<Past>, AllocError>
+    requires few { length atoms.now < 2 ^ 32 }
+    requires in_order { AreInOrder atoms.now }
+    ensures { IfOk result (AllFitOrPast atoms.now shares.now (terms_at (at atoms.now number))) }
+{
+    match atom_at(atoms, number) {
+        Some(atom) => terms_past(alloc, atoms, shares, atom.terms.as_slice()),
+        None => Ok(None),
+    }
+}
+
+// The sums of the variables of all atoms that are used.
+fn atoms_past(alloc: Global, atoms: &[Atom], shares: &[Share]) -> Result<Option<Past>, AllocError>
+    requires few { length atoms.now < 2 ^ 32 }
+    requires in_order { AreInOrder atoms.now }
+    ensures { IfOk result (SharesFitOrPast atoms.now shares.now shares.now) }
+{
+    for share in shares {
+        if let Some(past) = share_past(alloc, atoms, shares, share.atom)? {
+            return Ok(Some(past));
+        }
+    }
+    Ok(None)
+}
+
+/// The first operation of the theory step of these bounds that is outside 128 bits, if one is.
+pub fn step_past(alloc: Global, atoms: &[Atom], shares: &[Share]) -> Result<Option<Past>, AllocError>
+    requires few { length atoms.now < 2 ^ 32 }
+    requires in_order { AreInOrder atoms.now }
+    ensures { IfOk result (StepFitsOrPast atoms.now shares.now) }
+{
+    let limits = limit_products(alloc, shares)?;
+    match sum_past(&limits) {
+        Some(past) => Ok(Some(past)),
+        None => atoms_past(alloc, atoms, shares),
+    }
+}
+
+// The bounds' columns with their numbers.
+fn refuting_row(alloc: Global, shares: &[Share]) -> Result<Vec<(u32, i128)>, AllocError>
+    ensures { IfOk result (λ v. v.items ≡ row_by shares.now) }
+{
+    let mut row = Vec::new(alloc);
+    for share in shares {
+        row.push((share.column, share.number))?;
+    }
+    Ok(row)
+}
+
+/// An operation of that step, with the row that refutes and the first given one.
+pub fn past_step(
+    alloc: Global,
+    first: &Vec<(u32, i128)>,
+    shares: &[Share],
+    past: Past,
+) -> Result<PastStep, AllocError>
+    ensures { IfOk result (λ s. past_view s ≡ a_past_step (row_by shares.now) (row_view first.now) past) }
+{
+    let row = refuting_row(alloc, shares)?;
+    let given = Vec::from_slice(alloc, first)?;
+    let rows = vec![in alloc; row, given]?;
+    Ok(PastStep { rows, past })
 }
