@@ -1,5 +1,5 @@
 -- The rows of a basis determine each combination: more functions than columns depend on each other there.
-use Rattle.std.specs.Prelude.{ℕ, zero, suc, ◌≡◌, ◌≢◌, ◌⊎◌, ◌<◌, List, [], ◌∷◌, length, map, Contains, refl}
+use Rattle.std.specs.Prelude.{ℕ, zero, suc, ◌≡◌, ◌≢◌, ◌⊎◌, ◌<◌, List, [], ◌∷◌, length, Contains, refl}
 use Rattle.std.proofs.Common.{sym, ◌∙◌, ap, subst, inl, inr, arith}
 use Rattle.std.proofs.lemmas.Int.{ints}
 use Rattle.std.proofs.lemmas.List.{length-map}
@@ -8,8 +8,8 @@ use Rattle.kind_num.proofs.Ring.{times_sum, sum_times, neg_times, times_neg, tim
 use Rattle.proof_steps.specs.Rows.{IsRow, IsBasis, AllDiffer, combined}
 use Rattle.int_simplex.specs.Given.{AreGiven, last_column, last_columns}
 use Rattle.int_simplex.specs.Inner.{IsCombination, IsFree}
-use Rattle.int_simplex.proofs.Algebra.{product_zero, difference_zero}
-use Rattle.int_simplex.proofs.Apart.{AreApart, apart, made_combination}
+use Rattle.int_simplex.proofs.Algebra.{product_zero}
+use Rattle.int_simplex.proofs.Apart.{apart, made_combination}
 use Rattle.int_simplex.proofs.Combos.{crossed-combination}
 use Rattle.int_simplex.proofs.First.{free_first}
 
@@ -199,10 +199,10 @@ depend (l ∷ ls) vs h = elim (pick l vs) [
       let t = sum d.multipliers p.others l in
       let b = p.back (neg_ℤ t) (scaled (p.one l) d.multipliers) (scaled-length (p.one l) d.multipliers ∙ n) in
       let same : (c : ℕ) → sum b.0 vs c ≡ sum d.multipliers (all_without p.one l p.others) c = λ c.
-          let w = without-sum p.one l d.multipliers p.others c in
-          let s = scaled-sum (p.one l) d.multipliers p.others c in
-          let g = neg_times t (p.one c) in
-          let e = b.3 c in omega (arith, ints) in
+      let w = without-sum p.one l d.multipliers p.others c in
+      let s = scaled-sum (p.one l) d.multipliers p.others c in
+      let g = neg_times t (p.one c) in
+      let e = b.3 c in omega (arith, ints) in
       record {
         multipliers = b.0;
         count = b.1;
@@ -321,8 +321,8 @@ module _ (given : List (List (ℕ × ℤ))) (columns : ℕ) (basis : List ℕ) (
           (crossed-combination given m (negsuc 0) e (sum ms fs) (sum (m ∷ ms) (e ∷ fs)) (λ c. less m (e c) (sum ms fs c))
           combination (sum-combination ms basis fs own)) v in
           let rest : (b : ℕ) → Contains basis b → sum ms fs b ≡ pos 0 = λ b i.
-              let w : m *ℤ e b +ℤ sum ms fs b ≡ pos 0 = whole b in
-              let z : m *ℤ e b ≡ pos 0 = ap (λ y. m *ℤ y) (none b i) ∙ *ℤ-zero m in omega (arith, ints) in
+          let w : m *ℤ e b +ℤ sum ms fs b ≡ pos 0 = whole b in
+          let z : m *ℤ e b ≡ pos 0 = ap (λ y. m *ℤ y) (none b i) ∙ *ℤ-zero m in omega (arith, ints) in
           elim (zero-or m) [
             | inl z ↦ absurd (all-zero ms basis fs own (omega arith) is.different (λ b i. i) rest (other z h))
             | inr z ↦ elim (others ms) [

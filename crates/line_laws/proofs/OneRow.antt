@@ -4,19 +4,18 @@ use Rattle.std.specs.Prelude.{ℕ, zero, suc, ◌≡◌, ◌≢◌, ◌⊎◌, �
 use Rattle.std.proofs.Common.{sym, ◌∙◌, ap, subst, inl, inr, arith}
 use Rattle.std.proofs.lemmas.Int.{ints}
 use Rattle.std.proofs.lemmas.Bool.Decides.{nat_tests}
-use Rattle.std.proofs.lemmas.List.{length-map}
 use Rattle.std.proofs.lemmas.List.Elements.{All-nil, All-cons}
-use lib.IntN.{ℤ, pos, negsuc, ◌+ℤ◌, ◌-ℤ◌, ◌*ℤ◌, neg_ℤ, *ℤ-zero, zero-*ℤ, *ℤ_comm}
-use lib.Signed.{◌≤ℤ◌, ◌<ℤ◌}
+use lib.IntN.{ℤ, pos, negsuc, ◌+ℤ◌, ◌-ℤ◌, ◌*ℤ◌, neg_ℤ, zero-*ℤ, *ℤ_comm}
+use lib.Signed.{◌<ℤ◌}
 use Rattle.kind_num.proofs.Ring.{neg_times, times_neg}
-use Rattle.proof_steps.specs.Rows.{IsRow, IsBasis, AllDiffer, combined, entry}
+use Rattle.proof_steps.specs.Rows.{IsRow, AllDiffer, combined, entry}
 use Rattle.proof_steps.specs.Stopped.{Row, IsRowOf, signed}
 use Rattle.int_simplex.specs.Given.{AreGiven, last_column}
-use Rattle.int_simplex.specs.Inner.{IsCombination, IsRowAt, IsFree, read_off}
+use Rattle.int_simplex.specs.Inner.{IsCombination, IsRowAt, read_off}
 use Rattle.int_simplex.specs.State.{Standing}
 use Rattle.int_simplex.specs.Farkas.{turned, weight, limits, IsOfOneRow}
-use Rattle.int_simplex.proofs.Algebra.{product_zero, same_multiple, difference_zero, difference_swapped}
-use Rattle.int_simplex.proofs.Apart.{AreApart, apart, made_combination, read_off_is}
+use Rattle.int_simplex.proofs.Algebra.{same_multiple, difference_zero, difference_swapped}
+use Rattle.int_simplex.proofs.Apart.{apart, made_combination, read_off_is}
 use Rattle.int_simplex.proofs.Combos.{crossed-combination, row_at_is}
 use Rattle.int_simplex.proofs.Moves.{signed_row}
 use Rattle.line_laws.proofs.Dependent.{basis_free}

@@ -4,24 +4,22 @@ use Rattle.std.specs.List.{AllByRecursion}
 use Rattle.std.proofs.Common.{sym, ◌∙◌, ap, subst, inl, inr, arith}
 use Rattle.std.proofs.lemmas.Int.{ints}
 use Rattle.std.proofs.lemmas.List.{length-map}
-use Rattle.std.proofs.lemmas.List.Elements.{All-nil, All-cons, All-contains, All-from_recursion, recursion_from_All}
+use Rattle.std.proofs.lemmas.List.Elements.{All-nil, All-cons, All-contains, All-from_recursion}
 use Rattle.std.proofs.lemmas.Option.{slice_get_within}
 use lib.IntN.{ℤ, pos, negsuc, ◌+ℤ◌, ◌*ℤ◌, neg_ℤ, *ℤ-zero, +ℤ_idr}
-use lib.Signed.{◌<ℤ◌}
 use Rattle.kind_num.specs.Exact.{within}
 use Rattle.kind_num.specs.declared.Op.TheVariants.{Add, Mul}
 use Rattle.kind_num.specs.declared.Past.{Past}
 use Rattle.proof_steps.specs.Rows.{Form, AllDiffer, entry, rows_of, columns_of}
-use Rattle.proof_steps.specs.StopView.{Operation}
-use Rattle.proof_steps.specs.Stopped.{Row, IsRowOf, IsNumberOf, IsOfOther, IsFactor, Product, IsProduct, AreOperands, IsPastStep, numbers, total, signed, result_of}
+use Rattle.proof_steps.specs.Stopped.{Row, IsRowOf, IsNumberOf, IsOfOther, IsFactor, Product, IsProduct, AreOperands, IsPastStep, numbers, total, result_of}
 use Rattle.int_simplex.specs.Given.{last_column, last_columns}
-use Rattle.int_simplex.specs.Inner.{IsRowAt, read_off}
+use Rattle.int_simplex.specs.Inner.{read_off}
 use Rattle.int_simplex.specs.Farkas.{weight}
 use Rattle.int_simplex.proofs.Apart.{end-at}
 use Rattle.int_simplex.proofs.Combos.{row_at_is}
 use Rattle.int_simplex.proofs.First.{row_first}
 use Rattle.int_simplex.proofs.Opposites.{first_basis, given_differ}
-use Rattle.int_simplex.proofs.Places.{mapped_at, get-append, listed_at, same_some}
+use Rattle.int_simplex.proofs.Places.{mapped_at, get-append, listed_at}
 use Rattle.line_laws.specs.Lines.{Part, multipliers_of, bounds_of}
 use Rattle.line_laws.specs.Steps.{numbered}
 use Rattle.line_laws.specs.PastSteps.{number_of, refuting_row, factor_in, products_of, limit_products, sum_in, IsOutside, IsSumPast, IsAllowed, AreRefutedBy}
@@ -185,14 +183,20 @@ module _ (factor : Part → ℤ) where
     by-product : (k : ℕ) (p : Part) → slice_get all k ≡ Some p → (past : Past)
         → IsOutside Mul (number_of p) (factor p) (number_of p *ℤ factor p) past → Shows past
     by-product k p e past o =
-        subst Shows (sym o.0) ((
-          one_at k p,
-          record { of_row = stands k p e; by_factor = by_factor k p e (λ z.
-              let w : within (number_of p *ℤ factor p) ≡ true =
-              subst (λ y. within y ≡ true) (sym (ap (λ y. number_of p *ℤ y) z ∙ *ℤ-zero (number_of p))) nought in
-              let q : true ≡ false = sym w ∙ o.1 in absurd cc) },
-          inl (refl, refl),
-        ), o.1)
+        subst Shows (sym o.0) (
+          (
+            one_at k p,
+            record {
+              of_row = stands k p e;
+              by_factor = by_factor k p e (λ z.
+                  let w : within (number_of p *ℤ factor p) ≡ true =
+                  subst (λ y. within y ≡ true) (sym (ap (λ y. number_of p *ℤ y) z ∙ *ℤ-zero (number_of p))) nought in
+                  let q : true ≡ false = sym w ∙ o.1 in absurd cc);
+            },
+            inl (refl, refl),
+          ),
+          o.1,
+        )
 
     none : (n : ℕ) → n ≡ 0 + n
     none n = omega arith
@@ -205,16 +209,19 @@ module _ (factor : Part → ℤ) where
         let whole : made 0 (take k all) ++ made k (p ∷ []) ≡ made 0 (take (suc k) all) =
         ap (λ j. made 0 (take k all) ++ made j (p ∷ [])) (sym t.1 ∙ none (length (take k all))) ∙ sym (made-append 0 (take k all) (p ∷ []))
         ∙ ap (made 0) t.0 in
-        subst Shows (sym o.0) ((
-          made 0 (take k all),
-          made k (p ∷ []),
-          subst (All (IsProduct others rows 0 r)) (sym whole)
-              (All-from_recursion (IsProduct others rows 0 r) (made 0 (take (suc k) all))
-              (products 0 (take (suc k) all) (λ j q x. subst (λ i. slice_get all i ≡ Some q) (none j) (taken-at (suc k) j all q x)))),
-          subst (λ ps. AllDiffer (map place_in ps)) (sym whole) (differ 0 (take (suc k) all)),
-          sym (total-made 0 (take k all)),
-          sym (+ℤ_idr (number_of p *ℤ factor p)) ∙ sym (total-made k (p ∷ [])),
-        ), o.1)
+        subst Shows (sym o.0) (
+          (
+            made 0 (take k all),
+            made k (p ∷ []),
+            subst (All (IsProduct others rows 0 r)) (sym whole)
+                (All-from_recursion (IsProduct others rows 0 r) (made 0 (take (suc k) all))
+                (products 0 (take (suc k) all) (λ j q x. subst (λ i. slice_get all i ≡ Some q) (none j) (taken-at (suc k) j all q x)))),
+            subst (λ ps. AllDiffer (map place_in ps)) (sym whole) (differ 0 (take (suc k) all)),
+            sym (total-made 0 (take k all)),
+            sym (+ℤ_idr (number_of p *ℤ factor p)) ∙ sym (total-made k (p ∷ [])),
+          ),
+          o.1,
+        )
 
     pub shown : (past : Past) → IsSumPast (items all) past → Shows past
     shown past s =

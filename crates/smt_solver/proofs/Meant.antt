@@ -1,17 +1,15 @@
 -- What atoms mean, one after the other.
-use Rattle.std.specs.Prelude.{ℕ, zero, suc, ◌≡◌, ◌≢◌, ◌+◌, ◌<◌, ◌≤◌, ◌^◌, Bool, true, false, cond, List, [], ◌∷◌, ◌++◌, length, map, take, get_or, nat_lt, not, Option, Some, None, Ok, Err, All, Contains, unsigned_abs, refl}
+use Rattle.std.specs.Prelude.{ℕ, zero, suc, ◌≡◌, ◌+◌, ◌<◌, Bool, true, false, List, [], ◌∷◌, ◌++◌, length, map, take, get_or, not, Option, Some, None, Err, All, Contains, unsigned_abs, refl}
 use Rattle.std.specs.Int.{int_div_euclid}
 use Rattle.std.specs.List.{AllByRecursion}
 use Rattle.std.proofs.Common.{sym, ◌∙◌, ap, subst, inl, inr, arith}
 use Rattle.std.proofs.lemmas.Int.{ints}
 use Rattle.std.proofs.lemmas.List.{append_assoc, append-nil}
 use Rattle.std.proofs.lemmas.List.Elements.{Contains-append_left, Contains-append_right, Contains-append_cases, All-contains}
-use lib.IntN.{ℤ, pos, negsuc, ◌+ℤ◌, ◌-ℤ◌, ◌*ℤ◌, neg_ℤ}
-use lib.Signed.{◌≤ℤ◌, ◌<ℤ◌}
-use Rattle.kind_num.specs.Division.{IsFloor}
+use lib.IntN.{ℤ, pos, negsuc, neg_ℤ}
+use lib.Signed.{◌<ℤ◌}
 use Rattle.proof_steps.specs.View.{Inequality}
-use Rattle.proof_steps.specs.Rows.{is_long}
-use Rattle.proof_steps.specs.Bounds.{Bound, bound_by, bound_of_sum, bounds_from}
+use Rattle.proof_steps.specs.Bounds.{bound_by, bounds_from}
 use Rattle.int_simplex.specs.Farkas.{Refutes}
 use Rattle.proof_steps.specs.declared.Literal.TheVariants.{Atom}
 use Rattle.proof_steps.specs.Meaning.{as_said}
@@ -27,7 +25,7 @@ use Rattle.line_laws.specs.Steps.{standing}
 use Rattle.sat_core.specs.Trail.{value_of}
 use Rattle.sat_core.specs.declared.assigned.Assigned.{Assigned}
 use Rattle.smt_solver.specs.declared.numbers.meanings.Meaning.{Meaning}
-use Rattle.smt_solver.specs.Sums.{meaning_view, all_meant, all_divisors, divisor_in}
+use Rattle.smt_solver.specs.Sums.{all_meant, all_divisors, divisor_in}
 use Rattle.smt_solver.specs.Asserting.{signed_bound, bound_by_value, bound_at, bounds_at, both_parts, IsAssertedBy, AreAssertedBy}
 use Rattle.smt_solver.specs.Near.{IsNear, IsMeasured}
 use Rattle.smt_solver.proofs.Turns.{all-of}
@@ -110,23 +108,23 @@ pub crossed-as : (trail : List Assigned) (old new : State) (n : ℕ) (m : Meanin
     → x ≡ Crosses f → IsAsserted old new (a_bound m.column u z n) (Err x) → tightest new.bounds m.column (not u) ≡ Some w
     → IsAssertedBy trail old new n m (Some w.1)
 crossed-as trail old new n m sign u z f x w v e g q h t =
-  let a : IsAsserted old new (a_bound m.column u z n) (Err (Crosses f)) =
-  subst (λ y. IsAsserted old new (a_bound m.column u z n) (Err y)) q h in (
-  a.2,
-  subst (λ bs. Refutes old.given (old.bounds ++ bs) (both_parts w.1 n))
-      (ap (λ b. b ∷ []) (same sign m e g) ∙ sym (ap (λ o. bound_by_value o n m) v))
-      (crossing_refutes old.given old.bounds (a_bound m.column u z n) w.1 a.0
-      (sym (ap literal_in (ap (λ (s : State). tightest s.bounds m.column (as_said u false)) (sym a.2)
-      ∙ ap (tightest new.bounds m.column) (other u) ∙ t)))),
-) where
-  other : (u : Bool) → as_said u false ≡ not u
-  other true = refl
-  other false = refl
+    let a : IsAsserted old new (a_bound m.column u z n) (Err (Crosses f)) =
+    subst (λ y. IsAsserted old new (a_bound m.column u z n) (Err y)) q h in (
+      a.2,
+      subst (λ bs. Refutes old.given (old.bounds ++ bs) (both_parts w.1 n))
+          (ap (λ b. b ∷ []) (same sign m e g) ∙ sym (ap (λ o. bound_by_value o n m) v))
+          (crossing_refutes old.given old.bounds (a_bound m.column u z n) w.1 a.0
+          (sym (ap literal_in (ap (λ (s : State). tightest s.bounds m.column (as_said u false)) (sym a.2)
+          ∙ ap (tightest new.bounds m.column) (other u) ∙ t)))),
+    ) where
+      other : (u : Bool) → as_said u false ≡ not u
+      other true = refl
+      other false = refl
 
-  same : (s : Bool) (m : Meaning) → u ≡ (signed_bound s m).upper → z ≡ (signed_bound s m).limit
-      → a_bound m.column u z n ≡ standing n (signed_bound s m)
-  same true m e g = ap (λ b. a_bound m.column b z n) e ∙ ap (λ y. a_bound m.column (signed_bound true m).upper y n) g
-  same false m e g = ap (λ b. a_bound m.column b z n) e ∙ ap (λ y. a_bound m.column (signed_bound false m).upper y n) g
+      same : (s : Bool) (m : Meaning) → u ≡ (signed_bound s m).upper → z ≡ (signed_bound s m).limit
+          → a_bound m.column u z n ≡ standing n (signed_bound s m)
+      same true m e g = ap (λ b. a_bound m.column b z n) e ∙ ap (λ y. a_bound m.column (signed_bound true m).upper y n) g
+      same false m e g = ap (λ b. a_bound m.column b z n) e ∙ ap (λ y. a_bound m.column (signed_bound false m).upper y n) g
 
 abbrev with_bounds : State → List Standing → State
 with_bounds s bounds = record {

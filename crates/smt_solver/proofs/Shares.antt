@@ -1,12 +1,11 @@
 -- The sums of a step in the words of the code.
-use Rattle.std.specs.Prelude.{ℕ, zero, suc, ◌≡◌, ◌≢◌, ◌⊎◌, ◌==◌, ◌+◌, ◌-◌, ◌<◌, ◌≤◌, Bool, true, false, cond, List, [], ◌∷◌, ◌++◌, length, map, take, drop, get_or, All, Option, Some, None, Contains, slice_get, refl}
+use Rattle.std.specs.Prelude.{ℕ, zero, suc, ◌≡◌, ◌⊎◌, ◌==◌, ◌+◌, ◌<◌, ◌≤◌, true, cond, List, [], ◌∷◌, ◌++◌, length, take, drop, get_or, All, Option, Some, None, slice_get, refl}
 use Rattle.std.proofs.Common.{sym, ◌∙◌, ap, subst, inl, inr, arith}
 use Rattle.std.proofs.lemmas.Int.{ints}
 use Rattle.std.proofs.lemmas.Bool.Decides.{nat_tests}
-use lib.IntN.{ℤ, pos, negsuc, ◌+ℤ◌, ◌*ℤ◌, +ℤ_idr, +ℤ_comm}
+use lib.IntN.{ℤ, pos, ◌+ℤ◌, ◌*ℤ◌, +ℤ_idr, +ℤ_comm}
 use Rattle.kind_num.specs.Exact.{within}
 use Rattle.kind_num.specs.declared.Past.{Past}
-use Rattle.proof_steps.specs.Meaning.{at}
 use Rattle.proof_steps.specs.Rows.{entry}
 use Rattle.line_laws.specs.PastSteps.{sum_in, SumFits, IsSumPast}
 use Rattle.proof_steps.specs.declared.Atom.{Atom as Constraint}

@@ -1,5 +1,5 @@
 -- Stops of a tableau's check are stops of the query.
-use Rattle.std.specs.Prelude.{ℕ, zero, suc, ◌≡◌, ◌≢◌, ◌⊎◌, ◌+◌, ◌-◌, ◌<◌, ◌≤◌, Bool, true, false, cond, List, [], ◌∷◌, ◌++◌, length, map, slice_get, Option, Some, None, All, Contains, refl}
+use Rattle.std.specs.Prelude.{ℕ, zero, suc, ◌≡◌, ◌≢◌, ◌⊎◌, ◌+◌, ◌-◌, ◌<◌, ◌≤◌, Bool, true, false, cond, List, [], ◌∷◌, ◌++◌, length, map, slice_get, Option, Some, All, Contains, refl}
 use Rattle.std.specs.List.{AllByRecursion}
 use Rattle.std.proofs.Common.{sym, ◌∙◌, ap, subst, inl, inr, arith}
 use Rattle.std.proofs.lemmas.Int.{ints}
@@ -12,25 +12,22 @@ use Rattle.kind_num.specs.declared.Op.TheVariants as op
 use Rattle.proof_steps.specs.declared.Literal.TheVariants as l
 use Rattle.proof_steps.specs.View.{Inequality}
 use Rattle.proof_steps.specs.Rows.{Form, IsBasis, AllDiffer, is_long, rows_of, columns_of}
-use Rattle.proof_steps.specs.Bounds.{Bound, opposite_bound, bound_by, bound_if, bounds_from, bound_of_literal, split_atom, atoms_with, IsBound}
+use Rattle.proof_steps.specs.Bounds.{Bound, opposite_bound, bound_if, bounds_from, split_atom, IsBound}
 use Rattle.proof_steps.specs.Pivots.{CanPivot, ArePlaces, first_position}
-use Rattle.proof_steps.specs.StopView.{Beginning, Operation}
+use Rattle.proof_steps.specs.StopView.{Operation}
 use Rattle.proof_steps.specs.Stopped.{IsLong, IsNumberOf, IsLimit, IsSplitEnd, IsPastStep, IsProduct, IsFactor, AreOperands, Product, Row, bound_view}
 use Rattle.proof_checker.proofs.Quotients.{quotient_one}
 use Rattle.int_simplex.specs.State.{Standing as Limit, State, places_of, top_of, is_in, outside_from, plain, beginning}
 use Rattle.int_simplex.specs.Answers.{IsLong as IsLongFrom, IsNumberOf as IsNumberIn}
-use Rattle.int_simplex.proofs.Places.{listed_at, same_some, mapped_at}
-use Rattle.int_simplex.proofs.Sparse.{by_test}
+use Rattle.int_simplex.proofs.Places.{listed_at, mapped_at}
 use Rattle.int_simplex.proofs.Starts.{is_in_no, in_no}
-use Rattle.line_laws.specs.Steps.{standing}
 use Rattle.sat_core.specs.declared.assigned.Assigned.{Assigned}
 use Rattle.smt_solver.specs.declared.numbers.meanings.Meaning.{Meaning}
-use Rattle.smt_solver.specs.Sums.{meaning_view, all_meant}
-use Rattle.smt_solver.specs.Asserting.{signed_bound, bounds_at}
-use Rattle.smt_solver.specs.Growing.{grown}
+use Rattle.smt_solver.specs.Sums.{meaning_view}
+use Rattle.smt_solver.specs.Asserting.{signed_bound}
 use Rattle.smt_solver.specs.Stops.{IsTableauFor}
 use Rattle.smt_solver.proofs.Turns.{all-of}
-use Rattle.smt_solver.proofs.Conflicting.{IsBoundAt, bound-in, signed-if}
+use Rattle.smt_solver.proofs.Conflicting.{IsBoundAt, bound-in}
 use Rattle.smt_solver.proofs.NumberValued.{some-at}
 use Rattle.smt_solver.proofs.SplitTruth.{split-bound, below-or}
 

@@ -259,7 +259,11 @@ fn atoms_past(alloc: Global, atoms: &[Atom], shares: &[Share]) -> Result<Option<
 }
 
 /// The first operation of the theory step of these bounds that is outside 128 bits, if one is.
-pub fn step_past(alloc: Global, atoms: &[Atom], shares: &[Share]) -> Result<Option<Past>, AllocError>
+pub fn step_past(
+    alloc: Global,
+    atoms: &[Atom],
+    shares: &[Share],
+) -> Result<Option<Past>, AllocError>
     requires few { length atoms.now < 2 ^ 32 }
     requires in_order { AreInOrder atoms.now }
     ensures { IfOk result (StepFitsOrPast atoms.now shares.now) }

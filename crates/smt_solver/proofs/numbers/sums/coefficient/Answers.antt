@@ -1,7 +1,6 @@
 use Rattle.std.specs.Int.{w128}
 use Rattle.std.specs.Prelude.{get_or, refl}
-use Rattle.std.proofs.Common.{rules, sym, ◌∙◌, arith}
-use Rattle.std.proofs.lemmas.Bool.Decides.{nat_tests}
+use Rattle.std.proofs.Common.{rules, sym, ◌∙◌}
 use Rattle.std.proofs.lemmas.Int.{to_z-of_z}
 use mir.Val.{SFits}
 use lib.IntN.{pos}

@@ -1,5 +1,5 @@
-use Rattle.std.specs.Prelude.{◌≡◌, ◌++◌, map, drop, All}
-use Rattle.smt_solver.specs.Shares.{share_by, IsNotNegative}
+use Rattle.std.specs.Prelude.{◌≡◌, ◌++◌, map, drop}
+use Rattle.smt_solver.specs.Shares.{share_by}
 use Rattle.smt_solver.proofs.numbers.sums.shares.Given as goal
 
 abbrev pub invariant-loop-multiplier : goal.invariant-loop-multiplier
