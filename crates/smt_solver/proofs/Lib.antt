@@ -16,3 +16,4 @@ pub mod Conflicting
 pub mod NumberValued
 pub mod SplitTruth
 pub mod StopTruth
+pub mod Refuting

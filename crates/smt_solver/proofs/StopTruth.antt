@@ -199,7 +199,7 @@ module _ (f : Form) (pairs : List (ℕ × ℤ)) (ms : List Meaning) (trail : Lis
         bound-is : (a c : Bound) → Some (Some a) ≡ Some (Some c) → a ≡ c
         bound-is a c e = cc
 
-  limit-number : (b : Limit) → Contains t.bounds b → IsNumberOf f pairs b.limit
+  pub limit-number : (b : Limit) → Contains t.bounds b → IsNumberOf f pairs b.limit
   limit-number b i =
       let a = source b i in
       let e : b.limit ≡ (signed_bound a.sign a.meaning).limit = ap (λ (c : Limit). c.limit) a.is_bound in

@@ -13,4 +13,5 @@ pub mod Shares
 pub mod States
 pub mod Stops
 pub mod Sums
+pub mod Turning
 pub mod Used

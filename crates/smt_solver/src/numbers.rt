@@ -6,3 +6,4 @@ pub mod rows;
 pub mod states;
 pub mod steps;
 pub mod sums;
+pub mod turns;
