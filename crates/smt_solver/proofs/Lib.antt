@@ -17,3 +17,4 @@ pub mod NumberValued
 pub mod SplitTruth
 pub mod StopTruth
 pub mod Refuting
+pub mod SplittingOff

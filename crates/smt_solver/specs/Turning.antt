@@ -1,5 +1,5 @@
 -- What a refutation of a tableau's check makes of a run.
-use Rattle.std.specs.Prelude.{ℕ, suc, ◌≡◌, Bool, true, false, List, length, map, All, Contains, Option, Some, None, slice_get}
+use Rattle.std.specs.Prelude.{ℕ, suc, ◌≡◌, Bool, true, false, List, [], ◌∷◌, length, map, All, Contains, Option, Some, None, slice_get}
 use lib.IntN.{ℤ, pos}
 use Rattle.proof_steps.specs.declared.stops.PastStep.{PastStep}
 use Rattle.proof_steps.specs.StopView.{past_view}
@@ -13,6 +13,7 @@ use Rattle.int_simplex.specs.Farkas.{IsRefuted}
 use Rattle.line_laws.specs.Lines.{meant}
 use Rattle.line_laws.specs.Steps.{HasProducts}
 use Rattle.smt_solver.specs.declared.numbers.meanings.Meaning.{Meaning}
+use Rattle.smt_solver.specs.Conflicting.{AreMeaningsOf}
 use Rattle.smt_solver.specs.Growing.{grown}
 use Rattle.smt_solver.specs.Run.{Standing, IsRun}
 use Rattle.smt_solver.specs.Stops.{IsTableauFor}
@@ -44,3 +45,11 @@ TurnsRefutation old new ms first parts None = IsCounted old new
 TurnsRefutation old new ms first parts (Some step) =
     (f : Form) (pairs : List (ℕ × ℤ)) (t : State) → IsRefutedFor f pairs old ms t parts → slice_get t.given 0 ≡ Some first
     → IsPastStep (rows_of f) (columns_of f) (IsNumberOf f pairs) (past_view step)
+
+-- the atom `x <= c` stands behind the others with what it means, and the clause that it or its opposite is
+-- true is added and not listed
+pub record IsSplitOff (x : ℕ) (c : ℤ) (old new : Standing) (ms : List Meaning) : Type 0 where
+  pub run : IsRun new
+  pub form : new.form ≡ grown old.form (split_atom (x, c) ∷ [])
+  pub listed : new.listed ≡ old.listed
+  pub meanings : AreMeaningsOf new.form ms
