@@ -18,3 +18,4 @@ pub mod SplitTruth
 pub mod StopTruth
 pub mod Refuting
 pub mod SplittingOff
+pub mod Crossed

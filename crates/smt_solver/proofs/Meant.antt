@@ -1,13 +1,17 @@
 -- What atoms mean, one after the other.
-use Rattle.std.specs.Prelude.{ℕ, zero, suc, ◌≡◌, ◌+◌, ◌<◌, Bool, true, false, List, [], ◌∷◌, ◌++◌, length, map, take, get_or, not, Option, Some, None, Err, All, Contains, unsigned_abs, refl}
+use Rattle.std.specs.Prelude.{ℕ, ◌^◌, zero, suc, ◌≡◌, ◌+◌, ◌<◌, Bool, true, false, List, [], ◌∷◌, ◌++◌, length, map, take, get_or, not, Option, Some, None, Err, All, Contains, unsigned_abs, refl}
 use Rattle.std.specs.Int.{int_div_euclid}
 use Rattle.std.specs.List.{AllByRecursion}
 use Rattle.std.proofs.Common.{sym, ◌∙◌, ap, subst, inl, inr, arith}
 use Rattle.std.proofs.lemmas.Int.{ints}
 use Rattle.std.proofs.lemmas.List.{append_assoc, append-nil}
 use Rattle.std.proofs.lemmas.List.Elements.{Contains-append_left, Contains-append_right, Contains-append_cases, All-contains}
-use lib.IntN.{ℤ, pos, negsuc, neg_ℤ}
-use lib.Signed.{◌<ℤ◌}
+use lib.IntN.{ℤ, pos, negsuc, ◌+ℤ◌, ◌*ℤ◌, neg_ℤ, *ℤ-zero}
+use lib.Signed.{◌≤ℤ◌, ◌<ℤ◌}
+use Rattle.kind_num.specs.Division.{IsFloor}
+use Rattle.kind_num.proofs.Ring.{times_sum, sum_times, times_le}
+use Rattle.int_simplex.proofs.First.{times-one}
+use Rattle.line_laws.proofs.OwnLines.{one-times}
 use Rattle.proof_steps.specs.View.{Inequality}
 use Rattle.proof_steps.specs.Bounds.{bound_by, bounds_from}
 use Rattle.int_simplex.specs.Farkas.{Refutes}
@@ -172,3 +176,41 @@ module _ (trail : List Assigned) (s t u : State) (ms : List Meaning) (k : ℕ) (
   ) where
     is : (x y : ℕ) → Some x ≡ Some y → x ≡ y
     is x y e = cc
+
+-- ---- quotients are not larger
+
+split-product : (k : ℕ) (q : ℤ) → pos (suc k) *ℤ q ≡ pos k *ℤ q +ℤ q
+split-product k q =
+    let a : (pos k +ℤ pos 1) *ℤ q ≡ pos k *ℤ q +ℤ pos 1 *ℤ q = times_sum (pos k) (pos 1) q in
+    let b : pos 1 *ℤ q ≡ q = one-times q in
+    let d : pos (suc k) ≡ pos k +ℤ pos 1 = omega (arith, ints) in
+    let e : pos (suc k) *ℤ q ≡ (pos k +ℤ pos 1) *ℤ q = ap (λ z. z *ℤ q) d in omega (arith, ints)
+
+quotient-room : (b d q : ℤ) → pos 0 <ℤ d → IsFloor b d q → unsigned_abs b < 2 ^ 100
+    → (neg_ℤ (pos (2 ^ 100)) <ℤ q) × (q <ℤ pos (2 ^ 100))
+quotient-room b (pos zero) q h f l = absurd (omega (arith, ints))
+quotient-room b (negsuc k) q h f l = absurd (omega (arith, ints))
+quotient-room b (pos (suc k)) (pos n) h f l =
+    let a : (pos k *ℤ pos 0) ≤ℤ (pos k *ℤ pos n) = times_le k (pos 0) (pos n) (omega (arith, ints)) in
+    let z : pos k *ℤ pos 0 ≡ pos 0 = *ℤ-zero (pos k) in
+    let p = split-product k (pos n) in
+    let m = f.at_most in let r = size-room b (2 ^ 100) l in let s = r.1 in
+    (omega (arith, ints), omega (arith, ints))
+quotient-room b (pos (suc k)) (negsuc n) h f l =
+    let a : (pos k *ℤ (negsuc n +ℤ pos 1)) ≤ℤ (pos k *ℤ pos 0) = times_le k (negsuc n +ℤ pos 1) (pos 0) (omega (arith, ints)) in
+    let z : pos k *ℤ pos 0 ≡ pos 0 = *ℤ-zero (pos k) in
+    let w : pos k *ℤ (negsuc n +ℤ pos 1) ≡ pos k *ℤ negsuc n +ℤ pos k *ℤ pos 1 = sum_times (pos k) (negsuc n) (pos 1) in
+    let v : pos k *ℤ pos 1 ≡ pos k = times-one (pos k) in
+    let p = split-product k (negsuc n) in
+    let m = f.greatest in let r = size-room b (2 ^ 100) l in let s = r.0 in
+    (omega (arith, ints), omega (arith, ints))
+
+pub near-lower : (x : ℕ) (b d q y e : ℤ) → pos 0 <ℤ d → IsFloor b d q → unsigned_abs b < 2 ^ 100 → y ≡ neg_ℤ q
+    → IsNear record { column = x; upper = false; limit = y; divisor = e }
+near-lower x b d q y e h f l w =
+    let r = quotient-room b d q h f l in
+    let low = r.0 in let high = r.1 in record {
+      above = omega (arith, ints);
+      below = omega (arith, ints);
+      lower = λ t. omega (arith, ints);
+    }

@@ -103,6 +103,21 @@ view-at (a ∷ atoms) (suc zero) i e = (a, refl, is (atom_view a) i e) where
   is x y e = cc
 view-at (a ∷ atoms) (suc (suc n)) i e = view-at atoms (suc n) i e
 
+-- what the literal of a part means fits
+pub meaning-of-part : (g : Form) → All HasMeanings g.atoms → (p : Part) → IsPart g p → HasMeanings p.atom
+meaning-of-part g m p h = All-contains HasMeanings g.atoms p.atom m (there g.atoms p.bound.literal p.atom h.named) where
+  there : (xs : List Inequality) (n : ℕ) (i : Inequality) → at xs n ≡ Some i → Contains xs i
+  there xs zero i e = absurd cc
+  there xs (suc n) i e = listed_at xs n i e
+
+pub meanings-fit : (g : Form) → All HasMeanings g.atoms → (ps : List Part) → AllByRecursion (IsPart g) ps
+    → AllByRecursion (λ (p : Part). HasProducts (pos 1) (meant p.sign p.atom)) ps
+meanings-fit g m [] h = tt
+meanings-fit g m (p ∷ ps) h = (signed p.sign (meaning-of-part g m p h.0), meanings-fit g m ps h.1) where
+  signed : (b : Bool) → HasMeanings p.atom → HasProducts (pos 1) (meant b p.atom)
+  signed true a = a.as_it_stands
+  signed false a = a.opposite
+
 module _ (g : Form) (atoms : List Constraint) (same : map atom_view atoms ≡ g.atoms) where
   named-at : (p : Part) → IsPart g p → (a : Constraint) × (at atoms p.bound.literal ≡ Some a) × (atom_view a ≡ p.atom)
   named-at p h = view-at atoms p.bound.literal p.atom (ap (λ xs. at xs p.bound.literal) same ∙ h.named)
@@ -201,24 +216,12 @@ module _ (g : Form) (atoms : List Constraint) (same : map atom_view atoms ≡ g.
 
   -- ---- the step is taken
 
-  meanings-fit : All HasMeanings g.atoms → (ps : List Part) → AllByRecursion (IsPart g) ps
-      → AllByRecursion (λ (p : Part). HasProducts (pos 1) (meant p.sign p.atom)) ps
-  meanings-fit m [] h = tt
-  meanings-fit m (p ∷ ps) h = (signed p.sign (All-contains HasMeanings g.atoms p.atom m (there g.atoms p.bound.literal p.atom h.0.named)), meanings-fit m ps h.1) where
-    signed : (b : Bool) → HasMeanings p.atom → HasProducts (pos 1) (meant b p.atom)
-    signed true a = a.as_it_stands
-    signed false a = a.opposite
-
-    there : (xs : List Inequality) (n : ℕ) (i : Inequality) → at xs n ≡ Some i → Contains xs i
-    there xs zero i e = absurd cc
-    there xs (suc n) i e = listed_at xs n i e
-
   pub fits : FittingSumsFit → All HasMeanings g.atoms → (ps : List Part) → RefuteEachOther g ps
       → StepFitsOrPast atoms (map share_of ps) None → OperationsFit ps
   fits law m ps h f =
       let a = recursion_from_All (IsPart g) ps h.are_parts in
       law g ps h
-      (All-from_recursion (λ (p : Part). HasProducts (pos 1) (meant p.sign p.atom)) ps (meanings-fit m ps a))
+      (All-from_recursion (λ (p : Part). HasProducts (pos 1) (meant p.sign p.atom)) ps (meanings-fit g m ps a))
       (all-fit ps a f.1) (subst SumFits (limits-are ps) f.0)
 
 pub in-order-all : (shapes : List Shape) (atoms : List Constraint) → All (IsPlainAtom shapes) (map atom_view atoms) → AreInOrder atoms

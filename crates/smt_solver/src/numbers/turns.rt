@@ -7,11 +7,12 @@ ghost use Rattle.kind_num.specs.declared.Shape.TheVariants.{Number};
 ghost use Rattle.proof_steps.specs.Bounds.{split_atom as atom_of_split};
 ghost use Rattle.proof_steps.specs.View.{atom_view, row_view, step_view};
 ghost use Rattle.cnf_maker.specs.Plain.{IsPlain};
+ghost use Rattle.smt_solver.specs.Asserting.{both_parts};
 ghost use Rattle.smt_solver.specs.Conflicting.{AreMeaningsOf, AreRefuted};
 ghost use Rattle.smt_solver.specs.Growing.{split_move};
 ghost use Rattle.smt_solver.specs.Near.{IsNear};
 ghost use Rattle.smt_solver.specs.Run.{IsRun, work_view};
-ghost use Rattle.smt_solver.specs.Turning.{HasMeanings, IsSplitOff, TurnsRefutation};
+ghost use Rattle.smt_solver.specs.Turning.{HasMeanings, IsCounted, IsSplitOff, TurnsRefutation};
 
 use crate::fault::SolveFault;
 use crate::laws::{refuted_bounds_conflict, runs_grow, splits_are_taken};
@@ -19,7 +20,9 @@ use crate::numbers::meanings::Meaning;
 use crate::numbers::steps::{Used, conflict_step, uses};
 use crate::numbers::sums::{past_step, shares, step_past};
 use crate::work::{Work, count_step, take_step};
-use line_laws::laws::{fitting_steps_are_taken, fitting_sums_fit, past_sums_are_past};
+use line_laws::laws::{
+    fitting_steps_are_taken, fitting_sums_fit, past_sums_are_past, refuted_bounds_sum_to_nothing,
+};
 use proof_steps::{Atom, PastStep, Step};
 use smallvec::SmallVec;
 use std::alloc::{AllocError, Global};
@@ -59,6 +62,31 @@ pub fn refuted(
     let step = conflict_step(alloc, &used)?;
     count_step(alloc, work, step)?;
     Ok(None)
+}
+
+/// Adds the clause that not both of two bounds that cross stand, and lists it.
+pub fn crossed(
+    alloc: Global,
+    work: &mut Work,
+    meanings: &[Meaning],
+    first: u32,
+    second: u32,
+) -> Result<(), SolveFault>
+    requires run { IsRun (work_view work.old) }
+    requires refuted { AreRefuted (work_view work.old) meanings.now (both_parts first second) }
+    requires near { All IsNear meanings.now }
+    requires few { length meanings.now < 2 ^ 32 }
+    requires meant { All HasMeanings (work_view work.old).form.atoms }
+    ensures { OnOk result (IsCounted (work_view work.old) (work_view work.new)) }
+{
+    refuted_bounds_conflict();
+    refuted_bounds_sum_to_nothing();
+    fitting_sums_fit();
+    fitting_steps_are_taken();
+    let parts = vec![in alloc; (1, first), (1, second)]?;
+    let used = uses(alloc, &work.search, meanings, &parts)?;
+    let step = conflict_step(alloc, &used)?;
+    count_step(alloc, work, step)
 }
 
 // That the numbered atom or its opposite is true.
