@@ -8,7 +8,7 @@ ghost use Rattle.smt_solver.specs.Conflicting.{RefutedBoundsConflict};
 ghost use Rattle.smt_solver.specs.Growing.{RunsGrow, RunsTakeSteps, SplitsAreTaken};
 ghost use Rattle.smt_solver.specs.NumberStates.{WholeValuesMeet};
 ghost use Rattle.smt_solver.specs.Run.{ClausesFit};
-ghost use Rattle.smt_solver.specs.Stops.{BrokenNumbersSplit, LongChecksAreLong, PastChecksArePast};
+ghost use Rattle.smt_solver.specs.Stops.{BrokenNumbersSplit, ChecksKeepTableaus, LongChecksAreLong, PastChecksArePast};
 ghost use Rattle.smt_solver.specs.NeedRoom.{FlagsBoundConflicts, RangesSuffice, SplitsNeedRoom, StopsNeedAtoms};
 
 use line_laws::laws::{
@@ -74,6 +74,11 @@ pub fn long_checks_are_long()
 /// A check that is stopped for an operation outside 128 bits is a true stop of the query with its splits.
 pub fn past_checks_are_past()
     ensures { PastChecksArePast }
+{}
+
+/// A check that ends leaves each column outside the basis at 0, a bound of the query or an end of a split.
+pub fn checks_keep_tableaus()
+    ensures { ChecksKeepTableaus }
 {}
 
 /// What holds of a run at every turn still holds when its form gets further atoms.
