@@ -19,3 +19,4 @@ pub mod StopTruth
 pub mod Refuting
 pub mod SplittingOff
 pub mod Crossed
+pub mod Ending

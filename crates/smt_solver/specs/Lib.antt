@@ -3,6 +3,7 @@ pub mod Answered
 pub mod Asserting
 pub mod Boolean
 pub mod Conflicting
+pub mod Ending
 pub mod Growing
 pub mod Near
 pub mod NeedRoom

@@ -5,6 +5,7 @@ ghost use Rattle.std.specs.Prelude.{List};
 ghost use Rattle.sys_terms.specs.View.{Formula, Machine, Task, Question};
 ghost use Rattle.smt_solver.specs.Boolean.{BooleanQueriesHaveNoAtoms};
 ghost use Rattle.smt_solver.specs.Conflicting.{RefutedBoundsConflict};
+ghost use Rattle.smt_solver.specs.Ending.{ListedAreOfTheQuery, RefutationsAreOfTheQuery};
 ghost use Rattle.smt_solver.specs.Growing.{RunsGrow, RunsTakeSteps, SplitsAreTaken};
 ghost use Rattle.smt_solver.specs.NumberStates.{WholeValuesMeet};
 ghost use Rattle.smt_solver.specs.Run.{ClausesFit};
@@ -108,3 +109,13 @@ pub fn refuted_bounds_conflict()
 {
     refutations_give_steps();
 }
+
+/// The clauses that a run over a form with splits lists are conflicts of the query with these splits.
+pub fn listed_are_of_the_query()
+    ensures { ListedAreOfTheQuery }
+{}
+
+/// Steps that refute the form with the splits' atoms refute the query with these atoms.
+pub fn refutations_are_of_the_query()
+    ensures { RefutationsAreOfTheQuery }
+{}
