@@ -1,11 +1,11 @@
 -- The step of two bounds that cross has numbers within 128 bits.
-use Rattle.std.specs.Prelude.{ℕ, zero, suc, ◌≡◌, ◌≢◌, ◌⊎◌, ◌==◌, ◌+◌, ◌<◌, ◌≤◌, ◌^◌, Bool, true, false, cond, List, [], ◌∷◌, map, take, Option, Some, None, All, Contains, slice_get, unsigned_abs, refl}
+use Rattle.std.specs.Prelude.{ℕ, zero, suc, ◌≡◌, ◌==◌, ◌+◌, ◌<◌, ◌≤◌, ◌^◌, Bool, true, false, cond, List, [], ◌∷◌, map, take, Some, All, Contains, slice_get, unsigned_abs, refl}
 use Rattle.std.specs.Int.{w128}
 use Rattle.std.specs.List.{AllByRecursion}
-use Rattle.std.proofs.Common.{sym, ◌∙◌, ap, subst, inl, inr, arith}
+use Rattle.std.proofs.Common.{sym, ◌∙◌, ap, subst, arith}
 use Rattle.std.proofs.lemmas.Int.{ints, fits_signed_from_abs}
 use Rattle.std.proofs.lemmas.List.Elements.{All-contains, All-from_recursion, recursion_from_All}
-use lib.IntN.{ℤ, pos, negsuc, ◌+ℤ◌, ◌-ℤ◌, ◌*ℤ◌, neg_ℤ, +ℤ_idr}
+use lib.IntN.{ℤ, pos, negsuc, ◌*ℤ◌, neg_ℤ, +ℤ_idr}
 use lib.Signed.{◌≤ℤ◌, ◌<ℤ◌, mag}
 use Rattle.kind_num.specs.Exact.{within}
 use Rattle.kind_num.proofs.Within.{within-fits}
@@ -15,11 +15,11 @@ use Rattle.proof_steps.specs.Rows.{Form, entry}
 use Rattle.proof_steps.specs.Bounds.{past_limit}
 use Rattle.cnf_maker.specs.Plain.{IsPlain}
 use Rattle.int_simplex.specs.State.{Standing as Limit}
-use Rattle.int_simplex.specs.Farkas.{turned, limits}
+use Rattle.int_simplex.specs.Farkas.{turned}
 use Rattle.int_simplex.proofs.Places.{listed_at}
-use Rattle.line_laws.specs.Lines.{Part, IsPart, RefutedBoundsSumToNothing, meant, multipliers_of, bounds_of}
+use Rattle.line_laws.specs.Lines.{Part, IsPart, RefutedBoundsSumToNothing, meant}
 use Rattle.line_laws.specs.Steps.{RefuteEachOther, HasProducts, OperationsFit, FittingStepsAreTaken, conflict_step, numbered, standing}
-use Rattle.line_laws.specs.PastSteps.{number_of, factor_in, products_of, limit_products, sum_in, SumFits, FittingSumsFit}
+use Rattle.line_laws.specs.PastSteps.{number_of, factor_in, sum_in, SumFits, FittingSumsFit}
 use Rattle.line_laws.proofs.Bounded.{entry-negated}
 use Rattle.line_laws.proofs.FittingSums.{sums-same, rights-same}
 use Rattle.line_laws.proofs.OwnLines.{one-times}

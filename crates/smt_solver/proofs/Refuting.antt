@@ -1,14 +1,10 @@
 -- The step of a refutation fits, or an operation of it is a true stop.
-use Rattle.std.specs.Prelude.{ℕ, zero, suc, ◌≡◌, ◌≢◌, ◌⊎◌, ◌==◌, ◌+◌, ◌<◌, ◌≤◌, Bool, true, false, cond, List, [], ◌∷◌, ◌++◌, length, map, take, Option, Some, None, All, Contains, slice_get, refl}
+use Rattle.std.specs.Prelude.{ℕ, zero, suc, ◌≡◌, ◌≢◌, ◌⊎◌, ◌==◌, ◌+◌, Bool, true, false, cond, List, [], ◌∷◌, ◌++◌, length, map, take, Option, Some, None, All, Contains, slice_get, refl}
 use Rattle.std.specs.List.{AllByRecursion}
-use Rattle.std.specs.List.Sorted.{IsStrictlyIncreasing}
 use Rattle.std.proofs.Common.{sym, ◌∙◌, ap, subst, inl, inr, arith}
 use Rattle.std.proofs.lemmas.Int.{ints}
-use Rattle.std.proofs.lemmas.Bool.Decides.{nat_tests}
-use Rattle.std.proofs.lemmas.List.{append-nil}
 use Rattle.std.proofs.lemmas.List.Elements.{All-contains, All-from_recursion, recursion_from_All}
 use lib.IntN.{ℤ, pos, negsuc, ◌+ℤ◌, ◌*ℤ◌, *ℤ-zero, +ℤ_idr}
-use lib.Signed.{◌<ℤ◌}
 use Rattle.kind_num.specs.Exact.{within}
 use Rattle.kind_num.specs.declared.Past.{Past}
 use Rattle.kind_num.specs.declared.Shape.{Shape}
@@ -20,15 +16,14 @@ use Rattle.proof_steps.specs.Rows.{Form, is_long, entry, combined, defining_rows
 use Rattle.proof_steps.specs.Bounds.{split_atom}
 use Rattle.proof_steps.specs.StopView.{Operation}
 use Rattle.proof_steps.specs.Stopped.{IsNumberOf, IsPastStep}
-use Rattle.proof_checker.specs.Check.{move_fault}
 use Rattle.cnf_maker.specs.Plain.{IsPlain, IsPlainAtom}
 use Rattle.int_simplex.specs.Given.{AreGiven, IsInOrder}
 use Rattle.int_simplex.specs.State.{Standing as Limit, State}
-use Rattle.int_simplex.specs.Farkas.{turned, IsOfOneRow, IsRefuted}
+use Rattle.int_simplex.specs.Farkas.{turned, IsOfOneRow}
 use Rattle.int_simplex.proofs.Places.{listed_at}
 use Rattle.int_simplex.proofs.Sparse.{by_test, same_if, other_if, entry_skips}
-use Rattle.line_laws.specs.Lines.{Part, IsPart, meant, multipliers_of, bounds_of}
-use Rattle.line_laws.specs.Steps.{IsStepOf, RefuteEachOther, HasProducts, OperationsFit, FittingStepsAreTaken, conflict_step, numbered, standing}
+use Rattle.line_laws.specs.Lines.{Part, IsPart, meant, bounds_of}
+use Rattle.line_laws.specs.Steps.{RefuteEachOther, HasProducts, OperationsFit, FittingStepsAreTaken, conflict_step, numbered, standing}
 use Rattle.line_laws.specs.PastSteps.{number_of, refuting_row, factor_in, products_of, limit_products, sum_in, IsSumPast, SumFits, IsAllowed, AreRefutedBy, PastSumsArePast, FittingSumsFit}
 use Rattle.line_laws.proofs.Differing.{Differ, none-entry}
 use Rattle.line_laws.proofs.Fitting.{in-order-differ}
@@ -38,13 +33,11 @@ use Rattle.smt_solver.specs.declared.numbers.meanings.Meaning.{Meaning}
 use Rattle.smt_solver.specs.declared.numbers.sums.Share.{Share}
 use Rattle.smt_solver.specs.States.{is_set}
 use Rattle.smt_solver.specs.Asserting.{signed_bound, bounds_at}
-use Rattle.smt_solver.specs.Conflicting.{AreRefuted, IsConflictOf}
-use Rattle.smt_solver.specs.Growing.{grown, IsTaken}
+use Rattle.smt_solver.specs.Conflicting.{IsConflictOf}
+use Rattle.smt_solver.specs.Growing.{IsTaken}
 use Rattle.smt_solver.specs.Run.{Standing}
 use Rattle.smt_solver.specs.Shares.{share_of, share_from, share_by, factor_at, products_by, limits_by, row_by, terms_at, SharesFitOrPast, StepFitsOrPast, a_past_step, AreInOrder}
-use Rattle.smt_solver.specs.Stops.{IsTableauFor}
 use Rattle.smt_solver.specs.Turning.{HasMeanings, IsRefutedFor}
-use Rattle.smt_solver.proofs.Turns.{all-of}
 use Rattle.smt_solver.proofs.Conflicting.{IsBoundAt, bound-in}
 use Rattle.smt_solver.proofs.StopTruth.{limit-number}
 

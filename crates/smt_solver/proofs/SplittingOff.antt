@@ -1,7 +1,7 @@
 -- A run with the atom of a split.
-use Rattle.std.specs.Prelude.{ℕ, zero, suc, ◌≡◌, ◌+◌, ◌≤◌, ◌^◌, true, cond, List, [], ◌∷◌, ◌++◌, length, map, Option, Some, Result, Ok, Err, OnOk, unsigned_abs, refl}
+use Rattle.std.specs.Prelude.{ℕ, ◌≡◌, ◌+◌, ◌≤◌, ◌^◌, true, cond, List, [], ◌∷◌, ◌++◌, length, map, Option, Some, Result, Ok, Err, OnOk, unsigned_abs, refl}
 use Rattle.std.specs.Int.{w128}
-use Rattle.std.proofs.Common.{sym, ◌∙◌, ap, subst, arith}
+use Rattle.std.proofs.Common.{sym, ◌∙◌, ap, arith}
 use Rattle.std.proofs.lemmas.Int.{ints, fits_signed_from_abs}
 use Rattle.std.proofs.lemmas.List.{map-append}
 use lib.IntN.{ℤ, pos, negsuc, ◌-ℤ◌, neg_ℤ}
@@ -15,7 +15,7 @@ use Rattle.proof_checker.proofs.Quotients.{quotient_one}
 use Rattle.smt_solver.specs.declared.numbers.meanings.Meaning.{Meaning}
 use Rattle.smt_solver.specs.Conflicting.{AreMeaningsOf}
 use Rattle.smt_solver.specs.Growing.{grown}
-use Rattle.smt_solver.specs.Sums.{meaning_view, all_meant, all_divisors, divisor_in}
+use Rattle.smt_solver.specs.Sums.{meaning_view, divisor_in}
 
 size-near : (z : ℤ) → neg_ℤ (pos (2 ^ 126)) ≤ℤ z → z <ℤ pos (2 ^ 126) → unsigned_abs z ≤ 2 ^ 126
 size-near (pos n) a b = omega (arith, ints)

@@ -15,7 +15,7 @@ use Rattle.proof_steps.specs.Rows.{Form, IsBasis, AllDiffer, is_long, rows_of, c
 use Rattle.proof_steps.specs.Bounds.{Bound, opposite_bound, bound_if, bounds_from, split_atom, IsBound}
 use Rattle.proof_steps.specs.Pivots.{CanPivot, ArePlaces, first_position}
 use Rattle.proof_steps.specs.StopView.{Operation}
-use Rattle.proof_steps.specs.Stopped.{IsLong, IsNumberOf, IsLimit, IsSplitEnd, IsPastStep, IsProduct, IsFactor, AreOperands, Product, Row, bound_view}
+use Rattle.proof_steps.specs.Stopped.{IsLong, IsNumberOf, IsPastStep, IsProduct, IsFactor, AreOperands, Product, Row, bound_view}
 use Rattle.proof_checker.proofs.Quotients.{quotient_one}
 use Rattle.int_simplex.specs.State.{Standing as Limit, State, places_of, top_of, is_in, outside_from, plain, beginning}
 use Rattle.int_simplex.specs.Answers.{IsLong as IsLongFrom, IsNumberOf as IsNumberIn, IsChecked, StaysOrIsBound}

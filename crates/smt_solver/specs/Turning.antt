@@ -1,5 +1,5 @@
 -- What a refutation of a tableau's check makes of a run.
-use Rattle.std.specs.Prelude.{ℕ, suc, ◌≡◌, Bool, true, false, List, [], ◌∷◌, length, map, All, Contains, Option, Some, None, slice_get}
+use Rattle.std.specs.Prelude.{ℕ, suc, ◌≡◌, true, false, List, [], ◌∷◌, length, map, Option, Some, None, slice_get}
 use lib.IntN.{ℤ, pos}
 use Rattle.proof_steps.specs.declared.stops.PastStep.{PastStep}
 use Rattle.proof_steps.specs.StopView.{past_view}

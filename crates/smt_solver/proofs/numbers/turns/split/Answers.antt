@@ -4,11 +4,11 @@ use Rattle.std.proofs.Common.{rules, sym, subst, ap, ◌∙◌, arith}
 use Rattle.std.proofs.lemmas.List.{map-append, length-map}
 use Rattle.std.proofs.lemmas.Int.{to_z-of_z}
 use mir.Val.{SFits}
-use Rattle.proof_steps.specs.View.{Inequality, Move, atom_view, clause_view, step_view}
+use Rattle.proof_steps.specs.View.{Inequality, atom_view, step_view}
 use Rattle.proof_steps.specs.Bounds.{split_atom}
 use Rattle.smt_solver.specs.Conflicting.{AreMeaningsOf}
 use Rattle.smt_solver.specs.Growing.{IsTaken, grown, split_move}
-use Rattle.smt_solver.specs.Run.{Standing, IsRun, work_view}
+use Rattle.smt_solver.specs.Run.{IsRun, work_view}
 use Rattle.smt_solver.specs.Turning.{IsSplitOff}
 use Rattle.smt_solver.proofs.SplittingOff.{a_meaning, near-within, near-opposite, split-meanings, three}
 use Rattle.smt_solver.proofs.numbers.turns.split.Goals as goal
