@@ -16,3 +16,7 @@ pub mod Decided
 pub mod CutSteps
 pub mod Followed
 pub mod SplitSteps
+pub mod Dependent
+pub mod OneRow
+pub mod PastSteps
+pub mod FittingSums

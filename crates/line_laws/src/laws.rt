@@ -2,6 +2,7 @@
 
 ghost use Rattle.line_laws.specs.Lines.{BoundsSayWhatLiteralsSay, CutLinesSumToTheirAtom, RefutedBoundsSumToNothing};
 ghost use Rattle.line_laws.specs.CutSteps.{CutsGiveSteps, FollowingAtomsGiveSteps};
+ghost use Rattle.line_laws.specs.PastSteps.{FittingSumsFit, PastSumsArePast};
 ghost use Rattle.line_laws.specs.Steps.{AtomsAreDecided, FittingStepsAreTaken, RefutationsGiveSteps, RefutedBoundsGiveAStep, SplitStepsFit};
 
 /// Where bounds sum to a whole combination of the rows, what their literals mean sums to nothing, with the same right
@@ -56,4 +57,15 @@ pub fn following_atoms_give_steps()
 /// The step of a split's atom `x <= c` has numbers within 128 bits where c and -c - 1 are.
 pub fn split_steps_fit()
     ensures { SplitStepsFit }
+{}
+
+/// A product or a sum of such a step that is outside 128 bits, where one row refuted the bounds, is an operation over
+/// that row: a true stop of the query.
+pub fn past_sums_are_past()
+    ensures { PastSumsArePast }
+{}
+
+/// Where no product and no sum is outside 128 bits, the numbers of the step fit.
+pub fn fitting_sums_fit()
+    ensures { FittingSumsFit }
 {}

@@ -1,6 +1,6 @@
 -- A run with one more theory step.
-use Rattle.std.specs.Prelude.{ℕ, zero, suc, ◌≡◌, Bool, true, false, cond, List, [], ◌∷◌, ◌++◌, length, map, None, All, Contains, refl}
-use Rattle.std.proofs.Common.{sym, ◌∙◌, ap, subst, inl, inr, arith}
+use Rattle.std.specs.Prelude.{ℕ, ◌≡◌, true, false, cond, List, [], ◌∷◌, ◌++◌, length, map, None, Contains, refl}
+use Rattle.std.proofs.Common.{sym, ◌∙◌, ap, subst, inl, inr}
 use Rattle.std.proofs.lemmas.List.{append-nil}
 use Rattle.std.proofs.lemmas.List.Elements.{All-append, All-contains, All-from_recursion, Contains-append_left, Contains-append_right, Contains-append_cases}
 use Rattle.kind_num.specs.declared.Shape.{Shape}
@@ -10,7 +10,7 @@ use Rattle.proof_steps.specs.View.{Inequality, Move, derived, theory, added, Sum
 use Rattle.proof_steps.specs.Meaning.{Values, Solves, clause_true}
 use Rattle.proof_steps.specs.Stopped.{IsOver, IsLearnt, Includes}
 use Rattle.proof_checker.specs.Check.{literals_fit, literal_fits, atom_fits, atoms_fit, move_fault, concludes}
-use Rattle.proof_checker.specs.Theory.{Outcome, value, past, stopped, of_lines, are_sums}
+use Rattle.proof_checker.specs.Theory.{of_lines, are_sums}
 use Rattle.proof_checker.proofs.VerdictSound.{theory-holds}
 use Rattle.sat_core.specs.Shown.{Shown, Adds}
 use Rattle.smt_solver.specs.Run.{Standing, AreFit, IsRun}

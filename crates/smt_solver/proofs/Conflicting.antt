@@ -1,32 +1,32 @@
 -- Bounds of true literals that refute each other give a step that is taken or past, whose clause says more.
-use Rattle.std.specs.Prelude.{ℕ, zero, suc, ◌≡◌, ◌≢◌, ◌⊎◌, ◌+◌, ◌<◌, Bool, true, false, cond, List, [], ◌∷◌, ◌++◌, length, map, Option, Some, None, All, Contains, slice_get, refl}
+use Rattle.std.specs.Prelude.{ℕ, zero, suc, ◌≡◌, ◌≢◌, ◌+◌, Bool, true, false, cond, List, [], ◌∷◌, ◌++◌, length, map, Option, Some, None, Contains, slice_get, refl}
 use Rattle.std.specs.List.{AllByRecursion}
 use Rattle.std.proofs.Common.{sym, ◌∙◌, ap, subst, inl, inr, arith}
 use Rattle.std.proofs.lemmas.Int.{ints}
 use Rattle.std.proofs.lemmas.List.{append-nil, length-map}
-use Rattle.std.proofs.lemmas.List.Elements.{All-contains, All-from_recursion, recursion_from_All, Contains-append_cases}
+use Rattle.std.proofs.lemmas.List.Elements.{All-contains, recursion_from_All, Contains-append_cases}
 use lib.IntN.{ℤ, pos}
 use lib.Signed.{◌<ℤ◌}
 use Rattle.proof_steps.specs.declared.Literal.{Literal}
 use Rattle.proof_steps.specs.declared.Literal.TheVariants.{Flag, Atom}
-use Rattle.proof_steps.specs.View.{Inequality, Move, theory}
+use Rattle.proof_steps.specs.View.{Inequality}
 use Rattle.proof_steps.specs.Meaning.{at, opposite, negated}
-use Rattle.proof_steps.specs.Rows.{Form, rows_of}
-use Rattle.proof_steps.specs.Bounds.{Bound, opposite_bound, bound_if, bounds_from, bound_of_literal}
+use Rattle.proof_steps.specs.Rows.{Form}
+use Rattle.proof_steps.specs.Bounds.{Bound, bound_if, bounds_from, bound_of_literal}
 use Rattle.proof_steps.specs.Stopped.{Includes}
 use Rattle.proof_checker.specs.Derived.{has}
 use Rattle.proof_checker.proofs.Sets.{has-contains}
 use Rattle.int_simplex.specs.State.{Standing as Limit}
-use Rattle.int_simplex.specs.Farkas.{Refutes, limits}
+use Rattle.int_simplex.specs.Farkas.{limits}
 use Rattle.int_simplex.proofs.Places.{same_some, mapped_at}
 use Rattle.line_laws.specs.Lines.{Part, IsPart, multipliers_of, bounds_of}
-use Rattle.line_laws.specs.Steps.{IsOfLiteral, IsStepOf, RefutationsGiveSteps, IsTakenOrPast, conflict_step, denied, numbered, standing, divisor_of}
+use Rattle.line_laws.specs.Steps.{IsOfLiteral, RefutationsGiveSteps, denied, numbered, standing, divisor_of}
 use Rattle.sat_core.specs.declared.assigned.Assigned.{Assigned}
 use Rattle.sat_core.specs.Trail.{trues, falses, value_of, IsApart, IsFalse}
 use Rattle.smt_solver.specs.declared.numbers.meanings.Meaning.{Meaning}
 use Rattle.smt_solver.specs.declared.numbers.steps.Used.{Used}
 use Rattle.smt_solver.specs.States.{is_set}
-use Rattle.smt_solver.specs.Sums.{meaning_view, all_meant, all_divisors, divisor_in}
+use Rattle.smt_solver.specs.Sums.{meaning_view, all_meant, divisor_in}
 use Rattle.smt_solver.specs.Used.{used_of, used_by, divisor_at}
 use Rattle.smt_solver.specs.Asserting.{signed_bound, bound_by_value, bound_at, bounds_at}
 use Rattle.smt_solver.specs.Run.{Standing}

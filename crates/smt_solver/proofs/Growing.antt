@@ -1,13 +1,11 @@
 -- Further atoms change nothing of what there is: literals mean what they meant, and steps break no rule.
-use Rattle.std.specs.Prelude.{ℕ, zero, suc, ◌≡◌, ◌≢◌, ◌+◌, ◌<◌, ◌≤◌, Bool, true, false, cond, List, [], ◌∷◌, ◌++◌, length, map, nat_lt, take, slice_get, Option, Some, None, All, Contains, refl}
-use Rattle.std.specs.List.{AllByRecursion}
+use Rattle.std.specs.Prelude.{ℕ, zero, suc, ◌≡◌, ◌<◌, ◌≤◌, Bool, true, false, cond, List, [], ◌∷◌, ◌++◌, length, map, take, slice_get, Option, Some, None, Contains, refl}
 use Rattle.std.proofs.Common.{sym, ◌∙◌, ap, subst, arith}
 use Rattle.std.proofs.lemmas.Bool.Decides.{nat_tests}
-use Rattle.std.proofs.lemmas.List.{append_assoc, append-nil, length-append}
-use Rattle.std.proofs.lemmas.List.Elements.{All-contains, All-append, All-from_recursion, recursion_from_All, Contains-append_left, Contains-append_right, Contains-append_cases}
+use Rattle.std.proofs.lemmas.List.{append-nil, length-append}
+use Rattle.std.proofs.lemmas.List.Elements.{All-contains, Contains-append_left}
 use lib.IntN.{ℤ, pos}
 use Rattle.kind_num.specs.declared.Shape.{Shape}
-use Rattle.kind_num.specs.declared.Shape.TheVariants as k
 use Rattle.proof_steps.specs.declared.Literal.{Literal}
 use Rattle.proof_steps.specs.declared.Literal.TheVariants as l
 use Rattle.proof_steps.specs.declared.Source.{Source}
@@ -15,16 +13,15 @@ use Rattle.proof_steps.specs.declared.Source.TheVariants as s
 use Rattle.proof_steps.specs.View.{Inequality, Move, derived, theory, added, Sum}
 use Rattle.proof_steps.specs.Meaning.{Values, Solves, at, atom_true, literal_true, clause_true}
 use Rattle.proof_steps.specs.Rows.{Form}
-use Rattle.proof_steps.specs.Bounds.{atoms_with}
-use Rattle.proof_steps.specs.Stopped.{IsOver, IsLearnt, AreLearnt, Includes}
+use Rattle.proof_steps.specs.Stopped.{IsOver, IsLearnt, AreLearnt}
 use Rattle.proof_checker.specs.declared.rule.Rule.{Rule}
 use Rattle.proof_checker.specs.declared.rule.Rule.TheVariants as r
-use Rattle.proof_checker.specs.Check.{literals_fit, literal_fits, counted, atom_fits, atoms_fit, hints_fit, theory_fault, derived_fault, move_fault}
+use Rattle.proof_checker.specs.Check.{literals_fit, literal_fits, counted, atom_fits, atoms_fit, hints_fit, theory_fault, move_fault}
 use Rattle.proof_checker.specs.Derived.{meets}
-use Rattle.proof_checker.specs.Theory.{Outcome, value, past, stopped, and_then, divided, add_part, of_atom, of_literal, of_source, add_from, add_parts, of_sum, of_lines, absurd_last, are_sums}
-use Rattle.proof_checker.specs.Rules.{AreRight, IsRight}
+use Rattle.proof_checker.specs.Theory.{Outcome, value, past, stopped, and_then, divided, add_part, of_atom, of_literal, of_source, add_from, add_parts, of_sum, of_lines, are_sums}
+use Rattle.proof_checker.specs.Rules.{AreRight}
 use Rattle.int_simplex.proofs.Places.{get-append}
-use Rattle.smt_solver.specs.Run.{Standing, AreFit, IsRun}
+use Rattle.smt_solver.specs.Run.{Standing, IsRun}
 use Rattle.smt_solver.specs.Growing.{grown}
 use Rattle.smt_solver.proofs.Turns.{all-of}
 

@@ -3,6 +3,8 @@ pub mod Booleans
 pub mod NeedRoom
 pub mod Rooms
 pub mod Sums
+pub mod Meant
+pub mod Shares
 pub mod Turns
 pub mod Valued
 pub mod Split
@@ -14,3 +16,7 @@ pub mod Conflicting
 pub mod NumberValued
 pub mod SplitTruth
 pub mod StopTruth
+pub mod Refuting
+pub mod SplittingOff
+pub mod Crossed
+pub mod Ending

@@ -1,7 +1,7 @@
 -- Whole values of a tableau, with a full assignment, meet the query's conditions.
-use Rattle.std.specs.Prelude.{ℕ, zero, suc, ◌≡◌, ◌≢◌, ◌⊎◌, ◌+◌, ◌<◌, ◌≤◌, Bool, true, false, cond, List, [], ◌∷◌, ◌++◌, length, map, slice_get, Option, Some, None, Ok, All, Contains, refl}
+use Rattle.std.specs.Prelude.{ℕ, zero, suc, ◌≡◌, ◌≢◌, ◌+◌, ◌<◌, Bool, true, false, cond, List, [], ◌∷◌, ◌++◌, length, slice_get, Some, None, Ok, All, Contains, refl}
 use Rattle.std.specs.List.{AllByRecursion}
-use Rattle.std.proofs.Common.{sym, ◌∙◌, ap, subst, inl, inr, arith}
+use Rattle.std.proofs.Common.{sym, ◌∙◌, ap, subst, arith}
 use Rattle.std.proofs.lemmas.Int.{ints, by_lt_z}
 use Rattle.std.proofs.lemmas.List.{length-map}
 use Rattle.std.proofs.lemmas.List.Elements.{All-contains, recursion_from_All, Contains-append_left, Contains-append_right}
@@ -13,9 +13,9 @@ use Rattle.kind_num.proofs.Ring.{times_sum, times_times}
 use Rattle.proof_steps.specs.declared.Literal.{Literal}
 use Rattle.proof_steps.specs.declared.Literal.TheVariants as l
 use Rattle.proof_steps.specs.View.{Inequality}
-use Rattle.proof_steps.specs.Meaning.{Values, Solves, at, sum_of, as_said, atom_true, inequality_true, literal_true, clause_true, opposite}
-use Rattle.proof_steps.specs.Rows.{Form, rows_of}
-use Rattle.proof_checker.specs.Check.{literals_fit, literal_fits, is_flag, is_number, counted}
+use Rattle.proof_steps.specs.Meaning.{Values, Solves, sum_of, as_said, atom_true, inequality_true, literal_true, clause_true}
+use Rattle.proof_steps.specs.Rows.{Form}
+use Rattle.proof_checker.specs.Check.{literals_fit, literal_fits, is_flag, is_number}
 use Rattle.proof_checker.specs.Derived.{has}
 use Rattle.proof_checker.proofs.Sets.{contains-has, not-has}
 use Rattle.sys_terms.specs.declared.term.Entry.{Entry}
@@ -50,7 +50,7 @@ use Rattle.smt_solver.specs.NumberStates.{number_entry, number_entries, IsMetBy}
 use Rattle.smt_solver.proofs.Literals.{clauses-fit, query-over}
 use Rattle.smt_solver.proofs.Turns.{all-of}
 use Rattle.smt_solver.proofs.Valued.{some-shape, set-true, fits-in, clause-of}
-use Rattle.smt_solver.proofs.Growing.{literal-same, counted-below, counted-more, longer}
+use Rattle.smt_solver.proofs.Growing.{literal-same, counted-below, longer}
 use Rattle.smt_solver.proofs.Conflicting.{one-way, opposite-false, literal-bound}
 
 pub some-at : {X : Type 0} (xs : List X) (k : ℕ) → k < length xs → (x : X) × (slice_get xs k ≡ Some x)

@@ -13,12 +13,9 @@ use lib.Signed.{◌≤ℤ◌}
 use Rattle.kind_num.specs.declared.Shape.{Shape}
 use Rattle.kind_num.specs.declared.Shape.TheVariants.{Flag, Number}
 use Rattle.proof_steps.specs.Rows.{Form}
-use Rattle.proof_steps.specs.declared.Literal.{Literal}
 use Rattle.proof_steps.specs.declared.stops.Budgets.{Budgets}
-use Rattle.proof_steps.specs.StopView.{conflicts, splits}
-use Rattle.proof_steps.specs.Bounds.{atoms_with, split_atom}
+use Rattle.proof_steps.specs.Bounds.{split_atom}
 use Rattle.proof_steps.specs.Splits.{IsSplit, AreSplits, AreSplitsAfter}
-use Rattle.proof_steps.specs.Stopped.{IsTrueOf}
 use Rattle.sat_core.specs.Few.{NewOnesAreFew, variable_count}
 use Rattle.smt_solver.proofs.NeedRoom.{power-grows}
 use Rattle.smt_solver.specs.NeedRoom.{BudgetsSuffice}

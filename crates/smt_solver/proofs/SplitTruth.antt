@@ -1,5 +1,5 @@
 -- A number whose value is not whole can be split.
-use Rattle.std.specs.Prelude.{ℕ, zero, suc, ◌≡◌, ◌≢◌, ◌⊎◌, ◌==◌, ◌+◌, ◌-◌, ◌<◌, ◌≤◌, Bool, true, false, cond, List, [], ◌∷◌, ◌++◌, length, map, slice_get, Option, Some, None, All, Contains, refl}
+use Rattle.std.specs.Prelude.{ℕ, zero, suc, ◌≡◌, ◌≢◌, ◌⊎◌, ◌==◌, ◌+◌, ◌-◌, ◌<◌, ◌≤◌, Bool, true, false, cond, List, [], ◌∷◌, ◌++◌, length, map, slice_get, Option, Some, None, Contains, refl}
 use Rattle.std.specs.List.{AllByRecursion}
 use Rattle.std.proofs.Common.{sym, ◌∙◌, ap, subst, inl, inr, arith}
 use Rattle.std.proofs.lemmas.Int.{ints, by_lt_z}
@@ -15,34 +15,33 @@ use Rattle.proof_steps.specs.declared.Literal.{Literal}
 use Rattle.proof_steps.specs.declared.Literal.TheVariants as l
 use Rattle.proof_steps.specs.View.{Inequality}
 use Rattle.proof_steps.specs.Meaning.{sum_of}
-use Rattle.proof_steps.specs.Rows.{Form, IsBasis, HasValue, is_long, entry, combined, defining_rows, rows_of, columns_of}
-use Rattle.proof_steps.specs.Bounds.{Bound, opposite_bound, bound_by, bound_if, bounds_from, bound_of_literal, split_atom, atoms_with, HasRange, IsGiven}
+use Rattle.proof_steps.specs.Rows.{Form, IsBasis, HasValue, is_long, entry, combined, defining_rows, rows_of}
+use Rattle.proof_steps.specs.Bounds.{Bound, opposite_bound, bound_by, bound_if, bounds_from, split_atom, HasRange, IsGiven}
 use Rattle.proof_steps.specs.Splits.{IsBetween, IsSplit}
 use Rattle.proof_checker.proofs.Quotients.{quotient_one}
-use Rattle.proof_checker.proofs.Sets.{has-contains}
 use Rattle.cnf_maker.specs.Plain.{IsPlain, IsPlainAtom, IsTermOf}
-use Rattle.int_simplex.specs.State.{Standing as Limit, State, places_of, top_of, is_in}
+use Rattle.int_simplex.specs.State.{State, places_of, top_of, is_in}
 use Rattle.int_simplex.specs.Sound.{IsValueOf}
 use Rattle.int_simplex.specs.Points.{Point, IsFraction, IsInside}
 use Rattle.int_simplex.specs.Sparse.{IsFrom}
 use Rattle.int_simplex.proofs.Floors.{above_equal, below_high}
 use Rattle.int_simplex.proofs.Moves.{past_same}
 use Rattle.int_simplex.proofs.Once.{times_lt}
-use Rattle.int_simplex.proofs.Places.{listed_at, at_listed, same_some, mapped_at}
-use Rattle.int_simplex.proofs.Sparse.{by_test, same_if, other_if, entry_skips, entry_takes, entry_more}
+use Rattle.int_simplex.proofs.Places.{listed_at, at_listed, same_some}
+use Rattle.int_simplex.proofs.Sparse.{by_test, same_if, other_if, entry_skips, entry_more}
 use Rattle.int_simplex.proofs.Starts.{in_yes, in_no}
-use Rattle.int_cuts.specs.Splits.{IsFirstBroken, IsWhole}
+use Rattle.int_cuts.specs.Splits.{IsFirstBroken}
 use Rattle.line_laws.specs.Steps.{standing}
 use Rattle.line_laws.proofs.OwnLines.{one-times}
 use Rattle.sat_core.specs.declared.assigned.Assigned.{Assigned}
 use Rattle.sat_core.specs.Trail.{trues, falses, value_of}
 use Rattle.smt_solver.specs.declared.numbers.meanings.Meaning.{Meaning}
-use Rattle.smt_solver.specs.Sums.{meaning_view, all_meant}
+use Rattle.smt_solver.specs.Sums.{meaning_view}
 use Rattle.smt_solver.specs.Asserting.{signed_bound, bounds_at}
 use Rattle.smt_solver.specs.Growing.{grown}
 use Rattle.smt_solver.specs.Stops.{IsFitting, IsFullOver}
 use Rattle.smt_solver.proofs.Sums.{rows-made}
-use Rattle.smt_solver.proofs.Conflicting.{literal-bound, signed-if, atom-at, some-meaning, true-again}
+use Rattle.smt_solver.proofs.Conflicting.{signed-if, some-meaning, true-again}
 use Rattle.smt_solver.proofs.NumberValued.{some-at, standing-at, true-value, times-one}
 
 cancel-lt : (d a b : ℤ) → pos 0 <ℤ d → (a *ℤ d) <ℤ (b *ℤ d) → a <ℤ b

@@ -1,10 +1,8 @@
 -- The step of a split is taken.
-use Rattle.std.specs.Prelude.{ℕ, zero, suc, ◌≡◌, ◌+◌, true, cond, List, [], ◌∷◌, ◌++◌, length, Option, Some, None, All, slice_get, refl}
-use Rattle.std.specs.Int.{int_div_euclid}
-use Rattle.std.specs.List.Sorted.{IsStrictlyIncreasing}
-use Rattle.std.proofs.Common.{sym, ◌∙◌, ap, subst, arith}
+use Rattle.std.specs.Prelude.{ℕ, suc, ◌≡◌, ◌+◌, true, cond, List, [], ◌∷◌, ◌++◌, length, Option, Some, None, slice_get, refl}
+use Rattle.std.proofs.Common.{◌∙◌, ap, arith}
 use Rattle.std.proofs.lemmas.Int.{ints}
-use Rattle.std.proofs.lemmas.List.{append-nil, append_assoc}
+use Rattle.std.proofs.lemmas.List.{append-nil}
 use Rattle.std.proofs.lemmas.List.Elements.{All-append, All-from_recursion}
 use lib.IntN.{ℤ, pos, negsuc, ◌-ℤ◌}
 use Rattle.kind_num.specs.Exact.{within}
@@ -13,15 +11,13 @@ use Rattle.kind_num.specs.declared.Shape.TheVariants.{Number}
 use Rattle.proof_steps.specs.declared.Literal.{Literal}
 use Rattle.proof_steps.specs.declared.Literal.TheVariants.{Atom}
 use Rattle.proof_steps.specs.View.{Inequality}
-use Rattle.proof_steps.specs.Meaning.{at}
 use Rattle.proof_steps.specs.Rows.{Form, is_long}
 use Rattle.proof_steps.specs.Bounds.{Bound, bound_by, bound_if, bounds_from, bound_of_literal, split_atom}
 use Rattle.proof_checker.specs.Check.{move_fault}
 use Rattle.proof_checker.proofs.Quotients.{quotient_one}
 use Rattle.cnf_maker.specs.Plain.{IsPlain, IsPlainAtom, IsTermOf}
 use Rattle.line_laws.specs.Steps.{AtomsAreDecided, FittingStepsAreTaken, SplitStepsFit}
-use Rattle.smt_solver.specs.Run.{Standing}
-use Rattle.smt_solver.specs.Growing.{grown, split_parts, split_move, IsTaken}
+use Rattle.smt_solver.specs.Growing.{grown, split_parts, split_move}
 use Rattle.smt_solver.proofs.Turns.{one}
 
 last-atom : (atoms : List Inequality) (i : Inequality) → slice_get (atoms ++ i ∷ []) (length atoms) ≡ Some i

@@ -1,5 +1,5 @@
 -- Stops of a tableau's check are stops of the query.
-use Rattle.std.specs.Prelude.{ℕ, zero, suc, ◌≡◌, ◌≢◌, ◌⊎◌, ◌+◌, ◌-◌, ◌<◌, ◌≤◌, Bool, true, false, cond, List, [], ◌∷◌, ◌++◌, length, map, slice_get, Option, Some, None, All, Contains, refl}
+use Rattle.std.specs.Prelude.{ℕ, zero, suc, ◌≡◌, ◌≢◌, ◌⊎◌, ◌+◌, ◌-◌, ◌<◌, ◌≤◌, Bool, true, false, cond, List, [], ◌∷◌, ◌++◌, length, map, slice_get, Option, Some, All, Contains, refl}
 use Rattle.std.specs.List.{AllByRecursion}
 use Rattle.std.proofs.Common.{sym, ◌∙◌, ap, subst, inl, inr, arith}
 use Rattle.std.proofs.lemmas.Int.{ints}
@@ -12,25 +12,24 @@ use Rattle.kind_num.specs.declared.Op.TheVariants as op
 use Rattle.proof_steps.specs.declared.Literal.TheVariants as l
 use Rattle.proof_steps.specs.View.{Inequality}
 use Rattle.proof_steps.specs.Rows.{Form, IsBasis, AllDiffer, is_long, rows_of, columns_of}
-use Rattle.proof_steps.specs.Bounds.{Bound, opposite_bound, bound_by, bound_if, bounds_from, bound_of_literal, split_atom, atoms_with, IsBound}
+use Rattle.proof_steps.specs.Bounds.{Bound, opposite_bound, bound_if, bounds_from, split_atom, IsBound}
 use Rattle.proof_steps.specs.Pivots.{CanPivot, ArePlaces, first_position}
-use Rattle.proof_steps.specs.StopView.{Beginning, Operation}
-use Rattle.proof_steps.specs.Stopped.{IsLong, IsNumberOf, IsLimit, IsSplitEnd, IsPastStep, IsProduct, IsFactor, AreOperands, Product, Row, bound_view}
+use Rattle.proof_steps.specs.StopView.{Operation}
+use Rattle.proof_steps.specs.Stopped.{IsLong, IsNumberOf, IsPastStep, IsProduct, IsFactor, AreOperands, Product, Row, bound_view}
 use Rattle.proof_checker.proofs.Quotients.{quotient_one}
 use Rattle.int_simplex.specs.State.{Standing as Limit, State, places_of, top_of, is_in, outside_from, plain, beginning}
-use Rattle.int_simplex.specs.Answers.{IsLong as IsLongFrom, IsNumberOf as IsNumberIn}
-use Rattle.int_simplex.proofs.Places.{listed_at, same_some, mapped_at}
-use Rattle.int_simplex.proofs.Sparse.{by_test}
+use Rattle.int_simplex.specs.Answers.{IsLong as IsLongFrom, IsNumberOf as IsNumberIn, IsChecked, StaysOrIsBound}
+use Rattle.int_simplex.specs.Sound.{IsSound}
+use Rattle.proof_steps.specs.Splits.{IsStand}
+use Rattle.int_simplex.proofs.Places.{listed_at, mapped_at}
 use Rattle.int_simplex.proofs.Starts.{is_in_no, in_no}
-use Rattle.line_laws.specs.Steps.{standing}
 use Rattle.sat_core.specs.declared.assigned.Assigned.{Assigned}
 use Rattle.smt_solver.specs.declared.numbers.meanings.Meaning.{Meaning}
-use Rattle.smt_solver.specs.Sums.{meaning_view, all_meant}
-use Rattle.smt_solver.specs.Asserting.{signed_bound, bounds_at}
-use Rattle.smt_solver.specs.Growing.{grown}
+use Rattle.smt_solver.specs.Sums.{meaning_view}
+use Rattle.smt_solver.specs.Asserting.{signed_bound}
 use Rattle.smt_solver.specs.Stops.{IsTableauFor}
 use Rattle.smt_solver.proofs.Turns.{all-of}
-use Rattle.smt_solver.proofs.Conflicting.{IsBoundAt, bound-in, signed-if}
+use Rattle.smt_solver.proofs.Conflicting.{IsBoundAt, bound-in}
 use Rattle.smt_solver.proofs.NumberValued.{some-at}
 use Rattle.smt_solver.proofs.SplitTruth.{split-bound, below-or}
 
@@ -163,34 +162,33 @@ module _ (f : Form) (pairs : List (ℕ × ℤ)) (ms : List Meaning) (trail : Lis
 
   -- ---- the numbers
 
-  own-limit : (a : ℕ) (m : Meaning) (sign : Bool) → slice_get ms a ≡ Some m → a < length f.atoms
-      → IsLimit f (signed_bound sign m).limit
-  own-limit a m sign e b = (
-    signed_bound sign m,
-    (
-      l.Atom (suc a) sign,
-      subst (λ (atoms : List Inequality). bound_if sign (slice_get (bounds_from (length f.shapes) atoms) a) ≡ Some (signed_bound sign m))
-          (sym (append-nil f.atoms))
-          (ap (bound_if sign) (sym (prefix-same (length f.shapes) f.atoms (map split_atom pairs) a b) ∙ meant-at a m e)
-          ∙ sign-if sign m),
-    ),
-    refl,
+  own-bound : (a : ℕ) (m : Meaning) (sign : Bool) → slice_get ms a ≡ Some m → a < length f.atoms
+      → IsBound f [] (signed_bound sign m)
+  own-bound a m sign e b = (
+    l.Atom (suc a) sign,
+    subst (λ (atoms : List Inequality). bound_if sign (slice_get (bounds_from (length f.shapes) atoms) a) ≡ Some (signed_bound sign m))
+        (sym (append-nil f.atoms))
+        (ap (bound_if sign) (sym (prefix-same (length f.shapes) f.atoms (map split_atom pairs) a b) ∙ meant-at a m e)
+        ∙ sign-if sign m),
   )
 
-  ends : (j x : ℕ) (c : ℤ) (m : Meaning) (sign : Bool) → slice_get pairs j ≡ Some (x, c)
-      → meaning_view m ≡ record { column = x; upper = true; limit = c } → IsSplitEnd pairs (signed_bound sign m).limit
-  ends j x c m true e q = (x, inl (subst (λ z. Contains pairs (x, z)) (sym (ap (λ (b : Bound). b.limit) q)) (listed_at pairs j (x, c) e)))
-  ends j x c m false e q = (
-    x,
-    inr (subst (λ z. Contains pairs (x, z)) (back (opposite_bound (meaning_view m)).limit
-        (ap (λ (b : Bound). (opposite_bound b).limit) q)) (listed_at pairs j (x, c) e)),
-  ) where
-    back : (z : ℤ) → z ≡ c +ℤ pos 1 → c ≡ z -ℤ pos 1
-    back z e = omega (arith, ints)
+  -- an end of a split of the bound's column
+  abbrev IsEnd : Bound → Type 0
+  IsEnd b = Contains pairs (b.column, b.limit) ⊎ Contains pairs (b.column, b.limit -ℤ pos 1)
 
-  split-limit : (j : ℕ) (m : Meaning) (sign : Bool) → slice_get ms (length f.atoms + j) ≡ Some m → j < length pairs
-      → IsSplitEnd pairs (signed_bound sign m).limit
-  split-limit j m sign e b =
+  ends : (j x : ℕ) (c : ℤ) (m : Meaning) (sign : Bool) → slice_get pairs j ≡ Some (x, c)
+      → meaning_view m ≡ record { column = x; upper = true; limit = c } → IsEnd (signed_bound sign m)
+  ends j x c m true e q =
+      inl (subst (λ (b : Bound). Contains pairs (b.column, b.limit)) (sym q) (listed_at pairs j (x, c) e))
+  ends j x c m false e q =
+      inr (subst (λ (b : Bound). Contains pairs ((opposite_bound b).column, (opposite_bound b).limit -ℤ pos 1)) (sym q)
+      (subst (λ z. Contains pairs (x, z)) (back c) (listed_at pairs j (x, c) e))) where
+        back : (c : ℤ) → c ≡ (c +ℤ pos 1) -ℤ pos 1
+        back c = omega (arith, ints)
+
+  split-end : (j : ℕ) (m : Meaning) (sign : Bool) → slice_get ms (length f.atoms + j) ≡ Some m → j < length pairs
+      → IsEnd (signed_bound sign m)
+  split-end j m sign e b =
       let p = some-at pairs j b in
       ends j p.0.0 p.0.1 m sign p.1 (bound-is (meaning_view m) record { column = p.0.0; upper = true; limit = p.0.1 }
       (sym (meant-at (length f.atoms + j) m e)
@@ -202,33 +200,72 @@ module _ (f : Form) (pairs : List (ℕ × ℤ)) (ms : List Meaning) (trail : Lis
         bound-is : (a c : Bound) → Some (Some a) ≡ Some (Some c) → a ≡ c
         bound-is a c e = cc
 
-  limit-number : (b : Limit) → Contains t.bounds b → IsNumberOf f pairs b.limit
-  limit-number b i =
-      let a = source b i in
-      let e : b.limit ≡ (signed_bound a.sign a.meaning).limit = ap (λ (c : Limit). c.limit) a.is_bound in
-      subst (IsNumberOf f pairs) (sym e) (elim (below-or a.place (length f.atoms)) [
-        | inl c ↦ inr (inl (own-limit a.place a.meaning a.sign a.is_meaning c))
-        | inr c ↦ inr (inr (later a.place a.meaning a.sign a.is_meaning c))
-      ]) where
-        later : (k : ℕ) (m : Meaning) (sign : Bool) → slice_get ms k ≡ Some m → length f.atoms ≤ k
-            → IsSplitEnd pairs (signed_bound sign m).limit
-        later k m sign e c =
-            let j = k - length f.atoms in
-            let w = slice_get_within ms k m e in
-            let n = length-map ms (λ m. Some (meaning_view m)) in
-            let q : length f.atoms + j ≡ k = omega arith in
-            split-limit j m sign (subst (λ i. slice_get ms i ≡ Some m) (sym q) e) (in-pairs j m
-            (subst (λ i. slice_get ms i ≡ Some m) (sym q) e)) where
-              in-pairs : (j : ℕ) (m : Meaning) → slice_get ms (length f.atoms + j) ≡ Some m → j < length pairs
-              in-pairs j m e =
-                  let w = slice_get_within (bounds_from (length f.shapes) (f.atoms ++ map split_atom pairs)) (length f.atoms + j)
-                  (Some (meaning_view m)) (meant-at (length f.atoms + j) m e) in
-                  let a = bounds-length (length f.shapes) (f.atoms ++ map split_atom pairs) in
-                  let b = length-append f.atoms (map split_atom pairs) in
-                  let c = length-map pairs split_atom in omega arith where
-                    bounds-length : (m : ℕ) (atoms : List Inequality) → length (bounds_from m atoms) ≡ length atoms
-                    bounds-length m [] = refl
-                    bounds-length m (i ∷ atoms) = ap suc (bounds-length (cond (is_long i.terms) (m + 1) m) atoms)
+  -- a bound is one of the query's literals, or an end of a split
+  own-or-end : (b : Limit) → Contains t.bounds b
+      → IsBound f [] record { column = b.column; upper = b.upper; limit = b.limit }
+      ⊎ IsEnd record { column = b.column; upper = b.upper; limit = b.limit }
+  own-or-end b i = go (source b i) where
+    bare : Limit → Bound
+    bare b = record { column = b.column; upper = b.upper; limit = b.limit }
+
+    later : (k : ℕ) (m : Meaning) (sign : Bool) → slice_get ms k ≡ Some m → length f.atoms ≤ k → IsEnd (signed_bound sign m)
+    later k m sign e c =
+        let j = k - length f.atoms in
+        let w = slice_get_within ms k m e in
+        let n = length-map ms (λ m. Some (meaning_view m)) in
+        let q : length f.atoms + j ≡ k = omega arith in
+        split-end j m sign (subst (λ i. slice_get ms i ≡ Some m) (sym q) e) (in-pairs j m
+        (subst (λ i. slice_get ms i ≡ Some m) (sym q) e)) where
+          in-pairs : (j : ℕ) (m : Meaning) → slice_get ms (length f.atoms + j) ≡ Some m → j < length pairs
+          in-pairs j m e =
+              let w = slice_get_within (bounds_from (length f.shapes) (f.atoms ++ map split_atom pairs)) (length f.atoms + j)
+              (Some (meaning_view m)) (meant-at (length f.atoms + j) m e) in
+              let a = bounds-length (length f.shapes) (f.atoms ++ map split_atom pairs) in
+              let b = length-append f.atoms (map split_atom pairs) in
+              let c = length-map pairs split_atom in omega arith where
+                bounds-length : (m : ℕ) (atoms : List Inequality) → length (bounds_from m atoms) ≡ length atoms
+                bounds-length m [] = refl
+                bounds-length m (i ∷ atoms) = ap suc (bounds-length (cond (is_long i.terms) (m + 1) m) atoms)
+
+    go : IsBoundAt trail 1 ms b → IsBound f [] (bare b) ⊎ IsEnd (bare b)
+    go a = subst (λ (c : Limit). IsBound f [] (bare c) ⊎ IsEnd (bare c)) (sym a.is_bound)
+        (elim (below-or a.place (length f.atoms)) [
+          | inl c ↦ inl (own-bound a.place a.meaning a.sign a.is_meaning c)
+          | inr c ↦ inr (later a.place a.meaning a.sign a.is_meaning c)
+        ])
+
+  pub limit-number : (b : Limit) → Contains t.bounds b → IsNumberOf f pairs b.limit
+  limit-number b i = elim (own-or-end b i) [
+    | inl o ↦ inr (inl (record { column = b.column; upper = b.upper; limit = b.limit }, o, refl))
+    | inr e ↦ inr (inr (b.column, e))
+  ]
+
+  -- ---- where columns stand after a check
+
+  stand-at : (b : Limit) → Contains t.bounds b → IsStand f pairs b.column b.limit
+  stand-at b i = elim (own-or-end b i) [ inl o ↦ inr (inl (b.upper, o)) | inr e ↦ inr (inr e) ]
+
+  pub kept : (u : State) (budget : ℕ) → IsChecked t u budget → IsSound u → IsTableauFor f pairs ms trail u
+  kept u budget k sound = record {
+    meanings = h.meanings;
+    sound = sound;
+    given = ap (λ (s : State). s.given) k.same ∙ h.given;
+    columns = ap (λ (s : State). s.columns) k.same ∙ h.columns;
+    bounds = ap (λ (s : State). s.bounds) k.same ∙ h.bounds;
+    stand = λ c out. elim (below-or c t.columns) [
+      | inl l ↦ stays c (k.outside c l out)
+      | inr l ↦ inl (beyond u.values c (let n = sound.count in let m = ap (λ (s : State). s.columns) k.same in omega arith))
+    ];
+  } where
+    beyond : (values : List (ℤ × ℤ)) (c : ℕ) → length values ≤ c → places_of values c ≡ pos 0
+    beyond [] c l = refl
+    beyond (v ∷ values) zero l = absurd (omega arith)
+    beyond (v ∷ values) (suc c) l = beyond values c (omega arith)
+
+    stays : (c : ℕ) → StaysOrIsBound t u c → IsStand f pairs c (places_of u.values c)
+    stays c (inl (out, e)) = subst (IsStand f pairs c) (sym (ap top_of e)) (h.stand c out)
+    stays c (inr (b, i, q, e)) = subst (IsStand f pairs c) (sym (ap top_of e))
+        (subst (λ x. IsStand f pairs x b.limit) q (stand-at b i))
 
   place-number : (z : ℤ) (c : ℕ) → z ≢ pos 0 → (¬ Contains t.basis c) → slice_get t.values c ≡ Some (z, pos 1)
       → IsNumberOf f pairs z

@@ -1,13 +1,12 @@
 -- The rows of atoms, made one after the other, and that a tableau takes them.
-use Rattle.std.specs.Prelude.{ℕ, zero, suc, ◌≡◌, ◌≢◌, ◌⊎◌, ◌+◌, ◌<◌, ◌≤◌, ◌^◌, Bool, true, false, cond, List, [], ◌∷◌, ◌++◌, length, map, max, nat_lt, Some, slice_get, refl}
+use Rattle.std.specs.Prelude.{ℕ, zero, suc, ◌≡◌, ◌≢◌, ◌+◌, ◌<◌, ◌≤◌, ◌^◌, Bool, true, false, cond, List, [], ◌∷◌, ◌++◌, length, map, max, nat_lt, Some, slice_get, refl}
 use Rattle.std.specs.List.{AllByRecursion, AllPairs}
-use Rattle.std.proofs.Common.{sym, ◌∙◌, ap, subst, arith, inl, inr, get_or}
+use Rattle.std.proofs.Common.{sym, ◌∙◌, ap, subst, arith, get_or}
 use Rattle.std.proofs.lemmas.Bool.Decides.{nat_tests}
 use Rattle.std.proofs.lemmas.Int.{ints}
-use Rattle.std.proofs.lemmas.List.{append_assoc, append-nil, length-append}
 use Rattle.std.proofs.lemmas.List.Elements.{recursion_from_All}
 use Rattle.std.proofs.lemmas.List.Kept.{AllPairs-from_increasing}
-use Rattle.std.proofs.lemmas.Option.{slice_get-get_or, slice_get_within}
+use Rattle.std.proofs.lemmas.Option.{slice_get-get_or}
 use lib.IntN.{ℤ, pos, negsuc}
 use Rattle.kind_num.specs.declared.Shape.{Shape}
 use Rattle.kind_num.specs.declared.Shape.TheVariants.{Number}
@@ -17,7 +16,6 @@ use Rattle.cnf_maker.specs.Plain.{IsPlain, IsPlainAtom, IsTermOf}
 use Rattle.int_simplex.specs.Given.{AreGiven, last_column}
 use Rattle.int_simplex.specs.Sparse.{IsFrom}
 use Rattle.int_simplex.proofs.Sparse.{sparse_more, sparse_wider, sparse_differ, sparse_within, entry_last, entry_more, entry_past}
-use Rattle.smt_solver.specs.Sums.{own_row}
 
 pub long-by-length : (ts : List (ℕ × ℤ)) → nat_lt 1 (length ts) ≡ is_long ts
 long-by-length [] = refl

@@ -4,7 +4,7 @@ use Rattle.std.proofs.Common.{◌∙◌, ap, subst, arith}
 use lib.IntN.{ℤ, pos}
 use Rattle.proof_steps.specs.declared.Source.{Source}
 use Rattle.proof_steps.specs.declared.Source.TheVariants as s
-use Rattle.proof_steps.specs.View.{Move, theory}
+use Rattle.proof_steps.specs.View.{theory}
 use Rattle.line_laws.specs.Lines.{Part}
 use Rattle.line_laws.specs.Steps.{own_lines, line_parts, denied, conflict_step}
 use Rattle.smt_solver.specs.declared.numbers.steps.Used.{Used}

@@ -1,5 +1,5 @@
 -- Systems and obligations whose terms compare no numbers.
-use Rattle.std.specs.Prelude.{ℕ, ◌≡◌, Bool, true, false, ◌&&◌, List, [], ◌∷◌}
+use Rattle.std.specs.Prelude.{ℕ, ◌≡◌, Bool, true, ◌&&◌, List, [], ◌∷◌}
 use Rattle.sys_terms.specs.Boolean.{is_boolean}
 use Rattle.sys_terms.specs.View.{Formula, Machine, Task, base, step, lemma_first, lemma_next, implied, with_states}
 use Rattle.sys_terms.specs.Queries.{query_of}

@@ -6,7 +6,6 @@ use Rattle.proof_steps.specs.Bounds.{bounds_from}
 use Rattle.cnf_maker.specs.Plain.{IsPlain}
 use Rattle.int_simplex.specs.Farkas.{Refutes}
 use Rattle.line_laws.specs.Steps.{IsStepOf, denied}
-use Rattle.sat_core.specs.declared.assigned.Assigned.{Assigned}
 use Rattle.sat_core.specs.Trail.{IsApart, IsFalse}
 use Rattle.smt_solver.specs.declared.numbers.meanings.Meaning.{Meaning}
 use Rattle.smt_solver.specs.Sums.{all_meant, all_divisors, divisor_in}

@@ -3,12 +3,16 @@ pub mod Answered
 pub mod Asserting
 pub mod Boolean
 pub mod Conflicting
+pub mod Ending
 pub mod Growing
+pub mod Near
 pub mod NeedRoom
 pub mod NumberStates
 pub mod Room
 pub mod Run
+pub mod Shares
 pub mod States
 pub mod Stops
 pub mod Sums
+pub mod Turning
 pub mod Used

@@ -1,7 +1,6 @@
 -- How much room the ranges of a query leave to splits.
 use Rattle.std.specs.Prelude.{ℕ, suc, ◌≡◌, ◌+◌, List, [], ◌∷◌, Some, slice_get}
 use lib.IntN.{ℤ, pos, negsuc, ◌-ℤ◌}
-use lib.Signed.{◌≤ℤ◌}
 use Rattle.kind_num.specs.declared.Shape.{Shape}
 use Rattle.kind_num.specs.declared.Shape.TheVariants.{Flag, Number}
 use Rattle.proof_steps.specs.Rows.{Form}

@@ -9,7 +9,7 @@ use Rattle.proof_steps.specs.Splits.{IsStand, IsSplit}
 use Rattle.proof_steps.specs.Stopped.{IsLong, IsNumberOf, IsPastStep}
 use Rattle.cnf_maker.specs.Plain.{IsPlain}
 use Rattle.int_simplex.specs.State.{State, places_of, beginning}
-use Rattle.int_simplex.specs.Answers.{IsLong as IsLongFrom, IsNumberOf as IsNumberIn}
+use Rattle.int_simplex.specs.Answers.{IsChecked, IsLong as IsLongFrom, IsNumberOf as IsNumberIn}
 use Rattle.int_simplex.specs.Sound.{IsSound}
 use Rattle.int_simplex.specs.Points.{Fit}
 use Rattle.int_cuts.specs.Splits.{IsFirstBroken}
@@ -60,3 +60,9 @@ PastChecksArePast =
     (f : Form) (pairs : List (ℕ × ℤ)) (ms : List Meaning) (trail : List Assigned) (t : State) (step : Operation)
     → IsTableauFor f pairs ms trail t → IsPastStep t.given t.columns (IsNumberIn t) step
     → IsPastStep (rows_of f) (columns_of f) (IsNumberOf f pairs) step
+
+-- a check that ends leaves such a tableau
+abbrev pub ChecksKeepTableaus : Type 0
+ChecksKeepTableaus =
+    (f : Form) (pairs : List (ℕ × ℤ)) (ms : List Meaning) (trail : List Assigned) (t u : State) (budget : ℕ)
+    → IsTableauFor f pairs ms trail t → IsChecked t u budget → IsSound u → IsTableauFor f pairs ms trail u

@@ -5,10 +5,11 @@ ghost use Rattle.std.specs.Prelude.{List};
 ghost use Rattle.sys_terms.specs.View.{Formula, Machine, Task, Question};
 ghost use Rattle.smt_solver.specs.Boolean.{BooleanQueriesHaveNoAtoms};
 ghost use Rattle.smt_solver.specs.Conflicting.{RefutedBoundsConflict};
+ghost use Rattle.smt_solver.specs.Ending.{ListedAreOfTheQuery, RefutationsAreOfTheQuery};
 ghost use Rattle.smt_solver.specs.Growing.{RunsGrow, RunsTakeSteps, SplitsAreTaken};
 ghost use Rattle.smt_solver.specs.NumberStates.{WholeValuesMeet};
 ghost use Rattle.smt_solver.specs.Run.{ClausesFit};
-ghost use Rattle.smt_solver.specs.Stops.{BrokenNumbersSplit, LongChecksAreLong, PastChecksArePast};
+ghost use Rattle.smt_solver.specs.Stops.{BrokenNumbersSplit, ChecksKeepTableaus, LongChecksAreLong, PastChecksArePast};
 ghost use Rattle.smt_solver.specs.NeedRoom.{FlagsBoundConflicts, RangesSuffice, SplitsNeedRoom, StopsNeedAtoms};
 
 use line_laws::laws::{
@@ -76,6 +77,11 @@ pub fn past_checks_are_past()
     ensures { PastChecksArePast }
 {}
 
+/// A check that ends leaves each column outside the basis at 0, a bound of the query or an end of a split.
+pub fn checks_keep_tableaus()
+    ensures { ChecksKeepTableaus }
+{}
+
 /// What holds of a run at every turn still holds when its form gets further atoms.
 pub fn runs_grow()
     ensures { RunsGrow }
@@ -103,3 +109,13 @@ pub fn refuted_bounds_conflict()
 {
     refutations_give_steps();
 }
+
+/// The clauses that a run over a form with splits lists are conflicts of the query with these splits.
+pub fn listed_are_of_the_query()
+    ensures { ListedAreOfTheQuery }
+{}
+
+/// Steps that refute the form with the splits' atoms refute the query with these atoms.
+pub fn refutations_are_of_the_query()
+    ensures { RefutationsAreOfTheQuery }
+{}

@@ -1,6 +1,9 @@
 //! The parts of a solver for queries that compare numbers. Nothing calls them yet.
 
+pub mod asserting;
 pub mod meanings;
 pub mod rows;
 pub mod states;
 pub mod steps;
+pub mod sums;
+pub mod turns;

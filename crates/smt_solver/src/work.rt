@@ -3,6 +3,8 @@
 ghost use Rattle.std.specs.Prelude.{◌≡◌, ◌<◌, ◌++◌, ◌∷◌, [], List, true, length, map, suc, OnOk, IfOk};
 ghost use Rattle.proof_steps.specs.View.{Move, added, clause_view, step_view};
 ghost use Rattle.cnf_maker.specs.View.{AreFew, form_view};
+ghost use Rattle.sat_core.specs.Shown.{Adds};
+ghost use Rattle.smt_solver.specs.Growing.{IsTaken, SaysMore};
 ghost use Rattle.smt_solver.specs.Run.{AreFit, IsRun, work_view};
 
 use crate::fault::SolveFault;
@@ -70,6 +72,40 @@ pub fn learn(alloc: Global, work: &mut Work) -> Result<(), SolveFault>
     work.search.learn(alloc)?;
     let step = last_step(alloc, work.search.log())?;
     let clause = added_clause(&step).copied(alloc)?;
+    work.listed.push(clause)?;
+    work.steps.push(step)?;
+    Ok(())
+}
+
+/// Adds a theory step that breaks no rule, with its clause.
+pub fn take_step(alloc: Global, work: &mut Work, step: Step) -> Result<(), SolveFault>
+    requires run { IsRun (work_view work.old) }
+    requires taken { IsTaken (work_view work.old) (step_view step) }
+    ensures run { OnOk result (IsRun (work_view work.new)) }
+    ensures form { OnOk result ((work_view work.new).form ≡ (work_view work.old).form) }
+    ensures listed { OnOk result ((work_view work.new).listed ≡ (work_view work.old).listed) }
+    ensures search { OnOk result
+        (Adds (work_view work.old).search (work_view work.new).search (added (step_view step))) }
+{
+    work.search.add(alloc, added_clause(&step))?;
+    work.steps.push(step)?;
+    Ok(())
+}
+
+/// Adds a theory step that breaks no rule, with its clause, which says something new and is listed as a
+/// conflict.
+pub fn count_step(alloc: Global, work: &mut Work, step: Step) -> Result<(), SolveFault>
+    requires run { IsRun (work_view work.old) }
+    requires taken { IsTaken (work_view work.old) (step_view step) }
+    requires says_more { SaysMore (work_view work.old).search.known (added (step_view step)) }
+    ensures run { OnOk result (IsRun (work_view work.new)) }
+    ensures form { OnOk result ((work_view work.new).form ≡ (work_view work.old).form) }
+    ensures more { OnOk result (length (work_view work.new).listed ≡ suc (length (work_view work.old).listed)) }
+    ensures search { OnOk result
+        (Adds (work_view work.old).search (work_view work.new).search (added (step_view step))) }
+{
+    let clause = added_clause(&step).copied(alloc)?;
+    work.search.add(alloc, &clause)?;
     work.listed.push(clause)?;
     work.steps.push(step)?;
     Ok(())

@@ -1,7 +1,6 @@
-use Rattle.std.specs.Prelude.{List, ◌≡◌, ◌+◌, length, map}
+use Rattle.std.specs.Prelude.{◌≡◌, ◌+◌, length, map}
 use Rattle.std.proofs.Common.{subst, sym, ap, ◌∙◌, arith}
 use Rattle.std.proofs.lemmas.List.{length-map}
-use lib.IntN.{ℤ}
 use Rattle.proof_steps.specs.View.{atom_view, row_view}
 use Rattle.proof_steps.specs.Rows.{Form, defining_rows, rows_of, columns_of}
 use Rattle.cnf_maker.specs.View.{form_view}
