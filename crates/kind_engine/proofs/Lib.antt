@@ -1,0 +1,7 @@
+pub mod Lists
+pub mod Breaking
+pub mod Refuting
+pub mod Histories
+pub mod Citing
+pub mod Halting
+pub mod Tasks

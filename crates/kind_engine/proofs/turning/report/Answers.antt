@@ -1,0 +1,41 @@
+use Rattle.std.proofs.Common.{◌<◌, length, take, subst, sym, ap}
+use Rattle.proof_steps.specs.StopView.{stop_view}
+use Rattle.sys_terms.specs.View.{Machine, system_view}
+use Rattle.board_core.specs.declared.plan.Plan.{Plan}
+use Rattle.board_core.specs.Entries.{IsTrueAfter, spent, stopped}
+use Rattle.board_core.proofs.Turns.{begins-take}
+use Rattle.kind_engine.specs.Halts.{halted_grounds}
+use Rattle.kind_engine.proofs.Histories.{true-later, depth-later}
+use Rattle.kind_engine.proofs.turning.report.Goals as goal
+
+pub post_halted-requires : goal.post_halted-requires
+post_halted-requires g c =
+    let b = g.B.BoardSeat in
+    let m = system_view c.args.subject.now.system in
+    let plan = c.args.subject.now.plan in
+    let seen = b.seen c.args.seat.now in
+    let front = b.front c.args.seat.now in
+    let h = c.in-Stopped.halted in
+    let says = spent c.args.subject.now.engine c.args.property (stopped (stop_view h.stop)) (halted_grounds h) in
+    record {
+      true_one = subst (λ (k : Machine). IsTrueAfter k (b.plan c.args.seat.now) seen says) (sym c.requires.book.0)
+          (subst (λ (k : Plan). IsTrueAfter m k seen says) (sym c.requires.book.1)
+          (true-later m plan (take front seen) seen says (begins-take front seen) (rw c.in-Stopped.is at c.requires.task)));
+    }
+
+pub post_spent-requires : goal.post_spent-requires
+post_spent-requires g c =
+    let b = g.B.BoardSeat in
+    let seen = b.seen c.args.seat.now in
+    let front = b.front c.args.seat.now in
+    let h = rw c.in-Ended.is at c.requires.task in
+    record {
+      true_one = (
+        subst (λ (k : Machine). c.args.property < length k.properties) (sym c.requires.book.0) h.0,
+        (
+          ap (λ (k : Plan). k.depth) (sym c.requires.book.1),
+          depth-later (take front seen) seen c.args.subject.now.engine c.args.property c.args.subject.now.plan.depth
+              (begins-take front seen) h.1,
+        ),
+      );
+    }

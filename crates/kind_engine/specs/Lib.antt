@@ -1,0 +1,5 @@
+pub mod Ready
+pub mod Lemmas
+pub mod Halts
+pub mod Tasks
+pub mod Engines

@@ -1,0 +1,95 @@
+//! Bounded search: one instant further.
+
+ghost use Rattle.std.specs.Prelude.{◌≡◌, ◌<◌, ◌≤◌, [], length, suc, IfOk, OnOk};
+ghost use Rattle.sys_terms.specs.View.{system_view};
+ghost use Rattle.cert_rules.specs.View.{proofs_view};
+ghost use Rattle.cert_rules.specs.Facts.{AreBases};
+ghost use Rattle.board_core.specs.Seats.{Begins};
+ghost use Rattle.kind_engine.specs.Ready.{IsReady};
+ghost use Rattle.kind_engine.specs.Tasks.{IsTask};
+
+use crate::asking::base_at;
+use crate::checking::base_of;
+use crate::halted::Halted;
+use crate::posting::{post_base, post_broken};
+use crate::subject::Subject;
+use crate::task::Task;
+use board_core::{BoardSeat, EngineFault};
+use cert_rules::laws::facts_are_true;
+use proof_steps::Proof;
+use smt_solver::Answer;
+use std::alloc::Global;
+use sys_terms::Obligation;
+
+/// The task after an instant that is refuted too. At the depth the base is posted.
+fn refuted<B: BoardSeat>(
+    alloc: Global,
+    subject: &Subject,
+    seat: &mut B,
+    property: u32,
+    proofs: Vec<Proof>,
+) -> Result<Task, EngineFault>
+    requires ready { IsReady (system_view subject.now.system) subject.now.plan }
+    requires engine { subject.now.engine ≡ 0 }
+    requires machine { B.machine seat.old ≡ system_view subject.now.system }
+    requires named { property < length (system_view subject.now.system).properties }
+    requires within { length proofs.items ≤ suc subject.now.plan.depth }
+    requires some { 1 ≤ length proofs.items }
+    requires refuted { AreBases (system_view subject.now.system) property [] 0 (proofs_view proofs.items) }
+    ensures seat { (B.number seat.new ≡ B.number seat.old) × (B.machine seat.new ≡ B.machine seat.old)
+        × (B.plan seat.new ≡ B.plan seat.old) × (B.lent seat.new ≡ B.lent seat.old) }
+    ensures front { B.front seat.new ≡ B.front seat.old }
+    ensures seen { OnOk result (Begins (B.seen seat.old) (B.seen seat.new)) }
+    ensures task { IfOk result (λ t. IsTask (system_view subject.now.system) subject.now.plan (B.seen seat.new)
+        subject.now.engine (length proofs.items) property t) }
+{
+    if proofs.len() <= subject.plan.depth as usize {
+        return Ok(Task::Refuted(proofs));
+    }
+    let base = base_of(alloc, subject, &[], property, subject.plan.depth, &proofs)?;
+    post_base(seat, base)?;
+    Ok(Task::Ended)
+}
+
+/// Asks about the instant after those that these proofs refute.
+pub(crate) fn at_next_instant<B: BoardSeat>(
+    alloc: Global,
+    subject: &Subject,
+    seat: &mut B,
+    property: u32,
+    proofs: Vec<Proof>,
+) -> Result<Task, EngineFault>
+    requires ready { IsReady (system_view subject.now.system) subject.now.plan }
+    requires engine { subject.now.engine ≡ 0 }
+    requires machine { B.machine seat.old ≡ system_view subject.now.system }
+    requires named { property < length (system_view subject.now.system).properties }
+    requires within { length proofs.items ≤ subject.now.plan.depth }
+    requires refuted { AreBases (system_view subject.now.system) property [] 0 (proofs_view proofs.items) }
+    ensures seat { (B.number seat.new ≡ B.number seat.old) × (B.machine seat.new ≡ B.machine seat.old)
+        × (B.plan seat.new ≡ B.plan seat.old) × (B.lent seat.new ≡ B.lent seat.old) }
+    ensures front { B.front seat.new ≡ B.front seat.old }
+    ensures seen { OnOk result (Begins (B.seen seat.old) (B.seen seat.new)) }
+    ensures task { IfOk result (λ t. IsTask (system_view subject.now.system) subject.now.plan (B.seen seat.new)
+        subject.now.engine (suc (length proofs.items)) property t) }
+{
+    facts_are_true();
+    let instant = proofs.len() as u32;
+    match base_at(alloc, subject, property, instant, &[])? {
+        Answer::Unsat(proof) => {
+            let mut proofs = proofs;
+            proofs.push(proof)?;
+            refuted(alloc, subject, seat, property, proofs)
+        }
+        Answer::Sat(path) => {
+            post_broken(seat, property, path)?;
+            Ok(Task::Decided)
+        }
+        Answer::Stop(stop) => Ok(Task::Stopped(Halted {
+            what: Obligation::Base { property, instant },
+            places: Vec::new(alloc),
+            proofs,
+            paths: Vec::new(alloc),
+            stop,
+        })),
+    }
+}

@@ -1,0 +1,25 @@
+//! How far an engine is.
+
+use crate::halted::Halted;
+use proof_steps::Proof;
+
+/// How far an engine is with a property.
+#[derive(Drop)]
+pub(crate) enum Task {
+    /// Bounded search: the instants so far are refuted, by a proof each.
+    Refuted(Vec<Proof>),
+    /// A query stopped.
+    Stopped(Halted),
+    /// It went to its depth, and what shows it is posted.
+    Ended,
+    /// An entry holds or breaks it.
+    Decided,
+}
+
+/// The number of the next turn that asks, and each property's task. Bounded search asks about instant n
+/// in turn n. The turn behind the depth tells why properties are undecided.
+#[derive(Drop)]
+pub(crate) struct Search {
+    pub(crate) turn: u32,
+    pub(crate) tasks: Vec<Task>,
+}
