@@ -12,4 +12,5 @@ pub mod SizeCuts
 pub mod Measures
 pub mod Greatest
 pub mod OwnTerms
+pub mod FrameTerms
 pub mod Contracted

@@ -12,4 +12,5 @@ pub mod Measured
 pub mod Chained
 pub mod Keeping
 pub mod OwnTerms
+pub mod FrameTerms
 pub mod Contracted
