@@ -10,7 +10,7 @@ pub mod SizeSummaries
 pub mod SizeCuts
 pub mod Measured
 pub mod Chained
-pub mod Keeping
+pub mod Inner
 pub mod OwnTerms
 pub mod FrameTerms
 pub mod Contracted

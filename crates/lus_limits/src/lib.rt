@@ -6,7 +6,7 @@ mod calls;
 mod chains;
 mod contract_size;
 pub mod laws;
-mod keeping;
+mod inner;
 mod measuring;
 mod own;
 mod part;
