@@ -12,5 +12,6 @@ pub mod SizeCuts
 pub mod Measures
 pub mod Greatest
 pub mod OwnTerms
+pub mod KnownNames
 pub mod FrameTerms
 pub mod Contracted

@@ -12,5 +12,6 @@ pub mod Measured
 pub mod Chained
 pub mod Inner
 pub mod OwnTerms
+pub mod Known
 pub mod FrameTerms
 pub mod Contracted

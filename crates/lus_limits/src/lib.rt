@@ -7,6 +7,7 @@ mod chains;
 mod contract_size;
 pub mod laws;
 mod inner;
+mod known;
 mod measuring;
 mod own;
 mod part;
