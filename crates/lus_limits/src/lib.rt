@@ -6,6 +6,7 @@ mod calls;
 mod chains;
 mod contract_size;
 pub mod laws;
+mod frame_size;
 mod inner;
 mod known;
 mod measuring;

@@ -151,7 +151,7 @@ fn free(presence: Size) -> Size
 }
 
 /// Of a stream, where it is not among these names.
-fn free_term<'a>(known: &NameTable, names: Names<'a, '_>, stream: &'a Param) -> Size
+pub(crate) fn free_term<'a>(known: &NameTable, names: Names<'a, '_>, stream: &'a Param) -> Size
     ensures { size_view result ≡ cut_term (cond (named_in (word_view (stream.now).name).text known.now) no_size
         (free_size (presence (names_view names.entry) (clock_from (param_view stream.now).clock)))) }
 {
