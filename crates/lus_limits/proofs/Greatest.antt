@@ -1,6 +1,9 @@
 -- The greatest sizes so far, cut.
 use Rattle.lus_limits.proofs.SizeCuts.{twice, two_alike, three_alike}
-use Rattle.std.proofs.Common.{◌≡◌, refl, sym, ◌∙◌, ap, arith}
+use Rattle.std.proofs.Common.{◌≡◌, List, [], ◌∷◌, map, refl, sym, ◌∙◌, ap, arith}
+use Rattle.lus_tree.specs.declared.expression.Expr.{Expr}
+use Rattle.lus_tree.specs.View.{expr_view, exprs_view, joined}
+use Rattle.lus_meaning.specs.Program.{listed}
 use Rattle.lus_meaning.specs.Sizes.{Size, leaf, given_size}
 use Rattle.lus_limits.specs.Peaks.{no_size, greater}
 use Rattle.lus_limits.specs.SizeCuts.{cut_term}
@@ -27,3 +30,7 @@ greater_cuts a b = same_size (greater (cut_term a) (cut_term b)) (cut_term (grea
 pub given_cut : (p a : Size) → cut_term (given_size (cut_term p) (cut_term a)) ≡ cut_term (given_size p a)
 given_cut p a =
     two_alike leaf leaf _ _ refl (three_alike (cut_term p) p (cut_term a) a leaf leaf (twice p) (twice a) refl)
+
+pub listed_view : (es : List Expr) → listed (joined (exprs_view es)) ≡ map expr_view es
+listed_view [] = refl
+listed_view (e ∷ es) = ap (λ xs. expr_view e ∷ xs) (listed_view es)

@@ -12,4 +12,7 @@ pub mod SizeCuts
 pub mod Measures
 pub mod Greatest
 pub mod OwnTerms
+pub mod Frames
+pub mod KnownNames
+pub mod FrameTerms
 pub mod Contracted

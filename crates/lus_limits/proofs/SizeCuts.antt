@@ -326,7 +326,7 @@ sofar_alike (Some cs) a b h =
     ap (λ x. x ∷ [])
     (two_alike leaf leaf _ _ refl (two_alike leaf leaf _ _ refl (one_alike _ _ (two_alike leaf leaf _ _ refl (one_alike a b h)))))
 
-own_alike : (given : List Name) (n : Component) (r q : ContractPeaks) → Same r q → AllAlike (own_by given n r) (own_by given n q)
+pub own_alike : (given : List Name) (n : Component) (r q : ContractPeaks) → Same r q → AllAlike (own_by given n r) (own_by given n q)
 own_alike given n r q h =
     let e : cut_modes r.modes ≡ cut_modes q.modes = ap (λ z. z.modes) h in
     let x : (e : Expression) → Alike (size_in n r.modes e) (size_in n q.modes e) = expression_alike n r.modes q.modes e in
@@ -342,7 +342,7 @@ own_alike given n r q h =
     (both_alike (sofar_by n.contract r.assumed.whole) (sofar_by n.contract q.assumed.whole) _ _
     (sofar_alike n.contract _ _ (ap (λ z. z.assumed.whole) h)) (asserts_alike n r.modes q.modes e n.body)))))
 
-site_alike : (n : Component) (ms ns : ModeSizes) → cut_modes ms ≡ cut_modes ns → (s : Site) (m : Manner) →
+pub site_alike : (n : Component) (ms ns : ModeSizes) → cut_modes ms ≡ cut_modes ns → (s : Site) (m : Manner) →
     AllAlike (site_sizes n ms s no_component m) (site_sizes n ns s no_component m)
 site_alike n ms ns h s plain =
     ap (λ r. cut_term (two leaf (presence n s.clock)) ∷ r)
@@ -377,7 +377,7 @@ frame_alike n zs given r q h =
     greater_alike _ _ _ _ (peak_alike _ _ (own_alike given n r q h))
     (sites_alike n r.modes q.modes (ap (λ z. z.modes) h) (all_sites n) zs)
 
-same_summary : (a b : SizeSummary) → a.contract ≡ b.contract → a.called ≡ b.called → a.imported ≡ b.imported → a ≡ b
+pub same_summary : (a b : SizeSummary) → a.contract ≡ b.contract → a.called ≡ b.called → a.imported ≡ b.imported → a ≡ b
 same_summary a b e f g = λ i. record { contract = e i; called = f i; imported = g i }
 
 pub size_summary_cuts : SizeSummaryCuts

@@ -116,8 +116,8 @@ both_kept (o ∷ os) =
     length-append (start_in o.standing o.expression) (flat_map (λ o. start_in o.standing o.expression) os) in
     omega arith
 
-kept_in : (n : Component) → length (memories n) + length (starts n) ≡ states_in (sides n)
-kept_in n = both_kept (flat_map (λ x. occurrences n x.0 x.1) (texts n)) ∙ texts_kept n (texts n) ∙ ap states_in (sides_are n)
+inner_in : (n : Component) → length (memories n) + length (starts n) ≡ states_in (sides n)
+inner_in n = both_kept (flat_map (λ x. occurrences n x.0 x.1) (texts n)) ∙ texts_kept n (texts n) ∙ ap states_in (sides_are n)
 
 -- ---- the cells of a frame
 
@@ -167,7 +167,7 @@ own_counted n k =
     length_mapped memory_cell ms ∙ in_order_length (λ p. p.number) (memories n) (memories_counted n k) in
     let g : length (map start_cell ss) ≡ length (starts n) =
     length_mapped start_cell ss ∙ in_order_length (λ p. p.number) (starts n) (starts_counted n k) in
-    let h : length (memories n) + length (starts n) ≡ states_in (sides n) = kept_in n in
+    let h : length (memories n) + length (starts n) ≡ states_in (sides n) = inner_in n in
     omega arith
   where
     none : (c : Option (List ContractStatement)) → length (contract_cells (as_import []) c) ≡ 0

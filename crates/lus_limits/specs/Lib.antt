@@ -10,6 +10,9 @@ pub mod SizeSummaries
 pub mod SizeCuts
 pub mod Measured
 pub mod Chained
-pub mod Keeping
+pub mod Inner
 pub mod OwnTerms
+pub mod Frames
+pub mod Known
+pub mod FrameTerms
 pub mod Contracted

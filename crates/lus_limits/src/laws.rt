@@ -4,6 +4,7 @@ ghost use Rattle.lus_limits.specs.Instances.{MadeOfCallees};
 ghost use Rattle.lus_limits.specs.Widths.{WidthByText, WidthIsPlain, WidthCuts};
 ghost use Rattle.lus_limits.specs.Counts.{ContractByText, PropertiesByText, CountCuts, PropertyCuts};
 ghost use Rattle.lus_limits.specs.Summaries.{SummaryByText};
+ghost use Rattle.lus_limits.specs.FrameTerms.{SitesInAnyOrder};
 ghost use Rattle.lus_limits.specs.OwnTerms.{OwnTermsByItems};
 ghost use Rattle.lus_limits.specs.SizeCuts.{SizeSummaryCuts, TermsCut};
 ghost use Rattle.lus_limits.specs.SizeSummaries.{SizeSummaryByText, TermsBySummaries, LimitsByPeaks};
@@ -68,4 +69,10 @@ pub fn size_summaries_cut()
 /// The greatest sizes of a declaration's own terms are those of its items, one by one, and of its free streams.
 pub fn own_terms_by_items()
     ensures { OwnTermsByItems }
+{}
+
+/// In a checked program what stands for the calls of a declaration is as large in the order of their numbers and in
+/// that of the text.
+pub fn sites_in_any_order()
+    ensures { SitesInAnyOrder }
 {}

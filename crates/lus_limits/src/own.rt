@@ -7,62 +7,55 @@ ghost use Rattle.lus_meaning.specs.Depends.{named_in};
 ghost use Rattle.lus_meaning.specs.Scene.{base, clock_from, clock_of_names};
 ghost use Rattle.lus_meaning.specs.Sizes.{free_size, given_size, leaf, one, presence, size_in, two};
 ghost use Rattle.lus_streams.specs.Clocks.{clock_seen};
-ghost use Rattle.lus_limits.specs.Keeping.{kept_in};
+ghost use Rattle.lus_limits.specs.Inner.{inner_in};
 ghost use Rattle.lus_limits.specs.Measured.{modes_view, size_view};
 ghost use Rattle.lus_streams.specs.Names.{names_view};
-ghost use Rattle.lus_limits.specs.OwnTerms.{all_contract_terms, body_terms, constant_terms, contract_terms, free_terms, kept_each, kept_labelled, side_on, statement_terms};
+ghost use Rattle.lus_limits.specs.OwnTerms.{all_contract_terms, body_terms, constant_terms, contract_terms, free_terms, inner_each, inner_labelled, side_on, statement_terms};
 ghost use Rattle.lus_limits.specs.Peaks.{no_size};
 ghost use Rattle.lus_limits.specs.SizeCuts.{cut_term};
 
 use lus_streams::clock::{Clock, declared};
-use crate::keeping::kept;
+use crate::inner::{given, import_terms, inner};
 use lus_streams::lookup::side_clock;
 use crate::measuring::{Scope, measure};
 use lus_streams::names::Names;
 use crate::presence::presence;
-use crate::term_size::{Size, greater, leaf, no_size, one, three, two};
+use crate::term_size::{Size, greater, leaf, no_size, one, two};
 use lus_tree::{ContractItem, Definition, Expr, Item, Named, Param};
 use name_table::NameTable;
 
-/// Of a stream that has that value where its clock is on, and 0 elsewhere.
-fn given(presence: Size, value: Size) -> Size
-    ensures { size_view result ≡ cut_term (given_size (size_view presence) (size_view value)) }
-{
-    two(leaf(), three(presence, value, leaf()))
-}
-
-/// Of an equation of names on a clock, and of what its right side keeps, which stands on another.
+/// Of an equation of names on a clock, and of what stands in its right side, on another.
 #[tactic(auto, using(crate::proofs::Greatest::greater_cuts, crate::proofs::Greatest::given_cut))]
 fn side_terms<'a>(scope: Scope<'a, '_>, own: Clock<'a>, clock: Clock<'a>, e: &'a Expr) -> Size
     ensures { size_view result ≡ cut_term (side_on (names_view scope.entry.names) (modes_view scope.entry.modes.now)
         (clock_seen own.entry) (clock_seen clock.entry) (expr_view e.now)) }
 {
     let value = measure(scope, e).size;
-    greater(given(presence(scope.names, own), value), kept(scope, clock, e))
+    greater(given(presence(scope.names, own), value), inner(scope, clock, e))
 }
 
-/// Of what labelled expressions keep.
+/// Of what stands in labelled expressions.
 #[tactic(auto, using(crate::proofs::Greatest::greatest_on, crate::proofs::Greatest::greatest_cut, crate::proofs::Greatest::greatest_end))]
-fn kept_labelled<'a>(scope: Scope<'a, '_>, labelled: &'a [Named]) -> Size
-    ensures { size_view result ≡ cut_term (kept_labelled (names_view scope.entry.names)
+fn inner_labelled<'a>(scope: Scope<'a, '_>, labelled: &'a [Named]) -> Size
+    ensures { size_view result ≡ cut_term (inner_labelled (names_view scope.entry.names)
         (modes_view scope.entry.modes.now) (map named_view labelled.now)) }
 {
     let mut size = no_size();
     for named in labelled {
-        size = greater(size, kept(scope, Clock::Base, &named.value));
+        size = greater(size, inner(scope, Clock::Base, &named.value));
     }
     size
 }
 
-/// Of what expressions keep.
+/// Of what stands in expressions.
 #[tactic(auto, using(crate::proofs::Greatest::greatest_on, crate::proofs::Greatest::greatest_cut, crate::proofs::Greatest::greatest_end))]
-fn kept_each<'a>(scope: Scope<'a, '_>, values: &'a [Expr]) -> Size
-    ensures { size_view result ≡ cut_term (kept_each (names_view scope.entry.names)
+fn inner_each<'a>(scope: Scope<'a, '_>, values: &'a [Expr]) -> Size
+    ensures { size_view result ≡ cut_term (inner_each (names_view scope.entry.names)
         (modes_view scope.entry.modes.now) (map expr_view values.now)) }
 {
     let mut size = no_size();
     for value in values {
-        size = greater(size, kept(scope, Clock::Base, value));
+        size = greater(size, inner(scope, Clock::Base, value));
     }
     size
 }
@@ -75,17 +68,19 @@ fn contract_terms<'a>(scope: Scope<'a, '_>, item: &'a ContractItem) -> Size
 {
     match item {
         ContractItem::Assume(named) | ContractItem::Guarantee(named) => {
-            kept(scope, Clock::Base, &named.value)
+            inner(scope, Clock::Base, &named.value)
         }
         ContractItem::Ghost(stream, value) => {
             let own = scope.names.clock_or_base(&stream.name.text);
             side_terms(scope, own, Clock::Base, value)
         }
-        ContractItem::Constant(constant) => kept(scope, Clock::Base, &constant.value),
+        ContractItem::Constant(constant) => inner(scope, Clock::Base, &constant.value),
         ContractItem::Mode(_, required, ensured) => {
-            greater(kept_labelled(scope, required), kept_labelled(scope, ensured))
+            greater(inner_labelled(scope, required), inner_labelled(scope, ensured))
         }
-        ContractItem::Import(_, _, arguments, _) => kept_each(scope, arguments),
+        ContractItem::Import(_, _, arguments, _) => {
+            greater(import_terms(scope, arguments), inner_each(scope, arguments))
+        }
     }
 }
 
@@ -102,7 +97,7 @@ pub(crate) fn all_contract_terms<'a>(scope: Scope<'a, '_>, items: &'a [ContractI
     size
 }
 
-/// Of what constants keep.
+/// Of what stands in constants.
 #[tactic(auto, using(crate::proofs::Greatest::greatest_on, crate::proofs::Greatest::greatest_cut, crate::proofs::Greatest::greatest_end))]
 pub(crate) fn constant_terms<'a>(scope: Scope<'a, '_>, constants: &'a [Definition]) -> Size
     ensures { size_view result ≡ cut_term (constant_terms (names_view scope.entry.names)
@@ -110,7 +105,7 @@ pub(crate) fn constant_terms<'a>(scope: Scope<'a, '_>, constants: &'a [Definitio
 {
     let mut size = no_size();
     for constant in constants {
-        size = greater(size, kept(scope, Clock::Base, &constant.value));
+        size = greater(size, inner(scope, Clock::Base, &constant.value));
     }
     size
 }
@@ -128,9 +123,9 @@ fn statement_terms<'a>(scope: Scope<'a, '_>, item: &'a Item) -> Size
         }
         Item::Assert(value) => {
             let asserted = one(two(leaf(), one(measure(scope, value).size)));
-            greater(asserted, kept(scope, Clock::Base, value))
+            greater(asserted, inner(scope, Clock::Base, value))
         }
-        Item::Property(named) => kept(scope, Clock::Base, &named.value),
+        Item::Property(named) => inner(scope, Clock::Base, &named.value),
         Item::Main(_) => no_size(),
     }
 }
@@ -156,7 +151,7 @@ fn free(presence: Size) -> Size
 }
 
 /// Of a stream, where it is not among these names.
-fn free_term<'a>(known: &NameTable, names: Names<'a, '_>, stream: &'a Param) -> Size
+pub(crate) fn free_term<'a>(known: &NameTable, names: Names<'a, '_>, stream: &'a Param) -> Size
     ensures { size_view result ≡ cut_term (cond (named_in (word_view (stream.now).name).text known.now) no_size
         (free_size (presence (names_view names.entry) (clock_from (param_view stream.now).clock)))) }
 {

@@ -2,12 +2,12 @@ use Rattle.std.proofs.Common.{◌≡◌, drop, map}
 use Rattle.lus_tree.specs.View.{expr_view}
 use Rattle.lus_limits.specs.Measured.{modes_view, size_view}
 use Rattle.lus_streams.specs.Names.{names_view}
-use Rattle.lus_limits.specs.OwnTerms.{kept_each}
+use Rattle.lus_limits.specs.OwnTerms.{inner_each}
 use Rattle.lus_limits.specs.Peaks.{greater}
 use Rattle.lus_limits.specs.SizeCuts.{cut_term}
-use Rattle.lus_limits.proofs.own.kept_each.Given as goal
+use Rattle.lus_limits.proofs.own.inner_each.Given as goal
 
 -- the greatest so far, with what is to come, is the greatest of all, cut
 abbrev pub invariant-loop-value : goal.invariant-loop-value
 invariant-loop-value l = (cut_term (size_view l.size) ≡ size_view l.size)
-    × (cut_term (greater (size_view l.size) (kept_each (names_view l.scope.names) (modes_view l.scope.modes.now) (map expr_view (drop l.value-index l.values)))) ≡ cut_term (kept_each (names_view l.scope.names) (modes_view l.scope.modes.now) (map expr_view l.values)))
+    × (cut_term (greater (size_view l.size) (inner_each (names_view l.scope.names) (modes_view l.scope.modes.now) (map expr_view (drop l.value-index l.values)))) ≡ cut_term (inner_each (names_view l.scope.names) (modes_view l.scope.modes.now) (map expr_view l.values)))
