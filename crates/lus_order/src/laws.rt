@@ -1,5 +1,6 @@
 //! What is read in an expression, and numbers in place of names, by the own graph of a declaration.
 
+ghost use Rattle.lus_order.specs.Backs.{BacksAreOwn};
 ghost use Rattle.lus_order.specs.KnownModes.{KnownAreSummaries};
 ghost use Rattle.lus_order.specs.MarkedNames.{RowsFind};
 ghost use Rattle.lus_order.specs.Numbered.{WaysAreNumbered};
@@ -40,4 +41,10 @@ pub fn rows_find()
 /// What is known of a declaration by the rows that stand for its own graph is its summary by that graph.
 pub fn known_are_summaries()
     ensures { KnownAreSummaries }
+{}
+
+/// In the rows that stand for the own graph of a declaration names lead back to themselves exactly where they do along its
+/// edges, as the left names of an equation on a circle do.
+pub fn backs_are_own()
+    ensures { BacksAreOwn }
 {}
