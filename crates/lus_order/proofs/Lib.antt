@@ -21,3 +21,4 @@ pub mod FoundNodes
 pub mod Summarised
 pub mod ClosedRows
 pub mod BackNames
+pub mod Flagged

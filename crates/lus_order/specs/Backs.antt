@@ -1,5 +1,5 @@
 -- Left names that lead back to left names of the same equation.
-use Rattle.std.specs.Prelude.{◌≡◌, ◌↔◌, ℕ, ◌<◌, Bool, true, cond, List, [], ◌∷◌, ◌++◌, map, flat_map, length}
+use Rattle.std.specs.Prelude.{◌≡◌, ◌↔◌, ℕ, ◌<◌, Bool, true, cond, List, [], ◌∷◌, ◌++◌, map, flat_map, length, Contains}
 use Rattle.std.specs.List.{list_any}
 use Rattle.lus_tree.specs.Tree.{Name, Component, Spelled, text_of}
 use Rattle.lus_tree.specs.Reason.{Refused, cycle}
@@ -53,3 +53,22 @@ abbrev pub BacksAreOwn : Type 0
 BacksAreOwn =
     (n : Component) (g : Summaries) (names : List Name) (rows : Rows) → AreDistinct names → AreNodes n g names rows
     → (xs : List Name) → ((x : Name) → named_in x xs ≡ true → named_in x names ≡ true) → LeadsBack rows names xs ↔ NamesLead (own_edges n g) xs xs
+
+-- all these left names have numbers
+abbrev pub AreNumbered : List Name → List (List Spelled) → Type 0
+AreNumbered names wss = (ws : List Spelled) → Contains wss ws → (x : Name) → named_in x (map text_of ws) ≡ true → named_in x names ≡ true
+
+-- the fault of an equation with such left names that lead to themselves, at the first of them
+pub record IsOnCircle (n : Component) (g : Summaries) (wss : List (List Spelled)) (r : Refused) : Type 0 where
+  pub word : Spelled
+  pub words : List Spelled
+  pub stands : Contains wss (word ∷ words)
+  pub circle : NamesLead (own_edges n g) (map text_of (word ∷ words)) (map text_of (word ∷ words))
+  pub is : r ≡ fault cycle word.at
+
+-- in the rows of an own graph the faults that are flagged are those
+abbrev pub FlaggedAreCircles : Type 0
+FlaggedAreCircles =
+    (n : Component) (g : Summaries) (names : List Name) (rows : Rows) → AreDistinct names → AreNodes n g names rows
+    → (wss : List (List Spelled)) (bs : List Bool) → AreNumbered names wss → AreFlagged rows names wss bs
+    → (r : Refused) → Contains (flagged_faults wss bs) r ↔ IsOnCircle n g wss r

@@ -1,6 +1,6 @@
 //! What is read in an expression, and numbers in place of names, by the own graph of a declaration.
 
-ghost use Rattle.lus_order.specs.Backs.{BacksAreOwn};
+ghost use Rattle.lus_order.specs.Backs.{BacksAreOwn, FlaggedAreCircles};
 ghost use Rattle.lus_order.specs.KnownModes.{KnownAreSummaries};
 ghost use Rattle.lus_order.specs.MarkedNames.{RowsFind};
 ghost use Rattle.lus_order.specs.Numbered.{WaysAreNumbered};
@@ -47,4 +47,10 @@ pub fn known_are_summaries()
 /// edges, as the left names of an equation on a circle do.
 pub fn backs_are_own()
     ensures { BacksAreOwn }
+{}
+
+/// In the rows that stand for the own graph of a declaration the faults of equations that are flagged are those of
+/// equations whose left names lead to themselves along its edges, each at the first of them.
+pub fn flagged_are_circles()
+    ensures { FlaggedAreCircles }
 {}
