@@ -22,3 +22,4 @@ pub mod Summarised
 pub mod ClosedRows
 pub mod BackNames
 pub mod Flagged
+pub mod SameReads

@@ -21,3 +21,4 @@ pub mod OwnOrders
 pub mod MarkedNames
 pub mod KnownModes
 pub mod Backs
+pub mod SameCallees

@@ -7,6 +7,7 @@ ghost use Rattle.lus_order.specs.Numbered.{WaysAreNumbered};
 ghost use Rattle.lus_order.specs.OwnNodes.{RowsAreNodes};
 ghost use Rattle.lus_order.specs.OwnOrders.{OrdersAreLeast};
 ghost use Rattle.lus_order.specs.OwnReads.{ReadsAreOwn};
+ghost use Rattle.lus_order.specs.SameCallees.{ReadsByCallees};
 
 /// What an expression reads by the own graph of its declaration is what is read in it, with each mode
 /// replaced by what that reads.
@@ -53,4 +54,10 @@ pub fn backs_are_own()
 /// equations whose left names lead to themselves along its edges, each at the first of them.
 pub fn flagged_are_circles()
     ensures { FlaggedAreCircles }
+{}
+
+/// What a declaration reads goes by the summaries of those alone that it calls at the same instant and imports: others
+/// that say the same of these give the same own graph, and its modes read the same.
+pub fn reads_by_callees()
+    ensures { ReadsByCallees }
 {}
