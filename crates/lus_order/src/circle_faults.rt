@@ -24,7 +24,8 @@ fn rows_of(
     names: &NameTable,
     words: &[&PlacedName],
 ) -> Result<Vec<usize>, AllocError>
-    ensures { IfOk result (λ v. v.items ≡ rows_of (graph_view graph.now) names.now (map text_of (words_view words.now))) }
+    ensures { IfOk result (λ v. v.items
+        ≡ rows_of (graph_view graph.now) names.now (map text_of (words_view words.now))) }
 {
     let mut row = Vec::new(alloc);
     for word in words {
@@ -57,7 +58,8 @@ fn leads_back(
     requires within { length names.now ≤ length (graph_view graph.old) }
     requires closed { IsClosed (graph_view graph.old) }
     ensures same { IfOk result (λ _. graph_view graph.new ≡ graph_view graph.old) }
-    ensures back { IfOk result (λ b. (b ≡ true) ↔ LeadsBack (graph_view graph.old) names.now (map text_of (words_view words.now))) }
+    ensures back { IfOk result (λ b. (b ≡ true)
+        ↔ LeadsBack (graph_view graph.old) names.now (map text_of (words_view words.now))) }
 {
     let row = rows_of(alloc, graph, names, words)?;
     let marks = reached_from(alloc, graph, row)?;
@@ -89,7 +91,8 @@ pub(crate) fn flags_of(
 
 /// Notes an equation at its first left name, where it is flagged.
 fn note_first(least: &mut Least, words: &[&PlacedName], flagged: bool)
-    ensures { least_view least.new ≡ noted_all (least_view least.old) (cond flagged (fault_at_first (words_view words.now)) []) }
+    ensures { least_view least.new ≡ noted_all (least_view least.old)
+        (cond flagged (fault_at_first (words_view words.now)) []) }
 {
     if let [word, ..] = words {
         least.note_if(flagged, What::Cycle, word.at);

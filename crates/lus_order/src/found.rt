@@ -19,7 +19,8 @@ pub(crate) fn reached_from(
     row: Vec<usize>,
 ) -> Result<Vec<bool>, AllocError>
     ensures same { IfOk result (λ _. graph_view graph.new ≡ graph_view graph.old) }
-    ensures reached { IfOk result (λ v. AreReached (graph_view graph.old ++ row.items ∷ []) (length (graph_view graph.old)) v.items) }
+    ensures reached { IfOk result (λ v. AreReached (graph_view graph.old ++ row.items ∷ [])
+        (length (graph_view graph.old)) v.items) }
 {
     let start = graph.len();
     graph.push(row)?;
