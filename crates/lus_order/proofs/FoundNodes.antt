@@ -2,7 +2,6 @@
 use Rattle.std.proofs.Common.{◌≡◌, ◌↔◌, ℕ, ◌<◌, true, false, List, [], ◌∷◌, ◌++◌, length, refl, ap, ◌∙◌, sym, subst, arith}
 use Rattle.std.proofs.Math.Logic.{◌⊎◌, inl, inr}
 use Rattle.std.proofs.lemmas.Bool.{cases_Bool}
-use Rattle.std.proofs.lemmas.List.{get_or_append_left}
 use Rattle.lus_tree.specs.Tree.{Name, Component}
 use Rattle.lus_meaning.specs.Depends.{named_in}
 use Rattle.lus_meaning.specs.EquationFaults.{last_name}
@@ -14,36 +13,20 @@ use Rattle.way_laws.specs.OwnGraph.{Summaries, IsOwnWay, LeadsTo as NamesLead, F
 use Rattle.way_laws.specs.Nodes.{of_name, NodeLeads}
 use Rattle.way_laws.proofs.Lists.{itself, one_named}
 use Rattle.way_laws.proofs.Nodes.{names_by_nodes}
-use Rattle.lus_order.specs.Graphs.{Rows, row_at, leads, IsPath, end_of, LeadsTo}
+use Rattle.lus_order.specs.Graphs.{Rows, IsPath, end_of, LeadsTo}
 use Rattle.lus_order.specs.Numbered.{name_at}
 use Rattle.lus_order.specs.OwnNodes.{AreNodes, node_at}
 use Rattle.lus_order.specs.MarkedNames.{RowLeadsTo, RowsFind}
 use Rattle.lus_order.specs.Stands.{Stands}
+use Rattle.lus_order.proofs.ClosedRows.{last_row, inner_path, outer_path}
 use Rattle.lus_order.proofs.OwnNodes.{of_stream}
-
-last_row : (rows : Rows) (row : List ℕ) → row_at (rows ++ row ∷ []) (length rows) ≡ row
-last_row [] row = refl
-last_row (r ∷ rows) row = last_row rows row
 
 module _ (n : Component) (g : Summaries) (names : List Name) (rows : Rows) (d : AreDistinct names) (nodes : AreNodes n g names rows) (row : List ℕ)
     (xs : List Name) (stands : Stands names row xs) where
-  abbrev more : Rows
+  abbrev pub more : Rows
   more = rows ++ row ∷ []
 
-  same_row : (v : ℕ) → v < length rows → row_at more v ≡ row_at rows v
-  same_row v l = get_or_append_left rows (row ∷ []) [] v l
-
-  inner_path : (v : ℕ) (ws : List ℕ) → v < length rows → IsPath more v ws → IsPath rows v ws
-  inner_path v [] l p = tt
-  inner_path v (w ∷ ws) l p =
-      let e : leads rows v w ≡ true = ap (λ r. is_listed r w) (sym (same_row v l)) ∙ p.0 in
-      (e, inner_path w ws (nodes.closed v w e) p.1)
-
-  outer_path : (v : ℕ) (ws : List ℕ) → v < length rows → IsPath rows v ws → IsPath more v ws
-  outer_path v [] l p = tt
-  outer_path v (w ∷ ws) l p = (ap (λ r. is_listed r w) (same_row v l) ∙ p.0, outer_path w ws (nodes.closed v w p.0) p.1)
-
-  streams_lead : (i j : ℕ) → i < length names → j < length names → LeadsTo rows i j ↔ NodeLeads n g (of_name (name_at names i)) (of_name (name_at names j))
+  pub streams_lead : (i j : ℕ) → i < length names → j < length names → LeadsTo rows i j ↔ NodeLeads n g (of_name (name_at names i)) (of_name (name_at names j))
   streams_lead i j l b = subst (λ c. LeadsTo rows i j ↔ NodeLeads n g (of_name (name_at names i)) c) (of_stream names j b)
       (subst (λ a. LeadsTo rows i j ↔ NodeLeads n g a (node_at names j)) (of_stream names i l) (nodes.ways i j))
 
@@ -77,7 +60,7 @@ module _ (n : Component) (g : Summaries) (names : List Name) (rows : Rows) (d : 
     found w (u ∷ us) e p q =
         let l : w < length names = stands.below w e in
         let inside : w < length rows = omega (arith, l, nodes.whole) in
-        let way : LeadsTo rows w j = record { first = u; rest = us; path = inner_path w (u ∷ us) inside p; last = q } in
+        let way : LeadsTo rows w j = record { first = u; rest = us; path = inner_path rows row nodes.closed w (u ∷ us) inside p; last = q } in
         let to : NodeLeads n g (of_name (name_at names w)) (of_name y) =
         subst (λ z. NodeLeads n g (of_name (name_at names w)) (of_name z)) named ((streams_lead w j l below).0 way) in
         finds_by (name_at names w) y (stands.listed w e) ((names_by_nodes n g (name_at names w) y).0 to)
@@ -104,7 +87,7 @@ module _ (n : Component) (g : Summaries) (names : List Name) (rows : Rows) (d : 
             let p : LeadsTo rows i j = (streams_lead i j l below).1
             (subst (λ u. NodeLeads n g (of_name u) (of_name (name_at names j))) (sym s)
             (subst (λ u. NodeLeads n g (of_name x) (of_name u)) (sym named) leads_on)) in
-            begin i (p.first ∷ p.rest) (stands.whole i l (subst (λ u. named_in u xs ≡ true) (sym s) e)) (outer_path i (p.first ∷ p.rest) inside p.path) p.last
+            begin i (p.first ∷ p.rest) (stands.whole i l (subst (λ u. named_in u xs ≡ true) (sym s) e)) (outer_path rows row nodes.closed i (p.first ∷ p.rest) inside p.path) p.last
 
     pub both : RowLeadsTo rows row j ↔ Finds (own_edges n g) xs y
     both = (

@@ -19,3 +19,7 @@ pub mod OwnOrders
 pub mod MarkedNames
 pub mod FoundNodes
 pub mod Summarised
+pub mod ClosedRows
+pub mod BackNames
+pub mod Flagged
+pub mod SameReads

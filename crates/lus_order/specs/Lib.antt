@@ -20,3 +20,5 @@ pub mod Own
 pub mod OwnOrders
 pub mod MarkedNames
 pub mod KnownModes
+pub mod Backs
+pub mod SameCallees

@@ -13,9 +13,14 @@ use name_table::NameTable;
 use std::alloc::{AllocError, Global};
 
 /// Marks the numbers to which one with that row leads by one step or several. The graph is as it was.
-fn reached_from(alloc: Global, graph: &mut Graph, row: Vec<usize>) -> Result<Vec<bool>, AllocError>
+pub(crate) fn reached_from(
+    alloc: Global,
+    graph: &mut Graph,
+    row: Vec<usize>,
+) -> Result<Vec<bool>, AllocError>
     ensures same { IfOk result (λ _. graph_view graph.new ≡ graph_view graph.old) }
-    ensures reached { IfOk result (λ v. AreReached (graph_view graph.old ++ row.items ∷ []) (length (graph_view graph.old)) v.items) }
+    ensures reached { IfOk result (λ v. AreReached (graph_view graph.old ++ row.items ∷ [])
+        (length (graph_view graph.old)) v.items) }
 {
     let start = graph.len();
     graph.push(row)?;
@@ -25,7 +30,7 @@ fn reached_from(alloc: Global, graph: &mut Graph, row: Vec<usize>) -> Result<Vec
 }
 
 /// Whether a name is marked, by its number.
-fn is_marked_name(marks: &[bool], names: &NameTable, name: &str) -> bool
+pub(crate) fn is_marked_name(marks: &[bool], names: &NameTable, name: &str) -> bool
     ensures { result ≡ is_marked_name marks.now names.now name.now }
 {
     match names.number(name) {

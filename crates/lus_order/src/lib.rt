@@ -1,6 +1,7 @@
 //! The rules of equations, and the order in which they can be evaluated at one instant.
 #![tactic(auto)]
 
+mod circle_faults;
 mod circles;
 mod found;
 mod graph;

@@ -49,7 +49,8 @@ fn push_listed<'a>(
     inputs: &[&str],
     arguments: &'a [Expr],
 ) -> Result<(), AllocError>
-    ensures { IfOk result (λ _. row.new.items ≡ row.old.items ++ listed_row clocks.now callees.now (modes_view modes.now)
+    ensures { IfOk result (λ _. row.new.items ≡ row.old.items
+        ++ listed_row clocks.now callees.now (modes_view modes.now)
         reads.now (texts_seen inputs.now) (map expr_view arguments.now)) }
 {
     let mut place = 0;

@@ -105,7 +105,8 @@ fn clock_names<'a>(alloc: Global, params: &[&'a Param]) -> Result<Vec<Option<&'a
 fn clocks_of<'a>(alloc: Global, params: &[&'a Param]) -> Result<Clocks<'a>, AllocError>
     requires { AreDistinct (names_of (params_view params.now)) }
     ensures names { IfOk result (λ s. s.names ≡ names_of (params_view params.now)) }
-    ensures clocks { IfOk result (λ s. map clock_seen s.clocks.items ≡ map stream_clock (params_view params.now)) }
+    ensures clocks { IfOk result (λ s. map clock_seen s.clocks.items
+        ≡ map stream_clock (params_view params.now)) }
 {
     let texts = texts(alloc, params)?;
     let clocks = clock_names(alloc, params)?;

@@ -69,9 +69,10 @@ fn push_known<'a>(
     requires { length names.now ≤ length (graph_view graph.old) }
     ensures same { IfOk result (λ _. graph_view graph.new ≡ graph_view graph.old) }
     ensures known { IfOk result (λ _. (ms : ModeRows)
-        → AreKnown (graph_view graph.old) names.now (texts_seen inputs.now ++ texts_seen outputs.now) ms (known_modes known.old.items)
-        → AreKnown (graph_view graph.old) names.now (texts_seen inputs.now ++ texts_seen outputs.now) (ms ++ mode_view mode.now ∷ [])
-        (known_modes known.new.items)) }
+        → AreKnown (graph_view graph.old) names.now (texts_seen inputs.now ++ texts_seen outputs.now) ms
+        (known_modes known.old.items)
+        → AreKnown (graph_view graph.old) names.now (texts_seen inputs.now ++ texts_seen outputs.now)
+        (ms ++ mode_view mode.now ∷ []) (known_modes known.new.items)) }
 {
     match mode.contract {
         None => {
