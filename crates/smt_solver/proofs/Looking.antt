@@ -9,7 +9,6 @@ use Rattle.int_simplex.specs.declared.answers.Checkup.{Checkup}
 use Rattle.int_simplex.specs.declared.answers.Checkup.TheVariants.{Refuted}
 use Rattle.int_simplex.specs.declared.answers.Farkas.{Farkas}
 use Rattle.int_simplex.proofs.Places.{same_some}
-use Rattle.sat_core.specs.declared.assigned.Assigned.{Assigned}
 use Rattle.smt_solver.specs.declared.numbers.meanings.Meaning.{Meaning}
 use Rattle.smt_solver.specs.declared.numbers.looking.Look.{Look}
 use Rattle.smt_solver.specs.declared.numbers.looking.Look.TheVariants.{Fits, Counted, Pivots, Past}

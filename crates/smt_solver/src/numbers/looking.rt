@@ -1,12 +1,13 @@
 //! A look at the numbers at a full assignment.
 
-ghost use Rattle.std.specs.Prelude.{◌≡◌, ◌<◌, ◌-◌, ◌^◌, true, All, length, IfOk};
+ghost use Rattle.std.specs.Prelude.{◌≡◌, ◌<◌, ◌-◌, ◌^◌, true, All, length, IfOk, IfSome};
 ghost use Rattle.proof_steps.specs.Rows.{rows_of};
 ghost use Rattle.cnf_maker.specs.Plain.{IsPlain};
+ghost use Rattle.int_cuts.specs.Splits.{IsSplitOf};
 ghost use Rattle.smt_solver.specs.Asserting.{HasColumnBelow, bounds_at};
 ghost use Rattle.smt_solver.specs.Conflicting.{AreMeaningsOf, IsSettled};
 ghost use Rattle.smt_solver.specs.Looking.{Looks, LooksFrom};
-ghost use Rattle.smt_solver.specs.Near.{IsNear};
+ghost use Rattle.smt_solver.specs.Near.{IsNear, IsRoomy};
 ghost use Rattle.smt_solver.specs.Run.{IsRun, work_view};
 ghost use Rattle.smt_solver.specs.Turning.{HasMeanings};
 
@@ -15,6 +16,7 @@ use crate::numbers::asserting::assert_all;
 use crate::numbers::meanings::Meaning;
 use crate::numbers::turns::{crossed, refuted};
 use crate::work::Work;
+use int_cuts::split_of;
 use int_simplex::{Checkup, Tableau};
 use proof_steps::{PastStep, Start};
 use std::alloc::Global;
@@ -97,4 +99,20 @@ pub fn look_at_numbers(
             Ok(Look::Counted)
         }
     }
+}
+
+/// The least column whose value is not whole, with its floor, which leaves room in 128 bits; none where all
+/// values are whole.
+pub fn broken_value(tableau: &Tableau) -> Option<(u32, i128)>
+    requires { tableau.now.usable ≡ true }
+    ensures split { IsSplitOf tableau.now.values result }
+    ensures near { IfSome result (λ p. IsRoomy p.1) }
+{
+    let _columns = tableau.columns();
+    let (x, floor) = match split_of(tableau) {
+        Some(split) => split,
+        None => return None,
+    };
+    let _value = tableau.value(x);
+    Some((x, floor))
 }
