@@ -20,3 +20,4 @@ pub mod Refuting
 pub mod SplittingOff
 pub mod Crossed
 pub mod Ending
+pub mod Looking

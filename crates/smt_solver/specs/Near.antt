@@ -20,3 +20,8 @@ pub record IsMeasured (i : Inequality) : Type 0 where
 
 abbrev pub AreMeasured : List Inequality → Type 0
 AreMeasured atoms = All IsMeasured atoms
+
+-- from -2^126 to 2^126 - 1
+pub record IsRoomy (z : ℤ) : Type 0 where
+  pub low : neg_ℤ (pos (2 ^ 126)) ≤ℤ z
+  pub high : z <ℤ pos (2 ^ 126)

@@ -1,6 +1,7 @@
 //! The parts of a solver for queries that compare numbers. Nothing calls them yet.
 
 pub mod asserting;
+pub mod looking;
 pub mod meanings;
 pub mod rows;
 pub mod states;
