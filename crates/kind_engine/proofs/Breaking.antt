@@ -23,7 +23,8 @@ use Rattle.kind_engine.proofs.Lists.{and-none, longer}
 
 -- ---- states of flags are narrow
 
-flags-narrow : (shapes : List Shape) (s : List Entry) → all_flags shapes ≡ true → state_fits shapes s ≡ true → is_narrow s ≡ true
+flags-narrow : (shapes : List Shape) (s : List Entry) → all_flags shapes ≡ true → state_fits shapes s ≡ true
+    → is_narrow s ≡ true
 flags-narrow [] [] a f = refl
 flags-narrow [] (v ∷ vs) a f = absurd cc
 flags-narrow (h ∷ hs) [] a f = absurd cc
@@ -65,7 +66,8 @@ module _ (m : Machine) (p : ℕ) (named : p < length m.properties) (law : FactsA
     (cites : List Formula) (terms : All (IsTerm m) cites) where
   -- a path of at most as many states as instants are refuted, on which the cited terms are true, doesn't
   -- end with the property false
-  none-short : (proofs : List Refutation) → AreBases m p cites 0 proofs → (states : List (List Entry)) → IsPath m states
+  none-short : (proofs : List Refutation) → AreBases m p cites 0 proofs → (states : List (List Entry))
+      → IsPath m states
       → length states ≤ length proofs → All (AreTrue cites) states → IsFalseAtLastAlone (property_term m p) states → ⊥
   none-short [] h [] path l cited alone = alone
   none-short [] h (s ∷ states) path l cited alone = absurd (omega arith)
@@ -89,7 +91,8 @@ module _ (m : Machine) (p : ℕ) (named : p < length m.properties) (law : FactsA
       }
 
   -- such an answer breaks the property by a path that may be posted
-  pub broken-at : (plan : Plan) → IsReady m plan → (proofs : List Refutation) (i : ℕ) → length proofs ≡ i → AreBases m p cites 0 proofs
+  pub broken-at : (plan : Plan) → IsReady m plan → (proofs : List Refutation) (i : ℕ) → length proofs ≡ i
+      → AreBases m p cites 0 proofs
       → i ≤ plan.depth → (states : List (List Entry)) → IsAnswer m (base p i) cites states
       → IsBroken m p states
   broken-at plan ready proofs i e h within states a = record {

@@ -14,7 +14,8 @@ use Rattle.kind_engine.proofs.Refuting.{refuted-before}
 
 module _ (m : Machine) (plan : Plan) (history : List Posting) (p : ℕ) (named : p < length m.properties) where
   -- of bounded search, at the instant after those that these proofs refute
-  pub bounded-stop : (proofs : List Refutation) (i : ℕ) → length proofs ≡ i → AreBases m p [] 0 proofs → i ≤ plan.depth
+  pub bounded-stop : (proofs : List Refutation) (i : ℕ) → length proofs ≡ i → AreBases m p [] 0 proofs
+      → i ≤ plan.depth
       → (h : Halt) → IsAnswered m (base p i) [] plan.budgets (stop h) → (places : List ℕ) → places ≡ []
       → (paths : List (List (List Cell)))
       → IsTrueAfter m plan history

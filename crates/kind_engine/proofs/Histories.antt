@@ -13,18 +13,22 @@ use Rattle.board_core.proofs.Verdicts.{decides-more, causes-more}
 use Rattle.board_core.proofs.Growing.{true-more, stays}
 use Rattle.kind_engine.proofs.Lists.{at-last, length-map, take-front}
 
-pub begins-posted : (number : ℕ) (seen now' : List Posting) (says : Claim) (place : ℕ) → HasPosted number seen now' says place → Begins seen now'
+pub begins-posted : (number : ℕ) (seen now' : List Posting) (says : Claim) (place : ℕ)
+    → HasPosted number seen now' says place → Begins seen now'
 begins-posted number seen now' says place h =
     (h.others ++ record { seat = number; says = says } ∷ [], h.all ∙ append_assoc seen h.others _)
 
 pub decides-later : (p : ℕ) (xs all : List Posting) → Begins xs all → Decides xs p → Decides all p
 decides-later p xs all b e = subst (λ l. decides p l ≡ true) (sym b.1) (decides-more p xs b.0 e)
 
-pub cause-later : (seat engine p : ℕ) (xs all : List Posting) → Begins xs all → has_cause seat engine p xs ≡ true → has_cause seat engine p all ≡ true
-cause-later seat engine p xs all b e = subst (λ l. has_cause seat engine p l ≡ true) (sym b.1) (causes-more seat engine p xs b.0 e)
+pub cause-later : (seat engine p : ℕ) (xs all : List Posting) → Begins xs all → has_cause seat engine p xs ≡ true
+    → has_cause seat engine p all ≡ true
+cause-later seat engine p xs all b e = subst (λ l. has_cause seat engine p l ≡ true) (sym b.1)
+    (causes-more seat engine p xs b.0 e)
 
 -- what was read is the front of a history that has grown since
-pub read-front : (read seen : List Posting) (front : ℕ) → Begins read seen → front ≡ length read → take front seen ≡ read
+pub read-front : (read seen : List Posting) (front : ℕ) → Begins read seen → front ≡ length read
+    → take front seen ≡ read
 read-front read seen front b e = ap (take front) b.1 ∙ (ap (λ n. take n (read ++ b.0)) e ∙ take-front read b.0)
 
 pub true-later : (m : Machine) (plan : Plan) (xs all : List Posting) (says : Claim) → Begins xs all
@@ -36,7 +40,8 @@ facts-more [] ys = refl
 facts-more (x ∷ xs) ys = ap (λ l. fact_in x.says ∷ l) (facts-more xs ys)
 
 -- the entry that shows how far an engine went is still there
-pub depth-later : (xs all : List Posting) (engine p d : ℕ) → Begins xs all → IsDepth xs engine p d → IsDepth all engine p d
+pub depth-later : (xs all : List Posting) (engine p d : ℕ) → Begins xs all → IsDepth xs engine p d
+    → IsDepth all engine p d
 depth-later xs all engine p d b h = subst (λ l. IsDepth l engine p d) (sym b.1) (by engine h) where
   by : (engine : ℕ) → IsDepth xs engine p d → IsDepth (xs ++ b.0) engine p d
   by zero h = (
@@ -54,16 +59,18 @@ same-number n = search (rules, arith)
 
 decides-last : (p : ℕ) (xs : List Posting) (i : Posting) → decides p (i ∷ []) ≡ true → decides p (xs ++ i ∷ []) ≡ true
 decides-last p [] i e = e
-decides-last p (x ∷ xs) i e = or-true (holds p x.says || breaks p x.says) (decides p (xs ++ i ∷ [])) (decides-last p xs i e) where
-  or-true : (a b : _) → b ≡ true → (a || b) ≡ true
-  or-true true b e = refl
-  or-true false b e = e
+decides-last p (x ∷ xs) i e = or-true (holds p x.says || breaks p x.says) (decides p (xs ++ i ∷ []))
+    (decides-last p xs i e) where
+      or-true : (a b : _) → b ≡ true → (a || b) ≡ true
+      or-true true b e = refl
+      or-true false b e = e
 
 cause-last : (seat engine p : ℕ) (xs : List Posting) (i : Posting) → has_cause seat engine p (i ∷ []) ≡ true
     → has_cause seat engine p (xs ++ i ∷ []) ≡ true
 cause-last seat engine p [] i e = e
 cause-last seat engine p (x ∷ xs) i e =
-    or-true ((x.seat == seat) && is_spent engine p x.says) (has_cause seat engine p (xs ++ i ∷ [])) (cause-last seat engine p xs i e) where
+    or-true ((x.seat == seat) && is_spent engine p x.says) (has_cause seat engine p (xs ++ i ∷ []))
+    (cause-last seat engine p xs i e) where
       or-true : (a b : _) → b ≡ true → (a || b) ≡ true
       or-true true b e = refl
       or-true false b e = e
@@ -90,21 +97,25 @@ facts-push : (xs : List Posting) (i : Posting) → facts_in (xs ++ i ∷ []) ≡
 facts-push [] i = refl
 facts-push (x ∷ xs) i = ap (λ l. fact_in x.says ∷ l) (facts-push xs i)
 
-fact-last : (xs : List Posting) (i : Posting) → slice_get (facts_in (xs ++ i ∷ [])) (length xs) ≡ Some (fact_in i.says)
+fact-last : (xs : List Posting) (i : Posting)
+    → slice_get (facts_in (xs ++ i ∷ [])) (length xs) ≡ Some (fact_in i.says)
 fact-last xs i =
     subst (λ l. slice_get l (length xs) ≡ Some (fact_in i.says)) (sym (facts-push xs i))
     (subst (λ n. slice_get (facts_in xs ++ fact_in i.says ∷ []) n ≡ Some (fact_in i.says)) (length-map (λ (j : Posting). fact_in j.says) xs)
     (at-last (facts_in xs) (fact_in i.says)))
 
 -- the fact that was posted is at its place
-pub fact-by : (number : ℕ) (seen now' : List Posting) (f : Fact) (place : ℕ) → HasPosted number seen now' (proved f) place
+pub fact-by : (number : ℕ) (seen now' : List Posting) (f : Fact) (place : ℕ)
+    → HasPosted number seen now' (proved f) place
     → slice_get (facts_in now') place ≡ Some f
 fact-by number seen now' f place h =
     subst (λ l. slice_get (facts_in l) place ≡ Some f) (sym h.all)
     (subst (λ n. slice_get (facts_in ((seen ++ h.others) ++ record { seat = number; says = proved f } ∷ [])) n ≡ Some f) (sym h.at)
     (fact-last (seen ++ h.others) (record { seat = number; says = proved f })))
 
-pub base-by : (number p d : ℕ) (cites : List Citation) (proofs : List Refutation) (seen now' : List Posting) (place : ℕ)
-    → HasPosted number seen now' (proved (base_fact p d cites proofs)) place → IsBaseTo p d (slice_get (facts_in now') place)
+pub base-by : (number p d : ℕ) (cites : List Citation) (proofs : List Refutation) (seen now' : List Posting)
+    (place : ℕ)
+    → HasPosted number seen now' (proved (base_fact p d cites proofs)) place
+    → IsBaseTo p d (slice_get (facts_in now') place)
 base-by number p d cites proofs seen now' place h =
     subst (IsBaseTo p d) (sym (fact-by number seen now' (base_fact p d cites proofs) place h)) (refl, refl)

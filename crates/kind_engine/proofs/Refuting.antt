@@ -27,7 +27,8 @@ module _ (m : Machine) (budgets : Budgets) (task : Task) (cites : List Formula) 
   pub refuted-by : (p : Refutation) → IsAnswered m task cites budgets (unsat p) → IsRefuted m task cites p
   refuted-by p a = record { form = a.form; is_form = a.is_form; right = a.is_true }
 
-  pub answer-by : (states : List (List Entry)) → IsAnswered m task cites budgets (sat states) → IsAnswer m task cites states
+  pub answer-by : (states : List (List Entry)) → IsAnswered m task cites budgets (sat states)
+      → IsAnswer m task cites states
   answer-by states a = a.is_true
 
 module _ (m : Machine) (p : ℕ) (cites : List Formula) where
@@ -57,12 +58,14 @@ module _ (m : Machine) (p : ℕ) (cites : List Formula) where
         same-place (suc from + j) (from + suc j) b.0 (omega arith) b.2,
       )
 
-  pub refuted-before : (proofs : List Refutation) → AreBases m p cites 0 proofs → AreRefutedBefore m proofs p (length proofs) cites
+  pub refuted-before : (proofs : List Refutation) → AreBases m p cites 0 proofs
+      → AreRefutedBefore m proofs p (length proofs) cites
   refuted-before proofs h j l =
       let b = base-among 0 proofs h j l in (b.0, b.1, same-place (0 + j) j b.0 (omega arith) b.2)
 
 -- one more instant that the solver refutes
-pub bases-next : (m : Machine) (p : ℕ) (cites : List Formula) (budgets : Budgets) (proofs : List Refutation) (r : Refutation) (i : ℕ)
+pub bases-next : (m : Machine) (p : ℕ) (cites : List Formula) (budgets : Budgets) (proofs : List Refutation)
+    (r : Refutation) (i : ℕ)
     → length proofs ≡ i → AreBases m p cites 0 proofs → IsAnswered m (base p i) cites budgets (unsat r)
     → AreBases m p cites 0 (proofs ++ r ∷ [])
 bases-next m p cites budgets proofs r i e h a =

@@ -41,11 +41,13 @@ module _ (m : Machine) (plan : Plan) where
     each = tasks-later known all engine search.turn 0 search.tasks.items b h.each;
   }
 
-  same-property : (known : List Posting) (engine i p q : ℕ) (task : Task) → p ≡ q → IsTask m plan known engine i p task → IsTask m plan known engine i q task
+  same-property : (known : List Posting) (engine i p q : ℕ) (task : Task) → p ≡ q
+      → IsTask m plan known engine i p task → IsTask m plan known engine i q task
   same-property known engine i p q task e h = subst (λ n. IsTask m plan known engine i n task) e h
 
   -- one property more
-  tasks-push : (known : List Posting) (engine i p : ℕ) (tasks : List Task) (task : Task) → AreTasks m plan known engine i p tasks
+  tasks-push : (known : List Posting) (engine i p : ℕ) (tasks : List Task) (task : Task)
+      → AreTasks m plan known engine i p tasks
       → IsTask m plan known engine i (p + length tasks) task → AreTasks m plan known engine i p (tasks ++ task ∷ [])
   tasks-push known engine i p [] task h k = (same-property known engine i (p + 0) p task (omega arith) k, tt)
   tasks-push known engine i p (x ∷ tasks) task h k = (
@@ -55,7 +57,8 @@ module _ (m : Machine) (plan : Plan) where
   )
 
   -- the same of all properties
-  pub all-push : (known : List Posting) (engine i : ℕ) (tasks : List Task) (task : Task) → AreTasks m plan known engine i 0 tasks
+  pub all-push : (known : List Posting) (engine i : ℕ) (tasks : List Task) (task : Task)
+      → AreTasks m plan known engine i 0 tasks
       → IsTask m plan known engine i (length tasks) task → AreTasks m plan known engine i 0 (tasks ++ task ∷ [])
   all-push known engine i tasks task h k =
       tasks-push known engine i 0 tasks task h
@@ -73,9 +76,11 @@ module _ (m : Machine) (plan : Plan) where
   pub task-of : (known : List Posting) (engine i : ℕ) (tasks : List Task) (n : ℕ) (d : Task) → n < length tasks
       → AreTasks m plan known engine i 0 tasks → IsTask m plan known engine i n (slice_index_or tasks n d)
   task-of known engine i tasks n d l h =
-      same-property known engine i (0 + n) n (slice_index_or tasks n d) (omega arith) (task-at known engine i 0 tasks n d l h)
+      same-property known engine i (0 + n) n (slice_index_or tasks n d) (omega arith)
+      (task-at known engine i 0 tasks n d l h)
 
   -- before turn 0 none is refuted
-  pub none-refuted : (known : List Posting) (p : ℕ) (v : Vec Proof Global) → v.items ≡ [] → IsTask m plan known 0 0 p (t.Refuted v)
+  pub none-refuted : (known : List Posting) (p : ℕ) (v : Vec Proof Global) → v.items ≡ []
+      → IsTask m plan known 0 0 p (t.Refuted v)
   none-refuted known p v e =
       (refl, subst (λ l. IsRefutedBelow m plan 0 p (proofs_view l)) (sym e) (record { within = omega arith; count = refl; refuted = tt }))

@@ -7,4 +7,5 @@ use Rattle.kind_engine.proofs.bounded.first_tasks.Given as goal
 
 abbrev pub invariant-loop-i : goal.invariant-loop-i
 invariant-loop-i l =
-    (length l.tasks.items ≡ l.i) × ((m : Machine) (plan : Plan) (known : List Posting) → AreTasks m plan known 0 0 0 l.tasks.items)
+    (length l.tasks.items ≡ l.i) ×
+    ((m : Machine) (plan : Plan) (known : List Posting) → AreTasks m plan known 0 0 0 l.tasks.items)

@@ -5,7 +5,8 @@ use Rattle.kind_engine.proofs.checking.base_of.Goals as goal
 
 pub unreachable-requires : goal.unreachable-requires
 unreachable-requires c =
-    let law = c.unbroken_rules_are_facts.ensures (system_view c.args.subject.now.system) (cited_terms c.args.cites.now) in
+    let law = c.unbroken_rules_are_facts.ensures (system_view c.args.subject.now.system)
+    (cited_terms c.args.cites.now) in
     never-refused _ c.in-Err-Refused.field-0 c.in-Err-Refused.field-0-0 c.in-Err-Refused.field-0-1
     ((law.bases c.args.property c.args.instant (proofs_view c.args.proofs.now)).1 c.requires.base)
     c.in-Err-Refused.field-0-is (rw c.in-Err-Refused.is at c.check_base.ensures)

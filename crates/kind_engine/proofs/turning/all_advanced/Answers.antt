@@ -23,7 +23,8 @@ loop-task-preserved g c =
     let grown = c.in_ok-advanced.ensures.seen in
     let steps : into_iter_items at.task-iterator ≡ c.in-Some.task ∷ rest = c.in-Some.ensures.steps.0 in
     let e : c.push.new.self.items ≡ at.next.items ++ task ∷ [] = search rules in
-    let n : length c.push.new.self.items ≡ suc (length at.next.items) = ap length e ∙ length-push at.next.items task in
+    let n : length c.push.new.self.items ≡ suc
+    (length at.next.items) = ap length e ∙ length-push at.next.items task in
     let place : c.len-property.result ≡ length at.next.items = search rules in
     let left = subst (AreTasks m plan before engine turn (length at.next.items)) steps v.left in
     let long : length (into_iter_items at.task-iterator) ≡ suc (length rest) = ap length steps in

@@ -38,7 +38,8 @@ returns-clause-decided g c =
     let e = c.in_ok-progress.ensures in
     let read = b.seen c.read.new.self in
     let seen = b.seen c.after_read.new.seat in
-    let own = subst (λ (w : Worker). worker_machine w ≡ b.machine c.args.seat.now) (sym c.self.view_is) c.requires.machine in
+    let own = subst (λ (w : Worker). worker_machine w ≡ b.machine c.args.seat.now)
+    (sym c.self.view_is) c.requires.machine in
     let machine = e.seat.1 ∙ (c.in_ok-news.ensures.same.1 ∙ sym own) in
     let front = read-front read seen (b.front c.after_read.new.seat) e.seen (e.front ∙ c.in_ok-news.ensures.front) in
     λ ok p l.
@@ -51,7 +52,8 @@ returns-clause-at_once g c =
     let e = c.in_ok-progress.ensures in
     let read = b.seen c.read.new.self in
     let seen = b.seen c.after_read.new.seat in
-    let own = subst (λ (w : Worker). worker_machine w ≡ b.machine c.args.seat.now) (sym c.self.view_is) c.requires.machine in
+    let own = subst (λ (w : Worker). worker_machine w ≡ b.machine c.args.seat.now)
+    (sym c.self.view_is) c.requires.machine in
     let machine = e.seat.1 ∙ (c.in_ok-news.ensures.same.1 ∙ sym own) in
     let front = read-front read seen (b.front c.after_read.new.seat) e.seen (e.front ∙ c.in_ok-news.ensures.front) in
     λ numbered all.
@@ -64,7 +66,8 @@ returns-clause-spent g c =
     let e = c.in_ok-progress.ensures in
     let read = b.seen c.read.new.self in
     let seen = b.seen c.after_read.new.seat in
-    let own = subst (λ (w : Worker). worker_machine w ≡ b.machine c.args.seat.now) (sym c.self.view_is) c.requires.machine in
+    let own = subst (λ (w : Worker). worker_machine w ≡ b.machine c.args.seat.now)
+    (sym c.self.view_is) c.requires.machine in
     let machine = e.seat.1 ∙ (c.in_ok-news.ensures.same.1 ∙ sym own) in
     let front = read-front read seen (b.front c.after_read.new.seat) e.seen (e.front ∙ c.in_ok-news.ensures.front) in
     λ ok p l u.
