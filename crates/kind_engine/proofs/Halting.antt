@@ -1,15 +1,16 @@
--- Stops of bounded search are causes.
-use Rattle.std.specs.Prelude.{ℕ, ◌≡◌, ◌<◌, ◌≤◌, List, [], length, Some, refl}
-use Rattle.std.proofs.Common.{sym, subst, inl}
+-- Stops of an engine's queries are causes.
+use Rattle.std.specs.Prelude.{ℕ, zero, suc, ◌≡◌, ◌<◌, ◌≤◌, List, [], ◌∷◌, length, Some, Contains, refl}
+use Rattle.std.proofs.Common.{sym, subst, inl, arith}
 use Rattle.proof_steps.specs.View.{Refutation}
 use Rattle.proof_steps.specs.StopView.{Halt}
 use Rattle.sys_terms.specs.declared.term.Entry.{Entry as Cell}
-use Rattle.sys_terms.specs.View.{Machine, base}
+use Rattle.sys_terms.specs.View.{Machine, base, step}
 use Rattle.smt_solver.specs.View.{stop}
 use Rattle.smt_solver.specs.Answered.{IsAnswered}
-use Rattle.cert_rules.specs.Facts.{AreBases}
+use Rattle.cert_rules.specs.Facts.{AreBases, IsRefuted}
 use Rattle.board_core.specs.declared.plan.Plan.{Plan}
-use Rattle.board_core.specs.Entries.{Posting, IsTrueAfter, AreRefutedBefore, spent, stopped}
+use Rattle.board_core.specs.Entries.{Posting, Grounds, IsTrueAfter, AreRefutedBefore, MayAskStep, spent, stopped}
+use Rattle.kind_engine.specs.Steps.{IsAtStep}
 use Rattle.kind_engine.proofs.Refuting.{refuted-before}
 
 module _ (m : Machine) (plan : Plan) (history : List Posting) (p : ℕ) (named : p < length m.properties) where
@@ -35,6 +36,88 @@ module _ (m : Machine) (plan : Plan) (history : List Posting) (p : ℕ) (named :
                 record {
                   within = within;
                   before = subst (λ n. AreRefutedBefore m proofs p n []) e (refuted-before m p [] proofs bases);
+                },
+              ),
+              inl refl,
+            );
+            form = s.form;
+            is_form = s.is_form;
+            is_true = s.is_true;
+          },
+        ),
+      )
+
+  may-ask : (k : ℕ) (states : List (List Cell)) (g : Grounds) → g.paths ≡ states ∷ [] → IsAtStep m plan k p states
+      → MayAskStep m plan g p k
+  may-ask zero states g e h = let s = h.some in absurd (omega arith)
+  may-ask (suc zero) states g e h = h.within
+  may-ask (suc (suc k)) states g e h =
+      let r = h.run (omega arith) in (
+        h.within,
+        record {
+          states = states;
+          is_kept = subst (λ l. Contains l states) (sym e) (0, omega arith, refl);
+          count = r.count;
+          loose = r.loose;
+          alone = r.alone;
+        },
+      )
+
+  -- of induction, at the step by k states
+  pub step-stop : (k : ℕ) (states : List (List Cell)) → IsAtStep m plan k p states
+      → (h : Halt) → IsAnswered m (step p k) [] plan.budgets (stop h) → (places : List ℕ) → places ≡ []
+      → (proofs : List Refutation) (paths : List (List (List Cell))) → paths ≡ states ∷ []
+      → IsTrueAfter m plan history
+      (spent 1 p (stopped h) (record { query = Some (step p k, places); proofs = proofs; paths = paths; terms = [] }))
+  step-stop k states at h s places none proofs paths one =
+      subst (λ l. IsTrueAfter m plan history
+      (spent 1 p (stopped h) (record { query = Some (step p k, l); proofs = proofs; paths = paths; terms = [] })))
+      (sym none) (
+        named,
+        (
+          [],
+          tt,
+          record {
+            asked = (
+              step p k,
+              (
+                refl,
+                may-ask k states
+                    (record { query = Some (step p k, []); proofs = proofs; paths = paths; terms = [] }) one at,
+              ),
+              inl refl,
+            );
+            form = s.form;
+            is_form = s.is_form;
+            is_true = s.is_true;
+          },
+        ),
+      )
+
+  -- or at an instant below a k whose step is refuted
+  pub below-stop : (k i : ℕ) → i < k → k ≤ plan.depth → (r : Refutation) → IsRefuted m (step p k) [] r
+      → (h : Halt) → IsAnswered m (base p i) [] plan.budgets (stop h) → (places : List ℕ) → places ≡ []
+      → (proofs : List Refutation) → proofs ≡ r ∷ [] → (paths : List (List (List Cell)))
+      → IsTrueAfter m plan history
+      (spent 1 p (stopped h) (record { query = Some (base p i, places); proofs = proofs; paths = paths; terms = [] }))
+  below-stop k i below within r refuted h s places none proofs one paths =
+      subst (λ l. IsTrueAfter m plan history
+      (spent 1 p (stopped h) (record { query = Some (base p i, l); proofs = proofs; paths = paths; terms = [] })))
+      (sym none) (
+        named,
+        (
+          [],
+          tt,
+          record {
+            asked = (
+              base p i,
+              (
+                refl,
+                record {
+                  k = k;
+                  below = below;
+                  within = within;
+                  after = (r, subst (λ l. Contains l r) (sym one) (0, omega arith, refl), refuted);
                 },
               ),
               inl refl,

@@ -1,12 +1,12 @@
 -- What histories say when they have grown.
-use Rattle.std.specs.Prelude.{ℕ, ◌≡◌, ◌==◌, ◌||◌, ◌&&◌, ◌++◌, true, false, List, [], ◌∷◌, suc, zero, length, Some, slice_get, take, refl}
+use Rattle.std.specs.Prelude.{ℕ, ◌≡◌, ◌==◌, ◌||◌, ◌&&◌, ◌++◌, true, false, List, [], ◌∷◌, suc, zero, length, Option, Some, None, slice_get, take, refl}
 use Rattle.std.proofs.Common.{ap, sym, subst, ◌∙◌, append_assoc, rules, arith}
 use Rattle.sys_terms.specs.declared.term.Entry.{Entry as Cell}
 use Rattle.sys_terms.specs.View.{Machine}
 use Rattle.board_core.specs.declared.plan.Plan.{Plan}
-use Rattle.cert_rules.specs.Facts.{Fact, Citation, base_fact}
+use Rattle.cert_rules.specs.Facts.{Fact, Citation, base_fact, step_fact, lemma_fact, held_fact, held_by_fact, other_fact, IsStepOf, IsBaseOf, AreNamed}
 use Rattle.proof_steps.specs.View.{Refutation}
-use Rattle.board_core.specs.Entries.{Claim, proved, broken, spent, Posting, Why, Grounds, facts_in, fact_in, IsBaseTo, IsStuckOf, IsDepth, IsTrueAfter}
+use Rattle.board_core.specs.Entries.{Claim, proved, broken, stuck, spent, Posting, Why, Grounds, facts_in, fact_in, IsBaseTo, IsStuckOf, IsDepth, IsTrueAfter}
 use Rattle.board_core.specs.Seats.{Begins, Decides, HasPosted, has_cause, is_spent}
 use Rattle.board_core.specs.Verdicts.{decides, holds, breaks}
 use Rattle.board_core.proofs.Verdicts.{decides-more, causes-more}
@@ -119,3 +119,47 @@ pub base-by : (number p d : ℕ) (cites : List Citation) (proofs : List Refutati
     → IsBaseTo p d (slice_get (facts_in now') place)
 base-by number p d cites proofs seen now' place h =
     subst (IsBaseTo p d) (sym (fact-by number seen now' (base_fact p d cites proofs) place h)) (refl, refl)
+
+pub step-by : (number p k : ℕ) (cites : List Citation) (proof : Refutation) (seen now' : List Posting) (place : ℕ)
+    → HasPosted number seen now' (proved (step_fact p k cites proof)) place
+    → IsStepOf p k (slice_get (facts_in now') place)
+step-by number p k cites proof seen now' place h =
+    subst (IsStepOf p k) (sym (fact-by number seen now' (step_fact p k cites proof) place h)) (refl, refl)
+
+pub held-by : (number p a b : ℕ) (seen now' : List Posting) (place : ℕ)
+    → HasPosted number seen now' (proved (held_fact p a b)) place → Decides now' p
+held-by number p a b seen now' place h =
+    subst (λ l. decides p l ≡ true) (sym h.all)
+    (decides-last p (seen ++ h.others) (record { seat = number; says = proved (held_fact p a b) }) here)
+  where
+    here : decides p (record { seat = number; says = proved (held_fact p a b) } ∷ []) ≡ true
+    here = let e = same-number p in search (rules, arith)
+
+pub stuck-by : (number p d : ℕ) (seen now' : List Posting) (states : List (List Cell)) (front place : ℕ)
+    → length states ≡ suc d → HasPosted number seen now' (stuck p states front) place → IsDepth now' 1 p d
+stuck-by number p d seen now' states front place e h = (
+  length (seen ++ h.others),
+  subst (λ l. IsStuckOf p d (slice_get l (length (seen ++ h.others)))) (sym h.all)
+      (subst (IsStuckOf p d) (sym (at-last (seen ++ h.others) (record { seat = number; says = stuck p states front })))
+      (refl, e)),
+)
+
+-- the base to instant k - 1 and the step by k states, after entries that were posted between
+pub named-by : (p d k a b : ℕ) (seen now' : List Posting) → k ≡ suc d → Begins seen now'
+    → IsBaseTo p d (slice_get (facts_in seen) a) → IsStepOf p k (slice_get (facts_in now') b)
+    → AreNamed (facts_in now') p a b
+named-by p d k a b seen now' e grown base step = record {
+  last = d;
+  is_step = subst (λ n. IsStepOf p n (slice_get (facts_in now') b)) e step;
+  is_base = from (slice_get (facts_in now') a)
+      (subst (λ l. IsBaseTo p d (slice_get l a)) (sym (ap facts_in grown.1 ∙ facts-more seen grown.0))
+      (stays (IsBaseTo p d) (λ x. x) (facts_in seen) (facts_in grown.0) a base));
+} where
+  from : (o : Option Fact) → IsBaseTo p d o → IsBaseOf p d o
+  from None h = h
+  from (Some (base_fact q i cites proofs)) h = (h.0, let s = h.1 in omega arith)
+  from (Some (step_fact q j cites proof)) h = h
+  from (Some (lemma_fact g cites first next)) h = h
+  from (Some (held_fact q i j)) h = h
+  from (Some (held_by_fact q i proof)) h = h
+  from (Some other_fact) h = h

@@ -1,5 +1,5 @@
 -- Lists.
-use Rattle.std.specs.Prelude.{ℕ, zero, suc, ◌≡◌, ◌+◌, ◌<◌, ◌++◌, List, [], ◌∷◌, length, map, take, All, Some, slice_get, Result, Ok, refl}
+use Rattle.std.specs.Prelude.{ℕ, zero, suc, ◌≡◌, ◌+◌, ◌<◌, ◌++◌, List, [], ◌∷◌, length, map, take, All, Some, slice_get, Result, Ok, Err, OnOk, refl}
 use Rattle.std.proofs.Common.{ap, arith}
 
 pub none-of : {X : Type 0} (P : X → Type 0) → All P []
@@ -50,3 +50,7 @@ answered x = Ok x
 
 pub ok-same : {X Y : Type 0} (x y : X) → answered {X = X} {Y = Y} x ≡ answered {X = X} {Y = Y} y → x ≡ y
 ok-same x y e = cc
+
+pub on-ok : {X Y : Type 0} (r : Result X Y) {A B : Type 0} → (A → B) → OnOk r A → OnOk r B
+on-ok (Ok x) f h = f h
+on-ok (Err y) f h = tt

@@ -1,11 +1,12 @@
 -- Tasks of properties.
-use Rattle.std.specs.Prelude.{ℕ, zero, suc, ◌≡◌, ◌+◌, ◌<◌, List, [], ◌∷◌, ◌++◌, length, slice_index_or, refl}
+use Rattle.std.specs.Prelude.{ℕ, zero, suc, ◌≡◌, ◌+◌, ◌<◌, ◌≤◌, List, [], ◌∷◌, ◌++◌, length, slice_index_or, refl}
 use Rattle.std.proofs.Common.{sym, subst, arith}
 use Rattle.std.specs.declared.vec.Vec.{Vec}
 use Rattle.std.specs.declared.alloc.Global.{Global}
 use Rattle.proof_steps.specs.declared.Proof.{Proof}
 use Rattle.cert_rules.specs.View.{proofs_view}
 use Rattle.sys_terms.specs.View.{Machine}
+use Rattle.sys_terms.specs.declared.term.State.{State}
 use Rattle.board_core.specs.declared.plan.Plan.{Plan}
 use Rattle.board_core.specs.Entries.{Posting}
 use Rattle.board_core.specs.Seats.{Begins}
@@ -22,6 +23,7 @@ module _ (m : Machine) (plan : Plan) where
   pub task-later : (known all : List Posting) (engine i p : ℕ) (task : Task) → Begins known all
       → IsTask m plan known engine i p task → IsTask m plan all engine i p task
   task-later known all engine i p (t.Refuted proofs) b h = h
+  task-later known all engine i p (t.Run run) b h = h
   task-later known all engine i p (t.Stopped halted) b h =
       true-later m plan known all (spent engine p (stopped (stop_view halted.stop)) (halted_grounds halted)) b h
   task-later known all engine i p t.Ended b h = (h.0, depth-later known all engine p plan.depth b h.1)
@@ -84,3 +86,8 @@ module _ (m : Machine) (plan : Plan) where
       → IsTask m plan known 0 0 p (t.Refuted v)
   none-refuted known p v e =
       (refl, subst (λ l. IsRefutedBelow m plan 0 p (proofs_view l)) (sym e) (record { within = omega arith; count = refl; refuted = tt }))
+
+  -- before turn 1 each is at the step by one state
+  pub none-run : (known : List Posting) (p : ℕ) (v : Vec State Global) → 1 ≤ plan.depth
+      → IsTask m plan known 1 1 p (t.Run v)
+  none-run known p v d = (refl, record { some = omega arith; within = d; run = λ l. absurd (omega arith) })

@@ -1,5 +1,6 @@
 pub mod Ready
 pub mod Lemmas
+pub mod Steps
 pub mod Halts
 pub mod Tasks
 pub mod Engines

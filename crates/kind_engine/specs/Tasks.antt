@@ -2,12 +2,13 @@
 use Rattle.std.specs.Prelude.{ℕ, suc, ◌≡◌, ◌≤◌, ◌<◌, List, [], ◌∷◌, length}
 use Rattle.proof_steps.specs.View.{Refutation}
 use Rattle.proof_steps.specs.StopView.{stop_view}
-use Rattle.sys_terms.specs.View.{Machine}
+use Rattle.sys_terms.specs.View.{Machine, states_view}
 use Rattle.cert_rules.specs.View.{proofs_view}
 use Rattle.cert_rules.specs.Facts.{AreBases}
 use Rattle.board_core.specs.declared.plan.Plan.{Plan}
 use Rattle.board_core.specs.Entries.{Posting, IsTrueAfter, IsDepth, spent, stopped}
 use Rattle.board_core.specs.Seats.{Decides}
+use Rattle.kind_engine.specs.Steps.{IsAtStep}
 use Rattle.kind_engine.specs.Halts.{halted_grounds}
 use Rattle.kind_engine.specs.declared.task.Task.{Task}
 use Rattle.kind_engine.specs.declared.task.Task.TheVariants as t
@@ -24,6 +25,7 @@ pub record IsRefutedBelow (m : Machine) (plan : Plan) (i p : ℕ) (proofs : List
 abbrev pub IsTask : Machine → Plan → List Posting → (engine i p : ℕ) → Task → Type 0
 IsTask m plan known engine i p (t.Refuted proofs) =
     (engine ≡ 0) × IsRefutedBelow m plan i p (proofs_view proofs.items)
+IsTask m plan known engine i p (t.Run run) = (engine ≡ 1) × IsAtStep m plan i p (states_view run.items)
 IsTask m plan known engine i p (t.Stopped h) =
     IsTrueAfter m plan known (spent engine p (stopped (stop_view h.stop)) (halted_grounds h))
 IsTask m plan known engine i p t.Ended = (p < length m.properties) × IsDepth known engine p plan.depth

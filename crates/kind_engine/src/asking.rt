@@ -3,7 +3,7 @@
 //! Each query is built afresh.
 
 ghost use Rattle.std.specs.Prelude.{◌≡◌, ◌<◌, length, true, IfOk};
-ghost use Rattle.sys_terms.specs.View.{system_view, terms_view, obligation_view, base};
+ghost use Rattle.sys_terms.specs.View.{system_view, terms_view, obligation_view, base, step};
 ghost use Rattle.sys_terms.specs.Fits.{is_asked, is_light_task};
 ghost use Rattle.smt_solver.specs.View.{answer_view};
 ghost use Rattle.smt_solver.specs.Answered.{IsAnswered};
@@ -61,4 +61,21 @@ pub(crate) fn base_at(
         &Obligation::Base { property, instant },
         cites,
     )
+}
+
+/// Are there k + 1 states, one after the other, of which the property is false at the last alone?
+pub(crate) fn step_after(
+    alloc: Global,
+    subject: &Subject,
+    property: u32,
+    k: u32,
+    cites: &[Term],
+) -> Result<Answer, EngineFault>
+    requires ready { IsReady (system_view subject.now.system) subject.now.plan }
+    requires named { property < length (system_view subject.now.system).properties }
+    requires citable { AreCitable (system_view subject.now.system) (terms_view cites.now) }
+    ensures { IfOk result (λ a. IsAnswered (system_view subject.now.system) (step property k)
+        (terms_view cites.now) subject.now.plan.budgets (answer_view a)) }
+{
+    asked(alloc, subject, &Obligation::Step { property, k }, cites)
 }

@@ -1,7 +1,8 @@
 //! Engines that look for breaks and for proofs of a system's properties, turn by turn, and post what
 //! they find in the book.
 //!
-//! `BoundedEngine` goes through the instants from 0 on.
+//! `BoundedEngine` goes through the instants from 0 on, `StepEngine` through the steps by one, two and
+//! more states.
 
 #![tactic(auto)]
 
@@ -9,12 +10,16 @@ mod asking;
 mod bounded;
 mod checking;
 mod flags;
+mod grounds;
 mod halted;
+mod induction;
 mod posting;
 mod searching;
+mod stepping;
 mod subject;
 mod task;
 mod turning;
 
 pub use bounded::BoundedEngine;
 pub use flags::has_flags_alone;
+pub use induction::StepEngine;

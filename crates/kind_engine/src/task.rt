@@ -2,12 +2,15 @@
 
 use crate::halted::Halted;
 use proof_steps::Proof;
+use sys_terms::State;
 
 /// How far an engine is with a property.
 #[derive(Drop)]
 pub(crate) enum Task {
     /// Bounded search: the instants so far are refuted, by a proof each.
     Refuted(Vec<Proof>),
+    /// Induction: the step by one state less than it is at has this run; for one state there is none.
+    Run(Vec<State>),
     /// A query stopped.
     Stopped(Halted),
     /// It went to its depth, and what shows it is posted.
@@ -17,7 +20,7 @@ pub(crate) enum Task {
 }
 
 /// The number of the next turn that asks, and each property's task. Bounded search asks about instant n
-/// in turn n. The turn behind the depth tells why properties are undecided.
+/// in turn n, induction the step by n states. The turn behind the depth tells why properties are undecided.
 #[derive(Drop)]
 pub(crate) struct Search {
     pub(crate) turn: u32,

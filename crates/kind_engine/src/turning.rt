@@ -12,6 +12,7 @@ ghost use Rattle.kind_engine.specs.Engines.{turns_of};
 use crate::halted::post_halted;
 use crate::posting::post_spent;
 use crate::searching::at_next_instant;
+use crate::stepping::at_next_step;
 use crate::subject::Subject;
 use crate::task::{Search, Task};
 use board_core::{BoardSeat, Cause, EngineFault, Kept, Progress};
@@ -35,27 +36,28 @@ fn advanced<B: BoardSeat>(
     alloc: Global,
     subject: &Subject,
     seat: &mut B,
-    _turn: u32,
+    turn: u32,
     property: u32,
     task: Task,
 ) -> Result<Task, EngineFault>
     requires ready { IsReady (system_view subject.now.system) subject.now.plan }
-    requires machine { B.machine seat.old ≡ system_view subject.now.system }
+    requires book { (B.machine seat.old ≡ system_view subject.now.system) × (B.plan seat.old ≡ subject.now.plan) }
     requires named { property < length (system_view subject.now.system).properties }
     requires task { IsTask (system_view subject.now.system) subject.now.plan (B.seen seat.old)
-        subject.now.engine _turn property task }
+        subject.now.engine turn property task }
     ensures seat { (B.number seat.new ≡ B.number seat.old) × (B.machine seat.new ≡ B.machine seat.old)
         × (B.plan seat.new ≡ B.plan seat.old) × (B.lent seat.new ≡ B.lent seat.old) }
     ensures front { B.front seat.new ≡ B.front seat.old }
     ensures seen { OnOk result (Begins (B.seen seat.old) (B.seen seat.new)) }
     ensures task { IfOk result (λ t. IsTask (system_view subject.now.system) subject.now.plan (B.seen seat.new)
-        subject.now.engine (suc _turn) property t) }
+        subject.now.engine (suc turn) property t) }
 {
     if seat.decided(property) {
         return Ok(Task::Decided);
     }
     match task {
         Task::Refuted(proofs) => at_next_instant(alloc, subject, seat, property, proofs),
+        Task::Run(run) => at_next_step(alloc, subject, seat, property, turn, run),
         Task::Stopped(halted) => Ok(Task::Stopped(halted)),
         Task::Ended => Ok(Task::Ended),
         Task::Decided => Ok(Task::Decided),
@@ -71,7 +73,7 @@ fn all_advanced<B: BoardSeat>(
     tasks: Vec<Task>,
 ) -> Result<Vec<Task>, EngineFault>
     requires ready { IsReady (system_view subject.now.system) subject.now.plan }
-    requires machine { B.machine seat.old ≡ system_view subject.now.system }
+    requires book { (B.machine seat.old ≡ system_view subject.now.system) × (B.plan seat.old ≡ subject.now.plan) }
     requires count { length tasks.items ≡ length (system_view subject.now.system).properties }
     requires tasks { AreTasks (system_view subject.now.system) subject.now.plan (B.seen seat.old)
         subject.now.engine turn 0 tasks.items }
@@ -121,7 +123,7 @@ fn report<B: BoardSeat>(
             let cause = Cause::Depth(subject.plan.depth);
             post_spent(seat, subject.engine, property, cause, kept)
         }
-        Task::Refuted(_) | Task::Decided => unreachable!(),
+        Task::Refuted(_) | Task::Run(_) | Task::Decided => unreachable!(),
     }
 }
 

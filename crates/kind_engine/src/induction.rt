@@ -1,0 +1,135 @@
+//! Induction over several states.
+
+ghost use Rattle.std.specs.Prelude.{◌≡◌, ◌<◌, ◌≤◌, ◌^◌, List, [], length, true, Some, IfOk};
+ghost use Rattle.sys_terms.specs.View.{Machine, system_view};
+ghost use Rattle.sys_terms.specs.Fits.{IsMild};
+ghost use Rattle.smt_solver.specs.Boolean.{is_boolean_machine};
+ghost use Rattle.board_core.specs.declared.plan.Plan.{Plan as Options};
+ghost use Rattle.board_core.specs.Plans.{IsPlan};
+ghost use Rattle.board_core.specs.Entries.{Posting};
+ghost use Rattle.kind_engine.specs.Ready.{all_flags};
+ghost use Rattle.kind_engine.specs.Tasks.{AreTasks};
+ghost use Rattle.kind_engine.specs.Engines.{worker_machine, worker_plan, worker_known, worker_steps};
+
+use crate::subject::Subject;
+use crate::task::{Search, Task};
+use crate::turning::{Turned, after_read};
+use board_core::{BoardSeat, Book, Engine, EngineFault, Plan, Progress};
+use std::alloc::{AllocError, Global};
+use std::marker::Model;
+use std::snapshot::Snapshot;
+use sys_terms::System;
+
+/// Proves each property by the step by k states, k from 1 on, a k a turn, up to the depth of its plan. For
+/// now it cites no lemma. Its number is 1.
+///
+/// Where the step by k states is refuted it asks about the instants below k itself. Where they are refuted
+/// too it posts the base, the step and that the property is held; where one breaks, that break. A property
+/// whose step by as many states as the depth is not refuted is posted as stuck, at the path that answers
+/// it. The turn behind the depth posts, for each property that what was read leaves undecided, that the
+/// search went to its depth; or, where a query stopped, that stop with what shows that it was to be asked.
+/// After want of memory each further turn answers it again.
+#[derive(Drop)]
+pub struct StepEngine {
+    subject: Subject,
+    search: Option<Search>,
+    known: Option<Snapshot<Book>>,
+}
+
+impl Model for StepEngine {
+    ghost use Rattle.std.specs.Coded.{codes};
+    ghost use Rattle.sys_terms.specs.contracts.term.Term as e;
+    ghost use Rattle.kind_engine.specs.Engines.{Worker, IsWorker};
+
+    ghost Value = { Worker };
+
+    ghost coded = { Prim.hlevel (codes, e.the_row.coded) };
+
+    ghost view = { λ b. (b.subject, b.search, b.known) };
+
+    ghost invariant = { λ b. IsWorker 1 (b.subject, b.search, b.known) };
+}
+
+/// The number of induction.
+const STEP: u32 = 1;
+
+/// Each property is at the step by one state.
+fn first_tasks(alloc: Global, count: u32) -> Result<Vec<Task>, AllocError>
+    ensures { IfOk result (λ ts. (length ts.items ≡ count)
+        × ((m : Machine) (plan : Options) (known : List Posting) → 1 ≤ plan.depth
+        → AreTasks m plan known 1 1 0 ts.items)) }
+{
+    let mut tasks = Vec::with_capacity(alloc, count as usize)?;
+    for i in 0..count {
+        tasks.push(Task::Run(Vec::new(alloc)))?;
+    }
+    Ok(tasks)
+}
+
+impl StepEngine {
+    /// An engine that knows nothing yet.
+    ///
+    /// For now its system has no numbers: each variable is a flag (`has_flags_alone`), and no term
+    /// compares numbers (`smt_solver::is_boolean_system`).
+    ///
+    /// # Errors
+    ///
+    /// Only want of memory, or more properties than 32 bits number.
+    pub fn new(alloc: Global, system: System, plan: Plan) -> Result<StepEngine, EngineFault>
+        requires mild { IsMild (system_view system) }
+        requires few { length (system_view system).shapes < 2 ^ 32 }
+        requires boolean { is_boolean_machine (system_view system) ≡ true }
+        requires flags { all_flags (system_view system).shapes ≡ true }
+        requires plan { IsPlan plan }
+        ensures system { IfOk result (λ e. worker_machine e ≡ system_view system) }
+        ensures plan { IfOk result (λ e. worker_plan e ≡ plan) }
+        ensures known { IfOk result (λ e. worker_known e ≡ []) }
+    {
+        let Ok(count) = u32::try_from(system.properties.len()) else {
+            return Err(EngineFault::Memory(AllocError));
+        };
+        let tasks = first_tasks(alloc, count)?;
+        Ok(StepEngine {
+            subject: Subject {
+                system,
+                plan,
+                engine: STEP,
+            },
+            search: Some(Search { turn: 1, tasks }),
+            known: None,
+        })
+    }
+}
+
+impl Engine for StepEngine {
+    ghost number = { λ e. Some 1 };
+
+    ghost machine = { λ e. Some (worker_machine e) };
+
+    ghost plan = { λ e. Some (worker_plan e) };
+
+    ghost known = { λ e. worker_known e };
+
+    ghost owed = { λ e. [] };
+
+    ghost steps = { λ e. worker_steps e };
+
+    fn turn<B: BoardSeat>(&mut self, alloc: Global, seat: &mut B) -> Result<Progress, EngineFault> {
+        let Some(search) = self.search.take() else {
+            return Err(EngineFault::Memory(AllocError));
+        };
+        let news = seat.read(alloc)?;
+        drop(news);
+        let Turned { progress, search } = after_read(alloc, &self.subject, seat, search)?;
+        self.search = Some(search);
+        self.known = Some(seat.seen());
+        Ok(progress)
+    }
+
+    fn left(&self) -> u64 {
+        match &self.search {
+            Some(search) => self.subject.plan.depth as u64 + 2 - search.turn as u64,
+            None => 0,
+        }
+    }
+}

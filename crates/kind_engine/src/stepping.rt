@@ -1,0 +1,145 @@
+//! Induction: one state more.
+
+ghost use Rattle.std.specs.Prelude.{◌≡◌, ◌<◌, ◌≤◌, [], length, suc, IfOk, OnOk};
+ghost use Rattle.proof_steps.specs.View.{proof_view};
+ghost use Rattle.sys_terms.specs.View.{system_view, states_view, step};
+ghost use Rattle.cert_rules.specs.View.{proofs_view};
+ghost use Rattle.cert_rules.specs.Facts.{AreBases, IsRefuted};
+ghost use Rattle.board_core.specs.Seats.{Begins, Decides};
+ghost use Rattle.kind_engine.specs.Ready.{IsReady};
+ghost use Rattle.kind_engine.specs.Steps.{IsAtStep};
+ghost use Rattle.kind_engine.specs.Tasks.{IsTask};
+
+use crate::asking::step_after;
+use crate::checking::{base_of, concluded, step_of};
+use crate::grounds::{Ground, look_below};
+use crate::halted::Halted;
+use crate::posting::{post_base, post_broken, post_held, post_step, post_stuck};
+use crate::subject::Subject;
+use crate::task::Task;
+use board_core::{BoardSeat, EngineFault};
+use proof_steps::Proof;
+use smt_solver::Answer;
+use std::alloc::Global;
+use sys_terms::{Obligation, State};
+
+/// Posts the base to instant k - 1, the step by k states and that they hold the property.
+fn hold<B: BoardSeat>(
+    alloc: Global,
+    subject: &Subject,
+    seat: &mut B,
+    property: u32,
+    k: u32,
+    proofs: &[Proof],
+    proof: &Proof,
+) -> Result<(), EngineFault>
+    requires ready { IsReady (system_view subject.now.system) subject.now.plan }
+    requires book { (B.machine seat.old ≡ system_view subject.now.system) × (B.plan seat.old ≡ subject.now.plan) }
+    requires named { property < length (system_view subject.now.system).properties }
+    requires some { 1 ≤ k }
+    requires count { length (proofs_view proofs.now) ≡ k }
+    requires bases { AreBases (system_view subject.now.system) property [] 0 (proofs_view proofs.now) }
+    requires step { IsRefuted (system_view subject.now.system) (step property k) [] (proof_view proof.now) }
+    ensures seat { (B.number seat.new ≡ B.number seat.old) × (B.machine seat.new ≡ B.machine seat.old)
+        × (B.plan seat.new ≡ B.plan seat.old) × (B.lent seat.new ≡ B.lent seat.old) }
+    ensures front { B.front seat.new ≡ B.front seat.old }
+    ensures seen { OnOk result (Begins (B.seen seat.old) (B.seen seat.new)) }
+    ensures decided { OnOk result (Decides (B.seen seat.new) property) }
+{
+    let base = base_of(alloc, subject, &[], property, k - 1, proofs)?;
+    let step = step_of(alloc, subject, &[], property, k, proof)?;
+    let held = concluded(&base, &step)?;
+    let first = post_base(seat, base)?;
+    let second = post_step(seat, step)?;
+    post_held(seat, property, held, first, second)
+}
+
+/// What follows where the step by k states is refuted.
+fn founded<B: BoardSeat>(
+    alloc: Global,
+    subject: &Subject,
+    seat: &mut B,
+    property: u32,
+    k: u32,
+    proof: Proof,
+) -> Result<Task, EngineFault>
+    requires ready { IsReady (system_view subject.now.system) subject.now.plan }
+    requires engine { subject.now.engine ≡ 1 }
+    requires book { (B.machine seat.old ≡ system_view subject.now.system) × (B.plan seat.old ≡ subject.now.plan) }
+    requires named { property < length (system_view subject.now.system).properties }
+    requires some { 1 ≤ k }
+    requires within { k ≤ subject.now.plan.depth }
+    requires step { IsRefuted (system_view subject.now.system) (step property k) [] (proof_view proof) }
+    ensures seat { (B.number seat.new ≡ B.number seat.old) × (B.machine seat.new ≡ B.machine seat.old)
+        × (B.plan seat.new ≡ B.plan seat.old) × (B.lent seat.new ≡ B.lent seat.old) }
+    ensures front { B.front seat.new ≡ B.front seat.old }
+    ensures seen { OnOk result (Begins (B.seen seat.old) (B.seen seat.new)) }
+    ensures task { IfOk result (λ t. IsTask (system_view subject.now.system) subject.now.plan (B.seen seat.new)
+        subject.now.engine (suc k) property t) }
+{
+    match look_below(alloc, subject, property, k)? {
+        Ground::Refuted(proofs) => {
+            hold(alloc, subject, seat, property, k, &proofs, &proof)?;
+            Ok(Task::Decided)
+        }
+        Ground::Broken(path) => {
+            post_broken(seat, property, path)?;
+            Ok(Task::Decided)
+        }
+        Ground::Stopped(instant, stop) => {
+            let mut proofs = Vec::new(alloc);
+            proofs.push(proof)?;
+            Ok(Task::Stopped(Halted {
+                what: Obligation::Base { property, instant },
+                places: Vec::new(alloc),
+                proofs,
+                paths: Vec::new(alloc),
+                stop,
+            }))
+        }
+    }
+}
+
+/// Asks the step by k states, of which this run shows that one state less does not suffice.
+pub(crate) fn at_next_step<B: BoardSeat>(
+    alloc: Global,
+    subject: &Subject,
+    seat: &mut B,
+    property: u32,
+    k: u32,
+    run: Vec<State>,
+) -> Result<Task, EngineFault>
+    requires ready { IsReady (system_view subject.now.system) subject.now.plan }
+    requires engine { subject.now.engine ≡ 1 }
+    requires book { (B.machine seat.old ≡ system_view subject.now.system) × (B.plan seat.old ≡ subject.now.plan) }
+    requires named { property < length (system_view subject.now.system).properties }
+    requires run { IsAtStep (system_view subject.now.system) subject.now.plan k property (states_view run.items) }
+    ensures seat { (B.number seat.new ≡ B.number seat.old) × (B.machine seat.new ≡ B.machine seat.old)
+        × (B.plan seat.new ≡ B.plan seat.old) × (B.lent seat.new ≡ B.lent seat.old) }
+    ensures front { B.front seat.new ≡ B.front seat.old }
+    ensures seen { OnOk result (Begins (B.seen seat.old) (B.seen seat.new)) }
+    ensures task { IfOk result (λ t. IsTask (system_view subject.now.system) subject.now.plan (B.seen seat.new)
+        subject.now.engine (suc k) property t) }
+{
+    match step_after(alloc, subject, property, k, &[])? {
+        Answer::Unsat(proof) => founded(alloc, subject, seat, property, k, proof),
+        Answer::Sat(states) => {
+            if k < subject.plan.depth {
+                return Ok(Task::Run(states));
+            }
+            post_stuck(seat, property, states, 0)?;
+            Ok(Task::Ended)
+        }
+        Answer::Stop(stop) => {
+            let mut paths = Vec::new(alloc);
+            paths.push(run)?;
+            Ok(Task::Stopped(Halted {
+                what: Obligation::Step { property, k },
+                places: Vec::new(alloc),
+                proofs: Vec::new(alloc),
+                paths,
+                stop,
+            }))
+        }
+    }
+}
