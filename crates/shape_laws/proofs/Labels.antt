@@ -1,5 +1,5 @@
 -- Where no label of properties stands twice, their texts are distinct.
-use Rattle.std.proofs.Common.{◌≡◌, Bool, false, ◌||◌, List, [], ◌∷◌, ◌++◌, map, flat_map, Option, Some, None, refl, ap, subst}
+use Rattle.std.proofs.Common.{◌≡◌, Bool, false, ◌||◌, List, [], ◌∷◌, ◌++◌, map, flat_map, Option, Some, None, refl, sym, ap, ◌∙◌, subst}
 use Rattle.std.specs.Str.{bytes_eq}
 use Rattle.lus_tree.specs.declared.place.Pos.{Pos}
 use Rattle.lus_tree.specs.Tree.{Name, Expression, Statement, equation, assertion, property, main_mark, Component, Program}
@@ -12,6 +12,7 @@ use Rattle.lus_meaning.specs.Faults.{if_so, meets, words_twice, later}
 use Rattle.lus_meaning.specs.NameFaults.{own_words, outer_twice, mode_words, constant_words, Tag, tag, same_tag, tags_twice, property_tags, labels_twice, assume_tags, guarantee_tags, ensure_tags}
 use Rattle.lus_meaning.specs.BooleanRules.{label_texts}
 use Rattle.lus_meaning.proofs.NamesOnce.{Clean, no_parts, not_so}
+use Rattle.shape_laws.proofs.Distinct.{no_tag_twice}
 
 abbrev Mark : Type 0
 Mark = Name × Pos
@@ -87,3 +88,12 @@ clean_labels p n (k, e) =
     let guarantees = (no_parts (tags_twice (flat_map assume_tags (contract_statements n))) _ labels).1 in
     let ensures_ = (no_parts (tags_twice (flat_map guarantee_tags (contract_statements n))) _ guarantees).1 in
     labels_distinct n.body (no_parts (tags_twice (flat_map ensure_tags (contract_statements n))) _ ensures_).1
+
+same_words : (ms : List Mark) → map (λ (t : Tag). t.1) (map tag_of ms) ≡ map (λ (m : Mark). m.0) ms
+same_words [] = refl
+same_words (m ∷ ms) = ap (λ (xs : List Name). m.0 ∷ xs) (same_words ms)
+
+-- and distinct labels stand once
+pub labels_once : (ss : List Statement) → AreDistinct (label_texts ss) → tags_twice (flat_map property_tags ss) ≡ []
+labels_once ss d = no_tag_twice (flat_map property_tags ss)
+    (subst AreDistinct (sym (ap (map (λ (t : Tag). t.1)) (tags_are ss) ∙ same_words (marks ss) ∙ texts_are ss)) d)

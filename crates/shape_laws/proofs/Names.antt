@@ -1,15 +1,15 @@
 -- The names of a checked node without constants and contract.
-use Rattle.std.proofs.Common.{◌≡◌, ℕ, zero, suc, Bool, true, false, cond, ◌||◌, List, [], ◌∷◌, ◌++◌, map, flat_map, Option, Some, None, refl, sym, ap, ◌∙◌, subst, arith}
+use Rattle.std.proofs.Common.{◌≡◌, Bool, true, false, cond, ◌||◌, List, [], ◌∷◌, ◌++◌, map, flat_map, Option, Some, None, refl, sym, ap, ◌∙◌, subst, arith}
 use Rattle.std.specs.Prelude.{find, option_map, unwrap_or}
 use Rattle.std.specs.List.{AllByRecursion}
 use Rattle.std.specs.Map.{lookup}
 use Rattle.std.specs.Str.{bytes_eq}
 use Rattle.std.proofs.lemmas.Bool.{false≢true, cases_Bool}
 use Rattle.std.proofs.Math.Logic.{◌⊎◌, inl, inr}
-use Rattle.lus_tree.specs.Tree.{Name, text_of, Expression, truth, number, name, negation, minus, pre, arrow, binary, choice, sampled, merged, call, condact, mode_name, Variable, Constant, Statement, equation, assertion, property, main_mark, Component, declared_node, Program}
+use Rattle.lus_tree.specs.Tree.{Name, text_of, Expression, truth, number, name, negation, minus, pre, arrow, binary, choice, sampled, merged, call, condact, mode_name, Variable, Statement, equation, assertion, property, main_mark, Component, declared_node}
 use Rattle.lus_tree.specs.Numbers.{body_expressions}
 use Rattle.lus_meaning.specs.Scene.{clock_from, Instance, component_of, constants_of, contract_statements, variables, ghosts}
-use Rattle.lus_meaning.specs.Program.{instance_within, constants_in, constant_values, program_constants, contract_statement_constants}
+use Rattle.lus_meaning.specs.Program.{instance_of}
 use Rattle.lus_meaning.specs.Depends.{named_in, left_names}
 use Rattle.lus_meaning.specs.Occurrences.{Standing, within, before, Occurrence, occurs, occurrences, Text, contract_statement_texts, constant_texts, statement_texts, texts, all_occurrences}
 use Rattle.lus_meaning.specs.WellMade.{AreDistinct}
@@ -17,7 +17,8 @@ use Rattle.lus_meaning.specs.Rules.{AllAmong, NoneAmong, names_of, declared_name
 use Rattle.lus_meaning.specs.ClockFaults.{name_clock}
 use Rattle.lus_meaning.specs.EquationFaults.{body_lefts, definable, left_faults}
 use Rattle.lus_meaning.specs.Refusals.{IsChecked}
-use Rattle.lus_meaning.specs.BooleanRules.{used_names}
+use Rattle.lus_meaning.specs.BooleanRules.{IsBooleanNode, used_names}
+use Rattle.lus_meaning.proofs.BooleanNode.{boolean_instance}
 use Rattle.lus_meaning.proofs.Lists.{all_from, both_parts, named_append, or_left, or_true}
 use Rattle.lus_meaning.proofs.Now.{left_part, right_part}
 use Rattle.rule_laws.specs.Fitting.{Fits, NameFits}
@@ -131,22 +132,14 @@ module _ (n : Component) where
       used_in_body n.body (all_of_each InText (statement_texts n) n.body
       (right_part InText (constant_texts n.constants) (flat_map (statement_texts n) n.body) behind))
 
-constants_within : (d : ℕ) (p : Program) (n : Component) → constants_of (instance_within d p n) ≡ constants_in p n
-constants_within zero p n = refl
-constants_within (suc d) p n = refl
-
-no_constants : (n : Component) → n.constants ≡ [] → n.contract ≡ None → constants_in (declared_node n ∷ []) n ≡ []
-no_constants n e f =
-    subst (λ o. constant_values [] (program_constants (declared_node n ∷ []) ++ contract_statement_constants (unwrap_or o []) ++ n.constants) ≡ [])
-    (sym f) (subst (λ (cs : List Constant). constant_values [] cs ≡ []) (sym e) refl)
-
-pub names_used : (n : Component) → IsChecked (declared_node n ∷ []) → n.constants ≡ [] → n.contract ≡ None
+pub names_used : (n : Component) → IsChecked (declared_node n ∷ []) → IsBooleanNode n
     → AllAmong (declared_names n) (flat_map used_names (body_expressions n.body))
-names_used n c e f =
-    let p : Program = declared_node n ∷ [] in
-    let none : constants_of (instance_within 1 p n) ≡ [] = constants_within 1 p n ∙ no_constants n e f in
+names_used n c s =
+    let i : Instance = instance_of (declared_node n ∷ []) n in
+    let none : constants_of i ≡ [] = ap constants_of (boolean_instance n s) in
     body_used n (all_contained (IsListedThere n) (all_occurrences n)
-    (λ o h. fits_listed (instance_within 1 p n) n (component_within 1 p n) none o.standing o.expression (expressions_fit p c n (0, omega arith, refl) o h)))
+    (λ o h. fits_listed i n (component_within 1 (declared_node n ∷ []) n) none o.standing o.expression
+    (expressions_fit (declared_node n ∷ []) c n (0, omega arith, refl) o h)))
 
 -- ---- the names that equations define
 

@@ -33,7 +33,7 @@ module _ (n : Component) (c : IsChecked (declared_node n ∷ [])) (s : IsBoolean
   names = record {
     declared_once = distinct;
     left_declared = left_declared n lefts;
-    used_declared = names_used n c s.constants s.contract;
+    used_declared = names_used n c s;
     inputs_given = inputs_given n s.contract distinct lefts;
     one_equation = lefts_distinct n distinct lefts;
   }

@@ -1,8 +1,9 @@
 -- The shape of a program of the Boolean language, and what it says of a checked one.
-use Rattle.std.specs.Prelude.{◌≡◌, ◌↔◌, [], ◌∷◌}
-use Rattle.lus_tree.specs.Tree.{Component, declared_node, Program}
+use Rattle.std.specs.Prelude.{◌≡◌, ◌↔◌, [], ◌∷◌, Option}
+use Rattle.lus_tree.specs.Tree.{Name, Component, declared_node, Program}
 use Rattle.lus_meaning.specs.Rules.{IsWithinCounts}
-use Rattle.lus_meaning.specs.Refusals.{IsChecked}
+use Rattle.lus_meaning.specs.Grammatical.{IsGrammatical}
+use Rattle.lus_meaning.specs.Refusals.{IsChecked, IsWithinLimits}
 use Rattle.lus_meaning.specs.BooleanRules.{IsBooleanNode, IsBooleanChecked, BreaksNoBooleanRule}
 
 -- One declaration, a node without constants and contract, whose streams are truth values on the base clock, and whose items
@@ -29,3 +30,19 @@ BuiltWhereOfTheShape = (p : Program) → IsChecked p → BreaksNoBooleanRule p �
 -- what breaks no Boolean rule has the shape
 abbrev pub BuiltHaveTheShape : Type 0
 BuiltHaveTheShape = (p : Program) → BreaksNoBooleanRule p → IsShapeWithinCounts p
+
+-- ---- the other way
+
+-- a tree of the grammar that follows the Boolean rules is checked
+abbrev pub BuiltAreChecked : Type 0
+BuiltAreChecked = (p : Program) (n : Component) → IsGrammatical p → IsBooleanChecked p n → IsChecked p
+
+-- so of the trees of the grammar none but the checked ones of the shape, within the counts, break no Boolean rule
+abbrev pub BuiltWhereChecked : Type 0
+BuiltWhereChecked = (p : Program) → IsGrammatical p → BreaksNoBooleanRule p ↔ (IsChecked p × IsShapeWithinCounts p)
+
+-- ---- limits
+
+-- within the limits of the whole language a program of the shape is within the counts
+abbrev pub LimitsKeepCounts : Type 0
+LimitsKeepCounts = (p : Program) (main : Option Name) (s : IsOfTheShape p) → IsWithinLimits p main → IsWithinCounts p s.node
