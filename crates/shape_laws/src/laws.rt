@@ -16,9 +16,9 @@ pub fn built_have_the_shape()
     ensures { BuiltHaveTheShape }
 {}
 
-/// A tree of the grammar that follows the Boolean rules is checked: its names, types, clocks and equations have no fault
-/// by the rules of the whole language. So the trees of the grammar that break no Boolean rule are exactly the checked
-/// ones of the shape, within the counts.
+/// A tree of the grammar that follows the Boolean rules is checked: its names, types, clocks and equations have no
+/// fault by the rules of the whole language. So the trees of the grammar that break no Boolean rule are exactly the
+/// checked ones of the shape, within the counts.
 pub fn built_are_checked()
     ensures rules { BuiltAreChecked }
     ensures exact { BuiltWhereChecked }
