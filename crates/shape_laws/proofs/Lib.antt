@@ -1,0 +1,11 @@
+pub mod Names
+pub mod Labels
+pub mod Shapes
+pub mod Parts
+pub mod Typing
+pub mod Scopes
+pub mod Clocks
+pub mod Distinct
+pub mod Equations
+pub mod Checked
+pub mod Counts
