@@ -64,6 +64,7 @@ split-meanings f ms x c m h e = record {
 
 -- ---- a call's clauses together
 
-pub three : {X E : Type 0} (P Q R S : Type 0) (r : Result X E) → (P → Q → R → S) → OnOk r P → OnOk r Q → OnOk r R → OnOk r S
-three P Q R S (Ok x) f p q r = f p q r
-three P Q R S (Err e) f p q r = p
+pub four : {X E : Type 0} (P Q R S U : Type 0) (r : Result X E) → (P → Q → R → S → U) → OnOk r P → OnOk r Q → OnOk r R → OnOk r S
+    → OnOk r U
+four P Q R S U (Ok x) f p q r s = f p q r s
+four P Q R S U (Err e) f p q r s = p

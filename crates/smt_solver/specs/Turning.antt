@@ -1,9 +1,10 @@
 -- What a refutation of a tableau's check makes of a run.
 use Rattle.std.specs.Prelude.{ℕ, suc, ◌≡◌, true, false, List, [], ◌∷◌, length, map, Option, Some, None, slice_get}
 use lib.IntN.{ℤ, pos}
+use Rattle.proof_steps.specs.declared.Literal.{Literal}
 use Rattle.proof_steps.specs.declared.stops.PastStep.{PastStep}
 use Rattle.proof_steps.specs.StopView.{past_view}
-use Rattle.proof_steps.specs.View.{Inequality}
+use Rattle.proof_steps.specs.View.{Inequality, added}
 use Rattle.proof_steps.specs.Rows.{Form, rows_of, columns_of}
 use Rattle.proof_steps.specs.Bounds.{split_atom}
 use Rattle.proof_steps.specs.Stopped.{IsNumberOf, IsPastStep}
@@ -14,7 +15,8 @@ use Rattle.line_laws.specs.Lines.{meant}
 use Rattle.line_laws.specs.Steps.{HasProducts}
 use Rattle.smt_solver.specs.declared.numbers.meanings.Meaning.{Meaning}
 use Rattle.smt_solver.specs.Conflicting.{AreMeaningsOf}
-use Rattle.smt_solver.specs.Growing.{grown}
+use Rattle.sat_core.specs.Shown.{Adds}
+use Rattle.smt_solver.specs.Growing.{grown, split_move}
 use Rattle.smt_solver.specs.Run.{Standing, IsRun}
 use Rattle.smt_solver.specs.Stops.{IsTableauFor}
 
@@ -28,6 +30,8 @@ pub record IsCounted (old new : Standing) : Type 0 where
   pub run : IsRun new
   pub form : new.form ≡ old.form
   pub more : length new.listed ≡ suc (length old.listed)
+  pub clause : List Literal
+  pub search : Adds old.search new.search clause
 
 -- a tableau of the query's rows, whose bounds, those of the true literals, one row refutes with these
 -- multipliers
@@ -52,4 +56,5 @@ pub record IsSplitOff (x : ℕ) (c : ℤ) (old new : Standing) (ms : List Meanin
   pub run : IsRun new
   pub form : new.form ≡ grown old.form (split_atom (x, c) ∷ [])
   pub listed : new.listed ≡ old.listed
+  pub search : Adds old.search new.search (added (split_move (suc (length old.form.atoms)) x c))
   pub meanings : AreMeaningsOf new.form ms

@@ -3,7 +3,7 @@
 ghost use Rattle.std.specs.Prelude.{◌≡◌, ◌<◌, ◌++◌, ◌∷◌, [], List, true, length, map, suc, OnOk, IfOk};
 ghost use Rattle.proof_steps.specs.View.{Move, added, clause_view, step_view};
 ghost use Rattle.cnf_maker.specs.View.{AreFew, form_view};
-ghost use Rattle.sat_core.specs.Shown.{Adds};
+ghost use Rattle.sat_core.specs.Shown.{Adds, variables_of};
 ghost use Rattle.smt_solver.specs.Growing.{IsTaken, SaysMore};
 ghost use Rattle.smt_solver.specs.Run.{AreFit, IsRun, work_view};
 
@@ -31,6 +31,7 @@ pub fn begun(alloc: Global, cnf: Cnf) -> Result<Work, SolveFault>
     ensures form { IfOk result (λ w. (work_view w).form ≡ form_view cnf) }
     ensures run { IfOk result (λ w. IsRun (work_view w)) }
     ensures none { IfOk result (λ w. (work_view w).listed ≡ []) }
+    ensures variables { IfOk result (λ w. (work_view w).search.variables ≡ variables_of (form_view cnf)) }
 {
     let search = Search::new(alloc, &cnf)?;
     Ok(Work {
@@ -67,6 +68,7 @@ pub fn learn(alloc: Global, work: &mut Work) -> Result<(), SolveFault>
     ensures form { OnOk result ((work_view work.new).form ≡ (work_view work.old).form) }
     ensures run { OnOk result (IsRun (work_view work.new)) }
     ensures more { OnOk result (length (work_view work.new).listed ≡ suc (length (work_view work.old).listed)) }
+    ensures variables { OnOk result ((work_view work.new).search.variables ≡ (work_view work.old).search.variables) }
 {
     learnt_steps_are_accepted();
     work.search.learn(alloc)?;

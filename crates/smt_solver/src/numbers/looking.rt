@@ -57,10 +57,14 @@ fn checked(
         (LooksFrom (work_view work.old) (work_view work.new) tableau.old tableau.new meanings.now pivots) }
 {
     match tableau.check(alloc, pivots)? {
-        Checkup::Fits => Ok(Look::Fits),
+        Checkup::Fits => {
+            let _columns = tableau.columns();
+            Ok(Look::Fits)
+        }
         Checkup::Pivots(start) => Ok(Look::Pivots(start)),
         Checkup::Past(step) => Ok(Look::Past(step)),
         Checkup::Refuted(farkas) => {
+            let _columns = tableau.columns();
             let first = &tableau.given()[0];
             match refuted(alloc, work, meanings, first, &farkas.parts)? {
                 None => Ok(Look::Counted),
@@ -93,7 +97,10 @@ pub fn look_at_numbers(
         (Looks (work_view work.old) (work_view work.new) tableau.old tableau.new meanings.now pivots) }
 {
     match assert_all(alloc, &work.search, tableau, meanings)? {
-        None => checked(alloc, work, tableau, meanings, pivots),
+        None => {
+            let _columns = tableau.columns();
+            checked(alloc, work, tableau, meanings, pivots)
+        }
         Some((first, second)) => {
             crossed(alloc, work, meanings, first, second)?;
             Ok(Look::Counted)

@@ -13,5 +13,5 @@ returns-in-None c =
     c.args.meanings.now c.args.pivots)
     c.checked.result
     (λ l h. looks (work_view c.args.work.now) (work_view c.checked.new.work) c.args.tableau.now c.assert_all.new.tableau
-    c.checked.new.tableau c.args.meanings.now c.args.pivots c.in_ok-assert_all.field-0 c.in-None.is c.in_ok-assert_all.ensures l h)
+    c.checked.new.tableau c.args.meanings.now c.args.pivots c.columns-columns.ensures.sound c.in_ok-assert_all.field-0 c.in-None.is c.in_ok-assert_all.ensures l h)
     c.checked.ensures
