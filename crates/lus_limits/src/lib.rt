@@ -5,17 +5,17 @@
 mod calls;
 mod chains;
 mod contract_size;
-pub mod laws;
 mod frame_size;
 mod inner;
 mod known;
+pub mod laws;
 mod measuring;
 mod own;
 mod part;
 mod presence;
 mod sites;
-mod term_size;
 mod summing;
+mod term_size;
 mod texts;
 
 pub use calls::{Call, Way};
