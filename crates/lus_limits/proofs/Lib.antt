@@ -15,4 +15,5 @@ pub mod OwnTerms
 pub mod Frames
 pub mod KnownNames
 pub mod FrameTerms
+pub mod Needed
 pub mod Contracted

@@ -12,6 +12,7 @@ pub mod Measured
 pub mod Chained
 pub mod Inner
 pub mod OwnTerms
+pub mod Needed
 pub mod Frames
 pub mod Known
 pub mod FrameTerms

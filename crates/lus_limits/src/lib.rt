@@ -10,6 +10,7 @@ mod inner;
 mod known;
 pub mod laws;
 mod measuring;
+mod needs;
 mod own;
 mod part;
 mod presence;
