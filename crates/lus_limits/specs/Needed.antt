@@ -3,6 +3,7 @@ use Rattle.std.specs.Prelude.{◌≡◌, ℕ, ◌<◌, min, Bool, true, false, c
 use Rattle.std.specs.List.{list_all}
 use Rattle.lus_tree.specs.Tree.{Name, Component, Program}
 use Rattle.lus_meaning.specs.ClockFaults.{components}
+use Rattle.lus_meaning.specs.Refusals.{IsChecked}
 use Rattle.name_table.specs.Names.{number_of}
 use Rattle.lus_limits.specs.declared.needs.Needs.{Needs}
 use Rattle.lus_meaning.specs.Scene.{no_component}
@@ -96,3 +97,13 @@ pub record AreNeedsBy (names : List Name) (ns : List Component) (known : List (O
   pub all : calls_known names known n ≡ true
   pub counts : d.counts ≡ summary_by n (map (link_at names ns known) (map called_of (all_sites n)))
   pub sizes : summary_seen d.sizes ≡ cut_summary (summary_by_items (ways_of n) (map (sizes_at names known) (map called_of (all_sites n))) n)
+
+-- ---- of a program
+
+abbrev pub names_of : Program → List Name
+names_of p = map (λ n. n.name.text) (components p)
+
+-- a table of a program's declarations with parts keeps what is known
+abbrev pub KeepsKnown : List Name → List Component → List (Option Needs) → List (Option Needs) → Type 0
+KeepsKnown names ns old new =
+    (p : Program) → IsChecked p → names ≡ names_of p → ns ≡ components p → AreKnown p ns old → AreKnown p ns new
