@@ -1,6 +1,9 @@
 -- What callers need, by the numbers of declarations.
-use Rattle.std.proofs.Common.{◌≡◌, ℕ, zero, suc, ◌<◌, ◌≤◌, Bool, true, false, ◌||◌, cond, List, [], ◌∷◌, map, length, get_or, Option, Some, None, refl, sym, ap, ◌∙◌, subst, arith}
+use Rattle.std.proofs.Common.{◌≡◌, set, length-set, ℕ, zero, suc, ◌<◌, ◌≤◌, Bool, true, false, ◌||◌, cond, List, [], ◌∷◌, map, length, get_or, Option, Some, None, refl, sym, ap, ◌∙◌, subst, arith}
 use Rattle.std.specs.Prelude.{Contains, is_some, min, unwrap_or}
+use Rattle.std.proofs.lemmas.List.Elements.{Contains-get_or}
+use Rattle.lus_streams.specs.declared.owner.Owner.{Owner}
+use Rattle.lus_streams.specs.Owner.{owner_view}
 use Rattle.std.proofs.lemmas.Bool.{true≢false, false≢true}
 use Rattle.std.specs.Str.{bytes_eq}
 use Rattle.lus_tree.specs.Tree.{Name, Expression, Variable, Component, Program, declared_constant, declared_node, declared_contract}
@@ -26,7 +29,7 @@ use Rattle.lus_meaning.specs.Refusals.{IsChecked}
 use Rattle.lus_meaning.specs.Slots.{held_each, held_cells}
 use Rattle.rule_laws.proofs.Truths.{both_true}
 use Rattle.lus_limits.specs.Instances.{callee}
-use Rattle.lus_limits.specs.Needed.{held_by, counts_or, sizes_or, IsNeeds, AreKnown, names_of, KeepsKnown, is_known, all_known, calls_known, link_at, sizes_at, AreNeedsBy}
+use Rattle.lus_limits.specs.Needed.{unknowns, IsStuckAt, IsTried, held_by, counts_or, sizes_or, IsNeeds, AreKnown, names_of, KeepsKnown, is_known, all_known, calls_known, link_at, sizes_at, AreNeedsBy}
 
 -- a name that is not there has the number behind all
 number_past : (ks : List Name) (x : Name) → named_in x ks ≡ false → number_of ks x ≡ length ks
@@ -194,3 +197,66 @@ needs_right p c n i os a d r =
           ∙ sym (size_summary_cuts n (summaries_at p ss))
           ∙ ap cut_summary (sym (size_summary_by_text p c n i));
     }
+
+-- ---- one declaration more
+
+set_known : (p : Program) (ns : List Component) (os : List (Option Needs)) (k : ℕ) (d : Needs) → k < length ns → AreKnown p ns os
+    → IsNeeds p (get_or ns k no_component) d → AreKnown p ns (set os k (Some d))
+set_known p [] os k d h a r = absurd (omega (arith, h))
+set_known p (n ∷ ns) [] k d h a r = absurd a
+set_known p (n ∷ ns) (o ∷ os) zero d h a r = (r, a.1)
+set_known p (n ∷ ns) (o ∷ os) (suc k) d h a r = (a.0, set_known p ns os k d (omega (arith, h)) a.1 r)
+
+fewer : (os : List (Option Needs)) (k : ℕ) (d : Needs) → k < length os → is_known os k ≡ false → unknowns (set os k (Some d)) < unknowns os
+fewer [] k d h e = absurd (omega (arith, h))
+fewer (None ∷ os) zero d h e = omega arith
+fewer (Some c ∷ os) zero d h e = absurd (false≢true (sym e))
+fewer (None ∷ os) (suc k) d h e = let r : unknowns (set os k (Some d)) < unknowns os = fewer os k d (omega (arith, h)) e in omega (arith, r)
+fewer (Some c ∷ os) (suc k) d h e = fewer os k d (omega (arith, h)) e
+
+among : (ns : List Component) (k : ℕ) → k < length ns → Contains ns (get_or ns k no_component)
+among ns k h = Contains-get_or ns k no_component h
+
+pub one_more : (names : List Name) (ns : List Component) (os : List (Option Needs)) (k : ℕ) (d : Needs) → k < length ns → length os ≡ length names
+    → length ns ≡ length names → is_known os k ≡ false → AreNeedsBy names ns os (get_or ns k no_component) d
+    → IsTried names ns os (set os k (Some d)) k true
+one_more names ns os k d h e f u r = record {
+  kept = λ p c g q a.
+      set_known p ns os k d h a
+      (subst (λ z. IsNeeds p (get_or z k no_component) d) (sym q)
+      (needs_right p c (get_or (components p) k no_component) (among (components p) k (subst (λ z. k < length z) q h)) os
+      (subst (λ z. AreKnown p z os) q a) d
+      (subst (λ z. AreNeedsBy (names_of p) z os (get_or z k no_component) d) q (subst (λ y. AreNeedsBy y ns os (get_or ns k no_component) d) g r))));
+  many = length-set os k (Some d);
+  added = λ _. fewer os k d (omega (arith, h, e, f)) u;
+  stays = λ b. absurd (false≢true (sym b));
+}
+
+pub none_more : (names : List Name) (ns : List Component) (os : List (Option Needs)) (k : ℕ) → IsStuckAt names ns os k → IsTried names ns os os k false
+none_more names ns os k s = record {
+  kept = λ p c g q a. a;
+  many = refl;
+  added = λ b. absurd (false≢true b);
+  stays = λ b. (refl, s);
+}
+
+-- as the code has it
+mapped_at : (ps : List Owner) (k : ℕ) (o : Owner) → k < length ps → o ≡ get_or ps k o → get_or (map owner_view ps) k no_component ≡ owner_view o
+mapped_at [] k o h e = absurd (omega (arith, h))
+mapped_at (p ∷ ps) zero o h e = ap owner_view (sym e)
+mapped_at (p ∷ ps) (suc k) o h e = mapped_at ps k o (omega (arith, h)) e
+
+pub tried_more : (names : List Name) (ps : List Owner) (os : List (Option Needs)) (k : ℕ) (o : Owner) (d : Needs) (b : Bool) → k < length ps → o ≡ get_or ps k o
+    → length os ≡ length names → length ps ≡ length names → b ≡ is_known os k → b ≡ false → AreNeedsBy names (map owner_view ps) os (owner_view o) d
+    → IsTried names (map owner_view ps) os (set os k (Some d)) k true
+tried_more names ps os k o d b h e f g s t r =
+    let m : length (map owner_view ps) ≡ length ps = many_mapped owner_view ps in
+    one_more names (map owner_view ps) os k d (omega (arith, h, m)) f (m ∙ g) (sym s ∙ t)
+    (subst (λ n. AreNeedsBy names (map owner_view ps) os n d) (sym (mapped_at ps k o h e)) r)
+
+pub tried_none : (names : List Name) (ps : List Owner) (os : List (Option Needs)) (k : ℕ) (o : Owner) → k < length ps → o ≡ get_or ps k o
+    → calls_known names os (owner_view o) ≡ false → IsTried names (map owner_view ps) os os k false
+tried_none names ps os k o h e s = none_more names (map owner_view ps) os k (λ _. ap (calls_known names os) (mapped_at ps k o h e) ∙ s)
+
+pub tried_known : (names : List Name) (ns : List Component) (os : List (Option Needs)) (k : ℕ) (b : Bool) → b ≡ is_known os k → b ≡ true → IsTried names ns os os k false
+tried_known names ns os k b e t = none_more names ns os k (λ u. absurd (false≢true (sym u ∙ sym e ∙ t)))

@@ -1,5 +1,5 @@
 -- What callers need of the declarations of a program, by their numbers.
-use Rattle.std.specs.Prelude.{◌≡◌, ℕ, ◌<◌, min, Bool, true, false, cond, List, [], ◌∷◌, map, length, get_or, Option, Some, None, is_some}
+use Rattle.std.specs.Prelude.{◌≡◌, ℕ, suc, ◌<◌, min, Bool, true, false, cond, List, [], ◌∷◌, map, length, get_or, Option, Some, None, is_some}
 use Rattle.std.specs.List.{list_all}
 use Rattle.lus_tree.specs.Tree.{Name, Component, Program}
 use Rattle.lus_meaning.specs.ClockFaults.{components}
@@ -107,3 +107,20 @@ names_of p = map (λ n. n.name.text) (components p)
 abbrev pub KeepsKnown : List Name → List Component → List (Option Needs) → List (Option Needs) → Type 0
 KeepsKnown names ns old new =
     (p : Program) → IsChecked p → names ≡ names_of p → ns ≡ components p → AreKnown p ns old → AreKnown p ns new
+
+-- how many are not known
+abbrev pub unknowns : List (Option Needs) → ℕ
+unknowns [] = 0
+unknowns (None ∷ os) = suc (unknowns os)
+unknowns (Some d ∷ os) = unknowns os
+
+-- where a declaration isn't known, neither is all that it calls
+abbrev pub IsStuckAt : List Name → List Component → List (Option Needs) → ℕ → Type 0
+IsStuckAt names ns os k = is_known os k ≡ false → calls_known names os (get_or ns k no_component) ≡ false
+
+-- one more is known, or nothing changed
+pub record IsTried (names : List Name) (ns : List Component) (old new : List (Option Needs)) (k : ℕ) (more : Bool) : Type 0 where
+  pub kept : KeepsKnown names ns old new
+  pub many : length new ≡ length old
+  pub added : more ≡ true → unknowns new < unknowns old
+  pub stays : more ≡ false → (new ≡ old) × IsStuckAt names ns old k

@@ -6,7 +6,7 @@ ghost use Rattle.lus_limits.specs.Calls.{call_view, called_of};
 ghost use Rattle.lus_meaning.specs.Program.{all_sites};
 ghost use Rattle.lus_limits.specs.Frames.{summary_by_items, ways_of};
 ghost use Rattle.lus_limits.specs.SizeCuts.{cut_summary};
-ghost use Rattle.lus_limits.specs.Needed.{AreNeedsBy, all_known, callee_place, calls_known, held_count, is_known, link_at, sizes_at};
+ghost use Rattle.lus_limits.specs.Needed.{AreNeedsBy, IsTried, all_known, callee_place, calls_known, held_count, is_known, link_at, sizes_at};
 ghost use Rattle.lus_limits.specs.Summaries.{cut, summary_by};
 ghost use Rattle.lus_limits.specs.Contracted.{summaries_seen, summary_seen};
 ghost use Rattle.lus_streams.specs.Owner.{owner_view};
@@ -219,5 +219,31 @@ fn needs_of(
             Ok(Some(needs))
         }
         None => Ok(None),
+    }
+}
+
+/// Notes the needs of the declaration with that number, where they are not known and those of all that it
+/// calls are; and tells whether they are new.
+fn try_one(
+    alloc: Global,
+    names: &NameTable,
+    parts: &[Owner<'_>],
+    known: &mut Vec<Option<Needs>>,
+    number: usize,
+) -> Result<bool, AllocError>
+    requires below { number < length parts.now }
+    requires known { length known.old.items ≡ length names.now }
+    requires parts { length parts.now ≡ length names.now }
+    ensures { IfOk result (λ b. IsTried names.now (map owner_view parts.now) known.old.items known.new.items number b) }
+{
+    if is_known(known, number) {
+        return Ok(false);
+    }
+    match needs_of(alloc, names, parts, known, parts[number])? {
+        Some(needs) => {
+            known[number] = Some(needs);
+            Ok(true)
+        }
+        None => Ok(false),
     }
 }
