@@ -17,3 +17,4 @@ pub mod KnownNames
 pub mod FrameTerms
 pub mod Needed
 pub mod Contracted
+mod Settled

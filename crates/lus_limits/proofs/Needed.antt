@@ -1,6 +1,6 @@
 -- What callers need, by the numbers of declarations.
 use Rattle.std.proofs.Common.{◌≡◌, set, length-set, ℕ, zero, suc, ◌<◌, ◌≤◌, Bool, true, false, ◌||◌, cond, List, [], ◌∷◌, map, length, get_or, Option, Some, None, refl, sym, ap, ◌∙◌, subst, arith}
-use Rattle.std.specs.Prelude.{Contains, is_some, min, unwrap_or}
+use Rattle.std.specs.Prelude.{Contains, min, unwrap_or}
 use Rattle.std.proofs.lemmas.List.Elements.{Contains-get_or}
 use Rattle.lus_streams.specs.declared.owner.Owner.{Owner}
 use Rattle.lus_streams.specs.Owner.{owner_view}
@@ -29,7 +29,7 @@ use Rattle.lus_meaning.specs.Refusals.{IsChecked}
 use Rattle.lus_meaning.specs.Slots.{held_each, held_cells}
 use Rattle.rule_laws.proofs.Truths.{both_true}
 use Rattle.lus_limits.specs.Instances.{callee}
-use Rattle.lus_limits.specs.Needed.{unknowns, IsStuckAt, IsTried, held_by, counts_or, sizes_or, IsNeeds, AreKnown, names_of, KeepsKnown, is_known, all_known, calls_known, link_at, sizes_at, AreNeedsBy}
+use Rattle.lus_limits.specs.Needed.{unknowns, IsStuckAt, IsTried, held_by, counts_or, sizes_or, IsNeeds, AreKnown, names_of, is_known, all_known, calls_known, link_at, sizes_at, AreNeedsBy}
 
 -- a name that is not there has the number behind all
 number_past : (ks : List Name) (x : Name) → named_in x ks ≡ false → number_of ks x ≡ length ks
@@ -55,6 +55,7 @@ ways_called cs ss e = ways_seen cs ∙ ap (map (λ c. c.way)) e ∙ ways_sited s
   ways_seen : (cs : List Call) → map (λ c. c.way) cs ≡ map (λ c. c.way) (map call_view cs)
   ways_seen [] = refl
   ways_seen (c ∷ cs) = ap (λ ws. c.way ∷ ws) (ways_seen cs)
+
   ways_sited : (ss : List Site) → map (λ c. c.way) (map called_of ss) ≡ map (λ s. way_of s.manner) ss
   ways_sited [] = refl
   ways_sited (s ∷ ss) = ap (λ ws. way_of s.manner ∷ ws) (ways_sited ss)
@@ -99,7 +100,7 @@ found_one : (x : Name) (n : Component) (ns : List Component) (o : Option Compone
 found_one x n ns o true e r = refl
 found_one x n ns o false e r = r e
 
-found_at : (p : Program) (x : Name) → named_in x (names_of p) ≡ true → Some (get_or (components p) (number_of (names_of p) x) no_component) ≡ component_named p x
+pub found_at : (p : Program) (x : Name) → named_in x (names_of p) ≡ true → Some (get_or (components p) (number_of (names_of p) x) no_component) ≡ component_named p x
 found_at [] x e = absurd (false≢true e)
 found_at (declared_constant c ∷ ds) x e = found_at ds x e
 found_at (declared_node n ∷ ds) x e = found_one x n (components ds) (component_named ds x) (bytes_eq x n.name.text) e (found_at ds x)
@@ -111,7 +112,7 @@ same_length p [] (o ∷ os) a = absurd a
 same_length p (n ∷ ns) [] a = absurd a
 same_length p (n ∷ ns) (o ∷ os) a = ap suc (same_length p ns os a.1)
 
-many_named : (ns : List Component) → length (map (λ (n : Component). n.name.text) ns) ≡ length ns
+pub many_named : (ns : List Component) → length (map (λ (n : Component). n.name.text) ns) ≡ length ns
 many_named [] = refl
 many_named (n ∷ ns) = ap suc (many_named ns)
 
@@ -178,7 +179,7 @@ sizes_are p os a (s ∷ ss) e =
     ap (λ z. z ∷ map (sizes_at (names_of p) os) (map called_of ss)) (size_is p os s a h.0)
     ∙ ap (λ zs. cut_summary (size_summary_of p (callee p s.callee)) ∷ zs) (sizes_are p os a ss h.1)
 
-many_mapped : {A B : Type 0} (f : A → B) (xs : List A) → length (map f xs) ≡ length xs
+pub many_mapped : {A B : Type 0} (f : A → B) (xs : List A) → length (map f xs) ≡ length xs
 many_mapped f [] = refl
 many_mapped f (x ∷ xs) = ap suc (many_mapped f xs)
 

@@ -17,3 +17,4 @@ pub mod Frames
 pub mod Known
 pub mod FrameTerms
 pub mod Contracted
+pub mod Tables

@@ -1,5 +1,5 @@
 -- What callers need of the declarations of a program, by their numbers.
-use Rattle.std.specs.Prelude.{◌≡◌, ℕ, suc, ◌<◌, min, Bool, true, false, cond, List, [], ◌∷◌, map, length, get_or, Option, Some, None, is_some}
+use Rattle.std.specs.Prelude.{◌≡◌, ℕ, suc, ◌<◌, min, Bool, true, false, List, [], ◌∷◌, map, length, get_or, Option, Some, None, is_some}
 use Rattle.std.specs.List.{list_all}
 use Rattle.lus_tree.specs.Tree.{Name, Component, Program}
 use Rattle.lus_meaning.specs.ClockFaults.{components}
@@ -124,3 +124,21 @@ pub record IsTried (names : List Name) (ns : List Component) (old new : List (Op
   pub many : length new ≡ length old
   pub added : more ≡ true → unknowns new < unknowns old
   pub stays : more ≡ false → (new ≡ old) × IsStuckAt names ns old k
+
+-- in turn, of the first so many declarations: more is known, or nothing changed
+pub record AreTried (names : List Name) (ns : List Component) (old new : List (Option Needs)) (k : ℕ) (more : Bool) : Type 0 where
+  pub kept : KeepsKnown names ns old new
+  pub many : length new ≡ length old
+  pub added : more ≡ true → unknowns new < unknowns old
+  pub stays : more ≡ false → (new ≡ old) × ((j : ℕ) → j < k → IsStuckAt names ns old j)
+
+-- nothing is left that can be noted
+pub record IsSettled (names : List Name) (ns : List Component) (old new : List (Option Needs)) : Type 0 where
+  pub kept : KeepsKnown names ns old new
+  pub many : length new ≡ length old
+  pub stuck : (j : ℕ) → j < length ns → IsStuckAt names ns new j
+
+-- the needs of all declarations, each with its number
+pub record AllKnown (p : Program) (known : List (Option Needs)) : Type 0 where
+  pub right : AreKnown p (components p) known
+  pub all : (j : ℕ) → j < length (components p) → is_known known j ≡ true

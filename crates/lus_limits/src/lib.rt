@@ -14,6 +14,7 @@ mod needs;
 mod own;
 mod part;
 mod presence;
+mod settling;
 mod sites;
 mod summing;
 mod term_size;

@@ -20,7 +20,6 @@ use crate::summing::{Link, Summary, cut, summed};
 use lus_streams::lookup::with_streams;
 use lus_streams::owner::Owner;
 use lus_streams::streams::streams_of;
-
 use name_table::NameTable;
 use std::alloc::{AllocError, Global};
 
@@ -224,7 +223,7 @@ fn needs_of(
 
 /// Notes the needs of the declaration with that number, where they are not known and those of all that it
 /// calls are; and tells whether they are new.
-fn try_one(
+pub(crate) fn try_one(
     alloc: Global,
     names: &NameTable,
     parts: &[Owner<'_>],

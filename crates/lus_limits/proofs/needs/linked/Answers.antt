@@ -1,8 +1,6 @@
 use Rattle.std.proofs.Common.{map, ap, ◌∙◌}
 use Rattle.lus_limits.specs.Calls.{call_view}
-use Rattle.lus_limits.specs.Contracted.{summaries_seen, summary_seen}
-use Rattle.lus_limits.specs.Frames.{summary_by_items, ways_of}
-use Rattle.lus_limits.specs.SizeCuts.{cut_summary}
+use Rattle.lus_limits.specs.Contracted.{summaries_seen}
 use Rattle.lus_streams.specs.Owner.{owner_view}
 use Rattle.lus_limits.proofs.Needed.{needs_linked}
 use Rattle.lus_limits.proofs.needs.linked.Goals as goal

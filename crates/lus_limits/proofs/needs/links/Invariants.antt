@@ -1,4 +1,4 @@
-use Rattle.std.proofs.Common.{◌≡◌, ◌++◌, drop, map, length}
+use Rattle.std.proofs.Common.{◌≡◌, ◌++◌, drop, map}
 use Rattle.lus_streams.specs.Owner.{owner_view}
 use Rattle.lus_limits.specs.Calls.{call_view}
 use Rattle.lus_limits.specs.Needed.{all_known, link_at}

@@ -1,5 +1,3 @@
-use Rattle.std.proofs.Common.{◌≡◌, map}
-use Rattle.lus_streams.specs.Owner.{owner_view}
 use Rattle.lus_limits.proofs.Needed.{tried_more, tried_none}
 use Rattle.lus_limits.proofs.needs.try_one.Goals as goal
 
