@@ -18,3 +18,4 @@ pub mod FrameTerms
 pub mod Needed
 pub mod Contracted
 mod Settled
+pub mod Nodes

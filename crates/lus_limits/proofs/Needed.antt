@@ -77,12 +77,12 @@ same_known names known n cs e a = ap (all_known names known) (sym e) ∙ a
 -- ---- what is known of callees is theirs
 
 -- the declaration with that number, and what is known of it
-record IsAt (p : Program) (ns : List Component) (os : List (Option Needs)) (k : ℕ) (m : Component) (d : Needs) : Type 0 where
-  component : get_or ns k no_component ≡ m
-  needs : get_or os k None ≡ Some d
-  right : IsNeeds p m d
+pub record IsAt (p : Program) (ns : List Component) (os : List (Option Needs)) (k : ℕ) (m : Component) (d : Needs) : Type 0 where
+  pub component : get_or ns k no_component ≡ m
+  pub needs : get_or os k None ≡ Some d
+  pub right : IsNeeds p m d
 
-at_number : (p : Program) (ns : List Component) (os : List (Option Needs)) (k : ℕ) → AreKnown p ns os → is_known os k ≡ true
+pub at_number : (p : Program) (ns : List Component) (os : List (Option Needs)) (k : ℕ) → AreKnown p ns os → is_known os k ≡ true
     → (d : Needs) × IsAt p ns os k (get_or ns k no_component) d
 at_number p [] [] k a e = absurd (false≢true e)
 at_number p [] (o ∷ os) k a e = absurd a
@@ -171,7 +171,7 @@ links_are p os a (s ∷ ss) e =
     ap (λ l. l ∷ map (link_at (names_of p) (components p) os) (map called_of ss)) (link_is p os s a h.0)
     ∙ ap (λ ls. link_of p s ∷ ls) (links_are p os a ss h.1)
 
-sizes_are : (p : Program) (os : List (Option Needs)) → AreKnown p (components p) os → (ss : List Site) → all_known (names_of p) os (map called_of ss) ≡ true
+pub sizes_are : (p : Program) (os : List (Option Needs)) → AreKnown p (components p) os → (ss : List Site) → all_known (names_of p) os (map called_of ss) ≡ true
     → map (sizes_at (names_of p) os) (map called_of ss) ≡ map cut_summary (summaries_at p ss)
 sizes_are p os a [] e = refl
 sizes_are p os a (s ∷ ss) e =
@@ -215,7 +215,7 @@ fewer (Some c ∷ os) zero d h e = absurd (false≢true (sym e))
 fewer (None ∷ os) (suc k) d h e = let r : unknowns (set os k (Some d)) < unknowns os = fewer os k d (omega (arith, h)) e in omega (arith, r)
 fewer (Some c ∷ os) (suc k) d h e = fewer os k d (omega (arith, h)) e
 
-among : (ns : List Component) (k : ℕ) → k < length ns → Contains ns (get_or ns k no_component)
+pub among : (ns : List Component) (k : ℕ) → k < length ns → Contains ns (get_or ns k no_component)
 among ns k h = Contains-get_or ns k no_component h
 
 pub one_more : (names : List Name) (ns : List Component) (os : List (Option Needs)) (k : ℕ) (d : Needs) → k < length ns → length os ≡ length names

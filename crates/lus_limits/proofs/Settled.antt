@@ -155,3 +155,21 @@ known_all p c names ns many old known e f g h s =
     let b : IsSettled (names_of p) (components p) old known = subst (λ z. IsSettled (names_of p) z old known) f a in
     all_settled p c known (subst (λ z. IsSettled (names_of p) (components p) z known)
     (h ∙ ap (λ k. replicate k None) (g ∙ ap length f)) b)
+
+-- all that a declaration calls is known
+pub callees_known : (p : Program) → IsChecked p → (known : List (Option Needs)) → AllKnown p known → (j : ℕ) → j < length (components p)
+    → all_known (names_of p) known (map called_of (all_sites (get_or (components p) j no_component))) ≡ true
+callees_known p c known a j h = each_called (names_of p) known (all_sites at) (λ s i. a.all (number_of (names_of p) s.callee) (within s i))
+  where
+    at : Component
+    at = get_or (components p) j no_component
+
+    within : (s : Site) → Contains (all_sites at) s → number_of (names_of p) s.callee < length (components p)
+    within s i =
+        let r : Component → ℕ = (callees_lower p c.rules.clocked.typed).0 in
+        let g : GoesLower p r at s = (callees_lower p c.rules.clocked.typed).1 at (Contains-get_or (components p) j no_component h) s i in
+        let m : named_in s.callee (names_of p) ≡ true = subst (λ x. named_in x (names_of p) ≡ true) g.named
+        (mentioned (components p) (callee_of p s) g.declared) in
+        let n : number_of (names_of p) s.callee < length (names_of p) = number_below (names_of p) s.callee m in
+        let e : length (names_of p) ≡ length (components p) = many_named (components p) in
+        omega (arith, n, e)

@@ -18,3 +18,4 @@ pub mod Known
 pub mod FrameTerms
 pub mod Contracted
 pub mod Tables
+pub mod Nodes

@@ -11,6 +11,7 @@ mod known;
 pub mod laws;
 mod measuring;
 mod needs;
+mod node_size;
 mod own;
 mod part;
 mod presence;

@@ -39,7 +39,7 @@ fn is_known(known: &[Option<Needs>], number: usize) -> bool
 
 /// The number of a callee of which the needs are known.
 #[tactic(auto, using(crate::proofs::Needed::unnamed_unknown))]
-fn place(names: &NameTable, known: &[Option<Needs>], callee: &str) -> Option<usize>
+pub(crate) fn place(names: &NameTable, known: &[Option<Needs>], callee: &str) -> Option<usize>
     requires { length known.now ≡ length names.now }
     ensures { MatchOption result (is_known known.now (number_of names.now callee.now) ≡ false)
         (λ i. (i ≡ number_of names.now callee.now) × (is_known known.now i ≡ true)) }
@@ -75,7 +75,7 @@ fn least(left: usize, right: usize) -> usize
 }
 
 /// The needs with that number.
-fn needs_at(known: &[Option<Needs>], number: usize) -> Option<&Needs>
+pub(crate) fn needs_at(known: &[Option<Needs>], number: usize) -> Option<&Needs>
     ensures { MatchOption result (is_known known.now number ≡ false)
         (λ d. (is_known known.now number ≡ true) × (get_or known.now number None ≡ Some d.now)) }
 {
