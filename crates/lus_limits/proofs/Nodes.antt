@@ -1,16 +1,15 @@
 -- The greatest size of the terms of a node's system.
-use Rattle.std.proofs.Common.{◌≡◌, ℕ, ◌<◌, Bool, true, false, List, [], ◌∷◌, length, map, get_or, Option, Some, None, refl, sym, ap, ◌∙◌, subst, arith}
-use Rattle.lus_tree.specs.Tree.{Name, Statement, equation, assertion, property, main_mark, Component, Program}
+use Rattle.std.proofs.Common.{◌≡◌, List, [], ◌∷◌, map, get_or, Option, None, refl, sym, ap, ◌∙◌}
+use Rattle.lus_tree.specs.Tree.{Name, Statement, equation, assertion, property, main_mark, Component}
 use Rattle.lus_meaning.specs.ClockFaults.{components}
 use Rattle.lus_meaning.specs.Program.{all_sites, instance_of}
-use Rattle.lus_meaning.specs.Refusals.{IsChecked}
 use Rattle.lus_meaning.specs.Scene.{Site, Manner, plain, while_true, as_import, no_component}
-use Rattle.lus_meaning.specs.Sizes.{Size, ModeSizes, property_sizes, term_sizes}
+use Rattle.lus_meaning.specs.Sizes.{ModeSizes, property_sizes, term_sizes}
 use Rattle.lus_limits.specs.declared.needs.Needs.{Needs}
-use Rattle.lus_limits.specs.Calls.{Called, called_of, way_of}
-use Rattle.lus_limits.specs.Needed.{AllKnown, AreKnown, IsNeeds, names_of, sizes_at, sizes_or}
+use Rattle.lus_limits.specs.Calls.{called_of, way_of}
+use Rattle.lus_limits.specs.Needed.{names_of, sizes_at, sizes_or}
 use Rattle.lus_limits.specs.Nodes.{owed_at, owed_terms, property_term, property_terms, node_terms, NodeTermsKnown}
-use Rattle.lus_limits.specs.Peaks.{greater, no_size, peak}
+use Rattle.lus_limits.specs.Peaks.{greater, peak}
 use Rattle.lus_limits.specs.SizeCuts.{cut_summary, cut_term}
 use Rattle.lus_limits.specs.SizeSummaries.{ContractPeaks, SizeSummary, all_owed_by, owed_by, summaries_at, size_summary_of, terms_by}
 use Rattle.lus_limits.proofs.Needed.{IsAt, among, at_number, sizes_are}

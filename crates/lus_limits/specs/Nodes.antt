@@ -52,5 +52,5 @@ abbrev pub NodeTermsKnown : Type 0
 NodeTermsKnown =
     (p : Program) → IsChecked p → (known : List (Option Needs)) → AllKnown p known → (k : ℕ) → k < length (components p)
     → cut_term (node_terms (names_of p) known (map called_of (all_sites (get_or (components p) k no_component)))
-      (get_or (components p) k no_component) (sizes_or (get_or known k None)))
+    (get_or (components p) k no_component) (sizes_or (get_or known k None)))
     ≡ cut_term (peak (term_sizes (instance_of p (get_or (components p) k no_component))))

@@ -1,4 +1,4 @@
-use Rattle.std.proofs.Common.{◌≡◌, drop, length, map}
+use Rattle.std.proofs.Common.{◌≡◌, drop, map}
 use Rattle.lus_limits.specs.Calls.{call_view}
 use Rattle.lus_limits.specs.Measured.{size_view}
 use Rattle.lus_limits.specs.Nodes.{owed_terms}

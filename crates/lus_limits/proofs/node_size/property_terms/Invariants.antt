@@ -11,5 +11,5 @@ use Rattle.lus_limits.proofs.node_size.property_terms.Given as goal
 abbrev pub invariant-loop-item : goal.invariant-loop-item
 invariant-loop-item l = (cut_term (size_view l.size) ≡ size_view l.size)
     × (cut_term (greater (size_view l.size) (property_terms (names_view l.scope.names) (modes_view l.scope.modes.now)
-      (map item_view (drop l.item-index l.items))))
+    (map item_view (drop l.item-index l.items))))
     ≡ cut_term (property_terms (names_view l.scope.names) (modes_view l.scope.modes.now) (map item_view l.items)))
