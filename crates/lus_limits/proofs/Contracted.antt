@@ -2,15 +2,15 @@
 use Rattle.std.proofs.Common.{◌≡◌, ℕ, zero, suc, pred, slice_index_or, arith, ◌+◌, ◌<◌, length, take, get_or, List, [], ◌∷◌, ◌++◌, map, refl, sym, ap, ◌∙◌}
 use Rattle.std.proofs.lemmas.List.{map_more}
 use Rattle.lus_tree.specs.Tree.{Name, Labelled, ContractStatement, assume, guarantee, ghost_variable, constant, mode, «import», Component}
-use Rattle.lus_meaning.specs.Sizes.{Size, ModeSizes, one, two, all_of, imported_size, asked_size, sizes_of}
-use Rattle.lus_limits.specs.Peaks.{greater, peak, by_and, by_or, Chain, no_chain, alone, followed, chain}
+use Rattle.lus_meaning.specs.Sizes.{Size, one, two, all_of, imported_size, asked_size, sizes_of}
+use Rattle.lus_limits.specs.Peaks.{greater, peak, by_and, by_or, Chain, alone, followed, chain}
 use Rattle.lus_limits.specs.SizeSummaries.{contract_at, no_peaks, peaks_after, is_own, those_with, ContractPeaks, with_assumption, with_promises, with_mode, with_import}
 use Rattle.lus_limits.specs.SizeCuts.{cut_term, cut_modes, cut_chain, cut_peaks}
 use Rattle.std.specs.Borrow.{Bor}
 use Rattle.lus_limits.specs.declared.contract_size.SizeSummary.{SizeSummary as CodeSummary}
 use Rattle.lus_limits.specs.Contracted.{IsCut, mode_after, item_after, contract_seen, summaries_seen}
 use Rattle.lus_limits.proofs.Peaks.{chain_one}
-use Rattle.lus_limits.proofs.SizeCuts.{promises_alike, mode_alike, asked_alike, peak_alike, after_alike, twice_peaks, modes_both, one_alike, two_alike, same_peaks, twice, greater_alike, chain_alike, alone_alike, twice_chain, twice_modes}
+use Rattle.lus_limits.proofs.SizeCuts.{promises_alike, mode_alike, asked_alike, peak_alike, after_alike, twice_peaks, modes_both, one_alike, two_alike, same_peaks, twice, greater_alike, chain_alike, alone_alike, twice_chain}
 
 -- what is read of a contract that is cut is cut
 pub assumption_added : (r q : ContractPeaks) (s t : Size) → IsCut r → s ≡ cut_term t →

@@ -1,6 +1,5 @@
 -- What stands for calls, in any order.
-use Rattle.std.proofs.Common.{◌≡◌, true, ℕ, zero, suc, pred, ◌≤◌, List, [], ◌∷◌, ◌++◌, map, slice_get, Option, Some, None, refl, sym, ap, ◌∙◌, subst, arith}
-use Rattle.std.specs.Prelude.{Contains, max}
+use Rattle.std.proofs.Common.{◌≡◌, true, ℕ, zero, suc, pred, ◌≤◌, List, [], ◌∷◌, map, subst, arith}
 use Rattle.std.specs.List.{AllByRecursion}
 use Rattle.lus_tree.specs.Tree.{Component}
 use Rattle.lus_tree.specs.Numbers.{are_counted}
@@ -10,7 +9,7 @@ use Rattle.lus_meaning.specs.Sizes.{Size, ModeSizes}
 use Rattle.lus_meaning.proofs.InOrder.{in_order_all}
 use Rattle.rule_laws.proofs.Numbered.{At, InPlace, all_in_place}
 use Rattle.rule_laws.proofs.Places.{numbered, sites_counted}
-use Rattle.lus_limits.specs.Peaks.{no_size, greater}
+use Rattle.lus_limits.specs.Peaks.{greater}
 use Rattle.lus_limits.specs.FrameTerms.{site_terms, all_site_terms, found_sites, SitesInAnyOrder}
 use Rattle.lus_limits.proofs.Sizes.{same_size}
 

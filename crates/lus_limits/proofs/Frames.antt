@@ -1,7 +1,7 @@
 -- The sizes of frames in code.
-use Rattle.std.proofs.Common.{◌≡◌, cond, ℕ, ◌≤◌, length, drop, Bool, List, [], ◌∷◌, ◌++◌, map, refl, sym, ap, ◌∙◌}
+use Rattle.std.proofs.Common.{◌≡◌, arith, cond, ℕ, ◌≤◌, length, drop, List, [], ◌∷◌, ◌++◌, map, refl, sym, ap, ◌∙◌}
 use Rattle.lus_tree.specs.Tree.{Name, Variable, ContractStatement, assume, guarantee, ghost_variable, constant, mode, «import», Component}
-use Rattle.lus_meaning.specs.Scene.{Site, ghosts, contract_statements, variables, clock_from}
+use Rattle.lus_meaning.specs.Scene.{Manner, plain, while_true, as_import, Site, ghosts, contract_statements, variables, clock_from}
 use Rattle.lus_meaning.specs.Depends.{named_in, left_names}
 use Rattle.lus_meaning.specs.Sizes.{Size, ModeSizes, free_size, presence}
 use Rattle.std.specs.Borrow.{Bor}
@@ -10,16 +10,19 @@ use Rattle.lus_limits.specs.declared.calls.Call.{Call}
 use Rattle.lus_limits.specs.declared.calls.Way.{Way}
 use Rattle.lus_limits.specs.declared.contract_size.SizeSummary.{SizeSummary as CodeSummary}
 use Rattle.lus_limits.specs.Contracted.{summaries_seen}
-use Rattle.lus_limits.specs.Frames.{frames_of, items_by, own_known, summary_by_items}
-use Rattle.lus_limits.specs.FrameTerms.{all_site_terms, found_sites}
+use Rattle.lus_limits.specs.Frames.{frame_at, frames_of, items_by, own_known, summary_by_items, ways_of, SummaryByItems}
+use Rattle.lus_meaning.specs.Program.{all_sites}
+use Rattle.lus_limits.specs.Calls.{way_of}
+use Rattle.lus_limits.proofs.FrameTerms.{sites_in_any_order}
+use Rattle.lus_limits.specs.FrameTerms.{site_terms, all_site_terms, found_sites}
 use Rattle.lus_limits.specs.Known.{HasThese}
-use Rattle.lus_limits.specs.SizeSummaries.{ContractPeaks, SizeSummary, sofar_by, contract_by, inputs_given, all_given}
+use Rattle.lus_limits.specs.SizeSummaries.{ContractPeaks, SizeSummary, sofar_by, contract_by, inputs_given, all_given, frame_of, sites_by, frame_by, own_by, size_summary_by}
 use Rattle.lus_limits.specs.Peaks.{no_size, greater, peak}
 use Rattle.lus_limits.specs.OwnTerms.{all_contract_terms, constant_terms, body_terms, free_terms, own_terms}
 use Rattle.lus_limits.specs.SizeCuts.{cut_term, cut_modes, cut_peaks, cut_summary}
 use Rattle.lus_limits.proofs.Peaks.{greater_none, none_greater, greater_in_turn}
 use Rattle.lus_limits.proofs.SizeCuts.{Alike, same_summary, greater_alike, peak_alike, own_alike, site_alike, twice_peaks}
-use Rattle.lus_limits.proofs.OwnTerms.{own_terms_by_items}
+use Rattle.lus_limits.proofs.OwnTerms.{crossed, own_terms_by_items}
 use Rattle.lus_limits.proofs.Greatest.{greater_cuts}
 
 pub free_both : (ks : List Name) (n : Component) (us vs : List Variable) → free_terms ks n (us ++ vs) ≡ greater (free_terms ks n us) (free_terms ks n vs)
@@ -61,9 +64,9 @@ pub no_frames : (cs : List Call) (zs : List (Bor CodeSummary)) (i : ℕ) (a t : 
 no_frames cs zs i a t h e f =
     sym e ∙ ap cut_term (sym (greater_none a)) ∙ ap (λ x. cut_term (greater a x)) (sym (none_left (map (λ c. c.way) (drop i cs))))
     ∙ ap (λ x. cut_term (greater a (frames_of (map (λ c. c.way) (drop i cs)) (summaries_seen x)))) (sym (drop_all i zs h)) ∙ f where
-  none_left : (ws : List Way) → frames_of ws [] ≡ no_size
-  none_left [] = refl
-  none_left (w ∷ ws) = refl
+      none_left : (ws : List Way) → frames_of ws [] ≡ no_size
+      none_left [] = refl
+      none_left (w ∷ ws) = refl
 
 pub own_by_parts : (c k b f o a d e g h : Size) → c ≡ cut_term a → k ≡ cut_term d → b ≡ cut_term e → f ≡ cut_term g → o ≡ cut_term h
     → greater c (greater k (greater b (greater f o))) ≡ cut_term (greater a (greater d (greater e (greater g h))))
@@ -119,3 +122,33 @@ summary_made n ws zs z f e k g h =
     same_summary z (cut_summary (summary_by_items ws zs n)) e
     (frame_seen (inputs_given n) n ws zs (contract_by zs n) z.contract f z.called e k g)
     (frame_seen (all_given n) n ws zs (contract_by zs n) z.contract f z.imported e k h)
+
+-- ---- by the text
+
+frame_way : (m : Manner) (z : SizeSummary) → frame_of m z ≡ frame_at (way_of m) z
+frame_way plain z = refl
+frame_way (while_true a) z = refl
+frame_way (as_import xs) z = refl
+
+interleaved : (a b c d : Size) → greater a (greater b (greater c d)) ≡ greater (greater a c) (greater b d)
+interleaved a b c d = sym (greater_in_turn a b (greater c d)) ∙ crossed a b c d
+
+split_sites : (n : Component) (ms : ModeSizes) (ss : List Site) (zs : List SizeSummary) → length zs ≡ length ss →
+    sites_by n ms ss zs ≡ greater (all_site_terms n ms ss) (frames_of (map (λ s. way_of s.manner) ss) zs)
+split_sites n ms [] zs e = sym (greater_none no_size)
+split_sites n ms (s ∷ ss) [] e = absurd (omega (arith, e))
+split_sites n ms (s ∷ ss) (z ∷ zs) e =
+    ap (λ x. greater (site_terms n ms s) (greater x (sites_by n ms ss zs))) (frame_way s.manner z)
+    ∙ ap (λ x. greater (site_terms n ms s) (greater (frame_at (way_of s.manner) z) x)) (split_sites n ms ss zs (omega (arith, e)))
+    ∙ interleaved (site_terms n ms s) (frame_at (way_of s.manner) z) (all_site_terms n ms ss) (frames_of (map (λ s. way_of s.manner) ss) zs)
+
+pub summary_by_text : SummaryByItems
+summary_by_text p c n i zs e =
+    let r : ContractPeaks = contract_by zs n in
+    let one : (given : List Name) → frame_by zs given n r ≡ items_by (ways_of n) zs given n r =
+    λ given.
+    ap (greater (peak (own_by given n r))) (split_sites n r.modes (all_sites n) zs e
+    ∙ ap (λ x. greater x (frames_of (ways_of n) zs)) (sites_in_any_order p c n i r.modes))
+    ∙ sym (greater_in_turn (peak (own_by given n r)) (all_site_terms n r.modes (found_sites n)) (frames_of (ways_of n) zs))
+    ∙ ap (λ x. greater x (frames_of (ways_of n) zs)) (own_terms_by_items given n r) in
+    same_summary (size_summary_by zs n) (summary_by_items (ways_of n) zs n) refl (one (inputs_given n)) (one (all_given n))

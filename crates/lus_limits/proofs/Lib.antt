@@ -15,4 +15,7 @@ pub mod OwnTerms
 pub mod Frames
 pub mod KnownNames
 pub mod FrameTerms
+pub mod Needed
 pub mod Contracted
+mod Settled
+pub mod Nodes

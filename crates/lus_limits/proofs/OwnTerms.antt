@@ -1,19 +1,18 @@
 -- The own terms of a declaration and what stands for its calls, item by item.
-use Rattle.std.proofs.Common.{◌≡◌, ℕ, Bool, true, false, cond, List, [], ◌∷◌, ◌++◌, map, flat_map, Option, refl, sym, ap, ◌∙◌, arith}
-use Rattle.std.specs.Prelude.{max}
+use Rattle.std.proofs.Common.{◌≡◌, Bool, true, false, cond, List, [], ◌∷◌, ◌++◌, map, flat_map, refl, sym, ap, ◌∙◌, arith}
 use Rattle.lus_tree.specs.Tree.{Name, text_of, Expression, Expressions, truth, number, name, negation, minus, pre, arrow, binary, choice, sampled, merged, call, condact, mode_name, no_more, more, Constant, Labelled, Variable, Statement, equation, assertion, property, main_mark, ContractStatement, assume, guarantee, ghost_variable, constant, mode, «import», Component}
 use Rattle.lus_meaning.specs.Scene.{Site, Clock, base, sampled_by, clock_of, clock_from, clock_of_names, contract_statements, variables}
 use Rattle.lus_meaning.specs.Depends.{named_in, left_names}
 use Rattle.lus_meaning.specs.Program.{listed, site_in, import_site}
 use Rattle.lus_meaning.specs.Run.{Equation, ghost_equations, body_equations, equations}
 use Rattle.lus_meaning.specs.Occurrences.{gathered, Occurrence, Standing, Text, before, moved, within, occurrences, occurrences_among, on_base, on_clock, as_side, contract_statement_texts, constant_texts, statement_texts, texts, Memory, Start, memory_in, start_in, memories, starts}
-use Rattle.lus_meaning.specs.Sizes.{Size, leaf, one, two, three, ModeSizes, presence, size_in, given_size, free_size, free_sizes, equation_sizes, memory_size, start_size, assert_sizes}
+use Rattle.lus_meaning.specs.Sizes.{Size, leaf, one, two, three, ModeSizes, presence, size_in, given_size, free_size, free_sizes, memory_size, start_size, assert_sizes}
 use Rattle.lus_meaning.proofs.Lists.{map_append}
 use Rattle.lus_limits.specs.Peaks.{no_size, greater, peak}
-use Rattle.lus_limits.specs.SizeSummaries.{ContractPeaks, sofar_by, own_by}
+use Rattle.lus_limits.specs.SizeSummaries.{sofar_by}
 use Rattle.lus_limits.specs.Inner.{memory_of, start_of, argument_terms, call_terms, held_terms, condition_terms, import_terms, inner_in, inner_among}
 use Rattle.lus_limits.specs.FrameTerms.{site_terms, all_site_terms, found_sites}
-use Rattle.lus_limits.specs.OwnTerms.{side_terms, inner_each, inner_labelled, contract_terms, all_contract_terms, constant_terms, statement_terms, body_terms, free_terms, own_terms, OwnTermsByItems}
+use Rattle.lus_limits.specs.OwnTerms.{inner_each, inner_labelled, contract_terms, all_contract_terms, constant_terms, statement_terms, body_terms, free_terms, OwnTermsByItems}
 use Rattle.lus_limits.proofs.Peaks.{greater_none, none_greater, greater_in_turn, peak_both}
 use Rattle.lus_limits.proofs.Sizes.{same_size}
 
@@ -131,7 +130,7 @@ mutual
 
 -- ---- all occurrences
 
-crossed : (a b c d : Size) → greater (greater a b) (greater c d) ≡ greater (greater a c) (greater b d)
+pub crossed : (a b c d : Size) → greater (greater a b) (greater c d) ≡ greater (greater a c) (greater b d)
 crossed a b c d = same_size (greater (greater a b) (greater c d)) (greater (greater a c) (greater b d)) (omega arith) (omega arith)
 
 split_greatest : (xs ys us vs : List Size) → greater (peak (xs ++ ys)) (peak (us ++ vs)) ≡ greater (greater (peak xs) (peak us)) (greater (peak ys) (peak vs))
@@ -333,9 +332,9 @@ free_seen known n (v ∷ vs) =
     ∙ ap (λ x. greater x (peak (flat_map (λ v. cond (named_in v.name.text known) [] (free_size (presence n (clock_from v.clock)) ∷ [])) vs)))
     (by_case (named_in v.name.text known))
     ∙ ap (greater (cond (named_in v.name.text known) no_size (free_size (presence n (clock_from v.clock))))) (free_seen known n vs) where
-  by_case : (b : Bool) → peak (cond b [] (free_size (presence n (clock_from v.clock)) ∷ [])) ≡ cond b no_size (free_size (presence n (clock_from v.clock)))
-  by_case true = refl
-  by_case false = greater_none (free_size (presence n (clock_from v.clock)))
+      by_case : (b : Bool) → peak (cond b [] (free_size (presence n (clock_from v.clock)) ∷ [])) ≡ cond b no_size (free_size (presence n (clock_from v.clock)))
+      by_case true = refl
+      by_case false = greater_none (free_size (presence n (clock_from v.clock)))
 
 -- ---- all of them
 

@@ -1,8 +1,8 @@
 -- The greatest sizes, and lists of terms that are joined.
-use Rattle.std.proofs.Common.{◌≡◌, ℕ, ◌+◌, ◌≤◌, Bool, true, false, ◌||◌, ◌&&◌, cond, List, [], ◌∷◌, ◌++◌, map, refl, sym, ap, ◌∙◌, arith}
+use Rattle.std.proofs.Common.{◌≡◌, ℕ, ◌≤◌, Bool, true, false, ◌||◌, ◌&&◌, cond, List, [], ◌∷◌, ◌++◌, refl, sym, ap, ◌∙◌, arith}
 use Rattle.std.specs.Prelude.{max, nat_lt}
 use Rattle.std.specs.List.{list_any, fold}
-use Rattle.lus_meaning.specs.Sizes.{Size, leaf, one, two, either, all_of, some_of}
+use Rattle.lus_meaning.specs.Sizes.{Size, two, either, all_of, some_of}
 use Rattle.lus_limits.specs.Peaks.{no_size, greater, peak, Joint, by_and, by_or, joined, Chain, put, no_chain, alone, followed, chain}
 use Rattle.lus_limits.proofs.Sizes.{same_size}
 

@@ -1,6 +1,6 @@
 -- Sizes cut past the limits are known from parts that are cut.
-use Rattle.std.proofs.Common.{◌≡◌, ℕ, zero, suc, pred, ◌+◌, Bool, true, false, ◌&&◌, cond, List, [], ◌∷◌, ◌++◌, map, slice_index_or, Option, Some, None, refl, sym, ap, ◌∙◌, arith}
-use Rattle.std.specs.Prelude.{unwrap_or, option_map, option_to_list, min, max}
+use Rattle.std.proofs.Common.{◌≡◌, ℕ, zero, suc, pred, Bool, true, false, cond, List, [], ◌∷◌, ◌++◌, map, slice_index_or, Option, Some, None, refl, sym, ap, ◌∙◌, arith}
+use Rattle.std.specs.Prelude.{unwrap_or, option_map, option_to_list}
 use Rattle.std.specs.Map.{lookup}
 use Rattle.std.specs.List.{fold}
 use Rattle.lus_tree.specs.declared.expression.Operator.{Operator}
@@ -8,14 +8,14 @@ use Rattle.lus_tree.specs.declared.expression.Operator.TheVariants.{Implies, Or,
 use Rattle.lus_tree.specs.Tree.{Name, text_of, Expression, truth, number, name, negation, minus, pre, arrow, binary, choice, sampled, merged, call, condact, mode_name, Labelled, Statement, equation, assertion, property, main_mark, ContractStatement, assume, guarantee, ghost_variable, constant, mode, «import», Component}
 use Rattle.lus_meaning.specs.Meaning.{mode_key}
 use Rattle.lus_meaning.specs.Scene.{contract_statements, clock_of_names, Manner, plain, while_true, as_import, Site, no_component}
-use Rattle.lus_meaning.specs.Occurrences.{Memory, memories, starts}
-use Rattle.lus_meaning.specs.Run.{Equation, equations}
+use Rattle.lus_meaning.specs.Occurrences.{memories, starts}
+use Rattle.lus_meaning.specs.Run.{equations}
 use Rattle.lus_meaning.specs.Program.{all_sites}
 use Rattle.lus_meaning.specs.Sizes.{Size, leaf, one, two, three, either, all_of, ModeSizes, is_fixed, operator_size, unless_fixed, size_in, sizes_of, imported_size, asked_size, presence, given_size, equation_sizes, free_sizes, memory_size, start_size, assert_sizes, site_sizes, property_sizes}
 use Rattle.lus_meaning.proofs.Lists.{map_append}
-use Rattle.lus_limits.specs.Peaks.{no_size, greater, peak, by_and, by_or, Joint, Chain, put, no_chain, alone, followed}
-use Rattle.lus_limits.specs.SizeSummaries.{is_own, those_with, ContractPeaks, no_peaks, with_assumption, with_promises, with_mode, with_import, peaks_after, SizeSummary, inputs_given, all_given, sofar_by, own_by, frame_of, sites_by, frame_by, contract_at, contract_by, size_summary_by, owed_size, owed_by, all_owed_by, terms_by}
-use Rattle.lus_limits.specs.SizeCuts.{level_bound, part_bound, cut_term, cut_modes, cut_chain, cut_peaks, cut_summary, SizeSummaryCuts, TermsCut}
+use Rattle.lus_limits.specs.Peaks.{no_size, greater, peak, by_and, by_or, Joint, Chain, put, alone, followed}
+use Rattle.lus_limits.specs.SizeSummaries.{is_own, those_with, ContractPeaks, no_peaks, with_assumption, with_promises, with_mode, with_import, peaks_after, SizeSummary, inputs_given, all_given, sofar_by, own_by, frame_of, sites_by, frame_by, contract_at, contract_by, size_summary_by, owed_size, owed_by, all_owed_by}
+use Rattle.lus_limits.specs.SizeCuts.{cut_term, cut_modes, cut_chain, cut_peaks, cut_summary, SizeSummaryCuts, TermsCut}
 use Rattle.lus_limits.proofs.Sizes.{same_size}
 
 -- ---- terms
@@ -176,6 +176,7 @@ all_alike as_ bs h = all_cut as_ ∙ ap (λ ss. cut_term (all_of ss)) h ∙ sym 
   fold_cut : (a b : Size) → Alike a b → (ss : List Size) → Alike (fold two a ss) (fold two b (map cut_term ss))
   fold_cut a b h [] = h
   fold_cut a b h (s ∷ ss) = fold_cut (two a s) (two b (cut_term s)) (two_alike a b s (cut_term s) h (sym (twice s))) ss
+
   all_cut : (ss : List Size) → Alike (all_of ss) (all_of (map cut_term ss))
   all_cut [] = refl
   all_cut (s ∷ ss) = fold_cut s (cut_term s) (sym (twice s)) ss
@@ -245,6 +246,7 @@ asked_alike s t e as_ bs h = asked_cut s as_ ∙ ap (λ ss. map cut_term (map (a
       ap (λ y. y ∷ map cut_term (map (asked_size s) ss))
       (one_alike _ _ (two_alike s s (one x) (one (cut_term x)) refl (one_alike x (cut_term x) (sym (twice x)))))
       ∙ ap (λ r. cut_term (asked_size s (cut_term x)) ∷ r) (asked_cut s ss)
+
   one_asked : (x : Size) → Alike (asked_size s x) (asked_size t x)
   one_asked x = one_alike _ _ (two_alike s t (one x) (one x) e refl)
 
@@ -393,9 +395,9 @@ owed_alike : (r q : ContractPeaks) → Same r q →
 owed_alike r q h =
     ap (λ b. cut_term (cond b no_size (owed_size r.assumes))) (ap (λ z. z.assumed.is_none) h)
     ∙ by_case q.assumed.is_none where
-  by_case : (b : Bool) → Alike (cond b no_size (owed_size r.assumes)) (cond b no_size (owed_size q.assumes))
-  by_case true = refl
-  by_case false = one_alike _ _ (two_alike leaf leaf _ _ refl (one_alike _ _ (ap (λ z. z.assumes) h)))
+      by_case : (b : Bool) → Alike (cond b no_size (owed_size r.assumes)) (cond b no_size (owed_size q.assumes))
+      by_case true = refl
+      by_case false = one_alike _ _ (two_alike leaf leaf _ _ refl (one_alike _ _ (ap (λ z. z.assumes) h)))
 
 owed_of_alike : (m : Manner) (r q : ContractPeaks) → Same r q → Alike (owed_by m r) (owed_by m q)
 owed_of_alike (as_import xs) r q h = refl

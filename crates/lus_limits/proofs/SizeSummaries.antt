@@ -1,20 +1,20 @@
 -- The sizes of terms by finite summaries.
 use Rattle.std.proofs.Common.{◌≡◌, ℕ, zero, suc, pred, Bool, true, false, ◌&&◌, cond, List, [], ◌∷◌, ◌++◌, map, slice_index_or, Option, Some, None, refl, sym, ap, ◌∙◌, arith}
-use Rattle.std.specs.Prelude.{unwrap_or, option_map, option_to_list, max}
+use Rattle.std.specs.Prelude.{unwrap_or, option_map, option_to_list}
 use Rattle.std.specs.Map.{lookup}
 use Rattle.std.specs.Str.{bytes_eq}
-use Rattle.lus_tree.specs.Tree.{Name, text_of, Spelled, Expression, truth, number, name, negation, minus, pre, arrow, binary, choice, sampled, merged, call, condact, mode_name, Labelled, Statement, equation, assertion, property, main_mark, ContractStatement, assume, guarantee, ghost_variable, constant, mode, «import», Component, Program}
-use Rattle.lus_meaning.specs.Scene.{contract_statements, clock_of_names, Manner, plain, while_true, as_import, Site, Instance, instance, component_of, outputs_of, no_component}
-use Rattle.lus_meaning.specs.Meaning.{mode_key, same_path}
+use Rattle.lus_tree.specs.Tree.{Name, text_of, Expression, truth, number, name, negation, minus, pre, arrow, binary, choice, sampled, merged, call, condact, mode_name, Statement, equation, assertion, property, main_mark, ContractStatement, assume, guarantee, ghost_variable, constant, mode, «import», Component, Program}
+use Rattle.lus_meaning.specs.Scene.{contract_statements, clock_of_names, Manner, plain, while_true, as_import, Site, Instance, component_of, outputs_of, no_component}
+use Rattle.lus_meaning.specs.Meaning.{mode_key}
 use Rattle.lus_meaning.specs.Depends.{from_caller, outputs_given}
 use Rattle.lus_meaning.specs.Run.{equations, inputs_of}
 use Rattle.lus_meaning.specs.Occurrences.{memories, starts}
-use Rattle.lus_meaning.specs.Program.{all_sites, constants_in, instances_with, instance_of}
+use Rattle.lus_meaning.specs.Program.{all_sites, instances_with, instance_of}
 use Rattle.lus_meaning.specs.Sizes.{Size, leaf, one, two, three, all_of, some_of, ModeSizes, is_fixed, operator_size, unless_fixed, size_in, sizes_of, imported_size, ContractSizes, no_sizes, asked_size, sizes_after, contract_sizes, presence, given_size, equation_sizes, free_sizes, memory_size, start_size, sofar_sizes, assert_sizes, site_sizes, own_sizes, frame_sizes, call_sizes, property_sizes, owed_sizes, owed_by_sites, term_sizes}
 use Rattle.lus_meaning.proofs.Lists.{append_none}
 use Rattle.lus_limits.specs.Instances.{callee, instance_called_so}
 use Rattle.lus_limits.specs.Sizes.{sizes_at, callee_sizes}
-use Rattle.lus_limits.specs.Peaks.{no_size, greater, peak, by_and, by_or, chain, followed, alone}
+use Rattle.lus_limits.specs.Peaks.{no_size, greater, peak, by_and, by_or, chain}
 use Rattle.lus_limits.specs.SizeSummaries.{can_be_named, is_own, those_with, ContractPeaks, no_peaks, contract_peaks, with_assumption, with_promises, with_mode, with_import, peaks_after, SizeSummary, inputs_given, all_given, size_summary_of, sofar_by, own_by, frame_of, sites_by, frame_by, contract_by, size_summary_by, owed_size, owed_by, all_owed_by, terms_by, contract_at, summaries_at, SizeSummaryByText, TermsBySummaries, LimitsByPeaks}
 use Rattle.lus_limits.proofs.Instances.{component_called, made_of_callees}
 use Rattle.lus_limits.proofs.Peaks.{greater_none, peak_both, levels_pass, parts_pass, chain_both, chain_one, all_chained, some_chained}

@@ -1,8 +1,8 @@
 -- What contracts see of the sizes of a contract's terms.
-use Rattle.std.specs.Prelude.{◌≡◌, ℕ, List, [], ◌∷◌, map}
+use Rattle.std.specs.Prelude.{◌≡◌, ℕ, List, map}
 use Rattle.std.specs.Borrow.{Bor}
 use Rattle.lus_tree.specs.Tree.{Name, Labelled, ContractStatement, assume, guarantee, ghost_variable, constant, mode, «import», Component}
-use Rattle.lus_meaning.specs.Sizes.{Size, all_of, asked_size, size_in, sizes_of}
+use Rattle.lus_meaning.specs.Sizes.{all_of, asked_size, size_in, sizes_of}
 use Rattle.lus_limits.specs.Chained.{chain_view}
 use Rattle.lus_limits.specs.Measured.{modes_view, size_view}
 use Rattle.lus_limits.specs.Peaks.{peak}

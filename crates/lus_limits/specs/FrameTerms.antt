@@ -8,7 +8,7 @@ use Rattle.lus_meaning.specs.Sizes.{Size, ModeSizes, site_sizes}
 use Rattle.std.specs.Prelude.{◌++◌, flat_map}
 use Rattle.lus_meaning.specs.RuleLaws.{OfEach}
 use Rattle.lus_limits.specs.Peaks.{no_size, greater, peak}
-use Rattle.lus_limits.specs.SizeSummaries.{SizeSummary, frame_of, sites_by}
+use Rattle.lus_limits.specs.SizeSummaries.{SizeSummary, frame_of}
 
 -- what stands for one of them
 abbrev pub site_terms : Component → ModeSizes → Site → Size

@@ -1,13 +1,16 @@
 -- The greatest sizes of a declaration's frame, item by item.
-use Rattle.std.specs.Prelude.{List, [], ◌∷◌, ◌++◌}
+use Rattle.std.specs.Prelude.{◌≡◌, List, [], ◌∷◌, map, length}
 use Rattle.lus_tree.specs.Tree.{Name, Component}
 use Rattle.lus_meaning.specs.Scene.{contract_statements, variables}
 use Rattle.lus_meaning.specs.Sizes.{Size}
 use Rattle.lus_limits.specs.declared.calls.Way.{Way}
 use Rattle.lus_limits.specs.declared.calls.Way.TheVariants.{Plain, Condition, Import}
+use Rattle.lus_meaning.specs.Program.{all_sites}
+use Rattle.lus_meaning.specs.RuleLaws.{OfEach}
+use Rattle.lus_limits.specs.Calls.{way_of}
 use Rattle.lus_limits.specs.Peaks.{no_size, greater, peak}
 use Rattle.lus_limits.specs.OwnTerms.{all_contract_terms, constant_terms, body_terms, free_terms, own_terms}
-use Rattle.lus_limits.specs.SizeSummaries.{ContractPeaks, SizeSummary, contract_by, inputs_given, all_given, sofar_by}
+use Rattle.lus_limits.specs.SizeSummaries.{ContractPeaks, SizeSummary, contract_by, inputs_given, all_given, sofar_by, size_summary_by}
 
 abbrev pub frame_at : Way → SizeSummary → Size
 frame_at Import z = z.imported
@@ -35,3 +38,12 @@ own_known ks n r =
     (greater (constant_terms n r.modes n.constants)
     (greater (body_terms n r.modes n.body)
     (greater (free_terms ks n (variables n)) (peak (sofar_by n.contract r.assumed.whole)))))
+
+-- how the calls of a declaration run, by number
+abbrev pub ways_of : Component → List Way
+ways_of n = map (λ s. way_of s.manner) (all_sites n)
+
+-- in a checked program the summary by items is the one by the text
+abbrev pub SummaryByItems : Type 0
+SummaryByItems =
+    OfEach (λ p n. (zs : List SizeSummary) → length zs ≡ length (all_sites n) → size_summary_by zs n ≡ summary_by_items (ways_of n) zs n)

@@ -12,7 +12,10 @@ pub mod Measured
 pub mod Chained
 pub mod Inner
 pub mod OwnTerms
+pub mod Needed
 pub mod Frames
 pub mod Known
 pub mod FrameTerms
 pub mod Contracted
+pub mod Tables
+pub mod Nodes

@@ -1,5 +1,5 @@
 -- What contracts see of sizes, and of a place whose modes have sizes.
-use Rattle.std.specs.Prelude.{ℕ, zero, suc, true, false, List, map, Option, option_map, option_to_list}
+use Rattle.std.specs.Prelude.{ℕ, zero, suc, true, false, List, map, option_map, option_to_list}
 use Rattle.lus_tree.specs.declared.place.PlacedName.{PlacedName}
 use Rattle.lus_tree.specs.Tree.{Name, Component}
 use Rattle.lus_tree.specs.View.{word_view}

@@ -1,5 +1,5 @@
 -- The greatest sizes of a declaration's own terms and of what stands for its calls, item by item.
-use Rattle.std.specs.Prelude.{◌≡◌, List, [], ◌∷◌, ◌++◌, map, cond, Option}
+use Rattle.std.specs.Prelude.{◌≡◌, List, [], ◌∷◌, ◌++◌, map, cond}
 use Rattle.lus_tree.specs.Tree.{Name, text_of, Expression, Constant, Labelled, Variable, Statement, equation, assertion, property, main_mark, ContractStatement, assume, guarantee, ghost_variable, constant, mode, «import», Component}
 use Rattle.lus_meaning.specs.Scene.{Clock, base, clock_from, clock_of_names, contract_statements, variables}
 use Rattle.lus_meaning.specs.Depends.{named_in, left_names}

@@ -3,7 +3,7 @@ use Rattle.std.specs.Prelude.{◌≡◌, ◌++◌, List, [], ◌∷◌, map, fla
 use Rattle.std.specs.Borrow.{Bor}
 use Rattle.lus_tree.specs.declared.expression.Expr.{Expr}
 use Rattle.lus_tree.specs.Tree.{Expression, Constant, Labelled, Statement, equation, assertion, property, main_mark, ContractStatement, assume, guarantee, ghost_variable, constant, mode, «import», Component}
-use Rattle.lus_tree.specs.View.{expr_view, node_view, contract_node_view}
+use Rattle.lus_tree.specs.View.{expr_view}
 use Rattle.lus_meaning.specs.Scene.{contract_statements}
 
 abbrev pub statements_of : Option (List ContractStatement) → List ContractStatement

@@ -1,12 +1,12 @@
 -- How large the terms of declarations are, by finite summaries: what callers need of a declaration, and the same by its
 -- own text and the summaries of its callees.
-use Rattle.std.specs.Prelude.{◌≡◌, ℕ, pred, Bool, true, false, cond, List, [], ◌∷◌, ◌++◌, map, length, slice_index_or, Option, Some, None, nat_lt}
+use Rattle.std.specs.Prelude.{◌≡◌, ℕ, pred, Bool, true, false, cond, List, [], ◌∷◌, ◌++◌, map, slice_index_or, Option, Some, None, nat_lt}
 use Rattle.std.specs.List.{list_any}
-use Rattle.lus_tree.specs.Tree.{Name, Labelled, ContractStatement, assume, guarantee, ghost_variable, constant, mode, «import», Component, Program}
+use Rattle.lus_tree.specs.Tree.{Name, ContractStatement, assume, guarantee, ghost_variable, constant, mode, «import», Component, Program}
 use Rattle.lus_meaning.specs.Scene.{contract_statements, Manner, plain, while_true, as_import, Site, no_component}
 use Rattle.lus_meaning.specs.Program.{all_sites, instance_of}
 use Rattle.lus_meaning.specs.Occurrences.{memories, starts}
-use Rattle.lus_meaning.specs.Sizes.{Size, leaf, one, two, all_of, ModeSizes, size_in, sizes_of, imported_size, ContractSizes, asked_size, contract_sizes, equation_sizes, free_sizes, memory_size, start_size, sofar_sizes, assert_sizes, site_sizes, frame_sizes, property_sizes, term_sizes}
+use Rattle.lus_meaning.specs.Sizes.{Size, leaf, one, two, all_of, ModeSizes, size_in, sizes_of, imported_size, ContractSizes, asked_size, contract_sizes, equation_sizes, free_sizes, memory_size, start_size, assert_sizes, site_sizes, frame_sizes, property_sizes, term_sizes}
 use Rattle.lus_meaning.specs.RuleLaws.{OfEach}
 use Rattle.lus_limits.specs.Instances.{callee}
 use Rattle.lus_limits.specs.Peaks.{no_size, greater, peak, by_and, by_or, Chain, no_chain, alone, followed, chain}

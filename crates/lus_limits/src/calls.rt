@@ -6,7 +6,6 @@ ghost use Rattle.lus_limits.specs.Calls.{call_view, calls_among, calls_in, condi
 ghost use Rattle.lus_streams.specs.Owner.{owner_view};
 ghost use Rattle.lus_limits.specs.Parts.{sides_view};
 
-
 use crate::texts::sides_of;
 use lus_streams::owner::Owner;
 use lus_tree::{ContractItem, Expr, Form, PlacedName};

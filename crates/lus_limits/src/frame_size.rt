@@ -80,11 +80,7 @@ fn free_ghost<'a>(known: &NameTable, names: Names<'a, '_>, item: &'a ContractIte
 
 /// Of the ghost variables that are not among these names.
 #[tactic(auto, using(crate::proofs::Greatest::greatest_on, crate::proofs::Greatest::greatest_cut, crate::proofs::Greatest::greatest_end, crate::proofs::Frames::free_ghosts))]
-fn free_ghosts<'a>(
-    known: &NameTable,
-    names: Names<'a, '_>,
-    items: &'a [ContractItem],
-) -> Size
+fn free_ghosts<'a>(known: &NameTable, names: Names<'a, '_>, items: &'a [ContractItem]) -> Size
     ensures { size_view result ≡ cut_term (free_terms known.now (names_view names.entry)
         (ghosts (map contract_item_view items.now))) }
 {
@@ -122,7 +118,10 @@ fn own_terms<'a>(names: Names<'a, '_>, contract: &ContractSize, known: &NameTabl
     let body = body_terms(scope, names.owner.body());
     let free = all_free(known, names);
     let sofar = sofar_terms(names.owner, contract.assumed.whole);
-    greater(contract_terms, greater(constants, greater(body, greater(free, sofar))))
+    greater(
+        contract_terms,
+        greater(constants, greater(body, greater(free, sofar))),
+    )
 }
 
 /// Of a declaration's frame where the caller gives the inputs, with the greatest of the callees' frames.

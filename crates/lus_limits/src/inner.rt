@@ -10,10 +10,10 @@ ghost use Rattle.lus_limits.specs.Measured.{modes_view, size_view};
 ghost use Rattle.lus_streams.specs.Names.{names_view};
 ghost use Rattle.lus_limits.specs.SizeCuts.{cut_term};
 
-use lus_streams::clock::Clock;
 use crate::measuring::{Scope, measure};
 use crate::presence::presence;
 use crate::term_size::{Size, greater, leaf, no_size, one, three, two};
+use lus_streams::clock::Clock;
 use lus_tree::{Expr, Form};
 
 /// Of what `pre` keeps of an operand on that clock.
@@ -77,7 +77,10 @@ fn condition_terms<'a>(
     let active = two(presence(scope.names, clock), measure(scope, condition).size);
     let held = three(leaf(), leaf(), leaf());
     let held = greater(held, two(leaf(), held));
-    greater(two(leaf(), active), greater(held, argument_terms(scope, arguments)))
+    greater(
+        two(leaf(), active),
+        greater(held, argument_terms(scope, arguments)),
+    )
 }
 
 /// Of an import.

@@ -55,7 +55,11 @@ fn add_ghost(alloc: Global, names: &mut NameTable, item: &ContractItem) -> Resul
 }
 
 /// Adds the names of the ghost variables of a contract.
-fn add_ghosts(alloc: Global, names: &mut NameTable, items: &[ContractItem]) -> Result<(), AllocError>
+fn add_ghosts(
+    alloc: Global,
+    names: &mut NameTable,
+    items: &[ContractItem],
+) -> Result<(), AllocError>
     ensures { OnOk result (HasThese names.old names.new (lefts_of (ghost_equations (map contract_item_view items.now)))) }
 {
     for item in items {

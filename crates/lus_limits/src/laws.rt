@@ -4,7 +4,9 @@ ghost use Rattle.lus_limits.specs.Instances.{MadeOfCallees};
 ghost use Rattle.lus_limits.specs.Widths.{WidthByText, WidthIsPlain, WidthCuts};
 ghost use Rattle.lus_limits.specs.Counts.{ContractByText, PropertiesByText, CountCuts, PropertyCuts};
 ghost use Rattle.lus_limits.specs.Summaries.{SummaryByText};
+ghost use Rattle.lus_limits.specs.Frames.{SummaryByItems};
 ghost use Rattle.lus_limits.specs.FrameTerms.{SitesInAnyOrder};
+ghost use Rattle.lus_limits.specs.Nodes.{NodeTermsKnown};
 ghost use Rattle.lus_limits.specs.OwnTerms.{OwnTermsByItems};
 ghost use Rattle.lus_limits.specs.SizeCuts.{SizeSummaryCuts, TermsCut};
 ghost use Rattle.lus_limits.specs.SizeSummaries.{SizeSummaryByText, TermsBySummaries, LimitsByPeaks};
@@ -75,4 +77,14 @@ pub fn own_terms_by_items()
 /// that of the text.
 pub fn sites_in_any_order()
     ensures { SitesInAnyOrder }
+{}
+
+/// In a checked program what callers need of the sizes of a declaration's terms is made item by item.
+pub fn summary_by_items()
+    ensures { SummaryByItems }
+{}
+
+/// In a checked program of which all needs are known, these tell the greatest sizes of the terms of each node's system.
+pub fn node_terms_known()
+    ensures { NodeTermsKnown }
 {}

@@ -5,17 +5,20 @@
 mod calls;
 mod chains;
 mod contract_size;
-pub mod laws;
 mod frame_size;
 mod inner;
 mod known;
+pub mod laws;
 mod measuring;
+mod needs;
+mod node_size;
 mod own;
 mod part;
 mod presence;
+mod settling;
 mod sites;
-mod term_size;
 mod summing;
+mod term_size;
 mod texts;
 
 pub use calls::{Call, Way};

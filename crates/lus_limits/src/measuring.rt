@@ -12,8 +12,8 @@ ghost use Rattle.lus_limits.specs.Measured.{mode_view, modes_view, name_seen, si
 ghost use Rattle.lus_streams.specs.Names.{names_view};
 ghost use Rattle.lus_limits.specs.SizeCuts.{cut_term};
 
-use lus_streams::names::Names;
 use crate::term_size::{Size, cut, leaf, one, three, two};
+use lus_streams::names::Names;
 use lus_tree::{Expr, Form, Operator, PlacedName};
 
 /// The size of a mode's requires: of one of the contract itself, or of one that it imports.
@@ -108,7 +108,9 @@ fn operated(operator: Operator, fixed: bool, left: Size, right: Size) -> Size
         | Operator::Sub => two(left, right),
         Operator::Mul => one(if fixed { right } else { left }),
         Operator::Div | Operator::Mod => one(left),
-        Operator::Xor | Operator::Less | Operator::Differs | Operator::More => one(two(left, right)),
+        Operator::Xor | Operator::Less | Operator::Differs | Operator::More => one(two(
+            left, right,
+        )),
     }
 }
 

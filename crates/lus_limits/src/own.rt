@@ -14,13 +14,13 @@ ghost use Rattle.lus_limits.specs.OwnTerms.{all_contract_terms, body_terms, cons
 ghost use Rattle.lus_limits.specs.Peaks.{no_size};
 ghost use Rattle.lus_limits.specs.SizeCuts.{cut_term};
 
-use lus_streams::clock::{Clock, declared};
 use crate::inner::{given, import_terms, inner};
-use lus_streams::lookup::side_clock;
 use crate::measuring::{Scope, measure};
-use lus_streams::names::Names;
 use crate::presence::presence;
 use crate::term_size::{Size, greater, leaf, no_size, one, two};
+use lus_streams::clock::{Clock, declared};
+use lus_streams::lookup::side_clock;
+use lus_streams::names::Names;
 use lus_tree::{ContractItem, Definition, Expr, Item, Named, Param};
 use name_table::NameTable;
 
@@ -31,7 +31,10 @@ fn side_terms<'a>(scope: Scope<'a, '_>, own: Clock<'a>, clock: Clock<'a>, e: &'a
         (clock_seen own.entry) (clock_seen clock.entry) (expr_view e.now)) }
 {
     let value = measure(scope, e).size;
-    greater(given(presence(scope.names, own), value), inner(scope, clock, e))
+    greater(
+        given(presence(scope.names, own), value),
+        inner(scope, clock, e),
+    )
 }
 
 /// Of what stands in labelled expressions.
@@ -76,7 +79,10 @@ fn contract_terms<'a>(scope: Scope<'a, '_>, item: &'a ContractItem) -> Size
         }
         ContractItem::Constant(constant) => inner(scope, Clock::Base, &constant.value),
         ContractItem::Mode(_, required, ensured) => {
-            greater(inner_labelled(scope, required), inner_labelled(scope, ensured))
+            greater(
+                inner_labelled(scope, required),
+                inner_labelled(scope, ensured),
+            )
         }
         ContractItem::Import(_, _, arguments, _) => {
             greater(import_terms(scope, arguments), inner_each(scope, arguments))
@@ -164,11 +170,7 @@ pub(crate) fn free_term<'a>(known: &NameTable, names: Names<'a, '_>, stream: &'a
 
 /// Of the streams that are not among these names.
 #[tactic(auto, using(crate::proofs::Greatest::greatest_on, crate::proofs::Greatest::greatest_cut, crate::proofs::Greatest::greatest_end))]
-pub(crate) fn free_terms<'a>(
-    known: &NameTable,
-    names: Names<'a, '_>,
-    streams: &'a [Param],
-) -> Size
+pub(crate) fn free_terms<'a>(known: &NameTable, names: Names<'a, '_>, streams: &'a [Param]) -> Size
     ensures { size_view result ≡ cut_term (free_terms known.now (names_view names.entry) (map param_view streams.now)) }
 {
     let mut size = no_size();

@@ -10,9 +10,9 @@ ghost use Rattle.lus_streams.specs.Names.{names_view};
 ghost use Rattle.lus_limits.specs.SizeCuts.{cut_term};
 ghost use Rattle.lus_limits.specs.Measured.{size_view};
 
+use crate::term_size::{Size, cut, leaf, one, two};
 use lus_streams::clock::Clock;
 use lus_streams::names::Names;
-use crate::term_size::{Size, cut, leaf, one, two};
 use lus_tree::{ContractItem, Param};
 
 /// A clock on the way to the end of its negations, and the size of those that are behind.

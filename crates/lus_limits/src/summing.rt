@@ -47,6 +47,13 @@ pub struct Link {
     pub callee: Summary,
 }
 
+/// A number, cut.
+pub(crate) fn cut(number: usize) -> usize
+    ensures { result ≡ cut number }
+{
+    if number < BOUND { number } else { BOUND }
+}
+
 /// A sum, cut.
 fn sum(left: usize, right: usize) -> usize
     ensures { result ≡ cut (left + right) }

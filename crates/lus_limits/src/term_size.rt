@@ -23,14 +23,22 @@ pub struct Size {
 pub(crate) fn cut_levels(levels: u32) -> u32
     ensures { result ≡ min level_bound levels }
 {
-    if levels < LEVEL_BOUND { levels } else { LEVEL_BOUND }
+    if levels < LEVEL_BOUND {
+        levels
+    } else {
+        LEVEL_BOUND
+    }
 }
 
 /// Parts, cut.
 fn cut_parts(parts: u32) -> u32
     ensures { result ≡ min part_bound parts }
 {
-    if parts < PART_BOUND { parts } else { PART_BOUND }
+    if parts < PART_BOUND {
+        parts
+    } else {
+        PART_BOUND
+    }
 }
 
 /// A sum of parts, cut.

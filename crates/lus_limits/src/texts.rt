@@ -5,7 +5,6 @@ ghost use Rattle.lus_tree.specs.View.{contract_item_view, definition_view, expr_
 ghost use Rattle.lus_streams.specs.Owner.{owner_view};
 ghost use Rattle.lus_limits.specs.Parts.{Adds, constant_sides, contract_sides, sides, sides_view, statement_sides, values_of};
 
-
 use lus_streams::owner::Owner;
 use lus_tree::{ContractItem, Definition, Expr, Item, Named};
 use std::alloc::{AllocError, Global};

@@ -1,4 +1,4 @@
-use Rattle.std.proofs.Common.{◌≡◌, List, map, ap, ◌∙◌}
+use Rattle.std.proofs.Common.{List, map, ap, ◌∙◌}
 use Rattle.lus_tree.specs.Tree.{Labelled}
 use Rattle.lus_tree.specs.View.{named_view, word_view}
 use Rattle.lus_meaning.specs.Sizes.{all_of, asked_size, sizes_of}

@@ -1,4 +1,4 @@
-use Rattle.std.proofs.Common.{◌≡◌, ap, ◌∙◌}
+use Rattle.std.proofs.Common.{ap, ◌∙◌}
 use Rattle.lus_meaning.specs.Scene.{ghosts}
 use Rattle.lus_limits.specs.Measured.{size_view}
 use Rattle.lus_limits.specs.OwnTerms.{free_terms}

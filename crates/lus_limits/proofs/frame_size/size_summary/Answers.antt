@@ -1,4 +1,4 @@
-use Rattle.std.proofs.Common.{◌≡◌, map, ap, ◌∙◌}
+use Rattle.std.proofs.Common.{map, ap, ◌∙◌}
 use Rattle.lus_limits.specs.Contracted.{summaries_seen, summary_seen}
 use Rattle.lus_limits.specs.Measured.{size_view}
 use Rattle.lus_limits.specs.SizeCuts.{cut_peaks}

@@ -1,4 +1,3 @@
-use Rattle.std.proofs.Common.{◌≡◌, map}
 use Rattle.lus_tree.specs.View.{item_view}
 use Rattle.lus_meaning.specs.Run.{body_equations}
 use Rattle.lus_limits.specs.Known.{lefts_of}

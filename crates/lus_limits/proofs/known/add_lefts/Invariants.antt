@@ -1,4 +1,4 @@
-use Rattle.std.proofs.Common.{◌≡◌, map, take}
+use Rattle.std.proofs.Common.{map, take}
 use Rattle.lus_tree.specs.View.{item_view}
 use Rattle.lus_meaning.specs.Run.{body_equations}
 use Rattle.lus_limits.specs.Known.{HasThese, lefts_of}

@@ -1,7 +1,7 @@
-use Rattle.std.proofs.Common.{◌≡◌, map, take}
+use Rattle.std.proofs.Common.{map, take}
 use Rattle.lus_tree.specs.Tree.{text_of}
 use Rattle.lus_tree.specs.View.{word_view}
-use Rattle.lus_limits.specs.Known.{HasThese, lefts_of}
+use Rattle.lus_limits.specs.Known.{HasThese}
 use Rattle.lus_limits.proofs.known.add_words.Given as goal
 
 -- the names that there were, and those so far

@@ -1,4 +1,4 @@
-use Rattle.std.proofs.Common.{◌≡◌, Bool, not, Option, true, false, Some, None, refl, sym, ◌∙◌}
+use Rattle.std.proofs.Common.{◌≡◌, Bool, not, Option, true, false, Some, None, refl, ◌∙◌}
 use Rattle.std.specs.Prelude.{is_none, is_some}
 use Rattle.lus_streams.specs.Names.{names_view}
 use Rattle.lus_limits.proofs.Measures.{fixed_name}

@@ -1,6 +1,6 @@
 use Rattle.std.proofs.Common.{◌≡◌, drop, map}
 use Rattle.lus_tree.specs.View.{param_view}
-use Rattle.lus_limits.specs.Measured.{modes_view, size_view}
+use Rattle.lus_limits.specs.Measured.{size_view}
 use Rattle.lus_streams.specs.Names.{names_view}
 use Rattle.lus_limits.specs.OwnTerms.{free_terms}
 use Rattle.lus_limits.specs.Peaks.{greater}

@@ -2,7 +2,6 @@ use Rattle.std.proofs.Common.{◌≡◌, ◌++◌, drop, map}
 use Rattle.lus_tree.specs.View.{decl_view}
 use Rattle.lus_meaning.specs.ClockFaults.{components}
 use Rattle.lus_streams.specs.Owner.{owner_view}
-
 use Rattle.lus_limits.proofs.part.parts_of.Given as goal
 
 -- what is there, followed by what is to come, is all

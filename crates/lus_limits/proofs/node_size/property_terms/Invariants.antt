@@ -1,0 +1,15 @@
+use Rattle.std.proofs.Common.{◌≡◌, drop, map}
+use Rattle.lus_tree.specs.View.{item_view}
+use Rattle.lus_limits.specs.Measured.{modes_view, size_view}
+use Rattle.lus_limits.specs.Nodes.{property_terms}
+use Rattle.lus_limits.specs.Peaks.{greater}
+use Rattle.lus_limits.specs.SizeCuts.{cut_term}
+use Rattle.lus_streams.specs.Names.{names_view}
+use Rattle.lus_limits.proofs.node_size.property_terms.Given as goal
+
+-- the greatest so far, with what is to come, is the greatest of all, cut
+abbrev pub invariant-loop-item : goal.invariant-loop-item
+invariant-loop-item l = (cut_term (size_view l.size) ≡ size_view l.size)
+    × (cut_term (greater (size_view l.size) (property_terms (names_view l.scope.names) (modes_view l.scope.modes.now)
+    (map item_view (drop l.item-index l.items))))
+    ≡ cut_term (property_terms (names_view l.scope.names) (modes_view l.scope.modes.now) (map item_view l.items)))
