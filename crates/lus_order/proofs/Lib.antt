@@ -23,3 +23,7 @@ pub mod ClosedRows
 pub mod BackNames
 pub mod Flagged
 pub mod SameReads
+pub mod SiteCallees
+pub mod Settled
+pub mod CalleesFirst
+pub mod NextLearned

@@ -22,3 +22,5 @@ pub mod MarkedNames
 pub mod KnownModes
 pub mod Backs
 pub mod SameCallees
+pub mod Declarations
+pub mod Learned

@@ -3,9 +3,11 @@
 
 mod circle_faults;
 mod circles;
+mod declarations;
 mod found;
 mod graph;
 pub mod laws;
+mod learned;
 mod least_order;
 mod left_names;
 mod library;
