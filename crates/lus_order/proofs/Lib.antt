@@ -27,3 +27,6 @@ pub mod SiteCallees
 pub mod Settled
 pub mod CalleesFirst
 pub mod NextLearned
+pub mod FreeClocks
+pub mod OwnCircles
+pub mod WholeOrders

@@ -16,7 +16,7 @@ use Rattle.rule_laws.proofs.Places.{numbered, sites_counted}
 use Rattle.way_laws.specs.OwnGraph.{Summaries}
 use Rattle.lus_order.specs.SameCallees.{SameIn, SameAmong, SameFor, SameCallees}
 
-at_contains : {A : Type 0} (xs : List A) (k : ℕ) (x : A) → At xs k x → Contains xs x
+pub at_contains : {A : Type 0} (xs : List A) (k : ℕ) (x : A) → At xs k x → Contains xs x
 at_contains [] k x h = absurd h
 at_contains (y ∷ xs) zero x h = (0, omega arith, h)
 at_contains (y ∷ xs) (suc k) x h =

@@ -24,3 +24,6 @@ pub mod Backs
 pub mod SameCallees
 pub mod Declarations
 pub mod Learned
+pub mod ClockCircles
+pub mod Ordered
+pub mod WholeOrders

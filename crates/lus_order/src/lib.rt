@@ -3,6 +3,7 @@
 
 mod circle_faults;
 mod circles;
+mod clock_circles;
 mod declarations;
 mod found;
 mod graph;
@@ -13,6 +14,7 @@ mod left_names;
 mod library;
 mod modes;
 mod order_from;
+mod ordered;
 mod own;
 mod own_rows;
 mod owner;
