@@ -30,3 +30,4 @@ pub mod NextLearned
 pub mod FreeClocks
 pub mod OwnCircles
 pub mod WholeOrders
+pub mod AllOrdered

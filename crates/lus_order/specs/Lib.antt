@@ -27,3 +27,4 @@ pub mod Learned
 pub mod ClockCircles
 pub mod Ordered
 pub mod WholeOrders
+pub mod Checked

@@ -1,6 +1,7 @@
 //! The rules of equations, and the order in which they can be evaluated at one instant.
 #![tactic(auto)]
 
+mod checks;
 mod circle_faults;
 mod circles;
 mod clock_circles;
@@ -27,3 +28,5 @@ mod sides;
 mod streams;
 mod summary;
 mod words;
+
+pub use checks::equations;
