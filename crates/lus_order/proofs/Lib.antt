@@ -23,3 +23,11 @@ pub mod ClosedRows
 pub mod BackNames
 pub mod Flagged
 pub mod SameReads
+pub mod SiteCallees
+pub mod Settled
+pub mod CalleesFirst
+pub mod NextLearned
+pub mod FreeClocks
+pub mod OwnCircles
+pub mod WholeOrders
+pub mod AllOrdered

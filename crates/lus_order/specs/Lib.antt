@@ -22,3 +22,9 @@ pub mod MarkedNames
 pub mod KnownModes
 pub mod Backs
 pub mod SameCallees
+pub mod Declarations
+pub mod Learned
+pub mod ClockCircles
+pub mod Ordered
+pub mod WholeOrders
+pub mod Checked

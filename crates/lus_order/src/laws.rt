@@ -1,6 +1,7 @@
 //! What is read in an expression, and numbers in place of names, by the own graph of a declaration.
 
 ghost use Rattle.lus_order.specs.Backs.{BacksAreOwn, FlaggedAreCircles};
+ghost use Rattle.lus_order.specs.ClockCircles.{MarkedAreCircles};
 ghost use Rattle.lus_order.specs.KnownModes.{KnownAreSummaries};
 ghost use Rattle.lus_order.specs.MarkedNames.{RowsFind};
 ghost use Rattle.lus_order.specs.Numbered.{WaysAreNumbered};
@@ -8,6 +9,7 @@ ghost use Rattle.lus_order.specs.OwnNodes.{RowsAreNodes};
 ghost use Rattle.lus_order.specs.OwnOrders.{OrdersAreLeast};
 ghost use Rattle.lus_order.specs.OwnReads.{ReadsAreOwn};
 ghost use Rattle.lus_order.specs.SameCallees.{ReadsByCallees};
+ghost use Rattle.lus_order.specs.WholeOrders.{CirclesByLibrary, LibraryExact, OrdersByLibrary};
 
 /// What an expression reads by the own graph of its declaration is what is read in it, with each mode replaced by
 /// what that reads.
@@ -57,8 +59,23 @@ pub fn flagged_are_circles()
     ensures { FlaggedAreCircles }
 {}
 
+/// By the library of all declarations the summaries of what a declaration calls and imports are exact, the circles by
+/// its own graph are its faults of circles, and where the program has no fault of equations the order that is made of a
+/// declaration is the least order of its equations in the tree of instances.
+pub fn libraries_are_exact()
+    ensures exact { LibraryExact }
+    ensures circles { CirclesByLibrary }
+    ensures orders { OrdersByLibrary }
+{}
+
 /// What a declaration reads goes by the summaries of those alone that it calls at the same instant and imports:
 /// others that say the same of these give the same own graph, and its modes read the same.
 pub fn reads_by_callees()
     ensures { ReadsByCallees }
+{}
+
+/// In the graph where each stream leads to that of its clock, unless an equation defines this, the streams that lead
+/// to themselves are those whose clocks go in a circle among names without an equation.
+pub fn marked_are_circles()
+    ensures { MarkedAreCircles }
 {}

@@ -1,0 +1,12 @@
+use Rattle.std.proofs.Common.{map, take}
+use Rattle.lus_scopes.specs.Least.{least_view}
+use Rattle.lus_order.specs.Checked.{AllNoted, AreOrdered}
+use Rattle.lus_order.specs.Library.{library_view}
+use Rattle.lus_order.specs.Owner.{owner_view}
+use Rattle.lus_order.proofs.checks.all_ordered.Given as goal
+
+abbrev pub invariant-loop-owner : goal.invariant-loop-owner
+invariant-loop-owner l = record {
+  noted : AllNoted (map owner_view (take l.owner-index l.owners)) (library_view l.library) (least_view l.initial.least) (least_view l.least);
+  orders : AreOrdered (library_view l.library) (map owner_view (take l.owner-index l.owners)) (map (λ o. o.items) l.orders.items);
+}

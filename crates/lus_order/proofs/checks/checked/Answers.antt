@@ -1,0 +1,32 @@
+use Rattle.std.proofs.Common.{◌≡◌, None, ap, ◌∙◌, sym, subst, map, flat_map}
+use Rattle.lus_tree.specs.View.{program_view}
+use Rattle.lus_meaning.specs.ClockFaults.{components}
+use Rattle.lus_meaning.specs.EquationFaults.{left_faults}
+use Rattle.lus_scopes.specs.Least.{least_view}
+use Rattle.lus_scopes.specs.Notes.{Notes}
+use Rattle.lus_order.specs.Checked.{AllNoted, AreOrdered}
+use Rattle.lus_order.specs.Library.{library_view}
+use Rattle.lus_order.specs.Owner.{owner_view}
+use Rattle.lus_order.proofs.AllOrdered.{no_faults_least, program_checked, owners_stand}
+use Rattle.lus_order.proofs.checks.checked.Goals as goal
+
+pub all_ordered-requires : goal.all_ordered-requires
+all_ordered-requires c = record {
+  distinct = owners_stand (program_view c.args.program.now) c.requires.typed (map owner_view c.deref.result.now)
+      (ap (map owner_view) c.deref.ensures.value ∙ c.in_ok-owners.ensures);
+  flags = c.in_ok-library.ensures.flags;
+}
+
+pub returns : goal.returns
+returns c =
+    let same : map owner_view c.deref.result.now ≡ components (program_view c.args.program.now) =
+    ap (map owner_view) c.deref.ensures.value ∙ c.in_ok-owners.ensures in
+    program_checked (program_view c.args.program.now) c.requires.grammatical c.requires.typed c.in_ok-library.library c.in_ok-library.ensures
+    (least_view c.left_names.new.least) (least_view c.all_ordered.new.least) (map (λ o. o.items) c.in_ok-orders.orders.items)
+    (subst (λ o. Notes o (least_view c.left_names.new.least) (flat_map left_faults (components (program_view c.args.program.now)))) c.new-least.ensures
+    c.in_ok-left_names.ensures)
+    no_faults_least
+    (subst (λ ns. AllNoted ns (library_view c.in_ok-library.library) (least_view c.left_names.new.least) (least_view c.all_ordered.new.least)) same
+    c.in_ok-orders.ensures.noted)
+    (subst (λ ns. AreOrdered (library_view c.in_ok-library.library) ns (map (λ o. o.items) c.in_ok-orders.orders.items)) same
+    c.in_ok-orders.ensures.orders)

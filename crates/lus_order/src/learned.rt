@@ -1,0 +1,128 @@
+//! What is known of all declarations of a program, made callees first.
+
+ghost use Rattle.std.specs.Prelude.{◌≡◌, ◌++◌, ◌∷◌, [], IfOk, false, map, option_map};
+ghost use Rattle.std.specs.List.{find};
+ghost use Rattle.lus_tree.specs.View.{program_view};
+ghost use Rattle.lus_meaning.specs.Depends.{named_in};
+ghost use Rattle.lus_meaning.specs.Grammatical.{IsGrammatical};
+ghost use Rattle.lus_meaning.specs.Refusals.{IsTyped};
+ghost use Rattle.lus_meaning.specs.Scene.{variables};
+ghost use Rattle.lus_meaning.specs.WellMade.{AreDistinct};
+ghost use Rattle.lus_limits.specs.Calls.{call_view};
+ghost use Rattle.lus_order.specs.Declarations.{are_known, declared_view, is_next};
+ghost use Rattle.lus_order.specs.Learned.{IsAdded, IsConsistent, IsLearned, IsLibraryOf, flags_of, names_known};
+ghost use Rattle.lus_order.specs.Library.{known_view};
+ghost use Rattle.lus_order.specs.Owner.{owner_view};
+ghost use Rattle.lus_order.specs.Streams.{names_of};
+
+use crate::declarations::{Declaration, owners_of, with_calls};
+use crate::library::{Known, Library};
+use crate::own::own_of;
+use crate::owner::Owner;
+use crate::setting::Callees;
+use crate::summary::known_of;
+use lus_limits::Call;
+use lus_tree::Program;
+use name_table::NameTable;
+use std::alloc::{AllocError, Global};
+
+/// For each input whether some output reads it.
+fn flags_of(alloc: Global, known: &Known<'_>) -> Result<Vec<bool>, AllocError>
+    ensures { IfOk result (λ v. v.items ≡ flags_of (known_view known.now)) }
+{
+    let mut flags = Vec::new(alloc);
+    for input in &known.inputs {
+        flags.push(known.reads.has(*input))?;
+    }
+    Ok(flags)
+}
+
+impl<'a> Library<'a> {
+    /// Of no declaration.
+    fn new(alloc: Global) -> Self
+        ensures { (names_known result ≡ []) × IsConsistent result }
+    {
+        Library {
+            callees: Callees {
+                names: NameTable::new(alloc),
+                flags: Vec::new(alloc),
+            },
+            summaries: Vec::new(alloc),
+        }
+    }
+
+    /// Adds what is known of a declaration that is new.
+    fn add(&mut self, alloc: Global, name: &str, known: Known<'a>) -> Result<(), AllocError>
+        requires { named_in name.now (names_known self.old) ≡ false }
+        ensures { IfOk result (λ _. IsAdded self.old self.new name.now (known_view known.entry)) }
+    {
+        let flags = flags_of(alloc, &known)?;
+        self.callees.names.add(alloc, name)?;
+        self.callees.flags.push(flags)?;
+        self.summaries.push(known)?;
+        Ok(())
+    }
+}
+
+/// Whether all that these call is known.
+fn are_known(names: &NameTable, calls: &[Call<'_>]) -> bool
+    ensures { result ≡ are_known names.now (map call_view calls.now) }
+{
+    for call in calls {
+        if !names.has(&call.callee.text) {
+            return false;
+        }
+    }
+    true
+}
+
+/// Whether a declaration is not known, and all that it calls and imports is.
+fn is_next(names: &NameTable, declared: &Declaration<'_>) -> bool
+    ensures { result ≡ is_next names.now (declared_view declared.now) }
+{
+    !names.has(declared.owner.name()) && are_known(names, &declared.calls)
+}
+
+/// The first declaration that is not known, and of which all that it calls and imports is.
+fn next_of<'a>(names: &NameTable, all: &[Declaration<'a>]) -> Option<Owner<'a>>
+    ensures { option_map owner_view result ≡ option_map (λ d. d.0) (find (is_next names.now) (map declared_view all.now)) }
+{
+    for declared in all {
+        if is_next(names, declared) {
+            return Some(declared.owner);
+        }
+    }
+    None
+}
+
+/// Adds a declaration that is new, by what is known of those that it calls and imports.
+fn learn<'a>(alloc: Global, library: &mut Library<'a>, owner: Owner<'a>) -> Result<(), AllocError>
+    requires consistent { IsConsistent library.old }
+    requires distinct { AreDistinct (names_of (variables (owner_view owner))) }
+    requires new { named_in (owner_view owner).name.text (names_known library.old) ≡ false }
+    ensures { IfOk result (λ _. IsLearned (owner_view owner.entry) library.old library.new) }
+{
+    let mut own = own_of(alloc, library, owner)?;
+    let known = known_of(alloc, &mut own, owner)?;
+    library.add(alloc, owner.name(), known)?;
+    Ok(())
+}
+
+/// What is known of the declarations of a program, made callees first, so that nothing is missing.
+///
+/// # Errors
+///
+/// Want of memory.
+pub(crate) fn library_of(alloc: Global, program: &Program) -> Result<Library<'_>, AllocError>
+    requires grammatical { IsGrammatical (program_view program.now) }
+    requires typed { IsTyped (program_view program.now) }
+    ensures { IfOk result (λ l. IsLibraryOf (program_view program.now) l) }
+{
+    let owners = owners_of(alloc, program)?;
+    let all = with_calls(alloc, &owners)?;
+    let mut library = Library::new(alloc);
+    while let Some(owner) = next_of(&library.callees.names, &all) {
+        learn(alloc, &mut library, owner)?;
+    }
+    Ok(library)
+}
