@@ -5,7 +5,7 @@ ghost use Rattle.board_core.specs.Plans.{IsPlan, IsWithin};
 use crate::sleeper::Sleeper;
 use anyhow::Result;
 use board_core::{Book, Cause, Plan, Statement, Verdict, play};
-use kind_engine::{BoundedEngine, has_flags_alone};
+use kind_engine::{BoundedEngine, StepEngine, has_flags_alone};
 use proof_steps::Budgets;
 use smt_solver::is_boolean_system;
 use std::alloc::Global;
@@ -27,16 +27,24 @@ fn plan(depth: u32) -> Plan
     }
 }
 
-/// Why bounded search leaves the first property undecided.
-fn cause_text(alloc: Global, book: &Book) -> Result<String> {
-    Ok(match book.spent(0, 0) {
-        Some(Cause::Depth(depth)) => format!(in alloc;
-            "unknown, bounded search went to depth {depth}"
-        )?,
-        Some(Cause::Stop(_)) => format!(in alloc; "unknown, a query of bounded search stopped")?,
-        Some(_) => format!(in alloc; "unknown, ANOTHER CAUSE")?,
-        None => format!(in alloc; "unknown, NO CAUSE")?,
+/// Why the engine leaves the first property undecided; nothing where it doesn't.
+fn cause_text(alloc: Global, book: &Book, engine: u32, name: &str) -> Result<String> {
+    Ok(match book.spent(engine, 0) {
+        Some(Cause::Depth(depth)) => format!(in alloc; ", {name} went to depth {depth}")?,
+        Some(Cause::Stop(_)) => format!(in alloc; ", a query of {name} stopped")?,
+        Some(_) => format!(in alloc; ", {name}: ANOTHER CAUSE")?,
+        None => String::new(alloc),
     })
+}
+
+/// By how many states the first step goes.
+fn step_text(alloc: Global, book: &Book) -> Result<String> {
+    for news in &book.after(alloc, 0)? {
+        if let Statement::Step { k, .. } = &news.statement {
+            return Ok(format!(in alloc; "valid, k = {k}")?);
+        }
+    }
+    Ok(format!(in alloc; "NO STEP")?)
 }
 
 /// How many states the path of the entry at this place has.
@@ -53,14 +61,41 @@ fn path_text(alloc: Global, book: &Book, place: u64) -> Result<String> {
 /// What the book says of the first property.
 fn verdict_text(alloc: Global, book: &Book) -> Result<String> {
     match book.verdict(0) {
-        Verdict::Valid(_) => Ok(format!(in alloc; "valid")?),
+        Verdict::Valid(_) => step_text(alloc, book),
         Verdict::Falsifiable(place) => path_text(alloc, book, place),
-        Verdict::Unknown => cause_text(alloc, book),
+        Verdict::Unknown => {
+            let bounded = cause_text(alloc, book, 0, "bounded search")?;
+            let step = cause_text(alloc, book, 1, "induction")?;
+            Ok(format!(in alloc; "unknown{bounded}{step}")?)
+        }
     }
 }
 
-/// Bounded search plays beside an engine that does nothing.
-pub fn line(alloc: Global, name: &str, system: System, depth: u32) -> Result<String>
+/// Who plays, one beside an engine that does nothing.
+#[derive(Clone, Copy, Debug)]
+pub enum Cast {
+    Bounded,
+    Step,
+    Both,
+}
+
+fn cast_text(alloc: Global, cast: Cast) -> Result<String> {
+    Ok(match cast {
+        Cast::Bounded => format!(in alloc; "bounded search")?,
+        Cast::Step => format!(in alloc; "induction")?,
+        Cast::Both => format!(in alloc; "both")?,
+    })
+}
+
+/// The play of these engines on the system. The order is that of the first turns.
+pub fn line(
+    alloc: Global,
+    cast: Cast,
+    order: &[u32],
+    name: &str,
+    system: System,
+    depth: u32,
+) -> Result<String>
     requires { IsWithin 1 1000 depth }
 {
     if !(system.is_mild()
@@ -72,8 +107,14 @@ pub fn line(alloc: Global, name: &str, system: System, depth: u32) -> Result<Str
     }
     let plan = plan(depth);
     let mut bounded = BoundedEngine::new(alloc, system.copied(alloc)?, plan)?;
+    let mut step = StepEngine::new(alloc, system.copied(alloc)?, plan)?;
     let mut idle = Sleeper {};
-    let book = play(alloc, system, plan, &mut bounded, &mut idle, &[0, 0])?;
+    let book = match cast {
+        Cast::Bounded => play(alloc, system, plan, &mut bounded, &mut idle, order)?,
+        Cast::Step => play(alloc, system, plan, &mut idle, &mut step, order)?,
+        Cast::Both => play(alloc, system, plan, &mut bounded, &mut step, order)?,
+    };
     let (count, verdict) = (book.count(), verdict_text(alloc, &book)?);
-    Ok(format!(in alloc; "{name} to depth {depth}: {verdict}; entries: {count}")?)
+    let cast = cast_text(alloc, cast)?;
+    Ok(format!(in alloc; "{cast}, {name} to depth {depth}: {verdict}; entries: {count}")?)
 }
