@@ -21,3 +21,8 @@ pub mod SplittingOff
 pub mod Crossed
 pub mod Ending
 pub mod Looking
+pub mod Variables
+pub mod Forms
+pub mod Kept
+pub mod Ends
+pub mod Answering

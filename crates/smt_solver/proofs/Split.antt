@@ -2,33 +2,34 @@
 use Rattle.std.specs.Prelude.{ℕ, zero, suc, ◌≡◌, ◌+◌, ◌*◌, ◌-◌, ◌<◌, ◌≤◌, List, [], ◌∷◌, ◌++◌, length, take, drop, get_or}
 use Rattle.std.proofs.Common.{sym, ◌∙◌, ap, subst, arith}
 use Rattle.std.proofs.lemmas.List.{append_assoc}
+use lib.IntN.{ℤ}
 use Rattle.kind_num.specs.declared.Shape.{Shape}
 use Rattle.sys_terms.specs.declared.term.Entry.{Entry}
 use Rattle.sys_terms.specs.Answers.{states_in}
 use Rattle.sat_core.specs.declared.assigned.Assigned.{Assigned}
-use Rattle.smt_solver.specs.States.{entry_of, entries_from}
+use Rattle.smt_solver.specs.NumberStates.{number_entry, number_entries}
 
-entries-next : (trail : List Assigned) (n i : ℕ) (shapes : List Shape) (d : Shape) → i < length shapes
-    → entries_from trail n (take (suc i) shapes)
-    ≡ entries_from trail n (take i shapes) ++ entry_of trail (n + i) (get_or shapes i d) ∷ []
-entries-next trail n i [] d h = absurd (omega arith)
-entries-next trail n zero (s ∷ shapes) d h = ap (λ m. entry_of trail m s ∷ []) (same n) where
+entries-next : (trail : List Assigned) (values : List (ℤ × ℤ)) (n i : ℕ) (shapes : List Shape) (d : Shape) → i < length shapes
+    → number_entries trail values n (take (suc i) shapes)
+    ≡ number_entries trail values n (take i shapes) ++ number_entry trail values (n + i) (get_or shapes i d) ∷ []
+entries-next trail values n i [] d h = absurd (omega arith)
+entries-next trail values n zero (s ∷ shapes) d h = ap (λ m. number_entry trail values m s ∷ []) (same n) where
   same : (n : ℕ) → n ≡ n + 0
   same n = omega arith
-entries-next trail n (suc i) (s ∷ shapes) d h =
-    ap (λ es. entry_of trail n s ∷ es)
-    (entries-next trail (suc n) i shapes d (omega arith)
-    ∙ ap (λ m. entries_from trail (suc n) (take i shapes) ++ entry_of trail m (get_or shapes i d) ∷ []) (next n i)) where
+entries-next trail values n (suc i) (s ∷ shapes) d h =
+    ap (λ es. number_entry trail values n s ∷ es)
+    (entries-next trail values (suc n) i shapes d (omega arith)
+    ∙ ap (λ m. number_entries trail values (suc n) (take i shapes) ++ number_entry trail values m (get_or shapes i d) ∷ []) (next n i)) where
       next : (n i : ℕ) → suc n + i ≡ n + suc i
       next n i = omega arith
 
 -- one more entry
-pub entries-more : (trail : List Assigned) (i : ℕ) (shapes : List Shape) (d : Shape) → i < length shapes
-    → entries_from trail 0 (take (i + 1) shapes)
-    ≡ entries_from trail 0 (take i shapes) ++ entry_of trail i (get_or shapes i d) ∷ []
-entries-more trail i shapes d h =
-    ap (λ k. entries_from trail 0 (take k shapes)) (up i) ∙ entries-next trail 0 i shapes d h
-    ∙ ap (λ m. entries_from trail 0 (take i shapes) ++ entry_of trail m (get_or shapes i d) ∷ []) (same i) where
+pub entries-more : (trail : List Assigned) (values : List (ℤ × ℤ)) (i : ℕ) (shapes : List Shape) (d : Shape) → i < length shapes
+    → number_entries trail values 0 (take (i + 1) shapes)
+    ≡ number_entries trail values 0 (take i shapes) ++ number_entry trail values i (get_or shapes i d) ∷ []
+entries-more trail values i shapes d h =
+    ap (λ k. number_entries trail values 0 (take k shapes)) (up i) ∙ entries-next trail values 0 i shapes d h
+    ∙ ap (λ m. number_entries trail values 0 (take i shapes) ++ number_entry trail values m (get_or shapes i d) ∷ []) (same i) where
       up : (i : ℕ) → i + 1 ≡ suc i
       up i = omega arith
 

@@ -29,7 +29,7 @@ last-bound : (m : ℕ) (atoms : List Inequality) (x : ℕ) (c : ℤ)
 last-bound m [] x c = refl
 last-bound m (i ∷ atoms) x c = last-bound (cond (is_long i.terms) (m + 1) m) atoms x c
 
-split-plain : (shapes : List Shape) (x : ℕ) (c : ℤ) → slice_get shapes x ≡ Some Number → IsPlainAtom shapes (split_atom (x, c))
+pub split-plain : (shapes : List Shape) (x : ℕ) (c : ℤ) → slice_get shapes x ≡ Some Number → IsPlainAtom shapes (split_atom (x, c))
 split-plain shapes x c h = record {
   terms = All-from_recursion (IsTermOf shapes) ((x, pos 1) ∷ [])
       (record { number = h; not_zero = λ e. absurd (omega (arith, ints)) }, tt);

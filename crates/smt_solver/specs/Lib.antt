@@ -5,6 +5,7 @@ pub mod Boolean
 pub mod Conflicting
 pub mod Ending
 pub mod Growing
+pub mod Kept
 pub mod Looking
 pub mod Near
 pub mod NeedRoom

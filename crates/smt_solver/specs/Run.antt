@@ -1,11 +1,11 @@
 -- A solver at work on a form, and what a turn of it changes.
-use Rattle.std.specs.Prelude.{ℕ, suc, ◌≡◌, ◌≤◌, false, true, List, [], ◌++◌, length, map, All, Contains, Option, Some, None, Ok}
+use Rattle.std.specs.Prelude.{◌≡◌, false, true, List, [], ◌++◌, length, map, All, Contains, Ok}
 use Rattle.proof_steps.specs.declared.Literal.{Literal}
 use Rattle.proof_steps.specs.View.{Move, added, clause_view, step_view}
 use Rattle.proof_steps.specs.Meaning.{Values, Solves}
 use Rattle.proof_steps.specs.Rows.{Form}
 use Rattle.proof_steps.specs.Stopped.{AreLearnt}
-use Rattle.proof_checker.specs.Check.{literals_fit, concludes, verdict, refuted}
+use Rattle.proof_checker.specs.Check.{literals_fit, concludes}
 use Rattle.proof_checker.specs.Rules.{IsRight}
 use Rattle.sys_terms.specs.View.{Question}
 use Rattle.sys_terms.specs.Fits.{all_fit_one}
@@ -15,8 +15,6 @@ use Rattle.sat_core.specs.declared.assigned.Assigned.{Assigned}
 use Rattle.sat_core.specs.Trail.{trues, IsApart}
 use Rattle.sat_core.specs.Shown.{Shown}
 use Rattle.smt_solver.specs.declared.work.Work.{Work}
-use Rattle.smt_solver.specs.declared.run.End.{End}
-use Rattle.smt_solver.specs.declared.run.End.TheVariants.{Full, Empty, Budget}
 
 -- the form, the search over it, the steps of the proof so far, and the clauses that count as conflicts
 pub record Standing : Type 0 where
@@ -56,19 +54,3 @@ pub record IsRun (s : Standing) : Type 0 where
 pub record IsFull (f : Form) (trail : List Assigned) : Type 0 where
   pub apart : IsApart trail
   pub satisfied : All (λ c. (l : Literal) × Contains c l × Contains (trues trail) l) f.clauses
-
--- how a run ends: each clause is satisfied, the steps refute the clauses, or the budget is used up
-abbrev pub IsEnd : ℕ → Standing → End → Type 0
-IsEnd budget s Full = IsFull s.form s.search.trail
-IsEnd budget s Empty = verdict s.form.shapes s.form.atoms s.form.clauses [] s.moves ≡ refuted
-IsEnd budget s Budget = AreLearnt s.form [] s.form.clauses s.listed × (length s.listed ≡ budget)
-
--- one more clause was learnt and listed
-pub record IsMore (budget : ℕ) (old new : Standing) : Type 0 where
-  pub run : IsRun new
-  pub more : length new.listed ≡ suc (length old.listed)
-  pub within : length new.listed ≤ budget
-
-abbrev pub Turns : ℕ → Standing → Standing → Option End → Type 0
-Turns budget old new None = (new.form ≡ old.form) × IsMore budget old new
-Turns budget old new (Some end) = (new.form ≡ old.form) × IsEnd budget new end

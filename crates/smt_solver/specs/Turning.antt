@@ -50,6 +50,10 @@ TurnsRefutation old new ms first parts (Some step) =
     (f : Form) (pairs : List (ℕ × ℤ)) (t : State) → IsRefutedFor f pairs old ms t parts → slice_get t.given 0 ≡ Some first
     → IsPastStep (rows_of f) (columns_of f) (IsNumberOf f pairs) (past_view step)
 
+-- `x <= c`
+abbrev pub meaning_of_split : ℕ → ℤ → Meaning
+meaning_of_split x c = record { column = x; upper = true; limit = c; divisor = pos 1 }
+
 -- the atom `x <= c` stands behind the others with what it means, and the clause that it or its opposite is
 -- true is added and not listed
 pub record IsSplitOff (x : ℕ) (c : ℤ) (old new : Standing) (ms : List Meaning) : Type 0 where

@@ -11,6 +11,7 @@ mod fault;
 pub mod laws;
 mod numbers;
 mod run;
+mod solver;
 mod solving;
 mod states;
 mod work;

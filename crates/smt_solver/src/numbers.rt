@@ -1,10 +1,9 @@
-//! The parts of a solver for queries that compare numbers. Nothing calls them yet.
+//! The parts of a solver for queries that compare numbers.
 
 pub mod asserting;
 pub mod looking;
 pub mod meanings;
 pub mod rows;
-pub mod states;
 pub mod steps;
 pub mod sums;
 pub mod turns;

@@ -1,23 +1,31 @@
 //! Answers to obligations.
 
-ghost use Rattle.std.specs.Prelude.{◌≡◌, ◌≢◌, ◌<◌, ◌≤◌, ◌*◌, ◌^◌, Ok, Err, [], suc, true, length, IfOk};
+ghost use Rattle.std.specs.Prelude.{◌≡◌, ◌≢◌, ◌<◌, ◌≤◌, ◌*◌, ◌^◌, Ok, Err, suc, true, map, length, IfOk};
 ghost use Rattle.kind_num.specs.declared.Past.{Past as Operands};
+ghost use Rattle.proof_steps.specs.Bounds.{split_atom as atom_of_split};
+ghost use Rattle.proof_steps.specs.View.{atom_view};
 ghost use Rattle.sys_terms.specs.View.{terms_view, system_view, obligation_view, query_view};
 ghost use Rattle.sys_terms.specs.Fits.{IsMild, is_asked, is_light_task, has_states, all_fit_one, all_light};
 ghost use Rattle.sys_terms.specs.Queries.{query_of, last_of};
 ghost use Rattle.cnf_maker.specs.ClauseForm.{clause_form};
+ghost use Rattle.cnf_maker.specs.Plain.{IsMadeSmall};
 ghost use Rattle.cnf_maker.specs.View.{AreFew, form_view};
 ghost use Rattle.smt_solver.specs.View.{answer_view};
 ghost use Rattle.smt_solver.specs.Answered.{IsAnswered, IsTrueOver, HasNoAtoms, StopsByConflicts};
+ghost use Rattle.smt_solver.specs.Kept.{HasEnded, solver_view};
 
 use crate::answer::Answer;
 use crate::fault::SolveFault;
+use crate::laws::{clauses_fit_their_form, stops_need_atoms, whole_values_meet};
+use crate::numbers::turns::split_atom;
 use crate::run::{End, run};
+use crate::solver::{Solver, prepared};
 use crate::states::{entries, states};
-use crate::work::begun;
+use crate::work::Work;
+use cnf_maker::laws::mild_queries_have_small_forms;
 use cnf_maker::{Cnf, CnfFault, clauses};
-use proof_steps::{Budgets, Proof, Stop};
-use std::alloc::Global;
+use proof_steps::{Atom, Budgets, Proof, Stop};
+use std::alloc::{AllocError, Global};
 use sys_terms::{Obligation, Query, System, Term, obligation};
 
 /// How many states the obligation speaks of.
@@ -47,7 +55,65 @@ fn made(alloc: Global, query: &Query) -> Result<Cnf, SolveFault>
     }
 }
 
-/// Answers a query without atoms, over `count` states of `size` variables each.
+// The atoms `x <= c` of the splits.
+fn split_atoms(alloc: Global, pairs: &[(u32, i128)]) -> Result<Vec<Atom>, AllocError>
+    ensures { IfOk result (λ v. map atom_view v.items ≡ map atom_of_split pairs.now) }
+{
+    let mut atoms = Vec::new(alloc);
+    for pair in pairs {
+        atoms.push(split_atom(alloc, pair.0, pair.1)?)?;
+    }
+    Ok(atoms)
+}
+
+// The answer that the end of a run gives.
+fn ended(
+    alloc: Global,
+    query: &Query,
+    size: usize,
+    count: u64,
+    budgets: Budgets,
+    solver: Solver,
+    end: End,
+) -> Result<Answer, SolveFault>
+    requires few { length (query_view query.now).shapes < 2 ^ 32 }
+    requires room { count * size ≤ length (query_view query.now).shapes }
+    requires fit { all_fit_one (query_view query.now).shapes (query_view query.now).conditions ≡ true }
+    requires ended { HasEnded (query_view query.now) budgets (solver_view solver) end }
+    ensures answer { IfOk result (λ a. IsTrueOver (query_view query.now) size count budgets (answer_view a)) }
+    ensures stops { IfOk result (λ a. HasNoAtoms (query_view query.now) → StopsByConflicts (answer_view a)) }
+{
+    whole_values_meet();
+    stops_need_atoms();
+    let Solver {
+        work,
+        tableau,
+        meanings: _meanings,
+        pairs,
+    } = solver;
+    let Work {
+        cnf: _cnf,
+        search,
+        steps,
+        listed,
+    } = work;
+    match end {
+        End::Full => {
+            let values = entries(alloc, &search, &tableau, &query.shapes)?;
+            Ok(Answer::Sat(states(alloc, &values, size, count)?))
+        }
+        End::Empty => {
+            let atoms = split_atoms(alloc, &pairs)?;
+            Ok(Answer::Unsat(Proof { atoms, steps }))
+        }
+        End::Conflicts => Ok(Answer::Stop(Stop::Conflicts(listed, pairs))),
+        End::Splits => Ok(Answer::Stop(Stop::Splits(pairs))),
+        End::Pivots(start) => Ok(Answer::Stop(Stop::Pivots(start, pairs))),
+        End::Past(step) => Ok(Answer::Stop(Stop::Past(step, pairs))),
+    }
+}
+
+/// Answers a query over `count` states of `size` variables each.
 fn answered(
     alloc: Global,
     query: &Query,
@@ -58,36 +124,28 @@ fn answered(
     requires few { length (query_view query.now).shapes < 2 ^ 32 }
     requires room { count * size ≤ length (query_view query.now).shapes }
     requires fit { all_fit_one (query_view query.now).shapes (query_view query.now).conditions ≡ true }
-    requires within { (past : Operands) → clause_form (query_view query.now) ≢ Err past }
-    requires without_atoms { HasNoAtoms (query_view query.now) }
+    requires small { IsMadeSmall (query_view query.now) }
     ensures answer { IfOk result (λ a. IsTrueOver (query_view query.now) size count budgets (answer_view a)) }
-    ensures stops { IfOk result (λ a. StopsByConflicts (answer_view a)) }
+    ensures stops { IfOk result (λ a. HasNoAtoms (query_view query.now) → StopsByConflicts (answer_view a)) }
 {
+    clauses_fit_their_form();
     let cnf = made(alloc, query)?;
-    let mut work = begun(alloc, cnf)?;
-    match run(alloc, &mut work, budgets.conflicts)? {
-        End::Full => {
-            let values = entries(alloc, &work.search, &query.shapes)?;
-            Ok(Answer::Sat(states(alloc, &values, size, count)?))
-        }
-        End::Empty => Ok(Answer::Unsat(Proof {
-            atoms: Vec::new(alloc),
-            steps: work.steps,
-        })),
-        End::Budget => Ok(Answer::Stop(Stop::Conflicts(work.listed, Vec::new(alloc)))),
-    }
+    let mut solver = prepared(alloc, cnf)?;
+    let end = run(alloc, &mut solver, budgets)?;
+    ended(alloc, query, size, count, budgets, solver, end)
 }
 
 /// Answers the obligation with the cited lemmas.
 ///
 /// `Unsat` has a proof that the checker accepts for the clause form of exactly this query; `Sat` has
 /// states that answer the obligation with no, each of which meets the cited lemmas; `Stop` is true of
-/// the query with these budgets. Where no number is compared it is `Stop::Conflicts`, with as many
-/// learnt clauses as the budget says. The answer is a fault where memory runs out, or where
-/// variables, conditions or clauses can't be numbered by 32 bits.
+/// the query with these budgets. Where the query has no atom it is `Stop::Conflicts`, with as many
+/// learnt clauses as the budget says: `laws::boolean_queries_have_no_atoms` says where. The answer is a
+/// fault where memory runs out, or where variables, atoms, conditions or clauses can't be numbered by
+/// 32 bits.
 ///
-/// The system is mild, the terms of the obligation and of the lemmas fit it and have no weight above
-/// 2^63, and the query has no atom: `laws::boolean_queries_have_no_atoms` says where.
+/// The system is mild, and the terms of the obligation and of the lemmas fit it and have no weight
+/// above 2^63.
 pub fn solve(
     alloc: Global,
     system: &System,
@@ -101,12 +159,13 @@ pub fn solve(
     requires cited { all_fit_one (system_view system.now).shapes (terms_view cites.now) ≡ true }
     requires light_task { is_light_task (obligation_view what.now) ≡ true }
     requires light_cites { all_light (terms_view cites.now) ≡ true }
-    requires without_atoms { HasNoAtoms
-        (query_of (system_view system.now) (obligation_view what.now) (terms_view cites.now)) }
     ensures answer { IfOk result (λ a. IsAnswered (system_view system.now) (obligation_view what.now)
         (terms_view cites.now) budgets (answer_view a)) }
-    ensures stops { IfOk result (λ a. StopsByConflicts (answer_view a)) }
+    ensures stops { IfOk result (λ a.
+        HasNoAtoms (query_of (system_view system.now) (obligation_view what.now) (terms_view cites.now))
+        → StopsByConflicts (answer_view a)) }
 {
+    mild_queries_have_small_forms();
     let query = obligation(alloc, system, what, cites)?;
     answered(
         alloc,

@@ -1,6 +1,6 @@
 //! The turns of a run that numbers make.
 
-ghost use Rattle.std.specs.Prelude.{◌≡◌, ◌<◌, ◌^◌, ℕ, Some, All, length, slice_get, OnOk, IfOk};
+ghost use Rattle.std.specs.Prelude.{◌≡◌, ◌<◌, ◌^◌, ◌++◌, ◌∷◌, [], ℕ, Some, All, length, slice_get, OnOk, IfOk};
 ghost use lib.IntN.{ℤ, pos, neg_ℤ};
 ghost use lib.Signed.{◌≤ℤ◌, ◌<ℤ◌};
 ghost use Rattle.kind_num.specs.declared.Shape.TheVariants.{Number};
@@ -12,7 +12,7 @@ ghost use Rattle.smt_solver.specs.Conflicting.{AreMeaningsOf, AreRefuted};
 ghost use Rattle.smt_solver.specs.Growing.{split_move};
 ghost use Rattle.smt_solver.specs.Near.{IsNear};
 ghost use Rattle.smt_solver.specs.Run.{IsRun, work_view};
-ghost use Rattle.smt_solver.specs.Turning.{HasMeanings, IsCounted, IsSplitOff, TurnsRefutation};
+ghost use Rattle.smt_solver.specs.Turning.{HasMeanings, IsCounted, IsSplitOff, TurnsRefutation, meaning_of_split};
 
 use crate::fault::SolveFault;
 use crate::laws::{refuted_bounds_conflict, runs_grow, splits_are_taken};
@@ -109,8 +109,8 @@ fn split_step(alloc: Global, number: u32) -> Result<Step, AllocError>
     conflict_step(alloc, &used)
 }
 
-// `x <= c`
-fn split_atom(alloc: Global, x: u32, c: i128) -> Result<Atom, AllocError>
+/// `x <= c`
+pub fn split_atom(alloc: Global, x: u32, c: i128) -> Result<Atom, AllocError>
     ensures { IfOk result (λ a. atom_view a ≡ atom_of_split (x, c)) }
 {
     let mut terms = SmallVec::new(alloc);
@@ -135,8 +135,9 @@ pub fn split(
     requires low { neg_ℤ (pos (2 ^ 126)) ≤ℤ c }
     requires high { c <ℤ pos (2 ^ 126) }
     requires meanings { AreMeaningsOf (work_view work.old).form meanings.old.items }
-    ensures { OnOk result
+    ensures split { OnOk result
         (IsSplitOff x c (work_view work.old) (work_view work.new) meanings.new.items) }
+    ensures meaning { OnOk result (meanings.new.items ≡ meanings.old.items ++ meaning_of_split x c ∷ []) }
 {
     splits_are_taken();
     runs_grow();

@@ -1,11 +1,8 @@
-use Rattle.std.specs.Prelude.{◌≡◌, ◌≤◌, ◌-◌, length}
-use Rattle.smt_solver.specs.Run.{IsRun, work_view}
+use Rattle.smt_solver.specs.Kept.{IsKept, IsWithin, left, own_form, solver_view}
 use Rattle.smt_solver.proofs.run.run.Given as goal
 
 abbrev pub invariant-loop-end : goal.invariant-loop-end
-invariant-loop-end l =
-    IsRun (work_view l.work) × (length (work_view l.work).listed ≤ l.budget)
-    × ((work_view l.work).form ≡ (work_view l.fn.work).form)
+invariant-loop-end l = IsKept (own_form (solver_view l.fn.solver)) (solver_view l.solver) × IsWithin l.budgets (solver_view l.solver)
 
 abbrev pub decreases-loop-end : goal.decreases-loop-end
-decreases-loop-end l = l.budget - length (work_view l.work).listed
+decreases-loop-end l = left l.budgets (solver_view l.solver)

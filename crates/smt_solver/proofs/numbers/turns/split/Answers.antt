@@ -59,8 +59,8 @@ take_step-requires-clause-taken c =
     (c.splits_are_taken.ensures s c.args.x c.args.c c.requires.plain c.requires.number
     (near-within c.args.c c.requires.low c.requires.high) (near-opposite c.args.c c.requires.low c.requires.high)))
 
-pub returns : goal.returns
-returns c =
+pub returns-clause-split : goal.returns-clause-split
+returns-clause-split c =
     let w : SFits w128 c.args.c = search rules in
     let s = work_view c.args.work.now in
     let t = work_view c.take_step.new.work in
