@@ -50,13 +50,3 @@ pub(crate) fn parts_of(alloc: Global, program: &Program) -> Result<Vec<Owner<'_>
     }
     Ok(parts)
 }
-
-/// The name of a declaration.
-pub(crate) fn name_of(part: Owner<'_>) -> &str
-    ensures { result.now ≡ (owner_view part.entry).name.text }
-{
-    match part {
-        Owner::Node(node) => &node.name.text,
-        Owner::Contract(contract) => &contract.name.text,
-    }
-}

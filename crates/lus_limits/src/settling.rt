@@ -8,7 +8,7 @@ ghost use Rattle.lus_limits.specs.Tables.{IsTableOf};
 ghost use Rattle.lus_streams.specs.Owner.{owner_view};
 
 use crate::needs::{Needs, try_one};
-use crate::part::{name_of, parts_of};
+use crate::part::parts_of;
 use lus_streams::owner::Owner;
 use lus_tree::Program;
 use name_table::NameTable;
@@ -54,7 +54,7 @@ fn words<'a>(alloc: Global, parts: &[Owner<'a>]) -> Result<Vec<&'a str>, AllocEr
 {
     let mut words = Vec::new(alloc);
     for part in parts {
-        words.push(name_of(*part))?;
+        words.push(part.name())?;
     }
     Ok(words)
 }

@@ -14,10 +14,10 @@ use Rattle.lus_meaning.specs.WellMade.{AreDistinct}
 use Rattle.lus_meaning.proofs.NamesOnce.{instance_named}
 use Rattle.lus_order.specs.declared.declarations.Declaration.{Declaration}
 use Rattle.lus_order.specs.declared.library.Library.{Library}
-use Rattle.lus_order.specs.declared.owner.Owner.{Owner}
+use Rattle.lus_streams.specs.declared.owner.Owner.{Owner}
 use Rattle.lus_order.specs.Declarations.{declared_view, with_calls, is_next}
 use Rattle.lus_order.specs.Learned.{names_known, IsConsistent, IsLearned, IsLibraryOf}
-use Rattle.lus_order.specs.Owner.{owner_view}
+use Rattle.lus_streams.specs.Owner.{owner_view}
 use Rattle.lus_order.specs.Streams.{names_of}
 use Rattle.lus_order.proofs.CalleesFirst.{Entry, mapped_from, found_stands, next_is, all_named, left, fewer}
 use Rattle.lus_order.proofs.Settled.{AreSettled, consistent_flags}

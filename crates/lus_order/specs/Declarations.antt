@@ -6,7 +6,7 @@ use Rattle.lus_meaning.specs.Depends.{named_in}
 use Rattle.lus_meaning.specs.Program.{all_sites}
 use Rattle.lus_limits.specs.Calls.{Called, call_view, called_of}
 use Rattle.lus_order.specs.declared.declarations.Declaration.{Declaration}
-use Rattle.lus_order.specs.Owner.{owner_view}
+use Rattle.lus_streams.specs.Owner.{owner_view}
 
 abbrev pub with_calls : Component → Component × List Called
 with_calls n = (n, map called_of (all_sites n))

@@ -5,7 +5,6 @@ pub mod Graphs
 pub mod Visits
 pub mod Rounds
 pub mod Reads
-pub mod Owner
 pub mod Streams
 pub mod Library
 pub mod Sides

@@ -3,12 +3,11 @@
 ghost use Rattle.std.specs.Prelude.{◌≡◌, ◌++◌, ◌∷◌, [], IfOk, map};
 ghost use Rattle.lus_tree.specs.View.{decl_view, program_view};
 ghost use Rattle.lus_meaning.specs.ClockFaults.{components};
-ghost use Rattle.lus_limits.specs.Parts.{part_view};
 ghost use Rattle.lus_order.specs.Declarations.{declared_view, with_calls};
-ghost use Rattle.lus_order.specs.Owner.{owner_view};
+ghost use Rattle.lus_streams.specs.Owner.{owner_view};
 
-use crate::owner::Owner;
-use lus_limits::{Call, Part, calls_of};
+use lus_streams::owner::Owner;
+use lus_limits::{Call, calls_of};
 use lus_tree::{Decl, Program};
 use std::alloc::{AllocError, Global};
 
@@ -17,16 +16,6 @@ use std::alloc::{AllocError, Global};
 pub(crate) struct Declaration<'a> {
     pub(crate) owner: Owner<'a>,
     pub(crate) calls: Vec<Call<'a>>,
-}
-
-/// The declaration as the limits see it.
-fn part_of(owner: Owner<'_>) -> Part<'_>
-    ensures { part_view result ≡ owner_view owner.entry }
-{
-    match owner {
-        Owner::Node(node) => Part::Node(node),
-        Owner::Contract(contract) => Part::Contract(contract),
-    }
 }
 
 /// The declarations, and behind them one with streams.
@@ -65,7 +54,7 @@ pub(crate) fn owners_of(alloc: Global, program: &Program) -> Result<Vec<Owner<'_
 fn declaration_of(alloc: Global, owner: Owner<'_>) -> Result<Declaration<'_>, AllocError>
     ensures { IfOk result (λ d. declared_view d ≡ with_calls (owner_view owner.entry)) }
 {
-    let calls = calls_of(alloc, part_of(owner))?;
+    let calls = calls_of(alloc, owner)?;
     Ok(Declaration { owner, calls })
 }
 

@@ -12,13 +12,13 @@ ghost use Rattle.lus_limits.specs.Calls.{call_view};
 ghost use Rattle.lus_order.specs.Declarations.{are_known, declared_view, is_next};
 ghost use Rattle.lus_order.specs.Learned.{IsAdded, IsConsistent, IsLearned, IsLibraryOf, flags_of, names_known};
 ghost use Rattle.lus_order.specs.Library.{known_view};
-ghost use Rattle.lus_order.specs.Owner.{owner_view};
+ghost use Rattle.lus_streams.specs.Owner.{owner_view};
 ghost use Rattle.lus_order.specs.Streams.{names_of};
 
 use crate::declarations::{Declaration, owners_of, with_calls};
 use crate::library::{Known, Library};
 use crate::own::own_of;
-use crate::owner::Owner;
+use lus_streams::owner::Owner;
 use crate::setting::Callees;
 use crate::summary::known_of;
 use lus_limits::Call;

@@ -18,7 +18,6 @@ mod order_from;
 mod ordered;
 mod own;
 mod own_rows;
-mod owner;
 mod reach;
 mod reads;
 mod repeated;

@@ -8,7 +8,7 @@ ghost use Rattle.lus_order.specs.Backs.{IsClosed};
 ghost use Rattle.lus_order.specs.Graphs.{graph_view};
 ghost use Rattle.lus_order.specs.Library.{library_view};
 ghost use Rattle.lus_order.specs.Ordered.{IsOrdered, NotesCircles, NotesOwn};
-ghost use Rattle.lus_order.specs.Owner.{owner_view};
+ghost use Rattle.lus_streams.specs.Owner.{owner_view};
 ghost use Rattle.lus_order.specs.OwnReads.{AreFlagsOf};
 ghost use Rattle.lus_order.specs.Reads.{callees_view};
 ghost use Rattle.lus_order.specs.Streams.{names_of};
@@ -17,7 +17,7 @@ use crate::circle_faults::{flags_of, note_flagged};
 use crate::clock_circles::{clock_marks, note_marked};
 use crate::library::Library;
 use crate::own::{Own, own_of};
-use crate::owner::Owner;
+use lus_streams::owner::Owner;
 use lus_scopes::least::Least;
 use std::alloc::{AllocError, Global};
 

@@ -7,7 +7,7 @@ ghost use Rattle.lus_meaning.specs.WellMade.{AreDistinct};
 ghost use Rattle.lus_order.specs.Graphs.{HasCircle, graph_view};
 ghost use Rattle.lus_order.specs.Own.{IsOwn};
 ghost use Rattle.lus_order.specs.OwnOrders.{IsOrderOf};
-ghost use Rattle.lus_order.specs.Owner.{owner_view};
+ghost use Rattle.lus_streams.specs.Owner.{owner_view};
 ghost use Rattle.lus_order.specs.Streams.{names_of};
 
 use crate::graph::Graph;
@@ -15,7 +15,7 @@ use crate::library::Library;
 use crate::modes::modes_of;
 use crate::order_from::order_from;
 use crate::own_rows::own_rows;
-use crate::owner::Owner;
+use lus_streams::owner::Owner;
 use crate::rows::Mode;
 use crate::setting::Clocks;
 use crate::sides::{Side, sides_of};

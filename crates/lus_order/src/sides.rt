@@ -4,10 +4,10 @@ ghost use Rattle.std.specs.Prelude.{◌≡◌, ◌∷◌, ◌++◌, [], IfOk, ma
 ghost use Rattle.lus_tree.specs.View.{contract_item_view, item_view, param_view};
 ghost use Rattle.lus_meaning.specs.EquationFaults.{body_sides, ghost_sides, sides};
 ghost use Rattle.lus_meaning.specs.Run.{body_equations, equations, ghost_equations};
-ghost use Rattle.lus_order.specs.Owner.{owner_view};
+ghost use Rattle.lus_streams.specs.Owner.{owner_view};
 ghost use Rattle.lus_order.specs.Sides.{equations_view, words_of};
 
-use crate::owner::Owner;
+use lus_streams::owner::Owner;
 use crate::words::push_words;
 use lus_tree::{ContractItem, Expr, Item, PlacedName};
 use std::alloc::{AllocError, Global};

@@ -8,13 +8,13 @@ ghost use Rattle.lus_meaning.specs.Order.{left_at};
 ghost use Rattle.name_table.specs.Names.{add};
 ghost use Rattle.lus_meaning.specs.Scene.{ghosts, variables};
 ghost use Rattle.lus_meaning.specs.WellMade.{AreDistinct};
-ghost use Rattle.lus_order.specs.Owner.{owner_view};
+ghost use Rattle.lus_streams.specs.Owner.{owner_view};
 ghost use Rattle.lus_order.specs.Reads.{clock_seen};
 ghost use Rattle.lus_order.specs.Names.{words_view};
 ghost use Rattle.lus_order.specs.Sides.{equations_view};
 ghost use Rattle.lus_order.specs.Streams.{AreTabled, Widened, names_of, params_view, stream_clock, with_all, with_sides};
 
-use crate::owner::Owner;
+use lus_streams::owner::Owner;
 use crate::setting::Clocks;
 use crate::sides::Side;
 use lus_tree::{ContractItem, Param, PlacedName};

@@ -6,7 +6,7 @@ ghost use Rattle.lus_order.specs.Graphs.{graph_view};
 ghost use Rattle.lus_order.specs.KnownModes.{AreKnown, IsKnown};
 ghost use Rattle.lus_order.specs.Library.{known_modes, texts_seen};
 ghost use Rattle.lus_order.specs.MarkedNames.{AreFound};
-ghost use Rattle.lus_order.specs.Owner.{owner_view};
+ghost use Rattle.lus_streams.specs.Owner.{owner_view};
 ghost use Rattle.lus_order.specs.Rows.{ModeRows, mode_view, modes_view};
 ghost use Rattle.lus_order.specs.Streams.{names_of};
 
@@ -14,7 +14,7 @@ use crate::found::{found_names, numbers_of};
 use crate::graph::Graph;
 use crate::library::{Known, KnownMode};
 use crate::own::Own;
-use crate::owner::Owner;
+use lus_streams::owner::Owner;
 use crate::rows::{Mode, push_numbers};
 use lus_tree::Param;
 use name_table::NameTable;

@@ -25,6 +25,15 @@ fn contract_of(node: &Node) -> &[ContractItem]
 }
 
 impl<'a> Owner<'a> {
+    pub fn name(self) -> &'a str
+        ensures { result.now ≡ (owner_view self.entry).name.text }
+    {
+        match self {
+            Owner::Node(node) => &node.name.text,
+            Owner::Contract(contract) => &contract.name.text,
+        }
+    }
+
     pub fn inputs(self) -> &'a [Param]
         ensures { map param_view result.now ≡ (owner_view self.entry).inputs }
     {

@@ -2,7 +2,7 @@ use Rattle.std.proofs.Common.{List, ℕ, [], ◌∷◌, ap, ◌∙◌, map}
 use Rattle.lus_meaning.proofs.Lists.{map_append}
 use Rattle.lus_scopes.specs.Least.{least_view}
 use Rattle.lus_order.specs.Library.{library_view}
-use Rattle.lus_order.specs.Owner.{owner_view}
+use Rattle.lus_streams.specs.Owner.{owner_view}
 use Rattle.lus_order.proofs.AllOrdered.{turn_noted, turn_ordered}
 use Rattle.lus_order.proofs.checks.all_ordered.Goals as goal
 

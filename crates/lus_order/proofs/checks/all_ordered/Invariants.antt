@@ -2,7 +2,7 @@ use Rattle.std.proofs.Common.{map, take}
 use Rattle.lus_scopes.specs.Least.{least_view}
 use Rattle.lus_order.specs.Checked.{AllNoted, AreOrdered}
 use Rattle.lus_order.specs.Library.{library_view}
-use Rattle.lus_order.specs.Owner.{owner_view}
+use Rattle.lus_streams.specs.Owner.{owner_view}
 use Rattle.lus_order.proofs.checks.all_ordered.Given as goal
 
 abbrev pub invariant-loop-owner : goal.invariant-loop-owner

@@ -6,7 +6,7 @@ use Rattle.lus_scopes.specs.Least.{least_view}
 use Rattle.lus_scopes.specs.Notes.{Notes}
 use Rattle.lus_order.specs.Checked.{AllNoted, AreOrdered}
 use Rattle.lus_order.specs.Library.{library_view}
-use Rattle.lus_order.specs.Owner.{owner_view}
+use Rattle.lus_streams.specs.Owner.{owner_view}
 use Rattle.lus_order.proofs.AllOrdered.{no_faults_least, program_checked, owners_stand}
 use Rattle.lus_order.proofs.checks.checked.Goals as goal
 

@@ -1,7 +1,7 @@
 use Rattle.std.proofs.Common.{◌≡◌, ◌++◌, drop, map}
 use Rattle.lus_tree.specs.View.{decl_view}
 use Rattle.lus_meaning.specs.ClockFaults.{components}
-use Rattle.lus_order.specs.Owner.{owner_view}
+use Rattle.lus_streams.specs.Owner.{owner_view}
 use Rattle.lus_order.proofs.declarations.owners_of.Given as goal
 
 abbrev pub invariant-loop-decl : goal.invariant-loop-decl

@@ -1,6 +1,6 @@
 use Rattle.std.proofs.Common.{◌≡◌, ◌++◌, drop, map}
 use Rattle.lus_order.specs.Declarations.{declared_view, with_calls}
-use Rattle.lus_order.specs.Owner.{owner_view}
+use Rattle.lus_streams.specs.Owner.{owner_view}
 use Rattle.lus_order.proofs.declarations.with_calls.Given as goal
 
 abbrev pub invariant-loop-owner : goal.invariant-loop-owner

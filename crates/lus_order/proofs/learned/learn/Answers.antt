@@ -1,7 +1,7 @@
 use Rattle.std.proofs.Common.{◌≡◌, ◌≤◌, length, subst}
 use Rattle.lus_order.specs.Learned.{IsAdded}
 use Rattle.lus_order.specs.Library.{known_view}
-use Rattle.lus_order.specs.Owner.{owner_view}
+use Rattle.lus_streams.specs.Owner.{owner_view}
 use Rattle.lus_order.proofs.Settled.{names_within, summary_known}
 use Rattle.lus_order.proofs.learned.learn.Goals as goal
 

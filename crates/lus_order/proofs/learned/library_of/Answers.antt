@@ -5,7 +5,7 @@ use Rattle.lus_tree.specs.View.{program_view}
 use Rattle.lus_meaning.specs.ClockFaults.{components}
 use Rattle.lus_order.specs.Declarations.{declared_view, is_next, with_calls}
 use Rattle.lus_order.specs.Learned.{names_known}
-use Rattle.lus_order.specs.Owner.{owner_view}
+use Rattle.lus_streams.specs.Owner.{owner_view}
 use Rattle.lus_order.proofs.NextLearned.{IsFound, owner_found, first_of, listed_all, streams_once, none_settled, fewer_left, library_whole}
 use Rattle.lus_order.proofs.Settled.{settled_more}
 use Rattle.lus_order.proofs.learned.library_of.Goals as goal

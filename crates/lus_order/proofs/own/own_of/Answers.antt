@@ -5,7 +5,7 @@ use Rattle.lus_meaning.specs.Order.{left_at}
 use Rattle.lus_order.specs.Library.{library_view}
 use Rattle.lus_order.specs.OwnNodes.{own_modes}
 use Rattle.lus_order.specs.OwnRows.{own_rows}
-use Rattle.lus_order.specs.Owner.{owner_view}
+use Rattle.lus_streams.specs.Owner.{owner_view}
 use Rattle.lus_order.specs.Rows.{mode_rows_after, modes_view}
 use Rattle.lus_order.specs.Sides.{equations_view}
 use Rattle.lus_order.specs.Streams.{AreTabled, params_view}
