@@ -1,6 +1,6 @@
 -- The streams that are marked in the graph of free clocks are those whose clocks go in a circle.
-use Rattle.std.proofs.Common.{◌≡◌, ◌↔◌, ℕ, zero, suc, ◌<◌, ◌≤◌, ◌+◌, Bool, true, false, cond, not, ◌||◌, List, [], ◌∷◌, ◌++◌, map, flat_map, length, get_or, refl, sym, ap, ◌∙◌, subst, arith, None}
-use Rattle.std.specs.Prelude.{Contains, filter}
+use Rattle.std.proofs.Common.{◌≡◌, ◌↔◌, ℕ, zero, suc, ◌<◌, ◌≤◌, Bool, true, false, cond, not, ◌||◌, List, [], ◌∷◌, ◌++◌, map, flat_map, length, get_or, refl, sym, ap, ◌∙◌, subst, arith, None}
+use Rattle.std.specs.Prelude.{Contains}
 use Rattle.std.specs.Str.{bytes_eq}
 use Rattle.std.proofs.Math.Logic.{◌⊎◌, inl, inr}
 use Rattle.std.proofs.lemmas.Bool.{false≢true}
@@ -26,14 +26,14 @@ use Rattle.lus_order.specs.ClockCircles.{free_of, free_rows, marked_faults, IsCl
 use Rattle.lus_order.specs.Graphs.{Rows, row_at, leads, LeadsTo, AreOnCircles, is_marked}
 use Rattle.lus_order.specs.Numbered.{name_at, IsNumbered}
 use Rattle.lus_order.specs.OwnRows.{numbers_of}
-use Rattle.lus_order.specs.Reads.{clock_seen, clocks_view}
+use Rattle.lus_order.specs.Reads.{clock_seen}
 use Rattle.lus_order.specs.Stands.{Stands}
 use Rattle.lus_order.specs.Streams.{AreTabled, names_of, with_all, with_sides}
 use Rattle.lus_order.proofs.Added.{added_is}
 use Rattle.lus_order.proofs.Declared.{tabled_clocks, tabled_length}
 use Rattle.lus_order.proofs.Numbered.{ways_numbered}
 use Rattle.lus_order.proofs.Paths.{one_step}
-use Rattle.lus_order.proofs.Searches.{or_cases, or_right}
+use Rattle.lus_order.proofs.Searches.{or_cases}
 use Rattle.lus_order.proofs.SiteCallees.{at_contains}
 use Rattle.lus_order.proofs.Stands.{names_stand, or_left}
 

@@ -1,5 +1,5 @@
 -- Turn by turn a declaration is found whose callees are known, and at the end all are known.
-use Rattle.std.proofs.Common.{◌≡◌, ℕ, ◌<◌, Bool, true, false, List, [], ◌∷◌, ◌++◌, map, length, Option, Some, None, unwrap_or, refl, sym, ap, ◌∙◌, subst, option_map}
+use Rattle.std.proofs.Common.{◌≡◌, ◌<◌, true, false, List, [], ◌∷◌, ◌++◌, map, length, Option, Some, None, unwrap_or, refl, sym, ap, ◌∙◌, subst, option_map}
 use Rattle.std.specs.Prelude.{Contains}
 use Rattle.std.specs.List.{find}
 use Rattle.std.proofs.lemmas.Bool.{false≢true}
@@ -16,7 +16,7 @@ use Rattle.lus_order.specs.declared.declarations.Declaration.{Declaration}
 use Rattle.lus_order.specs.declared.library.Library.{Library}
 use Rattle.lus_streams.specs.declared.owner.Owner.{Owner}
 use Rattle.lus_order.specs.Declarations.{declared_view, with_calls, is_next}
-use Rattle.lus_order.specs.Learned.{names_known, IsConsistent, IsLearned, IsLibraryOf}
+use Rattle.lus_order.specs.Learned.{names_known, IsConsistent, IsLibraryOf}
 use Rattle.lus_streams.specs.Owner.{owner_view}
 use Rattle.lus_order.specs.Streams.{names_of}
 use Rattle.lus_order.proofs.CalleesFirst.{Entry, mapped_from, found_stands, next_is, all_named, left, fewer}

@@ -1,12 +1,11 @@
 -- The faults that are noted of a declaration are those of its circles by its own graph.
-use Rattle.std.proofs.Common.{◌≡◌, ◌↔◌, ℕ, zero, suc, ◌<◌, ◌≤◌, ◌+◌, true, List, [], ◌∷◌, ◌++◌, map, length, get_or, Option, refl, sym, ap, ◌∙◌, subst, arith}
+use Rattle.std.proofs.Common.{◌≡◌, ◌↔◌, ℕ, zero, suc, ◌≤◌, ◌+◌, true, List, [], ◌∷◌, ◌++◌, map, length, get_or, Option, refl, sym, ap, ◌∙◌, subst, arith}
 use Rattle.std.specs.Prelude.{Contains, Bool}
 use Rattle.std.proofs.Math.Logic.{◌⊎◌, inl, inr}
 use Rattle.lus_tree.specs.Tree.{Name, Component, Spelled, text_of, Statement, equation, assertion, property, main_mark, ContractStatement, assume, guarantee, ghost_variable, constant, mode, «import»}
 use Rattle.lus_tree.specs.Reason.{Refused}
 use Rattle.lus_meaning.specs.Depends.{named_in}
 use Rattle.lus_meaning.specs.EquationFaults.{sides, ghost_sides, body_sides}
-use Rattle.lus_meaning.specs.Order.{left_at}
 use Rattle.lus_meaning.specs.Run.{Equation, equations, ghost_equations, body_equations}
 use Rattle.lus_meaning.specs.Scene.{contract_statements, variables}
 use Rattle.lus_meaning.specs.WellMade.{AreDistinct}
@@ -14,7 +13,6 @@ use Rattle.lus_meaning.proofs.Lists.{map_append}
 use Rattle.lus_scopes.specs.Least.{noted_all}
 use Rattle.lus_scopes.proofs.Leasts.{noted_append}
 use Rattle.way_laws.specs.Circles.{IsOwnCircle, of_equation, of_clocks}
-use Rattle.way_laws.specs.OwnGraph.{Summaries}
 use Rattle.lus_order.specs.declared.library.Library.{Library}
 use Rattle.lus_order.specs.declared.own.Own.{Own}
 use Rattle.lus_order.specs.Backs.{AreFlagged, AreNumbered, IsClosed, IsOnCircle, flagged_faults}
@@ -26,7 +24,6 @@ use Rattle.lus_order.specs.Own.{IsOwn}
 use Rattle.lus_order.specs.OwnNodes.{AreNodes, HasLefts}
 use Rattle.lus_order.specs.OwnReads.{AreFlagsOf}
 use Rattle.lus_order.specs.Reads.{callees_view}
-use Rattle.lus_order.specs.Sides.{equations_view, words_of}
 use Rattle.lus_order.specs.Streams.{names_of, params_view, with_sides}
 use Rattle.lus_order.proofs.Flagged.{flagged_circles}
 use Rattle.lus_order.proofs.FreeClocks.{marked_circles}

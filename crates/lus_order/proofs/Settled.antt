@@ -1,16 +1,15 @@
 -- What is known of one more declaration leaves the rest as it was.
-use Rattle.std.proofs.Common.{◌≡◌, ◌↔◌, ℕ, zero, suc, ◌<◌, ◌≤◌, ◌+◌, Bool, true, false, cond, ◌||◌, List, [], ◌∷◌, ◌++◌, map, length, refl, sym, ap, ◌∙◌, subst, arith}
+use Rattle.std.proofs.Common.{◌≡◌, ℕ, zero, suc, ◌<◌, ◌≤◌, ◌+◌, Bool, true, false, cond, ◌||◌, List, [], ◌∷◌, ◌++◌, map, length, refl, sym, ap, ◌∙◌, subst, arith}
 use Rattle.std.specs.Prelude.{Contains, get_or}
 use Rattle.std.specs.Str.{bytes_eq}
 use Rattle.std.proofs.Math.Logic.{◌⊎◌, inl, inr}
 use Rattle.std.proofs.Math.Seq.{get_or-append_seam}
 use Rattle.std.proofs.lemmas.Bool.{false≢true, cases_Bool}
 use Rattle.std.proofs.lemmas.List.{get_or_append_left, get_or-map}
-use Rattle.lus_tree.specs.Tree.{Name, text_of, Component, Declaration, declared_constant, declared_node, declared_contract, Program}
+use Rattle.lus_tree.specs.Tree.{Name, text_of, Component, declared_constant, declared_node, declared_contract, Program}
 use Rattle.lus_tree.specs.Reason.{name_twice}
 use Rattle.lus_meaning.specs.ClockFaults.{components}
 use Rattle.lus_meaning.specs.Depends.{named_in}
-use Rattle.lus_meaning.specs.EquationFaults.{last_name}
 use Rattle.lus_meaning.specs.Faults.{words_twice}
 use Rattle.lus_meaning.specs.Grammatical.{IsGrammatical}
 use Rattle.lus_meaning.specs.NameFaults.{declaration_word, declaration_faults, typing_faults}
@@ -30,10 +29,10 @@ use Rattle.lus_order.specs.declared.library.Library.{Library}
 use Rattle.lus_order.specs.declared.own.Own.{Own}
 use Rattle.lus_order.specs.Graphs.{graph_view}
 use Rattle.lus_order.specs.KnownModes.{IsKnown}
-use Rattle.lus_order.specs.Learned.{flags_of, names_known, all_known, all_flags, IsConsistent, IsAdded, IsLearned, IsLibraryOf}
+use Rattle.lus_order.specs.Learned.{flags_of, names_known, all_known, all_flags, IsConsistent, IsAdded, IsLearned}
 use Rattle.lus_order.specs.Library.{known_view, library_view, nothing_known}
 use Rattle.lus_order.specs.Own.{IsOwn}
-use Rattle.lus_order.specs.OwnNodes.{AreNodes, own_modes}
+use Rattle.lus_order.specs.OwnNodes.{AreNodes}
 use Rattle.lus_order.specs.OwnReads.{AreFlagsOf}
 use Rattle.lus_order.specs.Reads.{callees_view}
 use Rattle.lus_order.specs.Rows.{modes_view}

@@ -2,11 +2,11 @@
 use Rattle.std.proofs.Common.{◌≡◌, ℕ, zero, suc, ◌<◌, List, [], ◌∷◌, ◌++◌, map, flat_map, length, arith}
 use Rattle.std.specs.Prelude.{Contains}
 use Rattle.std.specs.List.{AllByRecursion}
-use Rattle.lus_tree.specs.Tree.{Expression, Expressions, text_of, truth, number, name, negation, minus, pre, arrow, binary, choice, sampled, merged, call, condact, mode_name, no_more, more, Labelled, Statement, equation, assertion, property, main_mark, ContractStatement, assume, guarantee, ghost_variable, constant, mode, «import», Component, Program}
+use Rattle.lus_tree.specs.Tree.{Expression, Expressions, truth, number, name, negation, minus, pre, arrow, binary, choice, sampled, merged, call, condact, mode_name, no_more, more, Labelled, Statement, equation, assertion, property, main_mark, ContractStatement, assume, guarantee, ghost_variable, constant, mode, «import», Component, Program}
 use Rattle.lus_meaning.specs.Scene.{Site, base, sampled_by, clock_of, contract_statements}
 use Rattle.lus_meaning.specs.Program.{site_in, import_site, all_sites}
-use Rattle.lus_meaning.specs.Occurrences.{Standing, on_clock, within, before, moved, occurs, Occurrence, occurrences, occurrences_among, Text, on_base, contract_statement_texts, statement_texts, constant_texts, texts, all_occurrences, gathered}
-use Rattle.lus_meaning.specs.Run.{Equation, equations, ghost_equations, body_equations}
+use Rattle.lus_meaning.specs.Occurrences.{Standing, on_clock, within, moved, occurs, Occurrence, occurrences, occurrences_among, Text, on_base, contract_statement_texts, statement_texts, constant_texts, texts, all_occurrences, gathered}
+use Rattle.lus_meaning.specs.Run.{ghost_equations, body_equations}
 use Rattle.lus_meaning.specs.ClockFaults.{components}
 use Rattle.lus_meaning.specs.Grammatical.{IsGrammatical}
 use Rattle.lus_meaning.proofs.Lists.{all_from, both_parts}

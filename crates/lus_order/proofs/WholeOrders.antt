@@ -1,30 +1,26 @@
 -- Where a program has no fault of equations, what is made of a declaration is its least order.
-use Rattle.std.proofs.Common.{◌≡◌, ◌↔◌, ℕ, zero, suc, ◌<◌, arith, flat_map, true, List, [], ◌∷◌, ◌++◌, length, refl, sym, subst}
+use Rattle.std.proofs.Common.{◌≡◌, ◌↔◌, zero, suc, arith, flat_map, List, [], ◌∷◌, ◌++◌, length, refl, sym, subst}
 use Rattle.std.specs.Prelude.{Contains}
 use Rattle.std.proofs.Math.Logic.{◌⊎◌, inl, inr}
 use Rattle.lus_tree.specs.Tree.{Name, Component, Program}
 use Rattle.lus_tree.specs.Reason.{Refused}
 use Rattle.lus_meaning.specs.ClockFaults.{components}
-use Rattle.lus_meaning.specs.EquationFaults.{left_faults, IsCircleFault, IsEquationFault, of_left, of_circle}
-use Rattle.lus_meaning.specs.Grammatical.{IsGrammatical}
+use Rattle.lus_meaning.specs.EquationFaults.{left_faults, IsCircleFault, of_left, of_circle}
 use Rattle.lus_meaning.specs.Order.{IsLeastEquationOrder}
 use Rattle.lus_meaning.specs.Program.{instance_of}
-use Rattle.lus_meaning.specs.Refusals.{HasNone, IsTyped}
+use Rattle.lus_meaning.specs.Refusals.{IsTyped}
 use Rattle.lus_meaning.specs.Run.{equations}
 use Rattle.lus_meaning.proofs.NamesOnce.{empty_of}
 use Rattle.way_laws.specs.Circles.{IsOwnCircle}
 use Rattle.way_laws.specs.Nodes.{Node, of_name, of_equation, IsEdge, IsNodeWay, last_node, NodeLeads}
-use Rattle.way_laws.specs.OwnGraph.{Summaries, LeadsTo as NamesLead, own_edges}
+use Rattle.way_laws.specs.OwnGraph.{Summaries}
 use Rattle.way_laws.specs.Summaries.{CalleesExact}
 use Rattle.way_laws.proofs.Callees.{all_summaries_exact}
 use Rattle.way_laws.proofs.Circles.{circles_are_own}
 use Rattle.way_laws.proofs.Nodes.{names_by_nodes}
 use Rattle.way_laws.proofs.Rounds.{names_in_circles}
-use Rattle.lus_order.specs.declared.library.Library.{Library}
 use Rattle.lus_order.specs.Graphs.{Rows, HasCircle}
-use Rattle.lus_order.specs.Learned.{IsLibraryOf}
 use Rattle.lus_order.specs.Library.{library_view}
-use Rattle.lus_order.specs.Ordered.{IsOrdered}
 use Rattle.lus_order.specs.OwnNodes.{AreNodes, node_at}
 use Rattle.lus_order.specs.OwnOrders.{IsOrderOf}
 use Rattle.lus_order.specs.WholeOrders.{LibraryExact, CirclesByLibrary, OrdersByLibrary}

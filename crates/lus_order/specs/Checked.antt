@@ -1,5 +1,5 @@
 -- The faults of equations of a program, and the orders of its declarations.
-use Rattle.std.specs.Prelude.{◌≡◌, ◌↔◌, ℕ, List, [], ◌∷◌, map, Contains, Option}
+use Rattle.std.specs.Prelude.{◌≡◌, ◌↔◌, ℕ, List, [], ◌∷◌, Contains, Option}
 use Rattle.lus_tree.specs.Tree.{Component, Program}
 use Rattle.std.proofs.Math.Logic.{◌⊎◌}
 use Rattle.lus_tree.specs.Reason.{Refused, memory}

@@ -2,9 +2,9 @@
 use Rattle.std.specs.Prelude.{◌≡◌, ◌↔◌, Bool, not, List, [], ◌∷◌, ◌++◌, map, filter, Contains}
 use Rattle.lus_tree.specs.Tree.{Name, Variable, Component}
 use Rattle.lus_tree.specs.Reason.{Refused, cycle}
-use Rattle.lus_meaning.specs.Depends.{named_in, left_names}
+use Rattle.lus_meaning.specs.Depends.{named_in}
 use Rattle.lus_meaning.specs.Faults.{fault, if_so}
-use Rattle.lus_meaning.specs.Run.{Equation, equations}
+use Rattle.lus_meaning.specs.Run.{equations}
 use Rattle.lus_meaning.specs.Scene.{variables}
 use Rattle.lus_meaning.specs.WellMade.{AreDistinct}
 use Rattle.way_laws.specs.Circles.{free_clock}

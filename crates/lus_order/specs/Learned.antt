@@ -1,5 +1,5 @@
 -- What is known of all declarations is made callees first.
-use Rattle.std.specs.Prelude.{◌≡◌, ℕ, Bool, List, [], ◌∷◌, ◌++◌, map, length, Contains}
+use Rattle.std.specs.Prelude.{◌≡◌, Bool, List, [], ◌∷◌, ◌++◌, map, length, Contains}
 use Rattle.lus_tree.specs.Tree.{Name, Component, Program}
 use Rattle.lus_meaning.specs.ClockFaults.{components}
 use Rattle.lus_meaning.specs.Depends.{named_in}

@@ -1,4 +1,4 @@
-use Rattle.std.proofs.Common.{List, ℕ, [], ◌∷◌, ap, ◌∙◌, map}
+use Rattle.std.proofs.Common.{[], ◌∷◌, ap, ◌∙◌, map}
 use Rattle.lus_meaning.proofs.Lists.{map_append}
 use Rattle.lus_scopes.specs.Least.{least_view}
 use Rattle.lus_order.specs.Library.{library_view}

@@ -1,4 +1,4 @@
-use Rattle.std.proofs.Common.{◌≡◌, None, ap, ◌∙◌, sym, subst, map, flat_map}
+use Rattle.std.proofs.Common.{◌≡◌, ap, ◌∙◌, subst, map, flat_map}
 use Rattle.lus_tree.specs.View.{program_view}
 use Rattle.lus_meaning.specs.ClockFaults.{components}
 use Rattle.lus_meaning.specs.EquationFaults.{left_faults}

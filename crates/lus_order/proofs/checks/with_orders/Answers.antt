@@ -1,9 +1,9 @@
-use Rattle.std.proofs.Common.{MatchResult, List, map, subst}
+use Rattle.std.proofs.Common.{MatchResult, map, subst}
 use Rattle.std.specs.Prelude.{Contains}
-use Rattle.lus_tree.specs.Reason.{Refused, refusal_view}
+use Rattle.lus_tree.specs.Reason.{refusal_view}
 use Rattle.lus_meaning.specs.Faults.{IsFirst}
 use Rattle.lus_meaning.specs.Refusals.{HasNone}
-use Rattle.lus_scopes.specs.Least.{IsLeast, least_view}
+use Rattle.lus_scopes.specs.Least.{least_view}
 use Rattle.lus_order.proofs.AllOrdered.{first_here, none_here}
 use Rattle.lus_order.proofs.checks.with_orders.Goals as goal
 

@@ -1,4 +1,4 @@
-use Rattle.std.proofs.Common.{◌≡◌, ◌≤◌, length, subst}
+use Rattle.std.proofs.Common.{subst}
 use Rattle.lus_order.specs.Learned.{IsAdded}
 use Rattle.lus_order.specs.Library.{known_view}
 use Rattle.lus_streams.specs.Owner.{owner_view}

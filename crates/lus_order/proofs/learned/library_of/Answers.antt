@@ -1,9 +1,8 @@
-use Rattle.std.proofs.Common.{◌≡◌, List, Option, Some, None, ap, ◌∙◌, sym, subst, map, option_map}
+use Rattle.std.proofs.Common.{◌≡◌, None, ap, ◌∙◌, sym, subst, map, option_map}
 use Rattle.std.specs.List.{find}
-use Rattle.lus_tree.specs.Tree.{Name, Component, Program}
 use Rattle.lus_tree.specs.View.{program_view}
 use Rattle.lus_meaning.specs.ClockFaults.{components}
-use Rattle.lus_order.specs.Declarations.{declared_view, is_next, with_calls}
+use Rattle.lus_order.specs.Declarations.{declared_view, is_next}
 use Rattle.lus_order.specs.Learned.{names_known}
 use Rattle.lus_streams.specs.Owner.{owner_view}
 use Rattle.lus_order.proofs.NextLearned.{IsFound, owner_found, first_of, listed_all, streams_once, none_settled, fewer_left, library_whole}
