@@ -6,7 +6,6 @@ ghost use Rattle.solver_cases.specs.Ready.{IsReady};
 use anyhow::Result;
 use cert_rules::{check_base, check_step};
 use proof_steps::{Budgets, Proof, Stop};
-use smt_solver::laws::boolean_queries_have_no_atoms;
 use smt_solver::{Answer, SolveFault, solve};
 use std::alloc::Global;
 use sys_terms::{Obligation, PathAnswer, State, System, check_path};
@@ -28,7 +27,6 @@ fn at_instant(
 ) -> Result<Answer, SolveFault>
     requires { IsReady (system_view system.now) }
 {
-    boolean_queries_have_no_atoms();
     let what = Obligation::Base {
         property: 0,
         instant,
@@ -45,7 +43,6 @@ fn after_states(
 ) -> Result<Answer, SolveFault>
     requires { IsReady (system_view system.now) }
 {
-    boolean_queries_have_no_atoms();
     let what = Obligation::Step { property: 0, k };
     solve(alloc, system, &what, &[], budgets(conflicts))
 }

@@ -1,8 +1,0 @@
-use Rattle.std.specs.Prelude.{[], refl}
-use Rattle.sys_terms.specs.View.{step, system_view}
-use Rattle.solver_cases.proofs.asked.after_states.Goals as goal
-
-pub solve-requires-clause-without_atoms : goal.solve-requires-clause-without_atoms
-solve-requires-clause-without_atoms c =
-    c.boolean_queries_have_no_atoms.ensures (system_view c.args.system.now) (step 0 c.args.k) [] c.requires.boolean refl
-    refl
