@@ -4,7 +4,7 @@ use Rattle.std.proofs.Common.{sym, subst, arith}
 use Rattle.std.specs.declared.vec.Vec.{Vec}
 use Rattle.std.specs.declared.alloc.Global.{Global}
 use Rattle.proof_steps.specs.declared.Proof.{Proof}
-use Rattle.cert_rules.specs.View.{proofs_view}
+use Rattle.cert_rules.specs.View.{cites_view, proofs_view}
 use Rattle.sys_terms.specs.View.{Machine}
 use Rattle.sys_terms.specs.declared.term.State.{State}
 use Rattle.board_core.specs.declared.plan.Plan.{Plan}
@@ -17,6 +17,7 @@ use Rattle.kind_engine.specs.Tasks.{IsTask, IsRefutedBelow, AreTasks, IsSearch}
 use Rattle.proof_steps.specs.StopView.{stop_view}
 use Rattle.board_core.specs.Entries.{spent, stopped}
 use Rattle.kind_engine.specs.Halts.{halted_grounds}
+use Rattle.kind_engine.proofs.Citing.{lemmas-later}
 use Rattle.kind_engine.proofs.Histories.{decides-later, true-later, depth-later}
 
 module _ (m : Machine) (plan : Plan) where
@@ -40,6 +41,7 @@ module _ (m : Machine) (plan : Plan) where
   search-later known all engine search b h = record {
     within = h.within;
     count = h.count;
+    lemmas = lemmas-later m known all search.lemmas.front (cites_view search.lemmas.cites.items) b h.lemmas;
     each = tasks-later known all engine search.turn 0 search.tasks.items b h.each;
   }
 

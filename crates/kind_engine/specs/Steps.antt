@@ -1,8 +1,8 @@
 -- What induction finds of a property.
-use Rattle.std.specs.Prelude.{ℕ, ◌≡◌, ◌<◌, ◌≤◌, List, [], length}
+use Rattle.std.specs.Prelude.{ℕ, ◌≡◌, ◌<◌, ◌≤◌, List, length}
 use Rattle.proof_steps.specs.StopView.{stop_view}
 use Rattle.sys_terms.specs.declared.term.Entry.{Entry as Cell}
-use Rattle.sys_terms.specs.View.{Machine, base, states_view}
+use Rattle.sys_terms.specs.View.{Formula, Machine, base, states_view}
 use Rattle.sys_terms.specs.Paths.{IsLoosePath, IsFalseAtLastAlone}
 use Rattle.sys_terms.specs.Queries.{property_term}
 use Rattle.smt_solver.specs.View.{stop}
@@ -14,13 +14,14 @@ use Rattle.board_core.specs.Entries.{IsBroken}
 use Rattle.kind_engine.specs.declared.grounds.Ground.{Ground}
 use Rattle.kind_engine.specs.declared.grounds.Ground.TheVariants as g
 
--- without lemmas, all instants below k are refuted, by a proof each; a path breaks the property; or the
+-- with these lemmas, all instants below k are refuted, by a proof each; a path breaks the property; or the
 -- query of one of the instants stopped
-abbrev pub IsGround : Machine → Plan → (p k : ℕ) → Ground → Type 0
-IsGround m plan p k (g.Refuted proofs) =
-    (length (proofs_view proofs.items) ≡ k) × AreBases m p [] 0 (proofs_view proofs.items)
-IsGround m plan p k (g.Broken path) = IsBroken m p (states_view path.items)
-IsGround m plan p k (g.Stopped i halt) = (i < k) × IsAnswered m (base p i) [] plan.budgets (stop (stop_view halt))
+abbrev pub IsGround : Machine → Plan → (p k : ℕ) → List Formula → Ground → Type 0
+IsGround m plan p k cites (g.Refuted proofs) =
+    (length (proofs_view proofs.items) ≡ k) × AreBases m p cites 0 (proofs_view proofs.items)
+IsGround m plan p k cites (g.Broken path) = IsBroken m p (states_view path.items)
+IsGround m plan p k cites (g.Stopped i halt) =
+    (i < k) × IsAnswered m (base p i) cites plan.budgets (stop (stop_view halt))
 
 -- k states joined by steps, the property false at the last one alone
 pub record IsRun (m : Machine) (p k : ℕ) (states : List (List Cell)) : Type 0 where

@@ -3,11 +3,12 @@ use Rattle.std.specs.Prelude.{ℕ, suc, ◌≡◌, ◌≤◌, ◌<◌, List, [],
 use Rattle.proof_steps.specs.View.{Refutation}
 use Rattle.proof_steps.specs.StopView.{stop_view}
 use Rattle.sys_terms.specs.View.{Machine, states_view}
-use Rattle.cert_rules.specs.View.{proofs_view}
+use Rattle.cert_rules.specs.View.{cites_view, proofs_view}
 use Rattle.cert_rules.specs.Facts.{AreBases}
 use Rattle.board_core.specs.declared.plan.Plan.{Plan}
 use Rattle.board_core.specs.Entries.{Posting, IsTrueAfter, IsDepth, spent, stopped}
 use Rattle.board_core.specs.Seats.{Decides}
+use Rattle.kind_engine.specs.Lemmas.{AreLemmas}
 use Rattle.kind_engine.specs.Steps.{IsAtStep}
 use Rattle.kind_engine.specs.Halts.{halted_grounds}
 use Rattle.kind_engine.specs.declared.task.Task.{Task}
@@ -41,4 +42,5 @@ AreTasks m plan known engine i p (t ∷ ts) =
 pub record IsSearch (m : Machine) (plan : Plan) (known : List Posting) (engine : ℕ) (search : Search) : Type 0 where
   pub within : search.turn ≤ suc plan.depth
   pub count : length search.tasks.items ≡ length m.properties
+  pub lemmas : AreLemmas m known search.lemmas.front (cites_view search.lemmas.cites.items)
   pub each : AreTasks m plan known engine search.turn 0 search.tasks.items

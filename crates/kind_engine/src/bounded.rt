@@ -11,6 +11,7 @@ ghost use Rattle.kind_engine.specs.Ready.{all_flags};
 ghost use Rattle.kind_engine.specs.Tasks.{AreTasks};
 ghost use Rattle.kind_engine.specs.Engines.{worker_machine, worker_plan, worker_known, worker_steps};
 
+use crate::lemmas::Lemmas;
 use crate::subject::Subject;
 use crate::task::{Search, Task};
 use crate::turning::{Turned, after_read};
@@ -92,7 +93,14 @@ impl BoundedEngine {
                 plan,
                 engine: BOUNDED,
             },
-            search: Some(Search { turn: 0, tasks }),
+            search: Some(Search {
+                turn: 0,
+                lemmas: Lemmas {
+                    front: 0,
+                    cites: Vec::new(alloc),
+                },
+                tasks,
+            }),
             known: None,
         })
     }

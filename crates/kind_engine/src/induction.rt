@@ -11,6 +11,7 @@ ghost use Rattle.kind_engine.specs.Ready.{all_flags};
 ghost use Rattle.kind_engine.specs.Tasks.{AreTasks};
 ghost use Rattle.kind_engine.specs.Engines.{worker_machine, worker_plan, worker_known, worker_steps};
 
+use crate::lemmas::{Lemmas, read_lemmas};
 use crate::subject::Subject;
 use crate::task::{Search, Task};
 use crate::turning::{Turned, after_read};
@@ -20,15 +21,15 @@ use std::marker::Model;
 use std::snapshot::Snapshot;
 use sys_terms::System;
 
-/// Proves each property by the step by k states, k from 1 on, a k a turn, up to the depth of its plan. For
-/// now it cites no lemma. Its number is 1.
+/// Proves each property by the step by k states, k from 1 on, a k a turn, up to the depth of its plan. It
+/// cites each lemma that it has read, up to the first one that compares numbers. Its number is 1.
 ///
-/// Where the step by k states is refuted it asks about the instants below k itself. Where they are refuted
-/// too it posts the base, the step and that the property is held; where one breaks, that break. A property
-/// whose step by as many states as the depth is not refuted is posted as stuck, at the path that answers
-/// it. The turn behind the depth posts, for each property that what was read leaves undecided, that the
-/// search went to its depth; or, where a query stopped, that stop with what shows that it was to be asked.
-/// After want of memory each further turn answers it again.
+/// Where the step by k states is refuted it asks about the instants below k itself, with the same lemmas.
+/// Where they are refuted too it posts the base, the step and that the property is held; where one breaks,
+/// that break. A property whose step by as many states as the depth is not refuted is posted as stuck, at
+/// the path that answers it. The turn behind the depth posts, for each property that what was read leaves
+/// undecided, that the search went to its depth; or, where a query stopped, that stop with what shows that
+/// it was to be asked. After want of memory each further turn answers it again.
 #[derive(Drop)]
 pub struct StepEngine {
     subject: Subject,
@@ -95,7 +96,14 @@ impl StepEngine {
                 plan,
                 engine: STEP,
             },
-            search: Some(Search { turn: 1, tasks }),
+            search: Some(Search {
+                turn: 1,
+                lemmas: Lemmas {
+                    front: 0,
+                    cites: Vec::new(alloc),
+                },
+                tasks,
+            }),
             known: None,
         })
     }
@@ -118,8 +126,17 @@ impl Engine for StepEngine {
         let Some(search) = self.search.take() else {
             return Err(EngineFault::Memory(AllocError));
         };
-        let news = seat.read(alloc)?;
-        drop(news);
+        let Search {
+            turn,
+            lemmas,
+            tasks,
+        } = search;
+        let lemmas = read_lemmas(alloc, seat, lemmas)?;
+        let search = Search {
+            turn,
+            lemmas,
+            tasks,
+        };
         let Turned { progress, search } = after_read(alloc, &self.subject, seat, search)?;
         self.search = Some(search);
         self.known = Some(seat.seen());

@@ -13,6 +13,7 @@ mod flags;
 mod grounds;
 mod halted;
 mod induction;
+mod lemmas;
 mod posting;
 mod searching;
 mod stepping;

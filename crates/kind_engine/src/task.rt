@@ -1,6 +1,7 @@
 //! How far an engine is.
 
 use crate::halted::Halted;
+use crate::lemmas::Lemmas;
 use proof_steps::Proof;
 use sys_terms::State;
 
@@ -19,10 +20,12 @@ pub(crate) enum Task {
     Decided,
 }
 
-/// The number of the next turn that asks, and each property's task. Bounded search asks about instant n
-/// in turn n, induction the step by n states. The turn behind the depth tells why properties are undecided.
+/// The number of the next turn that asks, the lemmas that it cites, and each property's task. Bounded
+/// search asks about instant n in turn n, and cites none; induction asks the step by n states. The turn
+/// behind the depth tells why properties are undecided.
 #[derive(Drop)]
 pub(crate) struct Search {
     pub(crate) turn: u32,
+    pub(crate) lemmas: Lemmas,
     pub(crate) tasks: Vec<Task>,
 }

@@ -2,14 +2,17 @@
 
 ghost use Rattle.std.specs.Prelude.{◌≡◌, ◌<◌, ◌≤◌, length, suc, take, true, false, Some, IfOk, OnOk};
 ghost use Rattle.sys_terms.specs.View.{system_view};
+ghost use Rattle.cert_rules.specs.View.{cites_view};
 ghost use Rattle.board_core.specs.Seats.{Begins, DecidesAll, HasCauses, has_cause};
 ghost use Rattle.board_core.specs.Verdicts.{decides};
 ghost use Rattle.board_core.specs.declared.engine.Progress.TheVariants.{More, Spent, Decided};
 ghost use Rattle.kind_engine.specs.Ready.{IsReady};
+ghost use Rattle.kind_engine.specs.Lemmas.{AreLemmas};
 ghost use Rattle.kind_engine.specs.Tasks.{IsTask, AreTasks, IsSearch};
 ghost use Rattle.kind_engine.specs.Engines.{turns_of};
 
 use crate::halted::post_halted;
+use crate::lemmas::Lemmas;
 use crate::posting::post_spent;
 use crate::searching::at_next_instant;
 use crate::stepping::at_next_step;
@@ -37,11 +40,14 @@ fn advanced<B: BoardSeat>(
     subject: &Subject,
     seat: &mut B,
     turn: u32,
+    lemmas: &Lemmas,
     property: u32,
     task: Task,
 ) -> Result<Task, EngineFault>
     requires ready { IsReady (system_view subject.now.system) subject.now.plan }
     requires book { (B.machine seat.old ≡ system_view subject.now.system) × (B.plan seat.old ≡ subject.now.plan) }
+    requires lemmas { AreLemmas (system_view subject.now.system) (B.seen seat.old) lemmas.now.front
+        (cites_view lemmas.now.cites.items) }
     requires named { property < length (system_view subject.now.system).properties }
     requires task { IsTask (system_view subject.now.system) subject.now.plan (B.seen seat.old)
         subject.now.engine turn property task }
@@ -57,7 +63,7 @@ fn advanced<B: BoardSeat>(
     }
     match task {
         Task::Refuted(proofs) => at_next_instant(alloc, subject, seat, property, proofs),
-        Task::Run(run) => at_next_step(alloc, subject, seat, property, turn, run),
+        Task::Run(run) => at_next_step(alloc, subject, seat, property, turn, lemmas, run),
         Task::Stopped(halted) => Ok(Task::Stopped(halted)),
         Task::Ended => Ok(Task::Ended),
         Task::Decided => Ok(Task::Decided),
@@ -70,10 +76,13 @@ fn all_advanced<B: BoardSeat>(
     subject: &Subject,
     seat: &mut B,
     turn: u32,
+    lemmas: &Lemmas,
     tasks: Vec<Task>,
 ) -> Result<Vec<Task>, EngineFault>
     requires ready { IsReady (system_view subject.now.system) subject.now.plan }
     requires book { (B.machine seat.old ≡ system_view subject.now.system) × (B.plan seat.old ≡ subject.now.plan) }
+    requires lemmas { AreLemmas (system_view subject.now.system) (B.seen seat.old) lemmas.now.front
+        (cites_view lemmas.now.cites.items) }
     requires count { length tasks.items ≡ length (system_view subject.now.system).properties }
     requires tasks { AreTasks (system_view subject.now.system) subject.now.plan (B.seen seat.old)
         subject.now.engine turn 0 tasks.items }
@@ -88,7 +97,7 @@ fn all_advanced<B: BoardSeat>(
     let mut next = Vec::with_capacity(alloc, tasks.len())?;
     for task in tasks {
         let property = next.len() as u32;
-        next.push(advanced(alloc, subject, seat, turn, property, task)?)?;
+        next.push(advanced(alloc, subject, seat, turn, lemmas, property, task)?)?;
     }
     Ok(next)
 }
@@ -195,19 +204,28 @@ pub(crate) fn after_read<B: BoardSeat>(
             search,
         });
     }
-    let Search { turn, tasks } = search;
+    let Search {
+        turn,
+        lemmas,
+        tasks,
+    } = search;
     if turn > subject.plan.depth {
         report_all(alloc, subject, seat, &tasks)?;
         return Ok(Turned {
             progress: Progress::Spent,
-            search: Search { turn, tasks },
+            search: Search {
+                turn,
+                lemmas,
+                tasks,
+            },
         });
     }
-    let tasks = all_advanced(alloc, subject, seat, turn, tasks)?;
+    let tasks = all_advanced(alloc, subject, seat, turn, &lemmas, tasks)?;
     Ok(Turned {
         progress: Progress::More,
         search: Search {
             turn: turn + 1,
+            lemmas,
             tasks,
         },
     })

@@ -1,12 +1,24 @@
-use Rattle.std.proofs.Common.{rules, arith, ◌≡◌, suc, subst}
+use Rattle.std.proofs.Common.{rules, arith, ◌≡◌, suc, ◌∙◌, subst, sym, ap}
 use Rattle.std.specs.Prelude.{slice_get}
-use Rattle.cert_rules.specs.Facts.{IsStepOf}
+use Rattle.cert_rules.specs.View.{cites_view}
+use Rattle.cert_rules.specs.Facts.{AreCited, IsStepOf}
 use Rattle.cert_rules.specs.Kept.{base_instant, step_property}
 use Rattle.board_core.specs.Entries.{IsBaseTo, facts_in}
 use Rattle.board_core.proofs.Turns.{begins-begins}
+use Rattle.kind_engine.proofs.Citing.{cited-later}
 use Rattle.kind_engine.proofs.Histories.{named-by}
 use Rattle.kind_engine.proofs.Lists.{on-ok}
 use Rattle.kind_engine.proofs.stepping.hold.Goals as goal
+
+pub post_step-requires-clause-cited : goal.post_step-requires-clause-cited
+post_step-requires-clause-cited g c =
+    let b = g.B.BoardSeat in
+    let before = b.seen c.args.seat.now in
+    let first = b.seen c.post_base.new.seat in
+    let lent : c.deref-2.result.now ≡ c.args.lemmas.now.cites.items = search rules in
+    subst (AreCited (facts_in first)) (sym (c.in_ok-step.ensures.cites ∙ ap cites_view lent))
+    (cited-later before first (cites_view c.args.lemmas.now.cites.items) c.in_ok-first.ensures.seen
+    c.requires.lemmas.cited)
 
 pub post_held-requires-clause-named : goal.post_held-requires-clause-named
 post_held-requires-clause-named g c =

@@ -3,6 +3,8 @@ use Rattle.std.specs.Vec.Iter.{into_iter_items}
 use Rattle.sys_terms.specs.View.{system_view}
 use Rattle.board_core.proofs.Turns.{begins-begins}
 use Rattle.kind_engine.specs.Tasks.{IsTask, AreTasks}
+use Rattle.cert_rules.specs.View.{cites_view}
+use Rattle.kind_engine.proofs.Citing.{lemmas-later}
 use Rattle.kind_engine.proofs.Lists.{length-push}
 use Rattle.kind_engine.proofs.Tasks.{all-push, tasks-later}
 use Rattle.kind_engine.proofs.turning.all_advanced.Goals as goal
@@ -35,6 +37,8 @@ loop-task-preserved g c =
           (subst (λ k. IsTask m plan after engine (suc turn) k task) place c.in_ok-advanced.ensures.task));
       left = subst (λ k. AreTasks m plan after engine turn k rest) (sym n)
           (tasks-later m plan before after engine turn (suc (length at.next.items)) rest grown left.1);
+      lemmas = lemmas-later m before after c.args.lemmas.now.front (cites_view c.args.lemmas.now.cites.items)
+          grown v.lemmas;
       count = let k = v.count in omega (arith, n, long, k);
       rest = let k = v.rest in let s = c.in-Some.ensures.steps.1 in omega (arith, long, k, s);
       seen = begins-begins (b.seen c.args.seat.now) before after v.seen grown;

@@ -2,6 +2,8 @@ use Rattle.std.specs.Prelude.{◌≡◌, ◌+◌, suc, length}
 use Rattle.std.specs.Vec.Iter.{into_iter_items, into_iter_len}
 use Rattle.sys_terms.specs.View.{system_view}
 use Rattle.board_core.specs.Seats.{Begins}
+use Rattle.cert_rules.specs.View.{cites_view}
+use Rattle.kind_engine.specs.Lemmas.{AreLemmas}
 use Rattle.kind_engine.specs.Tasks.{AreTasks}
 use Rattle.kind_engine.proofs.turning.all_advanced.Given as goal
 
@@ -15,6 +17,7 @@ invariant-loop-task g l =
     record {
       done : AreTasks m plan (b.seen l.seat) l.subject.engine (suc l.turn) 0 l.next.items;
       left : AreTasks m plan (b.seen l.seat) l.subject.engine l.turn (length l.next.items) rest;
+      lemmas : AreLemmas m (b.seen l.seat) l.lemmas.front (cites_view l.lemmas.cites.items);
       count : length l.next.items + length rest ≡ length m.properties;
       rest : into_iter_len l.task-iterator ≡ length rest;
       seen : Begins (b.seen l.fn.seat) (b.seen l.seat);
