@@ -5,7 +5,7 @@ use Rattle.kind_io.specs.Told.{Told, MayHold, MayExceed}
 use Rattle.lus_tree.specs.Tree.{Program}
 use Rattle.lus_meaning.specs.TraceView.{Listing}
 use Rattle.lus_meaning.specs.Fits.{FitsProgram}
-use Rattle.lus_tree.specs.Reason.{Refused as Reasoned, memory, not_built}
+use Rattle.lus_tree.specs.Reason.{Refused as Reasoned, memory}
 use Rattle.lus_meaning.specs.BooleanRules.{BreaksNoBooleanRule}
 use Rattle.lus_meaning.specs.Refusals.{IsClocked}
 use Rattle.lus_grammar.specs.Source.{IsSource, IsRefused as IsMisread}
@@ -15,7 +15,7 @@ use Rattle.trace_replay.specs.declared.fault.TraceFault.TheVariants as M
 use Rattle.trace_replay.specs.declared.fault.TraceFault.TheVariants.{Form}
 use Rattle.trace_replay.specs.Refused.{IsMisfit}
 use Rattle.trace_replay.specs.Traces.{IsTraceText, Refuses}
-use Rattle.kind_main.specs.Lines.{Line, refused_line, not_built_line}
+use Rattle.kind_main.specs.Lines.{Line, refused_line}
 use Rattle.kind_main.specs.Report.{IsReplay}
 use Rattle.kind_main.specs.declared.ending.Report.{Report}
 use Rattle.kind_main.specs.declared.ending.Stopped.{Stopped}

@@ -1,14 +1,12 @@
 -- The trace of a path that breaks a property, as it is written and read back.
-use Rattle.std.proofs.Common.{◌≡◌, ◌≤◌, ◌<◌, ℕ, suc, pred, List, [], ◌∷◌, length, Some, Option, refl, sym, ap, ◌∙◌, subst, arith, slice_get}
+use Rattle.std.proofs.Common.{◌≡◌, ◌≤◌, ◌<◌, ℕ, suc, pred, List, length, Some, sym, ap, ◌∙◌, subst}
 use Rattle.std.specs.List.{AllByRecursion}
-use Rattle.lus_tree.specs.Tree.{Program, Component, declared_node}
+use Rattle.lus_tree.specs.Tree.{Program, Component}
 use Rattle.lus_tree.specs.Lookup.{nodes_of}
 use Rattle.lus_meaning.specs.Frame.{Frame}
 use Rattle.lus_meaning.specs.Program.{instance_of}
-use Rattle.lus_meaning.specs.Contract.{Property}
-use Rattle.lus_meaning.specs.Property.{properties}
 use Rattle.lus_meaning.specs.Verdict.{Breaks}
-use Rattle.lus_meaning.specs.Trace.{IsFrameOf, BareLine as TraceLine}
+use Rattle.lus_meaning.specs.Trace.{IsFrameOf}
 use Rattle.lus_meaning.specs.TraceView.{Listing, lines_of}
 use Rattle.lus_meaning.specs.Fits.{FitsProgram, FitsNode, first_named}
 use Rattle.lus_meaning.specs.Replay.{Shown, Replays, ReplaysTrace}
@@ -20,8 +18,9 @@ use Rattle.sys_terms.specs.Paths as paths
 use Rattle.sys_meaning.specs.System.{system_of}
 use Rattle.sys_meaning.specs.Path.{frame_of_path, trace_of}
 use Rattle.sys_meaning.specs.Checked.{CheckedTraces, CheckedBreaks, CheckedReplays, HasTrace, IsTraceOf}
+use Rattle.kind_main.specs.declared.options.Options.{Options}
 use Rattle.kind_main.specs.Lines.{Line, text_of}
-use Rattle.kind_main.specs.Verdicts.{falsifiable, IsOneLine, BreaksBy, IsReadable, IsTrueOfNumber}
+use Rattle.kind_main.specs.Verdicts.{falsifiable, IsOneLine, IsReadable, IsTrueOfNumber}
 
 -- what is so of a trace is so of one that is the same but for its places
 fits_as : (p : Program) (s t : Listing) → SameButPlaces s t → FitsProgram p t → FitsProgram p s
@@ -38,16 +37,16 @@ replays_as p s t e w r = record {
 }
 
 module _ (traces : CheckedTraces) (breaks : CheckedBreaks) (replays : CheckedReplays) (read_back : FitReadBack)
-    (p : Program) (readable : IsReadable p) (k : ℕ) (states : List (List Entry)) (short : length states ≤ 2) (some : 0 < length states)
+    (p : Program) (readable : IsReadable p) (k : ℕ) (states : List (List Entry)) (short : length states ≤ 1001) (some : 0 < length states)
     (path : (d : Component) → IsBooleanChecked p d → paths.Breaks (system_of (instance_of p d)) k states)
     (t : Listing) (of : (d : Component) → IsBooleanChecked p d → IsTraceOf p d states t) where
   pub broken_by : (lines : List Line) → AllByRecursion IsOneLine lines → text_of lines ≡ trace_text t → (last : ℕ) → suc last ≡ length states
-      → (d : Component) → IsBooleanChecked p d → IsTrueOfNumber p d k (falsifiable last lines)
-  broken_by lines each text last count d checked q found =
+      → (o : Options) (d : Component) → IsBooleanChecked p d → IsTrueOfNumber o p d k (falsifiable last lines)
+  broken_by lines each text last count o d checked q found =
       let broken : paths.Breaks (system_of (instance_of p d)) k states = path d checked in
       let is : IsTraceOf p d states t = of d checked in
       let has : HasTrace (instance_of p d) states = traces p d checked states broken.path in
-      let replayed = replays p d checked k states broken (omega (arith, short)) t is in
+      let replayed = replays p d checked k states broken short t is in
       let written = read_back p d checked (readable.limits d checked) (readable.identifiers d checked) t replayed.0 in
       let read : Listing = written.0 in
       let same : SameButPlaces read t = written.2 in

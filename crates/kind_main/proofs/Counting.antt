@@ -1,5 +1,5 @@
 -- How many verdicts there are of each kind.
-use Rattle.std.proofs.Common.{◌≡◌, ◌≤◌, ◌<◌, ◌+◌, ℕ, suc, List, [], ◌∷◌, length, get_or, drop, map, refl, ap, arith, subst}
+use Rattle.std.proofs.Common.{◌≡◌, ◌≤◌, ◌<◌, ◌+◌, ℕ, suc, List, [], ◌∷◌, length, get_or, drop, refl, ap, arith, subst}
 use Rattle.kind_main.specs.declared.outcome.Outcome.{Outcome}
 use Rattle.kind_main.specs.Verdicts.{Verdict, valid, falsifiable, unknown, Tally, tally_of, Grown, outcome_view, outcomes_view}
 use Rattle.kind_main.proofs.Lists.{dropped, dropped_all, as_long}
@@ -33,7 +33,7 @@ counting_on all left (falsifiable last trace) t u g c =
     let r = c.unknown in
     let s = c.size in
     record { valid = omega (arith, a, p); falsifiable = omega (arith, b, q); unknown = omega (arith, d, r); size = omega (arith, a, b, d, s) }
-counting_on all left (unknown bounded step) t u g c =
+counting_on all left (unknown causes) t u g c =
     let a : u.valid ≡ t.valid = ap (λ (x : Tally). x.valid) g in
     let b : u.falsifiable ≡ t.falsifiable = ap (λ (x : Tally). x.falsifiable) g in
     let d : u.unknown ≡ suc t.unknown = ap (λ (x : Tally). x.unknown) g in

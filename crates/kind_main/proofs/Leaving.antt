@@ -1,6 +1,8 @@
 -- What a call leaves, from its answer and its printing.
-use Rattle.std.proofs.Common.{◌≡◌, ◌≢◌, ◌==◌, ℕ, Bool, true, false, cond, ◌⊎◌, inl, inr, List, [], ◌∷◌, ◌++◌, refl, sym, ap, ◌∙◌, subst, arith, append-nil}
+use Rattle.std.proofs.Common.{◌≡◌, ◌==◌, ℕ, Bool, true, false, cond, ◌⊎◌, inl, inr, List, [], ◌∷◌, ◌++◌, refl, sym, ap, ◌∙◌, subst, arith, append-nil}
 use Rattle.std.specs.Io.KnownBytes.{Appends}
+use Rattle.kind_main.specs.declared.options.Options.{Options}
+use Rattle.kind_main.specs.Options.{default_options}
 use Rattle.kind_main.specs.Words as W
 use Rattle.kind_main.specs.Words.{AreProve, AreReplay, AreNoCommand}
 use Rattle.kind_main.specs.Lines.{Line, text_of, usage_line, memory_line, read_fault_line}
@@ -9,7 +11,7 @@ use Rattle.kind_main.specs.Verdicts.{Tally, tally_code, tally_of}
 use Rattle.kind_main.specs.Proved.{IsProved}
 use Rattle.kind_main.specs.Printing as P
 use Rattle.kind_main.specs.Printing.{IsSaid, Printed}
-use Rattle.kind_main.specs.Ending.{Ending, usage, unread, refused, done, lines_of, status_of, Shows}
+use Rattle.kind_main.specs.Ending.{Ending, usage, unread, refused, done, Shows}
 use Rattle.kind_main.specs.Fetched.{Tells}
 use Rattle.kind_main.specs.Traced.{IsReplayed}
 use Rattle.kind_main.specs.Answer as A
@@ -19,21 +21,29 @@ use Rattle.kind_main.specs.Left.{AreFirst, IsWhole, Leaves, Written, IsProofCode
 
 -- ---- the words of one command are not those of another
 
-one_file : (words : List (List ℕ)) (a b : List ℕ) → AreProve words a → AreProve words b → a ≡ b
-one_file words a b (W.no_words e f) (W.no_words g h) = f ∙ sym h
-one_file words a b (W.no_words e f) (W.on_input g h) = f ∙ sym h
-one_file words a b (W.no_words e f) (W.on_file g h) = cc
-one_file words a b (W.on_input e f) (W.no_words g h) = f ∙ sym h
-one_file words a b (W.on_input e f) (W.on_input g h) = f ∙ sym h
-one_file words a b (W.on_input e f) (W.on_file g h) = cc
-one_file words a b (W.on_file e f) (W.no_words g h) = cc
-one_file words a b (W.on_file e f) (W.on_input g h) = cc
-one_file words a b (W.on_file e f) (W.on_file g h) = cc
+one_file : (words : List (List ℕ)) (a b : List ℕ) (o q : Options) → AreProve words a o → AreProve words b q → a ≡ b
+one_file words a b o q (W.no_words e f i) (W.no_words g h j) = f ∙ sym h
+one_file words a b o q (W.no_words e f i) (W.on_input g h j) = f ∙ sym h
+one_file words a b o q (W.no_words e f i) (W.on_file g h j) = cc
+one_file words a b o q (W.on_input e f i) (W.no_words g h j) = f ∙ sym h
+one_file words a b o q (W.on_input e f i) (W.on_input g h j) = f ∙ sym h
+one_file words a b o q (W.on_input e f i) (W.on_file g h j) = cc
+one_file words a b o q (W.on_file e f i) (W.no_words g h j) = cc
+one_file words a b o q (W.on_file e f i) (W.on_input g h j) = cc
+one_file words a b o q (W.on_file e f i) (W.on_file g h j) = cc
 
-not_both : (words : List (List ℕ)) (a file trace : List ℕ) → AreProve words a → AreReplay words file trace → ⊥
-not_both words a file trace (W.no_words e f) r = let g = r.spelled in cc
-not_both words a file trace (W.on_input e f) r = let g = r.spelled in cc
-not_both words a file trace (W.on_file e f) r = let g = r.spelled in cc
+default_alone : (words : List (List ℕ)) (a : List ℕ) (o : Options) → AreProve words a o → o ≡ default_options
+default_alone words a o (W.no_words e f i) = i
+default_alone words a o (W.on_input e f i) = i
+default_alone words a o (W.on_file e f i) = i
+
+same_options : (words : List (List ℕ)) (a b : List ℕ) (o q : Options) → AreProve words a o → AreProve words b q → o ≡ q
+same_options words a b o q h k = default_alone words a o h ∙ sym (default_alone words b q k)
+
+not_both : (words : List (List ℕ)) (a : List ℕ) (o : Options) (file trace : List ℕ) → AreProve words a o → AreReplay words file trace → ⊥
+not_both words a o file trace (W.no_words e f i) r = let g = r.spelled in cc
+not_both words a o file trace (W.on_input e f i) r = let g = r.spelled in cc
+not_both words a o file trace (W.on_file e f i) r = let g = r.spelled in cc
 
 same_file : (words : List (List ℕ)) (a b c d : List ℕ) → AreReplay words a b → AreReplay words c d → a ≡ c
 same_file words a b c d r s = let e = r.spelled in let f = s.spelled in cc
@@ -90,23 +100,24 @@ module _ (told : Tells) (before now : ℕ) (words : List (List ℕ)) (puts_befor
   -- a command that was carried out has a status of its own
   done_code : (lines : List Line) (k : ℕ) → EndsSo told before now words (done lines k) → IsDoneCode k
   done_code lines k (A.no_command o e) = cc
-  done_code lines k (A.prove file m r) = inl (subst IsProofCode (sym r.proof.status) (proof_code (tally_of r.proof.verdicts)))
+  done_code lines k (A.prove file o m r) = inl (subst IsProofCode (sym r.proof.status) (proof_code (tally_of r.proof.verdicts)))
   done_code lines k (A.replay file trace m r) = inr (subst IsReplayCode (sym r.replay.status) (replay_code r.replay.broken))
 
   line_alone : (lines : List Line) (line : Line) → lines ≡ line ∷ [] → Appends old new (text_of lines) → Appends old new line
   line_alone lines line e w = subst (Appends old new) (ap text_of e ∙ append-nil line) w
 
   proof_by : (lines : List Line) (code : ℕ) (e : Ending) → EndsSo told before now words e → Shows lines code e → Appends old new (text_of lines)
-      → (file : List ℕ) → AreProve words file → IsDoneCode code → IsProofDone (told file) old new code
-  proof_by lines code usage s h w file m c = absurd (not_other code 2 c h.status (inl refl))
-  proof_by lines code (unread name) s h w file m c = absurd (not_other code 5 c h.status (inr (inr (inl refl))))
-  proof_by lines code (refused line) s h w file m c = absurd (not_other code 3 c h.status (inr (inl refl)))
-  proof_by lines code (done ls j) (A.no_command o e) h w file m c = cc
-  proof_by lines code (done ls j) (A.replay f t r d) h w file m c = absurd (not_both words file f t m r)
-  proof_by lines code (done ls j) (A.prove f n d) h w file m c = record {
+      → (file : List ℕ) (o : Options) → AreProve words file o → IsDoneCode code → IsProofDone o (told file) old new code
+  proof_by lines code usage s h w file o m c = absurd (not_other code 2 c h.status (inl refl))
+  proof_by lines code (unread name) s h w file o m c = absurd (not_other code 5 c h.status (inr (inr (inl refl))))
+  proof_by lines code (refused line) s h w file o m c = absurd (not_other code 3 c h.status (inr (inl refl)))
+  proof_by lines code (done ls j) (A.no_command u e) h w file o m c = cc
+  proof_by lines code (done ls j) (A.replay f t r d) h w file o m c = absurd (not_both words file o f t m r)
+  proof_by lines code (done ls j) (A.prove f q n d) h w file o m c = record {
     lines = lines;
-    proved = subst (λ x. IsProved (told x) lines code) (one_file words f file n m)
-        (subst (IsProved (told f) lines) (sym h.status) (subst (λ l. IsProved (told f) l j) (sym h.printed) d));
+    proved = subst (λ r. IsProved r (told file) lines code) (same_options words f file q o n m)
+        (subst (λ x. IsProved q (told x) lines code) (one_file words f file q o n m)
+        (subst (IsProved q (told f) lines) (sym h.status) (subst (λ l. IsProved q (told f) l j) (sym h.printed) d)));
     printed = w;
   }
 
@@ -116,7 +127,7 @@ module _ (told : Tells) (before now : ℕ) (words : List (List ℕ)) (puts_befor
   replay_by lines code (unread name) s h w file trace m c = absurd (not_other code 5 c h.status (inr (inr (inl refl))))
   replay_by lines code (refused line) s h w file trace m c = absurd (not_other code 3 c h.status (inr (inl refl)))
   replay_by lines code (done ls j) (A.no_command o e) h w file trace m c = cc
-  replay_by lines code (done ls j) (A.prove f n d) h w file trace m c = absurd (not_both words f file trace n m)
+  replay_by lines code (done ls j) (A.prove f q n d) h w file trace m c = absurd (not_both words f q file trace n m)
   replay_by lines code (done ls j) (A.replay f t n d) h w file trace m c = record {
     lines = lines;
     replayed = subst (λ x. IsReplayed told x trace lines code) (same_file words f t file trace n m)
@@ -128,7 +139,7 @@ module _ (told : Tells) (before now : ℕ) (words : List (List ℕ)) (puts_befor
   usage_by : (lines : List Line) (code : ℕ) (e : Ending) → EndsSo told before now words e → Shows lines code e → Appends old new
       (text_of lines) → code ≡ 2 → IsUsage words old new
   usage_by lines code usage (A.no_command o e) h w c = record { other = o; printed = line_alone lines usage_line h.printed w }
-  usage_by lines code usage (A.prove file m r) h w c = absurd r
+  usage_by lines code usage (A.prove file o m r) h w c = absurd r
   usage_by lines code usage (A.replay file trace m r) h w c = absurd r
   usage_by lines code (unread name) s h w c = let k : code ≡ 5 = h.status in absurd (omega arith)
   usage_by lines code (refused line) s h w c = let k : code ≡ 3 = h.status in absurd (omega arith)
@@ -137,8 +148,8 @@ module _ (told : Tells) (before now : ℕ) (words : List (List ℕ)) (puts_befor
   refusal_by : (lines : List Line) (code : ℕ) (e : Ending) → EndsSo told before now words e → Shows lines code e → Appends old new
       (text_of lines) → code ≡ 3 → IsRefusal told words old new
   refusal_by lines code (refused line) (A.no_command o e) h w c = cc
-  refusal_by lines code (refused line) (A.prove file m r) h w c = record
-      { line = line; cause = L.in_proof file m r; printed = line_alone lines line h.printed w }
+  refusal_by lines code (refused line) (A.prove file o m r) h w c = record
+      { line = line; cause = L.in_proof file o m r; printed = line_alone lines line h.printed w }
   refusal_by lines code (refused line) (A.replay file trace m r) h w c = record
       { line = line; cause = L.in_replay file trace m r; printed = line_alone lines line h.printed w }
   refusal_by lines code usage s h w c = let k : code ≡ 2 = h.status in absurd (omega arith)
@@ -148,8 +159,8 @@ module _ (told : Tells) (before now : ℕ) (words : List (List ℕ)) (puts_befor
   unread_by : (lines : List Line) (code : ℕ) (e : Ending) → EndsSo told before now words e → Shows lines code e → Appends old new
       (text_of lines) → code ≡ 5 → IsUnread told before now words old new
   unread_by lines code (unread name) (A.no_command o e) h w c = cc
-  unread_by lines code (unread name) (A.prove file m r) h w c =
-      record { rose = r.0; name = name; which = L.in_proof file m r.1; printed = line_alone lines (read_fault_line name) h.printed w }
+  unread_by lines code (unread name) (A.prove file o m r) h w c =
+      record { rose = r.0; name = name; which = L.in_proof file o m r.1; printed = line_alone lines (read_fault_line name) h.printed w }
   unread_by lines code (unread name) (A.replay file trace m r) h w c =
       record { rose = r.0; name = name; which = L.in_replay file trace m r.1; printed = line_alone lines (read_fault_line name) h.printed w }
   unread_by lines code usage s h w c = let k : code ≡ 2 = h.status in absurd (omega arith)
@@ -161,8 +172,8 @@ module _ (told : Tells) (before now : ℕ) (words : List (List ℕ)) (puts_befor
   known_by lines code (unread name) s h = L.of_no_command (inr (inr (inl h.status)))
   known_by lines code (refused line) s h = L.of_no_command (inr (inl h.status))
   known_by lines code (done ls j) (A.no_command o e) h = cc
-  known_by lines code (done ls j) (A.prove file m r) h =
-      L.of_proof file m (subst IsProofCode (sym (h.status ∙ r.proof.status)) (proof_code (tally_of r.proof.verdicts)))
+  known_by lines code (done ls j) (A.prove file o m r) h =
+      L.of_proof file o m (subst IsProofCode (sym (h.status ∙ r.proof.status)) (proof_code (tally_of r.proof.verdicts)))
   known_by lines code (done ls j) (A.replay file trace m r) h =
       L.of_replay file trace m (subst IsReplayCode (sym (h.status ∙ r.replay.status)) (replay_code r.replay.broken))
 
@@ -174,11 +185,11 @@ module _ (told : Tells) (before now : ℕ) (words : List (List ℕ)) (puts_befor
   not_by lines code k (done ls j) s h c d =
       not_other j k (done_code ls j s) (sym h.status ∙ c) (elim d [ inl e ↦ inr (inr (inr (inl e))) | inr e ↦ inr (inr (inr (inr e))) ])
 
-  pub proof_of : (code : ℕ) → Leaves told before now words puts_before puts_now old new code → (file : List ℕ) → AreProve words file
-      → IsProofCode code → IsProofDone (told file) old new code
-  proof_of code (L.answer lines a w) file m h = proof_by lines code a.ending a.ends a.shown w file m (inl h)
-  proof_of code (L.failed text c r t w) file m h = absurd (not_other code 6 (inl h) c (inr (inr (inr (inl refl)))))
-  proof_of code (L.no_memory lines c f w) file m h = absurd (not_other code 7 (inl h) c (inr (inr (inr (inr refl)))))
+  pub proof_of : (code : ℕ) → Leaves told before now words puts_before puts_now old new code → (file : List ℕ) (o : Options)
+      → AreProve words file o → IsProofCode code → IsProofDone o (told file) old new code
+  proof_of code (L.answer lines a w) file o m h = proof_by lines code a.ending a.ends a.shown w file o m (inl h)
+  proof_of code (L.failed text c r t w) file o m h = absurd (not_other code 6 (inl h) c (inr (inr (inr (inl refl)))))
+  proof_of code (L.no_memory lines c f w) file o m h = absurd (not_other code 7 (inl h) c (inr (inr (inr (inr refl)))))
 
   pub replay_of : (code : ℕ) → Leaves told before now words puts_before puts_now old new code → (file trace : List ℕ)
       → AreReplay words file trace → IsReplayCode code → IsReplayDone told file trace old new code

@@ -16,3 +16,5 @@ pub mod Cutting
 pub mod Readable
 pub mod Ready
 pub mod Ruling
+pub mod Causes
+pub mod Judging

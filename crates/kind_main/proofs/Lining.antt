@@ -1,5 +1,5 @@
 -- Lines that are added in a loop.
-use Rattle.std.proofs.Common.{◌≡◌, ◌≤◌, ◌<◌, ◌+◌, ℕ, List, [], ◌∷◌, ◌++◌, length, get_or, drop, map, refl, sym, ap, ◌∙◌, subst, append_assoc, append-nil}
+use Rattle.std.proofs.Common.{◌≡◌, ◌≤◌, ◌<◌, ◌+◌, ℕ, List, [], ◌∷◌, ◌++◌, length, get_or, drop, map, refl, sym, ap, ◌∙◌, append_assoc, append-nil}
 use Rattle.std.specs.declared.vec.Vec.{Vec}
 use Rattle.std.specs.declared.alloc.Global.{Global}
 use Rattle.lus_tree.specs.declared.declaration.Item.{Item}
@@ -9,7 +9,7 @@ use Rattle.kind_main.specs.declared.outcome.Outcome.{Outcome}
 use Rattle.kind_main.specs.Ending.{line_bytes, lines_view}
 use Rattle.kind_main.specs.Lines.{Line}
 use Rattle.kind_main.specs.Report.{labelled_in}
-use Rattle.kind_main.specs.Verdicts.{Verdict, outcome_view, outcomes_view, verdict_lines, verdict_report}
+use Rattle.kind_main.specs.Verdicts.{outcome_view, outcomes_view, verdict_lines, verdict_report}
 use Rattle.kind_main.proofs.Lists.{dropped, dropped_all, map_map}
 
 -- what was added and what is still to come make the whole

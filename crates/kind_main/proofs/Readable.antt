@@ -1,10 +1,9 @@
 -- What is written of the traces of a source is read back.
-use Rattle.std.proofs.Common.{◌≡◌, ℕ, List, [], ◌∷◌, sym, ◌∙◌, subst}
+use Rattle.std.proofs.Common.{◌≡◌, ℕ, List, [], ◌∷◌, subst}
 use Rattle.lus_tree.specs.Tree.{Program, Component, declared_node}
 use Rattle.lus_meaning.specs.Rules.{IsWithinCounts}
 use Rattle.lus_meaning.specs.BooleanRules.{IsBooleanChecked, BreaksNoBooleanRule}
 use Rattle.lus_grammar.specs.Source.{IsSource}
-use Rattle.trace_replay.specs.Laws.{HasIdentifiers}
 use Rattle.source_laws.specs.Laws.{AreIdentified, IdentifiedSources}
 use Rattle.kind_main.specs.Verdicts.{IsReadable}
 

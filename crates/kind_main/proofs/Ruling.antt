@@ -1,8 +1,8 @@
 -- What the checks of rules refuse is refused by the first fault of the earliest phase that has one.
-use Rattle.std.proofs.Common.{◌≡◌, ◌⊎◌, inl, inr, None, ap}
+use Rattle.std.proofs.Common.{inl, inr, ap}
 use Rattle.lus_tree.specs.Tree.{Program}
-use Rattle.lus_tree.specs.Reason.{Refused, memory}
-use Rattle.lus_meaning.specs.Refusals.{IsTyped, IsRefusedFor, by_typing, by_clocks}
+use Rattle.lus_tree.specs.Reason.{Refused}
+use Rattle.lus_meaning.specs.Refusals.{IsTyped, by_typing, by_clocks}
 use Rattle.lus_types.specs.Refusals as T
 use Rattle.lus_clocks.specs.Program as C
 use Rattle.kind_main.specs.Source.{IsRuling}

@@ -2,7 +2,7 @@
 use Rattle.std.specs.Prelude.{◌≡◌, ℕ, List}
 use Rattle.kind_io.specs.Counts.{Rose}
 use Rattle.kind_io.specs.Told.{Told, MayExceed}
-use Rattle.kind_main.specs.Lines.{Line, too_long_line}
+use Rattle.kind_main.specs.Lines.{too_long_line}
 use Rattle.kind_main.specs.Ending.{Ending, usage, unread, refused, done}
 
 -- what the shelf tells of each name

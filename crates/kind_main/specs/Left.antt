@@ -4,6 +4,7 @@ use Rattle.std.specs.Io.KnownBytes.{Appends}
 use Rattle.kind_io.specs.Counts.{Rose}
 use Rattle.kind_io.specs.Written.{AppendsFront}
 use Rattle.kind_io.specs.Told.{Told}
+use Rattle.kind_main.specs.declared.options.Options.{Options}
 use Rattle.kind_main.specs.Words.{AreProve, AreReplay, AreNoCommand}
 use Rattle.kind_main.specs.Lines.{Line, text_of, usage_line, memory_line, read_fault_line}
 use Rattle.kind_main.specs.Fetched.{Tells}
@@ -45,9 +46,9 @@ abbrev pub IsReplayCode : ℕ → Type 0
 IsReplayCode code = (code ≡ 1) ⊎ (code ≡ 10)
 
 -- The file holds a source that follows the rules, and what was written grew by the lines of its proof.
-pub record IsProofDone (told : Told) (old new : Written) (code : ℕ) : Type 0 where
+pub record IsProofDone (o : Options) (told : Told) (old new : Written) (code : ℕ) : Type 0 where
   pub lines : List Line
-  pub proved : IsProved told lines code
+  pub proved : IsProved o told lines code
   pub printed : Appends old new (text_of lines)
 
 -- The files hold a source that follows the rules and a trace that fits it, and what was written grew by the lines of
@@ -66,7 +67,7 @@ pub record IsUsage (words : List (List ℕ)) (old new : Written) : Type 0 where
 
 -- of a proof the source is refused; of a replay the source or, where that is held, the trace
 pub data IsRefusedBy (told : Tells) (words : List (List ℕ)) (line : Line) : Type 0 where
-  in_proof : (file : List ℕ) → AreProve words file → IsRefusedFile (told file) line → IsRefusedBy told words line
+  in_proof : (file : List ℕ) (o : Options) → AreProve words file o → IsRefusedFile (told file) line → IsRefusedBy told words line
   in_replay : (file trace : List ℕ) → AreReplay words file trace → IsRefusedOf told file trace line → IsRefusedBy told words line
 
 -- Status 3: a file of the command is refused, and the line that says so was written.
@@ -77,7 +78,7 @@ pub record IsRefusal (told : Tells) (words : List (List ℕ)) (old new : Written
 
 -- of a proof the source could not be read; of a replay the source or, where that is held, the trace
 pub data IsUnreadBy (told : Tells) (words : List (List ℕ)) (name : List ℕ) : Type 0 where
-  in_proof : (file : List ℕ) → AreProve words file → name ≡ file → IsUnreadBy told words name
+  in_proof : (file : List ℕ) (o : Options) → AreProve words file o → name ≡ file → IsUnreadBy told words name
   in_replay : (file trace : List ℕ) → AreReplay words file trace → IsUnreadOf told file trace name → IsUnreadBy told words name
 
 -- Status 5: a file of the command could not be read, and the line that names it was written.
@@ -103,5 +104,5 @@ pub record IsShort (told : Tells) (before now : ℕ) (words : List (List ℕ)) (
 -- the statuses, those of a command among them
 pub data IsKnown (words : List (List ℕ)) (code : ℕ) : Type 0 where
   of_no_command : (code ≡ 2) ⊎ ((code ≡ 3) ⊎ ((code ≡ 5) ⊎ ((code ≡ 6) ⊎ (code ≡ 7)))) → IsKnown words code
-  of_proof : (file : List ℕ) → AreProve words file → IsProofCode code → IsKnown words code
+  of_proof : (file : List ℕ) (o : Options) → AreProve words file o → IsProofCode code → IsKnown words code
   of_replay : (file trace : List ℕ) → AreReplay words file trace → IsReplayCode code → IsKnown words code

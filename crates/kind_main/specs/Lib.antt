@@ -1,11 +1,14 @@
 pub mod Lines
+pub mod Options
 pub mod Words
 pub mod Report
 pub mod Ending
 pub mod Fetched
 pub mod Source
 pub mod Traced
+pub mod Causes
 pub mod Verdicts
+pub mod Played
 pub mod Proved
 pub mod Answer
 pub mod Printing

@@ -1,8 +1,7 @@
 -- What is said of a property, when that is true, and the lines that say it.
-use Rattle.std.specs.Prelude.{◌≡◌, ◌≢◌, ℕ, suc, zero, ◌++◌, ◌+◌, ◌==◌, cond, codes, decimal, length, map, List, [], ◌∷◌, Some, slice_get}
+use Rattle.std.specs.Prelude.{◌≡◌, ◌≢◌, ℕ, suc, zero, ◌++◌, ◌==◌, cond, codes, decimal, length, map, List, [], ◌∷◌, Some, slice_get, option_map, option_to_list}
 use Rattle.std.specs.List.{AllByRecursion}
 use Rattle.std.specs.Fmt.{signed_decimal}
-use Rattle.proof_steps.specs.declared.stops.Budgets.{Budgets}
 use Rattle.proof_steps.specs.StopView.{Halt, conflicts, splits, pivots, past}
 use Rattle.kind_num.specs.declared.Past.{Past}
 use Rattle.kind_num.specs.declared.Op.{Op}
@@ -21,9 +20,13 @@ use Rattle.lus_meaning.specs.Replay.{Shown, ReplaysTrace}
 use Rattle.lus_meaning.specs.BooleanRules.{IsBooleanChecked}
 use Rattle.lus_meaning.specs.Rules.{IsWithinCounts}
 use Rattle.trace_replay.specs.Traces.{IsTraceText}
+use Rattle.sys_terms.specs.View.{Machine}
 use Rattle.sys_meaning.specs.System.{system_of}
 use Rattle.trace_replay.specs.Laws.{HasIdentifiers}
-use Rattle.induction.specs.Found.{Why, depth, stopped, IsBoundedWhy, IsStepWhy, why_view}
+use Rattle.board_core.specs.Entries.{Why, depth, frames, blocked, done, stopped, wide}
+use Rattle.kind_main.specs.declared.options.Options.{Options}
+use Rattle.kind_main.specs.Options.{numbers_of, options_plan}
+use Rattle.kind_main.specs.Causes.{Because, IsTrueCause, because_view}
 use Rattle.kind_main.specs.declared.outcome.Outcome.{Outcome}
 use Rattle.kind_main.specs.declared.outcome.Outcome.TheVariants.{Valid, Falsifiable, Unknown}
 use Rattle.kind_main.specs.declared.tally.Tally.{Tally as Counted}
@@ -31,15 +34,11 @@ use Rattle.kind_main.specs.Ending.{lines_view}
 use Rattle.kind_main.specs.Lines.{Line, text_of}
 
 -- what is said of a property: it holds; a trace breaks it first at this instant, whose lines are these; or neither,
--- for these causes of bounded search and of induction
+-- for these causes of the engines
 pub data Verdict : Type 0 where
   valid : Verdict
   falsifiable : (last : ℕ) (trace : List Line) → Verdict
-  unknown : (bounded step : Why) → Verdict
-
--- what the solver may spend on a query
-abbrev pub default_budgets : Budgets
-default_budgets = record { conflicts = 100000; splits = 2000; pivots = 200000 }
+  unknown : (causes : List Because) → Verdict
 
 -- ---- when it is true
 
@@ -72,20 +71,23 @@ pub record BreaksBy (p : Program) (d : Component) (k : ℕ) (q : Property) (last
   pub breaks : Breaks (instance_of p d) q frame last
   pub replays : (s : Shown) → ReplaysTrace p trace s → s.breaks k ≡ Some last
 
+-- one cause of each engine of the options, in their order, each of them true of the property of number k of the system
+pub record AreTrueCauses (m : Machine) (o : Options) (k : ℕ) (causes : List Because) : Type 0 where
+  pub engines : map (λ (b : Because). b.engine) causes ≡ numbers_of o.engines
+  pub each : AllByRecursion (IsTrueCause m (options_plan o) k) causes
+
 -- of property q, the one of number k of the node d
-abbrev pub IsTrueVerdict : Program → Component → ℕ → Property → Verdict → Type 0
-IsTrueVerdict p d k q valid = Holds (instance_of p d) q
-IsTrueVerdict p d k q (falsifiable last trace) = AllByRecursion IsOneLine trace × BreaksBy p d k q last (text_of trace)
-IsTrueVerdict p d k q (unknown bounded step) =
-    IsBoundedWhy (system_of (instance_of p d)) default_budgets 1 k bounded
-    × IsStepWhy (system_of (instance_of p d)) default_budgets 1 k step
+abbrev pub IsTrueVerdict : Options → Program → Component → ℕ → Property → Verdict → Type 0
+IsTrueVerdict o p d k q valid = Holds (instance_of p d) q
+IsTrueVerdict o p d k q (falsifiable last trace) = AllByRecursion IsOneLine trace × BreaksBy p d k q last (text_of trace)
+IsTrueVerdict o p d k q (unknown causes) = AreTrueCauses (system_of (instance_of p d)) o k causes
 
 -- of each property from number k on
-abbrev pub AreTrueVerdicts : Program → Component → ℕ → List Property → List Verdict → Type 0
-AreTrueVerdicts p d k [] [] = Unit {0}
-AreTrueVerdicts p d k (q ∷ qs) (s ∷ ss) = IsTrueVerdict p d k q s × AreTrueVerdicts p d (suc k) qs ss
-AreTrueVerdicts p d k [] (s ∷ ss) = ⊥
-AreTrueVerdicts p d k (q ∷ qs) [] = ⊥
+abbrev pub AreTrueVerdicts : Options → Program → Component → ℕ → List Property → List Verdict → Type 0
+AreTrueVerdicts o p d k [] [] = Unit {0}
+AreTrueVerdicts o p d k (q ∷ qs) (s ∷ ss) = IsTrueVerdict o p d k q s × AreTrueVerdicts o p d (suc k) qs ss
+AreTrueVerdicts o p d k [] (s ∷ ss) = ⊥
+AreTrueVerdicts o p d k (q ∷ qs) [] = ⊥
 
 -- ---- the lines
 
@@ -105,9 +107,31 @@ halt_text (splits pairs) = codes "splits " ++ decimal (length pairs)
 halt_text (pivots start pairs) = codes "pivots " ++ decimal start.pivots
 halt_text (past step pairs) = codes "past 128 bits " ++ past_text step.past
 
+-- (a cause for wide values has no text yet: no system of flags has one)
 abbrev pub why_text : Why → List ℕ
 why_text (depth k) = codes "depth " ++ decimal k
+why_text (frames k) = codes "frames " ++ decimal k
+why_text (blocked k) = codes "blocked " ++ decimal k
+why_text (done k) = codes "done " ++ decimal k
 why_text (stopped halt) = halt_text halt
+why_text (wide path variable instant value) = []
+
+abbrev pub engine_text : ℕ → List ℕ
+engine_text zero = codes "bounded"
+engine_text (suc zero) = codes "step"
+engine_text (suc (suc e)) = []
+
+-- the engine, and its cause
+abbrev pub because_text : Because → List ℕ
+because_text b = engine_text b.engine ++ (codes " " ++ why_text b.why)
+
+abbrev pub more_text : List Because → List ℕ
+more_text [] = []
+more_text (b ∷ bs) = codes "; " ++ (because_text b ++ more_text bs)
+
+abbrev pub causes_text : List Because → List ℕ
+causes_text [] = []
+causes_text (b ∷ bs) = because_text b ++ more_text bs
 
 -- the lines of what is said of the property with this label
 abbrev pub verdict_lines : List ℕ → Verdict → List Line
@@ -115,10 +139,8 @@ verdict_lines label valid = (codes "valid " ++ (label ++ codes "\n")) ∷ []
 verdict_lines label (falsifiable last trace) =
     (codes "falsifiable " ++ (label ++ (codes " at " ++ (decimal last ++ codes "\n"))))
     ∷ map (λ l. codes "  " ++ l) trace
-verdict_lines label (unknown bounded step) =
-    (codes "unknown " ++ (label ++ (codes ": bounded " ++ (why_text bounded
-    ++ (codes "; step " ++ (why_text step ++ codes "\n"))))))
-    ∷ []
+verdict_lines label (unknown causes) =
+    (codes "unknown " ++ (label ++ (codes ": " ++ (causes_text causes ++ codes "\n")))) ∷ []
 
 abbrev pub verdict_report : List (List ℕ) → List Verdict → List Line
 verdict_report (l ∷ ls) (s ∷ ss) = verdict_lines l s ++ verdict_report ls ss
@@ -136,7 +158,7 @@ abbrev pub tally_of : List Verdict → Tally
 tally_of [] = record { valid = 0; falsifiable = 0; unknown = 0 }
 tally_of (valid ∷ ss) = let t : Tally = tally_of ss in record t { valid = suc t.valid }
 tally_of (falsifiable last trace ∷ ss) = let t : Tally = tally_of ss in record t { falsifiable = suc t.falsifiable }
-tally_of (unknown bounded step ∷ ss) = let t : Tally = tally_of ss in record t { unknown = suc t.unknown }
+tally_of (unknown causes ∷ ss) = let t : Tally = tally_of ss in record t { unknown = suc t.unknown }
 
 abbrev pub summary_line : Tally → Line
 summary_line t =
@@ -150,24 +172,24 @@ tally_code t = cond (t.falsifiable == 0) (cond (t.unknown == 0) 0 4) 1
 -- ---- all of it
 
 -- each property of the program's node has its verdict, in order, and then comes the summary
-pub record IsProof (p : Program) (lines : List Line) (code : ℕ) : Type 0 where
+pub record IsProof (o : Options) (p : Program) (lines : List Line) (code : ℕ) : Type 0 where
   pub node : Component
   pub checked : IsBooleanChecked p node
   pub verdicts : List Verdict
-  pub right : AreTrueVerdicts p node 0 (properties (instance_of p node)) verdicts
+  pub right : AreTrueVerdicts o p node 0 (properties (instance_of p node)) verdicts
   pub printed : lines ≡ verdict_report (map label_of (properties (instance_of p node))) verdicts ++ summary_line (tally_of verdicts) ∷ []
   pub status : code ≡ tally_code (tally_of verdicts)
 
 -- ---- as clauses see it
 
 -- what the property of this number is said to be
-abbrev pub IsTrueOfNumber : Program → Component → ℕ → Verdict → Type 0
-IsTrueOfNumber p d k s = (q : Property) → slice_get (properties (instance_of p d)) k ≡ Some q → IsTrueVerdict p d k q s
+abbrev pub IsTrueOfNumber : Options → Program → Component → ℕ → Verdict → Type 0
+IsTrueOfNumber o p d k s = (q : Property) → slice_get (properties (instance_of p d)) k ≡ Some q → IsTrueVerdict o p d k q s
 
 abbrev pub outcome_view : Outcome → Verdict
 outcome_view Valid = valid
 outcome_view (Falsifiable last trace) = falsifiable last (lines_view trace.items)
-outcome_view (Unknown bounded step) = unknown (why_view bounded) (why_view step)
+outcome_view (Unknown first second) = unknown (because_view first ∷ option_to_list (option_map because_view second))
 
 abbrev pub outcomes_view : List Outcome → List Verdict
 outcomes_view = map outcome_view
@@ -188,4 +210,4 @@ counts_of t = record { valid = t.valid; falsifiable = t.falsifiable; unknown = t
 abbrev pub Grown : Verdict → Tally → Tally → Type 0
 Grown valid old new = new ≡ record old { valid = suc old.valid }
 Grown (falsifiable last trace) old new = new ≡ record old { falsifiable = suc old.falsifiable }
-Grown (unknown bounded step) old new = new ≡ record old { unknown = suc old.unknown }
+Grown (unknown causes) old new = new ≡ record old { unknown = suc old.unknown }

@@ -20,7 +20,7 @@ fn carried_out<H: Shelf>(alloc: Global, words: &[String], shelf: &mut H) -> Resu
 {
     match read_words(words) {
         None => Err(Stopped::Usage),
-        Some(Command::Prove { source }) => prove_file(alloc, source, shelf),
+        Some(Command::Prove { source, options }) => prove_file(alloc, source, options, shelf),
         Some(Command::Replay { source, trace }) => replay_files(alloc, source, trace, shelf),
     }
 }

@@ -2,9 +2,13 @@
 #![tactic(auto)]
 
 mod answer;
+mod cause;
 mod ending;
 mod fetching;
+mod idle;
+mod options;
 mod outcome;
+mod playing;
 mod print;
 mod proving;
 mod replaying;

@@ -2,6 +2,7 @@
 ghost use Rattle.std.specs.Prelude.{◌≡◌, ◌+◌, ◌-◌, ◌^◌, ◌<◌, ◌≤◌, ◌++◌, ◌⊎◌, ◌∷◌, [], List, ℕ, map};
 ghost use Rattle.std.specs.String.{string_bytes};
 ghost use Rattle.kind_main.specs.Left.{Leaves, IsUsage, IsRefusal, IsUnread, IsProofCode, IsProofDone, IsReplayCode, IsReplayDone, IsBroken, IsShort, IsKnown};
+ghost use Rattle.kind_main.specs.declared.options.Options.{Options as Choices};
 ghost use Rattle.kind_main.specs.Words.{AreNoCommand, AreProve, AreReplay};
 
 use crate::answer::answer_to;
@@ -37,8 +38,9 @@ pub fn kind_top<H: Shelf, K: Sink>(
 ) -> Status
     // A proof, 0, 1 and 4: the file holds a source, and the lines say what is so of each of its properties: that it
     // holds, by which trace it breaks, or why neither was found.
-    ensures proved { (file : List ℕ) → AreProve (map string_bytes words.now) file → IsProofCode result.code
-        → IsProofDone (H.told shelf.old file) (K.written out.old) (K.written out.new) result.code }
+    ensures proved { (file : List ℕ) (options : Choices) → AreProve (map string_bytes words.now) file options
+        → IsProofCode result.code
+        → IsProofDone options (H.told shelf.old file) (K.written out.old) (K.written out.new) result.code }
     // A replay, 1 and 10: the files hold a source and a trace, and the lines say what the trace's one frame breaks.
     ensures replayed { (file trace : List ℕ) → AreReplay (map string_bytes words.now) file trace
         → IsReplayCode result.code → IsReplayDone (H.told shelf.old) file trace (K.written out.old)

@@ -1,16 +1,18 @@
 //! The lines of the verdicts.
-ghost use Rattle.std.specs.Prelude.{◌≡◌, ◌++◌, [], ◌∷◌, map, length, IfOk, OnOk, List, codes};
+ghost use Rattle.std.specs.Prelude.{◌≡◌, ◌++◌, [], ◌∷◌, map, length, IfOk, OnOk, List, codes, option_map, option_to_list};
 ghost use Rattle.std.specs.String.{string_bytes};
 ghost use Rattle.kind_num.specs.declared.Past.{Past as Operation};
 ghost use Rattle.proof_steps.specs.StopView.{stop_view};
 ghost use Rattle.lus_tree.specs.View.{item_view, named_view};
-ghost use Rattle.induction.specs.Found.{why_view};
+ghost use Rattle.kind_main.specs.Causes.{because_view, why_view};
+ghost use Rattle.kind_main.specs.Options.{number_of};
 ghost use Rattle.kind_main.specs.Ending.{lines_view};
 ghost use Rattle.kind_main.specs.Report.{labelled_in};
-ghost use Rattle.kind_main.specs.Verdicts.{falsifiable, unknown, halt_text, operation_text, outcome_view, outcomes_view, past_text, property_label, verdict_lines, verdict_report as report_of_verdicts, why_text};
+ghost use Rattle.kind_main.specs.Verdicts.{because_text, engine_text, falsifiable, more_text, unknown, halt_text, operation_text, outcome_view, outcomes_view, past_text, property_label, verdict_lines, verdict_report as report_of_verdicts, why_text};
 
+use crate::cause::{Because, Cause};
+use crate::options::EngineName;
 use crate::outcome::Outcome;
-use induction::Cause;
 use kind_num::{Op, Past};
 use lus_tree::{Item, Named};
 use proof_steps::Stop;
@@ -81,6 +83,38 @@ fn cause_text(alloc: Global, cause: &Cause) -> Result<String, AllocError>
     }
 }
 
+fn engine_word(engine: EngineName) -> &'static str
+    ensures { result.now ≡ engine_text (number_of engine) }
+{
+    match engine {
+        EngineName::Bounded => "bounded",
+        EngineName::Step => "step",
+    }
+}
+
+/// An engine and its cause.
+fn because_line(alloc: Global, because: &Because) -> Result<String, AllocError>
+    ensures { IfOk result (λ text. string_bytes text ≡ because_text (because_view because.now)) }
+{
+    let engine = engine_word(because.engine);
+    let cause = cause_text(alloc, &because.cause)?;
+    format!(in alloc; "{engine} {cause}")
+}
+
+/// The second engine and its cause, where there is one.
+fn second_text(alloc: Global, second: &Option<Because>) -> Result<String, AllocError>
+    ensures { IfOk result (λ text. string_bytes text
+        ≡ more_text (option_to_list (option_map because_view second.now))) }
+{
+    match second {
+        None => Ok(String::new(alloc)),
+        Some(because) => {
+            let text = because_line(alloc, because)?;
+            format!(in alloc; "; {text}")
+        }
+    }
+}
+
 /// Adds a line behind two spaces.
 fn push_indented(alloc: Global, line: &[u8], lines: &mut Vec<Vec<u8>>) -> Result<(), AllocError>
     ensures { OnOk result (lines_view lines.new.items ≡ lines_view lines.old.items ++ (codes "  " ++ line.now) ∷ []) }
@@ -131,16 +165,16 @@ fn push_falsifiable(
 fn push_unknown(
     alloc: Global,
     label: &str,
-    bounded: &Cause,
-    step: &Cause,
+    first: &Because,
+    second: &Option<Because>,
     lines: &mut Vec<Vec<u8>>,
 ) -> Result<(), AllocError>
     ensures { OnOk result (lines_view lines.new.items ≡ lines_view lines.old.items ++ verdict_lines label.now
-        (unknown (why_view bounded.now) (why_view step.now))) }
+        (unknown (because_view first.now ∷ option_to_list (option_map because_view second.now)))) }
 {
-    let bounded = cause_text(alloc, bounded)?;
-    let step = cause_text(alloc, step)?;
-    let line = format!(in alloc; "unknown {label}: bounded {bounded}; step {step}\n")?;
+    let first = because_line(alloc, first)?;
+    let second = second_text(alloc, second)?;
+    let line = format!(in alloc; "unknown {label}: {first}{second}\n")?;
     push_line(lines, line)
 }
 
@@ -157,7 +191,7 @@ fn push_outcome(
     match outcome {
         Outcome::Valid => push_line(lines, format!(in alloc; "valid {label}\n")?),
         Outcome::Falsifiable { last, trace } => push_falsifiable(alloc, label, *last, trace, lines),
-        Outcome::Unknown { bounded, step } => push_unknown(alloc, label, bounded, step, lines),
+        Outcome::Unknown { first, second } => push_unknown(alloc, label, first, second, lines),
     }
 }
 

@@ -2,9 +2,13 @@ use Rattle.kind_main.specs.Answer as A
 use Rattle.kind_main.proofs.Answering.{ended_as}
 use Rattle.kind_main.proofs.answer.carried_out.Goals as goal
 
+pub prove_file-requires : goal.prove_file-requires
+prove_file-requires g c = (rw c.in-Some-Prove.field-0-is at c.in-Some-Prove.ensures).1
+
 pub returns-in-Some-Prove : goal.returns-in-Some-Prove
 returns-in-Some-Prove g c =
-    ended_as _ _ (λ e h. A.prove c.in-Some-Prove.source.now (rw c.in-Some-Prove.field-0-is at c.in-Some-Prove.ensures) h) _ c.prove_file.ensures
+    ended_as _ _ (λ e h. A.prove c.in-Some-Prove.source.now c.in-Some-Prove.options
+    (rw c.in-Some-Prove.field-0-is at c.in-Some-Prove.ensures).0 h) _ c.prove_file.ensures
 
 pub returns-in-Some-Replay : goal.returns-in-Some-Replay
 returns-in-Some-Replay g c =

@@ -1,4 +1,4 @@
-use Rattle.std.proofs.Common.{◌≡◌, suc, length, arith, sym, ◌∙◌, map}
+use Rattle.std.proofs.Common.{◌≡◌, length, arith, ◌∙◌}
 use Rattle.lus_tree.specs.View.{program_view}
 use Rattle.lus_meaning.specs.TraceView.{trace_view}
 use Rattle.sys_terms.specs.View.{state_view, states_view}

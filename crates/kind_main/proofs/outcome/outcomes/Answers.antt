@@ -1,4 +1,4 @@
-use Rattle.std.proofs.Common.{◌≡◌, ◌+◌, ◌<◌, ◌≤◌, length, arith, ap, ◌∙◌, sym, subst, map}
+use Rattle.std.proofs.Common.{◌≡◌, ◌+◌, ◌<◌, ◌≤◌, length, arith, ap, ◌∙◌, sym, subst}
 use Rattle.std.proofs.lemmas.List.{map-append}
 use Rattle.lus_tree.specs.View.{program_view}
 use Rattle.sys_terms.specs.View.{system_view, term_view}
@@ -10,32 +10,32 @@ use Rattle.kind_main.proofs.outcome.outcomes.Goals as goal
 
 pub loop-i-preserved : goal.loop-i-preserved
 loop-i-preserved c =
-    let view : length (system_view c.args.system.now).properties ≡ length c.args.system.now.properties.items = as_long term_view
-    c.args.system.now.properties.items in
-    let len : c.len-i-end.result ≡ length c.args.system.now.properties.items = c.len-i-end.ensures ∙ c.args.system.now.properties.ok.0 in
-    let inside : c.loop-i.i < c.len-i-end.result = c.loop-i-test.true in
-    subst (DecidingUpTo (program_view c.args.checked.now) (c.loop-i.i + 1))
+    let view : length (system_view c.args.system).properties ≡ length c.args.system.properties.items = as_long term_view
+    c.args.system.properties.items in
+    let len : c.len-count.result ≡ length c.args.system.properties.items = c.len-count.ensures ∙ c.args.system.properties.ok.0 in
+    let inside : c.loop-i.i < c.len-count.result = c.loop-i-test.true in
+    subst (DecidingUpTo c.args.options (program_view c.args.checked.now) (c.loop-i.i + 1))
     (sym (ap outcomes_view c.in_ok-push.ensures.items ∙ map-append outcome_view c.loop-i.outcomes.items _))
-    (deciding_next (program_view c.args.checked.now) c.loop-i.i (outcomes_view c.loop-i.outcomes.items) _ c.loop-i.invariant
+    (deciding_next c.args.options (program_view c.args.checked.now) c.loop-i.i (outcomes_view c.loop-i.outcomes.items) _ c.loop-i.invariant
     (λ d checked.
     let many = as_many_properties (program_view c.args.checked.now)
-    (system_view c.args.system.now) c.requires.system c.checked_verdicts.ensures.formulas d checked in
+    (system_view c.args.system) c.requires.system c.checked_verdicts.ensures.formulas d checked in
     omega (arith, view, len, inside, many))
     c.in_ok-said_of.ensures)
 
 pub returns : goal.returns
 returns c =
-    let view : length (system_view c.args.system.now).properties ≡ length c.args.system.now.properties.items = as_long term_view
-    c.args.system.now.properties.items in
-    let len : c.len-i-end.result ≡ length c.args.system.now.properties.items = c.len-i-end.ensures ∙ c.args.system.now.properties.ok.0 in
-    let end : c.len-i-end.result ≤ c.loop-i.i = c.loop-i-test.false in
-    let within : c.loop-i.i ≤ c.len-i-end.result = c.loop-i.auto.i-end in
-    deciding_end (program_view c.args.checked.now) c.loop-i.i (outcomes_view c.loop-i.outcomes.items) c.loop-i.invariant
+    let view : length (system_view c.args.system).properties ≡ length c.args.system.properties.items = as_long term_view
+    c.args.system.properties.items in
+    let len : c.len-count.result ≡ length c.args.system.properties.items = c.len-count.ensures ∙ c.args.system.properties.ok.0 in
+    let end : c.len-count.result ≤ c.loop-i.i = c.loop-i-test.false in
+    let within : c.loop-i.i ≤ c.len-count.result = c.loop-i.auto.i-end in
+    deciding_end c.args.options (program_view c.args.checked.now) c.loop-i.i (outcomes_view c.loop-i.outcomes.items) c.loop-i.invariant
     (λ d checked.
     let many = as_many_properties (program_view c.args.checked.now)
-    (system_view c.args.system.now) c.requires.system c.checked_verdicts.ensures.formulas d checked in
+    (system_view c.args.system) c.requires.system c.checked_verdicts.ensures.formulas d checked in
     omega (arith, view, len, end, many))
     (λ d checked.
     let many = as_many_properties (program_view c.args.checked.now)
-    (system_view c.args.system.now) c.requires.system c.checked_verdicts.ensures.formulas d checked in
+    (system_view c.args.system) c.requires.system c.checked_verdicts.ensures.formulas d checked in
     omega (arith, view, len, within, many))

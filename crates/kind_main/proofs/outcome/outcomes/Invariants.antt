@@ -4,4 +4,4 @@ use Rattle.kind_main.proofs.Deciding.{DecidingUpTo}
 use Rattle.kind_main.proofs.outcome.outcomes.Given as goal
 
 abbrev pub invariant-loop-i : goal.invariant-loop-i
-invariant-loop-i l = DecidingUpTo (program_view l.checked) l.i (outcomes_view l.outcomes.items)
+invariant-loop-i l = DecidingUpTo l.options (program_view l.checked) l.i (outcomes_view l.outcomes.items)

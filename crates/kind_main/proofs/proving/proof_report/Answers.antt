@@ -1,8 +1,9 @@
-use Rattle.std.proofs.Common.{◌≡◌, ◌≤◌, length, map, refl, ap, ◌∙◌, sym, subst, arith}
-use Rattle.lus_tree.specs.View.{item_view, node_view, program_view}
+use Rattle.std.proofs.Common.{◌≡◌, ◌≤◌, length, map, refl, ap, ◌∙◌, sym, subst}
+use Rattle.lus_tree.specs.View.{node_view, program_view}
 use Rattle.lus_meaning.specs.Program.{instance_of}
 use Rattle.lus_meaning.specs.Property.{properties}
-use Rattle.induction.specs.Ready.{IsReady}
+use Rattle.kind_engine.specs.Ready.{IsReady}
+use Rattle.kind_main.specs.Options.{options_plan}
 use Rattle.kind_main.specs.Ending.{line_bytes, lines_view}
 use Rattle.kind_main.specs.Report.{labelled_in}
 use Rattle.kind_main.specs.Verdicts.{counts_of, outcome_view, outcomes_view, property_label, tally_of, verdict_report}
@@ -16,20 +17,21 @@ use Rattle.kind_main.proofs.proving.proof_report.Goals as goal
 
 pub outcomes-requires-clause-ready : goal.outcomes-requires-clause-ready
 outcomes-requires-clause-ready c =
-    subst IsReady (sym (c.in-Ok.ensures.exact (node_view c.node-node.result.now) c.node-node.ensures.rules))
-    (ready_system c.mild_systems.ensures c.small_systems.ensures c.systems_of_flags.ensures (program_view c.args.checked.now) (node_view c.node-node.result.now)
+    subst (λ m. IsReady m (options_plan c.args.options)) (sym (c.in-Ok.ensures.exact (node_view c.node-node.result.now) c.node-node.ensures.rules))
+    (ready_system c.mild_systems.ensures c.small_systems.ensures c.few_properties.ensures c.systems_of_flags.ensures c.args.options c.requires.range
+    (program_view c.args.checked.now) (node_view c.node-node.result.now)
     c.node-node.ensures.rules c.node-node.ensures.limits)
 
 pub verdict_report-requires : goal.verdict_report-requires
 verdict_report-requires c =
     let labels = labelled_many (program_view c.args.checked.now) (node_view c.node-node.result.now) c.node-node.ensures.rules in
-    let verdicts = as_many_verdicts (program_view c.args.checked.now) (node_view c.node-node.result.now) 0 _ _
+    let verdicts = as_many_verdicts c.args.options (program_view c.args.checked.now) (node_view c.node-node.result.now) 0 _ _
     (c.in_ok-outcomes.ensures (node_view c.node-node.result.now) c.node-node.ensures.rules) in
     rw (c.deref.ensures.value, c.deref-2.ensures.value) (labels ∙ (verdicts ∙ as_long outcome_view c.in_ok-outcomes.outcomes.items))
 
 pub of-tally-requires : goal.of-tally-requires
 of-tally-requires c =
-    let verdicts = as_many_verdicts (program_view c.args.checked.now) (node_view c.node-node.result.now) 0 _ _
+    let verdicts = as_many_verdicts c.args.options (program_view c.args.checked.now) (node_view c.node-node.result.now) 0 _ _
     (c.in_ok-outcomes.ensures (node_view c.node-node.result.now) c.node-node.ensures.rules) in
     let same : length (properties (instance_of (program_view c.args.checked.now) (node_view c.node-node.result.now))) ≡ length c.in_ok-outcomes.outcomes.items =
     verdicts ∙ as_long outcome_view c.in_ok-outcomes.outcomes.items in
@@ -41,7 +43,7 @@ returns c =
     let report : lines_view c.in_ok-lines.lines.items
     ≡ verdict_report (map property_label (labelled_in (node_view c.node-node.result.now).body)) (outcomes_view c.in_ok-outcomes.outcomes.items) =
     rw (c.deref.ensures.value, c.deref-2.ensures.value) at c.in_ok-lines.ensures in
-    proof_made (program_view c.args.checked.now) (node_view c.node-node.result.now) c.node-node.ensures.rules
+    proof_made c.args.options (program_view c.args.checked.now) (node_view c.node-node.result.now) c.node-node.ensures.rules
     (outcomes_view c.in_ok-outcomes.outcomes.items) (c.in_ok-outcomes.ensures (node_view c.node-node.result.now) c.node-node.ensures.rules)
     (lines_view c.in_ok-lines.lines.items) _ report (counts_of c.of-tally.result) counts
     (line_bytes c.into_bytes.result) (ap line_bytes c.into_bytes.ensures.value ∙ c.in_ok-summary.ensures)

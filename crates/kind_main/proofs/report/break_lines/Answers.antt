@@ -1,5 +1,4 @@
-use Rattle.std.proofs.Common.{arith, map}
-use Rattle.lus_tree.specs.View.{item_view}
+use Rattle.std.proofs.Common.{arith}
 use Rattle.kind_main.proofs.Reporting.{report-start, report-few, report-next, report-end}
 use Rattle.kind_main.proofs.report.break_lines.Goals as goal
 

@@ -1,4 +1,4 @@
-use Rattle.std.proofs.Common.{subst, sym, ◌∙◌}
+use Rattle.std.proofs.Common.{subst, sym}
 use Rattle.lus_tree.specs.View.{program_view}
 use Rattle.lus_tree.specs.Reason.{refusal_view}
 use Rattle.lus_tree.specs.Numbers.{AreNumbered}

@@ -1,4 +1,4 @@
-use Rattle.std.proofs.Common.{◌≡◌, length, map, ap, ◌∙◌, sym, arith}
+use Rattle.std.proofs.Common.{◌≡◌, length, map, ap, ◌∙◌, arith}
 use Rattle.lus_tree.specs.View.{item_view, named_view}
 use Rattle.kind_main.specs.Report.{labelled_in}
 use Rattle.kind_main.specs.Verdicts.{outcomes_view, property_label, verdict_report}

@@ -1,0 +1,36 @@
+//! An engine that does nothing.
+
+ghost use Rattle.std.specs.Prelude.{[], None};
+
+use board_core::{BoardSeat, Engine, EngineFault, Progress};
+use std::alloc::Global;
+
+/// Stands at the seat of an engine that is left out.
+#[derive(Clone, Copy, Debug)]
+pub struct Idle {}
+
+impl Engine for Idle {
+    ghost number = { λ e. None };
+
+    ghost machine = { λ e. None };
+
+    ghost plan = { λ e. None };
+
+    ghost known = { λ e. [] };
+
+    ghost owed = { λ e. [] };
+
+    ghost steps = { λ e. 0 };
+
+    fn turn<B: BoardSeat>(
+        &mut self,
+        _alloc: Global,
+        _seat: &mut B,
+    ) -> Result<Progress, EngineFault> {
+        Ok(Progress::Spent)
+    }
+
+    fn left(&self) -> u64 {
+        0
+    }
+}
