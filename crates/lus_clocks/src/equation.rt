@@ -10,12 +10,12 @@ ghost use Rattle.lus_streams.specs.Clocks.{clock_seen};
 ghost use Rattle.lus_clocks.specs.Items.{placed_walk, side_walk, some_other};
 ghost use Rattle.lus_streams.specs.Names.{names_view};
 
-use lus_streams::clock::{Clock, is_same};
-use lus_streams::lookup::side_clock;
-use lus_streams::names::Names;
 use crate::notes::stands_on;
 use crate::part::part;
 use lus_scopes::least::Least;
+use lus_streams::clock::{Clock, is_same};
+use lus_streams::lookup::side_clock;
+use lus_streams::names::Names;
 use lus_tree::{Expr, PlacedName, What};
 
 /// Notes the faults of an expression at a place of this clock.

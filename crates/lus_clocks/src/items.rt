@@ -7,10 +7,10 @@ ghost use Rattle.lus_scopes.specs.Least.{least_view, noted_all};
 ghost use Rattle.lus_clocks.specs.Items.{component_walk, contract_statement_walk, labelled_walk, placed_walk, statement_walk};
 ghost use Rattle.lus_streams.specs.Names.{names_view};
 
-use lus_streams::clock::Clock;
 use crate::equation::{equation, placed};
-use lus_streams::names::Names;
 use lus_scopes::least::Least;
+use lus_streams::clock::Clock;
+use lus_streams::names::Names;
 use lus_tree::{ContractItem, Expr, Item, Named};
 
 /// Notes the faults of an item of a body.

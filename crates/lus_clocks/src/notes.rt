@@ -8,9 +8,9 @@ ghost use Rattle.lus_scopes.specs.Least.{least_view, noted_all};
 ghost use Rattle.lus_streams.specs.Clocks.{clock_seen, clocks_seen};
 ghost use Rattle.lus_clocks.specs.Parts.{fit_notes, stand_notes};
 
-use lus_streams::clock::{Clock, is_same, or_else};
 use crate::found::Part;
 use lus_scopes::least::Least;
+use lus_streams::clock::{Clock, is_same, or_else};
 use lus_tree::{PlacedName, What};
 
 /// Whether a clock that is known is another one.

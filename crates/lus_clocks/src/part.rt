@@ -10,11 +10,11 @@ ghost use Rattle.lus_streams.specs.Names.{names_view};
 ghost use Rattle.lus_clocks.specs.Parts.{IsPart, fits_on};
 ghost use Rattle.lus_clocks.specs.Walk.{walk, walk_among, walk_each};
 
-use lus_streams::clock::{Clock, or_base, or_else};
 use crate::found::Part;
-use lus_streams::names::Names;
 use crate::notes::{branches, fits_on, pair, stands_on, triple};
 use lus_scopes::least::Least;
+use lus_streams::clock::{Clock, or_base, or_else};
+use lus_streams::names::Names;
 use lus_tree::{Expr, Form};
 
 /// Notes the faults of an expression, and gives what is known of it. The faults of its parts are

@@ -9,12 +9,12 @@ ghost use Rattle.lus_streams.specs.Owner.{owner_view};
 ghost use Rattle.lus_clocks.specs.Program.{KeepAll, Keeps, KeepsOf};
 
 use crate::items::component;
-use lus_streams::lookup::with_streams;
-use lus_streams::owner::Owner;
 use crate::sites::table_of;
-use lus_streams::streams::streams_of;
 use crate::table::Table;
 use lus_scopes::least::Least;
+use lus_streams::lookup::with_streams;
+use lus_streams::owner::Owner;
+use lus_streams::streams::streams_of;
 use lus_tree::{Decl, Program};
 use std::alloc::{AllocError, Global};
 

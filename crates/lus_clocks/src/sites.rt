@@ -12,11 +12,11 @@ ghost use Rattle.lus_clocks.specs.Program.{KeepsOf};
 ghost use Rattle.lus_clocks.specs.Sought.{clock_at_texts, import_at};
 ghost use Rattle.lus_clocks.specs.Table.{Writes};
 
+use crate::table::Table;
+use crate::write::write;
 use lus_streams::clock::Clock;
 use lus_streams::lookup::side_clock;
 use lus_streams::names::Names;
-use crate::table::Table;
-use crate::write::write;
 use lus_tree::{ContractItem, Definition, Expr, Item, Named};
 use std::alloc::{AllocError, Global};
 

@@ -9,8 +9,8 @@ ghost use Rattle.lus_clocks.specs.Sought.{if_there, is_arrow, is_call, is_pre};
 ghost use Rattle.lus_clocks.specs.Table.{Writes, kept};
 
 use crate::cells::{Cell, Sampling, read, write};
-use lus_streams::clock::Clock;
 use crate::occurrence::Occurrence;
+use lus_streams::clock::Clock;
 use std::alloc::{AllocError, Global};
 
 /// The clocks of a declaration's numbered occurrences, each kind by its numbers.

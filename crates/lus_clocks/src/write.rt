@@ -9,9 +9,9 @@ ghost use Rattle.lus_streams.specs.Names.{names_view};
 ghost use Rattle.lus_clocks.specs.Sought.{clock_at, clock_at_among};
 ghost use Rattle.lus_clocks.specs.Table.{Writes};
 
+use crate::table::Table;
 use lus_streams::clock::Clock;
 use lus_streams::names::Names;
-use crate::table::Table;
 use lus_tree::{Expr, Form};
 use std::alloc::{AllocError, Global};
 

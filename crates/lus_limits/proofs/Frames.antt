@@ -86,7 +86,8 @@ same_free ks xs n h (v ∷ vs) =
     ap (λ b. greater (cond b no_size (free_size (presence n (clock_from v.clock)))) (free_terms ks n vs)) (h v.name.text)
     ∙ ap (greater (cond (named_in v.name.text xs) no_size (free_size (presence n (clock_from v.clock))))) (same_free ks xs n h vs)
 
-own_is : (ks : List Name) (given : List Name) (n : Component) (r : ContractPeaks) → HasThese [] ks (given ++ left_names n) → own_known ks n r ≡ own_terms given n r
+own_is : (ks : List Name) (given : List Name) (n : Component) (r : ContractPeaks) → HasThese [] ks (given ++ left_names n) → own_known ks n r
+    ≡ own_terms given n r
 own_is ks given n r h =
     ap (λ f. greater (all_contract_terms n r.modes (contract_statements n))
     (greater (constant_terms n r.modes n.constants)

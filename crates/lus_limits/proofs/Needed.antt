@@ -100,7 +100,8 @@ found_one : (x : Name) (n : Component) (ns : List Component) (o : Option Compone
 found_one x n ns o true e r = refl
 found_one x n ns o false e r = r e
 
-pub found_at : (p : Program) (x : Name) → named_in x (names_of p) ≡ true → Some (get_or (components p) (number_of (names_of p) x) no_component) ≡ component_named p x
+pub found_at : (p : Program) (x : Name) → named_in x (names_of p) ≡ true → Some (get_or (components p) (number_of (names_of p) x) no_component)
+    ≡ component_named p x
 found_at [] x e = absurd (false≢true e)
 found_at (declared_constant c ∷ ds) x e = found_at ds x e
 found_at (declared_node n ∷ ds) x e = found_one x n (components ds) (component_named ds x) (bytes_eq x n.name.text) e (found_at ds x)
@@ -259,5 +260,6 @@ pub tried_none : (names : List Name) (ps : List Owner) (os : List (Option Needs)
     → calls_known names os (owner_view o) ≡ false → IsTried names (map owner_view ps) os os k false
 tried_none names ps os k o h e s = none_more names (map owner_view ps) os k (λ _. ap (calls_known names os) (mapped_at ps k o h e) ∙ s)
 
-pub tried_known : (names : List Name) (ns : List Component) (os : List (Option Needs)) (k : ℕ) (b : Bool) → b ≡ is_known os k → b ≡ true → IsTried names ns os os k false
+pub tried_known : (names : List Name) (ns : List Component) (os : List (Option Needs)) (k : ℕ) (b : Bool) → b ≡ is_known os k → b ≡ true
+    → IsTried names ns os os k false
 tried_known names ns os k b e t = none_more names ns os k (λ u. absurd (false≢true (sym u ∙ sym e ∙ t)))

@@ -57,7 +57,8 @@ node_terms_known p c known a k h = go (at_number p (components p) known k a.righ
     zs = map (sizes_at (names_of p) known) (map called_of (all_sites n))
 
     go : (d : Needs) × IsAt p (components p) known k n d
-        → cut_term (node_terms (names_of p) known (map called_of (all_sites n)) n (sizes_or (get_or known k None))) ≡ cut_term (peak (term_sizes (instance_of p n)))
+        → cut_term (node_terms (names_of p) known (map called_of (all_sites n)) n (sizes_or (get_or known k None))) ≡ cut_term
+        (peak (term_sizes (instance_of p n)))
     go (d, i) =
         let z : sizes_or (get_or known k None) ≡ cut_summary (size_summary_of p n) = ap sizes_or i.needs ∙ i.right.sizes in
         let s : zs ≡ map cut_summary (summaries_at p (all_sites n)) = sizes_are p known a.right (all_sites n) (callees_known p c known a k h) in

@@ -104,7 +104,8 @@ mutual
       ∙ ap (λ z. greater z (all_seen n ms (occurrences n (moved (sampled_by false x.text) s) b))) (inner_is n ms (moved (sampled_by true x.text) s) a)
       ∙ ap (greater (inner_in n ms (sampled_by true x.text) a)) (inner_is n ms (moved (sampled_by false x.text) s) b)
   inner_is n ms s (call p k f as_) =
-      site_seen (peak (two leaf (presence n s.clock) ∷ map (λ a. given_size leaf (size_in n ms a)) (listed as_))) (all_seen n ms (occurrences_among n (within s) as_))
+      site_seen (peak (two leaf (presence n s.clock) ∷ map (λ a. given_size leaf (size_in n ms a)) (listed as_)))
+      (all_seen n ms (occurrences_among n (within s) as_))
       ∙ ap (λ x. greater x (all_seen n ms (occurrences_among n (within s) as_))) (call_is n ms s.clock (listed as_))
       ∙ ap (greater (call_terms n ms s.clock (listed as_))) (among_is n ms (within s) as_)
   inner_is n ms s (condact p k a f as_ ds) =
@@ -116,7 +117,8 @@ mutual
       ∙ ap (greater (condition_terms n ms s.clock a (listed as_)))
       (seen_both n ms (occurrences n (within s) a) (occurrences_among n (within s) as_ ++ occurrences_among n (within s) ds)
       ∙ ap (greater (all_seen n ms (occurrences n (within s) a))) (seen_both n ms (occurrences_among n (within s) as_) (occurrences_among n (within s) ds))
-      ∙ ap (λ x. greater x (greater (all_seen n ms (occurrences_among n (within s) as_)) (all_seen n ms (occurrences_among n (within s) ds)))) (inner_is n ms (within s) a)
+      ∙ ap (λ x. greater x (greater (all_seen n ms (occurrences_among n (within s) as_)) (all_seen n ms (occurrences_among n (within s) ds))))
+      (inner_is n ms (within s) a)
       ∙ ap (λ x. greater (inner_in n ms s.clock a) (greater x (all_seen n ms (occurrences_among n (within s) ds)))) (among_is n ms (within s) as_)
       ∙ ap (λ x. greater (inner_in n ms s.clock a) (greater (inner_among n ms s.clock as_) x)) (among_is n ms (within s) ds))
   inner_is n ms s (mode_name p c m) = nothing_seen no_size
@@ -138,7 +140,8 @@ split_greatest xs ys us vs =
     ap (λ z. greater z (peak (us ++ vs))) (peak_both xs ys) ∙ ap (greater (greater (peak xs) (peak ys))) (peak_both us vs)
     ∙ crossed (peak xs) (peak ys) (peak us) (peak vs)
 
-pub sites_both : (n : Component) (ms : ModeSizes) (xs ys : List Site) → all_site_terms n ms (xs ++ ys) ≡ greater (all_site_terms n ms xs) (all_site_terms n ms ys)
+pub sites_both : (n : Component) (ms : ModeSizes) (xs ys : List Site) → all_site_terms n ms (xs ++ ys) ≡ greater (all_site_terms n ms xs)
+    (all_site_terms n ms ys)
 sites_both n ms [] ys = sym (none_greater (all_site_terms n ms ys))
 sites_both n ms (x ∷ xs) ys =
     ap (greater (site_terms n ms x)) (sites_both n ms xs ys)
@@ -158,12 +161,15 @@ gathered_seen n ms (o ∷ os) =
     let c : List Site = site_in o.standing o.expression in
     let co : List Site = flat_map (λ o. site_in o.standing o.expression) os in
     ap (λ x. greater (greater (peak x) (peak (map (start_size n) (s ++ so)))) (all_site_terms n ms (c ++ co))) (map_append (memory_size n ms) m mo)
-    ∙ ap (λ x. greater (greater (peak (map (memory_size n ms) m ++ map (memory_size n ms) mo)) (peak x)) (all_site_terms n ms (c ++ co))) (map_append (start_size n) s so)
+    ∙ ap (λ x. greater (greater (peak (map (memory_size n ms) m ++ map (memory_size n ms) mo)) (peak x)) (all_site_terms n ms (c ++ co)))
+    (map_append (start_size n) s so)
     ∙ ap (λ x. greater x (all_site_terms n ms (c ++ co)))
     (split_greatest (map (memory_size n ms) m) (map (memory_size n ms) mo) (map (start_size n) s) (map (start_size n) so))
-    ∙ ap (greater (greater (greater (peak (map (memory_size n ms) m)) (peak (map (start_size n) s))) (greater (peak (map (memory_size n ms) mo)) (peak (map (start_size n) so)))))
+    ∙ ap (greater (greater (greater (peak (map (memory_size n ms) m)) (peak (map (start_size n) s)))
+    (greater (peak (map (memory_size n ms) mo)) (peak (map (start_size n) so)))))
     (sites_both n ms c co)
-    ∙ crossed (greater (peak (map (memory_size n ms) m)) (peak (map (start_size n) s))) (greater (peak (map (memory_size n ms) mo)) (peak (map (start_size n) so)))
+    ∙ crossed (greater (peak (map (memory_size n ms) m)) (peak (map (start_size n) s)))
+    (greater (peak (map (memory_size n ms) mo)) (peak (map (start_size n) so)))
     (all_site_terms n ms c) (all_site_terms n ms co)
     ∙ ap (greater (own_of n ms o)) (gathered_seen n ms os)
 
@@ -258,7 +264,8 @@ peak_sides : (n : Component) (ms : ModeSizes) (xs ys : List Equation) →
 peak_sides n ms xs ys = ap peak (map_append (side n ms) xs ys) ∙ peak_both (map (side n ms) xs) (map (side n ms) ys)
 
 contract_seen : (n : Component) (ms : ModeSizes) (cs : List ContractStatement) →
-    greater (peak (map (side n ms) (ghost_equations cs))) (greater (texts_seen n ms (flat_map contract_statement_texts cs)) (all_site_terms n ms (flat_map import_site cs)))
+    greater (peak (map (side n ms) (ghost_equations cs))) (greater (texts_seen n ms (flat_map contract_statement_texts cs))
+    (all_site_terms n ms (flat_map import_site cs)))
     ≡ all_contract_terms n ms cs
 contract_seen n ms [] = same_size (greater no_size (greater no_size no_size)) no_size (omega arith) (omega arith)
 contract_seen n ms (c ∷ cs) =
@@ -268,7 +275,8 @@ contract_seen n ms (c ∷ cs) =
     let ts : Size = texts_seen n ms (flat_map contract_statement_texts cs) in
     let i : Size = all_site_terms n ms (import_site c) in
     let is : Size = all_site_terms n ms (flat_map import_site cs) in
-    ap (λ x. greater x (greater (texts_seen n ms (contract_statement_texts c ++ flat_map contract_statement_texts cs)) (all_site_terms n ms (import_site c ++ flat_map import_site cs))))
+    ap (λ x. greater x (greater (texts_seen n ms (contract_statement_texts c ++ flat_map contract_statement_texts cs))
+    (all_site_terms n ms (import_site c ++ flat_map import_site cs))))
     (ap (λ z. peak (map (side n ms) z)) (ghosts_of_one c cs) ∙ peak_sides n ms (ghost_equations (c ∷ [])) (ghost_equations cs))
     ∙ ap (λ x. greater (greater g gs) (greater x (all_site_terms n ms (import_site c ++ flat_map import_site cs))))
     (texts_both n ms (contract_statement_texts c) (flat_map contract_statement_texts cs))
@@ -298,7 +306,8 @@ equations_of_one (assertion e) ss = refl
 equations_of_one (property l) ss = refl
 equations_of_one (main_mark p) ss = refl
 
-asserts_of_one : (n : Component) (ms : ModeSizes) (s : Statement) (ss : List Statement) → assert_sizes n ms (s ∷ ss) ≡ assert_sizes n ms (s ∷ []) ++ assert_sizes n ms ss
+asserts_of_one : (n : Component) (ms : ModeSizes) (s : Statement) (ss : List Statement) → assert_sizes n ms (s ∷ ss) ≡ assert_sizes n ms (s ∷ [])
+    ++ assert_sizes n ms ss
 asserts_of_one n ms (equation xs e) ss = refl
 asserts_of_one n ms (assertion e) ss = refl
 asserts_of_one n ms (property l) ss = refl
@@ -311,14 +320,16 @@ body_seen n ms [] = same_size (greater no_size (greater no_size no_size)) no_siz
 body_seen n ms (s ∷ ss) =
     ap (λ x. greater x (greater (texts_seen n ms (statement_texts n s ++ flat_map (statement_texts n) ss)) (peak (assert_sizes n ms (s ∷ ss)))))
     (ap (λ z. peak (map (side n ms) z)) (equations_of_one s ss) ∙ peak_sides n ms (body_equations (s ∷ [])) (body_equations ss))
-    ∙ ap (λ x. greater (greater (peak (map (side n ms) (body_equations (s ∷ [])))) (peak (map (side n ms) (body_equations ss)))) (greater x (peak (assert_sizes n ms (s ∷ ss)))))
+    ∙ ap (λ x. greater (greater (peak (map (side n ms) (body_equations (s ∷ [])))) (peak (map (side n ms) (body_equations ss))))
+    (greater x (peak (assert_sizes n ms (s ∷ ss)))))
     (texts_both n ms (statement_texts n s) (flat_map (statement_texts n) ss))
     ∙ ap (λ x. greater (greater (peak (map (side n ms) (body_equations (s ∷ [])))) (peak (map (side n ms) (body_equations ss))))
     (greater (greater (texts_seen n ms (statement_texts n s)) (texts_seen n ms (flat_map (statement_texts n) ss))) x))
     (ap peak (asserts_of_one n ms s ss) ∙ peak_both (assert_sizes n ms (s ∷ [])) (assert_sizes n ms ss))
     ∙ in_front (peak (map (side n ms) (body_equations (s ∷ [])))) (texts_seen n ms (statement_texts n s)) (peak (assert_sizes n ms (s ∷ [])))
     (peak (map (side n ms) (body_equations ss))) (texts_seen n ms (flat_map (statement_texts n) ss)) (peak (assert_sizes n ms ss))
-    ∙ ap (λ x. greater x (greater (peak (map (side n ms) (body_equations ss))) (greater (texts_seen n ms (flat_map (statement_texts n) ss)) (peak (assert_sizes n ms ss)))))
+    ∙ ap (λ x. greater x (greater (peak (map (side n ms) (body_equations ss)))
+    (greater (texts_seen n ms (flat_map (statement_texts n) ss)) (peak (assert_sizes n ms ss)))))
     (statement_seen n ms s)
     ∙ ap (greater (statement_terms n ms s)) (body_seen n ms ss)
 

@@ -183,7 +183,8 @@ all_alike as_ bs h = all_cut as_ ∙ ap (λ ss. cut_term (all_of ss)) h ∙ sym 
 
 -- ---- contracts
 
-pub same_peaks : (a b : ContractPeaks) → a.assumes ≡ b.assumes → a.assumed ≡ b.assumed → a.promises ≡ b.promises → a.active ≡ b.active → a.modes ≡ b.modes → a ≡ b
+pub same_peaks : (a b : ContractPeaks) → a.assumes ≡ b.assumes → a.assumed ≡ b.assumed → a.promises ≡ b.promises → a.active ≡ b.active → a.modes
+    ≡ b.modes → a ≡ b
 same_peaks a b e f g h k = λ i. record { assumes = e i; assumed = f i; promises = g i; active = h i; modes = k i }
 
 abbrev Same : ContractPeaks → ContractPeaks → Type 0
@@ -213,7 +214,8 @@ mode_alike r q m s t h e =
     (modes_both r.modes ((([], m), s) ∷ []) ∙ ap (λ x. x ++ (([], m), cut_term s) ∷ []) (ap (λ z. z.modes) h)
     ∙ ap (λ x. cut_modes q.modes ++ (([], m), x) ∷ []) e ∙ sym (modes_both q.modes ((([], m), t) ∷ [])))
 
-pub imported_cut : (c : Name) (ms : ModeSizes) → cut_modes (map (imported_size c) (those_with is_own ms)) ≡ map (imported_size c) (those_with is_own (cut_modes ms))
+pub imported_cut : (c : Name) (ms : ModeSizes) → cut_modes (map (imported_size c) (those_with is_own ms)) ≡ map (imported_size c)
+    (those_with is_own (cut_modes ms))
 imported_cut c [] = refl
 imported_cut c (m ∷ ms) = by_case (is_own m.0.0) (imported_cut c ms) where
   by_case : (b : Bool) → cut_modes (map (imported_size c) (those_with is_own ms)) ≡ map (imported_size c) (those_with is_own (cut_modes ms)) →
@@ -239,16 +241,17 @@ sizes_alike : (n : Component) (ms ns : ModeSizes) → cut_modes ms ≡ cut_modes
 sizes_alike n ms ns h ls = each_alike (λ l. size_in n ms l.value) (λ l. size_in n ns l.value) (λ l. expression_alike n ms ns h l.value) ls
 
 pub asked_alike : (s t : Size) → Alike s t → (as_ bs : List Size) → AllAlike as_ bs → AllAlike (map (asked_size s) as_) (map (asked_size t) bs)
-asked_alike s t e as_ bs h = asked_cut s as_ ∙ ap (λ ss. map cut_term (map (asked_size s) ss)) h ∙ sym (asked_cut s bs) ∙ each_alike (asked_size s) (asked_size t) (one_asked) bs where
-  asked_cut : (s : Size) (ss : List Size) → AllAlike (map (asked_size s) ss) (map (asked_size s) (map cut_term ss))
-  asked_cut s [] = refl
-  asked_cut s (x ∷ ss) =
-      ap (λ y. y ∷ map cut_term (map (asked_size s) ss))
-      (one_alike _ _ (two_alike s s (one x) (one (cut_term x)) refl (one_alike x (cut_term x) (sym (twice x)))))
-      ∙ ap (λ r. cut_term (asked_size s (cut_term x)) ∷ r) (asked_cut s ss)
+asked_alike s t e as_ bs h = asked_cut s as_ ∙ ap (λ ss. map cut_term (map (asked_size s) ss)) h ∙ sym (asked_cut s bs) ∙ each_alike
+    (asked_size s) (asked_size t) (one_asked) bs where
+      asked_cut : (s : Size) (ss : List Size) → AllAlike (map (asked_size s) ss) (map (asked_size s) (map cut_term ss))
+      asked_cut s [] = refl
+      asked_cut s (x ∷ ss) =
+          ap (λ y. y ∷ map cut_term (map (asked_size s) ss))
+          (one_alike _ _ (two_alike s s (one x) (one (cut_term x)) refl (one_alike x (cut_term x) (sym (twice x)))))
+          ∙ ap (λ r. cut_term (asked_size s (cut_term x)) ∷ r) (asked_cut s ss)
 
-  one_asked : (x : Size) → Alike (asked_size s x) (asked_size t x)
-  one_asked x = one_alike _ _ (two_alike s t (one x) (one x) e refl)
+      one_asked : (x : Size) → Alike (asked_size s x) (asked_size t x)
+      one_asked x = one_alike _ _ (two_alike s t (one x) (one x) e refl)
 
 pub after_alike : (n : Component) (sub tub : ℕ → ContractPeaks) → ((k : ℕ) → Same (sub k) (tub k)) → (cs : List ContractStatement)
     (r q : ContractPeaks) → Same r q → Same (peaks_after n sub r cs) (peaks_after n tub q cs)

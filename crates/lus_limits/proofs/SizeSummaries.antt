@@ -52,16 +52,19 @@ size_same n ms (name p x) = refl
 size_same n ms (negation p a) = ap (λ x. unless_fixed n a (one x)) (size_same n ms a)
 size_same n ms (minus p a) = ap (λ x. unless_fixed n a (one x)) (size_same n ms a)
 size_same n ms (pre p k a) = refl
-size_same n ms (arrow p k a b) = ap (λ x. three leaf x (size_in n ms b)) (size_same n ms a) ∙ ap (λ x. three leaf (size_in n (those_with can_be_named ms) a) x) (size_same n ms b)
+size_same n ms (arrow p k a b) = ap (λ x. three leaf x (size_in n ms b)) (size_same n ms a) ∙ ap
+    (λ x. three leaf (size_in n (those_with can_be_named ms) a) x) (size_same n ms b)
 size_same n ms (binary p o a b) =
     ap (λ x. unless_fixed n (binary p o a b) (operator_size o (is_fixed n a) x (size_in n ms b))) (size_same n ms a)
     ∙ ap (λ x. unless_fixed n (binary p o a b) (operator_size o (is_fixed n a) (size_in n (those_with can_be_named ms) a) x)) (size_same n ms b)
 size_same n ms (choice p a b c) =
     ap (λ x. unless_fixed n (choice p a b c) (three x (size_in n ms b) (size_in n ms c))) (size_same n ms a)
     ∙ ap (λ x. unless_fixed n (choice p a b c) (three (size_in n (those_with can_be_named ms) a) x (size_in n ms c))) (size_same n ms b)
-    ∙ ap (λ x. unless_fixed n (choice p a b c) (three (size_in n (those_with can_be_named ms) a) (size_in n (those_with can_be_named ms) b) x)) (size_same n ms c)
+    ∙ ap (λ x. unless_fixed n (choice p a b c) (three (size_in n (those_with can_be_named ms) a) (size_in n (those_with can_be_named ms) b) x))
+    (size_same n ms c)
 size_same n ms (sampled p a b x) = size_same n ms a
-size_same n ms (merged p x a b) = ap (λ x. three leaf x (size_in n ms b)) (size_same n ms a) ∙ ap (λ x. three leaf (size_in n (those_with can_be_named ms) a) x) (size_same n ms b)
+size_same n ms (merged p x a b) = ap (λ x. three leaf x (size_in n ms b)) (size_same n ms a) ∙ ap
+    (λ x. three leaf (size_in n (those_with can_be_named ms) a) x) (size_same n ms b)
 size_same n ms (call p k f as_) = refl
 size_same n ms (condact p k a f as_ ds) = refl
 size_same n ms (mode_name p c m) = ap (λ o. unwrap_or o leaf) (named_same (option_map text_of c) m.text ms)
@@ -259,7 +262,8 @@ frame_of_is p (as_import xs) c = refl
 frame_of_is p plain c = refl
 frame_of_is p (while_true a) c = refl
 
-frame_is : (p : Program) (s : Site) (c : Component) → peak (frame_sizes (from_caller s (instance_of p c)) (instance_of p c)) ≡ frame_of s.manner (size_summary_of p c)
+frame_is : (p : Program) (s : Site) (c : Component) → peak (frame_sizes (from_caller s (instance_of p c)) (instance_of p c)) ≡ frame_of s.manner
+    (size_summary_of p c)
 frame_is p s c =
     ap (λ g. peak (frame_sizes g (instance_of p c))) (given_is s.manner (instance_of p c) ∙ ap (given_of s.manner) (component_called p c))
     ∙ frame_of_is p s.manner c
@@ -296,7 +300,8 @@ size_summary_by_text p c n i =
     ap contract_peaks (contract_sizes_by_text p c n i) ∙ contract_is p n in
     let q : contract_peaks (contract_sizes (made p n)) ≡ contract_by (summaries_at p (all_sites n)) n =
     ap (λ k. contract_peaks (contract_sizes k)) (sym e) ∙ r in
-    let f : (given : List Name) → peak (frame_sizes given (instance_of p n)) ≡ frame_by (summaries_at p (all_sites n)) given n (contract_by (summaries_at p (all_sites n)) n) =
+    let f : (given : List Name) → peak (frame_sizes given (instance_of p n)) ≡ frame_by (summaries_at p (all_sites n)) given n
+    (contract_by (summaries_at p (all_sites n)) n) =
     λ given. ap (λ k. peak (frame_sizes given k)) e ∙ frame_made p n given ∙ ap (frame_by (summaries_at p (all_sites n)) given n) q in
     same_summary (size_summary_of p n) (size_summary_by (summaries_at p (all_sites n)) n) r (f (inputs_given n)) (f (all_given n))
 

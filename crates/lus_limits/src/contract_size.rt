@@ -99,7 +99,8 @@ fn promised<'a>(scope: Scope<'a, '_>, asked: Size, e: &'a Expr) -> Size
 /// The greatest of what a mode ensures under requires of that size.
 #[tactic(auto, using(crate::proofs::Greatest::greatest_on, crate::proofs::Greatest::greatest_cut, crate::proofs::Greatest::greatest_end))]
 fn ensured<'a>(scope: Scope<'a, '_>, asked: Size, labelled: &'a [Named]) -> Size
-    ensures { size_view result ≡ cut_term (peak (map (asked_size (size_view asked)) (sizes_of (names_view scope.entry.names)
+    ensures { size_view result ≡ cut_term (peak
+        (map (asked_size (size_view asked)) (sizes_of (names_view scope.entry.names)
         (modes_view scope.entry.modes.now) (map named_view labelled.now)))) }
 {
     let mut size = no_size();
@@ -202,7 +203,8 @@ fn add_mode_item<'a>(
 ) -> Result<(), AllocError>
     requires { IsCut (contract_seen contract.old) }
     ensures { OnOk result (contract_seen contract.new ≡ cut_peaks (mode_after (names_view names.entry)
-        (contract_seen contract.old) (word_view mode.now).text (map named_view conditions.now) (map named_view promises.now))) }
+        (contract_seen contract.old) (word_view mode.now).text (map named_view conditions.now)
+        (map named_view promises.now))) }
 {
     let scope = Scope {
         names,

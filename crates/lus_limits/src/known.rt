@@ -46,7 +46,8 @@ fn add_words(alloc: Global, names: &mut NameTable, words: &[PlacedName]) -> Resu
 
 /// Adds the name of an item's ghost variable, where it is one.
 fn add_ghost(alloc: Global, names: &mut NameTable, item: &ContractItem) -> Result<(), AllocError>
-    ensures { OnOk result (HasThese names.old names.new (lefts_of (ghost_equations (contract_item_view item.now ∷ [])))) }
+    ensures { OnOk result (HasThese names.old names.new
+        (lefts_of (ghost_equations (contract_item_view item.now ∷ [])))) }
 {
     if let ContractItem::Ghost(stream, _) = item {
         add(alloc, names, &stream.name.text)?;
@@ -60,7 +61,8 @@ fn add_ghosts(
     names: &mut NameTable,
     items: &[ContractItem],
 ) -> Result<(), AllocError>
-    ensures { OnOk result (HasThese names.old names.new (lefts_of (ghost_equations (map contract_item_view items.now)))) }
+    ensures { OnOk result (HasThese names.old names.new
+        (lefts_of (ghost_equations (map contract_item_view items.now)))) }
 {
     for item in items {
         add_ghost(alloc, names, item)?;
@@ -94,7 +96,8 @@ fn add_lefts(alloc: Global, names: &mut NameTable, items: &[Item]) -> Result<(),
 ///
 /// Want of memory.
 pub(crate) fn known_when_called(alloc: Global, owner: Owner<'_>) -> Result<NameTable, AllocError>
-    ensures { IfOk result (λ t. HasThese [] t (inputs_given (owner_view owner.entry) ++ left_names (owner_view owner.entry))) }
+    ensures { IfOk result (λ t. HasThese [] t (inputs_given (owner_view owner.entry) ++ left_names
+        (owner_view owner.entry))) }
 {
     let mut names = NameTable::new(alloc);
     add_streams(alloc, &mut names, owner.inputs())?;
@@ -109,7 +112,8 @@ pub(crate) fn known_when_called(alloc: Global, owner: Owner<'_>) -> Result<NameT
 ///
 /// Want of memory.
 pub(crate) fn known_when_imported(alloc: Global, owner: Owner<'_>) -> Result<NameTable, AllocError>
-    ensures { IfOk result (λ t. HasThese [] t (all_given (owner_view owner.entry) ++ left_names (owner_view owner.entry))) }
+    ensures { IfOk result (λ t. HasThese [] t (all_given (owner_view owner.entry) ++ left_names
+        (owner_view owner.entry))) }
 {
     let mut names = NameTable::new(alloc);
     add_streams(alloc, &mut names, owner.inputs())?;

@@ -188,7 +188,8 @@ fn linked(
     requires known { length known.now ≡ length names.now }
     requires called { map call_view calls.now ≡ map called_of (all_sites (owner_view owner)) }
     requires all { all_known names.now known.now (map call_view calls.now) ≡ true }
-    requires linked { links.now ≡ map (link_at names.now (map owner_view parts.now) known.now) (map call_view calls.now) }
+    requires linked { links.now ≡ map (link_at names.now (map owner_view parts.now) known.now)
+        (map call_view calls.now) }
     ensures { IfOk result (λ d. AreNeedsBy names.now (map owner_view parts.now) known.now (owner_view owner.entry) d) }
 {
     let _ = parts;

@@ -23,7 +23,8 @@ fn round(
 ) -> Result<bool, AllocError>
     requires known { length known.old.items ≡ length names.now }
     requires parts { length parts.now ≡ length names.now }
-    ensures { IfOk result (λ b. AreTried names.now (map owner_view parts.now) known.old.items known.new.items (length parts.now) b) }
+    ensures { IfOk result (λ b. AreTried names.now (map owner_view parts.now) known.old.items known.new.items
+        (length parts.now) b) }
 {
     let mut more = false;
     for number in 0..parts.len() {

@@ -100,7 +100,8 @@ module _ (start : ℕ) where
   from_joined_less [] k t = rw t refl
   from_joined_less (d ∷ ds) k t = go (nat_lt d start) (from_joined_less ds k t)
     where
-      go : (b : Bool) → from_on start (ds ++ k ∷ []) ≡ from_on start ds → cond b (from_on start (ds ++ k ∷ [])) ((d - start) ∷ from_on start (ds ++ k ∷ [])) ≡ cond b (from_on start ds)
+      go : (b : Bool) → from_on start (ds ++ k ∷ []) ≡ from_on start ds → cond b (from_on start (ds ++ k ∷ []))
+          ((d - start) ∷ from_on start (ds ++ k ∷ [])) ≡ cond b (from_on start ds)
           ((d - start) ∷ from_on start ds)
       go true e = e
       go false e = ap (λ z. (d - start) ∷ z) e
@@ -109,7 +110,8 @@ module _ (start : ℕ) where
   from_joined_more [] k f = rw f refl
   from_joined_more (d ∷ ds) k f = go (nat_lt d start) (from_joined_more ds k f)
     where
-      go : (b : Bool) → from_on start (ds ++ k ∷ []) ≡ from_on start ds ++ (k - start) ∷ [] → cond b (from_on start (ds ++ k ∷ [])) ((d - start) ∷ from_on start (ds ++ k ∷ [])) ≡ cond b (from_on start ds)
+      go : (b : Bool) → from_on start (ds ++ k ∷ []) ≡ from_on start ds ++ (k - start) ∷ [] → cond b (from_on start (ds ++ k ∷ []))
+          ((d - start) ∷ from_on start (ds ++ k ∷ [])) ≡ cond b (from_on start ds)
           ((d - start) ∷ from_on start ds) ++ (k - start) ∷ []
       go true e = e
       go false e = ap (λ z. (d - start) ∷ z) e

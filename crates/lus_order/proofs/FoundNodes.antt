@@ -87,7 +87,8 @@ module _ (n : Component) (g : Summaries) (names : List Name) (rows : Rows) (d : 
             let p : LeadsTo rows i j = (streams_lead i j l below).1
             (subst (λ u. NodeLeads n g (of_name u) (of_name (name_at names j))) (sym s)
             (subst (λ u. NodeLeads n g (of_name x) (of_name u)) (sym named) leads_on)) in
-            begin i (p.first ∷ p.rest) (stands.whole i l (subst (λ u. named_in u xs ≡ true) (sym s) e)) (outer_path rows row nodes.closed i (p.first ∷ p.rest) inside p.path) p.last
+            begin i (p.first ∷ p.rest) (stands.whole i l (subst (λ u. named_in u xs ≡ true) (sym s) e))
+            (outer_path rows row nodes.closed i (p.first ∷ p.rest) inside p.path) p.last
 
     pub both : RowLeadsTo rows row j ↔ Finds (own_edges n g) xs y
     both = (

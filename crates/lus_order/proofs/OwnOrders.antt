@@ -25,7 +25,8 @@ orders_least p grammatical typed n d g exact e names rows nodes ks o =
     same : (k j : ℕ) → NodeLeads n g (of_equation k) (of_equation j) ↔ LeadsFrom rows (length names) k j
     same k j = (
       λ w. (nodes.ways (length names + k) (length names + j)).1
-          (subst (λ a. NodeLeads n g a (node_at names (length names + j))) (sym (of_sum names k)) (subst (NodeLeads n g (of_equation k)) (sym (of_sum names j)) w)),
+          (subst (λ a. NodeLeads n g a (node_at names (length names + j))) (sym (of_sum names k))
+          (subst (NodeLeads n g (of_equation k)) (sym (of_sum names j)) w)),
       λ w. subst (λ a. NodeLeads n g a (of_equation j)) (of_sum names k)
           (subst (NodeLeads n g (node_at names (length names + k))) (of_sum names j) ((nodes.ways (length names + k) (length names + j)).0 w)),
     )

@@ -177,7 +177,8 @@ one_passed done (j ∷ row) (suc place) a l e =
 -- ---- as the code goes
 
 pub nothing_listed : (n m : ℕ) (done : List Bool) → done ≡ replicate m false → m ≡ n → (length done ≡ n) × AreListed n done []
-nothing_listed n m done e f = subst (λ z. (length z ≡ n) × AreListed n z []) (sym (e ∙ ap (λ k. replicate k false) f)) (length-replicate n false, listed_start n)
+nothing_listed n m done e f = subst (λ z. (length z ≡ n) × AreListed n z []) (sym (e ∙ ap (λ k. replicate k false) f))
+    (length-replicate n false, listed_start n)
 
 pub nothing_passed : (rows : Rows) (m : ℕ) (done : List Bool) (passed : List ℕ) → passed ≡ replicate m 0 → m ≡ length rows → ArePassed rows done passed
 nothing_passed rows m done passed e f = subst (ArePassed rows done) (sym (e ∙ ap (λ k. replicate k 0) f)) (passed_start rows done)

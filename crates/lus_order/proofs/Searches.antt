@@ -265,7 +265,8 @@ turn_of : (ks : List ℕ) (k : ℕ) → is_listed ks k ≡ true → (t : ℕ) ×
 turn_of [] k e = absurd (false≢true e)
 turn_of (i ∷ ks) k e = go (or_cases (eqb k i) (is_listed ks k) e) (turn_of ks k)
   where
-    go : (eqb k i ≡ true) ⊎ (is_listed ks k ≡ true) → (is_listed ks k ≡ true → (t : ℕ) × (t < length ks) × (get_or ks t 0 ≡ k)) → (t : ℕ) × (t < suc (length ks)) × (get_or (i ∷ ks) t 0 ≡ k)
+    go : (eqb k i ≡ true) ⊎ (is_listed ks k ≡ true) → (is_listed ks k ≡ true → (t : ℕ) × (t < length ks) × (get_or ks t 0 ≡ k)) → (t : ℕ) ×
+        (t < suc (length ks)) × (get_or (i ∷ ks) t 0 ≡ k)
     go (inl q) f = (0, omega arith, sym (eqb-true k i q))
     go (inr m) f = let r : (t : ℕ) × (t < length ks) × (get_or ks t 0 ≡ k) = f m in let h : r.0 < length ks = r.1 in (suc r.0, omega (arith, h), r.2)
 
@@ -296,7 +297,8 @@ any_default (k ∷ ks) (suc t) d e l = any_default ks t d e (omega arith)
 pub search_begins : (rows : Rows) (start n : ℕ) (ms : List Bool) (q row : List ℕ) (s : State) → ms ≡ replicate n false → n ≡ length rows → q ≡ []
     → row ≡ row_at rows start → s ≡ visited_all (ms, q) row → Searching rows start s 0
 search_begins rows start n ms q row s e f g h is = search_starts rows start s (is ∙ ap (λ r. visited_all (ms, q) r) h
-    ∙ ap (λ z. visited_all (z, q) (row_at rows start)) (e ∙ ap (λ k. replicate k false) f) ∙ ap (λ z. visited_all (replicate (length rows) false, z) (row_at rows start)) g)
+    ∙ ap (λ z. visited_all (z, q) (row_at rows start)) (e ∙ ap (λ k. replicate k false) f) ∙ ap
+    (λ z. visited_all (replicate (length rows) false, z) (row_at rows start)) g)
 
 pub search_step : (rows : Rows) (start number : ℕ) (row : List ℕ) (s s' : State) (turn : ℕ) → Searching rows start s turn → turn < length s.1
     → number ≡ get_or s.1 turn number → row ≡ row_at rows number → s' ≡ visited_all s row → Searching rows start s' (turn + 1)

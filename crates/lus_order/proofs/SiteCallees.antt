@@ -111,7 +111,8 @@ module _ (g h : Summaries) where
   same_statements n (ghost_variable x e ∷ cs) a b = (tt, same_statements n cs a.1 b)
   same_statements n (constant c ∷ cs) a b = (tt, same_statements n cs a.1 b)
   same_statements n (mode m rs es ∷ cs) a b =
-      let q : AllByRecursion (InText n) (on_base rs ++ on_base es) = left_part (InText n) (on_base rs ++ on_base es) (flat_map contract_statement_texts cs) a in (
+      let q : AllByRecursion (InText n) (on_base rs ++ on_base es) = left_part (InText n) (on_base rs ++ on_base es)
+      (flat_map contract_statement_texts cs) a in (
         of_labels n rs (left_part (InText n) (on_base rs) (on_base es) q),
         same_statements n cs (right_part (InText n) (on_base rs ++ on_base es) (flat_map contract_statement_texts cs) a) b,
       )

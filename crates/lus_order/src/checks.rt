@@ -25,8 +25,8 @@ use crate::learned::library_of;
 use crate::left_names::left_names;
 use crate::library::Library;
 use crate::ordered::ordered;
-use lus_streams::owner::Owner;
 use lus_scopes::least::Least;
+use lus_streams::owner::Owner;
 use lus_tree::{Pos, Program, Refusal, What};
 use std::alloc::{AllocError, Global};
 
@@ -37,7 +37,8 @@ fn all_ordered<'a>(
     library: &Library<'a>,
     owners: &[Owner<'a>],
 ) -> Result<Vec<Vec<usize>>, AllocError>
-    requires distinct { (n : Component) → Contains (map owner_view owners.now) n → AreDistinct (names_of (variables n)) }
+    requires distinct { (n : Component) → Contains (map owner_view owners.now) n → AreDistinct
+        (names_of (variables n)) }
     requires flags { AreFlagsOf (library_view library.now) (callees_view library.now.callees) }
     ensures noted { IfOk result (λ _. AllNoted (map owner_view owners.now) (library_view library.now)
         (least_view least.old) (least_view least.new)) }
@@ -63,7 +64,8 @@ struct Found {
 fn checked(alloc: Global, program: &Program) -> Result<Found, AllocError>
     requires grammatical { IsGrammatical (program_view program.now) }
     requires typed { IsTyped (program_view program.now) }
-    ensures { IfOk result (λ f. IsCheckedBy (program_view program.now) (least_view f.least) (map (λ o. o.items) f.orders.items)) }
+    ensures { IfOk result (λ f. IsCheckedBy (program_view program.now) (least_view f.least)
+        (map (λ o. o.items) f.orders.items)) }
 {
     let mut least = Least::new();
     left_names(alloc, program, &mut least)?;
@@ -76,7 +78,8 @@ fn checked(alloc: Global, program: &Program) -> Result<Found, AllocError>
 /// The orders, where no fault was found.
 fn with_orders(found: Found) -> Result<Vec<Vec<usize>>, Refusal>
     ensures { (p : ProgramTree) → IsCheckedBy p (least_view found.least) (map (λ o. o.items) found.orders.items)
-        → MatchResult result (λ v. HasNone (IsEquationFault p) × AreLeastOrders p (components p) (map (λ o. o.items) v.items))
+        → MatchResult result (λ v. HasNone (IsEquationFault p) × AreLeastOrders p (components p)
+        (map (λ o. o.items) v.items))
         (λ e. IsFirst (IsEquationFault p) (refusal_view e)) }
 {
     let Found { least, orders } = found;

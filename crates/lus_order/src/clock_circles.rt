@@ -82,7 +82,8 @@ pub(crate) fn clock_marks(
     clocks: &Clocks<'_>,
     sides: &[Side<'_>],
 ) -> Result<Vec<bool>, AllocError>
-    ensures { IfOk result (λ v. AreOnCircles (free_rows clocks.now (with_sides [] (equations_view sides.now))) v.items) }
+    ensures { IfOk result (λ v. AreOnCircles (free_rows clocks.now
+        (with_sides [] (equations_view sides.now))) v.items) }
 {
     let lefts = lefts_of(alloc, sides)?;
     let graph = free_rows(alloc, clocks, &lefts)?;
@@ -92,7 +93,8 @@ pub(crate) fn clock_marks(
 /// Notes the streams that are marked, each at its name.
 #[tactic(auto, using(lus_scopes::proofs::Leasts::noted_append))]
 pub(crate) fn note_marked(least: &mut Least, params: &[&Param], marks: &[bool])
-    ensures { least_view least.new ≡ noted_all (least_view least.old) (marked_faults (params_view params.now) marks.now) }
+    ensures { least_view least.new ≡ noted_all (least_view least.old)
+        (marked_faults (params_view params.now) marks.now) }
 {
     let mut place = 0;
     for param in params {

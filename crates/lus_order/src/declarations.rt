@@ -6,8 +6,8 @@ ghost use Rattle.lus_meaning.specs.ClockFaults.{components};
 ghost use Rattle.lus_order.specs.Declarations.{declared_view, with_calls};
 ghost use Rattle.lus_streams.specs.Owner.{owner_view};
 
-use lus_streams::owner::Owner;
 use lus_limits::{Call, calls_of};
+use lus_streams::owner::Owner;
 use lus_tree::{Decl, Program};
 use std::alloc::{AllocError, Global};
 

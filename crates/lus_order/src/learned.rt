@@ -18,10 +18,10 @@ ghost use Rattle.lus_order.specs.Streams.{names_of};
 use crate::declarations::{Declaration, owners_of, with_calls};
 use crate::library::{Known, Library};
 use crate::own::own_of;
-use lus_streams::owner::Owner;
 use crate::setting::Callees;
 use crate::summary::known_of;
 use lus_limits::Call;
+use lus_streams::owner::Owner;
 use lus_tree::Program;
 use name_table::NameTable;
 use std::alloc::{AllocError, Global};
@@ -85,7 +85,8 @@ fn is_next(names: &NameTable, declared: &Declaration<'_>) -> bool
 
 /// The first declaration that is not known, and of which all that it calls and imports is.
 fn next_of<'a>(names: &NameTable, all: &[Declaration<'a>]) -> Option<Owner<'a>>
-    ensures { option_map owner_view result ≡ option_map (λ d. d.0) (find (is_next names.now) (map declared_view all.now)) }
+    ensures { option_map owner_view result ≡ option_map (λ d. d.0)
+        (find (is_next names.now) (map declared_view all.now)) }
 {
     for declared in all {
         if is_next(names, declared) {

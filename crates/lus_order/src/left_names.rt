@@ -28,7 +28,8 @@ fn note_outside(least: &mut Least, table: &NameTable, words: &[&PlacedName])
 
 /// Notes the faults of the left names of a node.
 fn note_node(alloc: Global, least: &mut Least, node: &Node) -> Result<(), AllocError>
-    ensures { IfOk result (λ _. Notes (least_view least.old) (least_view least.new) (left_faults (node_view node.now))) }
+    ensures { IfOk result (λ _. Notes (least_view least.old) (least_view least.new)
+        (left_faults (node_view node.now))) }
 {
     let lefts = body_lefts(alloc, node)?;
     let table = definable(alloc, node)?;

@@ -17,8 +17,8 @@ use crate::circle_faults::{flags_of, note_flagged};
 use crate::clock_circles::{clock_marks, note_marked};
 use crate::library::Library;
 use crate::own::{Own, own_of};
-use lus_streams::owner::Owner;
 use lus_scopes::least::Least;
+use lus_streams::owner::Owner;
 use std::alloc::{AllocError, Global};
 
 /// Notes the equations that are on circles, and the streams whose clocks go in a circle.

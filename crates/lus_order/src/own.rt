@@ -15,11 +15,11 @@ use crate::library::Library;
 use crate::modes::modes_of;
 use crate::order_from::order_from;
 use crate::own_rows::own_rows;
-use lus_streams::owner::Owner;
 use crate::rows::Mode;
 use crate::setting::Clocks;
 use crate::sides::{Side, sides_of};
 use crate::streams::{params_of, table_of};
+use lus_streams::owner::Owner;
 use lus_tree::Param;
 use std::alloc::{AllocError, Global};
 

@@ -114,7 +114,8 @@ fn push_each<'a>(
     values: &'a [Expr],
 ) -> Result<(), AllocError>
     ensures { IfOk result (λ _. Gains reads.old.items reads.new.items
-        (read_each (clocks_view clocks.now) (callees_view callees.now) (clock_seen clock.entry) (joined (exprs_view values.now)))) }
+        (read_each (clocks_view clocks.now) (callees_view callees.now) (clock_seen clock.entry)
+        (joined (exprs_view values.now)))) }
 {
     for value in values {
         push_reads(reads, clocks, callees, clock, value)?;

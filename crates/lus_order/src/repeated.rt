@@ -43,7 +43,8 @@ fn is_same(word: &PlacedName, other: &PlacedName) -> bool
 
 /// Notes a word and each of these that is the same, at the later of the two.
 fn note_meets(least: &mut Least, word: &PlacedName, words: &[&PlacedName])
-    ensures { least_view least.new ≡ noted_all (least_view least.old) (met (word_view word.now) (words_view words.now)) }
+    ensures { least_view least.new ≡ noted_all (least_view least.old)
+        (met (word_view word.now) (words_view words.now)) }
 {
     for other in words {
         let same = is_same(word, other);
@@ -55,7 +56,8 @@ fn note_meets(least: &mut Least, word: &PlacedName, words: &[&PlacedName])
 /// it.
 fn note_if_seen(least: &mut Least, seen: &NameTable, word: &PlacedName, behind: &[&PlacedName])
     requires { HasSeen seen.now (words_view behind.now) }
-    ensures { least_view least.new ≡ noted_all (least_view least.old) (met (word_view word.now) (words_view behind.now)) }
+    ensures { least_view least.new ≡ noted_all (least_view least.old)
+        (met (word_view word.now) (words_view behind.now)) }
 {
     if seen.has(&word.text) {
         note_meets(least, word, behind);

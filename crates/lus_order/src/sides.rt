@@ -7,8 +7,8 @@ ghost use Rattle.lus_meaning.specs.Run.{body_equations, equations, ghost_equatio
 ghost use Rattle.lus_streams.specs.Owner.{owner_view};
 ghost use Rattle.lus_order.specs.Sides.{equations_view, words_of};
 
-use lus_streams::owner::Owner;
 use crate::words::push_words;
+use lus_streams::owner::Owner;
 use lus_tree::{ContractItem, Expr, Item, PlacedName};
 use std::alloc::{AllocError, Global};
 

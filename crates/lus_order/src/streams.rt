@@ -14,16 +14,17 @@ ghost use Rattle.lus_order.specs.Names.{words_view};
 ghost use Rattle.lus_order.specs.Sides.{equations_view};
 ghost use Rattle.lus_order.specs.Streams.{AreTabled, Widened, names_of, params_view, stream_clock, with_all, with_sides};
 
-use lus_streams::owner::Owner;
 use crate::setting::Clocks;
 use crate::sides::Side;
+use lus_streams::owner::Owner;
 use lus_tree::{ContractItem, Param, PlacedName};
 use name_table::NameTable;
 use std::alloc::{AllocError, Global};
 
 /// The streams, and behind them these.
 fn push_params<'a>(params: &mut Vec<&'a Param>, more: &'a [Param]) -> Result<(), AllocError>
-    ensures { IfOk result (λ _. params_view params.new.items ≡ params_view params.old.items ++ map param_view more.now) }
+    ensures { IfOk result (λ _. params_view params.new.items ≡ params_view params.old.items
+        ++ map param_view more.now) }
 {
     for param in more {
         params.push(param)?;

@@ -25,6 +25,7 @@ fn contract_of(node: &Node) -> &[ContractItem]
 }
 
 impl<'a> Owner<'a> {
+    /// The name of the declaration.
     pub fn name(self) -> &'a str
         ensures { result.now ≡ (owner_view self.entry).name.text }
     {
@@ -34,6 +35,7 @@ impl<'a> Owner<'a> {
         }
     }
 
+    /// The inputs, in text order.
     pub fn inputs(self) -> &'a [Param]
         ensures { map param_view result.now ≡ (owner_view self.entry).inputs }
     {
@@ -43,6 +45,7 @@ impl<'a> Owner<'a> {
         }
     }
 
+    /// The outputs, in text order.
     pub fn outputs(self) -> &'a [Param]
         ensures { map param_view result.now ≡ (owner_view self.entry).outputs }
     {
@@ -52,6 +55,7 @@ impl<'a> Owner<'a> {
         }
     }
 
+    /// The locals, in text order; a contract node has none.
     pub fn locals(self) -> &'a [Param]
         ensures { map param_view result.now ≡ (owner_view self.entry).locals }
     {
@@ -61,6 +65,7 @@ impl<'a> Owner<'a> {
         }
     }
 
+    /// The items of the contract; none where there is no contract.
     pub fn contract(self) -> &'a [ContractItem]
         ensures { map contract_item_view result.now ≡ contract_statements (owner_view self.entry) }
     {
@@ -70,6 +75,7 @@ impl<'a> Owner<'a> {
         }
     }
 
+    /// The constants of a node, in text order; a contract node has its own in its contract.
     pub fn constants(self) -> &'a [Definition]
         ensures { map definition_view result.now ≡ (owner_view self.entry).constants }
     {
@@ -79,6 +85,7 @@ impl<'a> Owner<'a> {
         }
     }
 
+    /// The items of the body; a contract node has none.
     pub fn body(self) -> &'a [Item]
         ensures { map item_view result.now ≡ (owner_view self.entry).body }
     {

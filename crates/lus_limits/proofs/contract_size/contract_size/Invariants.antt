@@ -9,5 +9,6 @@ use Rattle.lus_limits.proofs.contract_size.contract_size.Given as goal
 -- what is known so far, with what is to come, is the contract's, cut
 abbrev pub invariant-loop-item : goal.invariant-loop-item
 invariant-loop-item l = IsCut (contract_seen l.contract) × (contract_seen l.none ≡ no_peaks)
-    × (cut_peaks (peaks_after (names_view l.names) (contract_at (summaries_seen l.links)) (contract_seen l.contract) (map contract_item_view (drop l.item-index l.items)))
+    × (cut_peaks (peaks_after (names_view l.names) (contract_at (summaries_seen l.links)) (contract_seen l.contract)
+    (map contract_item_view (drop l.item-index l.items)))
     ≡ cut_peaks (peaks_after (names_view l.names) (contract_at (summaries_seen l.links)) no_peaks (map contract_item_view l.items)))

@@ -27,4 +27,5 @@ returns c =
     ap (λ d. d.whole) c.loop-named.invariant
     ∙ ap (λ ys. cut_term (chain by_and (map view ys)).whole) (take_all c.loop-named.named-index xs c.loop-named-test.false)
     ∙ ap cut_term (sym (all_chained (map view xs)))
-    ∙ ap (λ ss. cut_term (all_of ss)) (sym (mapped_twice (λ l. size_in (names_view c.args.scope.names) (modes_view c.args.scope.modes.now) l.value) named_view xs))
+    ∙ ap (λ ss. cut_term (all_of ss))
+    (sym (mapped_twice (λ l. size_in (names_view c.args.scope.names) (modes_view c.args.scope.modes.now) l.value) named_view xs))

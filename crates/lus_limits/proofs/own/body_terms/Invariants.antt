@@ -10,4 +10,6 @@ use Rattle.lus_limits.proofs.own.body_terms.Given as goal
 -- the greatest so far, with what is to come, is the greatest of all, cut
 abbrev pub invariant-loop-item : goal.invariant-loop-item
 invariant-loop-item l = (cut_term (size_view l.size) ≡ size_view l.size)
-    × (cut_term (greater (size_view l.size) (body_terms (names_view l.scope.names) (modes_view l.scope.modes.now) (map item_view (drop l.item-index l.items)))) ≡ cut_term (body_terms (names_view l.scope.names) (modes_view l.scope.modes.now) (map item_view l.items)))
+    × (cut_term (greater (size_view l.size) (body_terms (names_view l.scope.names) (modes_view l.scope.modes.now)
+    (map item_view (drop l.item-index l.items)))) ≡ cut_term
+    (body_terms (names_view l.scope.names) (modes_view l.scope.modes.now) (map item_view l.items)))

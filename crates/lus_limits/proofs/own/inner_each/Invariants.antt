@@ -10,4 +10,6 @@ use Rattle.lus_limits.proofs.own.inner_each.Given as goal
 -- the greatest so far, with what is to come, is the greatest of all, cut
 abbrev pub invariant-loop-value : goal.invariant-loop-value
 invariant-loop-value l = (cut_term (size_view l.size) ≡ size_view l.size)
-    × (cut_term (greater (size_view l.size) (inner_each (names_view l.scope.names) (modes_view l.scope.modes.now) (map expr_view (drop l.value-index l.values)))) ≡ cut_term (inner_each (names_view l.scope.names) (modes_view l.scope.modes.now) (map expr_view l.values)))
+    × (cut_term (greater (size_view l.size) (inner_each (names_view l.scope.names) (modes_view l.scope.modes.now)
+    (map expr_view (drop l.value-index l.values)))) ≡ cut_term
+    (inner_each (names_view l.scope.names) (modes_view l.scope.modes.now) (map expr_view l.values)))

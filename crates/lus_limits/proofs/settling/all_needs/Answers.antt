@@ -30,5 +30,6 @@ returns c =
       parts = c.in_ok-parts.ensures;
       known = known_all (program_view c.args.program.now) c.requires.checked c.unwrap-names.result (map owner_view c.deref-3.result.now) c.len.result
           c.in_ok-known.known.items c.settle.new.known.items names
-          (ap (map owner_view) c.deref-3.ensures.value ∙ c.in_ok-parts.ensures) (many ∙ sym (many_mapped owner_view c.deref-3.result.now)) c.in_ok-known.ensures c.in_ok-settle.ensures;
+          (ap (map owner_view) c.deref-3.ensures.value ∙ c.in_ok-parts.ensures)
+          (many ∙ sym (many_mapped owner_view c.deref-3.result.now)) c.in_ok-known.ensures c.in_ok-settle.ensures;
     }

@@ -6,4 +6,5 @@ use Rattle.lus_limits.proofs.summing.body_count.Given as goal
 
 -- what is counted, with what is to come, is all, up to the cut
 abbrev pub invariant-loop-item : goal.invariant-loop-item
-invariant-loop-item l = (cut l.count ≡ l.count) × (cut (l.count + body_count (map item_view (drop l.item-index l.items))) ≡ cut (body_count (map item_view l.items)))
+invariant-loop-item l = (cut l.count ≡ l.count) × (cut (l.count + body_count (map item_view (drop l.item-index l.items))) ≡ cut
+    (body_count (map item_view l.items)))

@@ -19,7 +19,8 @@ loop-owner-init c = record {
 pub learn-requires : goal.learn-requires
 learn-requires c =
     let f : IsFound (program_view c.args.program.now) (names_known c.loop-owner.library) (map declared_view c.in_ok-all.all.items)
-    (owner_view c.in-Some.owner) = owner_found (program_view c.args.program.now) (names_known c.loop-owner.library) c.deref-in-loop-owner.result.now c.in_ok-all.all.items
+    (owner_view c.in-Some.owner) = owner_found (program_view c.args.program.now)
+    (names_known c.loop-owner.library) c.deref-in-loop-owner.result.now c.in_ok-all.all.items
     c.next_of.result c.in-Some.owner c.deref-in-loop-owner.ensures.value c.loop-owner.invariant.listed c.next_of.ensures c.in-Some.is in
     record {
       consistent = c.loop-owner.invariant.settled.consistent;
@@ -29,13 +30,15 @@ learn-requires c =
 
 pub loop-owner-smaller : goal.loop-owner-smaller
 loop-owner-smaller c = fewer_left (program_view c.args.program.now) (names_known c.loop-owner.library) (map declared_view c.in_ok-all.all.items)
-    (owner_view c.in-Some.owner) (names_known c.learn.new.library) (owner_found (program_view c.args.program.now) (names_known c.loop-owner.library) c.deref-in-loop-owner.result.now c.in_ok-all.all.items
+    (owner_view c.in-Some.owner) (names_known c.learn.new.library)
+    (owner_found (program_view c.args.program.now) (names_known c.loop-owner.library) c.deref-in-loop-owner.result.now c.in_ok-all.all.items
     c.next_of.result c.in-Some.owner c.deref-in-loop-owner.ensures.value c.loop-owner.invariant.listed c.next_of.ensures c.in-Some.is) c.in_ok-learn.ensures.added.names
 
 pub loop-owner-preserved : goal.loop-owner-preserved
 loop-owner-preserved c =
     let f : IsFound (program_view c.args.program.now) (names_known c.loop-owner.library) (map declared_view c.in_ok-all.all.items)
-    (owner_view c.in-Some.owner) = owner_found (program_view c.args.program.now) (names_known c.loop-owner.library) c.deref-in-loop-owner.result.now c.in_ok-all.all.items
+    (owner_view c.in-Some.owner) = owner_found (program_view c.args.program.now)
+    (names_known c.loop-owner.library) c.deref-in-loop-owner.result.now c.in_ok-all.all.items
     c.next_of.result c.in-Some.owner c.deref-in-loop-owner.ensures.value c.loop-owner.invariant.listed c.next_of.ensures c.in-Some.is in
     record {
       listed = c.loop-owner.invariant.listed;

@@ -9,13 +9,16 @@ use Rattle.lus_order.proofs.OwnCircles.{circles_noted, closed_rows, flagged_node
 use Rattle.lus_order.proofs.ordered.ordered.Goals as goal
 
 pub note_circles-requires-clause-within : goal.note_circles-requires-clause-within
-note_circles-requires-clause-within c = within_rows (owner_view c.args.owner) c.args.library.now c.in_ok-own.own c.requires.flags c.requires.distinct c.in_ok-own.ensures
+note_circles-requires-clause-within c = within_rows
+    (owner_view c.args.owner) c.args.library.now c.in_ok-own.own c.requires.flags c.requires.distinct c.in_ok-own.ensures
 
 pub note_circles-requires-clause-closed : goal.note_circles-requires-clause-closed
-note_circles-requires-clause-closed c = closed_rows (owner_view c.args.owner) c.args.library.now c.in_ok-own.own c.requires.flags c.requires.distinct c.in_ok-own.ensures
+note_circles-requires-clause-closed c = closed_rows
+    (owner_view c.args.owner) c.args.library.now c.in_ok-own.own c.requires.flags c.requires.distinct c.in_ok-own.ensures
 
 pub returns-in-Some-clause-noted : goal.returns-in-Some-clause-noted
-returns-in-Some-clause-noted c = circles_noted (owner_view c.args.owner) c.args.library.now c.in_ok-own.own c.requires.flags c.requires.distinct c.in_ok-own.ensures
+returns-in-Some-clause-noted c = circles_noted
+    (owner_view c.args.owner) c.args.library.now c.in_ok-own.own c.requires.flags c.requires.distinct c.in_ok-own.ensures
     (least_view c.args.least.now) (least_view c.note_circles.new.least) c.in_ok-note_circles.ensures
 
 pub returns-in-Some-clause-order : goal.returns-in-Some-clause-order
