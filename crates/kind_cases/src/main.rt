@@ -11,7 +11,7 @@ use std::alloc::Global;
 use std::{fs, io};
 
 /// A table of cases is a file, and what each of its lines says.
-const TABLES: [Table; 19] = [
+const TABLES: [Table; 20] = [
     ("first_replays", Ask::Replay),
     ("order_of_properties", Ask::Replay),
     ("order_of_equations", Ask::Replay),
@@ -31,6 +31,7 @@ const TABLES: [Table; 19] = [
     ("other_words", Ask::Words),
     ("failing_calls", Ask::Calls),
     ("failing_proofs", Ask::Calls),
+    ("options", Ask::Calls),
 ];
 
 fn main(rt: HostRuntime) -> io::Result<()> {

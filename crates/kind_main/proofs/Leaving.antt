@@ -1,8 +1,9 @@
 -- What a call leaves, from its answer and its printing.
-use Rattle.std.proofs.Common.{◌≡◌, ◌==◌, ℕ, Bool, true, false, cond, ◌⊎◌, inl, inr, List, [], ◌∷◌, ◌++◌, refl, sym, ap, ◌∙◌, subst, arith, append-nil}
+use Rattle.std.proofs.Common.{◌≡◌, ◌==◌, ℕ, Bool, true, false, cond, ◌⊎◌, inl, inr, List, [], ◌∷◌, ◌++◌, codes, refl, sym, ap, ◌∙◌, subst, arith, append-nil}
 use Rattle.std.specs.Io.KnownBytes.{Appends}
 use Rattle.kind_main.specs.declared.options.Options.{Options}
-use Rattle.kind_main.specs.Options.{default_options}
+use Rattle.kind_main.specs.Given.{Given, AreGiven}
+use Rattle.kind_main.proofs.Givens.{one_given}
 use Rattle.kind_main.specs.Words as W
 use Rattle.kind_main.specs.Words.{AreProve, AreReplay, AreNoCommand}
 use Rattle.kind_main.specs.Lines.{Line, text_of, usage_line, memory_line, read_fault_line}
@@ -21,29 +22,28 @@ use Rattle.kind_main.specs.Left.{AreFirst, IsWhole, Leaves, Written, IsProofCode
 
 -- ---- the words of one command are not those of another
 
+same_more : (words a b : List (List ℕ)) → words ≡ codes "prove" ∷ a → words ≡ codes "prove" ∷ b → b ≡ a
+same_more words a b e f = cc
+
 one_file : (words : List (List ℕ)) (a b : List ℕ) (o q : Options) → AreProve words a o → AreProve words b q → a ≡ b
 one_file words a b o q (W.no_words e f i) (W.no_words g h j) = f ∙ sym h
-one_file words a b o q (W.no_words e f i) (W.on_input g h j) = f ∙ sym h
-one_file words a b o q (W.no_words e f i) (W.on_file g h j) = cc
-one_file words a b o q (W.on_input e f i) (W.no_words g h j) = f ∙ sym h
-one_file words a b o q (W.on_input e f i) (W.on_input g h j) = f ∙ sym h
-one_file words a b o q (W.on_input e f i) (W.on_file g h j) = cc
-one_file words a b o q (W.on_file e f i) (W.no_words g h j) = cc
-one_file words a b o q (W.on_file e f i) (W.on_input g h j) = cc
-one_file words a b o q (W.on_file e f i) (W.on_file g h j) = cc
-
-default_alone : (words : List (List ℕ)) (a : List ℕ) (o : Options) → AreProve words a o → o ≡ default_options
-default_alone words a o (W.no_words e f i) = i
-default_alone words a o (W.on_input e f i) = i
-default_alone words a o (W.on_file e f i) = i
+one_file words a b o q (W.no_words e f i) (W.command more given g h j k) = cc
+one_file words a b o q (W.command more given e f i j) (W.no_words g h k) = cc
+one_file words a b o q (W.command more given e f i j) (W.command others read g h k l) =
+    let same = one_given more given read f (subst (λ ws. AreGiven ws read) (same_more words more others e g) h) in
+    i ∙ (ap (λ (x : Given). W.file_or x.file) same ∙ sym k)
 
 same_options : (words : List (List ℕ)) (a b : List ℕ) (o q : Options) → AreProve words a o → AreProve words b q → o ≡ q
-same_options words a b o q h k = default_alone words a o h ∙ sym (default_alone words b q k)
+same_options words a b o q (W.no_words e f i) (W.no_words g h j) = i ∙ sym j
+same_options words a b o q (W.no_words e f i) (W.command more given g h j k) = cc
+same_options words a b o q (W.command more given e f i j) (W.no_words g h k) = cc
+same_options words a b o q (W.command more given e f i j) (W.command others read g h k l) =
+    let same = one_given more given read f (subst (λ ws. AreGiven ws read) (same_more words more others e g) h) in
+    j ∙ (ap (λ (x : Given). record { depth = W.depth_or x.depth; engines = W.engines_or x.engines }) same ∙ sym l)
 
 not_both : (words : List (List ℕ)) (a : List ℕ) (o : Options) (file trace : List ℕ) → AreProve words a o → AreReplay words file trace → ⊥
 not_both words a o file trace (W.no_words e f i) r = let g = r.spelled in cc
-not_both words a o file trace (W.on_input e f i) r = let g = r.spelled in cc
-not_both words a o file trace (W.on_file e f i) r = let g = r.spelled in cc
+not_both words a o file trace (W.command more given e f i j) r = let g = r.spelled in cc
 
 same_file : (words : List (List ℕ)) (a b c d : List ℕ) → AreReplay words a b → AreReplay words c d → a ≡ c
 same_file words a b c d r s = let e = r.spelled in let f = s.spelled in cc

@@ -18,3 +18,4 @@ pub mod Ready
 pub mod Ruling
 pub mod Causes
 pub mod Judging
+pub mod Givens

@@ -1,5 +1,6 @@
 pub mod Lines
 pub mod Options
+pub mod Given
 pub mod Words
 pub mod Report
 pub mod Ending

@@ -5,6 +5,7 @@ mod answer;
 mod cause;
 mod ending;
 mod fetching;
+mod given;
 mod idle;
 mod options;
 mod outcome;

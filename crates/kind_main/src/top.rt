@@ -24,8 +24,9 @@ fn run<H: Shelf, K: Sink>(alloc: Global, words: &[String], shelf: &mut H, out: &
 
 /// All that the program does: reads the words, fetches what they name, and prints the answer.
 ///
-/// No words, `prove` and `prove FILE` decide each property of a source: the status is 0 where all
-/// are valid, 1 where some is falsifiable, and 4 where none is and some is unknown. The words
+/// No words, and `prove` with at most a file, `--depth K` and `--engines LIST`, decide each property of
+/// a source: the status is 0 where all are valid, 1 where some is falsifiable, and 4 where none is and
+/// some is unknown. The words
 /// `replay FILE TRACE` replay a trace on a source: the status is 1 where some property breaks and 10
 /// where none does. It is 2 for all other words, 3 where the source or the trace is refused, 5 where
 /// a file could not be read, 6 where a line could not be written, and 7 for want of memory. The shelf

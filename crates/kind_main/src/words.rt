@@ -1,8 +1,10 @@
 //! The words of the command line.
 ghost use Rattle.std.specs.Prelude.{◌≡◌, map, MatchOption};
 ghost use Rattle.std.specs.String.{string_bytes};
-ghost use Rattle.kind_main.specs.Words.{is_option as option_of, AreNoCommand, IsCommand};
+ghost use Rattle.kind_main.specs.Given.{given_view};
+ghost use Rattle.kind_main.specs.Words.{AreNoCommand, IsCommand, IsProofOf};
 
+use crate::given::{Given, is_option, read_given};
 use crate::options::{Engines, Options};
 
 /// Where no option says otherwise.
@@ -18,11 +20,17 @@ pub enum Command<'a> {
     Replay { source: &'a str, trace: &'a str },
 }
 
-/// Whether a word is an option.
-fn is_option(word: &str) -> bool
-    ensures { result ≡ option_of word.now }
+/// A proof with what its words give.
+fn proof_of(given: Given<'_>) -> Command<'_>
+    ensures { IsProofOf (given_view given.entry) result }
 {
-    word.as_bytes().first() == Some(&b'-')
+    let source = given.source.unwrap_or("");
+    let depth = given.depth.unwrap_or(DEFAULT.depth);
+    let engines = given.engines.unwrap_or(DEFAULT.engines);
+    Command::Prove {
+        source,
+        options: Options { depth, engines },
+    }
 }
 
 /// The command of these words, where they have the form of one that is built.
@@ -34,27 +42,10 @@ pub fn read_words(words: &[String]) -> Option<Command<'_>>
             source: "",
             options: DEFAULT,
         }),
-        [command] => {
-            if command.as_str() == "prove" {
-                Some(Command::Prove {
-                    source: "",
-                    options: DEFAULT,
-                })
-            } else {
-                None
-            }
-        }
-        [command, source] => {
-            let source = source.as_str();
-            if command.as_str() == "prove" && !is_option(source) {
-                Some(Command::Prove {
-                    source,
-                    options: DEFAULT,
-                })
-            } else {
-                None
-            }
-        }
+        [command, more @ ..] if command.as_str() == "prove" => match read_given(more) {
+            None => None,
+            Some(given) => Some(proof_of(given)),
+        },
         [command, source, trace] => {
             let source = source.as_str();
             let trace = trace.as_str();
