@@ -92,7 +92,6 @@ fn free_ghosts<'a>(known: &NameTable, names: Names<'a, '_>, items: &'a [Contract
 }
 
 /// Of all streams that are not among these names.
-
 fn all_free<'a>(known: &NameTable, names: Names<'a, '_>) -> Size
     ensures { size_view result ≡ cut_term (free_terms known.now (names_view names.entry)
         (variables (names_view names.entry))) }
@@ -125,7 +124,6 @@ fn own_terms<'a>(names: Names<'a, '_>, contract: &ContractSize, known: &NameTabl
 }
 
 /// Of a declaration's frame where the caller gives the inputs, with the greatest of the callees' frames.
-
 fn called_size<'a>(
     alloc: Global,
     names: Names<'a, '_>,
@@ -141,7 +139,6 @@ fn called_size<'a>(
 }
 
 /// The same where the caller gives the outputs too.
-
 fn imported_size<'a>(
     alloc: Global,
     names: Names<'a, '_>,
