@@ -1,39 +1,93 @@
-//! Checks each source of the files in data/ and prints it with its refusal or with the order of its equations; and sources
-//! that are made of numbers, near the limits, with whether they are taken.
+//! Checks each source of the files in data/ and prints it with its refusal, or with the number of its main node and the
+//! orders of the equations of its declarations; and sources that are made of numbers, or that stand in a file each, near
+//! the limits, with whether they are taken.
 #![tactic(auto)]
 
 mod answer;
 mod made;
 
-use answer::{is_taken, order_or_refusal};
+use answer::{is_taken, orders_or_refusal};
 use made::source_of;
-use std::alloc::Global;
 use std::{fs, io};
 
 /// The tables of sources: each line of a file is one.
-const TABLES: [&str; 4] = ["shapes", "names", "orders", "declarations"];
+const TABLES: [&str; 3] = ["lefts", "circles", "orders"];
+
+/// The sources that stand in a file each.
+const FILES: [&str; 14] = [
+    "declarations_500",
+    "declarations_501",
+    "declarations_mixed",
+    "names_2000",
+    "names_2001",
+    "names_of_a_contract",
+    "calls_11",
+    "calls_12",
+    "calls_30",
+    "modes_10",
+    "modes_30",
+    "owed_500",
+    "owed_501",
+    "names_before_variables",
+];
 
 /// What is said of a source of a table.
 fn print_case(rt: &HostRuntime, source: &str) -> io::Result<()> {
-    let text = order_or_refusal(rt.alloc(), source)?;
+    let text = orders_or_refusal(rt.alloc(), source, None)?;
     println!(rt; "{source}\n    {text}")
+}
+
+/// What is said of the sources of a table.
+fn print_table(rt: &HostRuntime, name: &str) -> io::Result<()> {
+    println!(rt; "== {name}")?;
+    let file = format!(in rt.alloc(); "{name}.cases")?;
+    let cases = fs::read_to_string(rt, file.as_str())?;
+    for source in cases.lines() {
+        print_case(rt, source)?;
+    }
+    Ok(())
+}
+
+/// What is said of a source with a main node: before the source stands its name, or `-` for none.
+fn print_main(rt: &HostRuntime, case: &str) -> io::Result<()> {
+    let (name, source) = case.split_once(' ').unwrap_or((case, ""));
+    let main = if name == "-" { None } else { Some(name) };
+    let text = orders_or_refusal(rt.alloc(), source, main)?;
+    println!(rt; "{case}\n    {text}")
+}
+
+/// What is said of a source that stands in a file.
+fn print_file(rt: &HostRuntime, name: &str) -> io::Result<()> {
+    let file = format!(in rt.alloc(); "{name}.lus")?;
+    let source = fs::read_to_string(rt, file.as_str())?;
+    let text = is_taken(rt.alloc(), source.as_str())?;
+    println!(rt; "{name}: {text}")
+}
+
+/// What is said of a source that is made of numbers.
+fn print_made(rt: &HostRuntime, case: &str) -> io::Result<()> {
+    let source = source_of(rt.alloc(), case)?;
+    let text = is_taken(rt.alloc(), source.as_str())?;
+    println!(rt; "{case}: {text}")
 }
 
 fn main(rt: HostRuntime) -> io::Result<()> {
     for name in TABLES {
-        println!(rt; "== {name}")?;
-        let file = format!(in rt.alloc(); "{name}.cases")?;
-        let cases = fs::read_to_string(&rt, file.as_str())?;
-        for source in cases.lines() {
-            print_case(&rt, source)?;
-        }
+        print_table(&rt, name)?;
+    }
+    println!(rt; "== mains")?;
+    let mains = fs::read_to_string(&rt, "mains.cases")?;
+    for case in mains.lines() {
+        print_main(&rt, case)?;
+    }
+    println!(rt; "== files")?;
+    for name in FILES {
+        print_file(&rt, name)?;
     }
     println!(rt; "== limits: outputs properties pres arrows")?;
     let cases = fs::read_to_string(&rt, "limits.cases")?;
     for case in cases.lines() {
-        let source = source_of(rt.alloc(), case)?;
-        let text = is_taken(rt.alloc(), source.as_str())?;
-        println!(rt; "{case}: {text}")?;
+        print_made(&rt, case)?;
     }
     Ok(())
 }

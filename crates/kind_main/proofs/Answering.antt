@@ -7,15 +7,14 @@ use Rattle.lus_meaning.specs.TraceView.{Listing}
 use Rattle.lus_meaning.specs.Fits.{FitsProgram}
 use Rattle.lus_tree.specs.Reason.{Refused as Reasoned, memory}
 use Rattle.lus_meaning.specs.BooleanRules.{BreaksNoBooleanRule}
-use Rattle.lus_meaning.specs.Refusals.{IsClocked}
+use Rattle.shape_laws.specs.Shapes.{IsOfTheShape}
 use Rattle.lus_grammar.specs.Source.{IsSource, IsRefused as IsMisread}
-use Rattle.lus_checked.specs.Refusals.{IsRefusal}
 use Rattle.trace_replay.specs.declared.fault.TraceFault.{TraceFault}
 use Rattle.trace_replay.specs.declared.fault.TraceFault.TheVariants as M
 use Rattle.trace_replay.specs.declared.fault.TraceFault.TheVariants.{Form}
 use Rattle.trace_replay.specs.Refused.{IsMisfit}
 use Rattle.trace_replay.specs.Traces.{IsTraceText, Refuses}
-use Rattle.kind_main.specs.Lines.{Line, refused_line}
+use Rattle.kind_main.specs.Lines.{Line, refused_line, not_built_line}
 use Rattle.kind_main.specs.Report.{IsReplay}
 use Rattle.kind_main.specs.declared.ending.Report.{Report}
 use Rattle.kind_main.specs.declared.ending.Stopped.{Stopped}
@@ -23,7 +22,7 @@ use Rattle.kind_main.specs.declared.ending.Stopped.TheVariants.{Usage, Unread, R
 use Rattle.kind_main.specs.Ending.{Ending, usage, unread, refused, done, IfStopped, IfEnded}
 use Rattle.kind_main.specs.Fetched.{Tells, limit, IsUnfetched}
 use Rattle.kind_main.specs.Source as S
-use Rattle.kind_main.specs.Source.{EndsAtSource, HoldsSource, IsRuling}
+use Rattle.kind_main.specs.Source.{EndsAtSource, HoldsSource, FollowsAll, IsRuling}
 use Rattle.kind_main.specs.Traced as R
 use Rattle.kind_main.specs.Traced.{EndsAt, EndsAtTrace, IsReplayed, EndsReplay}
 use Rattle.kind_main.proofs.Printing.{rose-later}
@@ -52,12 +51,11 @@ ruled_out_ends bytes p r s (inl m) e h = absurd (h.1 m)
 ruled_out_ends bytes p r s (inr m) e h =
     subst (EndsAtSource bytes) (sym h.0) (S.ruled_out r record { tree = p; source = s; broken = m } refl)
 
--- what follows those rules and not the others is not built
-pub unbuilt_ends : (bytes : List ℕ) (p : Program) (r : Reasoned) → IsSource bytes p → IsClocked p → IsRefusal p r → (e : Ending) →
-    (e ≡ refused (refused_line r)) × (r.reason ≢ memory) → EndsAtSource bytes e
-unbuilt_ends bytes p r s k (inl m) e h = absurd (h.1 m)
-unbuilt_ends bytes p r s k (inr m) e h =
-    subst (EndsAtSource bytes) (sym h.0) (S.unbuilt record { tree = p; source = s; clocked = k; because = m.1 } (ap refused_line m.0))
+-- what follows all rules and is not of the shape is not built
+pub unbuilt_ends : (bytes : List ℕ) (p : Program) → IsSource bytes p → FollowsAll p → (IsOfTheShape p → ⊥) → (e : Ending) →
+    e ≡ refused not_built_line → EndsAtSource bytes e
+unbuilt_ends bytes p s k m e h =
+    subst (EndsAtSource bytes) (sym h) (S.unbuilt record { tree = p; source = s; right = k; because = m } refl)
 
 -- a trace is refused for its fault
 pub formless_ends : (bytes : List ℕ) (p : Program) (f : TraceFault) → Refuses bytes f → (e : Ending) → EndsAt f e → EndsAtTrace bytes p e
@@ -77,8 +75,8 @@ handed_on P r s h p =
 
 -- a source that is read and follows the rules
 pub held_source : (told : Told) (p : Program) (bytes : List ℕ) → MayHold told bytes → length bytes ≤ limit → IsSource bytes p
-    → IsClocked p → BreaksNoBooleanRule p → HoldsSource told p
-held_source told p bytes m le s k f = record { bytes = bytes; held = m; short = le; source = s; clocked = k; follows = f }
+    → FollowsAll p → BreaksNoBooleanRule p → HoldsSource told p
+held_source told p bytes m le s k f = record { bytes = bytes; held = m; short = le; source = s; right = k; follows = f }
 
 module _ (told : Tells) (before now : ℕ) (file trace : List ℕ) where
   -- the source gives no bytes

@@ -2,9 +2,11 @@
 use Rattle.std.proofs.Common.{inl, inr, ap}
 use Rattle.lus_tree.specs.Tree.{Program}
 use Rattle.lus_tree.specs.Reason.{Refused}
-use Rattle.lus_meaning.specs.Refusals.{IsTyped, by_typing, by_clocks}
+use Rattle.std.specs.Prelude.{None}
+use Rattle.lus_meaning.specs.Refusals.{IsTyped, IsClocked, by_typing, by_clocks, by_equations, by_limits}
 use Rattle.lus_types.specs.Refusals as T
 use Rattle.lus_clocks.specs.Program as C
+use Rattle.lus_checked.specs.Refusals as K
 use Rattle.kind_main.specs.Source.{IsRuling}
 
 pub typing_ruling : (p : Program) (r : Refused) → T.IsRefusal p r → IsRuling p r
@@ -14,3 +16,8 @@ typing_ruling p r (inr f) = inr (by_typing f)
 pub clocks_ruling : (p : Program) (r : Refused) → IsTyped p → C.IsRefusal p r → IsRuling p r
 clocks_ruling p r t (inl m) = inl (ap (λ (x : Refused). x.reason) m)
 clocks_ruling p r t (inr f) = inr (by_clocks t f)
+
+pub checked_ruling : (p : Program) (r : Refused) → IsClocked p → K.IsRefusal p None r → IsRuling p r
+checked_ruling p r c (K.no_memory m) = inl (ap (λ (x : Refused). x.reason) m)
+checked_ruling p r c (K.by_equations f) = inr (by_equations c f)
+checked_ruling p r c (K.by_limits rules f) = inr (by_limits rules f)

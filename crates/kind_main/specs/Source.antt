@@ -4,7 +4,8 @@ use Rattle.kind_io.specs.Told.{Told, MayHold, MayExceed}
 use Rattle.lus_tree.specs.Tree.{Program}
 use Rattle.lus_tree.specs.Reason.{Refused, memory}
 use Rattle.lus_meaning.specs.BooleanRules.{BreaksNoBooleanRule}
-use Rattle.lus_meaning.specs.Refusals.{IsClocked, IsRefusedFor}
+use Rattle.lus_meaning.specs.Refusals.{IsChecked, IsWithinLimits, IsRefusedFor}
+use Rattle.shape_laws.specs.Shapes.{IsOfTheShape}
 use Rattle.lus_grammar.specs.Source.{IsSource, IsRefused as IsMisread}
 use Rattle.kind_main.specs.Lines.{Line, too_long_line, not_built_line, refused_line}
 use Rattle.kind_main.specs.Fetched.{limit}
@@ -16,17 +17,21 @@ pub record IsRuledOut (bytes : List ℕ) (r : Refused) : Type 0 where
   pub source : IsSource bytes tree
   pub broken : IsRefusedFor tree None r
 
--- why a tree is refused by the phases of rules that are built, or memory ran out
+-- it breaks no rule, and passes no limit
+pub record FollowsAll (p : Program) : Type 0 where
+  pub rules : IsChecked p
+  pub limits : IsWithinLimits p None
+
+-- why a tree is refused by the rules, or memory ran out
 abbrev pub IsRuling : Program → Refused → Type 0
 IsRuling p r = (r.reason ≡ memory) ⊎ IsRefusedFor p None r
 
--- the bytes are a source, whose names, types, numbers and clocks are right, and its tree is not one of a program that is built
--- and follows the other rules
+-- the bytes are a source, whose tree breaks no rule and passes no limit, and is not of the shape that is built
 pub record IsNotBuilt (bytes : List ℕ) : Type 0 where
   pub tree : Program
   pub source : IsSource bytes tree
-  pub clocked : IsClocked tree
-  pub because : BreaksNoBooleanRule tree → ⊥
+  pub right : FollowsAll tree
+  pub because : IsOfTheShape tree → ⊥
 
 -- why the bytes of a source are refused, and the line that says so: their tokens or their grammar have a first fault, or they
 -- break a rule, or they are not built
@@ -42,13 +47,13 @@ EndsAtSource bytes usage = ⊥
 EndsAtSource bytes (unread name) = ⊥
 EndsAtSource bytes (done lines code) = ⊥
 
--- the file holds a source that follows the rules
+-- the file holds a source that follows the rules, of the shape that is built
 pub record HoldsSource (told : Told) (p : Program) : Type 0 where
   pub bytes : List ℕ
   pub held : MayHold told bytes
   pub short : length bytes ≤ limit
   pub source : IsSource bytes p
-  pub clocked : IsClocked p
+  pub right : FollowsAll p
   pub follows : BreaksNoBooleanRule p
 
 -- why a file is refused as a source, and the line that says so

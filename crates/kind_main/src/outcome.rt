@@ -23,7 +23,7 @@ use crate::playing::played;
 use crate::text_lines::text_lines;
 use board_core::laws::verdicts_are_true;
 use board_core::{Book, Fact, Verdict};
-use lus_checked::Checked;
+use lus_built::Built;
 use std::alloc::{AllocError, Global};
 use sys_build::trace_of;
 use sys_meaning::{checked_breaks, checked_replays, checked_traces, checked_verdicts};
@@ -51,7 +51,7 @@ pub enum Outcome {
 /// The trace of a path that breaks a property.
 fn broken(
     alloc: Global,
-    checked: &Checked,
+    checked: &Built,
     path: &[State],
     property: u32,
 ) -> Result<Outcome, AllocError>
@@ -83,7 +83,7 @@ fn broken(
 /// What the entry at this place says, which breaks the property.
 fn broken_at(
     alloc: Global,
-    checked: &Checked,
+    checked: &Built,
     book: &Book,
     property: u32,
     place: u64,
@@ -125,7 +125,7 @@ fn undecided(
 /// What is said of the property of this number, by the book of its node.
 fn said_of(
     alloc: Global,
-    checked: &Checked,
+    checked: &Built,
     book: &Book,
     options: Options,
     property: u32,
@@ -150,7 +150,7 @@ fn said_of(
 /// What is said of each property of a program's node, in order.
 pub fn outcomes(
     alloc: Global,
-    checked: &Checked,
+    checked: &Built,
     system: System,
     options: Options,
 ) -> Result<Vec<Outcome>, AllocError>

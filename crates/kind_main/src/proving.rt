@@ -14,14 +14,14 @@ use crate::source::read_source;
 use crate::tally::{Tally, summary_text};
 use crate::verdicts::verdict_report;
 use kind_io::Shelf;
-use lus_checked::Checked;
+use lus_built::Built;
 use source_laws::laws::identified_sources;
 use std::alloc::{AllocError, Global};
 use sys_build::build;
 use sys_build::laws::{few_properties, mild_systems, small_systems, systems_of_flags};
 
 /// What is proved of a program.
-fn proof_report(alloc: Global, checked: &Checked, options: Options) -> Result<Report, AllocError>
+fn proof_report(alloc: Global, checked: &Built, options: Options) -> Result<Report, AllocError>
     requires readable { IsReadable (program_view checked.now) }
     requires range { IsInRange options }
     ensures { IfOk result (λ r. IsProof options (program_view checked.now) (lines_view r.lines.items) r.status.code) }

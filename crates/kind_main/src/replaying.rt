@@ -17,7 +17,7 @@ use crate::source::read_source;
 use crate::status::Status;
 use crate::text::{formless_text, lawful_text};
 use kind_io::Shelf;
-use lus_checked::Checked;
+use lus_built::Built;
 use lus_meaning::Trace;
 use std::alloc::{AllocError, Global};
 use trace_replay::{Replay, TraceFault, read_trace, replay};
@@ -45,7 +45,7 @@ pub struct Replayed<'a> {
 /// Reads a trace and replays it on a program.
 fn read_replay<'a>(
     alloc: Global,
-    checked: &'a Checked,
+    checked: &'a Built,
     bytes: &[u8],
 ) -> Result<Replayed<'a>, Stopped>
     requires { length bytes.now ≤ 1048576 }
@@ -77,7 +77,7 @@ fn break_status(lines: &[Vec<u8>]) -> Status
 /// What a replay shows.
 fn replay_report(
     alloc: Global,
-    checked: &Checked,
+    checked: &Built,
     trace: &Trace,
     replay: &Replay,
 ) -> Result<Report, AllocError>

@@ -3,19 +3,22 @@ ghost use Rattle.std.specs.Prelude.{◌≡◌, ◌≢◌, ◌≤◌, length, IfE
 ghost use Rattle.lus_tree.specs.View.{program_view};
 ghost use Rattle.lus_tree.specs.Reason.{refusal_view, memory};
 ghost use Rattle.lus_meaning.specs.BooleanRules.{BreaksNoBooleanRule};
-ghost use Rattle.lus_meaning.specs.Refusals.{IsClocked};
+ghost use Rattle.lus_meaning.specs.Grammatical.{IsGrammatical};
 ghost use Rattle.lus_grammar.specs.Source.{IsSource};
-ghost use Rattle.kind_main.specs.Lines.{refused_line};
+ghost use Rattle.lus_checked.specs.Program.{tree_of};
+ghost use Rattle.kind_main.specs.Lines.{not_built_line, refused_line};
 ghost use Rattle.kind_main.specs.Ending.{IfStopped, refused as ends_refused};
-ghost use Rattle.kind_main.specs.Source.{EndsAtSource, IsRuling};
+ghost use Rattle.kind_main.specs.Source.{EndsAtSource, FollowsAll, IsRuling};
 
 use crate::ending::Stopped;
 use crate::text::refused_text;
 use contract_reader::read_program;
+use lus_built::{Built, built};
 use lus_checked::{Checked, checked};
 use lus_clocks::clocks;
-use lus_tree::{Program, Refusal, What};
+use lus_tree::{Pos, Program, Refusal, What};
 use lus_types::types;
+use source_laws::laws::grammatical_sources;
 use std::alloc::Global;
 
 /// The end of a command whose source is refused.
@@ -32,34 +35,50 @@ fn refused(alloc: Global, refusal: &Refusal) -> Stopped
     }
 }
 
-/// The program, of which the rules of names, types, numbers and clocks are kept.
-#[tactic(auto, using(crate::proofs::Ruling::typing_ruling, crate::proofs::Ruling::clocks_ruling))]
-fn ruled(alloc: Global, program: Program) -> Result<Program, Refusal>
-    ensures same { IfOk result (λ p. program_view p ≡ program_view program) }
-    ensures clocked { IfOk result (λ p. IsClocked (program_view program)) }
+/// The end of a command whose source follows all rules and is not built.
+fn not_built(alloc: Global) -> Stopped
+    ensures { IfStopped (λ e. e ≡ ends_refused not_built_line) result }
+{
+    refused(
+        alloc,
+        &Refusal {
+            at: Pos { line: 1, column: 1 },
+            what: What::NotBuilt,
+        },
+    )
+}
+
+/// The program with what its checks know of it: it breaks no rule, and passes no limit.
+#[tactic(auto, using(crate::proofs::Ruling::typing_ruling, crate::proofs::Ruling::clocks_ruling, crate::proofs::Ruling::checked_ruling))]
+fn ruled(alloc: Global, program: Program) -> Result<Checked, Refusal>
+    requires grammatical { IsGrammatical (program_view program) }
+    ensures same { IfOk result (λ c. tree_of c ≡ program_view program) }
+    ensures right { IfOk result (λ _. FollowsAll (program_view program)) }
     ensures refused { IfErr result (λ e. IsRuling (program_view program) (refusal_view e)) }
 {
     let typed = types(alloc, program)?;
     let clocked = clocks(alloc, typed)?;
-    Ok(clocked.into_program())
+    checked(alloc, clocked, None)
 }
 
-/// The program of a source, which breaks no rule.
-pub fn read_source(alloc: Global, bytes: &[u8]) -> Result<Checked, Stopped>
+/// The program of a source, which follows all rules and is of the shape that is built.
+pub fn read_source(alloc: Global, bytes: &[u8]) -> Result<Built, Stopped>
     requires { length bytes.now ≤ 1048576 }
     ensures { MatchResult result (λ c. IsSource bytes.now (program_view c)
-        × IsClocked (program_view c) × BreaksNoBooleanRule (program_view c)) (IfStopped (EndsAtSource bytes.now)) }
+        × FollowsAll (program_view c) × BreaksNoBooleanRule (program_view c)) (IfStopped (EndsAtSource bytes.now)) }
 {
+    grammatical_sources();
     let program = match read_program(alloc, bytes) {
         Ok(program) => program,
         Err(refusal) => return Err(refused(alloc, &refusal)),
     };
-    let program = match ruled(alloc, program) {
-        Ok(program) => program,
+    let checked = match ruled(alloc, program) {
+        Ok(checked) => checked,
         Err(refusal) => return Err(refused(alloc, &refusal)),
     };
-    match checked(alloc, program) {
-        Ok(checked) => Ok(checked),
-        Err(refusal) => Err(refused(alloc, &refusal)),
+    match built(alloc, checked) {
+        Ok(Some(built)) => Ok(built),
+        Ok(None) => Err(not_built(alloc)),
+        Err(_) => Err(Stopped::Memory),
     }
 }

@@ -1,5 +1,1 @@
-pub mod Scanned
-pub mod Marks
-pub mod Needs
-pub mod Count
-pub mod Node
+pub mod Joined

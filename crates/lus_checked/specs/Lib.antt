@@ -1,7 +1,3 @@
-pub mod Followed
-pub mod Found
-pub mod Ordered
+pub mod Main
+pub mod Program
 pub mod Refusals
-pub mod Rows
-pub mod Tables
-pub mod Texts

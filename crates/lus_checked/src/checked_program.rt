@@ -1,104 +1,100 @@
-//! A program that breaks no rule.
+//! A program that breaks no rule and passes no limit.
 
-ghost use Rattle.std.specs.Prelude.{◌≡◌, MatchOption, [], ◌∷◌};
-ghost use Rattle.lus_tree.specs.Tree.{Component, declared_node};
-ghost use Rattle.lus_tree.specs.View.{node_view, program_view};
-ghost use Rattle.lus_meaning.specs.Run.{equations};
-ghost use Rattle.lus_meaning.specs.Rules.{IsWithinCounts};
-ghost use Rattle.lus_meaning.specs.BooleanRules.{BreaksNoBooleanRule, IsBooleanChecked};
-ghost use Rattle.lus_meaning.specs.Order.{IsLeastEquationOrder};
-ghost use Rattle.lus_meaning.specs.Depends.{left_names};
-ghost use Rattle.lus_meaning.specs.Rules.{declared_names};
-ghost use Rattle.lus_checked.specs.Found.{AreFound};
-ghost use Rattle.lus_checked.specs.Ordered.{AreOrdered};
+ghost use Rattle.std.specs.Prelude.{◌≡◌, ◌<◌, None, length, map};
+ghost use Rattle.lus_tree.specs.Lookup.{nodes_of};
+ghost use Rattle.lus_tree.specs.View.{program_view};
+ghost use Rattle.lus_meaning.specs.ClockFaults.{components};
+ghost use Rattle.lus_meaning.specs.Refusals.{IsChecked, IsWithinLimits};
+ghost use Rattle.lus_checked.specs.Program.{IsCheckedWith, IsOrderOf, main_of, tree_of};
 
-use crate::found::Found;
-use lus_tree::{Decl, Node, Program};
-use name_table::NameTable;
+use lus_clocks::Clocked;
+use lus_tree::Program;
 use std::marker::Model;
 
-/// The node of a program of one node.
-pub(crate) fn only_node(program: &Program) -> Option<&Node>
-    ensures { MatchOption result ((d : Component) → program_view program.now ≡ declared_node d ∷ [] → ⊥)
-        (λ n. program_view program.now ≡ declared_node (node_view n.now) ∷ []) }
-{
-    match program.decls.as_slice() {
-        [Decl::Node(node)] => Some(node),
-        _ => None,
-    }
-}
-
-/// A program that breaks no rule, as `checked` makes it. Contracts see the program.
+/// A program that breaks no rule and passes no limit, as `checked` makes it, with the orders of its equations and its main
+/// node. Contracts see the program and the number of the main node.
 #[derive(Drop)]
 pub struct Checked {
-    program: Program,
-    found: Found,
+    clocked: Clocked,
+    orders: Vec<Vec<u32>>,
+    main: u32,
 }
 
 impl Model for Checked {
-    ghost use Rattle.lus_tree.specs.declared.declaration.Program.{Program};
+    ghost use Rattle.std.specs.Prelude.{map};
     ghost use Rattle.lus_tree.specs.contracts.declaration.Program as e;
     ghost use Rattle.std.specs.Coded.{codes};
     ghost use Rattle.lus_tree.specs.View.{program_view};
-    ghost use Rattle.lus_meaning.specs.BooleanRules.{BreaksNoBooleanRule};
-    ghost use Rattle.lus_checked.specs.Found.{AreFound};
+    ghost use Rattle.lus_checked.specs.Program.{IsCheckedWith, Marked};
 
-    ghost Value = { Program };
+    ghost Value = { Marked };
 
     ghost coded = { Prim.hlevel (codes, e.the_row.coded) };
 
-    ghost view = { λ c. c.program };
+    ghost view = { λ c. (c.clocked, c.main) };
 
-    ghost invariant = { λ c. BreaksNoBooleanRule (program_view c.program) × AreFound (program_view c.program) c.found };
+    ghost invariant = { λ c. IsCheckedWith (program_view c.clocked) c.main (map (λ o. o.items) c.orders.items) };
 }
 
 impl Checked {
-    /// The program, of which the caller knows that it breaks no rule, with what was found of it.
-    pub(crate) fn of(program: Program, found: Found) -> Self
-        requires follows { BreaksNoBooleanRule (program_view program) }
-        requires found { AreFound (program_view program) found }
-        ensures { program_view result ≡ program_view program }
+    /// The program, of which the caller knows that it breaks no rule and passes no limit.
+    pub(crate) fn of(clocked: Clocked, orders: Vec<Vec<u32>>, main: u32) -> Self
+        requires { IsCheckedWith (program_view clocked) main (map (λ o. o.items) orders.items) }
+        ensures tree { tree_of result ≡ program_view clocked }
+        ensures main { main_of result ≡ main }
     {
-        Checked { program, found }
-    }
-
-    /// The program.
-    pub fn program(&self) -> &Program
-        ensures { program_view result.now ≡ program_view self.now }
-    {
-        &self.program
-    }
-
-    /// Its one node, which follows the rules and is within the limits.
-    pub fn node(&self) -> &Node
-        ensures rules { IsBooleanChecked (program_view self.now) (node_view result.now) }
-        ensures limits { IsWithinCounts (program_view self.now) (node_view result.now) }
-    {
-        match only_node(&self.program) {
-            Some(node) => node,
-            None => unreachable!(),
+        Checked {
+            clocked,
+            orders,
+            main,
         }
     }
 
-    /// Its equations, numbered from 0 in text order: again and again the least that is not yet
-    /// listed and of which all that it needs at its own instant is listed.
-    pub fn order(&self) -> &[u32]
-        ensures { AreOrdered (program_view self.now) result.now }
+    /// The program. It breaks no rule and passes no limit.
+    pub fn program(&self) -> &Program
+        ensures same { program_view result.now ≡ tree_of self.now }
+        ensures rules { IsChecked (tree_of self.now) }
+        ensures within { IsWithinLimits (tree_of self.now) None }
     {
-        &self.found.order
+        self.clocked.program()
     }
 
-    /// The names that its node declares, numbered from 0 in the order of their declarations.
-    pub fn declared(&self) -> &NameTable
-        ensures { (d : Component) → IsBooleanChecked (program_view self.now) d → result.now ≡ declared_names d }
+    /// The program alone.
+    pub fn into_program(self) -> Program
+        ensures { program_view result ≡ tree_of self }
     {
-        &self.found.tables.declared
+        self.clocked.into_program()
     }
 
-    /// The left names of its equations. An equation has one, and the two have the same number.
-    pub fn lefts(&self) -> &NameTable
-        ensures { (d : Component) → IsBooleanChecked (program_view self.now) d → result.now ≡ left_names d }
+    /// The program with what is known of its names, types and clocks.
+    pub fn clocked(&self) -> &Clocked
+        ensures { program_view result.now ≡ tree_of self.now }
     {
-        &self.found.tables.lefts
+        &self.clocked
+    }
+
+    /// The number of the main node among nodes and functions, which count from 0 in text order.
+    pub fn main(&self) -> u32
+        ensures same { result ≡ main_of self.now }
+        ensures node { result < length (nodes_of (tree_of self.now)) }
+    {
+        self.main
+    }
+
+    /// How many declarations with parts there are: nodes, functions and contract nodes.
+    pub fn parts(&self) -> usize
+        ensures { result ≡ length (components (tree_of self.now)) }
+    {
+        self.orders.len()
+    }
+
+    /// The equations of a declaration with parts by its number, constants left out, counted from 0 in text order:
+    /// the numbers of its equations, ghost ones first, in the least order in which each stands behind all that it
+    /// needs at its own instant.
+    pub fn order(&self, number: usize) -> &[u32]
+        requires { number < length (components (tree_of self.now)) }
+        ensures { IsOrderOf (tree_of self.now) number result.now }
+    {
+        self.orders[number].as_slice()
     }
 }

@@ -1,15 +1,10 @@
-//! Programs that break no rule: one Boolean node, with an order of its equations.
+//! Programs that follow every rule of the language and pass no limit: the third of the three checks.
 #![tactic(auto)]
 
 mod checked_program;
-mod collected;
-mod found;
-mod limits;
-mod names;
-mod order;
-mod rows;
-mod rules;
-mod shape;
+mod checking;
+mod main_node;
+mod orders;
 
 pub use checked_program::Checked;
-pub use rules::checked;
+pub use checking::checked;

@@ -10,7 +10,7 @@ ghost use Rattle.sys_build.specs.Numbering.{stream_names};
 ghost use Rattle.sys_build.specs.Printed.{boolean_subject, printed_place};
 
 use crate::fault::BuildFault;
-use lus_checked::Checked;
+use lus_built::Built;
 use lus_meaning::Spot;
 use lus_tree::{Node, Param};
 use std::alloc::{AllocError, Global};
@@ -51,7 +51,7 @@ fn spot_of(node: &Node, streams: usize, number: u32) -> Result<Spot, AllocError>
 /// Only want of memory.
 pub fn place_of(
     alloc: Global,
-    checked: &Checked,
+    checked: &Built,
     number: u32,
 ) -> Result<(Vec<u32>, Spot), BuildFault>
     requires placed { (d : Component) → IsBooleanChecked (program_view checked.now) d

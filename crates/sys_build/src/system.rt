@@ -23,7 +23,7 @@ use crate::operands::operands_of;
 use crate::rights::sides_of;
 use indexmap::IndexMap;
 use kind_num::Shape;
-use lus_checked::Checked;
+use lus_built::Built;
 use lus_tree::{Expr, Node};
 use name_table::NameTable;
 use std::alloc::{AllocError, Global};
@@ -101,7 +101,7 @@ fn built(alloc: Global, node: &Node, names: &NameTable) -> Result<System, AllocE
 /// # Errors
 ///
 /// Only want of memory.
-pub fn build(alloc: Global, checked: &Checked) -> Result<System, BuildFault>
+pub fn build(alloc: Global, checked: &Built) -> Result<System, BuildFault>
     ensures exact { IfOk result (λ s. (d : Component) → IsBooleanChecked (program_view checked.now) d
         → system_view s ≡ system_of (instance_of (program_view checked.now) d)) }
 {

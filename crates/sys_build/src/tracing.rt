@@ -22,7 +22,7 @@ use crate::numbering::{Numbering, counted};
 use crate::occurring::{memories_of, starts_of};
 use crate::rights::sides_of;
 use indexmap::IndexMap;
-use lus_checked::Checked;
+use lus_built::Built;
 use lus_meaning::{Spot, Trace, TraceLine, Value};
 use lus_tree::{Expr, Node, Param, Pos};
 use name_table::NameTable;
@@ -229,7 +229,7 @@ fn lines_of(
 /// # Errors
 ///
 /// Only want of memory.
-pub fn trace_of(alloc: Global, checked: &Checked, states: &[State]) -> Result<Trace, BuildFault>
+pub fn trace_of(alloc: Global, checked: &Built, states: &[State]) -> Result<Trace, BuildFault>
     requires some { states.now ≢ [] }
     requires few { length states.now < 2 ^ 32 }
     ensures exact { IfOk result (λ t. (d : Component) → IsBooleanChecked (program_view checked.now) d

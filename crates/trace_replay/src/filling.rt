@@ -18,7 +18,7 @@ use crate::line_table::LineTable;
 use crate::node_names::NodeNames;
 use crate::row_names::RowNames;
 use crate::rows::table;
-use lus_checked::Checked;
+use lus_built::Built;
 use lus_meaning::Trace;
 use lus_tree::Item;
 use std::alloc::{AllocError, Global};
@@ -61,7 +61,7 @@ pub(crate) fn filled<'a>(
 /// The replay of a trace that fits.
 pub(crate) fn replayed<'a>(
     alloc: Global,
-    checked: &'a Checked,
+    checked: &'a Built,
     trace: &Trace,
 ) -> Result<Replay<'a>, AllocError>
     requires fits { FitsProgram (program_view checked.now) (trace_view trace.now) }

@@ -16,7 +16,7 @@ use crate::fault::TraceFault;
 use crate::listed::Listed;
 use crate::needs::Needs;
 use crate::node_names::NodeNames;
-use lus_checked::Checked;
+use lus_built::Built;
 use lus_meaning::{PlacedValue, Trace, TraceLine, Value};
 use lus_tree::{Param, Pos};
 use std::alloc::Global;
@@ -150,7 +150,7 @@ fn fits_node(alloc: Global, needs: &Needs, trace: &Trace) -> Result<(), TraceFau
 ///
 /// `Form` exactly where it doesn't, at the first word that doesn't fit; `Memory` for want of
 /// memory.
-pub(crate) fn fits(alloc: Global, checked: &Checked, trace: &Trace) -> Result<(), TraceFault>
+pub(crate) fn fits(alloc: Global, checked: &Built, trace: &Trace) -> Result<(), TraceFault>
     // A trace that is let through fits.
     ensures fits { OnOk result (FitsProgram (program_view checked.now) (trace_view trace.now)) }
     // A place is that of the first word that doesn't.

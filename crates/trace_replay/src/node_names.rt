@@ -7,7 +7,7 @@ ghost use Rattle.lus_meaning.specs.Rules.{lefts as lefts_of, IsWithinCounts};
 ghost use Rattle.lus_meaning.specs.BooleanRules.{IsBooleanChecked};
 ghost use Rattle.trace_replay.specs.Given.{own_names};
 
-use lus_checked::Checked;
+use lus_built::Built;
 use lus_tree::Node;
 use name_table::NameTable;
 
@@ -23,7 +23,7 @@ pub(crate) struct NodeNames<'a> {
 
 impl<'a> NodeNames<'a> {
     /// Those of a program.
-    pub(crate) fn of(checked: &'a Checked) -> Self
+    pub(crate) fn of(checked: &'a Built) -> Self
         ensures rules { IsBooleanChecked (program_view checked.now) (node_view result.node.now) }
         ensures limits { IsWithinCounts (program_view checked.now) (node_view result.node.now) }
     {

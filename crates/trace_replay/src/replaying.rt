@@ -12,7 +12,7 @@ use crate::answers::Replay;
 use crate::fault::TraceFault;
 use crate::filling::replayed;
 use crate::fitting::fits;
-use lus_checked::Checked;
+use lus_built::Built;
 use lus_meaning::Trace;
 use std::alloc::Global;
 
@@ -24,7 +24,7 @@ use std::alloc::Global;
 /// missing input at the word `end`. `Memory` for want of memory.
 pub fn replay<'a>(
     alloc: Global,
-    checked: &'a Checked,
+    checked: &'a Built,
     trace: &Trace,
 ) -> Result<Replay<'a>, TraceFault>
     // A trace that is replayed fits.

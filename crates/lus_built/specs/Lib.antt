@@ -1,0 +1,5 @@
+pub mod Found
+pub mod Ordered
+pub mod Shaped
+pub mod Tables
+pub mod Texts

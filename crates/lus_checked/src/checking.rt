@@ -1,0 +1,109 @@
+//! Whether a program follows the rules of equations and passes no limit.
+
+ghost use Rattle.std.specs.Prelude.{◌≡◌, IfErr, IfOk, Some, map};
+ghost use Rattle.lus_tree.specs.Reason.{memory, refusal_view};
+ghost use Rattle.lus_tree.specs.View.{program_view};
+ghost use Rattle.lus_meaning.specs.ClockFaults.{components};
+ghost use Rattle.lus_meaning.specs.Faults.{fault};
+ghost use Rattle.lus_meaning.specs.Grammatical.{IsGrammatical};
+ghost use Rattle.lus_meaning.specs.NameFaults.{start_of_text};
+ghost use Rattle.lus_meaning.specs.Refusals.{IsChecked, IsClocked, IsWithinLimits};
+ghost use Rattle.lus_order.specs.Checked.{AreLeastOrders};
+ghost use Rattle.lus_bounds.specs.Passed.{name_seen};
+ghost use Rattle.lus_checked.specs.Main.{main_node};
+ghost use Rattle.lus_checked.specs.Program.{IsCheckedWith, main_of, tree_of};
+ghost use Rattle.lus_checked.specs.Refusals.{IsRefusal};
+
+use crate::checked_program::Checked;
+use crate::main_node::main_number;
+use crate::orders::all_narrowed;
+use lus_bounds::limits;
+use lus_clocks::Clocked;
+
+use lus_order::equations;
+use lus_tree::{Pos, Program, Refusal, What};
+use std::alloc::{AllocError, Global};
+
+/// The refusal of a program for want of memory.
+fn no_memory() -> Refusal
+    ensures { refusal_view result ≡ fault memory start_of_text }
+{
+    Refusal {
+        at: Pos { line: 1, column: 1 },
+        what: What::Memory,
+    }
+}
+
+/// What is found of a program that breaks no rule and passes no limit: the orders of its equations, and the number of its
+/// main node.
+#[derive(Drop)]
+struct Found {
+    orders: Vec<Vec<u32>>,
+    main: u32,
+}
+
+/// What is found of a program, by its orders, where it is within the limits.
+fn with_main(
+    alloc: Global,
+    program: &Program,
+    orders: &[Vec<usize>],
+    main: Option<&str>,
+) -> Result<Found, AllocError>
+    requires checked { IsChecked (program_view program.now) }
+    requires within { IsWithinLimits (program_view program.now) (name_seen main) }
+    requires orders { AreLeastOrders (program_view program.now) (components (program_view program.now))
+        (map (λ o. o.items) orders.now) }
+    ensures found { IfOk result (λ f. IsCheckedWith (program_view program.now) f.main
+        (map (λ o. o.items) f.orders.items)) }
+    ensures main { IfOk result (λ f. main_node (program_view program.now) (name_seen main.entry) ≡ Some f.main) }
+{
+    let Some(number) = main_number(program, main) else {
+        unreachable!();
+    };
+    let Ok(main) = u32::try_from(number) else {
+        return Err(AllocError);
+    };
+    let orders = all_narrowed(alloc, orders)?;
+    Ok(Found { orders, main })
+}
+
+/// What is found of a program, where it breaks no rule of equations and passes no limit.
+#[tactic(auto, using(crate::proofs::Joined::followed, crate::proofs::Joined::whole))]
+fn judged(alloc: Global, program: &Program, main: Option<&str>) -> Result<Found, Refusal>
+    requires grammatical { IsGrammatical (program_view program.now) }
+    requires clocked { IsClocked (program_view program.now) }
+    ensures found { IfOk result (λ f. IsCheckedWith (program_view program.now) f.main
+        (map (λ o. o.items) f.orders.items)) }
+    ensures within { IfOk result (λ _. IsWithinLimits (program_view program.now) (name_seen main.entry)) }
+    ensures main { IfOk result (λ f. main_node (program_view program.now) (name_seen main.entry) ≡ Some f.main) }
+    ensures refused { IfErr result (λ e. IsRefusal (program_view program.now) (name_seen main.entry) (refusal_view e)) }
+{
+    let orders = equations(alloc, program)?;
+    limits(alloc, program, main)?;
+    match with_main(alloc, program, orders.as_slice(), main) {
+        Ok(found) => Ok(found),
+        Err(_) => Err(no_memory()),
+    }
+}
+
+/// The program, with the fact that it breaks no rule and passes no limit, the orders of its equations and its main node:
+/// the one that is named, else the first with a mark, else the last.
+///
+/// # Errors
+///
+/// Where it has a fault of equations a first of these: `EquationTwice`, `InputDefined` or `Cycle`. Else, where it passes a
+/// limit, a first of these faults: `MainUnknown` at 1:1, or `TooMany` with the limit. Or `Memory` at 1:1. The program is
+/// then dropped.
+pub fn checked(alloc: Global, clocked: Clocked, main: Option<&str>) -> Result<Checked, Refusal>
+    requires grammatical { IsGrammatical (program_view clocked) }
+    ensures same { IfOk result (λ c. tree_of c ≡ program_view clocked) }
+    ensures rules { IfOk result (λ _. IsChecked (program_view clocked)) }
+    ensures within { IfOk result (λ _. IsWithinLimits (program_view clocked) (name_seen main.entry)) }
+    ensures main { IfOk result (λ c. main_node (program_view clocked) (name_seen main.entry) ≡ Some (main_of c)) }
+    ensures refused { IfErr result (λ e. IsRefusal (program_view clocked) (name_seen main.entry) (refusal_view e)) }
+{
+    match judged(alloc, clocked.program(), main) {
+        Ok(found) => Ok(Checked::of(clocked, found.orders, found.main)),
+        Err(refusal) => Err(refusal),
+    }
+}
