@@ -19,3 +19,4 @@ pub mod Needed
 pub mod Contracted
 mod Settled
 pub mod Nodes
+pub mod SystemSizes

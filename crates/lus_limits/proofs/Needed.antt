@@ -107,7 +107,7 @@ found_at (declared_constant c ∷ ds) x e = found_at ds x e
 found_at (declared_node n ∷ ds) x e = found_one x n (components ds) (component_named ds x) (bytes_eq x n.name.text) e (found_at ds x)
 found_at (declared_contract n ∷ ds) x e = found_one x n (components ds) (component_named ds x) (bytes_eq x n.name.text) e (found_at ds x)
 
-same_length : (p : Program) (ns : List Component) (os : List (Option Needs)) → AreKnown p ns os → length os ≡ length ns
+pub same_length : (p : Program) (ns : List Component) (os : List (Option Needs)) → AreKnown p ns os → length os ≡ length ns
 same_length p [] [] a = refl
 same_length p [] (o ∷ os) a = absurd a
 same_length p (n ∷ ns) [] a = absurd a
@@ -243,7 +243,7 @@ none_more names ns os k s = record {
 }
 
 -- as the code has it
-mapped_at : (ps : List Owner) (k : ℕ) (o : Owner) → k < length ps → o ≡ get_or ps k o → get_or (map owner_view ps) k no_component ≡ owner_view o
+pub mapped_at : (ps : List Owner) (k : ℕ) (o : Owner) → k < length ps → o ≡ get_or ps k o → get_or (map owner_view ps) k no_component ≡ owner_view o
 mapped_at [] k o h e = absurd (omega (arith, h))
 mapped_at (p ∷ ps) zero o h e = ap owner_view (sym e)
 mapped_at (p ∷ ps) (suc k) o h e = mapped_at ps k o (omega (arith, h)) e

@@ -214,7 +214,7 @@ frame_in m (instance n cs is) =
     let e : length (own_cells m n) ≡ length (own_cells (as_import []) n) + sofar_count (way_of m) (not (is_none n.contract)) = own_in m n in
     omega arith
 
-frame_so : (p : Program) (m : Manner) (n : Component) → frame_width p m n ≡ frame_width p (as_import []) n
+pub frame_so : (p : Program) (m : Manner) (n : Component) → frame_width p m n ≡ frame_width p (as_import []) n
     + sofar_count (way_of m) (not (is_none n.contract))
 frame_so p m n =
     frame_in m (instance_of p n)

@@ -19,3 +19,4 @@ pub mod FrameTerms
 pub mod Contracted
 pub mod Tables
 pub mod Nodes
+pub mod SystemSizes

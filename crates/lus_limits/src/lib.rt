@@ -18,9 +18,11 @@ mod presence;
 mod settling;
 mod sites;
 mod summing;
+mod systems;
 mod term_size;
 mod texts;
 
 pub use calls::{Call, Way};
 pub use sites::calls_of;
 pub use summing::{ItemCounts, Link, Summary, summed};
+pub use systems::{SystemSize, system_sizes};

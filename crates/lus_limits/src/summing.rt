@@ -55,7 +55,7 @@ pub(crate) fn cut(number: usize) -> usize
 }
 
 /// A sum, cut.
-fn sum(left: usize, right: usize) -> usize
+pub(crate) fn sum(left: usize, right: usize) -> usize
     ensures { result ≡ cut (left + right) }
 {
     if left < BOUND && right < BOUND - left {
@@ -112,7 +112,7 @@ pub(crate) fn states_in(sides: &[&Expr]) -> usize
 }
 
 /// One more where a frame keeps whether its assumptions were true.
-fn sofar_count(way: Way, contract: bool) -> usize
+pub(crate) fn sofar_count(way: Way, contract: bool) -> usize
     ensures { result ≡ sofar_count way contract }
 {
     match way {

@@ -1,0 +1,14 @@
+use Rattle.std.proofs.Common.{map, ap, ◌∙◌}
+use Rattle.lus_tree.specs.View.{decl_view, program_view}
+use Rattle.lus_scopes.specs.Least.{least_view, noted_all}
+use Rattle.lus_bounds.specs.Passed.{limit_faults_by, name_seen}
+use Rattle.lus_bounds.proofs.FirstPassed.{least_of_sizes}
+use Rattle.lus_bounds.proofs.checks.checked.Goals as goal
+
+pub returns : goal.returns
+returns c =
+    least_of_sizes (program_view c.args.program.now) (name_seen c.args.main) c.deref.result.now (least_view c.new-least.result)
+    (least_view c.note_main.new.least) (least_view c.note_limits.new.least) (c.deref.ensures.value ∙ c.in_ok-sizes.ensures) c.new-least.ensures
+    c.note_main.ensures
+    (c.note_limits.ensures
+    ∙ ap (λ ds. noted_all (least_view c.note_main.new.least) (limit_faults_by c.deref.result.now 0 (map decl_view ds))) c.deref-2.ensures.value)
