@@ -7,10 +7,10 @@ use Rattle.sys_terms.specs.Queries.{property_term}
 use Rattle.cert_rules.specs.Laws.{HoldsReachably}
 use Rattle.cert_rules.proofs.Paths.{alone-last}
 use Rattle.board_core.specs.declared.plan.Plan.{Plan}
-use Rattle.board_core.specs.Entries.{Why, depth, Posting, AreSound}
+use Rattle.board_core.specs.Entries.{depth, Posting, AreSound}
 use Rattle.board_core.specs.Verdicts.{Judged, valid_by, falsifiable_by, unknown, judged, cause_of, BreaksBy, IsJudged}
-use Rattle.depth_laws.specs.Depths.{BreaksUpTo, IsInductive, IsUncut, HasWholeCause}
-use Rattle.depth_laws.specs.Laws.{WholeCausesAreDepths, DepthOfBounded, DepthOfStep, InductiveHold, IsBeyond, BrokenAreFalsifiable, InductiveAreValid, UnknownAreBeyond, PlayedHaveCauses, PlayedAreComplete}
+use Rattle.depth_laws.specs.Depths.{BreaksUpTo, IsInductive, HasWholeCause}
+use Rattle.depth_laws.specs.Laws.{WholeCausesAreDepths, DepthOfBounded, DepthOfStep, InductiveHold, IsBeyond, BrokenAreFalsifiable, InductiveAreValid, UnknownAreBeyond, PlayedHaveCauses, PlayedHaveWholeCauses, PlayedAreComplete}
 use Rattle.depth_laws.proofs.Parts.{some-alone, ends-true}
 
 abbrev pub VerdictsAreTrue : Type 0
@@ -74,16 +74,15 @@ module _ (verdicts : VerdictsAreTrue) (whole : WholeCausesAreDepths) (m : Machin
 
 -- ---- played books
 
-whole-cause : (history : List Posting) (engine p : ℕ)
-    → (judged p history ≡ unknown → (why : Why) × (cause_of engine p history ≡ Some why))
-    → IsUncut history engine p → HasWholeCause history engine p
-whole-cause history engine p there uncut e = let c = there e in (c.0, c.1, uncut e c.0 c.1)
+pub played-whole : PlayedHaveCauses → PlayedHaveWholeCauses
+played-whole there history seat engine count p causes l uncut e =
+    let c = there history seat engine count p causes l e in (c.0, c.1, uncut e c.0 c.1)
 
-pub played-complete : BrokenAreFalsifiable → InductiveAreValid → UnknownAreBeyond → PlayedHaveCauses → PlayedAreComplete
-played-complete broken valid beyond there m plan history fit sound first second p a b l c d =
+pub played-complete : BrokenAreFalsifiable → InductiveAreValid → UnknownAreBeyond → PlayedHaveWholeCauses → PlayedAreComplete
+played-complete broken valid beyond whole m plan history fit sound first second p a b l c d =
     let count = length m.properties in
-    let bounded = whole-cause history 0 p (there history first 0 count p a l) c in
-    let step = whole-cause history 1 p (there history second 1 count p b l) d in
+    let bounded = whole history first 0 count p a l c in
+    let step = whole history second 1 count p b l d in
     record {
       falsifiable = broken m plan history fit sound p bounded;
       valid = valid m plan history fit sound p step;

@@ -93,6 +93,12 @@ PlayedHaveCauses =
     (history : List Posting) (seat engine count p : ℕ) → HasCauses history history seat (Some engine) count → p < count
     → judged p history ≡ unknown → (why : Why) × (cause_of engine p history ≡ Some why)
 
+-- so it has the whole one, unless it was cut short
+abbrev pub PlayedHaveWholeCauses : Type 0
+PlayedHaveWholeCauses =
+    (history : List Posting) (seat engine count p : ℕ) → HasCauses history history seat (Some engine) count → p < count
+    → IsUncut history engine p → HasWholeCause history engine p
+
 -- what the verdict says of a property where neither engine was cut short
 pub record IsDecidedUpTo (m : Machine) (history : List Posting) (p depth : ℕ) : Type 0 where
   pub falsifiable : BreaksUpTo m p depth → (place : ℕ) × (judged p history ≡ falsifiable_by place)

@@ -2,8 +2,8 @@
 
 ghost use Rattle.depth_laws.specs.Laws.{BreaksHaveCounterexamples, BrokenAreFalsifiable, CitingStepsAreQueries};
 ghost use Rattle.depth_laws.specs.Laws.{DepthOfBounded, DepthOfStep, DepthWithLemmas, InductiveAreValid, InductiveHold};
-ghost use Rattle.depth_laws.specs.Laws.{PlayedAreComplete, PlayedHaveCauses, StepsAreQueries, UnknownAreBeyond};
-ghost use Rattle.depth_laws.specs.Laws.{WholeCausesAreDepths};
+ghost use Rattle.depth_laws.specs.Laws.{PlayedAreComplete, PlayedHaveCauses, PlayedHaveWholeCauses, StepsAreQueries};
+ghost use Rattle.depth_laws.specs.Laws.{UnknownAreBeyond, WholeCausesAreDepths};
 
 /// A path that ends with a property false begins with one on which the property is false at the last state alone: so a
 /// property breaks at an instant up to a given one exactly where it has a counterexample to such an instant.
@@ -63,9 +63,11 @@ pub fn decided_where_complete()
     inductive_hold();
 }
 
-/// What a play promises of the causes of its engines: where a property is unknown, the book has them.
+/// What a play promises of the causes of its engines: where a property is unknown, the book has them. So it has the
+/// whole ones, unless they were cut short.
 pub fn played_have_causes()
-    ensures { PlayedHaveCauses }
+    ensures causes { PlayedHaveCauses }
+    ensures whole { PlayedHaveWholeCauses }
 {}
 
 /// Where two seats have posted the causes of bounded search and of induction for what a sound book leaves undecided,
