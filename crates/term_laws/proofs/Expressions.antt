@@ -135,8 +135,19 @@ module _ (i : Instance) where
 
 module _ (V : Variables) (limit : ℕ) (least : 1 ≤ limit) where
   -- each variable of a frame that runs in that manner, and of those of its calls, may stand at its number
+  abbrev pub NumberedAs : Bool → Manner → Instance → (Place → ℕ) → Type 0
+  NumberedAs b m i at = (ks : List ℕ) (p : Spot) (z : Sort) → HasPlaceIn IsKnown m ks i p z → V z (at (ks, p)) b
+
+  -- in this state
   abbrev pub Numbered : Manner → Instance → (Place → ℕ) → Type 0
-  Numbered m i at = (ks : List ℕ) (p : Spot) (z : Sort) → HasPlaceIn IsKnown m ks i p z → V z (at (ks, p)) false
+  Numbered = NumberedAs false
+
+  -- parts of these types
+  abbrev pub AreParts : List Sort → List Part → Type 0
+  AreParts [] [] = Unit {0}
+  AreParts (z ∷ zs) (p ∷ ps) = FineParts V limit z p × AreParts zs ps
+  AreParts [] (p ∷ ps) = ⊥
+  AreParts (z ∷ zs) [] = ⊥
 
   abbrev pub FineModes : Known Formula → Type 0
   FineModes ms = AllByRecursion (λ m. Fine V limit m.1) ms
@@ -196,13 +207,6 @@ module _ (V : Variables) (limit : ℕ) (least : 1 ≤ limit) where
     latest_fine k c a ds h v o e =
         fine_choice V limit least v.sort (flag_at g (in_call k (own beat))) (output_part g k v) (held_part g k v) (call_beat_fine k h.call)
         (in_call_fine k h.call v o) (held_fine k c a ds h v o e)
-
-    -- parts of these types
-    abbrev pub AreParts : List Sort → List Part → Type 0
-    AreParts [] [] = Unit {0}
-    AreParts (z ∷ zs) (p ∷ ps) = FineParts V limit z p × AreParts zs ps
-    AreParts [] (p ∷ ps) = ⊥
-    AreParts (z ∷ zs) [] = ⊥
 
     outputs_fine : (k : ℕ) → IsCall i (IsKnown i) k → (vs : List Variable) → AllByRecursion (OutputFits i (IsKnown i) k) vs →
         AreParts (map (λ v. v.sort) vs) (map (output_part g k) vs)

@@ -5,3 +5,5 @@ pub mod Scopes
 pub mod Weights
 pub mod Weighed
 pub mod Expressions
+pub mod Lights
+pub mod Contracts
