@@ -202,7 +202,7 @@ module _ (V : Variables) (limit : ℕ) (least : 1 ≤ limit) where
         fine_variable V limit least false v.sort (g.number (own (held k v.name.text)))
         (numbered [] (held k v.name.text) v.sort (c, a, ds, h, e, o.1))
 
-    latest_fine : (k : ℕ) (c : Clock) (a : Expression) (ds : Expressions) → IsHeldCall i (IsKnown i) k c a ds → (v : Variable) →
+    pub latest_fine : (k : ℕ) (c : Clock) (a : Expression) (ds : Expressions) → IsHeldCall i (IsKnown i) k c a ds → (v : Variable) →
         OutputFits i (IsKnown i) k v → named_in v.name.text (outputs_of (call_instance i k)) ≡ true → FineParts V limit v.sort (latest_part g k v)
     latest_fine k c a ds h v o e =
         fine_choice V limit least v.sort (flag_at g (in_call k (own beat))) (output_part g k v) (held_part g k v) (call_beat_fine k h.call)

@@ -7,3 +7,5 @@ pub mod Weighed
 pub mod Expressions
 pub mod Lights
 pub mod Contracts
+pub mod Conditions
+pub mod Mild

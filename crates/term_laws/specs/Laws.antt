@@ -4,9 +4,15 @@ use Rattle.lus_tree.specs.Tree.{Name, Component, declared_node, Program}
 use Rattle.lus_meaning.specs.Program.{instance_of}
 use Rattle.lus_meaning.specs.Refusals.{IsWithinLimits}
 use Rattle.sys_terms.specs.View.{Machine}
+use Rattle.sys_terms.specs.Fits.{IsMild}
 use Rattle.sys_meaning.specs.System.{system_of}
 use Rattle.sys_meaning.specs.Checked.{HasFormulas}
 use Rattle.path_laws.specs.Laws.{OfEachInstance}
+
+-- Its terms fit its shapes, those of a state and the next alone speak of a next state, no divisor is 0, and no number and
+-- no divisor weighs more than 2^63.
+abbrev pub MildSystems : Type 0
+MildSystems = OfEachInstance (λ i. IsMild (system_of i))
 
 -- as many formulas as properties
 abbrev pub EachFormulas : Type 0

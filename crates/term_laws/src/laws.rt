@@ -1,6 +1,12 @@
 //! The laws of the systems of checked programs.
 
-ghost use Rattle.term_laws.specs.Laws.{EachFormulas, SmallSystems};
+ghost use Rattle.term_laws.specs.Laws.{EachFormulas, MildSystems, SmallSystems};
+
+/// The system of each declaration of a checked program is mild: its terms fit its shapes, those of a state and the next
+/// alone speak of a next state, no divisor is 0, and no number and no divisor weighs more than 2^63.
+pub fn mild_systems()
+    ensures { MildSystems }
+{}
 
 /// The system of a node or function of a program within its limits has at most 20,000 variables and at most 500
 /// formulas of properties.
