@@ -1,14 +1,13 @@
 -- The conditions of a light declaration's system are fine.
-use Rattle.std.proofs.Common.{◌≡◌, ℕ, zero, suc, pred, ◌<◌, ◌≤◌, ◌+◌, Bool, true, false, cond, List, [], ◌∷◌, ◌++◌, map, flat_map, length, Option, Some, None, refl, sym, ap, ◌∙◌, subst, arith}
+use Rattle.std.proofs.Common.{◌≡◌, ℕ, suc, ◌≤◌, Bool, true, false, cond, List, [], ◌∷◌, ◌++◌, map, flat_map, Option, Some, None, refl, sym, ◌∙◌, subst, arith}
 use Rattle.std.specs.List.{AllByRecursion}
 use Rattle.std.specs.Map.{lookup}
 use Rattle.std.specs.Str.{bytes_eq}
-use Rattle.std.proofs.lemmas.Bool.{false≢true}
 use Rattle.lus_tree.specs.declared.place.Sort.{Sort}
-use Rattle.lus_tree.specs.declared.place.Sort.TheVariants.{Bool as Flags, Int as Numbers}
-use Rattle.lus_tree.specs.Tree.{Name, Variable, Expression, Expressions, no_more, more, Component, Statement, equation, assertion, property, main_mark}
+use Rattle.lus_tree.specs.declared.place.Sort.TheVariants.{Bool as Flags}
+use Rattle.lus_tree.specs.Tree.{Name, Variable, Expression, Expressions, no_more, more, Statement, equation, assertion, property, main_mark}
 use Rattle.lus_meaning.specs.Value.{Value, absent, flag, whole, has_sort}
-use Rattle.lus_meaning.specs.Scene.{Clock, base, Manner, plain, while_true, as_import, Site, Instance, Instances, instance, no_instances, with_instance, calls_of, call_instance, component_of, constants_of, outputs_of, clock_from, variables}
+use Rattle.lus_meaning.specs.Scene.{Clock, base, Manner, plain, while_true, as_import, Site, Instance, Instances, instance, no_instances, with_instance, calls_of, call_instance, component_of, constants_of, outputs_of, variables}
 use Rattle.lus_meaning.specs.Program.{in_order, constant_value}
 use Rattle.lus_meaning.specs.Property.{assertions}
 use Rattle.lus_meaning.specs.Run.{Equation, equations, inputs_of, sort_of, sort_of_name}
@@ -23,16 +22,16 @@ use Rattle.sys_terms.specs.View.{Formula, negation, both, same}
 use Rattle.sys_meaning.specs.Slot.{Spot, beat, named, memory, starting, so_far, held, Place, own, in_call}
 use Rattle.sys_meaning.specs.Defaults.{default_among, default_of, site_of}
 use Rattle.sys_meaning.specs.Items.{ModeItem}
-use Rattle.sys_meaning.specs.Part.{Part, a_flag, fixed, variable, variable_in, zero_of, all_of, some_of, choose_part, equal_parts}
-use Rattle.sys_meaning.specs.Translate.{Stage, flag_at, name_part, present, term_of, right_terms, formula, head_part}
-use Rattle.sys_meaning.specs.System.{Written, written, contract_of, assumed, stage, below_call, Sources, tail_parts, paired, equation_sources, variable_of, clock_of_variable, equals_where_on, is_free, name_here, names_here, runs_where, shared_outputs, from_call, here_of, calls_here, has_so_far, starts_first, so_far_first, held_first, first_of, calls_first, becomes, memory_next, start_next, so_far_next, held_next, next_of, calls_next, asserts_of, asserts_in, calls_asserts, legal_of, body_properties, one_mode, owed_by_site, owed_by_calls, properties_of}
-use Rattle.sys_meaning.specs.WellTyped.{IsKnown, checked, IsNameOn, IsCall, IsHeldCall, OutputFits, DefaultsFit, ClockFits, StreamFits, EquationFits, MemoryFits, StartFits, Stands, OwnFits, CallFits, TreeFits, CallsFit, MannerFits, right_sorts}
+use Rattle.sys_meaning.specs.Part.{Part, a_flag, fixed, variable, variable_in, zero_of, all_of, choose_part, equal_parts}
+use Rattle.sys_meaning.specs.Translate.{Stage, flag_at, name_part, present, term_of, right_terms, formula}
+use Rattle.sys_meaning.specs.System.{Written, contract_of, assumed, stage, below_call, Sources, paired, equation_sources, variable_of, clock_of_variable, is_free, name_here, names_here, runs_where, shared_outputs, from_call, here_of, calls_here, has_so_far, starts_first, so_far_first, held_first, first_of, calls_first, becomes, memory_next, start_next, so_far_next, held_next, next_of, calls_next, asserts_of, asserts_in, calls_asserts, legal_of, body_properties, one_mode, owed_by_site, owed_by_calls, properties_of}
+use Rattle.sys_meaning.specs.WellTyped.{IsKnown, checked, IsNameOn, IsHeldCall, DefaultsFit, ClockFits, StreamFits, EquationFits, MemoryFits, StartFits, Stands, OwnFits, CallFits, TreeFits, CallsFit, MannerFits}
 use Rattle.sys_meaning.proofs.Forward.{drop_calls}
 use Rattle.term_laws.proofs.Fine.{Variables, Fine, FineParts, part_weight, fine_variable, fine_zero, fine_equal, fine_choice, fine_fixed, all_of_fine, some_of_fine}
-use Rattle.term_laws.proofs.Weights.{value_size, value_here, Light}
+use Rattle.term_laws.proofs.Weights.{value_size, value_here}
 use Rattle.term_laws.proofs.Lights.{IsLight, LightManner, OwnLight, SiteLight, LightTree, LightCalls}
-use Rattle.term_laws.proofs.Expressions.{FineModes, AreParts, name_fine, beat_fine, presence_fine, call_beat_fine, all_outputs, IsOutput, latest_fine, TermFine, term_fine, right_fine, flag_formula}
-use Rattle.term_laws.proofs.Contracts.{one_within, calls_behind, site_there, instance_there, Has, numbered_call, GoodWritten, GoodMode, GoodItems, at_place, contract_fine, stage_modes}
+use Rattle.term_laws.proofs.Expressions.{FineModes, AreParts, name_fine, presence_fine, call_beat_fine, all_outputs, IsOutput, latest_fine, term_fine, right_fine, flag_formula}
+use Rattle.term_laws.proofs.Contracts.{one_within, calls_behind, site_there, instance_there, Has, numbered_call, GoodMode, GoodItems, at_place, contract_fine, stage_modes}
 
 abbrev limit : ℕ
 limit = greatest_weight
@@ -106,8 +105,10 @@ module _ (V : Variables) where
         go : (b : Bool) → AllByRecursion (Fine V greatest_weight) (cond b [] (is_free (stage i at) v ∷ []))
         go true = tt
         go false = (
-          (present_good (clock_of_variable v) s.clock,
-              fine_equal V greatest_weight one_within v.sort (variable_of g v) (zero_of v.sort) (variable_good v s) (fine_zero V greatest_weight one_within v.sort)),
+          (
+            present_good (clock_of_variable v) s.clock,
+            fine_equal V greatest_weight one_within v.sort (variable_of g v) (zero_of v.sort) (variable_good v s) (fine_zero V greatest_weight one_within v.sort),
+          ),
           tt,
         )
 
@@ -195,9 +196,9 @@ module _ (V : Variables) where
           go true e = (
             becomes_good Flags so_far (a_flag (both (flag_at (stage i at) (own so_far)) (negation (both (flag_at (stage i at) (own beat))
                 (negation (all_of (assumed i at))))))) (next [] so_far Flags (refl, e)) (
-              num [] so_far Flags (refl, e),
-              (num [] beat Flags refl, all_of_fine V greatest_weight one_within (assumed i at) (at_place V at (contract_of i).assumes items.assumes)),
-            ),
+                  num [] so_far Flags (refl, e),
+                  (num [] beat Flags refl, all_of_fine V greatest_weight one_within (assumed i at) (at_place V at (contract_of i).assumes items.assumes)),
+                ),
             tt,
           )
           go false e = tt

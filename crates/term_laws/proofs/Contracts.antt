@@ -1,25 +1,22 @@
 -- The formulas of a light contract are fine, those of its imports included.
-use Rattle.std.proofs.Common.{◌≡◌, ℕ, zero, suc, pred, ◌<◌, ◌≤◌, ◌+◌, Bool, true, false, List, [], ◌∷◌, ◌++◌, map, length, refl, sym, ap, ◌∙◌, subst, arith}
+use Rattle.std.proofs.Common.{◌≡◌, ℕ, zero, suc, pred, ◌<◌, ◌≤◌, ◌+◌, Bool, false, List, [], ◌∷◌, ◌++◌, map, refl, sym, ap, ◌∙◌, subst, arith}
 use Rattle.std.specs.Prelude.{slice_index_or}
 use Rattle.std.specs.List.{AllByRecursion}
-use Rattle.lus_tree.specs.declared.place.Sort.{Sort}
-use Rattle.lus_tree.specs.declared.place.Sort.TheVariants.{Bool as Flags}
-use Rattle.lus_tree.specs.Tree.{Name, Expression, Labelled, ContractStatement, assume, guarantee, ghost_variable, constant, mode, «import»}
-use Rattle.lus_meaning.specs.Scene.{base, Manner, Site, Instance, Instances, instance, no_instance, no_instances, with_instance, instance_at, calls_of, call_instance, component_of, contract_statements}
+use Rattle.lus_tree.specs.Tree.{Name, Labelled, ContractStatement, assume, guarantee, ghost_variable, constant, mode, «import»}
+use Rattle.lus_meaning.specs.Scene.{base, Manner, Site, Instance, Instances, instance, no_instance, no_instances, with_instance, calls_of, call_instance, contract_statements}
 use Rattle.lus_meaning.specs.Scope.{greatest_weight}
 use Rattle.lus_meaning.proofs.Lists.{both_parts}
 use Rattle.sys_terms.specs.View.{Formula}
-use Rattle.sys_meaning.specs.Slot.{Place, Spot}
+use Rattle.sys_meaning.specs.Slot.{Place}
 use Rattle.sys_meaning.specs.Defaults.{site_at, site_of}
-use Rattle.sys_meaning.specs.Items.{Key, Known, ModeItem, Items, no_items, known, mode_item, imported_item, items, items_each, items_after}
-use Rattle.sys_meaning.specs.Part.{all_of}
-use Rattle.sys_meaning.specs.Translate.{Stage, formula}
+use Rattle.sys_meaning.specs.Items.{Key, ModeItem, Items, no_items, known, mode_item, imported_item, items_each, items_after}
+use Rattle.sys_meaning.specs.Translate.{Stage}
 use Rattle.sys_meaning.specs.System.{Written, written, at_numbers, below_call, contract_of, stage}
-use Rattle.sys_meaning.specs.WellTyped.{IsKnown, HasPlaceIn, StatementsFit, own_keys, CallFits, TreeFits, CallsFit}
+use Rattle.sys_meaning.specs.WellTyped.{IsKnown, HasPlaceIn, StatementsFit, CallFits, TreeFits, CallsFit}
 use Rattle.sys_meaning.proofs.Forward.{drop_calls, first_site, first_instance, later_calls, site_dropped, instance_dropped, calls_later}
 use Rattle.term_laws.proofs.Fine.{Variables, Fine, all_of_fine}
-use Rattle.term_laws.proofs.Expressions.{NumberedAs, Numbered, FineModes, flag_formula}
-use Rattle.term_laws.proofs.Lights.{LightFlag, LightStatement, OwnLight, SiteLight, LightTree, LightCalls}
+use Rattle.term_laws.proofs.Expressions.{NumberedAs, FineModes, flag_formula}
+use Rattle.term_laws.proofs.Lights.{LightFlag, LightStatement, LightTree, LightCalls}
 
 pub one_within : 1 ≤ greatest_weight
 one_within = omega arith

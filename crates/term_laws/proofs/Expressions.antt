@@ -1,10 +1,10 @@
 -- The term of a light expression is fine, and weighs no more than the expression.
-use Rattle.std.proofs.Common.{◌≡◌, ℕ, zero, suc, ◌<◌, ◌≤◌, ◌+◌, ◌*◌, Bool, true, false, cond, ◌&&◌, List, [], ◌∷◌, map, length, Option, Some, None, option_map, refl, sym, ap, ◌∙◌, subst, arith, ℤ, pos, negsuc}
+use Rattle.std.proofs.Common.{◌≡◌, ℕ, zero, suc, ◌<◌, ◌≤◌, ◌+◌, ◌*◌, Bool, true, false, cond, ◌&&◌, List, [], ◌∷◌, map, length, Option, Some, None, option_map, refl, sym, ap, ◌∙◌, subst, arith, ℤ, negsuc}
 use Rattle.std.specs.Prelude.{max, unsigned_abs, is_some, option_to_list, unwrap_or}
 use Rattle.std.specs.List.{AllByRecursion}
 use Rattle.std.specs.Map.{lookup}
 use Rattle.std.specs.Str.{bytes_eq}
-use Rattle.std.proofs.Math.Logic.{◌⊎◌, inl, inr}
+use Rattle.std.proofs.Math.Logic.{inl, inr}
 use Rattle.std.proofs.lemmas.Bool.{false≢true}
 use Rattle.lus_tree.specs.declared.expression.Operator.{Operator}
 use Rattle.lus_tree.specs.declared.expression.Operator.TheVariants.{Implies, Or, Xor, And, Less, AtMost, Equal, Differs, AtLeast, More, Add, Sub, Mul, Div, Mod}
@@ -15,7 +15,6 @@ use Rattle.lus_meaning.specs.Value.{Value, absent, flag, whole, has_sort}
 use Rattle.lus_meaning.specs.Frame.{empty_frame, entry}
 use Rattle.lus_meaning.specs.Meaning.{constant_or, mode_key}
 use Rattle.lus_meaning.specs.Scene.{Manner, Clock, base, sampled_by, Instance, component_of, constants_of, call_instance, instance_called, outputs_of, clock_of, variables}
-use Rattle.lus_meaning.specs.Program.{constant_value}
 use Rattle.lus_meaning.specs.Run.{Takes, sort_of, sort_of_name, sort_of_operator, output_sort, first_sort}
 use Rattle.lus_meaning.specs.Depends.{named_in}
 use Rattle.lus_meaning.proofs.Lists.{all_from_both, mapped_all}
@@ -24,15 +23,15 @@ use Rattle.lus_meaning.proofs.Typed.{has_as, not_has, minus_has, apply_has, choo
 use Rattle.rule_laws.proofs.Truths.{both_true}
 use Rattle.sys_terms.specs.View.{Formula, Amount}
 use Rattle.sys_terms.specs.View as t
-use Rattle.sys_terms.specs.Fits.{is_zero, weight}
+use Rattle.sys_terms.specs.Fits.{weight}
 use Rattle.sys_meaning.specs.Slot.{beat, named, memory, starting, held, Place, own, in_call, Spot}
 use Rattle.sys_meaning.specs.Items.{Key, Known}
-use Rattle.sys_meaning.specs.Defaults.{is_constant, site_of}
-use Rattle.sys_meaning.specs.Part.{Part, a_flag, a_number, no_part, formula_of, amount_of, fixed, variable, either, implies, of_formulas, of_order, not_part, minus_part, choose_part, operate, scaled, divided, rest_of}
-use Rattle.sys_meaning.specs.Translate.{Stage, flag_at, name_part, name_flag, present_within, present, output_part, held_part, latest_part, outputs_at, head_part, or_constant, number_of_value, constant_number, binary_part, mode_part, term_of, right_terms, formula}
+use Rattle.sys_meaning.specs.Defaults.{is_constant}
+use Rattle.sys_meaning.specs.Part.{Part, a_flag, a_number, formula_of, fixed, variable, either, implies, of_formulas, of_order, not_part, minus_part, choose_part, operate, scaled, divided, rest_of}
+use Rattle.sys_meaning.specs.Translate.{Stage, flag_at, name_part, name_flag, present_within, present, output_part, held_part, latest_part, head_part, or_constant, number_of_value, constant_number, binary_part, term_of, right_terms, formula}
 use Rattle.sys_meaning.specs.WellTyped.{IsNameOn, NameFits, OutputFits, HasConstant, HasPlaceIn, IsKnown, IsCall, IsHeldCall, ClockEnds, ClockFits, Stands, right_sorts}
-use Rattle.term_laws.proofs.Fine.{Variables, Fine, FineNumber, FineParts, part_weight, weight_within, fine_variable, fine_zero, fine_formula, fine_choice, fine_fixed, fine_not, IsPlain, fine_operated, fine_scaled, fine_minus, fine_divided, fine_rest}
-use Rattle.term_laws.proofs.Weights.{value_size, name_size, operator_size, DivisorFits, value_here, weighs, LightPart, Light, light_root, constant_size}
+use Rattle.term_laws.proofs.Fine.{Variables, Fine, FineParts, part_weight, fine_variable, fine_formula, fine_choice, fine_fixed, fine_not, IsPlain, fine_operated, fine_scaled, fine_minus, fine_divided, fine_rest}
+use Rattle.term_laws.proofs.Weights.{value_size, name_size, operator_size, value_here, weighs, Light, light_root, constant_size}
 
 -- ---- weights of parts
 

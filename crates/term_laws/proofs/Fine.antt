@@ -1,9 +1,8 @@
 -- Terms whose variables are as said, whose divisors are not 0, and whose numbers weigh no more than a limit.
-use Rattle.std.proofs.Common.{◌≡◌, ℕ, zero, suc, ◌<◌, ◌≤◌, ◌+◌, ◌*◌, ◌^◌, Bool, true, false, not, ◌&&◌, List, [], ◌∷◌, ◌++◌, refl, sym, ap, ◌∙◌, subst, arith, slice_get, Option, Some, None, ℤ, pos, negsuc}
-use Rattle.std.specs.Prelude.{max, unsigned_abs, nat_lt}
+use Rattle.std.proofs.Common.{◌≡◌, ℕ, ◌≤◌, ◌+◌, ◌*◌, Bool, true, false, List, [], ◌∷◌, refl, subst, arith, slice_get, Some, ℤ, negsuc}
+use Rattle.std.specs.Prelude.{unsigned_abs}
 use Rattle.std.specs.List.{AllByRecursion}
 use Rattle.std.proofs.lemmas.Bool.{false≢true}
-use Rattle.std.proofs.lemmas.Bool.Decides.{nat_tests}
 use Rattle.lus_tree.specs.declared.expression.Operator.{Operator}
 use Rattle.lus_tree.specs.declared.expression.Operator.TheVariants.{Implies, Or, Xor, And, Less, AtMost, Equal, Differs, AtLeast, More, Add, Sub, Mul, Div, Mod}
 use Rattle.lus_tree.specs.declared.place.Sort.{Sort}
@@ -13,8 +12,8 @@ use Rattle.lus_meaning.specs.Run.{Takes, sort_of_operator}
 use Rattle.kind_num.specs.declared.Shape.{Shape}
 use Rattle.sys_terms.specs.View.{Formula, truth, negation, both, same, choice, at_most, equal, Amount, constant, number, plus, minus, multiple, chosen, quotient, remainder}
 use Rattle.sys_terms.specs.View as t
-use Rattle.sys_terms.specs.Fits.{is_flag, is_number, is_zero, fits, amount_fits, is_present, amount_is_present, all_fit, all_fit_one, weight, heaviest, heaviest_in, is_light_weight, is_light, all_light}
-use Rattle.sys_meaning.specs.Part.{Part, a_flag, a_number, no_part, formula_of, amount_of, fixed, variable_in, zero_of, either, implies, all_after, all_of, some_after, some_of, not_part, minus_part, choose_part, equal_parts, of_formulas, of_amounts, of_order, operate, scaled, divided, rest_of}
+use Rattle.sys_terms.specs.Fits.{is_zero, fits, amount_fits, is_present, amount_is_present, all_fit, all_fit_one, weight, heaviest, heaviest_in, is_light_weight, all_light}
+use Rattle.sys_meaning.specs.Part.{Part, a_flag, a_number, formula_of, amount_of, fixed, variable_in, zero_of, either, implies, all_after, all_of, some_after, some_of, not_part, minus_part, choose_part, equal_parts, of_formulas, of_amounts, of_order, operate, scaled, divided, rest_of}
 use Rattle.sys_meaning.specs.System.{shape_of}
 
 -- V says of a variable of a type, by its number and whether it is of the next state, that it may stand there

@@ -1,21 +1,19 @@
 -- A system has as many formulas as the declaration has properties.
-use Rattle.std.proofs.Common.{◌≡◌, ℕ, zero, suc, pred, ◌+◌, List, [], ◌∷◌, ◌++◌, map, flat_map, length, refl, sym, ap, ◌∙◌, arith}
+use Rattle.std.proofs.Common.{◌≡◌, ℕ, zero, suc, pred, ◌+◌, List, [], ◌∷◌, ◌++◌, map, flat_map, length, refl, sym, ap, ◌∙◌}
 use Rattle.std.specs.Prelude.{slice_index_or}
 use Rattle.std.proofs.lemmas.List.{length-append}
 use Rattle.lus_tree.specs.Tree.{Statement, equation, assertion, property, main_mark, Labelled, ContractStatement, assume, guarantee, ghost_variable, constant, mode, «import», Component}
 use Rattle.lus_meaning.specs.Scene.{Manner, plain, while_true, as_import, Site, Instance, Instances, instance, no_instances, with_instance, contract_statements}
-use Rattle.lus_meaning.specs.Contract.{Property, ModeTerms, Terms, no_terms, terms, terms_each, terms_after, mode_terms, imported_mode, imported}
+use Rattle.lus_meaning.specs.Contract.{ModeTerms, Terms, no_terms, terms, terms_each, terms_after, mode_terms, imported_mode, imported}
 use Rattle.lus_meaning.specs.Property as meaning
 use Rattle.lus_meaning.specs.Program.{instance_of}
 use Rattle.lus_meaning.proofs.Exists.{length_mapped}
 use Rattle.lus_meaning.proofs.Lists.{map_append}
-use Rattle.sys_terms.specs.View.{Formula}
 use Rattle.sys_meaning.specs.Slot.{Place}
 use Rattle.sys_meaning.specs.Items.{ModeItem, Items, no_items, known, mode_item, imported_item, items, items_each, items_after}
 use Rattle.sys_meaning.specs.Translate.{Stage}
 use Rattle.sys_meaning.specs.System.{Written, written, contract_of, assumed, stage, body_properties, one_mode, owed_by_site, owed_by_calls, below_call, number_of}
 use Rattle.sys_meaning.specs.Checked.{HasFormulas}
-use Rattle.path_laws.specs.Laws.{OfEachInstance}
 use Rattle.term_laws.specs.Laws.{EachFormulas}
 
 -- ---- contracts

@@ -1,18 +1,16 @@
 -- The systems of checked programs are mild.
-use Rattle.std.proofs.Common.{◌≡◌, ℕ, zero, suc, ◌<◌, ◌≤◌, ◌^◌, Bool, true, false, cond, List, [], ◌∷◌, map, Option, Some, None, slice_get, refl, sym, ap, ◌∙◌, subst, arith}
+use Rattle.std.proofs.Common.{◌≡◌, ℕ, zero, suc, ◌≤◌, ◌^◌, Bool, true, false, cond, List, [], ◌∷◌, map, Some, slice_get, refl, sym, ap, subst, arith}
 use Rattle.std.specs.Prelude.{Contains, nat_lt}
 use Rattle.std.specs.List.{AllByRecursion}
 use Rattle.std.proofs.lemmas.Bool.Decides.{nat_tests}
 use Rattle.std.proofs.lemmas.Option.{none-some}
 use Rattle.lus_tree.specs.declared.place.Sort.{Sort}
 use Rattle.lus_tree.specs.declared.place.Sort.TheVariants.{Bool as Flags}
-use Rattle.lus_tree.specs.Tree.{Component, Program}
 use Rattle.lus_meaning.specs.Scene.{plain, Instance, component_of}
 use Rattle.lus_meaning.specs.Program.{instance_of}
 use Rattle.lus_meaning.specs.Scope.{greatest_weight}
 use Rattle.lus_meaning.specs.Slots.{Slot, slots}
 use Rattle.lus_meaning.specs.ClockFaults.{components}
-use Rattle.lus_meaning.specs.Refusals.{IsChecked}
 use Rattle.rule_laws.specs.Laws.{IsUnfolded}
 use Rattle.rule_laws.proofs.Truths.{same_some}
 use Rattle.rule_laws.proofs.Unfolded.{component_within, each_unfolded}
@@ -21,7 +19,7 @@ use Rattle.sys_terms.specs.View.{Formula, Machine}
 use Rattle.sys_terms.specs.View as t
 use Rattle.sys_terms.specs.Fits.{is_light_weight, all_light, IsMild}
 use Rattle.sys_meaning.specs.Slot.{beat, Place, own, place_of, same_place, number_in}
-use Rattle.sys_meaning.specs.System.{here_of, first_of, next_of, legal_of, properties_of, number_of, shape_of, system_of}
+use Rattle.sys_meaning.specs.System.{number_of, shape_of, system_of}
 use Rattle.sys_meaning.specs.WellTyped.{IsKnown, slot_sort, WellTyped}
 use Rattle.path_laws.proofs.Main.{each_is_well_typed}
 use Rattle.term_laws.specs.Laws.{MildSystems}

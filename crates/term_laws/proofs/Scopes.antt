@@ -1,11 +1,11 @@
 -- In a checked program each expression of a declaration has a scope in which it has no fault of types, and which says of
 -- constants the values that the declaration's instance has.
-use Rattle.std.proofs.Common.{◌≡◌, ℕ, suc, Bool, true, false, cond, List, [], ◌∷◌, ◌++◌, map, flat_map, length, Option, Some, None, refl, sym, ap, ◌∙◌}
+use Rattle.std.proofs.Common.{◌≡◌, ℕ, suc, Bool, true, false, cond, List, [], ◌∷◌, ◌++◌, map, flat_map, length, Option, Some, refl, ◌∙◌}
 use Rattle.std.specs.Prelude.{Contains, find, option_map, unwrap_or}
 use Rattle.std.specs.List.{AllByRecursion, list_all}
 use Rattle.std.specs.Str.{bytes_eq}
 use Rattle.std.proofs.lemmas.Bool.{false≢true}
-use Rattle.lus_tree.specs.Tree.{Name, text_of, Expression, Constant, Statement, equation, assertion, property, main_mark, ContractStatement, Component, Program}
+use Rattle.lus_tree.specs.Tree.{Name, text_of, Constant, Statement, equation, assertion, property, main_mark, ContractStatement, Component, Program}
 use Rattle.lus_meaning.specs.Value.{Value, absent}
 use Rattle.lus_meaning.specs.Scene.{Clock, base, contract_statements, clock_of_names}
 use Rattle.lus_meaning.specs.Occurrences.{Text, on_clock, contract_statement_texts, statement_texts, constant_texts, texts}
@@ -22,7 +22,7 @@ use Rattle.rule_laws.specs.Laws.{placed, table}
 use Rattle.rule_laws.proofs.Constants.{is_word}
 use Rattle.rule_laws.proofs.Covered.{moved_on}
 use Rattle.rule_laws.proofs.Goods.{CleanDeclaration, clean_declaration, holds_apart}
-use Rattle.rule_laws.proofs.Texts.{ScopeOf, IsTypeClean, IsClean, AreClean, clean_flag, clean_side, clean_contract_statement, contract_scope_of, constant_scope_of}
+use Rattle.rule_laws.proofs.Texts.{ScopeOf, IsTypeClean, AreClean, clean_flag, clean_side, clean_contract_statement, contract_scope_of, constant_scope_of}
 use Rattle.rule_laws.proofs.Truths.{both_true}
 use Rattle.rule_laws.proofs.Unfolded.{typed_tree}
 

@@ -1,6 +1,6 @@
 -- A program within its limits has small systems.
-use Rattle.std.proofs.Common.{◌≡◌, ℕ, zero, suc, ◌≤◌, ◌<◌, Bool, true, false, cond, List, [], ◌∷◌, ◌++◌, length, Option, Some, None, option_map, option_to_list, refl, sym, ap, ◌∙◌, arith}
-use Rattle.std.specs.Prelude.{Contains, nat_lt, find, is_none}
+use Rattle.std.proofs.Common.{◌≡◌, ℕ, zero, suc, ◌≤◌, ◌<◌, Bool, true, false, cond, List, [], ◌∷◌, ◌++◌, length, Option, Some, option_map, option_to_list, refl, sym, ap, arith}
+use Rattle.std.specs.Prelude.{Contains, nat_lt, find}
 use Rattle.std.specs.List.{AllByRecursion}
 use Rattle.std.proofs.lemmas.Bool.{false≢true}
 use Rattle.std.proofs.lemmas.Bool.Decides.{nat_tests}
@@ -10,13 +10,13 @@ use Rattle.lus_meaning.specs.Program.{instance_of}
 use Rattle.lus_meaning.specs.Faults.{fault}
 use Rattle.lus_meaning.specs.Property.{properties}
 use Rattle.lus_meaning.specs.Slots.{slots, width}
-use Rattle.lus_meaning.specs.Limits.{Limit, at_most, text_limits, system_limits, passed, limit_fault, limit_faults, main_faults, size_faults}
+use Rattle.lus_meaning.specs.Limits.{Limit, text_limits, system_limits, limit_fault, limit_faults, main_faults, size_faults}
 use Rattle.lus_meaning.specs.Refusals.{IsWithinLimits}
 use Rattle.lus_meaning.proofs.Exists.{length_mapped}
 use Rattle.lus_meaning.proofs.NamesOnce.{not_nil, empty_of, no_parts}
 use Rattle.lus_meaning.proofs.Now.{right_part}
 use Rattle.sys_meaning.specs.System.{system_of, shape_of}
-use Rattle.term_laws.specs.Laws.{IsSmall, SmallSystems}
+use Rattle.term_laws.specs.Laws.{SmallSystems}
 use Rattle.term_laws.proofs.Formulas.{has_formulas}
 
 -- no limit of these is passed

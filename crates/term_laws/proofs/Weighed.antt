@@ -1,16 +1,15 @@
 -- An expression without faults of types weighs in its instance what the rules say, which is within their limit, and no
 -- divisor in it is 0.
-use Rattle.std.proofs.Common.{◌≡◌, ℕ, zero, suc, ◌≤◌, Bool, true, false, cond, not, ◌&&◌, ◌||◌, List, [], ◌∷◌, ◌++◌, Option, Some, None, option_map, refl, sym, ap, ◌∙◌, subst, arith, ℤ, pos, negsuc}
-use Rattle.std.specs.Prelude.{Contains, is_some, find, unwrap_or, nat_lt, max}
+use Rattle.std.proofs.Common.{◌≡◌, ℕ, zero, suc, ◌≤◌, Bool, true, false, cond, ◌&&◌, [], Option, Some, None, option_map, refl, sym, ap, ◌∙◌, subst, arith, pos, negsuc}
+use Rattle.std.specs.Prelude.{Contains, is_some, find, nat_lt, max}
 use Rattle.std.specs.Map.{lookup}
 use Rattle.std.specs.Str.{bytes_eq}
-use Rattle.std.proofs.Math.Logic.{◌⊎◌, inl, inr}
+use Rattle.std.proofs.Math.Logic.{inl, inr}
 use Rattle.std.proofs.lemmas.Bool.{false≢true}
 use Rattle.std.proofs.lemmas.Bool.Decides.{nat_tests}
 use Rattle.std.proofs.lemmas.Option.{none-some}
 use Rattle.lus_tree.specs.declared.expression.Operator.{Operator}
 use Rattle.lus_tree.specs.declared.expression.Operator.TheVariants.{Implies, Or, Xor, And, Less, AtMost, Equal, Differs, AtLeast, More, Add, Sub, Mul, Div, Mod}
-use Rattle.lus_tree.specs.declared.place.Pos.{Pos}
 use Rattle.lus_tree.specs.declared.place.Sort.{Sort}
 use Rattle.lus_tree.specs.declared.place.Sort.TheVariants.{Bool as Flags, Int as Numbers}
 use Rattle.lus_tree.specs.Tree.{Name, Place, Expression, Expressions, truth, number, name, negation, minus, pre, arrow, binary, choice, sampled, merged, call, condact, mode_name, no_more, more, Component, Program}
@@ -18,14 +17,14 @@ use Rattle.lus_tree.specs.Reason.{zero_divisor, heavy}
 use Rattle.lus_meaning.specs.Value.{Value, absent, flag, whole, has_sort}
 use Rattle.lus_meaning.specs.Scene.{Instance, component_of, constants_of, clock_of, sampled_by}
 use Rattle.lus_meaning.specs.Program.{instance_of}
-use Rattle.lus_meaning.specs.Run.{sort_of, sort_of_name, sort_of_operator}
+use Rattle.lus_meaning.specs.Run.{sort_of, sort_of_name}
 use Rattle.lus_meaning.specs.Occurrences.{Standing, within, before, moved, Occurrence, occurs, begin}
 use Rattle.lus_meaning.specs.Scope.{Scope, Entry, is_constant_role, entry_of, is_known, is_constant_name, value_of_entry, type_of, is_constant, size_of, both_weights, greater, greatest_weight, is_heavy, worth_of, constant_of, weight_of}
 use Rattle.lus_meaning.specs.Scope as scopes
-use Rattle.lus_meaning.specs.ExpressionFaults.{hinders_constant, operator_faults, form_faults, is_integer, weight_faults, part_faults}
+use Rattle.lus_meaning.specs.ExpressionFaults.{form_faults, is_integer, weight_faults}
 use Rattle.lus_meaning.specs.Refusals.{IsChecked}
 use Rattle.lus_meaning.proofs.EachPart.{Each, EachAmong}
-use Rattle.lus_meaning.proofs.NamesOnce.{not_nil, no_parts, not_so}
+use Rattle.lus_meaning.proofs.NamesOnce.{no_parts, not_so}
 use Rattle.lus_meaning.proofs.RulesFit.{KnownName, fixed_name, stream_name}
 use Rattle.lus_meaning.proofs.Typed.{has_as}
 use Rattle.rule_laws.specs.Laws.{placed, table, Agrees}
@@ -42,7 +41,7 @@ use Rattle.sys_meaning.specs.Translate.{number_of_value}
 use Rattle.sys_meaning.specs.WellTyped.{IsKnown, HasConstant, Stands}
 use Rattle.path_laws.proofs.Standing.{Known}
 use Rattle.term_laws.proofs.Scopes.{ShowsValues, value_in}
-use Rattle.term_laws.proofs.Weights.{value_size, name_size, operator_size, DivisorFits, value_here, weighs, IsWithin, IsDivided, LightPart, Light, LightAmong}
+use Rattle.term_laws.proofs.Weights.{value_size, name_size, operator_size, DivisorFits, value_here, weighs, IsWithin, Light, LightAmong}
 
 -- ---- constants of a scope
 

@@ -1,6 +1,6 @@
 -- What an expression weighs in an instance, and the size of a constant's value, which is no more.
-use Rattle.std.proofs.Common.{◌≡◌, ℕ, zero, suc, ◌≤◌, ◌+◌, ◌*◌, ◌/◌, ◌%◌, Bool, true, false, cond, not, ◌&&◌, List, [], ◌∷◌, Option, Some, None, refl, sym, ap, ◌∙◌, subst, arith, ℤ, pos, negsuc}
-use Rattle.std.specs.Prelude.{max, unsigned_abs, neg_ℤ, is_some, ◌+ℤ◌, ◌-ℤ◌, ◌*ℤ◌}
+use Rattle.std.proofs.Common.{◌≡◌, ℕ, zero, suc, ◌≤◌, ◌+◌, ◌*◌, ◌/◌, ◌%◌, Bool, true, false, ◌&&◌, Option, Some, None, refl, sym, subst, arith, ℤ, pos, negsuc}
+use Rattle.std.specs.Prelude.{max, unsigned_abs, is_some, ◌+ℤ◌, ◌-ℤ◌, ◌*ℤ◌}
 use Rattle.std.specs.Int.{int_div_euclid, int_rem_euclid}
 use Rattle.std.specs.Map.{lookup}
 use Rattle.std.specs.Str.{bytes_eq}
@@ -8,16 +8,15 @@ use Rattle.std.proofs.lemmas.Bool.{false≢true}
 use Rattle.std.proofs.lemmas.Int.{ints, unsigned_abs-mul}
 use Rattle.lus_tree.specs.declared.expression.Operator.{Operator}
 use Rattle.lus_tree.specs.declared.expression.Operator.TheVariants.{Implies, Or, Xor, And, Less, AtMost, Equal, Differs, AtLeast, More, Add, Sub, Mul, Div, Mod}
-use Rattle.lus_tree.specs.declared.place.Sort.TheVariants.{Bool as Flags, Int as Numbers}
+use Rattle.lus_tree.specs.declared.place.Sort.TheVariants.{Int as Numbers}
 use Rattle.lus_tree.specs.Tree.{Name, Expression, Expressions, truth, number, name, negation, minus, pre, arrow, binary, choice, sampled, merged, call, condact, mode_name, no_more, more}
 use Rattle.lus_meaning.specs.Value.{Value, absent, flag, whole, minus_value, on_flags, on_numbers, on_order, equal_values, not_value, apply, choose}
 use Rattle.lus_meaning.specs.Frame.{empty_frame, entry}
 use Rattle.lus_meaning.specs.Meaning.{constant_or}
 use Rattle.lus_meaning.specs.Scene.{Instance, constants_of}
-use Rattle.lus_meaning.specs.Program.{constant_value, listed}
+use Rattle.lus_meaning.specs.Program.{constant_value}
 use Rattle.lus_meaning.specs.Run.{sort_of}
 use Rattle.sys_terms.specs.Fits.{is_zero}
-use Rattle.sys_meaning.specs.Part.{fixed}
 use Rattle.sys_meaning.specs.Defaults.{is_constant}
 use Rattle.sys_meaning.specs.Translate.{number_of_value}
 use Rattle.rule_laws.proofs.Truths.{both_true}
