@@ -9,3 +9,4 @@ pub mod Lights
 pub mod Contracts
 pub mod Conditions
 pub mod Mild
+pub mod Sized
