@@ -10,3 +10,4 @@ pub mod Contracts
 pub mod Conditions
 pub mod Mild
 pub mod Sized
+pub mod ContractSizes
