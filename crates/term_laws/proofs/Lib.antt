@@ -11,3 +11,4 @@ pub mod Conditions
 pub mod Mild
 pub mod Sized
 pub mod ContractSizes
+pub mod FrameSizes
