@@ -12,3 +12,4 @@ pub mod Mild
 pub mod Sized
 pub mod ContractSizes
 pub mod FrameSizes
+pub mod ImportSizes

@@ -2,6 +2,7 @@
 use Rattle.std.proofs.Common.{◌≡◌, ℕ, ◌≤◌, true, false, List, [], ◌∷◌, ◌++◌, map, flat_map, refl, sym, ◌∙◌, subst, arith}
 use Rattle.std.specs.Prelude.{Contains}
 use Rattle.std.specs.List.{AllByRecursion}
+use Rattle.std.proofs.Math.Logic.{◌⊎◌, inl, inr}
 use Rattle.std.proofs.lemmas.Bool.{false≢true}
 use Rattle.lus_tree.specs.declared.place.Sort.{Sort}
 use Rattle.lus_tree.specs.declared.place.Sort.TheVariants.{Bool as Flags, Int as Numbers}
@@ -40,6 +41,12 @@ use Rattle.term_laws.proofs.Weights.{value_size, value_here, weighs, Light, Ligh
 
 -- ---- what is light of an instance
 
+-- a contract imports by this number
+abbrev pub Imports : List ContractStatement → ℕ → Type 0
+Imports [] q = ⊥
+Imports («import» k c as_ xs ∷ cs) q = (k ≡ q) ⊎ Imports cs q
+Imports (_ ∷ cs) q = Imports cs q
+
 module _ (i : Instance) where
   abbrev pub IsLight : Expression → Type 0
   IsLight e = Light i greatest_weight e
@@ -68,11 +75,18 @@ module _ (i : Instance) where
   LightManner plain = Unit {0}
   LightManner (as_import xs) = Unit {0}
 
+  -- an import stands in the contract
+  abbrev pub IsListed : Manner → ℕ → Type 0
+  IsListed (as_import xs) q = Imports (contract_statements (component_of i)) q
+  IsListed plain q = Unit {0}
+  IsListed (while_true a) q = Unit {0}
+
   -- a call's arguments, its condition, and the values of its defaults
   pub record SiteLight (s : Site) : Type 0 where
     pub arguments : AllByRecursion IsLight s.arguments
     pub manner : LightManner s.manner
     pub defaults : AllByRecursion (λ d. value_size (value_here i d) ≤ greatest_weight) s.defaults
+    pub listed : IsListed s.manner s.number
 
 abbrev mutual
   pub LightTree : Instance → Type 0
@@ -146,9 +160,9 @@ module _ (i : Instance) where
       (value_within d l.0 f.0 ((at_whole (Known i) n t d k.0).typed f.0), defaults_within t ds k.1 l.1 f.1)
 
   sites_light : (t : Standing) (e : Expression) → Each (Known i) (component_of i) t e → IsLight i e → AllByRecursion (SiteLight i) (site_in t e)
-  sites_light t (call p k f as_) a l = (record { arguments = all_light as_ l.1; manner = tt; defaults = tt }, tt)
+  sites_light t (call p k f as_) a l = (record { arguments = all_light as_ l.1; manner = tt; defaults = tt; listed = tt }, tt)
   sites_light t (condact p k b f as_ ds) a l =
-      (record { arguments = all_light as_ l.2; manner = l.1; defaults = defaults_within (within t) ds a.3 l.3 a.0.fits.3 }, tt)
+      (record { arguments = all_light as_ l.2; manner = l.1; defaults = defaults_within (within t) ds a.3 l.3 a.0.fits.3; listed = tt }, tt)
   sites_light t (truth p b) a l = tt
   sites_light t (number p b) a l = tt
   sites_light t (name p b) a l = tt
@@ -215,22 +229,23 @@ module _ (i : Instance) where
   arguments_light [] a = tt
   arguments_light (e ∷ as_) a = (a.0.1, arguments_light as_ a.1)
 
-  imports_light : (xs : List ContractStatement) → AllByRecursion GoodText (flat_map contract_statement_texts xs) →
+  imports_light : (xs : List ContractStatement) → ((q : ℕ) → Imports xs q → Imports (contract_statements (component_of i)) q) → AllByRecursion GoodText (flat_map contract_statement_texts xs) →
       AllByRecursion (SiteLight i) (flat_map import_site xs)
-  imports_light [] a = tt
-  imports_light (assume l ∷ xs) a = imports_light xs a.1
-  imports_light (guarantee l ∷ xs) a = imports_light xs a.1
-  imports_light (ghost_variable x e ∷ xs) a = imports_light xs a.1
-  imports_light (constant k ∷ xs) a = imports_light xs a.1
-  imports_light (mode m rs es ∷ xs) a =
-      imports_light xs (right_part GoodText (on_base rs ++ on_base es) (flat_map contract_statement_texts xs) a)
-  imports_light («import» k c as_ ys ∷ xs) a = (
+  imports_light [] w a = tt
+  imports_light (assume l ∷ xs) w a = imports_light xs w a.1
+  imports_light (guarantee l ∷ xs) w a = imports_light xs w a.1
+  imports_light (ghost_variable x e ∷ xs) w a = imports_light xs w a.1
+  imports_light (constant k ∷ xs) w a = imports_light xs w a.1
+  imports_light (mode m rs es ∷ xs) w a =
+      imports_light xs w (right_part GoodText (on_base rs ++ on_base es) (flat_map contract_statement_texts xs) a)
+  imports_light («import» k c as_ ys ∷ xs) w a = (
     record {
       arguments = arguments_light as_ (left_part GoodText (map (λ e. (on_clock base, e)) as_) (flat_map contract_statement_texts xs) a);
       manner = tt;
       defaults = tt;
+      listed = w k (inl refl);
     },
-    imports_light xs (right_part GoodText (map (λ e. (on_clock base, e)) as_) (flat_map contract_statement_texts xs) a),
+    imports_light xs (λ q h. w q (inr h)) (right_part GoodText (map (λ e. (on_clock base, e)) as_) (flat_map contract_statement_texts xs) a),
   )
 
   ghosts_light : (xs : List ContractStatement) → AllByRecursion GoodText (flat_map contract_statement_texts xs) →
@@ -348,7 +363,7 @@ module _ (p : Program) (c : IsChecked p) where
         (all_flat (SiteLight i) (λ o. site_in o.standing o.expression) (all_occurrences here)
         (all_from Both (λ o. AllByRecursion (SiteLight i) (site_in o.standing o.expression))
         (λ o a. sites_light i o.standing o.expression a.0 a.1) (all_occurrences here) all_both))
-        (imports_light i (contract_statements here) contract_texts))
+        (imports_light i (contract_statements here) (λ q h. h) contract_texts))
 
   mutual
     pub light_tree : (i : Instance) → IsUnfolded p i → Contains (components p) (component_of i) → LightTree i
