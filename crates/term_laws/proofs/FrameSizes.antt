@@ -452,10 +452,10 @@ module _ (P : Size → Type 0) where
         subst P (start_is x f) (of_ordered (λ x. P (formula_size (start_next g x))) (λ x. x.number) (starts n) each x x.number
         (omega (arith, c)) (omega (arith, c, l)) f.found)) (starts n) fits.starts)
 
-    assumed_size : formula_size (all_of (assumed i at)) ≡ sizes.all_of (contract_sizes i).assumes
+    pub assumed_size : formula_size (all_of (assumed i at)) ≡ sizes.all_of (contract_sizes i).assumes
     assumed_size = all_of_size (assumed i at) ∙ ap sizes.all_of (mapped_twice at (contract_of i).assumes ∙ same_assumes)
 
-    abbrev so_far_term : Formula
+    abbrev pub so_far_term : Formula
     so_far_term = becomes (stage i at) Flags so_far (a_flag (t.both (flag_at (stage i at) (own so_far)) (t.negation (t.both (flag_at (stage i at) (own beat))
         (t.negation (all_of (assumed i at)))))))
 

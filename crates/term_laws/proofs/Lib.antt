@@ -13,3 +13,5 @@ pub mod Sized
 pub mod ContractSizes
 pub mod FrameSizes
 pub mod ImportSizes
+pub mod TreeSizes
+pub mod Counted
