@@ -216,7 +216,8 @@ module _ (P : Size → Type 0) where
     contract_sized (instance d cs is) fits light at =
         let i : Instance = instance d cs is in
         let z = sized_after i at fits.0.streams (λ k. slice_index_or (items_each written is) (pred k) no_items)
-        (λ k. slice_index_or (contract_sizes_each is) (pred k) no_sizes) (λ k. each_sized is i 0 fits.1 light.1 (below_call k at) (pred k)) (contract_statements d)
+        (λ k. slice_index_or (contract_sizes_each is) (pred k) no_sizes) (λ k. each_sized is i 0 fits.1 light.1 (below_call k at) (pred k))
+            (contract_statements d)
         light.0.contract [] no_sizes refl in
         record {
           assumes = sym z.assumes;

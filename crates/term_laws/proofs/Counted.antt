@@ -86,7 +86,8 @@ module _ (P : Size → Type 0) where
       formula_size (part.some_of (map (λ m. m.asked at) ms)) ≡ some_of (map (λ m. m.1) qs)
   some_asked at ms qs e = some_of_size (map (λ m. m.asked at) ms) ∙ ap some_of (asked_sizes at ms ∙ ap (map (λ m. m.1)) e)
 
-  one_mode_up : (at : Place → ℕ) (ms : List (ModeItem Written)) (qs : ModeSizes) → sizes_asked at ms ≡ qs → P (some_of (map (λ m. m.1) qs)) → Sizes P (one_mode ms at)
+  one_mode_up : (at : Place → ℕ) (ms : List (ModeItem Written)) (qs : ModeSizes) → sizes_asked at ms ≡ qs → P (some_of (map (λ m. m.1) qs)) →
+      Sizes P (one_mode ms at)
   one_mode_up at [] qs e a = tt
   one_mode_up at (m ∷ ms) qs e a = (subst P (sym (some_asked at (m ∷ ms) qs e)) a, tt)
 
@@ -97,12 +98,14 @@ module _ (P : Size → Type 0) where
 
   -- ---- what is owed
 
-  owed_up : (b : Formula) → formula_size b ≡ leaf → (at : Place → ℕ) (fs : List Written) → AllByRecursion P (map (λ a. one (two leaf (one a))) (map (written_size at) fs)) →
+  owed_up : (b : Formula) → formula_size b ≡ leaf → (at : Place → ℕ) (fs : List Written) →
+      AllByRecursion P (map (λ a. one (two leaf (one a))) (map (written_size at) fs)) →
       Sizes P (map (λ f. negation (both b (negation f))) (map (λ f. f at) fs))
   owed_up b e at [] a = tt
   owed_up b e at (f ∷ fs) a = (subst (λ s. P (one (two s (one (formula_size (f at)))))) (sym e) a.0, owed_up b e at fs a.1)
 
-  owed_back : (b : Formula) → formula_size b ≡ leaf → (at : Place → ℕ) (fs : List Written) → Sizes P (map (λ f. negation (both b (negation f))) (map (λ f. f at) fs)) →
+  owed_back : (b : Formula) → formula_size b ≡ leaf → (at : Place → ℕ) (fs : List Written) →
+      Sizes P (map (λ f. negation (both b (negation f))) (map (λ f. f at) fs)) →
       AllByRecursion P (map (λ a. one (two leaf (one a))) (map (written_size at) fs))
   owed_back b e at [] a = tt
   owed_back b e at (f ∷ fs) a = (subst (λ s. P (one (two s (one (formula_size (f at)))))) e a.0, owed_back b e at fs a.1)
@@ -304,7 +307,8 @@ counted (instance d cs is) fits light distinct =
     let up : AllByRecursion (λ f. IsBelow ss (formula_size f)) fs =
     system_up (IsBelow ss) (λ a b h q. record { size = q.size; listed = q.listed; within = wider a b q.size h q.within }) d cs is fits light all in
     let back : AllByRecursion (IsReached fs) ss =
-    system_back (IsReached fs) (λ a b h q. record { term = q.term; listed = q.listed; within = wider a b (formula_size q.term) h q.within }) d cs is fits light
+    system_back (IsReached fs) (λ a b h q. record { term = q.term; listed = q.listed; within = wider a b
+        (formula_size q.term) h q.within }) d cs is fits light
     distinct reached in
     record {
       terms = λ f h. let q = at_one (λ f. IsBelow ss (formula_size f)) fs f up h in

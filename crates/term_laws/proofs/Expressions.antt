@@ -331,7 +331,8 @@ module _ (V : Variables) (limit : ℕ) (least : 1 ≤ limit) where
         FineParts V limit Numbers (scaled (constant_number g a) q) × (part_weight (scaled (constant_number g a) q) ≤ value_size (value_here i a) * w)
     scaled_fine a c q w h k s f l b =
         let e : unsigned_abs (constant_number g a) ≡ value_size (value_here i a) = operand_size a c h k s in
-        let m : value_size (value_here i a) * part_weight q ≤ value_size (value_here i a) * w = times_more (value_size (value_here i a)) (part_weight q) w l in
+        let m : value_size (value_here i a) * part_weight q ≤ value_size (value_here i a) * w = times_more (value_size (value_here i a))
+            (part_weight q) w l in
         let x : unsigned_abs (constant_number g a) * part_weight q ≡ value_size (value_here i a) * part_weight q = ap (λ j. j * part_weight q) e in
         let y : part_weight (scaled (constant_number g a) q) ≤ unsigned_abs (constant_number g a) * part_weight q = scaled_weight (constant_number g a) q in
         (fine_scaled V limit least (constant_number g a) q (omega (arith, x, m, b)) f, omega (arith, x, m, y))
@@ -411,14 +412,16 @@ module _ (V : Variables) (limit : ℕ) (least : 1 ≤ limit) where
         let w : part_weight q ≤ weighs i a = x.light in
         let v : part_weight (divided q (constant_number g b)) ≤ max 1 (part_weight q) = divided_weight q (constant_number g b) in
         record {
-          fine = fine_divided V limit least q (constant_number g b) l.0.1 (operand_within b c h.4 l.2 h.2 (h.1 ∙ h.0)) (as_sort (sort_of i a) Numbers q h.0 x.fine);
+          fine = fine_divided V limit least q (constant_number g b) l.0.1 (operand_within b c h.4 l.2 h.2 (h.1 ∙ h.0)) (as_sort
+              (sort_of i a) Numbers q h.0 x.fine);
           light = omega (arith, w, v);
         }
     binary_fine p Mod a b c q r h l x y =
         let e : unsigned_abs (constant_number g b) ≡ value_size (value_here i b) = operand_size b c h.4 h.2 (h.1 ∙ h.0) in
         let v : part_weight (rest_of q (constant_number g b)) ≤ unsigned_abs (constant_number g b) = rest_weight q (constant_number g b) in
         record {
-          fine = fine_rest V limit least q (constant_number g b) l.0.1 (operand_within b c h.4 l.2 h.2 (h.1 ∙ h.0)) (as_sort (sort_of i a) Numbers q h.0 x.fine);
+          fine = fine_rest V limit least q (constant_number g b) l.0.1 (operand_within b c h.4 l.2 h.2 (h.1 ∙ h.0)) (as_sort
+              (sort_of i a) Numbers q h.0 x.fine);
           light = omega (arith, e, v);
         }
     binary_fine p Implies a b c q r h l x y = plain_fine p Implies a b q r tt h.0 h.1 l (λ z. absurd (no_number z)) x y

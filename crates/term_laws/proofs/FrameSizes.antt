@@ -162,7 +162,8 @@ module _ (P : Size → Type 0) where
     abbrev r : ContractSizes
     r = contract_sizes i
 
-    pub expression_size : (e : Expression) (c : Clock) → Stands i (IsKnown i) c e → part_size (term_of (stage i at) e) ≡ size_in (component_of i) (contract_sizes i).modes e
+    pub expression_size : (e : Expression) (c : Clock) → Stands i (IsKnown i) c e →
+        part_size (term_of (stage i at) e) ≡ size_in (component_of i) (contract_sizes i).modes e
     expression_size e c h = term_size g fits.streams e c h ∙ ap (λ q. size_in n q e) same_modes
 
     pub expression_has : (e : Expression) (c : Clock) → Stands i (IsKnown i) c e → Has (sort_of i e) (term_of (stage i at) e)
@@ -259,13 +260,15 @@ module _ (P : Size → Type 0) where
     paired_have c [] ps s a h b = tt
     paired_have c (x ∷ xs) [] s a h b = absurd h
     paired_have c (x ∷ xs) (p ∷ ps) s a h b =
-        (subst (λ z. P (given_size (presence n z) (part_size p))) (sym a.0.clock) (subst (λ z. P (given_size (presence n c) z)) (sym h.1) b), paired_have c xs ps s a.1 h.2 b)
+        (subst (λ z. P (given_size (presence n z) (part_size p))) (sym a.0.clock) (subst (λ z. P (given_size (presence n c) z))
+            (sym h.1) b), paired_have c xs ps s a.1 h.2 b)
 
     equation_sized : (e : Equation) → EquationFits i (IsKnown i) e →
         AreSized (map (sort_of_name i) e.names) (right_terms (stage i at) e.right) (side_size (component_of i) (contract_sizes i).modes e)
     equation_sized e f = subst (λ zs. AreSized zs (right_terms g e.right) (side_size n r.modes e)) (sym f.sorts) (right_sized e.right _ f.right)
 
-    pub equations_typed : (es : List Equation) → AllByRecursion (EquationFits i (IsKnown i)) es → AllByRecursion TypedSource (equation_sources (stage i at) es)
+    pub equations_typed : (es : List Equation) → AllByRecursion (EquationFits i (IsKnown i)) es →
+        AllByRecursion TypedSource (equation_sources (stage i at) es)
     equations_typed [] a = tt
     equations_typed (e ∷ es) a =
         both_parts TypedSource (paired e.names (right_terms g e.right)) (equation_sources g es)
@@ -395,7 +398,8 @@ module _ (P : Size → Type 0) where
 
       pub sources_back : Sizes (flat_map here (variables (component_of i))) → AllByRecursion (IsFound qs) qs → AllByRecursion SourceHas qs
       sources_back a f =
-          let each : AllByRecursion Seen (variables n) = all_from_both (StreamFits i (IsKnown i)) (λ v. Sizes (here v)) Seen (λ v s b. (s, b)) (variables n) fits.streams
+          let each : AllByRecursion Seen (variables n) = all_from_both (StreamFits i (IsKnown i)) (λ v. Sizes (here v)) Seen (λ v s b. (s, b))
+              (variables n) fits.streams
           (all_of_each (λ f. P (formula_size f)) here (variables n) a) in
           all_from_both TypedSource (IsFound qs) SourceHas (λ q h e. source_back each q h e) qs typed f
 
@@ -470,7 +474,8 @@ module _ (P : Size → Type 0) where
         term None e b = subst (λ q. Sizes (cond (is_some q) (so_far_term ∷ []) [])) (sym e) tt
         term (Some cs) e b = subst (λ q. Sizes (cond (is_some q) (so_far_term ∷ []) [])) (sym e) (subst P (sym so_far_is) b.0, tt)
 
-        go : (w : Manner) (o : Option (List ContractStatement)) → (component_of i).contract ≡ o → AllByRecursion P (sofar_sizes o (contract_sizes i).assumes) →
+        go : (w : Manner) (o : Option (List ContractStatement)) → (component_of i).contract ≡ o →
+            AllByRecursion P (sofar_sizes o (contract_sizes i).assumes) →
             Sizes (so_far_next (stage i at) w)
         go plain o e b = term o e b
         go (while_true x) o e b = term o e b

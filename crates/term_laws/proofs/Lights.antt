@@ -229,7 +229,8 @@ module _ (i : Instance) where
   arguments_light [] a = tt
   arguments_light (e ∷ as_) a = (a.0.1, arguments_light as_ a.1)
 
-  imports_light : (xs : List ContractStatement) → ((q : ℕ) → Imports xs q → Imports (contract_statements (component_of i)) q) → AllByRecursion GoodText (flat_map contract_statement_texts xs) →
+  imports_light : (xs : List ContractStatement) → ((q : ℕ) → Imports xs q → Imports (contract_statements (component_of i)) q) →
+      AllByRecursion GoodText (flat_map contract_statement_texts xs) →
       AllByRecursion (SiteLight i) (flat_map import_site xs)
   imports_light [] w a = tt
   imports_light (assume l ∷ xs) w a = imports_light xs w a.1

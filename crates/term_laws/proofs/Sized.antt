@@ -305,7 +305,8 @@ module _ (g : Stage) (streams : AllByRecursion (StreamFits g.place (IsKnown g.pl
   latest_size k v =
       chosen_size v.sort (flag_at g (in_call k (own beat))) (output_part g k v) (held_part g k v)
       (variable_has false v.sort (g.number (in_call k (own (named v.name.text))))) (variable_has false v.sort (g.number (own (held k v.name.text))))
-      ∙ rw (variable_size false v.sort (g.number (in_call k (own (named v.name.text)))), variable_size false v.sort (g.number (own (held k v.name.text)))) refl
+      ∙ rw (variable_size false v.sort (g.number (in_call k (own (named v.name.text)))), variable_size false v.sort (g.number (own
+          (held k v.name.text)))) refl
 
   first_latest_size : (k : ℕ) (vs : List Variable) → 1 ≤ length vs → part_size (head_part (map (latest_part g k) vs)) ≡ three leaf leaf leaf
   first_latest_size k [] l = absurd (omega (arith, l))

@@ -134,7 +134,8 @@ module _ (P : Size → Type 0) (down : (a b : Size) → IsWithin a b → P b →
     abbrev n : Component
     n = component_of i
 
-    term_is : (e : Expression) (z : Clock) → Stands i (IsKnown i) z e → part_size (term_of (stage i at) e) ≡ size_in (component_of i) (contract_sizes i).modes e
+    term_is : (e : Expression) (z : Clock) → Stands i (IsKnown i) z e →
+        part_size (term_of (stage i at) e) ≡ size_in (component_of i) (contract_sizes i).modes e
     term_is e z h = expression_size P i at f.fits f.modes f.assumes e z h
 
     term_typed : (e : Expression) (z : Clock) → Stands i (IsKnown i) z e → Has (sort_of i e) (term_of (stage i at) e)
@@ -184,7 +185,8 @@ module _ (P : Size → Type 0) (down : (a b : Size) → IsWithin a b → P b →
     shared_typed [] xs o s = tt
     shared_typed (y ∷ ys) [] o s = absurd (false≢true (sym (ap is_cons s)))
     shared_typed (y ∷ ys) (x ∷ xs) o s = (
-      (subst (λ z. Has z (name_part (stage i at) x)) (sym (ap (first_or Flags) s)) (variable_has false (sort_of_name i x) (at (own (named x)))), o.0.declared),
+      (subst (λ z. Has z (name_part (stage i at) x)) (sym (ap (first_or Flags) s)) (variable_has false (sort_of_name i x) (at (own
+          (named x)))), o.0.declared),
       shared_typed ys xs o.1 (ap rest_of s),
     )
 
@@ -244,7 +246,8 @@ module _ (P : Size → Type 0) (down : (a b : Size) → IsWithin a b → P b →
         subst P (sym (ap (two leaf) (two_same _ _ (presence n c.clock) (size_in n (ms i) x) present_is (condition_is x h)))) a.0
     active_up (as_import xs) h a = down (two leaf leaf) (given_size leaf leaf) (record { levels = omega arith; parts = omega arith }) a.0
 
-    held_is : (v : Variable) → formula_size (becomes (stage i at) v.sort (held c.number v.name.text) (choose_part (flag_at (stage i at) (in_call c.number (own beat)))
+    held_is : (v : Variable) → formula_size (becomes (stage i at) v.sort (held c.number v.name.text) (choose_part (flag_at (stage i at)
+        (in_call c.number (own beat)))
         (variable v.sort (at (in_call c.number (own (named v.name.text))))) (variable v.sort (at (own (held c.number v.name.text))))))
         ≡ two leaf (three leaf leaf leaf)
     held_is v =
@@ -259,14 +262,17 @@ module _ (P : Size → Type 0) (down : (a b : Size) → IsWithin a b → P b →
     held_first_up (as_import xs) a = tt
     held_first_up (while_true x) a = each (component_of k).outputs
       where
-        small : (v : Variable) → IsWithin (formula_size (equal_parts (variable v.sort (at (own (held c.number v.name.text)))) (fixed (default_of i c.number v.name.text))))
+        small : (v : Variable) → IsWithin (formula_size (equal_parts (variable v.sort (at (own (held c.number v.name.text)))) (fixed
+            (default_of i c.number v.name.text))))
             (two leaf (three leaf leaf leaf))
         small v =
             let q = equal_within (variable v.sort (at (own (held c.number v.name.text)))) (fixed (default_of i c.number v.name.text)) in
-            let e : two (part_size (variable v.sort (at (own (held c.number v.name.text))))) (part_size (fixed (default_of i c.number v.name.text))) ≡ two leaf leaf =
+            let e : two (part_size (variable v.sort (at (own (held c.number v.name.text))))) (part_size (fixed
+                (default_of i c.number v.name.text))) ≡ two leaf leaf =
             two_same _ _ leaf leaf (variable_size false v.sort (at (own (held c.number v.name.text)))) (fixed_size (default_of i c.number v.name.text)) in
             wider (formula_size (equal_parts (variable v.sort (at (own (held c.number v.name.text)))) (fixed (default_of i c.number v.name.text))))
-            (subst (IsWithin (formula_size (equal_parts (variable v.sort (at (own (held c.number v.name.text)))) (fixed (default_of i c.number v.name.text))))) e q)
+            (subst (IsWithin (formula_size (equal_parts (variable v.sort (at (own (held c.number v.name.text)))) (fixed
+                (default_of i c.number v.name.text))))) e q)
           where
             wider : (s : Size) → IsWithin s (two leaf leaf) → IsWithin s (two leaf (three leaf leaf leaf))
             wider s h = let x : s.levels ≤ (two leaf leaf).levels = h.levels in let u : s.parts ≤ (two leaf leaf).parts = h.parts in
@@ -417,7 +423,8 @@ module _ (P : Size → Type 0) (down : (a b : Size) → IsWithin a b → P b →
         let f = frame_of i at fits light in
         both_parts (λ f. P (formula_size f)) (starts_first (stage i at) ++ so_far_first (stage i at) m) (calls_first is (stage i at))
         (both_parts (λ f. P (formula_size f)) (starts_first (stage i at)) (so_far_first (stage i at) m)
-        (leaves _ (λ a. flag_at (stage i at) (own (starting a.number))) (λ a. refl) z (in_order (λ a. a.number) (starts d))) (so_far_first_up (stage i at) m z))
+        (leaves _ (λ a. flag_at (stage i at) (own (starting a.number))) (λ a. refl) z (in_order (λ a. a.number) (starts d))) (so_far_first_up
+            (stage i at) m z))
         (calls_first_up is i at f 0 refl fits.1 light.1 z (right_part P (own_sizes names d (contract_sizes i)) (call_sizes d (ms i) is) b))
 
     calls_first_up : (is : Instances) (i : Instance) (at : Place → ℕ) → Frame i at → (p : ℕ) → drop_calls p (calls_of i) ≡ is → CallsFit IsKnown i is p →
@@ -426,7 +433,8 @@ module _ (P : Size → Type 0) (down : (a b : Size) → IsWithin a b → P b →
     calls_first_up (with_instance c k is) i at f p e t l z b =
         let site = left_part P (site_sizes (component_of i) (ms i) c (component_of k) c.manner) _ b in
         let rest = right_part P (site_sizes (component_of i) (ms i) c (component_of k) c.manner) _ b in
-        both_parts (λ f. P (formula_size f)) (held_first (stage i at) c c.manner k ++ first_of c.manner k (below_call c.number at)) (calls_first is (stage i at))
+        both_parts (λ f. P (formula_size f)) (held_first (stage i at) c c.manner k ++ first_of c.manner k (below_call c.number at)) (calls_first is
+            (stage i at))
         (both_parts (λ f. P (formula_size f)) (held_first (stage i at) c c.manner k) (first_of c.manner k (below_call c.number at))
         (held_first_up i at f c k p t.0 c.manner site)
         (first_up k c.manner (below_call c.number at) t.1 l.1 z (from_caller c k) (left_part P (frame_sizes (from_caller c k) k) _ rest)))
@@ -500,11 +508,13 @@ module _ (P : Size → Type 0) (down : (a b : Size) → IsWithin a b → P b →
       there None b = tt
       there (Some cs) b = (b, tt)
 
-      term : (o : Option (List ContractStatement)) → (component_of i).contract ≡ o → (w : Manner) → has_so_far w (component_of i) ≡ is_some (component_of i).contract →
+      term : (o : Option (List ContractStatement)) → (component_of i).contract ≡ o → (w : Manner) →
+          has_so_far w (component_of i) ≡ is_some (component_of i).contract →
           Sizes P (so_far_next (stage i at) w) → AllSizes (sofar_sizes o (contract_sizes i).assumes)
       term None e w q b = tt
       term (Some cs) e w q b =
-          (subst P (so_far_is P i at f.fits f.modes f.assumes) (subst (λ d. Sizes P (cond d (so_far_term P i at f.fits f.modes f.assumes ∷ []) [])) (q ∙ ap is_some e) b).0, tt)
+          (subst P (so_far_is P i at f.fits f.modes f.assumes) (subst (λ d. Sizes P (cond d (so_far_term P i at f.fits f.modes f.assumes ∷ []) []))
+              (q ∙ ap is_some e) b).0, tt)
 
       go : (w : Manner) (o : Option (List ContractStatement)) → (component_of i).contract ≡ o → SoFarWhereImport w i → Sizes P (so_far_next (stage i at) w) →
           AllSizes (sofar_sizes o (contract_sizes i).assumes)
@@ -513,7 +523,8 @@ module _ (P : Size → Type 0) (down : (a b : Size) → IsWithin a b → P b →
       go (as_import xs) o e k b = there o k
 
   -- the assumptions of an import are among those of the importing contract
-  import_so_far : (d : Component) (cs : List (Name × Value)) (is : Instances) (at : Place → ℕ) → Frame (instance d cs is) at → (p : ℕ) (c : Site) (k : Instance)
+  import_so_far : (d : Component) (cs : List (Name × Value)) (is : Instances) (at : Place → ℕ) → Frame (instance d cs is) at →
+      (p : ℕ) (c : Site) (k : Instance)
       (js : Instances) → drop_calls p is ≡ with_instance c k js → c.number ≡ suc p → Imports (contract_statements d) c.number →
       SoFar (instance d cs is) → SoFar k
   import_so_far d cs is at f p c k js e q l a =
@@ -532,7 +543,8 @@ module _ (P : Size → Type 0) (down : (a b : Size) → IsWithin a b → P b →
   some_contract d None e q l as_ a = absurd l
   some_contract d (Some cs) e q l as_ a = a.0
 
-  import_there : (d : Component) (cs : List (Name × Value)) (is : Instances) (at : Place → ℕ) → Frame (instance d cs is) at → (p : ℕ) (c : Site) (k : Instance)
+  import_there : (d : Component) (cs : List (Name × Value)) (is : Instances) (at : Place → ℕ) → Frame (instance d cs is) at →
+      (p : ℕ) (c : Site) (k : Instance)
       (js : Instances) → drop_calls p is ≡ with_instance c k js → c.number ≡ suc p → (w : Manner) → IsListed (instance d cs is) w c.number →
       AllSizes (sofar_sizes d.contract (contract_sizes (instance d cs is)).assumes) → SoFarWhereImport w k
   import_there d cs is at f p c k js e q plain l a = tt
@@ -596,7 +608,8 @@ module _ (P : Size → Type 0) (down : (a b : Size) → IsWithin a b → P b →
     calls_back (with_instance c k js) d cs is at f p e t l u sofar here next asserts =
         let i : Instance = instance d cs is in
         let below : Place → ℕ = below_call c.number at in
-        let own_here = left_part (λ f. P (formula_size f)) (here_of k (below_call c.number at) _ (from_call (stage i at) c k)) (calls_here js (stage i at)) here in
+        let own_here = left_part (λ f. P (formula_size f)) (here_of k (below_call c.number at) _ (from_call (stage i at) c k)) (calls_here js
+            (stage i at)) here in
         let own_next = left_part (λ f. P (formula_size f)) (held_next (stage i at) c c.manner k ++ next_of c.manner k (below_call c.number at))
         (calls_next js (stage i at)) next in
         let kept = import_there d cs is at f p c k js e t.0.number c.manner l.0.listed sofar in
@@ -612,5 +625,6 @@ module _ (P : Size → Type 0) (down : (a b : Size) → IsWithin a b → P b →
         (both_parts P (frame_sizes (from_caller c k) k) (call_sizes d (ms i) js) there.0
         (calls_back js d cs is at f (suc p) (calls_behind i p c k js e) t.2 l.2 u.1 sofar
         (right_part (λ f. P (formula_size f)) (here_of k (below_call c.number at) _ (from_call (stage i at) c k)) (calls_here js (stage i at)) here)
-        (right_part (λ f. P (formula_size f)) (held_next (stage i at) c c.manner k ++ next_of c.manner k (below_call c.number at)) (calls_next js (stage i at)) next)
+        (right_part (λ f. P (formula_size f)) (held_next (stage i at) c c.manner k ++ next_of c.manner k (below_call c.number at)) (calls_next js
+            (stage i at)) next)
         (right_part (λ f. P (formula_size f)) (asserts_in k (below_call c.number at)) (calls_asserts js (stage i at)) asserts)))
