@@ -143,10 +143,10 @@ module _ (V : Variables) where
     starts_good : AllGood (starts_first (stage i at))
     starts_good =
         all_mapped (Fine V greatest_weight) (λ (a : Start). flag_at g (own (starting a.number))) (in_order (λ (a : Start). a.number) (starts
-            (component_of i)))
+        (component_of i)))
         (in_order_all (λ (a : Start). a.number) (λ a. Fine V greatest_weight (flag_at g (own (starting a.number)))) (starts (component_of i))
         (all_from (StartFits i (IsKnown i)) (λ a. Fine V greatest_weight (flag_at g (own (starting a.number)))) start_good (starts
-            (component_of i)) fits.starts))
+        (component_of i)) fits.starts))
 
     so_far_good : AllGood (so_far_first (stage i at) m)
     so_far_good = go (has_so_far m (component_of i)) refl
@@ -293,7 +293,7 @@ module _ (V : Variables) where
       defaults_here : (x : Name) → value_size (default_of i (suc p) x) ≤ greatest_weight
       defaults_here x = default_within (outputs_of (call_instance i (suc p))) (site_of i (suc p)).defaults
           (subst (λ (s : Site). AllByRecursion (λ d. value_size (value_here i d) ≤ greatest_weight) s.defaults) (sym
-              (site_there i p c k is there)) lit.defaults) x
+          (site_there i p c k is there)) lit.defaults) x
 
       fixed_light : (v : Value) → value_size v ≤ greatest_weight → part_weight (fixed v) ≤ greatest_weight
       fixed_light absent l = omega arith
@@ -324,7 +324,7 @@ module _ (V : Variables) where
       held_first_good (while_true a) e =
           let h = fit.held a e in
           subst (λ j. AllGood (map (λ v. equal_parts (variable v.sort (at (own (held j v.name.text)))) (fixed (default_of i j v.name.text)))
-              (component_of k).outputs))
+          (component_of k).outputs))
           (sym fit.number)
           (subst (λ z. AllGood (map (λ v. equal_parts (variable v.sort (at (own (held (suc p) v.name.text)))) (fixed (default_of i (suc p) v.name.text)))
           (component_of z).outputs)) (instance_there i p c k is there)
@@ -353,7 +353,7 @@ module _ (V : Variables) where
             (sym fit.number)
             (subst (λ z. AllGood (map (λ v. becomes g v.sort (held (suc p) v.name.text) (choose_part (flag_at g (in_call (suc p) (own beat)))
             (variable v.sort (at (in_call (suc p) (own (named v.name.text))))) (variable v.sort (at (own (held (suc p) v.name.text))))))
-                (component_of z).outputs))
+            (component_of z).outputs))
             (instance_there i p c k is there)
             (held_nexts a h.0 h.1 (component_of (call_instance i (suc p))).outputs (all_outputs V greatest_weight one_within g m num modes (suc p) fit.call)))
 
@@ -413,7 +413,7 @@ module _ (V : Variables) where
     calls_first_fine no_instances i m at fits light num modes items p e f l = tt
     calls_first_fine (with_instance c k is) i m at fits light num modes items p e f l =
         both_parts (Fine V greatest_weight) (held_first (stage i at) c c.manner k ++ first_of c.manner k (below_call c.number at)) (calls_first is
-            (stage i at))
+        (stage i at))
         (both_parts (Fine V greatest_weight) (held_first (stage i at) c c.manner k) (first_of c.manner k (below_call c.number at))
         (held_first_good m i at fits light num modes items c k is p f.0 l.0 e c.manner refl)
         (first_fine k c.manner (below_call c.number at) f.1 l.1 (numbered_call V false m i at num c k is p f.0 e)))

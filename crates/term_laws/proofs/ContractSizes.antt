@@ -2,19 +2,16 @@
 use Rattle.std.proofs.Common.{◌≡◌, ℕ, zero, suc, pred, List, [], ◌∷◌, ◌++◌, map, refl, sym, ap, ◌∙◌, subst}
 use Rattle.std.specs.Prelude.{slice_index_or}
 use Rattle.std.specs.List.{AllByRecursion}
-use Rattle.lus_tree.specs.declared.place.Sort.TheVariants.{Bool as Flags}
 use Rattle.lus_tree.specs.Tree.{Name, Labelled, ContractStatement, assume, guarantee, ghost_variable, constant, mode, «import», Component}
-use Rattle.lus_meaning.specs.Scene.{base, Site, Instance, Instances, instance, no_instances, with_instance, component_of, contract_statements, variables}
+use Rattle.lus_meaning.specs.Scene.{base, Instance, Instances, instance, no_instances, with_instance, component_of, contract_statements, variables}
 use Rattle.lus_meaning.specs.Sizes.{Size, one, two, ModeSizes, size_in, sizes_of, imported_size, ContractSizes, no_sizes, asked_size, sizes_after, contract_sizes, contract_sizes_each}
 use Rattle.lus_meaning.specs.Sizes as sizes
 use Rattle.lus_meaning.proofs.Lists.{append_none, both_parts, map_append}
 use Rattle.lus_meaning.proofs.Now.{left_part, right_part}
-use Rattle.sys_terms.specs.View.{Formula}
 use Rattle.sys_meaning.specs.Slot.{Place}
-use Rattle.sys_meaning.specs.Items.{ModeItem, Items, no_items, known, mode_item, imported_item, items, items_each, items_after}
-use Rattle.sys_meaning.specs.Part.{all_of}
-use Rattle.sys_meaning.specs.Translate.{Stage, formula}
-use Rattle.sys_meaning.specs.System.{Written, written, at_numbers, below_call, contract_of, stage}
+use Rattle.sys_meaning.specs.Items.{ModeItem, Items, no_items, known, mode_item, imported_item, items_each, items_after}
+use Rattle.sys_meaning.specs.Translate.{Stage}
+use Rattle.sys_meaning.specs.System.{Written, written, at_numbers, below_call, contract_of}
 use Rattle.sys_meaning.specs.WellTyped.{IsKnown, StreamFits, CallsFit, TreeFits}
 use Rattle.term_laws.proofs.Lights.{LightFlag, LightStatement, LightTree, LightCalls}
 use Rattle.term_laws.proofs.Sized.{formula_size, mode_sizes, all_of_size, flag_size}
@@ -30,7 +27,7 @@ asked_append : (at : Place → ℕ) (xs ys : List (ModeItem Written)) → sizes_
 asked_append at [] ys = refl
 asked_append at (x ∷ xs) ys = ap (λ l. (x.key, formula_size (x.asked at)) ∷ l) (asked_append at xs ys)
 
-same_after : {X : Type 0} (xs ys zs : List X) → (xs ++ ys) ++ zs ≡ xs ++ (ys ++ zs)
+pub same_after : {X : Type 0} (xs ys zs : List X) → (xs ++ ys) ++ zs ≡ xs ++ (ys ++ zs)
 same_after [] ys zs = refl
 same_after (x ∷ xs) ys zs = ap (λ l. x ∷ l) (same_after xs ys zs)
 
@@ -199,11 +196,11 @@ module _ (P : Size → Type 0) where
             kept = λ h a. let y = z.kept (λ b. both_parts (λ (m : ModeItem Written). AllByRecursion (HasSize at) m.ensures_each) ms items_in
                 (h (left_part P r.promises (subs k).promises b))
                 (modes_have at k x.text (sub k).modes (u.kept (right_part P r.promises (subs k).promises b)).1)) a in (
-              left_part P r.promises (subs k).promises y.0,
-              both_parts (HasSize at) (map (written.through k) (sub k).guarantees) _
-                  (through_have at k (sub k).guarantees (u.kept (right_part P r.promises (subs k).promises y.0)).0) y.1,
-              y.2,
-            );
+                  left_part P r.promises (subs k).promises y.0,
+                  both_parts (HasSize at) (map (written.through k) (sub k).guarantees) _
+                      (through_have at k (sub k).guarantees (u.kept (right_part P r.promises (subs k).promises y.0)).0) y.1,
+                  y.2,
+                );
             made = λ a b c. z.made (both_parts P r.promises (subs k).promises a (u.made
                 (back_through at k (sub k).guarantees (left_part (HasSize at) (map (written.through k) (sub k).guarantees) _ b))
                 (modes_back at k x.text (sub k).modes (right_part (λ (m : ModeItem Written). AllByRecursion (HasSize at) m.ensures_each) ms items_in
@@ -217,7 +214,7 @@ module _ (P : Size → Type 0) where
         let i : Instance = instance d cs is in
         let z = sized_after i at fits.0.streams (λ k. slice_index_or (items_each written is) (pred k) no_items)
         (λ k. slice_index_or (contract_sizes_each is) (pred k) no_sizes) (λ k. each_sized is i 0 fits.1 light.1 (below_call k at) (pred k))
-            (contract_statements d)
+        (contract_statements d)
         light.0.contract [] no_sizes refl in
         record {
           assumes = sym z.assumes;

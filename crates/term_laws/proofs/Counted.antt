@@ -1,18 +1,16 @@
 -- The terms of a checked declaration's system have the levels and parts that are counted.
-use Rattle.std.proofs.Common.{◌≡◌, ℕ, zero, suc, ◌<◌, ◌≤◌, ◌+◌, Bool, true, false, ◌||◌, List, [], ◌∷◌, ◌++◌, map, flat_map, length, refl, sym, ap, ◌∙◌, subst, arith, Option}
+use Rattle.std.proofs.Common.{◌≡◌, ℕ, zero, suc, ◌<◌, ◌≤◌, Bool, true, false, ◌||◌, List, [], ◌∷◌, ◌++◌, map, flat_map, length, refl, sym, ap, ◌∙◌, subst, arith}
 use Rattle.std.specs.Prelude.{Contains, nat_lt}
 use Rattle.std.specs.List.{AllByRecursion, list_any}
 use Rattle.std.proofs.lemmas.Bool.{false≢true}
-use Rattle.std.proofs.lemmas.Bool.Decides.{nat_tests}
 use Rattle.lus_tree.specs.declared.place.Sort.TheVariants.{Bool as Flags}
-use Rattle.lus_tree.specs.Tree.{Name, Expression, Statement, equation, assertion, property, main_mark, Component, declared_constant, declared_node, declared_contract, Declaration, Program}
+use Rattle.lus_tree.specs.Tree.{Name, Expression, Statement, equation, assertion, property, main_mark, Component, declared_constant, declared_node, declared_contract, Declaration}
 use Rattle.lus_meaning.specs.Value.{Value}
 use Rattle.lus_meaning.specs.Scene.{base, Manner, plain, while_true, as_import, Site, Instance, Instances, instance, no_instances, with_instance, component_of}
 use Rattle.lus_meaning.specs.Program.{instance_of}
 use Rattle.lus_meaning.specs.Run.{equations, inputs_of, sort_of}
 use Rattle.lus_meaning.specs.Depends.{named_in, left_names}
 use Rattle.lus_meaning.specs.ClockFaults.{components}
-use Rattle.lus_meaning.specs.Refusals.{IsChecked, IsWithinLimits}
 use Rattle.lus_meaning.specs.Sizes.{Size, leaf, one, two, ModeSizes, size_in, ContractSizes, contract_sizes, some_of, frame_sizes, property_sizes, owed_sizes, owed_by_sites, term_sizes}
 use Rattle.lus_meaning.proofs.Lists.{both_parts, named_append}
 use Rattle.lus_meaning.proofs.NamesOnce.{at_one}
@@ -26,18 +24,17 @@ use Rattle.sys_meaning.specs.Slot.{Place, beat, own, in_call}
 use Rattle.sys_meaning.specs.Items.{ModeItem}
 use Rattle.sys_meaning.specs.Part as part
 use Rattle.sys_meaning.specs.Translate.{Stage, flag_at, formula}
-use Rattle.sys_meaning.specs.System.{Written, contract_of, assumed, stage, below_call, Sources, equation_sources, here_of, first_of, next_of, asserts_in, legal_of, body_properties, one_mode, owed_by_site, owed_by_calls, properties_of, number_of, system_of}
+use Rattle.sys_meaning.specs.System.{Written, contract_of, assumed, stage, below_call, equation_sources, here_of, first_of, next_of, asserts_in, legal_of, body_properties, one_mode, owed_by_site, owed_by_calls, properties_of, number_of, system_of}
 use Rattle.sys_meaning.specs.Law.{TreeDistinct}
 use Rattle.sys_meaning.specs.WellTyped.{IsKnown, checked, Stands, TreeFits, CallsFit}
-use Rattle.sys_meaning.proofs.Balanced.{source_names}
 use Rattle.path_laws.proofs.Main.{each_is_well_typed}
-use Rattle.term_laws.specs.Laws.{IsUpTo, Reaches, terms_of, IsCounted, SizesAreCounted, IsSmallTerm, SmallTerms}
+use Rattle.term_laws.specs.Laws.{terms_of, IsCounted, SizesAreCounted, SmallTerms}
 use Rattle.term_laws.proofs.ContractSizes.{written_size, sizes_asked, HasSize, EnsuresHave, SizedItems, contract_sized}
 use Rattle.term_laws.proofs.FrameSizes.{Sizes, truth_size}
-use Rattle.term_laws.proofs.ImportSizes.{IsWithin, has_levels, has_parts}
+use Rattle.term_laws.proofs.ImportSizes.{IsWithin, itself, then, has_levels, has_parts}
 use Rattle.term_laws.proofs.Lights.{LightTree, LightCalls, light_tree}
-use Rattle.term_laws.proofs.Sized.{formula_size, mode_sizes, some_of_size}
-use Rattle.term_laws.proofs.Small.{all_limits}
+use Rattle.term_laws.proofs.Sized.{formula_size, some_of_size}
+use Rattle.term_laws.proofs.Small.{within, no_constant, no_contract, same_node, all_limits}
 use Rattle.term_laws.proofs.TreeSizes.{IsSplit, equations_named, here_up, first_up, next_up, asserts_in_up, frame_back, head_of}
 
 -- ---- lists of formulas and their sizes
@@ -270,9 +267,10 @@ module _ (P : Size → Type 0) (down : (a b : Size) → IsWithin a b → P b →
       (both_parts P (property_sizes d r.modes d.body) _ (checks_back d.body fits.0.body_properties (left_part Fine checks_of guarantees_of two_kinds))
       (both_parts P r.promises _
       (sized.made (have_here P at (contract_of i).guarantees (right_part Fine checks_of guarantees_of two_kinds))
-      (ensures_back P at (contract_of i).modes (right_part Fine (checks_of ++ guarantees_of) ensures_of three)))
-      (one_mode_back P at (contract_of i).modes r.modes sized.modes z (right_part Fine (checks_of ++ guarantees_of ++ ensures_of) mode_of four),
-      calls_back P is i 0 (stage i at) fits.1 light.1 owed))))
+      (ensures_back P at (contract_of i).modes (right_part Fine (checks_of ++ guarantees_of) ensures_of three))) (
+        one_mode_back P at (contract_of i).modes r.modes sized.modes z (right_part Fine (checks_of ++ guarantees_of ++ ensures_of) mode_of four),
+        calls_back P is i 0 (stage i at) fits.1 light.1 owed,
+      ))))
 
 -- ---- the laws
 
@@ -287,15 +285,6 @@ record IsReached (fs : List Formula) (a : Size) : Type 0 where
   listed : Contains fs term
   within : IsWithin a (formula_size term)
 
-wider : (a b c : Size) → IsWithin a b → IsWithin b c → IsWithin a c
-wider a b c h k =
-    let x : a.levels ≤ b.levels = h.levels in let y : b.levels ≤ c.levels = k.levels in
-    let u : a.parts ≤ b.parts = h.parts in let v : b.parts ≤ c.parts = k.parts in
-    record { levels = omega (arith, x, y); parts = omega (arith, u, v) }
-
-itself : (a : Size) → IsWithin a a
-itself a = record { levels = omega arith; parts = omega arith }
-
 counted : (i : Instance) → TreeFits IsKnown i → LightTree i → TreeDistinct i (number_of i) [] → IsCounted i
 counted (instance d cs is) fits light distinct =
     let i : Instance = instance d cs is in
@@ -305,10 +294,14 @@ counted (instance d cs is) fits light distinct =
     let reached : AllByRecursion (λ f. IsReached fs (formula_size f)) fs =
     all_contained (λ f. IsReached fs (formula_size f)) fs (λ f h. record { term = f; listed = h; within = itself (formula_size f) }) in
     let up : AllByRecursion (λ f. IsBelow ss (formula_size f)) fs =
-    system_up (IsBelow ss) (λ a b h q. record { size = q.size; listed = q.listed; within = wider a b q.size h q.within }) d cs is fits light all in
+    system_up (IsBelow ss) (λ a b h q. record { size = q.size; listed = q.listed; within = then a b q.size h q.within }) d cs is fits light all in
     let back : AllByRecursion (IsReached fs) ss =
-    system_back (IsReached fs) (λ a b h q. record { term = q.term; listed = q.listed; within = wider a b
-        (formula_size q.term) h q.within }) d cs is fits light
+    system_back (IsReached fs) (λ a b h q. record {
+      term = q.term;
+      listed = q.listed;
+      within = then a b
+          (formula_size q.term) h q.within;
+    }) d cs is fits light
     distinct reached in
     record {
       terms = λ f h. let q = at_one (λ f. IsBelow ss (formula_size f)) fs f up h in
@@ -336,44 +329,17 @@ no_more A f (x ∷ xs) e = go (f x) refl e (no_more A f xs)
     go true q h r = absurd (false≢true (sym h))
     go false q h r = (q, r h)
 
-not_passed : (l n : ℕ) → nat_lt l n ≡ false → n ≤ l
-not_passed l n e = grind (arith, nat_tests)
-
 node_declared : (ds : List Declaration) (n : Component) → Contains ds (declared_node n) → Contains (components ds) n
 node_declared [] n (j, l, e) = absurd (none j l)
   where
     none : (k : ℕ) → k < 0 → ⊥
     none k l = omega arith
-node_declared (declared_constant c ∷ ds) n (zero, l, e) = absurd (no_node e)
-  where
-    is_node : Declaration → Bool
-    is_node (declared_node m) = true
-    is_node (declared_constant m) = false
-    is_node (declared_contract m) = false
-
-    no_node : declared_constant c ≡ declared_node n → ⊥
-    no_node q = false≢true (ap is_node q)
+node_declared (declared_constant c ∷ ds) n (zero, l, e) = absurd (no_constant c n e)
 node_declared (declared_constant c ∷ ds) n (suc j, l, e) = node_declared ds n (j, omega arith, e)
-node_declared (declared_contract m ∷ ds) n (zero, l, e) = absurd (no_node e)
-  where
-    is_node : Declaration → Bool
-    is_node (declared_node m) = true
-    is_node (declared_constant m) = false
-    is_node (declared_contract m) = false
-
-    no_node : declared_contract m ≡ declared_node n → ⊥
-    no_node q = false≢true (ap is_node q)
+node_declared (declared_contract m ∷ ds) n (zero, l, e) = absurd (no_contract m n e)
 node_declared (declared_contract m ∷ ds) n (suc j, l, e) =
     let q = node_declared ds n (j, omega arith, e) in let b : q.0 < length (components ds) = q.1 in (suc q.0, omega (arith, b), q.2)
-node_declared (declared_node m ∷ ds) n (zero, l, e) = (0, omega arith, same e)
-  where
-    node_or : Component → Declaration → Component
-    node_or m (declared_node n) = n
-    node_or m (declared_constant c) = m
-    node_or m (declared_contract c) = m
-
-    same : declared_node m ≡ declared_node n → m ≡ n
-    same q = ap (node_or m) q
+node_declared (declared_node m ∷ ds) n (zero, l, e) = (0, omega arith, same_node m n e)
 node_declared (declared_node m ∷ ds) n (suc j, l, e) =
     let q = node_declared ds n (j, omega arith, e) in let b : q.0 < length (components ds) = q.1 in (suc q.0, omega (arith, b), q.2)
 
@@ -382,9 +348,9 @@ small_terms p main c w n j f h =
     let i : Instance = instance_of p n in
     let a = all_limits p main w n j in
     let q = (sizes_are_counted p c n (node_declared p n j)).terms f h in
-    let l : q.0.levels ≤ 4000 = not_passed 4000 q.0.levels (at_one (λ s. nat_lt 4000 s.levels ≡ false) (term_sizes i) q.0
+    let l : q.0.levels ≤ 4000 = within 4000 q.0.levels (at_one (λ s. nat_lt 4000 s.levels ≡ false) (term_sizes i) q.0
     (no_more Size (λ s. nat_lt 4000 s.levels) (term_sizes i) a.1.1.0) q.1) in
-    let m : q.0.parts ≤ 1000000 = not_passed 1000000 q.0.parts (at_one (λ s. nat_lt 1000000 s.parts ≡ false) (term_sizes i) q.0
+    let m : q.0.parts ≤ 1000000 = within 1000000 q.0.parts (at_one (λ s. nat_lt 1000000 s.parts ≡ false) (term_sizes i) q.0
     (no_more Size (λ s. nat_lt 1000000 s.parts) (term_sizes i) a.1.1.1.0) q.1) in
     let x : levels f ≤ q.0.levels = q.2.levels in
     let y : parts f ≤ q.0.parts = q.2.parts in

@@ -31,7 +31,7 @@ use Rattle.sys_meaning.specs.Part.{Part, a_flag, a_number, formula_of, fixed, va
 use Rattle.sys_meaning.specs.Translate.{Stage, flag_at, name_part, name_flag, present_within, present, output_part, held_part, latest_part, head_part, or_constant, number_of_value, constant_number, binary_part, term_of, right_terms, formula}
 use Rattle.sys_meaning.specs.WellTyped.{IsNameOn, NameFits, OutputFits, HasConstant, HasPlaceIn, IsKnown, IsCall, IsHeldCall, ClockEnds, ClockFits, Stands, right_sorts}
 use Rattle.term_laws.proofs.Fine.{Variables, Fine, FineParts, part_weight, fine_variable, fine_formula, fine_choice, fine_fixed, fine_not, IsPlain, fine_operated, fine_scaled, fine_minus, fine_divided, fine_rest}
-use Rattle.term_laws.proofs.Weights.{value_size, name_size, operator_size, value_here, weighs, Light, light_root, constant_size}
+use Rattle.term_laws.proofs.Weights.{times_more, no_number, value_size, name_size, operator_size, value_here, weighs, Light, light_root, constant_size}
 
 -- ---- weights of parts
 
@@ -70,11 +70,6 @@ rest_weight : (p : Part) (d : ℤ) → part_weight (rest_of p d) ≤ unsigned_ab
 rest_weight (a_number a) d = omega arith
 rest_weight (a_flag f) d = omega arith
 
-times_more : (k m n : ℕ) → m ≤ n → k * m ≤ k * n
-times_more zero m n h = omega arith
-times_more (suc k) m n h =
-    let i = times_more k m n h in let e : suc k * m ≡ k * m + m = grind arith in let f : suc k * n ≡ k * n + n = grind arith in omega arith
-
 number_size : (v : Value) → has_sort Numbers v ≡ true → unsigned_abs (number_of_value v) ≡ value_size v
 number_size (whole n) h = refl
 number_size absent h = absurd (false≢true h)
@@ -89,13 +84,6 @@ order_weight : (w : Amount → Amount → Formula) (p q : Part) → part_weight 
 order_weight w (a_number f) (a_number g) = omega arith
 order_weight w (a_number f) (a_flag b) = omega arith
 order_weight w (a_flag a) q = omega arith
-
-abbrev is_numbers : Sort → Bool
-is_numbers Numbers = true
-is_numbers Flags = false
-
-no_number : Flags ≡ Numbers → ⊥
-no_number e = false≢true (ap is_numbers e)
 
 -- ---- constants have their types
 
@@ -332,7 +320,7 @@ module _ (V : Variables) (limit : ℕ) (least : 1 ≤ limit) where
     scaled_fine a c q w h k s f l b =
         let e : unsigned_abs (constant_number g a) ≡ value_size (value_here i a) = operand_size a c h k s in
         let m : value_size (value_here i a) * part_weight q ≤ value_size (value_here i a) * w = times_more (value_size (value_here i a))
-            (part_weight q) w l in
+        (part_weight q) w l in
         let x : unsigned_abs (constant_number g a) * part_weight q ≡ value_size (value_here i a) * part_weight q = ap (λ j. j * part_weight q) e in
         let y : part_weight (scaled (constant_number g a) q) ≤ unsigned_abs (constant_number g a) * part_weight q = scaled_weight (constant_number g a) q in
         (fine_scaled V limit least (constant_number g a) q (omega (arith, x, m, b)) f, omega (arith, x, m, y))
@@ -366,7 +354,7 @@ module _ (V : Variables) (limit : ℕ) (least : 1 ≤ limit) where
             (subst (λ k. operator_size Mul k (value_here i a) (weighs i a) (value_here i b) (weighs i b) ≤ limit) e w))
 
     -- an operator that is no product, quotient or remainder
-    operated_weight : (o : Operator) (p q : Part) (c : Bool) (v w : Value) (a b : ℕ) → IsPlain V limit least o → part_weight p ≤ a → part_weight q ≤ b →
+    operated_weight : (o : Operator) (p q : Part) (c : Bool) (v w : Value) (a b : ℕ) → IsPlain o → part_weight p ≤ a → part_weight q ≤ b →
         part_weight (operate o p q) ≤ operator_size o c v a w b
     operated_weight Add p q c v w a b i h k = let s = sum_weight p q in omega (arith, s, h, k)
       where
@@ -394,7 +382,7 @@ module _ (V : Variables) (limit : ℕ) (least : 1 ≤ limit) where
     operated_weight Div p q c v w a b i h k = absurd i
     operated_weight Mod p q c v w a b i h k = absurd i
 
-    plain_fine : (p : _) (o : Operator) (a b : Expression) (q r : Part) → IsPlain V limit least o → Takes o (sort_of i a) → sort_of i b ≡ sort_of i a →
+    plain_fine : (p : _) (o : Operator) (a b : Expression) (q r : Part) → IsPlain o → Takes o (sort_of i a) → sort_of i b ≡ sort_of i a →
         Light i limit (binary p o a b) → (sort_of_operator o ≡ Numbers → weighs i a + weighs i b ≤ limit) → TermFine a q → TermFine b r →
         TermFine (binary p o a b) (operate o q r)
     plain_fine p o a b q r i_ e d l w x y =

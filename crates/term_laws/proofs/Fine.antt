@@ -48,6 +48,13 @@ module _ (V : Variables) (limit : ℕ) where
   FineParts Flags (a_number a) = ⊥
   FineParts Numbers (a_flag f) = ⊥
 
+-- an operator that is no product, quotient or remainder
+abbrev pub IsPlain : Operator → Type 0
+IsPlain Mul = ⊥
+IsPlain Div = ⊥
+IsPlain Mod = ⊥
+IsPlain o = Unit {0}
+
 -- how heavy a part is
 abbrev pub part_weight : Part → ℕ
 part_weight p = weight (amount_of p)
@@ -243,13 +250,6 @@ module _ (V : Variables) (limit : ℕ) (least : 1 ≤ limit) where
 
   abbrev as_sort : (s : Sort) (z : Sort) (p : Part) → s ≡ z → GoodPart s p → GoodPart z p
   as_sort s z p e h = subst (λ k. GoodPart k p) e h
-
-  -- an operator that is no product, quotient or remainder
-  abbrev pub IsPlain : Operator → Type 0
-  IsPlain Mul = ⊥
-  IsPlain Div = ⊥
-  IsPlain Mod = ⊥
-  IsPlain o = Unit {0}
 
   -- an operator without a constant operand, of operands of the type that it takes; the weights count for sums alone
   pub fine_operated : (o : Operator) (s : Sort) (p q : Part) → IsPlain o → Takes o s →

@@ -1,7 +1,7 @@
 -- The conditions of one frame have the levels and parts that are counted of it.
 use Rattle.std.proofs.Common.{◌≡◌, ℕ, zero, suc, pred, ◌<◌, ◌≤◌, ◌+◌, Bool, true, false, cond, ◌||◌, List, [], ◌∷◌, ◌++◌, map, flat_map, length, Option, Some, None, is_some, refl, sym, ap, ◌∙◌, subst, arith}
-use Rattle.std.specs.Prelude.{max, find, option_to_list, ◌==◌}
-use Rattle.std.specs.List.{AllByRecursion, fold}
+use Rattle.std.specs.Prelude.{find, option_to_list, ◌==◌}
+use Rattle.std.specs.List.{AllByRecursion}
 use Rattle.std.specs.Map.{lookup}
 use Rattle.std.proofs.Math.Logic.{◌⊎◌, inl, inr}
 use Rattle.std.specs.Str.{bytes_eq}
@@ -11,10 +11,10 @@ use Rattle.lus_tree.specs.Numbers.{counting}
 use Rattle.lus_tree.specs.declared.place.Sort.{Sort}
 use Rattle.lus_tree.specs.declared.place.Sort.TheVariants.{Bool as Flags, Int as Numbers}
 use Rattle.lus_tree.specs.Tree.{Name, Variable, Expression, truth, number, name, negation, minus, pre, arrow, binary, choice, sampled, merged, call, condact, mode_name, Component, Statement, equation, assertion, property, main_mark, ContractStatement}
-use Rattle.lus_meaning.specs.Scene.{Clock, base, Manner, plain, while_true, as_import, Site, Instance, call_instance, component_of, clock_from, clock_of, clock_of_names, variables}
+use Rattle.lus_meaning.specs.Scene.{Clock, base, Manner, plain, while_true, as_import, Instance, call_instance, component_of, clock_from, clock_of, clock_of_names, variables}
 use Rattle.lus_meaning.specs.Program.{in_order}
 use Rattle.lus_meaning.specs.Property.{assertions}
-use Rattle.lus_meaning.specs.Run.{Equation, equations, inputs_of, sort_of, sort_of_name}
+use Rattle.lus_meaning.specs.Run.{Equation, inputs_of, sort_of, sort_of_name}
 use Rattle.lus_meaning.specs.Depends.{named_in, left_names}
 use Rattle.lus_meaning.specs.Occurrences.{Memory, memories, Start, starts}
 use Rattle.lus_meaning.specs.Sizes.{Size, leaf, one, two, three, ModeSizes, size_in, ContractSizes, contract_sizes, presence_within, presence, side_size, given_size, free_size, equation_sizes, free_sizes, memory_size, start_size, sofar_sizes, assert_sizes}
@@ -28,13 +28,13 @@ use Rattle.rule_laws.proofs.Lists.{all_mapped}
 use Rattle.rule_laws.proofs.Truths.{same_some}
 use Rattle.sys_terms.specs.View.{Formula}
 use Rattle.sys_terms.specs.View as t
-use Rattle.sys_meaning.specs.Slot.{Spot, beat, named, memory, starting, so_far, held, Place, own, in_call, memory_of, start_of}
+use Rattle.sys_meaning.specs.Slot.{beat, named, memory, so_far, held, Place, own, in_call}
 use Rattle.sys_meaning.specs.Part.{Part, a_flag, a_number, variable, variable_in, zero_of, all_of, choose_part, equal_parts}
-use Rattle.sys_meaning.specs.Translate.{Stage, flag_at, present, output_part, latest_part, term_of, right_terms, formula, head_part}
-use Rattle.sys_meaning.specs.System.{Written, contract_of, assumed, stage, Sources, tail_parts, paired, equation_sources, variable_of, clock_of_variable, equals_where_on, is_free, name_here, names_here, has_so_far, becomes, memory_next, start_next, so_far_next, asserts_of}
+use Rattle.sys_meaning.specs.Translate.{Stage, flag_at, present, output_part, latest_part, term_of, right_terms, formula}
+use Rattle.sys_meaning.specs.System.{Written, contract_of, assumed, stage, Sources, paired, equation_sources, variable_of, equals_where_on, is_free, name_here, becomes, memory_next, start_next, so_far_next}
 use Rattle.sys_meaning.specs.WellTyped.{IsKnown, IsNameOn, is_declared, ClockFits, StreamFits, EquationFits, MemoryFits, StartFits, Stands, OwnFits, right_sorts}
 use Rattle.sys_meaning.proofs.Balanced.{source_names, IsFound, Picked, pick}
-use Rattle.term_laws.proofs.Sized.{formula_size, part_size, Has, chosen_size, equal_size, variable_size, variable_has, zero_size, mode_sizes, term_has, present_size, latest_size, term_size, flag_size, all_of_size}
+use Rattle.term_laws.proofs.Sized.{three_same, formula_size, part_size, Has, chosen_size, equal_size, variable_size, variable_has, zero_size, mode_sizes, term_has, present_size, latest_size, term_size, flag_size, all_of_size}
 
 -- ---- types of parts
 
@@ -52,9 +52,6 @@ chosen_has Numbers c (a_flag f) q h k = absurd h
 
 pub two_same : (a b x y : Size) → a ≡ x → b ≡ y → two a b ≡ two x y
 two_same a b x y e f = ap (λ s. two s b) e ∙ ap (two x) f
-
-pub three_same : (a b c x y z : Size) → a ≡ x → b ≡ y → c ≡ z → three a b c ≡ three x y z
-three_same a b c x y z e f h = ap (λ s. three s b c) e ∙ ap (λ s. three x s c) f ∙ ap (three x y) h
 
 -- the size of a variable that is equal to a choice of two parts
 pub becomes_size : (z : Sort) (v : Part) (c : Formula) (p q : Part) (s u w : Size) → Has z v → part_size v ≡ leaf → Has z p → Has z q →
@@ -259,9 +256,11 @@ module _ (P : Size → Type 0) where
         AreSized (map (sort_of_name i) xs) ps s → P (given_size (presence (component_of i) c) s) → AllByRecursion SourceHas (paired xs ps)
     paired_have c [] ps s a h b = tt
     paired_have c (x ∷ xs) [] s a h b = absurd h
-    paired_have c (x ∷ xs) (p ∷ ps) s a h b =
-        (subst (λ z. P (given_size (presence n z) (part_size p))) (sym a.0.clock) (subst (λ z. P (given_size (presence n c) z))
-            (sym h.1) b), paired_have c xs ps s a.1 h.2 b)
+    paired_have c (x ∷ xs) (p ∷ ps) s a h b = (
+      subst (λ z. P (given_size (presence n z) (part_size p))) (sym a.0.clock) (subst (λ z. P (given_size (presence n c) z))
+          (sym h.1) b),
+      paired_have c xs ps s a.1 h.2 b,
+    )
 
     equation_sized : (e : Equation) → EquationFits i (IsKnown i) e →
         AreSized (map (sort_of_name i) e.names) (right_terms (stage i at) e.right) (side_size (component_of i) (contract_sizes i).modes e)
@@ -399,7 +398,7 @@ module _ (P : Size → Type 0) where
       pub sources_back : Sizes (flat_map here (variables (component_of i))) → AllByRecursion (IsFound qs) qs → AllByRecursion SourceHas qs
       sources_back a f =
           let each : AllByRecursion Seen (variables n) = all_from_both (StreamFits i (IsKnown i)) (λ v. Sizes (here v)) Seen (λ v s b. (s, b))
-              (variables n) fits.streams
+          (variables n) fits.streams
           (all_of_each (λ f. P (formula_size f)) here (variables n) a) in
           all_from_both TypedSource (IsFound qs) SourceHas (λ q h e. source_back each q h e) qs typed f
 

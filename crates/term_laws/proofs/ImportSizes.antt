@@ -1,29 +1,29 @@
 -- What is counted of an import's assumptions is no more than what is counted of the importing contract's.
-use Rattle.std.proofs.Common.{◌≡◌, ℕ, zero, suc, pred, ◌≤◌, ◌+◌, List, [], ◌∷◌, ◌++◌, map, refl, sym, ap, ◌∙◌, subst, arith}
-use Rattle.std.specs.Prelude.{max, slice_index_or}
+use Rattle.std.proofs.Common.{◌≡◌, ℕ, zero, suc, ◌≤◌, List, [], ◌∷◌, ◌++◌, map, refl, sym, ap, ◌∙◌, subst, arith}
+use Rattle.std.specs.Prelude.{slice_index_or}
 use Rattle.std.specs.List.{fold}
-use Rattle.std.proofs.Math.Logic.{◌⊎◌, inl, inr}
-use Rattle.lus_tree.specs.Tree.{Labelled, ContractStatement, assume, guarantee, ghost_variable, constant, mode, «import», Component}
-use Rattle.lus_meaning.specs.Scene.{Site, Instance, Instances, instance, no_instances, with_instance, calls_of, component_of, contract_statements}
+use Rattle.std.proofs.Math.Logic.{inl, inr}
+use Rattle.lus_tree.specs.Tree.{ContractStatement, assume, guarantee, ghost_variable, constant, mode, «import», Component}
+use Rattle.lus_meaning.specs.Scene.{Site, Instance, Instances, no_instances, with_instance}
 use Rattle.lus_meaning.specs.Sizes.{Size, leaf, one, two, ContractSizes, no_sizes, sizes_after, contract_sizes, contract_sizes_each, given_size}
 use Rattle.lus_meaning.specs.Sizes as sizes
 use Rattle.lus_meaning.proofs.Lists.{append_none}
 use Rattle.sys_terms.specs.View.{Formula, truth, flag, negation, both, same, choice, at_most, equal}
 use Rattle.sys_terms.specs.Fits.{levels, parts}
 use Rattle.sys_meaning.proofs.Forward.{drop_calls}
+use Rattle.term_laws.proofs.ContractSizes.{same_after}
 use Rattle.term_laws.proofs.FrameSizes.{sofar_size}
 use Rattle.term_laws.proofs.Lights.{Imports}
-use Rattle.term_laws.proofs.Sized.{formula_size}
 
 -- no more levels and parts
 pub record IsWithin (a b : Size) : Type 0 where
   pub levels : a.levels ≤ b.levels
   pub parts : a.parts ≤ b.parts
 
-itself : (a : Size) → IsWithin a a
+pub itself : (a : Size) → IsWithin a a
 itself a = record { levels = omega arith; parts = omega arith }
 
-then : (a b c : Size) → IsWithin a b → IsWithin b c → IsWithin a c
+pub then : (a b c : Size) → IsWithin a b → IsWithin b c → IsWithin a c
 then a b c h k =
     let x : a.levels ≤ b.levels = h.levels in let y : b.levels ≤ c.levels = k.levels in
     let u : a.parts ≤ b.parts = h.parts in let v : b.parts ≤ c.parts = k.parts in
@@ -97,10 +97,6 @@ has_parts (at_most a b) = omega arith
 has_parts (equal a b) = omega arith
 
 -- ---- a contract and its imports
-
-same_after : {X : Type 0} (xs ys zs : List X) → (xs ++ ys) ++ zs ≡ xs ++ (ys ++ zs)
-same_after [] ys zs = refl
-same_after (x ∷ xs) ys zs = ap (λ l. x ∷ l) (same_after xs ys zs)
 
 -- what is counted first stays first
 record Begins (as_ bs : List Size) : Type 0 where

@@ -1,10 +1,9 @@
 -- The term of an expression has the levels and parts that are counted of it.
-use Rattle.std.proofs.Common.{◌≡◌, ℕ, zero, suc, ◌≤◌, ◌+◌, Bool, true, false, cond, not, ◌&&◌, ◌||◌, List, [], ◌∷◌, map, length, Option, Some, None, option_map, refl, sym, ap, ◌∙◌, subst, arith, ℤ, pos}
-use Rattle.std.specs.Prelude.{max, is_some, option_to_list, unwrap_or}
+use Rattle.std.proofs.Common.{◌≡◌, ℕ, zero, suc, ◌≤◌, Bool, true, false, cond, not, List, [], ◌∷◌, map, length, Option, Some, None, option_map, refl, sym, ap, ◌∙◌, subst, arith, ℤ, pos}
+use Rattle.std.specs.Prelude.{is_some, option_to_list, unwrap_or}
 use Rattle.std.specs.List.{AllByRecursion}
 use Rattle.std.specs.Map.{lookup}
 use Rattle.std.specs.Str.{bytes_eq}
-use Rattle.std.proofs.Math.Logic.{◌⊎◌, inl, inr}
 use Rattle.std.proofs.lemmas.Bool.{false≢true}
 use Rattle.lus_tree.specs.declared.expression.Operator.{Operator}
 use Rattle.lus_tree.specs.declared.expression.Operator.TheVariants.{Implies, Or, Xor, And, Less, AtMost, Equal, Differs, AtLeast, More, Add, Sub, Mul, Div, Mod}
@@ -25,13 +24,14 @@ use Rattle.sys_terms.specs.View.{Formula, Amount}
 use Rattle.sys_terms.specs.View as t
 use Rattle.sys_terms.specs.Meaning.{Values}
 use Rattle.sys_terms.specs.Fits.{levels, levels_of, parts, parts_of}
-use Rattle.sys_meaning.specs.Slot.{beat, named, memory, starting, held, Place, own, in_call}
+use Rattle.sys_meaning.specs.Slot.{beat, named, memory, starting, held, own, in_call}
 use Rattle.sys_meaning.specs.Items.{Known}
 use Rattle.sys_meaning.specs.Defaults.{is_constant}
-use Rattle.sys_meaning.specs.Part.{Part, a_flag, a_number, formula_of, fixed, variable, variable_in, zero_of, all_after, all_of, some_after, some_of, not_part, minus_part, choose_part, equal_parts, operate, scaled, divided, rest_of, worth}
-use Rattle.sys_meaning.specs.Translate.{Stage, flag_at, name_part, name_flag, present_within, present, output_part, held_part, latest_part, head_part, or_constant, constant_number, binary_part, mode_part, term_of, right_terms, formula}
-use Rattle.sys_meaning.specs.WellTyped.{IsKnown, StreamFits, NameFits, HasConstant, ClockEnds, ClockFits, Stands}
+use Rattle.sys_meaning.specs.Part.{Part, a_flag, a_number, formula_of, fixed, variable_in, zero_of, all_after, all_of, some_after, some_of, not_part, minus_part, choose_part, equal_parts, operate, scaled, divided, rest_of, worth}
+use Rattle.sys_meaning.specs.Translate.{Stage, flag_at, name_part, name_flag, present_within, present, output_part, held_part, latest_part, head_part, or_constant, constant_number, binary_part, term_of, formula}
+use Rattle.sys_meaning.specs.WellTyped.{IsKnown, StreamFits, NameFits, ClockEnds, ClockFits, Stands}
 use Rattle.sys_meaning.proofs.Main.{term_has as has_type}
+use Rattle.term_laws.proofs.Fine.{IsPlain}
 
 -- ---- sizes of terms
 
@@ -126,13 +126,6 @@ rest_size : (p : Part) (d : ℤ) → Has Numbers p → part_size (rest_of p d) �
 rest_size (a_number a) d h = refl
 rest_size (a_flag f) d h = absurd h
 
--- an operator that is no product, quotient or remainder
-abbrev IsPlain : Operator → Type 0
-IsPlain Mul = ⊥
-IsPlain Div = ⊥
-IsPlain Mod = ⊥
-IsPlain o = Unit {0}
-
 abbrev as_sort : (s z : Sort) (p : Part) → s ≡ z → Has s p → Has z p
 as_sort s z p e h = subst (λ k. Has k p) e h
 
@@ -197,7 +190,7 @@ pub some_of_size : (fs : List Formula) → formula_size (some_of fs) ≡ sizes.s
 some_of_size [] = refl
 some_of_size (f ∷ fs) = some_after_size f fs
 
-three_same : (a b c x y z : Size) → a ≡ x → b ≡ y → c ≡ z → three a b c ≡ three x y z
+pub three_same : (a b c x y z : Size) → a ≡ x → b ≡ y → c ≡ z → three a b c ≡ three x y z
 three_same a b c x y z e f h = ap (λ s. three s b c) e ∙ ap (λ s. three x s c) f ∙ ap (three x y) h
 
 -- ---- constants
@@ -305,8 +298,11 @@ module _ (g : Stage) (streams : AllByRecursion (StreamFits g.place (IsKnown g.pl
   latest_size k v =
       chosen_size v.sort (flag_at g (in_call k (own beat))) (output_part g k v) (held_part g k v)
       (variable_has false v.sort (g.number (in_call k (own (named v.name.text))))) (variable_has false v.sort (g.number (own (held k v.name.text))))
-      ∙ rw (variable_size false v.sort (g.number (in_call k (own (named v.name.text)))), variable_size false v.sort (g.number (own
-          (held k v.name.text)))) refl
+      ∙ rw (
+        variable_size false v.sort (g.number (in_call k (own (named v.name.text)))),
+        variable_size false v.sort (g.number (own
+            (held k v.name.text))),
+      ) refl
 
   first_latest_size : (k : ℕ) (vs : List Variable) → 1 ≤ length vs → part_size (head_part (map (latest_part g k) vs)) ≡ three leaf leaf leaf
   first_latest_size k [] l = absurd (omega (arith, l))

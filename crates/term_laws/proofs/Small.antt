@@ -4,7 +4,7 @@ use Rattle.std.specs.Prelude.{Contains, nat_lt, find}
 use Rattle.std.specs.List.{AllByRecursion}
 use Rattle.std.proofs.lemmas.Bool.{false≢true}
 use Rattle.std.proofs.lemmas.Bool.Decides.{nat_tests}
-use Rattle.lus_tree.specs.Tree.{Name, Spelled, Component, Declaration, declared_constant, declared_node, declared_contract, Program}
+use Rattle.lus_tree.specs.Tree.{Name, Spelled, Constant, Component, Declaration, declared_constant, declared_node, declared_contract, Program}
 use Rattle.lus_tree.specs.Reason.{too_many}
 use Rattle.lus_meaning.specs.Program.{instance_of}
 use Rattle.lus_meaning.specs.Faults.{fault}
@@ -33,8 +33,30 @@ none_passed w (l ∷ ls) e = go l.0 refl (none_passed w ls) e
     go true q r h = not_nil _ _ h
     go false q r h = (q, r h)
 
-within : (l n : ℕ) → nat_lt l n ≡ false → n ≤ l
+-- a number that is not past a limit
+pub within : (l n : ℕ) → nat_lt l n ≡ false → n ≤ l
 within l n e = grind (arith, nat_tests)
+
+-- ---- declarations of nodes
+
+abbrev is_node : Declaration → Bool
+is_node (declared_node m) = true
+is_node (declared_constant m) = false
+is_node (declared_contract m) = false
+
+pub no_constant : (c : Constant) (n : Component) → declared_constant c ≡ declared_node n → ⊥
+no_constant c n q = false≢true (ap is_node q)
+
+pub no_contract : (m n : Component) → declared_contract m ≡ declared_node n → ⊥
+no_contract m n q = false≢true (ap is_node q)
+
+abbrev node_or : Component → Declaration → Component
+node_or m (declared_node n) = n
+node_or m (declared_constant c) = m
+node_or m (declared_contract c) = m
+
+pub same_node : (m n : Component) → declared_node m ≡ declared_node n → m ≡ n
+same_node m n q = ap (node_or m) q
 
 -- the limits of a node's system
 pub node_limits : (p : Program) (k : ℕ) (ds : List Declaration) → limit_faults p k ds ≡ [] → (n : Component) → Contains ds (declared_node n) →
@@ -43,39 +65,15 @@ node_limits p k [] e n (j, l, q) = absurd (none j l)
   where
     none : (k : ℕ) → k < 0 → ⊥
     none k l = omega arith
-node_limits p k (declared_constant c ∷ ds) e n (zero, l, q) = absurd (other q)
-  where
-    is_node : Declaration → Bool
-    is_node (declared_node m) = true
-    is_node (declared_constant m) = false
-    is_node (declared_contract m) = false
-
-    other : declared_constant c ≡ declared_node n → ⊥
-    other q = false≢true (ap is_node q)
+node_limits p k (declared_constant c ∷ ds) e n (zero, l, q) = absurd (no_constant c n q)
 node_limits p k (declared_constant c ∷ ds) e n (suc j, l, q) = node_limits p k ds e n (j, omega arith, q)
-node_limits p k (declared_contract m ∷ ds) e n (zero, l, q) = absurd (other q)
-  where
-    is_node : Declaration → Bool
-    is_node (declared_node m) = true
-    is_node (declared_constant m) = false
-    is_node (declared_contract m) = false
-
-    other : declared_contract m ≡ declared_node n → ⊥
-    other q = false≢true (ap is_node q)
+node_limits p k (declared_contract m ∷ ds) e n (zero, l, q) = absurd (no_contract m n q)
 node_limits p k (declared_contract m ∷ ds) e n (suc j, l, q) =
     node_limits p (suc k) ds (no_parts (limit_fault m.name (text_limits k m)) _ e).1 n (j, omega arith, q)
 node_limits p k (declared_node m ∷ ds) e n (zero, l, q) =
     right_part (λ (l : Limit). l.0 ≡ false) (text_limits k n) (system_limits (instance_of p n))
     (none_passed n.name (text_limits k n ++ system_limits (instance_of p n))
-    (rw (sym (same q)) (no_parts (limit_fault m.name (text_limits k m ++ system_limits (instance_of p m))) _ e).0))
-  where
-    node_or : Component → Declaration → Component
-    node_or m (declared_node n) = n
-    node_or m (declared_constant c) = m
-    node_or m (declared_contract c) = m
-
-    same : declared_node m ≡ declared_node n → m ≡ n
-    same q = ap (node_or m) q
+    (rw (sym (same_node m n q)) (no_parts (limit_fault m.name (text_limits k m ++ system_limits (instance_of p m))) _ e).0))
 node_limits p k (declared_node m ∷ ds) e n (suc j, l, q) =
     node_limits p (suc k) ds (no_parts (limit_fault m.name (text_limits k m ++ system_limits (instance_of p m))) _ e).1 n (j, omega arith, q)
 

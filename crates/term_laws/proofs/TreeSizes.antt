@@ -1,17 +1,16 @@
 -- The conditions of a frame and of all call frames in it have the levels and parts that are counted of them.
-use Rattle.std.proofs.Common.{◌≡◌, ℕ, zero, suc, pred, ◌<◌, ◌≤◌, ◌+◌, Bool, true, false, cond, ◌||◌, List, [], ◌∷◌, ◌++◌, map, flat_map, length, Option, Some, None, is_some, refl, sym, ap, ◌∙◌, subst, arith}
-use Rattle.std.specs.Prelude.{max, slice_index_or, unwrap_or}
+use Rattle.std.proofs.Common.{◌≡◌, ℕ, suc, pred, ◌<◌, ◌≤◌, Bool, true, false, cond, ◌||◌, List, [], ◌∷◌, ◌++◌, map, flat_map, length, Option, Some, None, is_some, refl, sym, ap, ◌∙◌, subst, arith}
+use Rattle.std.specs.Prelude.{slice_index_or, unwrap_or}
 use Rattle.std.specs.List.{AllByRecursion}
 use Rattle.std.proofs.lemmas.Bool.{false≢true}
 use Rattle.lus_tree.specs.declared.place.Sort.{Sort}
-use Rattle.lus_tree.specs.declared.place.Sort.TheVariants.{Bool as Flags, Int as Numbers}
+use Rattle.lus_tree.specs.declared.place.Sort.TheVariants.{Bool as Flags}
 use Rattle.lus_tree.specs.Tree.{Name, Variable, Expression, Component, ContractStatement}
 use Rattle.lus_meaning.specs.Value.{Value}
-use Rattle.lus_meaning.specs.Scene.{Clock, base, Manner, plain, while_true, as_import, Site, Instance, Instances, instance, no_instances, with_instance, calls_of, call_instance, component_of, outputs_of, clock_from, clock_of, contract_statements, variables}
+use Rattle.lus_meaning.specs.Scene.{Clock, base, Manner, plain, while_true, as_import, Site, Instance, Instances, instance, no_instances, with_instance, calls_of, component_of, outputs_of, clock_of, contract_statements, variables}
 use Rattle.lus_meaning.specs.Program.{in_order}
 use Rattle.lus_meaning.specs.Run.{Equation, equations, inputs_of, sort_of, sort_of_name}
 use Rattle.lus_meaning.specs.Depends.{named_in, left_names, outputs_given, from_caller}
-use Rattle.lus_meaning.specs.WellMade.{AreDistinct}
 use Rattle.lus_meaning.specs.Occurrences.{memories, starts}
 use Rattle.lus_meaning.specs.Sizes.{Size, leaf, one, two, three, ModeSizes, size_in, ContractSizes, no_sizes, contract_sizes, contract_sizes_each, presence, given_size, equation_sizes, free_sizes, memory_size, start_size, sofar_sizes, assert_sizes, site_sizes, own_sizes, frame_sizes, call_sizes}
 use Rattle.lus_meaning.specs.Sizes as sizes
@@ -31,7 +30,7 @@ use Rattle.term_laws.proofs.Contracts.{calls_behind, instance_there}
 use Rattle.term_laws.proofs.ContractSizes.{contract_sized}
 use Rattle.term_laws.proofs.FrameSizes.{two_same, becomes_size, presence_base, sofar_size, Sizes, expression_size, expression_has, truth_size, clock_size, equations_typed, equations_have, equations_back, names_up, frees_back, sources_back, memories_up, memories_back, starts_up, starts_back, so_far_is, so_far_term, so_far_up, asserts_up, asserts_back, assumed_size}
 use Rattle.term_laws.proofs.ImportSizes.{IsWithin, sofar_within, given_within, has_levels, has_parts, import_within, sizes_there}
-use Rattle.term_laws.proofs.Lights.{Imports, IsListed, SiteLight, LightTree, LightCalls}
+use Rattle.term_laws.proofs.Lights.{Imports, IsListed, LightTree, LightCalls}
 use Rattle.term_laws.proofs.Sized.{formula_size, part_size, Has, variable_size, variable_has, mode_sizes, fixed_size}
 
 -- ---- names of sources
@@ -185,8 +184,11 @@ module _ (P : Size → Type 0) (down : (a b : Size) → IsWithin a b → P b →
     shared_typed [] xs o s = tt
     shared_typed (y ∷ ys) [] o s = absurd (false≢true (sym (ap is_cons s)))
     shared_typed (y ∷ ys) (x ∷ xs) o s = (
-      (subst (λ z. Has z (name_part (stage i at) x)) (sym (ap (first_or Flags) s)) (variable_has false (sort_of_name i x) (at (own
-          (named x)))), o.0.declared),
+      (
+        subst (λ z. Has z (name_part (stage i at) x)) (sym (ap (first_or Flags) s)) (variable_has false (sort_of_name i x) (at (own
+            (named x)))),
+        o.0.declared,
+      ),
       shared_typed ys xs o.1 (ap rest_of s),
     )
 
@@ -268,11 +270,11 @@ module _ (P : Size → Type 0) (down : (a b : Size) → IsWithin a b → P b →
         small v =
             let q = equal_within (variable v.sort (at (own (held c.number v.name.text)))) (fixed (default_of i c.number v.name.text)) in
             let e : two (part_size (variable v.sort (at (own (held c.number v.name.text))))) (part_size (fixed
-                (default_of i c.number v.name.text))) ≡ two leaf leaf =
+            (default_of i c.number v.name.text))) ≡ two leaf leaf =
             two_same _ _ leaf leaf (variable_size false v.sort (at (own (held c.number v.name.text)))) (fixed_size (default_of i c.number v.name.text)) in
             wider (formula_size (equal_parts (variable v.sort (at (own (held c.number v.name.text)))) (fixed (default_of i c.number v.name.text))))
             (subst (IsWithin (formula_size (equal_parts (variable v.sort (at (own (held c.number v.name.text)))) (fixed
-                (default_of i c.number v.name.text))))) e q)
+            (default_of i c.number v.name.text))))) e q)
           where
             wider : (s : Size) → IsWithin s (two leaf leaf) → IsWithin s (two leaf (three leaf leaf leaf))
             wider s h = let x : s.levels ≤ (two leaf leaf).levels = h.levels in let u : s.parts ≤ (two leaf leaf).parts = h.parts in
@@ -310,9 +312,10 @@ module _ (P : Size → Type 0) (down : (a b : Size) → IsWithin a b → P b →
     site_back : (w : Manner) → c.manner ≡ w → MannerFits IsKnown i c.clock w k → (is : Instances) → drop_calls p (calls_of i) ≡ with_instance c k is →
         P (formula_size (active w)) → AllGiven k (paired (inputs_of k) (map (term_of (stage i at)) c.arguments)) → Sizes P (held_next (stage i at) c w k) →
         WhereImport w → AtSite w
-    site_back plain q h is e a b d j =
-        (subst (λ s. P (two leaf s)) present_is a,
-            arguments_back (inputs_of k) c.arguments fit.inputs (fit.input_sorts ∙ sym fit.sorts) fit.arguments b)
+    site_back plain q h is e a b d j = (
+      subst (λ s. P (two leaf s)) present_is a,
+      arguments_back (inputs_of k) c.arguments fit.inputs (fit.input_sorts ∙ sym fit.sorts) fit.arguments b,
+    )
     site_back (while_true x) q h is e a b d j =
         let some : 0 < length (component_of k).outputs =
         subst (λ z. 0 < length (component_of z).outputs) (instance_there i p c k is e) (fit.held x q).1.outputs in
@@ -424,7 +427,7 @@ module _ (P : Size → Type 0) (down : (a b : Size) → IsWithin a b → P b →
         both_parts (λ f. P (formula_size f)) (starts_first (stage i at) ++ so_far_first (stage i at) m) (calls_first is (stage i at))
         (both_parts (λ f. P (formula_size f)) (starts_first (stage i at)) (so_far_first (stage i at) m)
         (leaves _ (λ a. flag_at (stage i at) (own (starting a.number))) (λ a. refl) z (in_order (λ a. a.number) (starts d))) (so_far_first_up
-            (stage i at) m z))
+        (stage i at) m z))
         (calls_first_up is i at f 0 refl fits.1 light.1 z (right_part P (own_sizes names d (contract_sizes i)) (call_sizes d (ms i) is) b))
 
     calls_first_up : (is : Instances) (i : Instance) (at : Place → ℕ) → Frame i at → (p : ℕ) → drop_calls p (calls_of i) ≡ is → CallsFit IsKnown i is p →
@@ -434,7 +437,7 @@ module _ (P : Size → Type 0) (down : (a b : Size) → IsWithin a b → P b →
         let site = left_part P (site_sizes (component_of i) (ms i) c (component_of k) c.manner) _ b in
         let rest = right_part P (site_sizes (component_of i) (ms i) c (component_of k) c.manner) _ b in
         both_parts (λ f. P (formula_size f)) (held_first (stage i at) c c.manner k ++ first_of c.manner k (below_call c.number at)) (calls_first is
-            (stage i at))
+        (stage i at))
         (both_parts (λ f. P (formula_size f)) (held_first (stage i at) c c.manner k) (first_of c.manner k (below_call c.number at))
         (held_first_up i at f c k p t.0 c.manner site)
         (first_up k c.manner (below_call c.number at) t.1 l.1 z (from_caller c k) (left_part P (frame_sizes (from_caller c k) k) _ rest)))
@@ -512,9 +515,11 @@ module _ (P : Size → Type 0) (down : (a b : Size) → IsWithin a b → P b →
           has_so_far w (component_of i) ≡ is_some (component_of i).contract →
           Sizes P (so_far_next (stage i at) w) → AllSizes (sofar_sizes o (contract_sizes i).assumes)
       term None e w q b = tt
-      term (Some cs) e w q b =
-          (subst P (so_far_is P i at f.fits f.modes f.assumes) (subst (λ d. Sizes P (cond d (so_far_term P i at f.fits f.modes f.assumes ∷ []) []))
-              (q ∙ ap is_some e) b).0, tt)
+      term (Some cs) e w q b = (
+        subst P (so_far_is P i at f.fits f.modes f.assumes) (subst (λ d. Sizes P (cond d (so_far_term P i at f.fits f.modes f.assumes ∷ []) []))
+            (q ∙ ap is_some e) b).0,
+        tt,
+      )
 
       go : (w : Manner) (o : Option (List ContractStatement)) → (component_of i).contract ≡ o → SoFarWhereImport w i → Sizes P (so_far_next (stage i at) w) →
           AllSizes (sofar_sizes o (contract_sizes i).assumes)
@@ -609,7 +614,7 @@ module _ (P : Size → Type 0) (down : (a b : Size) → IsWithin a b → P b →
         let i : Instance = instance d cs is in
         let below : Place → ℕ = below_call c.number at in
         let own_here = left_part (λ f. P (formula_size f)) (here_of k (below_call c.number at) _ (from_call (stage i at) c k)) (calls_here js
-            (stage i at)) here in
+        (stage i at)) here in
         let own_next = left_part (λ f. P (formula_size f)) (held_next (stage i at) c c.manner k ++ next_of c.manner k (below_call c.number at))
         (calls_next js (stage i at)) next in
         let kept = import_there d cs is at f p c k js e t.0.number c.manner l.0.listed sofar in
@@ -626,5 +631,5 @@ module _ (P : Size → Type 0) (down : (a b : Size) → IsWithin a b → P b →
         (calls_back js d cs is at f (suc p) (calls_behind i p c k js e) t.2 l.2 u.1 sofar
         (right_part (λ f. P (formula_size f)) (here_of k (below_call c.number at) _ (from_call (stage i at) c k)) (calls_here js (stage i at)) here)
         (right_part (λ f. P (formula_size f)) (held_next (stage i at) c c.manner k ++ next_of c.manner k (below_call c.number at)) (calls_next js
-            (stage i at)) next)
+        (stage i at)) next)
         (right_part (λ f. P (formula_size f)) (asserts_in k (below_call c.number at)) (calls_asserts js (stage i at)) asserts)))

@@ -1,17 +1,15 @@
 -- An expression without faults of types weighs in its instance what the rules say, which is within their limit, and no
 -- divisor in it is 0.
 use Rattle.std.proofs.Common.{◌≡◌, ℕ, zero, suc, ◌≤◌, Bool, true, false, cond, ◌&&◌, [], Option, Some, None, option_map, refl, sym, ap, ◌∙◌, subst, arith, pos, negsuc}
-use Rattle.std.specs.Prelude.{Contains, is_some, find, nat_lt, max}
+use Rattle.std.specs.Prelude.{Contains, is_some, find, max}
 use Rattle.std.specs.Map.{lookup}
 use Rattle.std.specs.Str.{bytes_eq}
 use Rattle.std.proofs.Math.Logic.{inl, inr}
 use Rattle.std.proofs.lemmas.Bool.{false≢true}
-use Rattle.std.proofs.lemmas.Bool.Decides.{nat_tests}
 use Rattle.std.proofs.lemmas.Option.{none-some}
 use Rattle.lus_tree.specs.declared.expression.Operator.{Operator}
 use Rattle.lus_tree.specs.declared.expression.Operator.TheVariants.{Implies, Or, Xor, And, Less, AtMost, Equal, Differs, AtLeast, More, Add, Sub, Mul, Div, Mod}
-use Rattle.lus_tree.specs.declared.place.Sort.{Sort}
-use Rattle.lus_tree.specs.declared.place.Sort.TheVariants.{Bool as Flags, Int as Numbers}
+use Rattle.lus_tree.specs.declared.place.Sort.TheVariants.{Int as Numbers}
 use Rattle.lus_tree.specs.Tree.{Name, Place, Expression, Expressions, truth, number, name, negation, minus, pre, arrow, binary, choice, sampled, merged, call, condact, mode_name, no_more, more, Component, Program}
 use Rattle.lus_tree.specs.Reason.{zero_divisor, heavy}
 use Rattle.lus_meaning.specs.Value.{Value, absent, flag, whole, has_sort}
@@ -41,7 +39,8 @@ use Rattle.sys_meaning.specs.Translate.{number_of_value}
 use Rattle.sys_meaning.specs.WellTyped.{IsKnown, HasConstant, Stands}
 use Rattle.path_laws.proofs.Standing.{Known}
 use Rattle.term_laws.proofs.Scopes.{ShowsValues, value_in}
-use Rattle.term_laws.proofs.Weights.{value_size, name_size, operator_size, DivisorFits, value_here, weighs, IsWithin, Light, LightAmong}
+use Rattle.term_laws.proofs.Small.{within as less_or_same}
+use Rattle.term_laws.proofs.Weights.{no_number, value_size, name_size, operator_size, DivisorFits, value_here, weighs, IsWithin, Light, LightAmong}
 
 -- ---- constants of a scope
 
@@ -67,9 +66,6 @@ values_agree p c h place sc o s x v k e =
 
 -- ---- small facts
 
-no_less : (l n : ℕ) → nat_lt l n ≡ false → n ≤ l
-no_less l n e = grind (arith, nat_tests)
-
 sized : (v : Value) → has_sort Numbers v ≡ true → size_of v ≡ Some (value_size v)
 sized (whole (pos n)) h = refl
 sized (whole (negsuc n)) h = refl
@@ -88,13 +84,6 @@ data NameIs (sc : Scope) (i : Instance) (x : Name) : Type 0 where
   a_constant : (v : Value) → lookup (bytes_eq x) (constants_of i) ≡ Some v → has_sort (sort_of_name i x) v ≡ true →
       is_constant_name sc x ≡ true → value_of_entry sc x ≡ v → NameIs sc i x
   a_stream : lookup (bytes_eq x) (constants_of i) ≡ None → is_constant_name sc x ≡ false → NameIs sc i x
-
-abbrev is_numbers : Sort → Bool
-is_numbers Numbers = true
-is_numbers Flags = false
-
-not_number : {B : Type 0} → Flags ≡ Numbers → B
-not_number e = absurd (false≢true (ap is_numbers e))
 
 module _ (sc : Scope) (i : Instance) (shown : Shown sc i) (values : ValuesAgree sc i) where
   abbrev n : Component
@@ -229,10 +218,10 @@ module _ (sc : Scope) (i : Instance) (shown : Shown sc i) (values : ValuesAgree 
       go false c (inr k) = two_weigh _ _ _ _ _ (number_worth t b w h k z).1 x
 
   pub weight_is : (t : Standing) (e : Expression) → Typed t e → Placed t e → sort_of i e ≡ Numbers → weight_of sc e ≡ Some (weighs i e)
-  weight_is t (truth p b) g h s = not_number s
+  weight_is t (truth p b) g h s = absurd (no_number s)
   weight_is t (number p k) g h s = refl
   weight_is t (name p x) g h s = name_weighs x s (name_at t p x g)
-  weight_is t (negation p a) g h s = not_number s
+  weight_is t (negation p a) g h s = absurd (no_number s)
   weight_is t (minus p a) g h s = weight_is (within t) a g.1 h.1 h.0
   weight_is t (pre p k a) g h s = refl
   weight_is t (arrow p k a b) g h s =
@@ -245,16 +234,16 @@ module _ (sc : Scope) (i : Instance) (shown : Shown sc i) (values : ValuesAgree 
       product_weighs (within t) a b refl g.1 g.2 h.0 (h.1 ∙ h.0) h.2 (weight_is (within t) a g.1 h.3 h.0) (weight_is (within t) b g.2 h.4 (h.1 ∙ h.0))
   weight_is t (binary p Div a b) g h s = ap (option_map (max 1)) (weight_is (within t) a g.1 h.3 h.0)
   weight_is t (binary p Mod a b) g h s = (number_worth (within t) b refl g.2 h.2 (h.1 ∙ h.0)).1
-  weight_is t (binary p Implies a b) g h s = not_number s
-  weight_is t (binary p Or a b) g h s = not_number s
-  weight_is t (binary p Xor a b) g h s = not_number s
-  weight_is t (binary p And a b) g h s = not_number s
-  weight_is t (binary p Less a b) g h s = not_number s
-  weight_is t (binary p AtMost a b) g h s = not_number s
-  weight_is t (binary p AtLeast a b) g h s = not_number s
-  weight_is t (binary p More a b) g h s = not_number s
-  weight_is t (binary p Equal a b) g h s = not_number s
-  weight_is t (binary p Differs a b) g h s = not_number s
+  weight_is t (binary p Implies a b) g h s = absurd (no_number s)
+  weight_is t (binary p Or a b) g h s = absurd (no_number s)
+  weight_is t (binary p Xor a b) g h s = absurd (no_number s)
+  weight_is t (binary p And a b) g h s = absurd (no_number s)
+  weight_is t (binary p Less a b) g h s = absurd (no_number s)
+  weight_is t (binary p AtMost a b) g h s = absurd (no_number s)
+  weight_is t (binary p AtLeast a b) g h s = absurd (no_number s)
+  weight_is t (binary p More a b) g h s = absurd (no_number s)
+  weight_is t (binary p Equal a b) g h s = absurd (no_number s)
+  weight_is t (binary p Differs a b) g h s = absurd (no_number s)
   weight_is t (choice p a b d) g h s =
       two_weigh _ _ _ _ _ (weight_is (within t) b g.2 h.3 s) (weight_is (within t) d g.3 h.4 (h.1 ∙ s))
   weight_is t (sampled p a b x) g h s = weight_is (moved (clock_of n x.text) t) a g.1 h.2 s
@@ -263,7 +252,7 @@ module _ (sc : Scope) (i : Instance) (shown : Shown sc i) (values : ValuesAgree 
       (weight_is (moved (sampled_by false x.text) t) b g.2 h.4 (h.2 ∙ s))
   weight_is t (call p k f as_) g h s = refl
   weight_is t (condact p k a f as_ ds) g h s = refl
-  weight_is t (mode_name p d m) g h s = not_number s
+  weight_is t (mode_name p d m) g h s = absurd (no_number s)
 
   -- ---- parts that are light
 
@@ -273,7 +262,7 @@ module _ (sc : Scope) (i : Instance) (shown : Shown sc i) (values : ValuesAgree 
       let f : weight_faults sc e ≡ [] = (no_parts (form_faults sc t.whole_side e) (weight_faults sc e) g.types).1 in
       let h : (is_integer (type_of sc e) && is_heavy (weight_of sc e)) ≡ false =
       not_so (is_integer (type_of sc e) && is_heavy (weight_of sc e)) heavy (begin e) f in
-      no_less greatest_weight (weighs i e) (subst (λ o. is_heavy o ≡ false) (w s)
+      less_or_same greatest_weight (weighs i e) (subst (λ o. is_heavy o ≡ false) (w s)
       (subst (λ o. (is_integer o && is_heavy (weight_of sc e)) ≡ false) (ty ∙ ap (λ q. Some q) s) h))
 
   divisor : (t : Standing) (b : Expression) → t.whole_side ≡ false → Typed t b → defaults.is_constant (constants_of i) b ≡ true → sort_of i b ≡ Numbers →

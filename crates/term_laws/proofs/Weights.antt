@@ -1,5 +1,5 @@
 -- What an expression weighs in an instance, and the size of a constant's value, which is no more.
-use Rattle.std.proofs.Common.{◌≡◌, ℕ, zero, suc, ◌≤◌, ◌+◌, ◌*◌, ◌/◌, ◌%◌, Bool, true, false, ◌&&◌, Option, Some, None, refl, sym, subst, arith, ℤ, pos, negsuc}
+use Rattle.std.proofs.Common.{ap, ◌≡◌, ℕ, zero, suc, ◌≤◌, ◌+◌, ◌*◌, ◌/◌, ◌%◌, Bool, true, false, ◌&&◌, Option, Some, None, refl, sym, subst, arith, ℤ, pos, negsuc}
 use Rattle.std.specs.Prelude.{max, unsigned_abs, is_some, ◌+ℤ◌, ◌-ℤ◌, ◌*ℤ◌}
 use Rattle.std.specs.Int.{int_div_euclid, int_rem_euclid}
 use Rattle.std.specs.Map.{lookup}
@@ -8,7 +8,8 @@ use Rattle.std.proofs.lemmas.Bool.{false≢true}
 use Rattle.std.proofs.lemmas.Int.{ints, unsigned_abs-mul}
 use Rattle.lus_tree.specs.declared.expression.Operator.{Operator}
 use Rattle.lus_tree.specs.declared.expression.Operator.TheVariants.{Implies, Or, Xor, And, Less, AtMost, Equal, Differs, AtLeast, More, Add, Sub, Mul, Div, Mod}
-use Rattle.lus_tree.specs.declared.place.Sort.TheVariants.{Int as Numbers}
+use Rattle.lus_tree.specs.declared.place.Sort.{Sort}
+use Rattle.lus_tree.specs.declared.place.Sort.TheVariants.{Bool as Flags, Int as Numbers}
 use Rattle.lus_tree.specs.Tree.{Name, Expression, Expressions, truth, number, name, negation, minus, pre, arrow, binary, choice, sampled, merged, call, condact, mode_name, no_more, more}
 use Rattle.lus_meaning.specs.Value.{Value, absent, flag, whole, minus_value, on_flags, on_numbers, on_order, equal_values, not_value, apply, choose}
 use Rattle.lus_meaning.specs.Frame.{empty_frame, entry}
@@ -41,6 +42,13 @@ operator_size Mul false v a w b = value_size w * a
 operator_size Div c v a w b = max 1 a
 operator_size Mod c v a w b = value_size w
 operator_size _ c v a w b = 0
+
+abbrev is_numbers : Sort → Bool
+is_numbers Numbers = true
+is_numbers Flags = false
+
+pub no_number : Flags ≡ Numbers → ⊥
+no_number e = false≢true (ap is_numbers e)
 
 -- ---- sizes of values
 
@@ -107,7 +115,7 @@ no_not absent = omega arith
 no_not (flag b) = omega arith
 no_not (whole n) = omega arith
 
-times_more : (k m n : ℕ) → m ≤ n → k * m ≤ k * n
+pub times_more : (k m n : ℕ) → m ≤ n → k * m ≤ k * n
 times_more zero m n h = omega arith
 times_more (suc k) m n h =
     let i = times_more k m n h in let e : suc k * m ≡ k * m + m = grind arith in let f : suc k * n ≡ k * n + n = grind arith in omega arith
