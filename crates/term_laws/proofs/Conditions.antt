@@ -33,9 +33,6 @@ use Rattle.term_laws.proofs.Lights.{IsLight, LightManner, OwnLight, SiteLight, L
 use Rattle.term_laws.proofs.Expressions.{FineModes, AreParts, name_fine, presence_fine, call_beat_fine, all_outputs, IsOutput, latest_fine, term_fine, right_fine, flag_formula}
 use Rattle.term_laws.proofs.Contracts.{one_within, calls_behind, site_there, instance_there, Has, numbered_call, GoodMode, GoodItems, at_place, contract_fine, stage_modes}
 
-abbrev limit : ℕ
-limit = greatest_weight
-
 module _ (V : Variables) where
   abbrev AllGood : List Formula → Type 0
   AllGood fs = AllByRecursion (Fine V greatest_weight) fs

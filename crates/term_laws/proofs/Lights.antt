@@ -102,9 +102,6 @@ module _ (i : Instance) where
   abbrev n : Component
   n = component_of i
 
-  abbrev LightThere : Occurrence → Type 0
-  LightThere o = IsLight i o.expression
-
   mutual
     light_parts : (t : Standing) (e : Expression) → IsLight i e → Each (λ o. IsLight i o.expression) (component_of i) t e
     light_parts t (truth p b) h = h

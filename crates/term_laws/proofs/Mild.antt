@@ -30,9 +30,6 @@ use Rattle.term_laws.proofs.Conditions.{here_fine, first_fine, next_fine, legal_
 
 -- ---- the variables of a system
 
-abbrev shapes_of : List Slot → List Shape
-shapes_of qs = map (λ p. shape_of p.sort) qs
-
 -- of this type, in this state or the next; and in this state alone
 abbrev Either : List Shape → Variables
 Either ss z n b = slice_get ss n ≡ Some (shape_of z)

@@ -200,9 +200,6 @@ module _ (sc : Scope) (i : Instance) (shown : Shown sc i) (values : ValuesAgree 
   two_weigh : (f : ℕ → ℕ → ℕ) (a b : Option ℕ) (x y : ℕ) → a ≡ Some x → b ≡ Some y → both_weights f a b ≡ Some (f x y)
   two_weigh f a b x y e h = rw (e, h) refl
 
-  numbers_of : (a b : Expression) → sort_of i a ≡ Numbers → sort_of i b ≡ sort_of i a → sort_of i b ≡ Numbers
-  numbers_of a b e h = h ∙ e
-
   product_weighs : (t : Standing) (a b : Expression) → t.whole_side ≡ false → Typed t a → Typed t b → sort_of i a ≡ Numbers → sort_of i b ≡ Numbers →
       HasConstant i (IsKnown i) Mul a b → weight_of sc a ≡ Some (weighs i a) → weight_of sc b ≡ Some (weighs i b) →
       scopes.operator_weight Mul (is_constant sc a) (worth_of sc a) (worth_of sc b)
