@@ -1,0 +1,17 @@
+pub mod Formulas
+pub mod Small
+pub mod Fine
+pub mod Scopes
+pub mod Weights
+pub mod Weighed
+pub mod Expressions
+pub mod Lights
+pub mod Contracts
+pub mod Conditions
+pub mod Mild
+pub mod Sized
+pub mod ContractSizes
+pub mod FrameSizes
+pub mod ImportSizes
+pub mod TreeSizes
+pub mod Counted
