@@ -1,6 +1,7 @@
 pub mod Trail
 pub mod Store
 pub mod Shown
+pub mod Looking
 pub mod Held
 pub mod Set
 pub mod Accepted

@@ -1,6 +1,7 @@
 ghost use Rattle.std.specs.Prelude.{◌≡◌, ◌⊎◌, ◌++◌, ◌∷◌, ◌<◌, ◌≤◌, ◌^◌, [], OnOk, OnErr, IfOk, IsTrue, true, map, length, take, List, ℕ};
 ghost use Rattle.proof_steps.specs.View.{clause_view, step_view};
 ghost use Rattle.sat_core.specs.Shown.{Begins, IsAsBefore, Adds, Learns, Finds, IsWatchedPair, IsTold, learnt_count};
+ghost use Rattle.sat_core.specs.Looking.{LooksAtHints};
 ghost use Rattle.sat_core.specs.Trail.{value_of};
 ghost use Rattle.cnf_maker.specs.View.{form_view};
 ghost use Rattle.proof_steps.specs.declared.Literal.{Literal as SignedLiteral};
@@ -241,6 +242,7 @@ impl Search {
     pub fn learn(&mut self, alloc: Global) -> Result<(), SearchFault>
         requires { self.old.in_conflict ≡ true }
         ensures ok { OnOk result (Learns self.old self.new) }
+        ensures looks { OnOk result (LooksAtHints self.old self.new) }
         ensures err { OnErr result (IsAsBefore self.old self.new) }
     {
         if self.clauses.len() >= MOST {
