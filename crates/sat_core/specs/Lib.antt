@@ -15,4 +15,6 @@ pub mod Reduction
 pub mod Placing
 pub mod Watching
 pub mod Visiting
+pub mod Charged
+pub mod Waiting
 pub mod Answer
