@@ -280,6 +280,7 @@ impl Search {
         }
         self.waiting.reserve(1)?;
         let number = self.clauses.len() as u32 + 1;
+        let looks = &mut self.looks;
         let entries = self.assignment.entries();
         let Analysis {
             clause,
@@ -290,7 +291,7 @@ impl Search {
         } = analysed(
             alloc,
             &self.clauses,
-            &mut self.looks,
+            looks,
             entries,
             &mut self.marked,
             self.conflict,
