@@ -1,5 +1,5 @@
 -- Where the clauses that watch a literal have a true one.
-use Rattle.std.specs.Prelude.{ℕ, zero, suc, ◌≡◌, ◌≢◌, ◌⊎◌, ◌+◌, ◌<◌, ◌≤◌, List, [], ◌∷◌, ◌++◌, length, Option, Some, None, All, Contains, drop, take, get_or, slice_get, refl}
+use Rattle.std.specs.Prelude.{ℕ, suc, ◌≡◌, ◌≢◌, ◌⊎◌, ◌+◌, ◌<◌, ◌≤◌, List, [], ◌∷◌, ◌++◌, length, Option, Some, None, All, Contains, drop, get_or, slice_get, refl}
 use Rattle.std.proofs.Common.{sym, ◌∙◌, ap, subst, arith, inl, inr}
 use Rattle.std.proofs.lemmas.List.{length-append}
 use Rattle.std.proofs.lemmas.Bool.{cases_lt}
@@ -11,10 +11,11 @@ use Rattle.sat_core.specs.declared.assigned.Assigned.{Assigned}
 use Rattle.sat_core.specs.declared.short.Short.{Short}
 use Rattle.sat_core.specs.Trail.{trues, falses, IsApart, IsSettled}
 use Rattle.sat_core.specs.Watching.{Watching, list_at, IsWatch, IsOther, IsShort, IsPair, IsWatching, IsGuard, IsGuarded, IsWatched, IsVisiting, IsDropped, IsMoved, HasTrue}
-use Rattle.sat_core.specs.Watching.{CanWatch, IsEntered, IsHead}
+use Rattle.sat_core.specs.Watching.{CanWatch, IsEntered}
+use Rattle.sat_core.specs.Charged.{IsClear, IsKept}
 use Rattle.sat_core.specs.Shown.{AreTrueBeside}
-use Rattle.sat_core.specs.Analysis.{IsOneOf, IsLast, IsUnseen, IsDecisionAt, IsResumed, NoneDecided}
-use Rattle.sat_core.proofs.Places.{some_is, within, get-contains, contains-get, get-push, get-append, get-take, take-within, read, from_map, to_map}
+use Rattle.sat_core.specs.Analysis.{IsOneOf}
+use Rattle.sat_core.proofs.Places.{some_is, within, get-contains, contains-get, get-push, get-append, read, from_map, to_map}
 use Rattle.proof_checker.proofs.Sets.{has-contains, has-not}
 use Rattle.proof_checker.proofs.Sound.{either}
 use Rattle.sat_core.proofs.Sets.{one-or-other}
@@ -296,6 +297,41 @@ module _ (known : List (List Literal)) (trail : List Assigned) (w : Watching) (h
         early l i a h s t (inl q) = nf (subst (Contains (falses trail)) (t ∙ sym q) (to_map (λ (y : Assigned). opposite y.literal) trail i a s))
         early l i a h s t (inr q) = other-guards e other f i a other-first h s (t ∙ sym q) f-false
 
+        -- nor did one of the two that were watched
+        early-old : (l : Literal) (i : ℕ) (a : Assigned) → i < head → slice_get trail i ≡ Some a → opposite a.literal ≡ l
+            → (l ≡ f) ⊎ (l ≡ other) → ⊥
+        early-old l i a h s t (inl q) =
+            let r : a.literal ≡ v.is_next.0.literal = sym (opposite-opposite a.literal) ∙ ap opposite (t ∙ q ∙ sym v.is_next.2)
+            ∙ opposite-opposite v.is_next.0.literal in
+            let z : i ≡ head = entry_once trail apart i head a v.is_next.0 s v.is_next.1 r in absurd (omega arith)
+        early-old l i a h s t (inr q) = other-guards e other f i a other-first h s (t ∙ q) f-false
+
+        one-of-two : (l : Literal) → (o.0.0 ≡ l) ⊎ (o.0.1 ≡ l) → (l ≡ f) ⊎ (l ≡ other)
+        one-of-two l x = elim o.2 as (λ _. (l ≡ f) ⊎ (l ≡ other)) [
+          | inl y ↦ elim x as (λ _. (l ≡ f) ⊎ (l ≡ other)) [ inl z ↦ inl (sym z ∙ y.0) | inr z ↦ inr (sym z ∙ y.1) ]
+          | inr y ↦ elim x as (λ _. (l ≡ f) ⊎ (l ≡ other)) [ inl z ↦ inr (sym z ∙ y.1) | inr z ↦ inl (sym z ∙ y.0) ]
+        ]
+
+        clear-old : IsClear trail head (at w.pairs e)
+        clear-old p q l x i a h s t =
+            let k : p ≡ o.0 = some_is p o.0 (some_is (Some p) (Some o.0) (sym q ∙ o.1)) in
+            early-old l i a h s t (one-of-two l (subst (λ (z : Literal × Literal). (z.0 ≡ l) ⊎ (z.1 ≡ l)) k x))
+
+        clear-new : IsClear trail head (at w'.pairs e)
+        clear-new p q l x i a h s t =
+            let k : p ≡ (found, other) = some_is p (found, other) (some_is (Some p) (Some (found, other)) (sym q ∙ m.here)) in
+            early l i a h s t (subst (λ (z : Literal × Literal). (z.0 ≡ l) ⊎ (z.1 ≡ l)) k x)
+
+        pub kept_moved : IsKept trail head w w'
+        kept_moved n = elim (eq_or n e) as (λ _. (at w'.pairs n ≡ at w.pairs n)
+            ⊎ (IsClear trail head (at w.pairs n) × IsClear trail head (at w'.pairs n))) [
+              | inl z ↦ inr (
+                subst (λ y. IsClear trail head (at w.pairs y)) (sym z) clear-old,
+                subst (λ y. IsClear trail head (at w'.pairs y)) (sym z) clear-new,
+              )
+              | inr ne ↦ inl (m.pairs n ne)
+            ]
+
         pub visit_moved : IsVisiting known trail w' head f j
         visit_moved = record {
           watched = record {
@@ -363,31 +399,6 @@ all_beside known trail w head e k = λ n p q. (
   other_true known trail w (subst (IsWatched known trail w) e k) n p.1 p.0 (p, q, inr (refl, refl)),
 )
 
--- a trail that is cut
-module _ (known : List (List Literal)) (trail : List Assigned) (w : Watching) (head n head' : ℕ)
-    (k : IsWatched known trail w head) (less : head' ≤ head) (fits : head' ≤ length (take n trail))
-    (late : (i : ℕ) (a : Assigned) → head' < i → i < n → slice_get trail i ≡ Some a → a.reason ≢ 0)
-    (edge : (i j : ℕ) (b : Assigned) → i < head' → n ≤ j → slice_get trail j ≡ Some b
-    → (d : ℕ) × (x : Assigned) × (i < d) × (d ≤ j) × (slice_get trail d ≡ Some x) × (x.reason ≡ 0)) where
-  pub watched_cut : IsWatched known (take n trail) w head'
-  watched_cut = record {
-    watching = k.watching;
-    within = fits;
-    late = λ i a h s. let r = take-within trail n i a s in late i a h r.0 r.1;
-    guarded = λ m l c x. λ i a h s o. let r = take-within trail n i a s in
-        let g = k.guarded m l c x i a (omega arith) r.1 o in
-        elim (cases_lt g.place n) as (λ _. IsGuard (take n trail) c i) [
-          | inl y ↦ record {
-            place = g.place;
-            entry = g.entry;
-            is_there = get-take trail n g.place y ∙ g.is_there;
-            is_other = g.is_other;
-            undecided = λ q b u z t. let p = take-within trail n q b t in g.undecided q b u z p.1;
-          }
-          | inr y ↦ absurd (let d = edge i g.place g.entry h y g.is_there in g.undecided d.0 d.1 d.2 d.3 d.4 d.5)
-        ];
-  }
-
 -- a clause more
 pub watched_more : (known : List (List Literal)) (trail : List Assigned) (w w' : Watching) (head : ℕ) (clause : List Literal)
     (watched : Option (Literal × Literal)) → CanWatch clause watched → IsEntered w w' clause watched
@@ -403,31 +414,6 @@ watched_more known trail w w' head clause watched c s unseen k = record {
   ];
 }
 
--- the place to go on from after a cut
-module _ (known : List (List Literal)) (trail trail' entries : List Assigned) (w : Watching) (head n : ℕ) (e : trail' ≡ take n trail)
-    (f : entries ≡ trail') (k : IsWatched known trail w head) where
-  cut-last : (d : ℕ) → IsLast entries (Some d) → IsLast (take n trail) (Some d)
-  cut-last d l = subst (λ x. IsLast x (Some d)) (f ∙ e) l
-
-  pub watched_from : (d : ℕ) → IsLast entries (Some d) → IsWatched known trail' w d
-  watched_from d l = subst (λ x. IsWatched known x w d) (sym e)
-      (let q = cut-last d l in let p = take-within trail n d q.0 q.1 in
-      watched_cut known trail w head n d k
-      (elim (cases_lt head d) as (λ _. d ≤ head) [ inl x ↦ absurd (k.late d q.0 x p.1 q.2) | inr x ↦ x ])
-      (let z = within (take n trail) d q.0 q.1 in omega arith)
-      (λ i a h b s. q.3 i a h (get-take trail n i b ∙ s))
-      (λ i j b h m s. (d, q.0, h, (let z = p.0 in omega arith), p.1, q.2)))
-
-  pub watched_anew : IsLast entries None → IsWatched known trail' w 0
-  watched_anew l = subst (λ x. IsWatched known x w 0) (sym e)
-      (let q = subst (λ x. IsLast x None) (f ∙ e) l in
-      watched_cut known trail w head n 0 k (omega arith) (omega arith)
-      (λ i a h b s. q i a (get-take trail n i b ∙ s))
-      (λ i j b h m s. absurd (omega arith)))
-
-pub head_last : (trail' entries : List Assigned) (d : ℕ) → entries ≡ trail' → IsLast entries (Some d) → IsHead trail' d
-head_last trail' entries d f l = let q = subst (λ x. IsLast x (Some d)) f l in inr (q.0, q.1, q.2)
-
 pub watched_new : (known : List (List Literal)) (trail : List Assigned) (w : Watching) → trail ≡ [] → IsWatching known w → IsWatched known trail w 0
 watched_new known trail w e k = subst (λ t. IsWatched known t w 0) (sym e) record {
   watching = k;
@@ -435,44 +421,3 @@ watched_new known trail w e k = subst (λ t. IsWatched known t w 0) (sym e) reco
   late = λ i a h s. absurd cc;
   guarded = λ n l m x. λ i a h s o. absurd (omega arith);
 }
-
--- a trail that is cut before a decision, or stays, and is gone through again from just before a place on
-module _ (known : List (List Literal)) (trail trail' : List Assigned) (w : Watching) (head back low head' : ℕ) (e : trail' ≡ take back trail)
-    (less : back ≤ length trail) (d : (back ≡ length trail) ⊎ IsDecisionAt trail back) (none : NoneDecided trail low back)
-    (st : IsResumed low back head head') where
-  start-within : st.0 ≤ back
-  start-within = elim st.1 as (λ _. st.0 ≤ back)
-      [ inl p ↦ (let q = p.1 in omega arith) | inr p ↦ (let q = p.0 in let r = p.1 in omega arith) ]
-
-  start-late : (i : ℕ) (a : Assigned) → st.0 < i → i < back → slice_get trail i ≡ Some a → a.reason ≢ 0
-  start-late i a h b s = elim st.1 as (λ _. a.reason ≢ 0)
-      [ inl p ↦ absurd (let q = p.1 in omega arith) | inr p ↦ none i a (let r = p.1 in omega arith) b s ]
-
-  taken : (n : ℕ) (xs : List Assigned) → n ≤ length xs → length (take n xs) ≡ n
-  taken zero xs h = refl
-  taken (suc n) [] h = absurd (omega arith)
-  taken (suc n) (x ∷ xs) h = ap suc (taken n xs (omega arith))
-
-  pub watched_at : IsWatched known trail w head → IsWatched known trail' w head'
-  watched_at k =
-      let s = start-within in
-      let h1 : head' ≤ st.0 = st.2 in
-      let len : length (take back trail) ≡ back = taken back trail less in
-      subst (λ x. IsWatched known x w head') (sym e)
-      (watched_cut known trail w head back head' k st.3 (omega arith)
-      (λ i a h b g. elim st.4 as (λ _. a.reason ≢ 0)
-      [ inl q ↦ start-late i a (omega arith) b g | inr q ↦ k.late i a (omega arith) g ])
-      (λ i j b h m g. elim d as (λ _. (d : ℕ) × (x : Assigned) × (i < d) × (d ≤ j) × (slice_get trail d ≡ Some x) × (x.reason ≡ 0)) [
-        | inl z ↦ absurd (let f = within trail j b g in omega arith)
-        | inr z ↦ (back, z.0, (let y = h in omega arith), m, z.1, z.2)
-      ]))
-
-  pub unseen_at : (watched : Option (Literal × Literal)) → IsUnseen trail low watched
-      → (i : ℕ) (a : Assigned) → i < head' → slice_get trail' i ≡ Some a → (l : Literal) → IsOneOf watched l → opposite a.literal ≢ l
-  unseen_at watched u i a h s l o f =
-      let p = take-within trail back i a (subst (λ y. slice_get y i ≡ Some a) e s) in
-      let q = u i a p.1 l o f in let q0 = q.0 in let q1 = q.1 in let p0 = p.0 in let h1 : head' ≤ st.0 = st.2 in
-      elim st.1 as (λ _. ⊥) [
-        | inl x ↦ elim x.0 as (λ _. ⊥) [ inl z ↦ (omega arith) | inr z ↦ (omega arith) ]
-        | inr x ↦ (let y = x.1 in omega arith)
-      ]

@@ -1,5 +1,5 @@
 -- What a visit keeps.
-use Rattle.std.specs.Prelude.{ℕ, ◌≡◌, ◌≢◌, ◌+◌, ◌<◌, ◌≤◌, true, false, List, [], ◌∷◌, ◌++◌, length, Some, None, Contains, slice_get, refl}
+use Rattle.std.specs.Prelude.{ℕ, suc, ◌≡◌, ◌≢◌, ◌⊎◌, ◌+◌, ◌<◌, ◌≤◌, true, false, List, [], ◌∷◌, ◌++◌, length, Some, None, Contains, slice_get, refl}
 use Rattle.std.proofs.Common.{sym, ◌∙◌, ap, subst, arith, inl, inr}
 use Rattle.std.proofs.lemmas.List.{append-nil, append_assoc}
 use Rattle.std.proofs.lemmas.List.Elements.{All-contains, All-push, Contains-push}
@@ -14,13 +14,18 @@ use Rattle.sat_core.specs.Shown.{plain}
 use Rattle.sat_core.specs.Held.{Covers}
 use Rattle.sat_core.specs.Watching.{Watching, list_at, IsOther, IsWatched, IsVisiting, IsUnmoved, IsDropped, IsMoved}
 use Rattle.sat_core.specs.Visiting.{CanStand, IsReplacement, IsAdvance, IsVisit}
-use Rattle.sat_core.proofs.Places.{within, get-contains, at-contains, to_map}
-use Rattle.proof_checker.proofs.Sets.{has-contains, has-not}
+use Rattle.sat_core.specs.Charged.{is_due, due, IsKept}
+use Rattle.sat_core.proofs.Places.{some_is, within, get-contains, at-contains, to_map}
+use Rattle.proof_checker.proofs.Sets.{has-contains, contains-has, has-not}
+use Rattle.proof_checker.proofs.Sound.{either}
 use Rattle.sat_core.proofs.Sets.{one-or-other}
 use Rattle.sat_core.proofs.Growth.{grow}
+use Rattle.sat_core.proofs.Rows.{eq_or}
+use Rattle.sat_core.proofs.Consistent.{consistent}
+use Rattle.sat_core.proofs.Holders.{two-of, fewer_at, some_counted, due_yes, due_no_first, due_no_second, due_no_watch, due_less}
 use Rattle.sat_core.proofs.Fresh.{all_from}
 use Rattle.sat_core.proofs.Watched.{other-of, watching_same, at-within}
-use Rattle.sat_core.proofs.Guards.{visiting_push, guard_true, visit_kept, visit_moved, visit_dropped}
+use Rattle.sat_core.proofs.Guards.{visiting_push, guard_true, visit_kept, visit_moved, kept_moved, visit_dropped}
 
 pub advance_none : (known : List (List Literal)) (trail : List Assigned) → IsTrail known trail → IsAdvance known trail trail
 advance_none known trail t = record { is_trail = t; within = λ variables c w. w; grows = ([], sym (append-nil trail)) }
@@ -109,6 +114,66 @@ module _ (known : List (List Literal)) (trail : List Assigned) (t : IsTrail know
       visit_moved known trail w head f t.apart j v e here w' other found m c k r.0 r.1.0 (has-not (falses trail) found r.1.1) o,
       (let q = within (list_at w f) j e here in let z = m.from.fewer in omega arith),
     )
+
+    pub kept : (c : List Literal) (found : Literal) (w' : Watching) → at known e ≡ Some c → IsReplacement trail c other (Some found)
+        → IsMoved w w' f j e other found → IsKept trail head w w'
+    kept c found w' k r m = kept_moved known trail w head f t.apart j v e here w' other found m c k r.0 r.1.0
+        (has-not (falses trail) found r.1.1) o
+
+    f-false : Contains (falses trail) f
+    f-false = subst (Contains (falses trail)) v.is_next.2
+        (to_map (λ (x : Assigned). opposite x.literal) trail head v.is_next.0 v.is_next.1)
+
+    -- the entry's clause is due until its other literal is true or it watches another one
+    module _ (nt : has (trues trail) other ≡ false) where
+      not-true : (l : Literal) → (l ≡ f) ⊎ (l ≡ other) → has (trues trail) l ≡ false
+      not-true l (inl q) = either (has (trues trail) l)
+          (λ y. absurd (consistent trail t.apart f (subst (Contains (trues trail)) q (has-contains (trues trail) l y)) f-false)) (λ n. n)
+      not-true l (inr q) = ap (has (trues trail)) q ∙ nt
+
+      pub pair_due : is_due trail f (Some o.0) ≡ true
+      pair_due = elim o.2 as (λ _. is_due trail f (Some o.0) ≡ true) [
+        | inl x ↦ due_yes trail f o.0 (not-true o.0.0 (inl x.0)) (not-true o.0.1 (inr x.1))
+            (contains-has (o.0.0 ∷ o.0.1 ∷ []) f (0, omega arith, x.0))
+        | inr x ↦ due_yes trail f o.0 (not-true o.0.0 (inr x.1)) (not-true o.0.1 (inl x.0))
+            (contains-has (o.0.0 ∷ o.0.1 ∷ []) f (1, omega arith, x.0))
+      ]
+
+      pub due_some : 0 < due trail w f
+      due_some = some_counted (is_due trail f) w.pairs e (Some o.0) o.1 pair_due
+
+      pub due_moved : (c : List Literal) (found : Literal) (w' : Watching) → at known e ≡ Some c → IsReplacement trail c other (Some found)
+          → IsMoved w w' f j e other found → suc (due trail w' f) ≤ due trail w f
+      due_moved c found w' k r m = fewer_at (is_due trail f) (is_due trail f) w.pairs w'.pairs m.count
+          (λ n x y s q h. elim (eq_or n e) as (λ _. is_due trail f x ≡ true) [
+            | inl z ↦ absurd (let g : is_due trail f y ≡ false = subst (λ u. is_due trail f u ≡ false)
+                (some_is (Some (found, other)) y (sym m.here ∙ ap (at w'.pairs) (sym z) ∙ q)) unwatched in
+                let b : true ≡ false = sym h ∙ g in cc)
+            | inr ne ↦ subst (λ u. is_due trail f u ≡ true) (some_is y x (sym q ∙ m.pairs n ne ∙ s)) h
+          ]) e (Some o.0) (Some (found, other)) o.1 m.here pair_due unwatched where
+            other-not : other ≢ f
+            other-not q = let i = v.watched.watching.pairs e c o.0 k o.1 in
+                elim o.2 [ inl x ↦ i.apart (x.0 ∙ sym q ∙ sym x.1) | inr x ↦ i.apart (x.1 ∙ q ∙ sym x.0) ]
+
+            unwatched : is_due trail f (Some (found, other)) ≡ false
+            unwatched = due_no_watch trail f (found, other) (either (has (found ∷ other ∷ []) f)
+                (λ y. absurd (elim (two-of found other f (has-contains (found ∷ other ∷ []) f y))
+                [ inl q ↦ found_apart c found k r q | inr q ↦ other-not q ]))
+                (λ n. n))
+
+      pub due_pushed : suc (due (trail ++ record { literal = other; reason = e } ∷ []) w f) ≤ due trail w f
+      due_pushed =
+          let trail' = trail ++ record { literal = other; reason = e } ∷ [] in
+          let yes : has (trues trail') other ≡ true = contains-has (trues trail') other
+          (subst (λ x. Contains x other) (sym (map-append (λ (x : Assigned). x.literal) trail (record { literal = other; reason = e } ∷ [])))
+          (Contains-push (trues trail) other)) in
+          fewer_at (is_due trail f) (is_due trail' f) w.pairs w.pairs refl
+          (λ n x y s q h. due_less trail (record { literal = other; reason = e } ∷ []) f x
+          (subst (λ u. is_due trail' f u ≡ true) (some_is y x (sym q ∙ s)) h)) e (Some o.0) (Some o.0) o.1 o.1 pair_due
+          (elim o.2 as (λ _. is_due trail' f (Some o.0) ≡ false) [
+            | inl x ↦ due_no_second trail' f o.0 (ap (has (trues trail')) x.1 ∙ yes)
+            | inr x ↦ due_no_first trail' f o.0 (ap (has (trues trail')) x.1 ∙ yes)
+          ])
 
     pub failed : (c : List Literal) → at known e ≡ Some c → IsReplacement trail c other None → has (falses trail) other ≡ true
         → IsVisit known trail w w head f j (Failed e)

@@ -1,5 +1,5 @@
 -- What propagation came to.
-use Rattle.std.specs.Prelude.{ℕ, ◌≡◌, ◌<◌, Bool, true, false, List, None, length}
+use Rattle.std.specs.Prelude.{◌≡◌, ◌<◌, Bool, true, false, List, None, length}
 use Rattle.proof_steps.specs.declared.Literal.{Literal}
 use Rattle.proof_steps.specs.View.{Move}
 use Rattle.sat_core.specs.declared.assigned.Assigned.{Assigned}
@@ -24,5 +24,5 @@ abbrev pub IsAnswered : Bool → List (List Literal) → List (List Literal) →
 IsAnswered ended known known' log log' variables trail Full = AreKept known known' log log' × IsStill known variables trail None
 IsAnswered ended known known' log log' variables trail (Conflict n) =
     AreKept known known' log log' × IsFalseAt known trail n × HasDecision trail
-IsAnswered ended known known' log log' variables trail Empty =
-    IsEnded ended known known' log log' × IsLast trail None × ((n : ℕ) × IsFalseAt known trail n)
+IsAnswered ended known known' log log' variables trail (Empty n) =
+    IsEnded ended known known' log log' × IsLast trail None × IsFalseAt known trail n

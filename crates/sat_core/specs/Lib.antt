@@ -1,6 +1,7 @@
 pub mod Trail
 pub mod Store
 pub mod Shown
+pub mod Looking
 pub mod Held
 pub mod Set
 pub mod Accepted
@@ -14,4 +15,6 @@ pub mod Reduction
 pub mod Placing
 pub mod Watching
 pub mod Visiting
+pub mod Charged
+pub mod Waiting
 pub mod Answer

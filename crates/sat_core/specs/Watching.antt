@@ -174,7 +174,3 @@ IsEntered old new clause watched = (only : Option Literal) × IsOnly clause only
 abbrev pub CanWatch : List Literal → Option (Literal × Literal) → Type 0
 CanWatch clause None = IsShort clause
 CanWatch clause (Some p) = IsPair clause p
-
--- the lists are gone through from the last decision on, or from the first entry
-abbrev pub IsHead : List Assigned → ℕ → Type 0
-IsHead trail head = (head ≡ 0) ⊎ ((a : Assigned) × (slice_get trail head ≡ Some a) × (a.reason ≡ 0))

@@ -1,13 +1,16 @@
 //! What propagation came to.
 
-ghost use Rattle.std.specs.Prelude.{◌≡◌, ◌<◌, OnErr, IfOk, OnOk, All, map, length};
+ghost use Rattle.std.specs.Prelude.{◌≡◌, ◌+◌, ◌<◌, ◌≤◌, OnErr, IfOk, OnOk, All, map, length};
 ghost use Rattle.proof_steps.specs.View.{step_view};
 ghost use Rattle.sat_core.specs.Trail.{IsTrail};
 ghost use Rattle.sat_core.specs.Held.{Covers, IsWithin, IsPlain};
 ghost use Rattle.sat_core.specs.Shown.{AreTrueBeside, Grows};
 ghost use Rattle.sat_core.specs.Analysis.{IsLast};
 ghost use Rattle.sat_core.specs.Propagation.{IsFalseAt};
-ghost use Rattle.sat_core.specs.Watching.{IsWatched};
+ghost use Rattle.sat_core.specs.Watching.{IsWatched, IsWatching};
+ghost use Rattle.sat_core.specs.Looking.{weight};
+ghost use Rattle.sat_core.specs.Charged.{IsKept};
+ghost use Rattle.sat_core.specs.Waiting.{IsReady};
 ghost use Rattle.sat_core.specs.Answer.{IsEnded, IsAnswered};
 ghost use Rattle.sat_core.specs.declared.answer.Answer.TheVariants.{Full};
 
@@ -26,12 +29,12 @@ use std::alloc::{AllocError, Global};
 pub const MOST: usize = 4294967295;
 
 /// What propagation came to: all variables have values, or the numbered clause is false after a
-/// decision, or a clause is false with none.
+/// decision, or it is false with none.
 #[derive(Clone, Copy)]
 pub enum Answer {
     Full,
     Conflict(u32),
-    Empty,
+    Empty(u32),
 }
 
 /// Derives the empty clause from a false one, unless it is known.
@@ -54,6 +57,7 @@ fn end(
     ensures clauses { OnErr result (clauses.new ≡ clauses.old) }
     ensures log { OnErr result (log.new.items ≡ log.old.items) }
     ensures watched { IsWatched clauses.new trail.now watches.new head }
+    ensures pairs { OnErr result (watches.new.pairs ≡ watches.old.pairs) }
 {
     if ended {
         return Ok(());
@@ -76,13 +80,15 @@ pub fn answered(
     assignment: &mut Assignment,
     head: &mut usize,
     order: &mut Order,
+    waiting: &[Assigned],
+    stuck: Option<u32>,
     ended: bool,
 ) -> Result<Answer, AllocError>
     requires is_trail { IsTrail clauses.old assignment.old }
     requires covers { All (Covers variables.now) clauses.old }
     requires within { IsWithin variables.now assignment.old }
     requires plains { All IsPlain variables.now }
-    requires watched { IsWatched clauses.old assignment.old watches.old head.old }
+    requires ready { IsReady clauses.old assignment.old watches.old head.old waiting.now stuck }
     ensures answer { IfOk result (λ a. IsAnswered ended clauses.old
         clauses.new (map step_view log.old.items) (map step_view log.new.items) variables.now
         assignment.new a) }
@@ -92,10 +98,15 @@ pub fn answered(
     ensures is_trail { IsTrail clauses.old assignment.new }
     ensures within { IsWithin variables.now assignment.new }
     ensures grows { Grows assignment.old assignment.new }
-    ensures watched { IsWatched clauses.new assignment.new watches.new head.new }
+    ensures watched { IfOk result (λ a. IsWatched clauses.new assignment.new watches.new head.new) }
+    ensures gone { IfOk result (λ a. a ≡ Full → head.new ≡ length assignment.new) }
+    ensures watching { OnErr result (IsWatching clauses.new watches.new) }
+    ensures kept { OnErr result (IsKept assignment.old (length assignment.old) watches.old watches.new) }
+    ensures looks { IfOk result (λ a. (looks.new + weight clauses.old assignment.old
+        ≤ looks.old + weight clauses.old assignment.new) × (looks.old ≤ looks.new)) }
 {
     let Some(number) = run(
-        alloc, clauses, looks, variables, watches, assignment, head, order,
+        alloc, clauses, looks, variables, watches, assignment, head, order, waiting, stuck,
     )?
     else {
         return Ok(Answer::Full);
@@ -105,7 +116,7 @@ pub fn answered(
         Some(_) => Ok(Answer::Conflict(number)),
         None => {
             end(alloc, clauses, watches, log, trail, number, *head, ended)?;
-            Ok(Answer::Empty)
+            Ok(Answer::Empty(number))
         }
     }
 }

@@ -16,11 +16,13 @@ use proof_steps::Literal;
 use std::alloc::AllocError;
 
 /// The two literals that an added clause watches, and the place after the one of them that became
-/// false first: up to there the clause has two open literals.
+/// false first: up to there the clause has two open literals. It waits where all its other literals
+/// became false before that place.
 #[derive(Clone, Copy)]
 pub struct Placing {
     pub watched: Option<(Literal, Literal)>,
     pub low: usize,
+    pub waits: bool,
 }
 
 /// The first literal of a clause that is not false.
@@ -56,29 +58,38 @@ fn beside_open(trail: &[Assigned], marked: &LiteralSet, free: Literal) -> Placin
     requires marked { Contains marked.now free }
     requires is_free { has (falses trail.now) free ≡ false }
     requires others { All (λ m. CanStand trail.now m free false) marked.now }
-    ensures { IsPlaced trail.now marked.now result.watched result.low }
+    ensures { IsPlaced trail.now marked.now result.watched result.low result.waits }
 {
     let low = lowest(trail, marked, trail.len());
     let watched = paired(free, below(trail, low));
-    Placing { watched, low }
+    Placing {
+        watched,
+        low,
+        waits: true,
+    }
 }
 
 /// Where all marked literals are false: the two that became so last.
 fn latest_two(trail: &[Assigned], marked: &LiteralSet) -> Placing
     requires apart { IsApart trail.now }
     requires all { All (λ l. has (falses trail.now) l ≡ true) marked.now }
-    ensures { IsPlaced trail.now marked.now result.watched result.low }
+    ensures { IsPlaced trail.now marked.now result.watched result.low result.waits }
 {
     let last = lowest(trail, marked, trail.len());
     match below(trail, last) {
         None => Placing {
             watched: None,
             low: 0,
+            waits: true,
         },
         Some(latest) => {
             let low = lowest(trail, marked, last - 1);
             let watched = paired(latest, below(trail, low));
-            Placing { watched, low }
+            Placing {
+                watched,
+                low,
+                waits: true,
+            }
         }
     }
 }
@@ -89,7 +100,7 @@ pub fn placed(
     clause: &[Literal],
     marked: &mut LiteralSet,
 ) -> Result<Placing, AllocError>
-    ensures { IfOk result (λ p. IsPlaced assignment.now clause.now p.watched p.low) }
+    ensures { IfOk result (λ p. IsPlaced assignment.now clause.now p.watched p.low p.waits) }
 {
     marked.clear();
     marked.add_all(clause)?;
@@ -101,6 +112,7 @@ pub fn placed(
             Some(second) => Ok(Placing {
                 watched: Some((first, second)),
                 low: trail.len(),
+                waits: false,
             }),
         },
     }

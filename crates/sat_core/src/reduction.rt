@@ -5,6 +5,7 @@ ghost use Rattle.std.specs.Prelude.{◌≡◌, ◌+◌, ◌<◌, ◌≤◌, ℕ,
 ghost use Rattle.proof_steps.specs.declared.Literal.{Literal as SignedLiteral};
 ghost use Rattle.sat_core.specs.Trail.{IsTrail};
 ghost use Rattle.sat_core.specs.Reduction.{IsMarkedBut, AreMarkedBut, IsSpareAt, IsReduced};
+ghost use Rattle.sat_core.specs.Looking.{IsLookedFor, IsPinned};
 
 use crate::analysis::{is_marked, opposite};
 use crate::assigned::Assigned;
@@ -43,7 +44,8 @@ fn is_spare(
 ) -> bool
     requires is_trail { IsTrail clauses.now trail.now }
     requires within { at < length trail.now }
-    ensures { IsTrue result → IsSpareAt clauses.now trail.now marked.now at }
+    ensures spare { IsTrue result → IsSpareAt clauses.now trail.now marked.now at }
+    ensures looked { IsLookedFor result looks.old looks.new }
 {
     let entry = trail[at];
     if entry.reason == 0 {
@@ -67,11 +69,13 @@ fn pass(
 ) -> Result<usize, AllocError>
     requires is_trail { IsTrail clauses.now trail.now }
     requires within { at < length trail.now }
-    ensures { IfOk result (λ new. (n : ℕ) (last : SignedLiteral) → at < n
+    ensures reduced { IfOk result (λ new. (n : ℕ) (last : SignedLiteral) → at < n
         → IsReduced clauses.now trail.now marked.now n last literals.old.items low (at + 1)
         (reverse hints.old.items)
         → IsReduced clauses.now trail.now marked.now n last literals.new.items new at
         (reverse hints.new.items)) }
+    ensures looks { IfOk result (λ new. IsPinned looks.old looks.new (length hints.old.items) (length hints.new.items)
+        (length literals.old.items) (length literals.new.items)) }
 {
     let entry = trail[at];
     if !is_marked(marked, entry) {
@@ -102,11 +106,13 @@ pub fn reduce(
 ) -> Result<usize, AllocError>
     requires is_trail { IsTrail clauses.now trail.now }
     requires within { from ≤ length trail.now }
-    ensures { IfOk result (λ low. (last : SignedLiteral)
+    ensures reduced { IfOk result (λ low. (last : SignedLiteral)
         → IsReduced clauses.now trail.now marked.now from last literals.old.items 0 from
         (reverse hints.old.items)
         → IsReduced clauses.now trail.now marked.now from last literals.new.items low 0
         (reverse hints.new.items)) }
+    ensures looks { IfOk result (λ low. IsPinned looks.old looks.new (length hints.old.items) (length hints.new.items)
+        (length literals.old.items) (length literals.new.items)) }
 {
     let mut low = 0;
     let mut i = from;

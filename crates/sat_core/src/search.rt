@@ -1,13 +1,15 @@
-ghost use Rattle.std.specs.Prelude.{◌≡◌, ◌⊎◌, ◌++◌, ◌∷◌, ◌<◌, ◌≤◌, ◌^◌, [], OnOk, OnErr, IfOk, IsTrue, true, map, length, take, List, ℕ};
+ghost use Rattle.std.specs.Prelude.{◌≡◌, ◌⊎◌, ◌++◌, ◌∷◌, ◌<◌, ◌≤◌, ◌^◌, [], OnOk, OnErr, IfOk, IsTrue, true, false, map, length, take, option_to_list, vec_len, vec_capacity, List, ℕ};
 ghost use Rattle.proof_steps.specs.View.{clause_view, step_view};
 ghost use Rattle.sat_core.specs.Shown.{Begins, IsAsBefore, Adds, Learns, Finds, IsWatchedPair, IsTold, learnt_count};
+ghost use Rattle.sat_core.specs.Looking.{LooksAtHints, LooksAtHolders};
 ghost use Rattle.sat_core.specs.Trail.{value_of};
 ghost use Rattle.cnf_maker.specs.View.{form_view};
 ghost use Rattle.proof_steps.specs.declared.Literal.{Literal as SignedLiteral};
-ghost use Rattle.sat_core.specs.Watching.{Watching, IsWatched, IsHead};
-ghost use Rattle.sat_core.specs.Analysis.{IsDecisionAt, IsStart, IsResumed};
+ghost use Rattle.sat_core.specs.Watching.{Watching};
+ghost use Rattle.sat_core.specs.Waiting.{IsReady, waiting_entry};
+ghost use Rattle.sat_core.specs.Analysis.{IsDecisionAt};
 
-use crate::analysis::{Analysis, analysed, last_decision, next_decision};
+use crate::analysis::{Analysis, analysed, next_decision};
 use crate::answer::{Answer, MOST, answered};
 use crate::assigned::Assigned;
 use crate::assignment::Assignment;
@@ -34,6 +36,8 @@ pub struct Search {
     assignment: Assignment,
     watches: Watches,
     head: usize,
+    waiting: Vec<Assigned>,
+    stuck: Option<u32>,
     order: Order,
     marked: LiteralSet,
     in_conflict: bool,
@@ -46,7 +50,7 @@ impl Model for Search {
     ghost use Rattle.proof_steps.specs.View.{clause_view, step_view};
     ghost use Rattle.sat_core.specs.Shown.{Shown};
     ghost use Rattle.sat_core.specs.Held.{IsHeld};
-    ghost use Rattle.sat_core.specs.Watching.{IsWatched};
+    ghost use Rattle.sat_core.specs.Waiting.{IsReady};
 
     ghost Value = { Shown };
 
@@ -63,47 +67,54 @@ impl Model for Search {
     ghost invariant = { λ s.
         IsHeld s.clauses (map step_view s.log.items) s.variables.items s.assignment
         s.in_conflict s.conflict s.ended
-        × IsWatched s.clauses s.assignment s.watches s.head };
+        × IsReady s.clauses s.assignment s.watches s.head s.waiting.items s.stuck };
 }
 
-/// Leaves the first entries alone, and lets the lists be gone through again from the last decision on.
-fn cut_back(assignment: &mut Assignment, head: &mut usize, order: &mut Order, length: usize)
-    ensures cut { assignment.new ≡ take length assignment.old }
-    ensures head { IsHead assignment.new head.new }
-    ensures watched { (known : List (List SignedLiteral)) (w : Watching) → IsWatched known assignment.old w head.old
-        → IsWatched known assignment.new w head.new }
+/// Leaves the entries before a decision alone, or all. After a cut all lists were gone through, nothing
+/// waits, and no clause is known to be false.
+fn cut_to(
+    assignment: &mut Assignment,
+    head: &mut usize,
+    order: &mut Order,
+    waiting: &mut Vec<Assigned>,
+    stuck: &mut Option<u32>,
+    back: usize,
+)
+    requires within { back ≤ length assignment.old }
+    requires decided { (back ≡ length assignment.old) ⊎ IsDecisionAt assignment.old back }
+    ensures cut { assignment.new ≡ take back assignment.old }
+    ensures length { vec_len waiting.new ≤ vec_len waiting.old }
+    ensures capacity { vec_capacity waiting.new ≡ vec_capacity waiting.old }
+    ensures ready { (known : List (List SignedLiteral)) (w : Watching)
+        → IsReady known assignment.old w head.old waiting.old.items stuck.old
+        → IsReady known assignment.new w head.new waiting.new.items stuck.new }
 {
-    order.undo_from(assignment.entries(), length);
-    assignment.cut(length);
-    let entries = assignment.entries();
-    *head = match last_decision(entries) {
-        Some(place) => place,
-        None => 0,
-    };
-}
-
-/// Where the lists are gone through again: just before a place, or where the trail ends now.
-fn start(low: usize, back: usize) -> usize
-    ensures { IsStart low back result }
-{
-    if low == 0 || back < low {
-        back
-    } else {
-        low - 1
+    if back < assignment.entries().len() {
+        order.undo_from(assignment.entries(), back);
+        assignment.cut(back);
+        waiting.clear();
+        *head = back;
+        *stuck = None;
     }
 }
 
-/// Leaves the entries before a decision alone, and lets the lists be gone through again from the
-/// one just before a place on.
-fn cut_to(assignment: &mut Assignment, head: &mut usize, order: &mut Order, back: usize, low: usize)
-    ensures cut { assignment.new ≡ take back assignment.old }
-    ensures resumed { IsResumed low back head.old head.new }
+/// Lets a clause of two watched literals wait for the first of them, if it is to.
+fn wait_for(
+    waiting: &mut Vec<Assigned>,
+    watched: Option<(Literal, Literal)>,
+    waits: bool,
+    number: u32,
+)
+    requires room { vec_len waiting.old < vec_capacity waiting.old }
+    ensures { waiting.new.items ≡ waiting.old.items ++ option_to_list (waiting_entry watched waits number) }
 {
-    order.undo_from(assignment.entries(), back);
-    assignment.cut(back);
-    let start = start(low, back);
-    if start < *head {
-        *head = start;
+    if let Some((literal, _)) = watched {
+        if waits {
+            waiting.push_reserved(Assigned {
+                literal,
+                reason: number,
+            });
+        }
     }
 }
 
@@ -119,6 +130,14 @@ fn back_or_anew(trail: &[Assigned], back: usize, anew: bool) -> usize
     } else {
         back
     }
+}
+
+/// Whether all that became false before a place stays.
+fn stays(low: usize, back: usize) -> bool
+    ensures yes { result ≡ true → low ≤ back }
+    ensures no { result ≡ false → back < low }
+{
+    low <= back
 }
 
 impl Search {
@@ -146,6 +165,7 @@ impl Search {
         let looks = Looks::new();
         let log = Vec::new(alloc);
         let assignment = Assignment::new(alloc);
+        let waiting = Vec::new(alloc);
         let marked = LiteralSet::new(alloc);
         Ok(Search {
             clauses,
@@ -155,6 +175,8 @@ impl Search {
             assignment,
             watches,
             head: 0,
+            waiting,
+            stuck: None,
             order,
             marked,
             in_conflict: false,
@@ -214,7 +236,13 @@ impl Search {
             return Err(SearchFault::Memory(AllocError));
         }
         let literals = clause.literals.as_slice();
-        let Placing { watched, low } = placed(&self.assignment, literals, &mut self.marked)?;
+        let Placing {
+            watched,
+            low,
+            waits,
+        } = placed(&self.assignment, literals, &mut self.marked)?;
+        self.waiting.reserve(1)?;
+        let number = self.clauses.len() as u32 + 1;
         admit(
             alloc,
             &mut self.clauses,
@@ -230,22 +258,29 @@ impl Search {
             &mut self.assignment,
             &mut self.head,
             &mut self.order,
+            &mut self.waiting,
+            &mut self.stuck,
             back,
-            low,
         );
+        wait_for(&mut self.waiting, watched, waits, number);
         self.in_conflict = false;
         Ok(())
     }
 
-    /// Adds the clause of the last conflict's cause to what is known.
+    /// Adds the clause of the last conflict's cause to what is known. Looks at each clause that its hints
+    /// name, and at fewer others than it has literals.
     pub fn learn(&mut self, alloc: Global) -> Result<(), SearchFault>
         requires { self.old.in_conflict ≡ true }
         ensures ok { OnOk result (Learns self.old self.new) }
+        ensures looks { OnOk result (LooksAtHints self.old self.new) }
         ensures err { OnErr result (IsAsBefore self.old self.new) }
     {
         if self.clauses.len() >= MOST {
             return Err(SearchFault::Memory(AllocError));
         }
+        self.waiting.reserve(1)?;
+        let number = self.clauses.len() as u32 + 1;
+        let looks = &mut self.looks;
         let entries = self.assignment.entries();
         let Analysis {
             clause,
@@ -256,7 +291,7 @@ impl Search {
         } = analysed(
             alloc,
             &self.clauses,
-            &mut self.looks,
+            looks,
             entries,
             &mut self.marked,
             self.conflict,
@@ -276,19 +311,25 @@ impl Search {
             &mut self.assignment,
             &mut self.head,
             &mut self.order,
+            &mut self.waiting,
+            &mut self.stuck,
             back,
-            low,
         );
+        let waits = stays(low, back);
+        wait_for(&mut self.waiting, watched, waits, number);
         self.in_conflict = false;
         Ok(())
     }
 
-    /// Goes on with what is assigned until every variable has a value, or a clause is false.
+    /// Goes on with what is assigned until every variable has a value, or a clause is false. For each
+    /// literal that becomes false looks at no more clauses than hold it.
     pub fn decide_or_conflict(&mut self, alloc: Global) -> Result<Found, SearchFault>
         ensures ok { IfOk result (λ f. Finds self.old self.new f) }
+        ensures looks { IfOk result (λ f. LooksAtHolders self.old self.new) }
         ensures err { OnErr result (IsAsBefore self.old self.new) }
     {
         let before = self.assignment.entries().len();
+        let mut head = self.head;
         match answered(
             alloc,
             &mut self.clauses,
@@ -297,29 +338,36 @@ impl Search {
             &mut self.watches,
             &mut self.log,
             &mut self.assignment,
-            &mut self.head,
+            &mut head,
             &mut self.order,
+            &self.waiting,
+            self.stuck,
             self.ended,
         ) {
             Err(fault) => {
-                cut_back(
-                    &mut self.assignment,
-                    &mut self.head,
-                    &mut self.order,
-                    before,
-                );
+                self.order.undo_from(self.assignment.entries(), before);
+                self.assignment.cut(before);
                 Err(SearchFault::Memory(fault))
             }
             Ok(Answer::Full) => {
+                self.head = head;
+                self.waiting.clear();
+                self.stuck = None;
                 self.in_conflict = false;
                 Ok(Found::Full)
             }
             Ok(Answer::Conflict(number)) => {
+                self.head = head;
+                self.waiting.clear();
+                self.stuck = Some(number);
                 self.conflict = number;
                 self.in_conflict = true;
                 Ok(Found::Conflict)
             }
-            Ok(Answer::Empty) => {
+            Ok(Answer::Empty(number)) => {
+                self.head = head;
+                self.waiting.clear();
+                self.stuck = Some(number);
                 self.ended = true;
                 self.in_conflict = false;
                 Ok(Found::Empty)

@@ -1,9 +1,11 @@
 //! Propagation by the clauses that watch a literal.
 
-ghost use Rattle.std.specs.Prelude.{◌≡◌, ◌+◌, ◌<◌, OnErr, IfOk, All, map, length, slice_get, Some};
+ghost use Rattle.std.specs.Prelude.{◌≡◌, ◌+◌, ◌<◌, ◌≤◌, OnErr, IfOk, All, map, length, slice_get, Some};
 ghost use Rattle.sat_core.specs.Trail.{IsTrail};
 ghost use Rattle.sat_core.specs.Held.{Covers, IsWithin};
 ghost use Rattle.sat_core.specs.Watching.{list_at, IsOther, IsVisiting, IsWatched};
+ghost use Rattle.sat_core.specs.Looking.{holders, spent, weight};
+ghost use Rattle.sat_core.specs.Charged.{due, IsCharged, IsKept};
 ghost use Rattle.sat_core.specs.Visiting.{CanStand, IsReplacement, IsAdvance, IsVisit, IsVisitedAll, IsGoneThrough};
 
 use crate::analysis::opposite;
@@ -64,6 +66,9 @@ fn look(
     ensures watched { OnErr result (IsWatched clauses.now assignment.new watches.new head) }
     ensures advance { IsAdvance clauses.now assignment.old assignment.new }
     ensures shorts { watches.new.shorts ≡ watches.old.shorts }
+    ensures kept { IsKept assignment.old head watches.old watches.new }
+    ensures looks { IfOk result (λ v. IsCharged (due assignment.old watches.old literal)
+        (due assignment.new watches.new literal) looks.old looks.new v) }
 {
     if assignment.is_true(other) {
         return Ok(Visit::Next(next));
@@ -109,6 +114,9 @@ fn visit_entry(
     ensures watched { OnErr result (IsWatched clauses.now assignment.new watches.new head) }
     ensures advance { IsAdvance clauses.now assignment.old assignment.new }
     ensures shorts { watches.new.shorts ≡ watches.old.shorts }
+    ensures kept { IsKept assignment.old head watches.old watches.new }
+    ensures looks { IfOk result (λ v. IsCharged (due assignment.old watches.old literal)
+        (due assignment.new watches.new literal) looks.old looks.new v) }
 {
     let number = watches.entry(literal, at);
     match watches.other(number, literal) {
@@ -138,6 +146,8 @@ fn visit_all(
     ensures watched { OnErr result (IsWatched clauses.now assignment.new watches.new head) }
     ensures advance { IsAdvance clauses.now assignment.old assignment.new }
     ensures shorts { watches.new.shorts ≡ watches.old.shorts }
+    ensures kept { IsKept assignment.old head watches.old watches.new }
+    ensures looks { IfOk result (λ r. (looks.new ≤ looks.old + holders clauses.now literal) × (looks.old ≤ looks.new)) }
 {
     let mut at = 0;
     while at < watches.count(literal) {
@@ -178,6 +188,9 @@ pub fn propagate(
     ensures watched { IsWatched clauses.now assignment.new watches.new head.new }
     ensures advance { IsAdvance clauses.now assignment.old assignment.new }
     ensures shorts { watches.new.shorts ≡ watches.old.shorts }
+    ensures kept { IsKept assignment.old head.old watches.old watches.new }
+    ensures looks { IfOk result (λ r. (looks.new + spent clauses.now assignment.old head.old
+        ≤ looks.old + weight clauses.now assignment.new) × (looks.old ≤ looks.new)) }
 {
     while *head < assignment.entries().len() {
         let literal = opposite(assignment.entries()[*head].literal);

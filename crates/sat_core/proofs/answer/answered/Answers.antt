@@ -1,7 +1,8 @@
-use Rattle.std.specs.Prelude.{refl}
+use Rattle.std.specs.Prelude.{length, refl}
 use Rattle.std.proofs.Common.{sym, subst}
 use Rattle.sat_core.specs.Propagation.{IsFalseAt}
 use Rattle.sat_core.proofs.Deciding.{has_decision, still_none, still_some}
+use Rattle.sat_core.proofs.Kept.{kept_more, kept_pairs, on_err_so}
 use Rattle.sat_core.proofs.answer.answered.Goals as goal
 
 pub returns-in_default-clause-answer : goal.returns-in_default-clause-answer
@@ -26,3 +27,11 @@ returns-in-Some-last_decision-clause-answer c = (
 
 pub returns-in_default-clause-beside : goal.returns-in_default-clause-beside
 returns-in_default-clause-beside c = λ e. c.in_ok-number.ensures.beside c.in_default.is
+
+pub returns-in_default-clause-gone : goal.returns-in_default-clause-gone
+returns-in_default-clause-gone c = λ e. c.in_ok-number.ensures.gone c.in_default.is
+
+pub returns-in_err-end-in-None-clause-kept : goal.returns-in_err-end-in-None-clause-kept
+returns-in_err-end-in-None-clause-kept c = on_err_so c.from_residual-in_err-end-in-None.result
+    (kept_more c.args.assignment.now (length c.args.assignment.now) c.args.watches.now c.run.new.watches c.end.new.watches c.run.ensures.kept
+    (kept_pairs c.args.assignment.now (length c.args.assignment.now) c.run.new.watches c.end.new.watches c.in_err-end-in-None.ensures.pairs))

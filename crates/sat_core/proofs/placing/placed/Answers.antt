@@ -1,4 +1,4 @@
-use Rattle.std.specs.Prelude.{Some, length}
+use Rattle.std.specs.Prelude.{Some, length, false}
 use Rattle.std.proofs.Common.{sym, ap, subst}
 use Rattle.sat_core.specs.Trail.{IsApart}
 use Rattle.sat_core.specs.Placing.{IsPlaced}
@@ -15,6 +15,6 @@ pub returns-in-Some-replacement : goal.returns-in-Some-replacement
 returns-in-Some-replacement c =
     let f = c.in-Some.ensures in
     let s = c.in-Some-replacement.ensures in
-    subst (IsPlaced c.args.assignment.now c.args.clause.now (Some (c.in-Some.first, c.in-Some-replacement.second)))
+    subst (λ x. IsPlaced c.args.assignment.now c.args.clause.now (Some (c.in-Some.first, c.in-Some-replacement.second)) x false)
     (sym (ap length c.entries-trail.ensures.entries))
     (two_open c.args.assignment.now c.entries-trail.ensures.apart c.args.clause.now c.in-Some.first c.in-Some-replacement.second f.0 f.1 s.0 s.1)

@@ -5,6 +5,8 @@ use Rattle.sat_core.specs.Visiting.{IsGoneThrough, IsImpliedShort}
 use Rattle.sat_core.proofs.Bounded.{falls, grown}
 use Rattle.sat_core.proofs.Shorts.{hold_more, all_done, grows_more}
 use Rattle.sat_core.proofs.Guards.{all_beside}
+use Rattle.sat_core.proofs.Holders.{spent_grown, spent_all}
+use Rattle.sat_core.proofs.Kept.{kept_on}
 use Rattle.sat_core.proofs.propagation.go_on.Goals as goal
 
 pub returns-in-None-clause-still : goal.returns-in-None-clause-still
@@ -37,6 +39,20 @@ loop-number-preserved c = let k = c.args.clauses.now in (
       (hold_more k c.loop-number.assignment c.decide.new.assignment c.loop-number.watches.shorts
       (grows_more c.loop-number.assignment c.propagate.new.assignment c.decide.new.assignment c.propagate.ensures.advance.grows c.decide.ensures.grows)
       c.loop-number.invariant.4),
+  (
+      let h = c.loop-number.invariant.5 in let b = c.loop-number.invariant.3.within in
+      let l = grown _ _ c.propagate.ensures.advance.grows in
+      let e : c.propagate.new.head ≡ length c.propagate.new.assignment =
+      subst (IsGoneThrough k c.propagate.new.assignment c.propagate.new.head) c.in_default.is c.in_ok-number.ensures.gone in omega arith),
+  kept_on c.args.assignment.now c.loop-number.assignment c.args.head.now c.loop-number.head c.args.watches.now c.loop-number.watches
+      c.propagate.new.watches c.loop-number.invariant.2 c.loop-number.invariant.5 c.loop-number.invariant.6 c.propagate.ensures.kept,
+  (
+      let a = c.loop-number.invariant.7 in let b = c.in_ok-number.ensures.looks.0 in
+      let e : c.propagate.new.head ≡ length c.propagate.new.assignment =
+      subst (IsGoneThrough k c.propagate.new.assignment c.propagate.new.head) c.in_default.is c.in_ok-number.ensures.gone in
+      let x = spent_grown k c.propagate.new.assignment c.decide.new.assignment c.propagate.new.head c.decide.ensures.grows (omega arith) in
+      let y = spent_all k c.propagate.new.assignment c.propagate.new.head e in omega arith),
+  (let a = c.loop-number.invariant.8 in let b = c.in_ok-number.ensures.looks.1 in omega arith),
 )
 
 pub loop-number-smaller : goal.loop-number-smaller
@@ -50,3 +66,37 @@ returns-in-None-clause-beside c = λ e.
     all_beside c.args.clauses.now c.propagate.new.assignment c.propagate.new.watches c.propagate.new.head
     (subst (IsGoneThrough c.args.clauses.now c.propagate.new.assignment c.propagate.new.head) c.in_default.is c.in_ok-number.ensures.gone)
     c.propagate.ensures.watched
+
+pub returns-in_err-number-clause-kept : goal.returns-in_err-number-clause-kept
+returns-in_err-number-clause-kept c =
+    kept_on c.args.assignment.now c.loop-number.assignment c.args.head.now c.loop-number.head c.args.watches.now c.loop-number.watches
+    c.propagate.new.watches c.loop-number.invariant.2 c.loop-number.invariant.5 c.loop-number.invariant.6 c.propagate.ensures.kept
+
+pub returns-in-Some-clause-kept : goal.returns-in-Some-clause-kept
+returns-in-Some-clause-kept c =
+    kept_on c.args.assignment.now c.loop-number.assignment c.args.head.now c.loop-number.head c.args.watches.now c.loop-number.watches
+    c.propagate.new.watches c.loop-number.invariant.2 c.loop-number.invariant.5 c.loop-number.invariant.6 c.propagate.ensures.kept
+
+pub returns-in-None-clause-kept : goal.returns-in-None-clause-kept
+returns-in-None-clause-kept c =
+    kept_on c.args.assignment.now c.loop-number.assignment c.args.head.now c.loop-number.head c.args.watches.now c.loop-number.watches
+    c.propagate.new.watches c.loop-number.invariant.2 c.loop-number.invariant.5 c.loop-number.invariant.6 c.propagate.ensures.kept
+
+pub returns-in-Some-clause-looks : goal.returns-in-Some-clause-looks
+returns-in-Some-clause-looks c =
+    let a = c.loop-number.invariant.7 in let b = c.in_ok-number.ensures.looks in let d = b.0 in let e = b.1 in
+    let f = c.loop-number.invariant.8 in (omega arith, omega arith)
+
+pub returns-in-None-clause-looks : goal.returns-in-None-clause-looks
+returns-in-None-clause-looks c =
+    let a = c.loop-number.invariant.7 in let b = c.in_ok-number.ensures.looks in let d = b.0 in let e = b.1 in
+    let f = c.loop-number.invariant.8 in (omega arith, omega arith)
+
+pub returns-in-None-clause-gone : goal.returns-in-None-clause-gone
+returns-in-None-clause-gone c = λ e.
+    subst (IsGoneThrough c.args.clauses.now c.propagate.new.assignment c.propagate.new.head) c.in_default.is c.in_ok-number.ensures.gone
+
+pub returns-in_err-decide-in-Some-next_open-clause-kept : goal.returns-in_err-decide-in-Some-next_open-clause-kept
+returns-in_err-decide-in-Some-next_open-clause-kept c =
+    kept_on c.args.assignment.now c.loop-number.assignment c.args.head.now c.loop-number.head c.args.watches.now c.loop-number.watches
+    c.propagate.new.watches c.loop-number.invariant.2 c.loop-number.invariant.5 c.loop-number.invariant.6 c.propagate.ensures.kept

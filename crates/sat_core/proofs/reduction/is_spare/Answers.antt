@@ -15,7 +15,7 @@ look-reason-requires-clause-within c =
     (read c.args.trail.now c.args.at blank c.requires.within) c.if-entry-eq0.false in
     omega (arith, r)
 
-pub returns : goal.returns
-returns c = λ t. spare c.args.clauses.now c.args.trail.now c.args.marked.now c.args.at _ _ _
+pub returns-clause-spare : goal.returns-clause-spare
+returns-clause-spare c = λ t. spare c.args.clauses.now c.args.trail.now c.args.marked.now c.args.at _ _ _
     (read c.args.trail.now c.args.at blank c.requires.within) c.if-entry-eq0.false c.look-reason.ensures.clause c.as_slice.ensures
     (c.all_marked.ensures t)

@@ -1,5 +1,7 @@
-use Rattle.std.specs.Prelude.{◌≡◌, ◌-◌, length}
+use Rattle.std.specs.Prelude.{◌≡◌, ◌+◌, ◌-◌, ◌≤◌, length}
 use Rattle.sat_core.specs.Watching.{IsWatched}
+use Rattle.sat_core.specs.Looking.{spent}
+use Rattle.sat_core.specs.Charged.{IsKept}
 use Rattle.sat_core.specs.Visiting.{IsAdvance}
 use Rattle.sat_core.proofs.visiting.propagate.Given as goal
 
@@ -8,6 +10,10 @@ invariant-loop-head l =
     IsWatched l.clauses l.assignment l.watches l.head
     × IsAdvance l.clauses l.fn.assignment l.assignment
     × (l.watches.shorts ≡ l.fn.watches.shorts)
+    × (l.fn.head ≤ l.head)
+    × IsKept l.fn.assignment l.fn.head l.fn.watches l.watches
+    × (l.looks + spent l.clauses l.fn.assignment l.fn.head ≤ l.fn.looks + spent l.clauses l.assignment l.head)
+    × (l.fn.looks ≤ l.looks)
 
 abbrev pub decreases-loop-head : goal.decreases-loop-head
 decreases-loop-head l = length l.variables - l.head

@@ -1,5 +1,6 @@
-use Rattle.std.specs.Prelude.{◌≡◌, ◌-◌, length}
+use Rattle.std.specs.Prelude.{◌≡◌, ◌+◌, ◌-◌, ◌≤◌, length}
 use Rattle.sat_core.specs.Watching.{list_at, IsVisiting}
+use Rattle.sat_core.specs.Charged.{due, IsKept}
 use Rattle.sat_core.specs.Visiting.{IsAdvance}
 use Rattle.sat_core.proofs.visiting.visit_all.Given as goal
 
@@ -8,6 +9,9 @@ invariant-loop-at l =
     IsVisiting l.clauses l.assignment l.watches l.head l.literal l.at
     × IsAdvance l.clauses l.fn.assignment l.assignment
     × (l.watches.shorts ≡ l.fn.watches.shorts)
+    × IsKept l.fn.assignment l.head l.fn.watches l.watches
+    × (l.looks + due l.assignment l.watches l.literal ≤ l.fn.looks + due l.fn.assignment l.fn.watches l.literal)
+    × (l.fn.looks ≤ l.looks)
 
 abbrev pub decreases-loop-at : goal.decreases-loop-at
 decreases-loop-at l = length (list_at l.watches l.literal) - l.at

@@ -1,11 +1,13 @@
-use Rattle.std.specs.Prelude.{◌<◌, ◌^◌, ◌++◌, length, map}
-use Rattle.std.proofs.Common.{ap, arith, ◌∙◌}
+use Rattle.std.specs.Prelude.{None, ◌<◌, ◌^◌, ◌++◌, length, map}
+use Rattle.std.proofs.Common.{sym, subst, ap, arith, ◌∙◌}
 use Rattle.std.proofs.lemmas.List.{length-map}
 use Rattle.proof_steps.specs.View.{clause_view, step_view, atom_view}
 use Rattle.sat_core.specs.Shown.{with_clauses, flags_from, atoms_from}
 use Rattle.cnf_maker.specs.View.{form_view}
 use Rattle.sat_core.proofs.Guards.{watched_new}
 use Rattle.sat_core.proofs.Widening.{held_first}
+use Rattle.sat_core.specs.Waiting.{IsReady}
+use Rattle.sat_core.proofs.Waits.{ready_new}
 use Rattle.sat_core.proofs.search.Search.new.Goals as goal
 
 pub invariant_of-result : goal.invariant_of-result
@@ -25,6 +27,8 @@ invariant_of-result c =
           ∙ ap (λ x. x ++ atoms_from 1 (map atom_view c.args.cnf.now.atoms.items)) (c.in_ok-variables.ensures ∙ ap (flags_from 0) c.deref.ensures.value)))
           c.new-assignment.ensures
           few,
-      watched_new c.admit_all.new.clauses c.new-assignment.result c.admit_all.new.watches c.new-assignment.ensures
-          c.in_ok-admit_all.ensures.watching,
+      subst (λ x. IsReady c.admit_all.new.clauses c.new-assignment.result c.admit_all.new.watches 0 x None) (sym c.new-waiting.ensures.items)
+          (ready_new c.admit_all.new.clauses c.new-assignment.result c.admit_all.new.watches c.new-assignment.ensures
+          (watched_new c.admit_all.new.clauses c.new-assignment.result c.admit_all.new.watches c.new-assignment.ensures
+          c.in_ok-admit_all.ensures.watching)),
     )
