@@ -1,40 +1,85 @@
 //! Plays of the engines, and what their books say.
 
-ghost use Rattle.board_core.specs.Plans.{IsPlan, IsWithin};
+ghost use Rattle.std.specs.Prelude.{IsTrue, IfSome};
+ghost use Rattle.sys_terms.specs.View.{system_view};
+ghost use Rattle.board_core.specs.Plans.{IsPlan};
+ghost use Rattle.engine_cases.specs.Playable.{IsPlayable};
 
+use crate::rows::{Case, Order};
 use crate::sleeper::Sleeper;
+use crate::systems::{name_of, system_of};
 use anyhow::Result;
 use board_core::{Book, Cause, Plan, Statement, Verdict, play};
-use kind_engine::{BoundedEngine, StepEngine, has_flags_alone};
-use proof_steps::Budgets;
-use smt_solver::is_boolean_system;
+use kind_engine::{BoundedEngine, StepEngine};
+use proof_steps::{Budgets, Stop};
 use std::alloc::Global;
 use sys_terms::System;
 
-fn plan(depth: u32) -> Plan
-    requires { IsWithin 1 1000 depth }
-    ensures { IsPlan result }
+/// The plan of the case, where its numbers are within the ranges.
+fn plan(case: Case) -> Option<Plan>
+    ensures { IfSome result IsPlan }
 {
-    Plan {
+    let depth = case.depth;
+    let splits = case.splits;
+    if depth == 0 || depth > 1_000 || splits == 0 || splits > 1_000_000_000 {
+        return None;
+    }
+    Some(Plan {
         depth,
         frames: 30,
         blocked: 5_000,
         budgets: Budgets {
             conflicts: 100_000,
-            splits: 2_000,
+            splits,
             pivots: 200_000,
         },
-    }
+    })
+}
+
+/// Whether the engines can work on the system.
+fn is_playable(system: &System) -> bool
+    ensures { IsTrue result → IsPlayable (system_view system.now) }
+{
+    system.is_mild() && system.shapes.len() < 100
+}
+
+fn stop_text(alloc: Global, stop: &Stop, name: &str) -> Result<String> {
+    Ok(match stop {
+        Stop::Conflicts(clauses, _) => {
+            let count = clauses.len();
+            format!(in alloc; ", {name} stopped after conflicts: {count}")?
+        }
+        Stop::Splits(pairs) => {
+            let count = pairs.len();
+            format!(in alloc; ", {name} stopped after splits: {count}")?
+        }
+        Stop::Pivots(start, _) => {
+            let count = start.pivots;
+            format!(in alloc; ", {name} stopped after pivots: {count}")?
+        }
+        Stop::Past(_, _) => format!(in alloc; ", {name} came past 128 bits")?,
+    })
 }
 
 /// Why the engine leaves the first property undecided; nothing where it doesn't.
 fn cause_text(alloc: Global, book: &Book, engine: u32, name: &str) -> Result<String> {
-    Ok(match book.spent(engine, 0) {
-        Some(Cause::Depth(depth)) => format!(in alloc; ", {name} went to depth {depth}")?,
-        Some(Cause::Stop(_)) => format!(in alloc; ", a query of {name} stopped")?,
-        Some(_) => format!(in alloc; ", {name}: ANOTHER CAUSE")?,
-        None => String::new(alloc),
-    })
+    match book.spent(engine, 0) {
+        Some(Cause::Depth(depth)) => Ok(format!(in alloc; ", {name} went to depth {depth}")?),
+        Some(Cause::Stop(stop)) => stop_text(alloc, stop, name),
+        Some(
+            Cause::Wide {
+                number,
+                instant,
+                value,
+                ..
+            },
+        ) => {
+            let wide = format!(in alloc; "number {number} is {value} at instant {instant}")?;
+            Ok(format!(in alloc; ", {name} is left with numbers that are too large: {wide}")?)
+        }
+        Some(_) => Ok(format!(in alloc; ", {name}: ANOTHER CAUSE")?),
+        None => Ok(String::new(alloc)),
+    }
 }
 
 /// By how many states the first step goes.
@@ -72,49 +117,99 @@ fn verdict_text(alloc: Global, book: &Book) -> Result<String> {
 }
 
 /// Who plays, one beside an engine that does nothing.
-#[derive(Clone, Copy, Debug)]
+#[derive(Clone, Copy)]
 pub enum Cast {
     Bounded,
     Step,
     Both,
 }
 
-fn cast_text(alloc: Global, cast: Cast) -> Result<String> {
-    Ok(match cast {
-        Cast::Bounded => format!(in alloc; "bounded search")?,
-        Cast::Step => format!(in alloc; "induction")?,
-        Cast::Both => format!(in alloc; "both")?,
-    })
+fn cast_name(cast: Cast) -> &'static str {
+    match cast {
+        Cast::Bounded => "bounded search",
+        Cast::Step => "induction",
+        Cast::Both => "both",
+    }
 }
 
-/// The play of these engines on the system. The order is that of the first turns.
-pub fn line(
-    alloc: Global,
-    cast: Cast,
-    order: &[u32],
-    name: &str,
-    system: System,
-    depth: u32,
-) -> Result<String>
-    requires { IsWithin 1 1000 depth }
-{
-    if !(system.is_mild()
-        && is_boolean_system(&system)
-        && has_flags_alone(&system)
-        && system.shapes.len() < 100)
-    {
-        return Ok(format!(in alloc; "{name}: NOT A SYSTEM OF FLAGS")?);
+fn order(alloc: Global, order: Order, depth: u32) -> Result<Vec<u32>> {
+    let mut numbers = Vec::new(alloc);
+    match order {
+        Order::First => numbers.push(0)?,
+        Order::Second => numbers.push(1)?,
+        Order::Turns => push_turns(&mut numbers, depth)?,
     }
-    let plan = plan(depth);
+    Ok(numbers)
+}
+
+fn push_turns(numbers: &mut Vec<u32>, depth: u32) -> Result<()> {
+    for _ in 0..depth {
+        numbers.extend_from_slice(&[0, 1])?;
+    }
+    Ok(())
+}
+
+fn bounded_alone(alloc: Global, system: System, plan: Plan, order: &[u32]) -> Result<Book>
+    requires system { IsPlayable (system_view system) }
+    requires plan { IsPlan plan }
+{
+    let mut bounded = BoundedEngine::new(alloc, system.copied(alloc)?, plan)?;
+    Ok(play(alloc, system, plan, &mut bounded, &mut Sleeper {}, order)?)
+}
+
+fn step_alone(alloc: Global, system: System, plan: Plan, order: &[u32]) -> Result<Book>
+    requires system { IsPlayable (system_view system) }
+    requires plan { IsPlan plan }
+{
+    let mut step = StepEngine::new(alloc, system.copied(alloc)?, plan)?;
+    Ok(play(alloc, system, plan, &mut Sleeper {}, &mut step, order)?)
+}
+
+fn both(alloc: Global, system: System, plan: Plan, order: &[u32]) -> Result<Book>
+    requires system { IsPlayable (system_view system) }
+    requires plan { IsPlan plan }
+{
     let mut bounded = BoundedEngine::new(alloc, system.copied(alloc)?, plan)?;
     let mut step = StepEngine::new(alloc, system.copied(alloc)?, plan)?;
-    let mut idle = Sleeper {};
-    let book = match cast {
-        Cast::Bounded => play(alloc, system, plan, &mut bounded, &mut idle, order)?,
-        Cast::Step => play(alloc, system, plan, &mut idle, &mut step, order)?,
-        Cast::Both => play(alloc, system, plan, &mut bounded, &mut step, order)?,
+    Ok(play(alloc, system, plan, &mut bounded, &mut step, order)?)
+}
+
+fn played(alloc: Global, cast: Cast, system: System, plan: Plan, order: &[u32]) -> Result<Book>
+    requires system { IsPlayable (system_view system) }
+    requires plan { IsPlan plan }
+{
+    match cast {
+        Cast::Bounded => bounded_alone(alloc, system, plan, order),
+        Cast::Step => step_alone(alloc, system, plan, order),
+        Cast::Both => both(alloc, system, plan, order),
+    }
+}
+
+/// What the book of a play says.
+fn book_text(alloc: Global, book: &Book) -> Result<String> {
+    let count = book.count();
+    let verdict = verdict_text(alloc, book)?;
+    Ok(format!(in alloc; "{verdict}; entries: {count}")?)
+}
+
+/// What comes of the case.
+fn text(alloc: Global, case: Case) -> Result<String> {
+    let system = system_of(alloc, case.which)?;
+    let Some(plan) = plan(case) else {
+        return Ok(format!(in alloc; "NO PLAN")?);
     };
-    let (count, verdict) = (book.count(), verdict_text(alloc, &book)?);
-    let cast = cast_text(alloc, cast)?;
-    Ok(format!(in alloc; "{cast}, {name} to depth {depth}: {verdict}; entries: {count}")?)
+    if !is_playable(&system) {
+        return Ok(format!(in alloc; "NOT PLAYABLE")?);
+    }
+    let order = order(alloc, case.order, case.depth)?;
+    book_text(alloc, &played(alloc, case.cast, system, plan, &order)?)
+}
+
+/// The line of the case.
+pub fn line(alloc: Global, case: Case) -> Result<String> {
+    let cast = cast_name(case.cast);
+    let name = name_of(case.which);
+    let depth = case.depth;
+    let text = text(alloc, case)?;
+    Ok(format!(in alloc; "{cast}, {name} to depth {depth}: {text}")?)
 }

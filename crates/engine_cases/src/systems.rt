@@ -1,22 +1,39 @@
-//! Systems of flags, each with one property.
+//! The systems of the cases.
 
-use crate::terms::{and, flag, next, not, same, xor};
+use crate::flags::{bits, latch, register, toggle};
+use crate::numbers::{
+    big_or_five, counting, doubling, five_or_big, halves, kept, lagging, limited, natural,
+};
 use kind_num::Shape;
 use std::alloc::{AllocError, Global};
 use sys_terms::{System, Term};
 
-/// A system of these first states, steps and property.
-fn system(
+/// A system, by what is said of it where it is made.
+#[derive(Clone, Copy)]
+pub enum Which {
+    Latch,
+    Toggle,
+    Register,
+    Bits,
+    Counting,
+    Limited,
+    Natural,
+    Lagging,
+    Doubling,
+    Kept,
+    BigOrFive,
+    FiveOrBig,
+    Halves,
+}
+
+/// A system of these shapes, first states and steps, with one property.
+pub fn system(
     alloc: Global,
-    flags: u32,
+    shapes: Vec<Shape>,
     first: Vec<Term>,
     steps: Vec<Term>,
     property: Term,
 ) -> Result<System, AllocError> {
-    let mut shapes = Vec::new(alloc);
-    for _ in 0..flags {
-        shapes.push(Shape::Flag)?;
-    }
     Ok(System {
         shapes,
         first,
@@ -27,48 +44,38 @@ fn system(
     })
 }
 
-/// A flag that is set at first and keeps its value. It is always set.
-pub fn latch(alloc: Global) -> Result<System, AllocError> {
-    let first = vec![in alloc; flag(0)]?;
-    let steps = vec![in alloc; same(alloc, next(0), flag(0))?]?;
-    system(alloc, 1, first, steps, flag(0))
+pub fn system_of(alloc: Global, which: Which) -> Result<System, AllocError> {
+    match which {
+        Which::Latch => latch(alloc),
+        Which::Toggle => toggle(alloc),
+        Which::Register => register(alloc),
+        Which::Bits => bits(alloc),
+        Which::Counting => counting(alloc),
+        Which::Limited => limited(alloc),
+        Which::Natural => natural(alloc),
+        Which::Lagging => lagging(alloc),
+        Which::Doubling => doubling(alloc),
+        Which::Kept => kept(alloc),
+        Which::BigOrFive => big_or_five(alloc),
+        Which::FiveOrBig => five_or_big(alloc),
+        Which::Halves => halves(alloc),
+    }
 }
 
-/// A flag that is clear at first and changes at each step. That it is never set breaks at instant 1.
-pub fn toggle(alloc: Global) -> Result<System, AllocError> {
-    let first = vec![in alloc; not(alloc, flag(0))?]?;
-    let steps = vec![in alloc; same(alloc, next(0), not(alloc, flag(0))?)?]?;
-    system(alloc, 1, first, steps, not(alloc, flag(0))?)
-}
-
-/// A register of three flags that shifts its first flag, which keeps its value, towards the flag of
-/// the property. All are set at first. The property can become false after three states at which it
-/// is true, and not after four.
-pub fn register(alloc: Global) -> Result<System, AllocError> {
-    let first = vec![in alloc; flag(0), flag(1), flag(2), flag(3)]?;
-    let steps = vec![in alloc;
-        same(alloc, next(0), flag(0))?,
-        same(alloc, next(1), flag(0))?,
-        same(alloc, next(2), flag(1))?,
-        same(alloc, next(3), flag(2))?,
-    ]?;
-    system(alloc, 4, first, steps, flag(3))
-}
-
-/// Three bits that count from 0 on. That they are never 5 breaks at instant 5.
-pub fn counter(alloc: Global) -> Result<System, AllocError> {
-    let first = vec![in alloc;
-        not(alloc, flag(0))?,
-        not(alloc, flag(1))?,
-        not(alloc, flag(2))?,
-    ]?;
-    let carry = and(alloc, flag(0), flag(1))?;
-    let steps = vec![in alloc;
-        same(alloc, next(0), not(alloc, flag(0))?)?,
-        same(alloc, next(1), xor(alloc, flag(1), flag(0))?)?,
-        same(alloc, next(2), xor(alloc, flag(2), carry)?)?,
-    ]?;
-    let four_or_five = and(alloc, flag(2), not(alloc, flag(1))?)?;
-    let five = and(alloc, four_or_five, flag(0))?;
-    system(alloc, 3, first, steps, not(alloc, five)?)
+pub fn name_of(which: Which) -> &'static str {
+    match which {
+        Which::Latch => "latch",
+        Which::Toggle => "toggle",
+        Which::Register => "register",
+        Which::Bits => "counter",
+        Which::Counting => "counting",
+        Which::Limited => "limited",
+        Which::Natural => "limited from 0 on",
+        Which::Lagging => "lagging",
+        Which::Doubling => "doubling",
+        Which::Kept => "kept",
+        Which::BigOrFive => "big or five",
+        Which::FiveOrBig => "five or big",
+        Which::Halves => "halves",
+    }
 }

@@ -3,39 +3,20 @@ use Rattle.std.specs.Prelude.{ℕ, zero, suc, ◌≡◌, ◌≢◌, ◌<◌, ◌
 use Rattle.std.specs.List.{AllByRecursion}
 use Rattle.std.proofs.lemmas.List.Elements.{All-from_recursion, recursion_from_All}
 use Rattle.std.proofs.Common.{sym, subst, ◌∙◌, arith}
-use Rattle.kind_num.specs.declared.Shape.{Shape}
-use Rattle.kind_num.specs.declared.Shape.TheVariants as s
 use Rattle.proof_steps.specs.View.{Refutation}
 use Rattle.sys_terms.specs.declared.term.Entry.{Entry}
-use Rattle.sys_terms.specs.declared.term.Entry.TheVariants as e
 use Rattle.sys_terms.specs.View.{Formula, Machine, base}
-use Rattle.sys_terms.specs.Fits.{state_fits, is_narrow}
+use Rattle.sys_terms.specs.Fits.{is_narrow}
 use Rattle.sys_terms.specs.Answers.{IsAnswer}
 use Rattle.sys_terms.specs.Queries.{property_term, or_true}
-use Rattle.sys_terms.specs.Paths.{IsState, IsPath, AreTrue, IsFalseAtLastAlone, OfSome, Breaks}
+use Rattle.sys_terms.specs.Paths.{IsPath, AreTrue, IsFalseAtLastAlone, OfSome, Breaks}
 use Rattle.cert_rules.specs.Facts.{AreBases, IsTerm}
 use Rattle.cert_rules.specs.Laws.{FactsAreTrue}
-use Rattle.cert_rules.proofs.Paths.{first-false, path-to-first, alone-last, all-map}
+use Rattle.cert_rules.proofs.Paths.{first-false, path-to-first, alone-last}
 use Rattle.board_core.specs.declared.plan.Plan.{Plan}
 use Rattle.board_core.specs.Entries.{IsBroken}
-use Rattle.kind_engine.specs.Ready.{IsReady, all_flags}
+use Rattle.kind_engine.specs.Ready.{IsReady}
 use Rattle.kind_engine.proofs.Lists.{and-none, longer}
-
--- ---- states of flags are narrow
-
-flags-narrow : (shapes : List Shape) (s : List Entry) → all_flags shapes ≡ true → state_fits shapes s ≡ true
-    → is_narrow s ≡ true
-flags-narrow [] [] a f = refl
-flags-narrow [] (v ∷ vs) a f = absurd cc
-flags-narrow (h ∷ hs) [] a f = absurd cc
-flags-narrow (s.Flag ∷ hs) (e.Flag b ∷ vs) a f = flags-narrow hs vs a f
-flags-narrow (s.Flag ∷ hs) (e.Number n ∷ vs) a f = absurd cc
-flags-narrow (s.Number ∷ hs) (v ∷ vs) a f = absurd cc
-
-path-narrow : (m : Machine) (states : List (List Entry)) → all_flags m.shapes ≡ true → IsPath m states
-    → All (λ s. is_narrow s ≡ true) states
-path-narrow m states flags path =
-    all-map (IsState m) (λ s. is_narrow s ≡ true) (λ s h. flags-narrow m.shapes s flags h.fit) states path.loose.each
 
 -- ---- false at the last state alone
 
@@ -76,9 +57,10 @@ module _ (m : Machine) (p : ℕ) (named : p < length m.properties) (law : FactsA
       (record { property = named; terms = terms; count = refl; refuted_each = h })
       states path l cited (alone-last (property_term m p) states alone)
 
-  breaks-at : (proofs : List Refutation) → AreBases m p cites 0 proofs → (states : List (List Entry))
-      → IsAnswer m (base p (length proofs)) cites states → Breaks m p states
-  breaks-at proofs h states a =
+  -- such an answer breaks the property
+  pub breaks-at : (proofs : List Refutation) (i : ℕ) → length proofs ≡ i → AreBases m p cites 0 proofs
+      → (states : List (List Entry)) → IsAnswer m (base p i) cites states → Breaks m p states
+  breaks-at proofs i e h states a =
       let f = property_term m p in
       let r = first-false f states a.against in
       let path = path-to-first m f states r a.path in
@@ -87,16 +69,16 @@ module _ (m : Machine) (p : ℕ) (named : p < length m.properties) (law : FactsA
         path = a.path;
         broken = term-of (slice_get m.properties p) states (exists m.properties p named)
             (alone-in f r.front r.rest states r.parts r.alone
-            (λ l. none-short proofs h r.front path (omega (arith, l, a.count)) cited r.alone));
+            (λ l. none-short proofs h r.front path (omega (arith, l, a.count, e)) cited r.alone));
       }
 
-  -- such an answer breaks the property by a path that may be posted
+  -- and may be posted where its numbers are below 2^63 in size
   pub broken-at : (plan : Plan) → IsReady m plan → (proofs : List Refutation) (i : ℕ) → length proofs ≡ i
       → AreBases m p cites 0 proofs
       → i ≤ plan.depth → (states : List (List Entry)) → IsAnswer m (base p i) cites states
-      → IsBroken m p states
-  broken-at plan ready proofs i e h within states a = record {
-    breaks = breaks-at proofs h states (subst (λ n. IsAnswer m (base p n) cites states) (sym e) a);
+      → All (λ s. is_narrow s ≡ true) states → IsBroken m p states
+  broken-at plan ready proofs i e h within states a narrow = record {
+    breaks = breaks-at proofs i e h states a;
     short = let d = ready.ranges.depth.1 in let c = a.count in omega arith;
-    narrow = path-narrow m states ready.flags a.path;
+    narrow = narrow;
   }

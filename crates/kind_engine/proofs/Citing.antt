@@ -1,14 +1,12 @@
 -- Lemmas that are cited, and histories that grow.
-use Rattle.std.specs.Prelude.{ℕ, zero, suc, ◌≡◌, ◌<◌, ◌≤◌, ◌+◌, ◌++◌, ◌&&◌, Bool, true, false, List, [], ◌∷◌, length, map, take, drop, All, Contains, Option, Some, None, slice_get, slice_index_or, refl}
+use Rattle.std.specs.Prelude.{ℕ, zero, suc, ◌≡◌, ◌<◌, ◌≤◌, ◌+◌, ◌++◌, true, List, [], ◌∷◌, length, map, take, drop, All, Contains, Option, Some, None, slice_get, slice_index_or, refl}
 use Rattle.std.specs.List.{AllByRecursion}
 use Rattle.std.proofs.Common.{ap, sym, subst, ◌∙◌, rules, arith}
 use Rattle.std.proofs.lemmas.List.Elements.{All-from_recursion, recursion_from_All}
 use Rattle.sys_terms.specs.declared.term.Entry.{Entry as Cell}
 use Rattle.sys_terms.specs.View.{Formula, Machine}
-use Rattle.sys_terms.specs.Boolean.{is_boolean}
 use Rattle.sys_terms.specs.Fits.{all_fit_one, all_light}
 use Rattle.sys_terms.specs.Paths.{AreTrue, IsTrueAt}
-use Rattle.smt_solver.specs.Boolean.{all_boolean}
 use Rattle.cert_rules.specs.Facts.{Fact, base_fact, step_fact, lemma_fact, held_fact, held_by_fact, other_fact, Citation, IsTerm, IsLemmaOf, AreCited, terms_of}
 use Rattle.board_core.specs.declared.plan.Plan.{Plan}
 use Rattle.board_core.specs.Entries.{Claim, proved, broken, stuck, spent, Posting, facts_in, fact_in, AreSound, AreTermsAt, IsTrueAfter, term_at, LemmasTrueOn}
@@ -18,7 +16,7 @@ use Rattle.kind_engine.specs.Lemmas.{AreLemmas, IsToldOf, told_term}
 use Rattle.cert_rules.specs.declared.cited.Cited.{Cited}
 use Rattle.cert_rules.specs.View.{cites_view}
 use Rattle.board_core.proofs.Growing.{stays}
-use Rattle.kind_engine.proofs.Lists.{length-map}
+use Rattle.kind_engine.proofs.Lists.{length-map, contains-last, contains-front}
 use Rattle.kind_engine.proofs.Histories.{facts-more}
 
 fit-each : (m : Machine) (cites : List Formula) → AllByRecursion (IsTerm m) cites → all_fit_one m.shapes cites ≡ true
@@ -34,21 +32,6 @@ light-each m (f ∷ fs) h = let a = h.0.light in let b = light-each m fs h.1 in 
 
 pub are-light : (m : Machine) (cites : List Formula) → All (IsTerm m) cites → all_light cites ≡ true
 are-light m cites h = light-each m cites (recursion_from_All (IsTerm m) cites h)
-
-and-parts : (a b : Bool) → (a && b) ≡ true → (a ≡ true) × (b ≡ true)
-and-parts true b h = (refl, h)
-and-parts false b h = absurd cc
-
-both-true : (a b : Bool) → a ≡ true → b ≡ true → (a && b) ≡ true
-both-true true b h k = k
-both-true false b h k = absurd cc
-
-pub boolean-push : (cites : List Formula) (f : Formula) → all_boolean cites ≡ true → is_boolean f ≡ true
-    → all_boolean (cites ++ f ∷ []) ≡ true
-boolean-push [] f h k = both-true (is_boolean f) true k refl
-boolean-push (g ∷ cites) f h k =
-    let parts = and-parts (is_boolean g) (all_boolean cites) h in
-    both-true (is_boolean g) (all_boolean (cites ++ f ∷ [])) parts.0 (boolean-push cites f parts.1 k)
 
 terms-push : (cites : List Citation) (c : Citation) → terms_of (cites ++ c ∷ []) ≡ terms_of cites ++ c.term ∷ []
 terms-push [] c = refl
@@ -209,17 +192,6 @@ each-push P (y ∷ xs) x h k = (h.0, each-push P xs x h.1 k)
 all-one-more : {X : Type 0} (P : X → Type 0) (xs : List X) (x : X) → All P xs → P x → All P (xs ++ x ∷ [])
 all-one-more P xs x h k = All-from_recursion P (xs ++ x ∷ []) (each-push P xs x (recursion_from_All P xs h) k)
 
-contains-last : {X : Type 0} (xs : List X) (x : X) → Contains (xs ++ x ∷ []) x
-contains-last [] x = (0, omega arith, refl)
-contains-last (y ∷ xs) x = let c = contains-last xs x in (suc c.0, (let l = c.1 in omega arith), c.2)
-
-contains-front : {X : Type 0} (xs ys : List X) (x : X) (k : ℕ) → k < length xs → slice_index_or xs k x ≡ x
-    → Contains (xs ++ ys) x
-contains-front [] ys x k l e = absurd (omega arith)
-contains-front (y ∷ xs) ys x zero l e = (0, omega arith, e)
-contains-front (y ∷ xs) ys x (suc k) l e =
-    let c = contains-front xs ys x k (omega arith) e in (suc c.0, (let b = c.1 in omega arith), c.2)
-
 last-or-before : (n k : ℕ) → n < k + 1 → (A : Type 0) → (n < k → A) → (n ≡ k → A) → A
 last-or-before zero zero l A f g = g refl
 last-or-before zero (suc k) l A f g = f (omega arith)
@@ -256,9 +228,8 @@ module _ (m : Machine) (plan : Plan) (history : List Posting) (sound : AreSound 
 
   -- which is a lemma of this term
   pub lemmas-take : (t : Told) → IsToldOf history t → t.place ≡ front → (f : Formula) → told_term t.said ≡ Some f
-      → is_boolean f ≡ true
       → AreLemmas m history (front + 1) (cites ++ record { place = front; term = f } ∷ [])
-  lemmas-take t told at f some boolean =
+  lemmas-take t told at f some =
       let i = told.0 in
       let c : Citation = record { place = front; term = f } in
       let here : slice_get history front ≡ Some i = subst (λ n. slice_get history n ≡ Some i) at told.1 in
@@ -268,12 +239,9 @@ module _ (m : Machine) (plan : Plan) (history : List Posting) (sound : AreSound 
         front_is_here = let l = here-below history front i here in omega arith;
         cited = all-one-more (λ (d : Citation). IsLemmaOf d.term (slice_get (facts_in history) d.place)) cites c h.cited
             (subst (IsLemmaOf f) (sym fact) (lemma-told f i.says says));
-        citable = record {
-          terms = subst (All (IsTerm m)) (sym parts)
-              (all-one-more (IsTerm m) (terms_of cites) f h.citable.terms
-              (term-told m plan (take front history) f i.says says (sound front i here)));
-          boolean = ap all_boolean parts ∙ boolean-push (terms_of cites) f h.citable.boolean boolean;
-        };
+        citable = subst (All (IsTerm m)) (sym parts)
+            (all-one-more (IsTerm m) (terms_of cites) f h.citable
+            (term-told m plan (take front history) f i.says says (sound front i here)));
         all = λ n g l e.
             subst (λ fs. Contains fs g) (sym parts)
             (last-or-before n front l (Contains (terms_of cites ++ f ∷ []) g)

@@ -1,4 +1,5 @@
 pub mod Lists
+pub mod Narrowing
 pub mod Breaking
 pub mod Refuting
 pub mod Histories

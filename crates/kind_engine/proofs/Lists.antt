@@ -1,5 +1,5 @@
 -- Lists.
-use Rattle.std.specs.Prelude.{ℕ, zero, suc, ◌≡◌, ◌+◌, ◌<◌, ◌++◌, List, [], ◌∷◌, length, map, take, All, Some, slice_get, Result, Ok, Err, OnOk, refl}
+use Rattle.std.specs.Prelude.{ℕ, zero, suc, ◌≡◌, ◌+◌, ◌<◌, ◌++◌, List, [], ◌∷◌, length, map, take, All, Contains, Some, slice_get, slice_index_or, Result, Ok, Err, OnOk, refl}
 use Rattle.std.proofs.Common.{ap, arith}
 
 pub none-of : {X : Type 0} (P : X → Type 0) → All P []
@@ -44,6 +44,23 @@ below-next zero A f a zero l = a
 below-next zero A f a (suc q) l = absurd (omega arith)
 below-next (suc n) A f a zero l = f 0 (omega arith)
 below-next (suc n) A f a (suc q) l = below-next n (λ k. A (suc k)) (λ k i. f (suc k) (omega arith)) a q (omega arith)
+
+-- what a list has, a longer one has
+pub contains-last : {X : Type 0} (xs : List X) (x : X) → Contains (xs ++ x ∷ []) x
+contains-last [] x = (0, omega arith, refl)
+contains-last (y ∷ xs) x = let c = contains-last xs x in (suc c.0, (let l = c.1 in omega arith), c.2)
+
+pub contains-front : {X : Type 0} (xs ys : List X) (x : X) (k : ℕ) → k < length xs → slice_index_or xs k x ≡ x
+    → Contains (xs ++ ys) x
+contains-front [] ys x k l e = absurd (omega arith)
+contains-front (y ∷ xs) ys x zero l e = (0, omega arith, e)
+contains-front (y ∷ xs) ys x (suc k) l e =
+    let c = contains-front xs ys x k (omega arith) e in (suc c.0, (let b = c.1 in omega arith), c.2)
+
+pub contains-back : {X : Type 0} (xs ys : List X) (x : X) → Contains ys x → Contains (xs ++ ys) x
+contains-back [] ys x h = h
+contains-back (y ∷ xs) ys x h =
+    let c = contains-back xs ys x h in (suc c.0, (let b = c.1 in omega arith), c.2)
 
 abbrev pub answered : {X Y : Type 0} → X → Result X Y
 answered x = Ok x

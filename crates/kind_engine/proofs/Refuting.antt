@@ -14,7 +14,8 @@ use Rattle.cert_rules.specs.declared.fault.RuleFault.{RuleFault}
 use Rattle.cert_rules.specs.declared.fault.RuleFault.TheVariants.{Refused}
 use Rattle.cert_rules.specs.Faults.{Misfit}
 use Rattle.cert_rules.specs.Answers.{IsMisfit}
-use Rattle.board_core.specs.Entries.{AreRefutedBefore}
+use Rattle.board_core.specs.Entries.{AreRefutedBefore, IsRefutedBy}
+use Rattle.kind_engine.proofs.Lists.{contains-last, contains-front, contains-back}
 
 -- no rule is told where none is broken
 pub never-refused : (misfit : Misfit) (e : RuleFault) (part : ℕ) (rule : Rule) → misfit ≡ None → e ≡ Refused part rule
@@ -63,14 +64,23 @@ module _ (m : Machine) (p : ℕ) (cites : List Formula) where
   refuted-before proofs h j l =
       let b = base-among 0 proofs h j l in (b.0, b.1, same-place (0 + j) j b.0 (omega arith) b.2)
 
--- one more instant that the solver refutes
-pub bases-next : (m : Machine) (p : ℕ) (cites : List Formula) (budgets : Budgets) (proofs : List Refutation)
-    (r : Refutation) (i : ℕ)
-    → length proofs ≡ i → AreBases m p cites 0 proofs → IsAnswered m (base p i) cites budgets (unsat r)
+-- one more instant that is refuted
+pub bases-next : (m : Machine) (p : ℕ) (cites : List Formula) (proofs : List Refutation) (r : Refutation) (i : ℕ)
+    → length proofs ≡ i → AreBases m p cites 0 proofs → IsRefuted m (base p i) cites r
     → AreBases m p cites 0 (proofs ++ r ∷ [])
-bases-next m p cites budgets proofs r i e h a =
-    bases-push m p cites 0 proofs r h
-    (subst (λ n. IsRefuted m (base p n) cites r) (place (length proofs) e) (refuted-by m budgets (base p i) cites r a))
+bases-next m p cites proofs r i e h a =
+    bases-push m p cites 0 proofs r h (subst (λ n. IsRefuted m (base p n) cites r) (place (length proofs) e) a)
   where
     place : (n : ℕ) → n ≡ i → i ≡ 0 + n
     place n f = omega (arith, f)
+
+-- what some of the proofs refute
+module _ (m : Machine) (task : Task) (cites : List Formula) where
+  pub by-front : (xs ys : List Refutation) → IsRefutedBy m xs task cites → IsRefutedBy m (xs ++ ys) task cites
+  by-front xs ys h = (h.0, contains-front xs ys h.0 h.1.0 h.1.1 h.1.2, h.2)
+
+  pub by-back : (xs ys : List Refutation) → IsRefutedBy m ys task cites → IsRefutedBy m (xs ++ ys) task cites
+  by-back xs ys h = (h.0, contains-back xs ys h.0 h.1, h.2)
+
+  pub by-last : (xs : List Refutation) (r : Refutation) → IsRefuted m task cites r → IsRefutedBy m (xs ++ r ∷ []) task cites
+  by-last xs r h = (r, contains-last xs r, h)

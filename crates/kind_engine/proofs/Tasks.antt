@@ -14,8 +14,8 @@ use Rattle.kind_engine.specs.declared.task.Task.{Task}
 use Rattle.kind_engine.specs.declared.task.Task.TheVariants as t
 use Rattle.kind_engine.specs.declared.task.Search.{Search}
 use Rattle.kind_engine.specs.Tasks.{IsTask, IsRefutedBelow, AreTasks, IsSearch}
-use Rattle.proof_steps.specs.StopView.{stop_view}
-use Rattle.board_core.specs.Entries.{spent, stopped}
+use Rattle.board_core.specs.Entries.{spent}
+use Rattle.board_core.specs.View.{cause_view}
 use Rattle.kind_engine.specs.Halts.{halted_grounds}
 use Rattle.kind_engine.proofs.Citing.{lemmas-later}
 use Rattle.kind_engine.proofs.Histories.{decides-later, true-later, depth-later}
@@ -25,8 +25,8 @@ module _ (m : Machine) (plan : Plan) where
       → IsTask m plan known engine i p task → IsTask m plan all engine i p task
   task-later known all engine i p (t.Refuted proofs) b h = h
   task-later known all engine i p (t.Run run) b h = h
-  task-later known all engine i p (t.Stopped halted) b h =
-      true-later m plan known all (spent engine p (stopped (stop_view halted.stop)) (halted_grounds halted)) b h
+  task-later known all engine i p (t.Halted halted) b h =
+      true-later m plan known all (spent engine p (cause_view halted.cause) (halted_grounds halted)) b h
   task-later known all engine i p t.Ended b h = (h.0, depth-later known all engine p plan.depth b h.1)
   task-later known all engine i p t.Decided b h = decides-later p known all b h
 

@@ -1,21 +1,15 @@
 -- The lemmas that an engine cites.
-use Rattle.std.specs.Prelude.{ℕ, ◌≡◌, ◌<◌, ◌≤◌, true, List, length, All, Contains, Option, Some, None, slice_get}
+use Rattle.std.specs.Prelude.{ℕ, ◌≡◌, ◌<◌, ◌≤◌, List, length, All, Contains, Option, Some, None, slice_get}
 use Rattle.sys_terms.specs.View.{Formula, Machine}
-use Rattle.smt_solver.specs.Boolean.{all_boolean}
 use Rattle.cert_rules.specs.Facts.{Citation, IsTerm, IsLemmaOf, AreCited, terms_of}
 use Rattle.board_core.specs.Entries.{Posting, facts_in}
 use Rattle.board_core.specs.View.{Told, Said, base_said, step_said, lemma_said, held_said, broken_said, stuck_said, spent_said, nothing_said, said_by}
-
--- terms that a query may cite
-pub record AreCitable (m : Machine) (cites : List Formula) : Type 0 where
-  pub terms : All (IsTerm m) cites
-  pub boolean : all_boolean cites ≡ true
 
 -- lemma entries of the history, all of those below the front among them
 pub record AreLemmas (m : Machine) (history : List Posting) (front : ℕ) (cites : List Citation) : Type 0 where
   pub front_is_here : front ≤ length history
   pub cited : AreCited (facts_in history) cites
-  pub citable : AreCitable m (terms_of cites)
+  pub citable : All (IsTerm m) (terms_of cites)
   pub all : (n : ℕ) (f : Formula) → n < front → IsLemmaOf f (slice_get (facts_in history) n)
       → Contains (terms_of cites) f
 

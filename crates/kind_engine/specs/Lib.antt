@@ -1,4 +1,5 @@
 pub mod Ready
+pub mod Looks
 pub mod Lemmas
 pub mod Steps
 pub mod Halts

@@ -1,12 +1,12 @@
 -- How far an engine is with each property.
 use Rattle.std.specs.Prelude.{ℕ, suc, ◌≡◌, ◌≤◌, ◌<◌, List, [], ◌∷◌, length}
 use Rattle.proof_steps.specs.View.{Refutation}
-use Rattle.proof_steps.specs.StopView.{stop_view}
 use Rattle.sys_terms.specs.View.{Machine, states_view}
 use Rattle.cert_rules.specs.View.{cites_view, proofs_view}
 use Rattle.cert_rules.specs.Facts.{AreBases}
 use Rattle.board_core.specs.declared.plan.Plan.{Plan}
-use Rattle.board_core.specs.Entries.{Posting, IsTrueAfter, IsDepth, spent, stopped}
+use Rattle.board_core.specs.Entries.{Posting, IsTrueAfter, IsDepth, spent}
+use Rattle.board_core.specs.View.{cause_view}
 use Rattle.board_core.specs.Seats.{Decides}
 use Rattle.kind_engine.specs.Lemmas.{AreLemmas}
 use Rattle.kind_engine.specs.Steps.{IsAtStep}
@@ -21,14 +21,14 @@ pub record IsRefutedBelow (m : Machine) (plan : Plan) (i p : ℕ) (proofs : List
   pub count : length proofs ≡ i
   pub refuted : AreBases m p [] 0 proofs
 
--- before turn i of the engine: it is at the property; or a query stopped, which may be posted as the
--- cause; or the history shows that it went to its depth; or it holds or breaks the property
+-- before turn i of the engine: it is at the property; or it halted, and its cause may be posted; or the
+-- history shows that it went to its depth; or it holds or breaks the property
 abbrev pub IsTask : Machine → Plan → List Posting → (engine i p : ℕ) → Task → Type 0
 IsTask m plan known engine i p (t.Refuted proofs) =
     (engine ≡ 0) × IsRefutedBelow m plan i p (proofs_view proofs.items)
 IsTask m plan known engine i p (t.Run run) = (engine ≡ 1) × IsAtStep m plan i p (states_view run.items)
-IsTask m plan known engine i p (t.Stopped h) =
-    IsTrueAfter m plan known (spent engine p (stopped (stop_view h.stop)) (halted_grounds h))
+IsTask m plan known engine i p (t.Halted h) =
+    IsTrueAfter m plan known (spent engine p (cause_view h.cause) (halted_grounds h))
 IsTask m plan known engine i p t.Ended = (p < length m.properties) × IsDepth known engine p plan.depth
 IsTask m plan known engine i p t.Decided = Decides known p
 

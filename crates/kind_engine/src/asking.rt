@@ -2,25 +2,22 @@
 //!
 //! Each query is built afresh.
 
-ghost use Rattle.std.specs.Prelude.{◌≡◌, ◌<◌, length, true, IfOk};
+ghost use Rattle.std.specs.Prelude.{◌≡◌, ◌<◌, length, true, All, IfOk};
 ghost use Rattle.sys_terms.specs.View.{system_view, terms_view, obligation_view, base, step};
 ghost use Rattle.sys_terms.specs.Fits.{is_asked, is_light_task};
 ghost use Rattle.smt_solver.specs.View.{answer_view};
 ghost use Rattle.smt_solver.specs.Answered.{IsAnswered};
-ghost use Rattle.smt_solver.specs.Boolean.{is_boolean_task};
+ghost use Rattle.cert_rules.specs.Facts.{IsTerm};
 ghost use Rattle.kind_engine.specs.Ready.{IsReady};
-ghost use Rattle.kind_engine.specs.Lemmas.{AreCitable};
 
 use crate::subject::Subject;
 use board_core::EngineFault;
-use smt_solver::laws::boolean_queries_have_no_atoms;
 use smt_solver::{Answer, SolveFault, solve};
 use std::alloc::Global;
 use sys_terms::{Obligation, Term};
 
-/// Asks the obligation with these lemmas. This is the one place that needs the system, the lemmas and
-/// the obligation to compare no numbers.
-fn asked(
+/// Asks the obligation with these lemmas.
+pub(crate) fn asked(
     alloc: Global,
     subject: &Subject,
     what: &Obligation,
@@ -29,12 +26,10 @@ fn asked(
     requires ready { IsReady (system_view subject.now.system) subject.now.plan }
     requires asked { is_asked (system_view subject.now.system) (obligation_view what.now) ≡ true }
     requires light_task { is_light_task (obligation_view what.now) ≡ true }
-    requires boolean_task { is_boolean_task (obligation_view what.now) ≡ true }
-    requires citable { AreCitable (system_view subject.now.system) (terms_view cites.now) }
+    requires citable { All (IsTerm (system_view subject.now.system)) (terms_view cites.now) }
     ensures { IfOk result (λ a. IsAnswered (system_view subject.now.system) (obligation_view what.now)
         (terms_view cites.now) subject.now.plan.budgets (answer_view a)) }
 {
-    boolean_queries_have_no_atoms();
     match solve(alloc, &subject.system, what, cites, subject.plan.budgets) {
         Ok(answer) => Ok(answer),
         Err(SolveFault::Memory(error)) => Err(EngineFault::Memory(error)),
@@ -51,7 +46,7 @@ pub(crate) fn base_at(
 ) -> Result<Answer, EngineFault>
     requires ready { IsReady (system_view subject.now.system) subject.now.plan }
     requires named { property < length (system_view subject.now.system).properties }
-    requires citable { AreCitable (system_view subject.now.system) (terms_view cites.now) }
+    requires citable { All (IsTerm (system_view subject.now.system)) (terms_view cites.now) }
     ensures { IfOk result (λ a. IsAnswered (system_view subject.now.system) (base property instant)
         (terms_view cites.now) subject.now.plan.budgets (answer_view a)) }
 {
@@ -73,7 +68,7 @@ pub(crate) fn step_after(
 ) -> Result<Answer, EngineFault>
     requires ready { IsReady (system_view subject.now.system) subject.now.plan }
     requires named { property < length (system_view subject.now.system).properties }
-    requires citable { AreCitable (system_view subject.now.system) (terms_view cites.now) }
+    requires citable { All (IsTerm (system_view subject.now.system)) (terms_view cites.now) }
     ensures { IfOk result (λ a. IsAnswered (system_view subject.now.system) (step property k)
         (terms_view cites.now) subject.now.plan.budgets (answer_view a)) }
 {

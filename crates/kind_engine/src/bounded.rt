@@ -1,13 +1,11 @@
 //! Bounded search.
 
-ghost use Rattle.std.specs.Prelude.{◌≡◌, ◌<◌, ◌^◌, List, [], length, true, Some, IfOk};
+ghost use Rattle.std.specs.Prelude.{◌≡◌, ◌<◌, ◌^◌, List, [], length, Some, IfOk};
 ghost use Rattle.sys_terms.specs.View.{Machine, system_view};
 ghost use Rattle.sys_terms.specs.Fits.{IsMild};
-ghost use Rattle.smt_solver.specs.Boolean.{is_boolean_machine};
 ghost use Rattle.board_core.specs.declared.plan.Plan.{Plan as Options};
 ghost use Rattle.board_core.specs.Plans.{IsPlan};
 ghost use Rattle.board_core.specs.Entries.{Posting};
-ghost use Rattle.kind_engine.specs.Ready.{all_flags};
 ghost use Rattle.kind_engine.specs.Tasks.{AreTasks};
 ghost use Rattle.kind_engine.specs.Engines.{worker_machine, worker_plan, worker_known, worker_steps};
 
@@ -26,7 +24,8 @@ use sys_terms::System;
 ///
 /// A property that it finds broken it posts at once. The turn behind the depth posts, for each property
 /// that what was read leaves undecided, that its instants are refuted and that the search went to its
-/// depth; or, where the query of an instant stopped, that stop with the proofs of the instants before.
+/// depth; or, where an instant is left open, why, with the proofs of the instants before: its query or its
+/// narrow query stopped, or only paths with a number of size 2^63 or more break the property there.
 /// After want of memory each further turn answers it again.
 #[derive(Drop)]
 pub struct BoundedEngine {
@@ -67,17 +66,12 @@ fn first_tasks(alloc: Global, count: u32) -> Result<Vec<Task>, AllocError>
 impl BoundedEngine {
     /// An engine that knows nothing yet.
     ///
-    /// For now its system has no numbers: each variable is a flag (`has_flags_alone`), and no term
-    /// compares numbers (`smt_solver::is_boolean_system`).
-    ///
     /// # Errors
     ///
     /// Only want of memory, or more properties than 32 bits number.
     pub fn new(alloc: Global, system: System, plan: Plan) -> Result<BoundedEngine, EngineFault>
         requires mild { IsMild (system_view system) }
         requires few { length (system_view system).shapes < 2 ^ 32 }
-        requires boolean { is_boolean_machine (system_view system) ≡ true }
-        requires flags { all_flags (system_view system).shapes ≡ true }
         requires plan { IsPlan plan }
         ensures system { IfOk result (λ e. worker_machine e ≡ system_view system) }
         ensures plan { IfOk result (λ e. worker_plan e ≡ plan) }

@@ -1,17 +1,16 @@
 //! The instants below a step that is refuted.
 
-ghost use Rattle.std.specs.Prelude.{◌≡◌, ◌<◌, ◌≤◌, length, IfOk};
+ghost use Rattle.std.specs.Prelude.{◌≡◌, ◌<◌, ◌≤◌, length, All, IfOk};
 ghost use Rattle.sys_terms.specs.View.{system_view, terms_view};
+ghost use Rattle.cert_rules.specs.Facts.{IsTerm};
 ghost use Rattle.kind_engine.specs.Ready.{IsReady};
-ghost use Rattle.kind_engine.specs.Lemmas.{AreCitable};
 ghost use Rattle.kind_engine.specs.Steps.{IsGround};
 
-use crate::asking::base_at;
+use crate::looking::{Look, Open, look_at};
 use crate::subject::Subject;
 use board_core::EngineFault;
 use cert_rules::laws::facts_are_true;
-use proof_steps::{Proof, Stop};
-use smt_solver::Answer;
+use proof_steps::Proof;
 use std::alloc::Global;
 use sys_terms::{State, Term};
 
@@ -22,8 +21,8 @@ pub(crate) enum Ground {
     Refuted(Vec<Proof>),
     /// This path breaks the property.
     Broken(Vec<State>),
-    /// The query of this instant stopped.
-    Stopped(u32, Stop),
+    /// This instant is left open; those before it are refuted.
+    Open(u32, Vec<Proof>, Open),
 }
 
 /// Asks about the instants below k, from 0 on, with these lemmas.
@@ -37,17 +36,17 @@ pub(crate) fn look_below(
     requires ready { IsReady (system_view subject.now.system) subject.now.plan }
     requires named { property < length (system_view subject.now.system).properties }
     requires within { k ≤ subject.now.plan.depth }
-    requires citable { AreCitable (system_view subject.now.system) (terms_view terms.now) }
+    requires citable { All (IsTerm (system_view subject.now.system)) (terms_view terms.now) }
     ensures { IfOk result (IsGround (system_view subject.now.system) subject.now.plan property k
         (terms_view terms.now)) }
 {
     facts_are_true();
     let mut proofs = Vec::new(alloc);
     for instant in 0..k {
-        match base_at(alloc, subject, property, instant, terms)? {
-            Answer::Unsat(proof) => proofs.push(proof)?,
-            Answer::Sat(path) => return Ok(Ground::Broken(path)),
-            Answer::Stop(stop) => return Ok(Ground::Stopped(instant, stop)),
+        match look_at(alloc, subject, property, instant, terms)? {
+            Look::Refuted(proof) => proofs.push(proof)?,
+            Look::Broken(path) => return Ok(Ground::Broken(path)),
+            Look::Open(left) => return Ok(Ground::Open(instant, proofs, left)),
         }
     }
     Ok(Ground::Refuted(proofs))

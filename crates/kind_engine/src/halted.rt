@@ -1,29 +1,55 @@
-//! Queries that stopped.
+//! Searches that ended before their depth.
 
 ghost use Rattle.std.specs.Prelude.{◌≡◌, true, IfOk, OnOk};
-ghost use Rattle.proof_steps.specs.StopView.{stop_view};
 ghost use Rattle.sys_terms.specs.View.{states_view};
 ghost use Rattle.cert_rules.specs.View.{proofs_view};
-ghost use Rattle.board_core.specs.Entries.{IsTrueAfter, spent, stopped};
-ghost use Rattle.board_core.specs.View.{grounds_view};
+ghost use Rattle.board_core.specs.Entries.{IsTrueAfter, spent};
+ghost use Rattle.board_core.specs.View.{cause_view, grounds_view};
 ghost use Rattle.board_core.specs.Seats.{Begins, has_cause};
-ghost use Rattle.kind_engine.specs.Halts.{paths_view, halted_grounds};
+ghost use Rattle.kind_engine.specs.Halts.{paths_view, halted_grounds, open_grounds};
 
+use crate::looking::Open;
 use crate::posting::post_spent;
 use board_core::{BoardSeat, Cause, EngineFault, Kept};
-use proof_steps::{Proof, Stop};
+use proof_steps::Proof;
 use std::alloc::{AllocError, Global};
 use sys_terms::{Obligation, State};
 
-/// A query that stopped, with the places of the lemmas that it cites, what shows that it was to be
-/// asked, and the stop.
+/// Why the search for a property ended before its depth: the query at which it did, with the places of
+/// the lemmas that it cites, what shows that it was to be asked, and the cause.
 #[derive(Drop)]
 pub(crate) struct Halted {
     pub(crate) what: Obligation,
     pub(crate) places: Vec<u64>,
     pub(crate) proofs: Vec<Proof>,
     pub(crate) paths: Vec<Vec<State>>,
-    pub(crate) stop: Stop,
+    pub(crate) cause: Cause,
+}
+
+/// What is kept where an instant is left open, behind these proofs.
+pub(crate) fn left_open(
+    alloc: Global,
+    places: Vec<u64>,
+    proofs: Vec<Proof>,
+    left: Open,
+) -> Result<Halted, AllocError>
+    ensures grounds { IfOk result (λ h. halted_grounds h ≡ open_grounds places.items (proofs_view proofs.items) left) }
+    ensures cause { IfOk result (λ h. h.cause ≡ left.cause) }
+{
+    let Open {
+        what,
+        proofs: mut more,
+        cause,
+    } = left;
+    let mut proofs = proofs;
+    proofs.append(&mut more)?;
+    Ok(Halted {
+        what,
+        places,
+        proofs,
+        paths: Vec::new(alloc),
+        cause,
+    })
 }
 
 fn copied_proofs(alloc: Global, proofs: &[Proof]) -> Result<Vec<Proof>, AllocError>
@@ -56,7 +82,7 @@ fn copied_paths(alloc: Global, paths: &[Vec<State>]) -> Result<Vec<Vec<State>>, 
     Ok(copies)
 }
 
-/// What is kept behind the stop.
+/// What is kept behind the cause.
 fn kept(alloc: Global, halted: &Halted) -> Result<Kept, AllocError>
     ensures { IfOk result (λ k. grounds_view k ≡ halted_grounds halted.now) }
 {
@@ -70,7 +96,7 @@ fn kept(alloc: Global, halted: &Halted) -> Result<Kept, AllocError>
     })
 }
 
-/// Posts the stop as the engine's cause.
+/// Posts the cause as the engine's.
 pub(crate) fn post_halted<B: BoardSeat>(
     alloc: Global,
     seat: &mut B,
@@ -79,7 +105,7 @@ pub(crate) fn post_halted<B: BoardSeat>(
     halted: &Halted,
 ) -> Result<(), EngineFault>
     requires true_one { IsTrueAfter (B.machine seat.old) (B.plan seat.old) (B.seen seat.old)
-        (spent engine property (stopped (stop_view halted.now.stop)) (halted_grounds halted.now)) }
+        (spent engine property (cause_view halted.now.cause) (halted_grounds halted.now)) }
     ensures seat { (B.number seat.new ≡ B.number seat.old) × (B.machine seat.new ≡ B.machine seat.old)
         × (B.plan seat.new ≡ B.plan seat.old) × (B.lent seat.new ≡ B.lent seat.old) }
     ensures front { B.front seat.new ≡ B.front seat.old }
@@ -87,6 +113,6 @@ pub(crate) fn post_halted<B: BoardSeat>(
     ensures cause { OnOk result (has_cause (B.number seat.old) engine property (B.seen seat.new) ≡ true) }
 {
     let kept = kept(alloc, halted)?;
-    let stop = halted.stop.copied(alloc)?;
-    post_spent(seat, engine, property, Cause::Stop(stop), kept)
+    let cause = halted.cause.copied(alloc)?;
+    post_spent(seat, engine, property, cause, kept)
 }

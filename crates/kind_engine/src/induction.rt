@@ -1,13 +1,11 @@
 //! Induction over several states.
 
-ghost use Rattle.std.specs.Prelude.{◌≡◌, ◌<◌, ◌≤◌, ◌^◌, List, [], length, true, Some, IfOk};
+ghost use Rattle.std.specs.Prelude.{◌≡◌, ◌<◌, ◌≤◌, ◌^◌, List, [], length, Some, IfOk};
 ghost use Rattle.sys_terms.specs.View.{Machine, system_view};
 ghost use Rattle.sys_terms.specs.Fits.{IsMild};
-ghost use Rattle.smt_solver.specs.Boolean.{is_boolean_machine};
 ghost use Rattle.board_core.specs.declared.plan.Plan.{Plan as Options};
 ghost use Rattle.board_core.specs.Plans.{IsPlan};
 ghost use Rattle.board_core.specs.Entries.{Posting};
-ghost use Rattle.kind_engine.specs.Ready.{all_flags};
 ghost use Rattle.kind_engine.specs.Tasks.{AreTasks};
 ghost use Rattle.kind_engine.specs.Engines.{worker_machine, worker_plan, worker_known, worker_steps};
 
@@ -22,14 +20,15 @@ use std::snapshot::Snapshot;
 use sys_terms::System;
 
 /// Proves each property by the step by k states, k from 1 on, a k a turn, up to the depth of its plan. It
-/// cites each lemma that it has read, up to the first one that compares numbers. Its number is 1.
+/// cites each lemma that it has read. Its number is 1.
 ///
 /// Where the step by k states is refuted it asks about the instants below k itself, with the same lemmas.
 /// Where they are refuted too it posts the base, the step and that the property is held; where one breaks,
 /// that break. A property whose step by as many states as the depth is not refuted is posted as stuck, at
 /// the path that answers it. The turn behind the depth posts, for each property that what was read leaves
-/// undecided, that the search went to its depth; or, where a query stopped, that stop with what shows that
-/// it was to be asked. After want of memory each further turn answers it again.
+/// undecided, that the search went to its depth; or, where a query stopped or an instant below k is broken
+/// with a number of size 2^63 or more alone, that, with what shows that it was to be asked. After want of
+/// memory each further turn answers it again.
 #[derive(Drop)]
 pub struct StepEngine {
     subject: Subject,
@@ -70,17 +69,12 @@ fn first_tasks(alloc: Global, count: u32) -> Result<Vec<Task>, AllocError>
 impl StepEngine {
     /// An engine that knows nothing yet.
     ///
-    /// For now its system has no numbers: each variable is a flag (`has_flags_alone`), and no term
-    /// compares numbers (`smt_solver::is_boolean_system`).
-    ///
     /// # Errors
     ///
     /// Only want of memory, or more properties than 32 bits number.
     pub fn new(alloc: Global, system: System, plan: Plan) -> Result<StepEngine, EngineFault>
         requires mild { IsMild (system_view system) }
         requires few { length (system_view system).shapes < 2 ^ 32 }
-        requires boolean { is_boolean_machine (system_view system) ≡ true }
-        requires flags { all_flags (system_view system).shapes ≡ true }
         requires plan { IsPlan plan }
         ensures system { IfOk result (λ e. worker_machine e ≡ system_view system) }
         ensures plan { IfOk result (λ e. worker_plan e ≡ plan) }

@@ -11,7 +11,6 @@ ghost use Rattle.kind_engine.specs.Lemmas.{AreLemmas, IsToldOf, told_term};
 
 use board_core::{BoardSeat, EngineFault, News, Statement};
 use cert_rules::Cited;
-use smt_solver::is_boolean_term;
 use std::alloc::{AllocError, Global};
 use sys_terms::Term;
 
@@ -59,8 +58,7 @@ fn told_lemma(statement: Statement) -> Option<Term>
     }
 }
 
-/// With the entry that is told. An entry that is not the next one leaves them as they are, and so does a
-/// lemma that compares numbers, which no query may cite as yet: the front then stays at it.
+/// With the entry that is told. An entry that is not the next one leaves them as they are.
 fn with_news(lemmas: Lemmas, news: News) -> Result<Lemmas, AllocError>
     ensures { IfOk result (λ r. (m : Machine) (plan : Options) (history : List Posting) → AreSound m plan history
         → IsToldOf history (news_view news) → AreLemmas m history lemmas.front (cites_view lemmas.cites.items)
@@ -77,15 +75,11 @@ fn with_news(lemmas: Lemmas, news: News) -> Result<Lemmas, AllocError>
     }
     match told_lemma(statement) {
         Some(term) => {
-            if is_boolean_term(&term) {
-                cites.push(Cited { place, term })?;
-                Ok(Lemmas {
-                    front: front + 1,
-                    cites,
-                })
-            } else {
-                Ok(Lemmas { front, cites })
-            }
+            cites.push(Cited { place, term })?;
+            Ok(Lemmas {
+                front: front + 1,
+                cites,
+            })
         }
         None => Ok(Lemmas {
             front: front + 1,

@@ -9,11 +9,13 @@
 mod asking;
 mod bounded;
 mod checking;
-mod flags;
 mod grounds;
 mod halted;
 mod induction;
+mod large;
 mod lemmas;
+mod looking;
+mod narrow;
 mod posting;
 mod searching;
 mod stepping;
@@ -22,5 +24,4 @@ mod task;
 mod turning;
 
 pub use bounded::BoundedEngine;
-pub use flags::has_flags_alone;
 pub use induction::StepEngine;

@@ -8,18 +8,16 @@ ghost use Rattle.board_core.specs.Seats.{Begins};
 ghost use Rattle.kind_engine.specs.Ready.{IsReady};
 ghost use Rattle.kind_engine.specs.Tasks.{IsTask};
 
-use crate::asking::base_at;
 use crate::checking::base_of;
-use crate::halted::Halted;
+use crate::halted::left_open;
+use crate::looking::{Look, look_at};
 use crate::posting::{post_base, post_broken};
 use crate::subject::Subject;
 use crate::task::Task;
 use board_core::{BoardSeat, EngineFault};
 use cert_rules::laws::facts_are_true;
 use proof_steps::Proof;
-use smt_solver::Answer;
 use std::alloc::Global;
-use sys_terms::Obligation;
 
 /// The task after an instant that is refuted too. At the depth the base is posted.
 fn refuted<B: BoardSeat>(
@@ -74,22 +72,19 @@ pub(crate) fn at_next_instant<B: BoardSeat>(
 {
     facts_are_true();
     let instant = proofs.len() as u32;
-    match base_at(alloc, subject, property, instant, &[])? {
-        Answer::Unsat(proof) => {
+    match look_at(alloc, subject, property, instant, &[])? {
+        Look::Refuted(proof) => {
             let mut proofs = proofs;
             proofs.push(proof)?;
             refuted(alloc, subject, seat, property, proofs)
         }
-        Answer::Sat(path) => {
+        Look::Broken(path) => {
             post_broken(seat, property, path)?;
             Ok(Task::Decided)
         }
-        Answer::Stop(stop) => Ok(Task::Stopped(Halted {
-            what: Obligation::Base { property, instant },
-            places: Vec::new(alloc),
-            proofs,
-            paths: Vec::new(alloc),
-            stop,
-        })),
+        Look::Open(left) => {
+            let halted = left_open(alloc, Vec::new(alloc), proofs, left)?;
+            Ok(Task::Halted(halted))
+        }
     }
 }

@@ -14,12 +14,13 @@ ghost use Rattle.kind_engine.specs.Tasks.{IsTask};
 use crate::asking::step_after;
 use crate::checking::{base_of, concluded, step_of};
 use crate::grounds::{Ground, look_below};
-use crate::halted::Halted;
+use crate::halted::{Halted, left_open};
 use crate::lemmas::{Lemmas, places_of, terms_of};
 use crate::posting::{post_base, post_broken, post_held, post_step, post_stuck};
 use crate::subject::Subject;
 use crate::task::Task;
-use board_core::{BoardSeat, EngineFault};
+use board_core::{BoardSeat, Cause, EngineFault};
+use cert_rules::laws::facts_are_true;
 use proof_steps::Proof;
 use smt_solver::Answer;
 use std::alloc::Global;
@@ -88,6 +89,7 @@ fn founded<B: BoardSeat>(
     ensures task { IfOk result (λ t. IsTask (system_view subject.now.system) subject.now.plan (B.seen seat.new)
         subject.now.engine (suc k) property t) }
 {
+    facts_are_true();
     let terms = terms_of(alloc, &lemmas.cites)?;
     match look_below(alloc, subject, property, k, &terms)? {
         Ground::Refuted(proofs) => {
@@ -98,17 +100,12 @@ fn founded<B: BoardSeat>(
             post_broken(seat, property, path)?;
             Ok(Task::Decided)
         }
-        Ground::Stopped(instant, stop) => {
+        Ground::Open(_, proofs, left) => {
             let places = places_of(alloc, &lemmas.cites)?;
-            let mut proofs = Vec::new(alloc);
+            let mut proofs = proofs;
             proofs.push(proof)?;
-            Ok(Task::Stopped(Halted {
-                what: Obligation::Base { property, instant },
-                places,
-                proofs,
-                paths: Vec::new(alloc),
-                stop,
-            }))
+            let halted = left_open(alloc, places, proofs, left)?;
+            Ok(Task::Halted(halted))
         }
     }
 }
@@ -151,12 +148,12 @@ pub(crate) fn at_next_step<B: BoardSeat>(
             let places = places_of(alloc, &lemmas.cites)?;
             let mut paths = Vec::new(alloc);
             paths.push(run)?;
-            Ok(Task::Stopped(Halted {
+            Ok(Task::Halted(Halted {
                 what: Obligation::Step { property, k },
                 places,
                 proofs: Vec::new(alloc),
                 paths,
-                stop,
+                cause: Cause::Stop(stop),
             }))
         }
     }

@@ -12,8 +12,8 @@ pub(crate) enum Task {
     Refuted(Vec<Proof>),
     /// Induction: the step by one state less than it is at has this run; for one state there is none.
     Run(Vec<State>),
-    /// A query stopped.
-    Stopped(Halted),
+    /// It ended before its depth.
+    Halted(Halted),
     /// It went to its depth, and what shows it is posted.
     Ended,
     /// An entry holds or breaks it.

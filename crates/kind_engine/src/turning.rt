@@ -64,7 +64,7 @@ fn advanced<B: BoardSeat>(
     match task {
         Task::Refuted(proofs) => at_next_instant(alloc, subject, seat, property, proofs),
         Task::Run(run) => at_next_step(alloc, subject, seat, property, turn, lemmas, run),
-        Task::Stopped(halted) => Ok(Task::Stopped(halted)),
+        Task::Halted(halted) => Ok(Task::Halted(halted)),
         Task::Ended => Ok(Task::Ended),
         Task::Decided => Ok(Task::Decided),
     }
@@ -121,7 +121,7 @@ fn report<B: BoardSeat>(
     ensures cause { OnOk result (has_cause (B.number seat.old) subject.now.engine property (B.seen seat.new) ≡ true) }
 {
     match task {
-        Task::Stopped(halted) => post_halted(alloc, seat, subject.engine, property, halted),
+        Task::Halted(halted) => post_halted(alloc, seat, subject.engine, property, halted),
         Task::Ended => {
             let kept = Kept {
                 query: None,

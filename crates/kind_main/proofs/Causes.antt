@@ -14,8 +14,7 @@ use Rattle.board_core.specs.declared.plan.Plan.{Plan}
 use Rattle.board_core.specs.Entries.{Why, depth, frames, blocked, done, stopped, wide, Grounds, Claim, proved, broken, stuck, spent, Posting, AreSound, IsWhy, IsTrueAfter, OfQuery, IsWide}
 use Rattle.board_core.specs.Seats.{has_cause, is_spent}
 use Rattle.board_core.specs.Verdicts.{cause_of, cause_in, cause_if, or_later}
-use Rattle.kind_engine.specs.Ready.{all_flags}
-use Rattle.kind_main.specs.Causes.{IsPlain, IsTrueCause}
+use Rattle.kind_main.specs.Causes.{all_flags, IsPlain, IsTrueCause}
 
 -- ---- a cause that was posted is found
 

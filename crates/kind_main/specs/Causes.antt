@@ -1,5 +1,7 @@
 -- Why an engine leaves a property undecided, and when that is true.
-use Rattle.std.specs.Prelude.{⊤, ◌≡◌, ℕ, List, Some, take, slice_get}
+use Rattle.std.specs.Prelude.{⊤, ◌≡◌, ℕ, ◌&&◌, Bool, true, false, List, [], ◌∷◌, Some, take, slice_get}
+use Rattle.kind_num.specs.declared.Shape.{Shape}
+use Rattle.kind_num.specs.declared.Shape.TheVariants as s
 use Rattle.proof_steps.specs.StopView.{stop_view}
 use Rattle.sys_terms.specs.View.{Machine}
 use Rattle.board_core.specs.declared.plan.Plan.{Plan}
@@ -25,6 +27,15 @@ pub record IsTrueCause (m : Machine) (plan : Plan) (k : ℕ) (b : Because) : Typ
   pub grounds : Grounds
   pub says : entry.says ≡ spent b.engine k b.why grounds
   pub is_true : IsWhy m plan (take place history) b.engine k b.why grounds
+
+abbrev pub is_flag_shape : Shape → Bool
+is_flag_shape s.Flag = true
+is_flag_shape s.Number = false
+
+-- no variable is a number
+abbrev pub all_flags : List Shape → Bool
+all_flags [] = true
+all_flags (h ∷ hs) = is_flag_shape h && all_flags hs
 
 -- a cause of a system without numbers
 abbrev pub IsPlain : Why → Type 0

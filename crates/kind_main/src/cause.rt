@@ -6,9 +6,8 @@ ghost use Rattle.board_core.specs.Books.{machine_of, plan_of, history_of};
 ghost use Rattle.board_core.specs.Entries.{AreSound};
 ghost use Rattle.board_core.specs.Seats.{has_cause};
 ghost use Rattle.board_core.specs.View.{cause_view};
-ghost use Rattle.kind_engine.specs.Ready.{all_flags};
 ghost use Rattle.kind_main.specs.Options.{number_of};
-ghost use Rattle.kind_main.specs.Causes.{because_view, IsPlain, IsTrueCause, why_view};
+ghost use Rattle.kind_main.specs.Causes.{all_flags, because_view, IsPlain, IsTrueCause, why_view};
 
 use crate::options::EngineName;
 use board_core::Book;

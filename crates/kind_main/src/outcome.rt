@@ -1,5 +1,5 @@
 //! What is said of a property.
-ghost use Rattle.std.specs.Prelude.{◌≡◌, false, ◌<◌, ◌≤◌, ◌^◌, IfOk, length};
+ghost use Rattle.std.specs.Prelude.{◌≡◌, true, false, ◌<◌, ◌≤◌, ◌^◌, IfOk, length};
 ghost use Rattle.lus_tree.specs.Tree.{Component};
 ghost use Rattle.lus_tree.specs.View.{program_view};
 ghost use Rattle.lus_meaning.specs.BooleanRules.{IsBooleanChecked};
@@ -12,7 +12,7 @@ ghost use Rattle.board_core.specs.Books.{history_of, machine_of};
 ghost use Rattle.board_core.specs.Verdicts.{decides};
 ghost use Rattle.kind_engine.specs.Ready.{IsReady};
 ghost use Rattle.kind_main.specs.Options.{numbers_of, options_plan};
-ghost use Rattle.kind_main.specs.Causes.{because_view};
+ghost use Rattle.kind_main.specs.Causes.{all_flags, because_view};
 ghost use Rattle.kind_main.specs.Played.{AreCausesOf, IsBrokenAt, IsPlayed};
 ghost use Rattle.kind_main.specs.declared.options.Options.{Options as Choices};
 ghost use Rattle.kind_main.specs.Verdicts.{AreTrueVerdicts, IsReadable, IsTrueOfNumber, outcome_view, outcomes_view};
@@ -157,6 +157,7 @@ pub fn outcomes(
     requires system { (d : Component) → IsBooleanChecked (program_view checked.now) d
         → system_view system ≡ system_of (instance_of (program_view checked.now) d) }
     requires ready { IsReady (system_view system) (options_plan options) }
+    requires flags { all_flags (system_view system).shapes ≡ true }
     requires readable { IsReadable (program_view checked.now) }
     ensures { IfOk result (λ v. (d : Component) → IsBooleanChecked (program_view checked.now) d
         → AreTrueVerdicts options (program_view checked.now) d 0

@@ -10,20 +10,12 @@ use smt_solver::{Answer, SolveFault, solve};
 use std::alloc::Global;
 use sys_terms::{Obligation, PathAnswer, State, System, check_path};
 
-fn budgets(conflicts: u64) -> Budgets {
-    Budgets {
-        conflicts,
-        splits: 0,
-        pivots: 0,
-    }
-}
-
 /// Is there a path to this instant at which the property is false?
 fn at_instant(
     alloc: Global,
     system: &System,
     instant: u32,
-    conflicts: u64,
+    budgets: Budgets,
 ) -> Result<Answer, SolveFault>
     requires { IsReady (system_view system.now) }
 {
@@ -31,7 +23,7 @@ fn at_instant(
         property: 0,
         instant,
     };
-    solve(alloc, system, &what, &[], budgets(conflicts))
+    solve(alloc, system, &what, &[], budgets)
 }
 
 /// Are there states at which the property is true, and a next one at which it is false?
@@ -39,12 +31,12 @@ fn after_states(
     alloc: Global,
     system: &System,
     k: u32,
-    conflicts: u64,
+    budgets: Budgets,
 ) -> Result<Answer, SolveFault>
     requires { IsReady (system_view system.now) }
 {
     let what = Obligation::Step { property: 0, k };
-    solve(alloc, system, &what, &[], budgets(conflicts))
+    solve(alloc, system, &what, &[], budgets)
 }
 
 fn stop_text(alloc: Global, stop: &Stop) -> Result<String> {
@@ -53,7 +45,15 @@ fn stop_text(alloc: Global, stop: &Stop) -> Result<String> {
             let count = clauses.len();
             format!(in alloc; "stops after conflicts: {count}")?
         }
-        _ => format!(in alloc; "STOPS")?,
+        Stop::Splits(pairs) => {
+            let count = pairs.len();
+            format!(in alloc; "stops after splits: {count}")?
+        }
+        Stop::Pivots(start, _) => {
+            let count = start.pivots;
+            format!(in alloc; "stops after pivots: {count}")?
+        }
+        Stop::Past(_, _) => format!(in alloc; "comes past 128 bits")?,
     })
 }
 
@@ -80,12 +80,12 @@ fn base_text(alloc: Global, system: &System, last: u32, proofs: &[Proof]) -> Res
 }
 
 /// What comes of the instants from 0 to the last one.
-pub fn bases(alloc: Global, system: &System, last: u32, conflicts: u64) -> Result<String>
+pub fn bases(alloc: Global, system: &System, last: u32, budgets: Budgets) -> Result<String>
     requires { IsReady (system_view system.now) }
 {
     let mut proofs = Vec::new(alloc);
     for instant in 0..=last {
-        match at_instant(alloc, system, instant, conflicts)? {
+        match at_instant(alloc, system, instant, budgets)? {
             Answer::Unsat(proof) => proofs.push(proof)?,
             Answer::Sat(states) => return path_text(alloc, system, &states),
             Answer::Stop(stop) => return stop_text(alloc, &stop),
@@ -107,10 +107,10 @@ fn step_text(alloc: Global, system: &System, k: u32, proof: &Proof) -> Result<St
 }
 
 /// What comes of the step after k states.
-pub fn step(alloc: Global, system: &System, k: u32, conflicts: u64) -> Result<String>
+pub fn step(alloc: Global, system: &System, k: u32, budgets: Budgets) -> Result<String>
     requires { IsReady (system_view system.now) }
 {
-    match after_states(alloc, system, k, conflicts)? {
+    match after_states(alloc, system, k, budgets)? {
         Answer::Unsat(proof) => step_text(alloc, system, k, &proof),
         Answer::Sat(states) => {
             let count = states.len();

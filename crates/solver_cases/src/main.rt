@@ -1,9 +1,10 @@
-//! Small systems of flags are solved. Each refutation is made a fact, and each path is checked.
+//! Small systems of flags and of numbers are solved. Each refutation is made a fact, and each path is checked.
 
 #![tactic(auto)]
 
 mod asked;
 mod latches;
+mod numbers;
 mod pigeons;
 mod rows;
 mod small;

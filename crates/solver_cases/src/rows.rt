@@ -2,15 +2,20 @@
 
 use crate::asked::{bases, step};
 use crate::latches::ring;
+use crate::numbers::{counting, division, halves, lagging, limited, thirds, total};
 use crate::pigeons::pigeons;
 use crate::small::{crossing, latched, loose, three_way, turning, without_paths};
 use anyhow::Result;
-use smt_solver::is_boolean_system;
+use proof_steps::Budgets;
 use std::alloc::{AllocError, Global};
 use sys_terms::System;
 
-/// More conflicts than any row needs.
-const MANY: u64 = 100_000;
+/// More than any row needs.
+const MANY: Budgets = Budgets {
+    conflicts: 100_000,
+    splits: 2_000,
+    pivots: 200_000,
+};
 
 #[derive(Clone, Copy)]
 enum Which {
@@ -22,6 +27,13 @@ enum Which {
     WithoutPaths,
     Pigeons,
     Ring,
+    Counting,
+    Limited,
+    Lagging,
+    Halves,
+    Thirds,
+    Division,
+    Total,
 }
 
 #[derive(Clone, Copy)]
@@ -37,7 +49,7 @@ struct Case {
     name: &'static str,
     which: Which,
     question: Question,
-    conflicts: u64,
+    budgets: Budgets,
 }
 
 fn row(name: &'static str, which: Which, question: Question) -> Case {
@@ -45,12 +57,29 @@ fn row(name: &'static str, which: Which, question: Question) -> Case {
         name,
         which,
         question,
-        conflicts: MANY,
+        budgets: MANY,
     }
 }
 
 fn within(conflicts: u64, case: Case) -> Case {
-    Case { conflicts, ..case }
+    Case {
+        budgets: Budgets { conflicts, ..MANY },
+        ..case
+    }
+}
+
+fn within_splits(splits: u64, case: Case) -> Case {
+    Case {
+        budgets: Budgets { splits, ..MANY },
+        ..case
+    }
+}
+
+fn within_pivots(pivots: u64, case: Case) -> Case {
+    Case {
+        budgets: Budgets { pivots, ..MANY },
+        ..case
+    }
 }
 
 fn rows(alloc: Global) -> Result<Vec<Case>, AllocError> {
@@ -89,6 +118,32 @@ fn rows(alloc: Global) -> Result<Vec<Case>, AllocError> {
             0,
             row("a ring, 0 conflicts", Which::Ring, Question::Step(1))
         ),
+        row("counting to 2", Which::Counting, Question::Bases(2)),
+        row("counting after 1", Which::Counting, Question::Step(1)),
+        row("up to 4 to 4", Which::Limited, Question::Bases(4)),
+        row("up to 4 to 5", Which::Limited, Question::Bases(5)),
+        row("up to 4 after 3", Which::Limited, Question::Step(3)),
+        row("lagging to 5", Which::Lagging, Question::Bases(5)),
+        row("lagging after 1", Which::Lagging, Question::Step(1)),
+        row("lagging after 2", Which::Lagging, Question::Step(2)),
+        row("halves", Which::Halves, Question::Bases(0)),
+        within_splits(
+            0,
+            row("halves, 0 splits", Which::Halves, Question::Bases(0))
+        ),
+        within_splits(1, row("halves, 1 split", Which::Halves, Question::Bases(0))),
+        within_pivots(
+            0,
+            row("halves, 0 pivots", Which::Halves, Question::Bases(0))
+        ),
+        row("thirds", Which::Thirds, Question::Bases(0)),
+        within_splits(
+            0,
+            row("thirds, 0 splits", Which::Thirds, Question::Bases(0))
+        ),
+        row("division", Which::Division, Question::Bases(0)),
+        row("a sum", Which::Total, Question::Bases(0)),
+        within_pivots(0, row("a sum, 0 pivots", Which::Total, Question::Bases(0))),
     ]?)
 }
 
@@ -102,22 +157,25 @@ fn system_of(alloc: Global, which: Which) -> Result<System, AllocError> {
         Which::WithoutPaths => without_paths(alloc),
         Which::Pigeons => pigeons(alloc),
         Which::Ring => ring(alloc),
+        Which::Counting => counting(alloc),
+        Which::Limited => limited(alloc),
+        Which::Lagging => lagging(alloc),
+        Which::Halves => halves(alloc),
+        Which::Thirds => thirds(alloc),
+        Which::Division => division(alloc),
+        Which::Total => total(alloc),
     }
 }
 
 fn line(alloc: Global, case: Case) -> Result<String> {
     let system = system_of(alloc, case.which)?;
     let name = case.name;
-    if !(system.is_mild()
-        && system.shapes.len() < 1_000
-        && !system.properties.is_empty()
-        && is_boolean_system(&system))
-    {
+    if !(system.is_mild() && system.shapes.len() < 1_000 && !system.properties.is_empty()) {
         return Ok(format!(in alloc; "{name}: NOT READY")?);
     }
     let text = match case.question {
-        Question::Bases(last) => bases(alloc, &system, last, case.conflicts)?,
-        Question::Step(k) => step(alloc, &system, k, case.conflicts)?,
+        Question::Bases(last) => bases(alloc, &system, last, case.budgets)?,
+        Question::Step(k) => step(alloc, &system, k, case.budgets)?,
     };
     Ok(format!(in alloc; "{name}: {text}")?)
 }

@@ -4,8 +4,8 @@ use Rattle.kind_engine.proofs.asking.asked.Goals as goal
 
 pub solve-requires-clause-cited : goal.solve-requires-clause-cited
 solve-requires-clause-cited c = all-fit (system_view c.args.subject.now.system)
-    (terms_view c.args.cites.now) c.requires.citable.terms
+    (terms_view c.args.cites.now) c.requires.citable
 
 pub solve-requires-clause-light_cites : goal.solve-requires-clause-light_cites
 solve-requires-clause-light_cites c = are-light (system_view c.args.subject.now.system)
-    (terms_view c.args.cites.now) c.requires.citable.terms
+    (terms_view c.args.cites.now) c.requires.citable

@@ -1,7 +1,6 @@
-use Rattle.std.proofs.Common.{rules, ◌≡◌, ◌++◌, ◌∷◌, ◌+◌, [], true, ◌∙◌, subst, sym, ap}
+use Rattle.std.proofs.Common.{rules, ◌≡◌, ◌++◌, ◌∷◌, ◌+◌, [], ◌∙◌, subst, sym, ap}
 use Rattle.std.specs.Prelude.{Some, None}
 use Rattle.sys_terms.specs.View.{term_view}
-use Rattle.sys_terms.specs.Boolean.{is_boolean}
 use Rattle.cert_rules.specs.declared.cited.Cited.{Cited}
 use Rattle.cert_rules.specs.View.{cited_view, cites_view}
 use Rattle.board_core.specs.View.{news_view, statement_view}
@@ -18,7 +17,6 @@ returns-in_ok-push-in-Some c =
     let at : c.args.news.place ≡ front = search rules in
     let said : told_term (statement_view c.args.news.statement) ≡ Some (term_view term) =
     sym (rw c.in-Some.is at c.told_lemma.ensures) in
-    let boolean : is_boolean (term_view term) ≡ true = search rules in
     let one : Cited = record { place = c.args.news.place; term = term } in
     let e : c.push.new.self.items ≡ cites ++ one ∷ [] = search rules in
     let same : cited_view one ≡ record { place = front; term = term_view term } =
@@ -26,8 +24,7 @@ returns-in_ok-push-in-Some c =
     λ m plan history sound told h.
     subst (AreLemmas m history (front + 1))
     (sym (ap cites_view e ∙ (map-push cited_view cites one ∙ ap (λ x. cites_view cites ++ x ∷ []) same)))
-    (lemmas-take m plan history sound front (cites_view cites) h (news_view c.args.news) told at (term_view term) said
-    boolean)
+    (lemmas-take m plan history sound front (cites_view cites) h (news_view c.args.news) told at (term_view term) said)
 
 pub returns-in-None : goal.returns-in-None
 returns-in-None c =

@@ -1,8 +1,8 @@
 use Rattle.std.proofs.Common.{◌<◌, length, take, subst, sym, ap}
-use Rattle.proof_steps.specs.StopView.{stop_view}
 use Rattle.sys_terms.specs.View.{Machine, system_view}
 use Rattle.board_core.specs.declared.plan.Plan.{Plan}
-use Rattle.board_core.specs.Entries.{IsTrueAfter, spent, stopped}
+use Rattle.board_core.specs.Entries.{IsTrueAfter, spent}
+use Rattle.board_core.specs.View.{cause_view}
 use Rattle.board_core.proofs.Turns.{begins-take}
 use Rattle.kind_engine.specs.Halts.{halted_grounds}
 use Rattle.kind_engine.proofs.Histories.{true-later, depth-later}
@@ -15,12 +15,12 @@ post_halted-requires g c =
     let plan = c.args.subject.now.plan in
     let seen = b.seen c.args.seat.now in
     let front = b.front c.args.seat.now in
-    let h = c.in-Stopped.halted in
-    let says = spent c.args.subject.now.engine c.args.property (stopped (stop_view h.stop)) (halted_grounds h) in
+    let h = c.in-Halted.halted in
+    let says = spent c.args.subject.now.engine c.args.property (cause_view h.cause) (halted_grounds h) in
     record {
       true_one = subst (λ (k : Machine). IsTrueAfter k (b.plan c.args.seat.now) seen says) (sym c.requires.book.0)
           (subst (λ (k : Plan). IsTrueAfter m k seen says) (sym c.requires.book.1)
-          (true-later m plan (take front seen) seen says (begins-take front seen) (rw c.in-Stopped.is at c.requires.task)));
+          (true-later m plan (take front seen) seen says (begins-take front seen) (rw c.in-Halted.is at c.requires.task)));
     }
 
 pub post_spent-requires : goal.post_spent-requires

@@ -1,8 +1,10 @@
-use Rattle.std.proofs.Common.{◌≡◌, ◌≤◌, length, map, refl, ap, ◌∙◌, sym, subst}
+use Rattle.std.proofs.Common.{◌≡◌, ◌≤◌, true, length, map, refl, ap, ◌∙◌, sym, subst}
 use Rattle.lus_tree.specs.View.{node_view, program_view}
 use Rattle.lus_meaning.specs.Program.{instance_of}
 use Rattle.lus_meaning.specs.Property.{properties}
+use Rattle.sys_terms.specs.View.{Machine}
 use Rattle.kind_engine.specs.Ready.{IsReady}
+use Rattle.kind_main.specs.Causes.{all_flags}
 use Rattle.kind_main.specs.Options.{options_plan}
 use Rattle.kind_main.specs.Ending.{line_bytes, lines_view}
 use Rattle.kind_main.specs.Report.{labelled_in}
@@ -10,7 +12,7 @@ use Rattle.kind_main.specs.Verdicts.{counts_of, outcome_view, outcomes_view, pro
 use Rattle.kind_main.proofs.Deciding.{as_many_verdicts}
 use Rattle.kind_main.proofs.Lists.{as_long}
 use Rattle.kind_main.proofs.Proofs.{proof_made}
-use Rattle.kind_main.proofs.Ready.{ready_system}
+use Rattle.kind_main.proofs.Ready.{flags_alone, ready_system}
 use Rattle.kind_main.proofs.Replayed.{labelled_many}
 use Rattle.kind_main.proofs.Reporting.{pushed-line}
 use Rattle.kind_main.proofs.proving.proof_report.Goals as goal
@@ -18,9 +20,15 @@ use Rattle.kind_main.proofs.proving.proof_report.Goals as goal
 pub outcomes-requires-clause-ready : goal.outcomes-requires-clause-ready
 outcomes-requires-clause-ready c =
     subst (λ m. IsReady m (options_plan c.args.options)) (sym (c.in-Ok.ensures.exact (node_view c.node-node.result.now) c.node-node.ensures.rules))
-    (ready_system c.mild_systems.ensures c.small_systems.ensures c.few_properties.ensures c.systems_of_flags.ensures c.args.options c.requires.range
+    (ready_system c.mild_systems.ensures c.small_systems.ensures c.few_properties.ensures c.args.options c.requires.range
     (program_view c.args.checked.now) (node_view c.node-node.result.now)
     c.node-node.ensures.rules c.node-node.ensures.limits)
+
+pub outcomes-requires-clause-flags : goal.outcomes-requires-clause-flags
+outcomes-requires-clause-flags c =
+    subst (λ (m : Machine). all_flags m.shapes ≡ true) (sym (c.in-Ok.ensures.exact (node_view c.node-node.result.now) c.node-node.ensures.rules))
+    (flags_alone c.systems_of_flags.ensures (program_view c.args.checked.now) (node_view c.node-node.result.now)
+    c.node-node.ensures.rules)
 
 pub verdict_report-requires : goal.verdict_report-requires
 verdict_report-requires c =

@@ -1,0 +1,6 @@
+use Rattle.std.specs.Prelude.{◌≡◌, drop}
+use Rattle.sys_terms.specs.Fits.{is_narrow}
+use Rattle.kind_engine.proofs.large.large_entry.Given as goal
+
+abbrev pub invariant-loop-number : goal.invariant-loop-number
+invariant-loop-number l = is_narrow (drop l.number l.values) ≡ is_narrow l.fn.values

@@ -1,0 +1,182 @@
+//! Systems of one or two numbers.
+
+use crate::terms::{
+    at_most, choose_number, constant, equal, multiple, next_number, number, plus, quotient,
+    remainder,
+};
+use kind_num::Shape;
+use std::alloc::{AllocError, Global};
+use sys_terms::{Num, System, Term};
+
+/// So many numbers and one property, with no condition.
+fn system(alloc: Global, count: u32, property: Term) -> Result<System, AllocError> {
+    let mut shapes = Vec::new(alloc);
+    for _ in 0..count {
+        shapes.push(Shape::Number)?;
+    }
+    Ok(System {
+        shapes,
+        first: Vec::new(alloc),
+        here: Vec::new(alloc),
+        next: Vec::new(alloc),
+        legal: Vec::new(alloc),
+        properties: vec![in alloc; property]?,
+    })
+}
+
+/// The number at the next state is this.
+fn becomes(alloc: Global, variable: u32, value: Num) -> Result<Term, AllocError> {
+    equal(alloc, next_number(variable), value)
+}
+
+/// The number is this constant.
+fn is(alloc: Global, variable: u32, value: i128) -> Result<Term, AllocError> {
+    equal(alloc, number(variable), constant(value))
+}
+
+/// The number is at most this.
+fn up_to(alloc: Global, variable: u32, most: i128) -> Result<Term, AllocError> {
+    at_most(alloc, number(variable), constant(most))
+}
+
+/// The number is at least this.
+fn from(alloc: Global, variable: u32, least: i128) -> Result<Term, AllocError> {
+    at_most(alloc, constant(least), number(variable))
+}
+
+/// The first number and this constant.
+fn first_and(alloc: Global, value: i128) -> Result<Num, AllocError> {
+    plus(alloc, number(0), constant(value))
+}
+
+/// The first number grows by 1.
+fn push_growth(alloc: Global, terms: &mut Vec<Term>) -> Result<(), AllocError> {
+    let more = first_and(alloc, 1)?;
+    terms.push(becomes(alloc, 0, more)?)?;
+    Ok(())
+}
+
+/// A number that counts from 0 on, with this property.
+fn counter(alloc: Global, property: Term) -> Result<System, AllocError> {
+    let mut system = system(alloc, 1, property)?;
+    system.first.push(is(alloc, 0, 0)?)?;
+    push_growth(alloc, &mut system.next)?;
+    Ok(system)
+}
+
+/// It is at least 0.
+pub fn counting(alloc: Global) -> Result<System, AllocError> {
+    counter(alloc, from(alloc, 0, 0)?)
+}
+
+/// It is at most 4: false at instant 5, and after any number of states that begin below 0.
+pub fn limited(alloc: Global) -> Result<System, AllocError> {
+    counter(alloc, up_to(alloc, 0, 4)?)
+}
+
+/// The first number and 1 where it is at most 2, else itself.
+fn saturated(alloc: Global) -> Result<Num, AllocError> {
+    let more = first_and(alloc, 1)?;
+    choose_number(alloc, up_to(alloc, 0, 2)?, more, number(0))
+}
+
+/// The first number grows by 1 where it is at most 2, and then stays.
+fn saturates(alloc: Global) -> Result<Term, AllocError> {
+    let value = saturated(alloc)?;
+    becomes(alloc, 0, value)
+}
+
+/// Both numbers are 0.
+fn push_zeros(alloc: Global, terms: &mut Vec<Term>) -> Result<(), AllocError> {
+    terms.push(is(alloc, 0, 0)?)?;
+    terms.push(is(alloc, 1, 0)?)?;
+    Ok(())
+}
+
+/// The first number saturates, and the second becomes what the first is.
+fn push_lag(alloc: Global, terms: &mut Vec<Term>) -> Result<(), AllocError> {
+    terms.push(saturates(alloc)?)?;
+    terms.push(becomes(alloc, 1, number(0))?)?;
+    Ok(())
+}
+
+/// A counter that stops at 3, and a second number that is what it was a state before, both 0 at first.
+/// That the second is at most 3 does not follow from one state, whose first number may be greater; it
+/// follows from two.
+pub fn lagging(alloc: Global) -> Result<System, AllocError> {
+    let mut system = system(alloc, 2, up_to(alloc, 1, 3)?)?;
+    push_zeros(alloc, &mut system.first)?;
+    push_lag(alloc, &mut system.next)?;
+    Ok(system)
+}
+
+/// The number is from 0 to 3.
+fn push_range(alloc: Global, terms: &mut Vec<Term>, variable: u32) -> Result<(), AllocError> {
+    terms.push(from(alloc, variable, 0)?)?;
+    terms.push(up_to(alloc, variable, 3)?)?;
+    Ok(())
+}
+
+/// Two numbers from 0 to 3.
+fn in_ranges(alloc: Global, property: Term) -> Result<System, AllocError> {
+    let mut system = system(alloc, 2, property)?;
+    push_range(alloc, &mut system.here, 0)?;
+    push_range(alloc, &mut system.here, 1)?;
+    Ok(system)
+}
+
+/// Twice the second number and 1.
+fn odd(alloc: Global) -> Result<Num, AllocError> {
+    plus(alloc, multiple(alloc, 2, number(1))?, constant(1))
+}
+
+/// Twice the first number is that.
+fn is_odd_twice(alloc: Global) -> Result<Term, AllocError> {
+    let odd = odd(alloc)?;
+    equal(alloc, multiple(alloc, 2, number(0))?, odd)
+}
+
+/// Twice one number from 0 to 3 is one more than twice another: no state, since one is even and the
+/// other odd. Fractions meet it, so that it takes splits to see that.
+pub fn halves(alloc: Global) -> Result<System, AllocError> {
+    let mut system = in_ranges(alloc, Term::Truth(false))?;
+    let odd = plus(alloc, multiple(alloc, 2, number(1))?, constant(1))?;
+    system
+        .here
+        .push(equal(alloc, multiple(alloc, 2, number(0))?, odd)?)?;
+    Ok(system)
+}
+
+/// Three times the first number is 7.
+fn is_third(alloc: Global) -> Result<Term, AllocError> {
+    equal(alloc, multiple(alloc, 3, number(0))?, constant(7))
+}
+
+/// Three times a number is 7: no state. The bounds of the number, rounded to whole ones, cross at once.
+pub fn thirds(alloc: Global) -> Result<System, AllocError> {
+    let mut system = system(alloc, 1, Term::Truth(false))?;
+    system.here.push(is_third(alloc)?)?;
+    Ok(system)
+}
+
+/// The first number is three times its quotient by 3 and the remainder.
+fn divides(alloc: Global) -> Result<Term, AllocError> {
+    let thirds = multiple(alloc, 3, quotient(alloc, number(0), 3)?)?;
+    let whole = plus(alloc, thirds, remainder(alloc, number(0), 3)?)?;
+    equal(alloc, number(0), whole)
+}
+
+/// A number from 0 to 3 that is so. A quotient of its own stands behind the remainder, so that it takes
+/// splits to see that both are one.
+pub fn division(alloc: Global) -> Result<System, AllocError> {
+    let mut system = system(alloc, 1, divides(alloc)?)?;
+    push_range(alloc, &mut system.here, 0)?;
+    Ok(system)
+}
+
+/// Two numbers from 0 to 3 whose sum is at most 0. It is not where one is 1, to which a pivot comes from
+/// both being 0.
+pub fn total(alloc: Global) -> Result<System, AllocError> {
+    let sum = plus(alloc, number(0), number(1))?;
+    in_ranges(alloc, at_most(alloc, sum, constant(0))?)
+}
