@@ -1,0 +1,4 @@
+pub mod Sights
+pub mod Texts
+pub mod Views
+pub mod Laws
