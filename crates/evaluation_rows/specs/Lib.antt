@@ -1,0 +1,3 @@
+pub mod Orders
+pub mod OrderRows
+pub mod PastRows

@@ -1,0 +1,4 @@
+pub mod OneOrder
+pub mod OneEvaluation
+pub mod FirstPast
+pub mod OneOutcome

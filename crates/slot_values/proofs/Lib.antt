@@ -1,0 +1,5 @@
+pub mod Stepwise
+pub mod Mismatched
+pub mod ByZero
+pub mod WorthSeen
+pub mod WorthOff

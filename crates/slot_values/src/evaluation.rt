@@ -1,0 +1,107 @@
+//! Evaluation.
+
+ghost use Rattle.std.specs.Prelude.{◌≡◌};
+ghost use Rattle.lus_meaning.specs.TraceView.{entry_view};
+ghost use Rattle.slot_values.specs.Resolution.{resolved_view};
+ghost use Rattle.slot_values.specs.Evaluated.{answer_view, slots_in, only_where, is_there, evaluated};
+ghost use Rattle.slot_values.specs.Stepwise.{stepwise};
+
+use crate::operation::{chosen, combined, is_truth, negated, opposite};
+use crate::resolved::{PastAt, Resolved};
+use lus_meaning::Value;
+
+/// The value of a slot; none behind the end of the row.
+fn slot_value(row: &[Option<Value>], slot: u32) -> Option<Value>
+    ensures { entry_view result ≡ slots_in row.now slot }
+{
+    match row.get(slot as usize) {
+        Some(value) => *value,
+        None => None,
+    }
+}
+
+/// The value where that is wanted.
+fn value_if(on: bool, value: Option<Value>) -> Option<Value>
+    ensures { entry_view result ≡ only_where on (entry_view value) }
+{
+    if on { value } else { None }
+}
+
+/// Whether there is a value.
+fn is_present(value: Option<Value>) -> bool
+    ensures { result ≡ is_there (entry_view value) }
+{
+    match value {
+        Some(Value::Truth(_)) => true,
+        Some(Value::Whole(_)) => true,
+        None => false,
+    }
+}
+
+#[cycle(walk)]
+fn walk(e: &Resolved, on: bool, row: &[Option<Value>]) -> Result<Option<Value>, PastAt>
+    ensures { answer_view result ≡ stepwise (slots_in row.now) on (resolved_view e.now) }
+{
+    match e {
+        Resolved::Known(value) => Ok(value_if(on, Some(*value))),
+        Resolved::Slot(slot) => Ok(value_if(on, slot_value(row, *slot))),
+        Resolved::Not(a) => {
+            let a = walk(a, on, row)?;
+            Ok(negated(a))
+        }
+        Resolved::Minus(at, a) => {
+            let a = walk(a, on, row)?;
+            opposite(*at, a)
+        }
+        Resolved::Binary(at, operator, a, b) => {
+            let a = walk(a, on, row)?;
+            let b = walk(b, on, row)?;
+            combined(*at, *operator, a, b)
+        }
+        Resolved::If(c, a, b) => {
+            let c = walk(c, on, row)?;
+            let a = walk(a, on, row)?;
+            let b = walk(b, on, row)?;
+            Ok(chosen(c, a, b))
+        }
+        Resolved::Arrow(start, a, b) => {
+            let a = walk(a, on, row)?;
+            let b = walk(b, on, row)?;
+            Ok(chosen(slot_value(row, *start), a, b))
+        }
+        Resolved::When(slot, wanted, a) => {
+            let clock = slot_value(row, *slot);
+            let a = walk(a, is_present(clock), row)?;
+            Ok(value_if(is_truth(*wanted, clock), a))
+        }
+        Resolved::Merge(slot, a, b) => {
+            let clock = slot_value(row, *slot);
+            let a = walk(a, is_truth(true, clock), row)?;
+            let b = walk(b, is_truth(false, clock), row)?;
+            Ok(chosen(clock, a, b))
+        }
+        Resolved::Latest(condition, beat, output, held) => {
+            walk(condition, on, row)?;
+            let value = chosen(
+                slot_value(row, *beat),
+                slot_value(row, *output),
+                slot_value(row, *held),
+            );
+            Ok(value_if(on, value))
+        }
+    }
+}
+
+/// The value of an expression in the row of values of its frame's slots, where its own clock is on or not; none where it
+/// is absent.
+///
+/// # Errors
+///
+/// The first of its operations, operands from left to right and before their operator, whose result is outside 128 bits,
+/// at the clocks that are on.
+#[tactic(auto, using(crate::proofs::Stepwise::stepwise_is))]
+pub fn evaluate(e: &Resolved, on: bool, row: &[Option<Value>]) -> Result<Option<Value>, PastAt>
+    ensures { answer_view result ≡ evaluated (slots_in row.now) on (resolved_view e.now) }
+{
+    walk(e, on, row)
+}

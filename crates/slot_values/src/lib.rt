@@ -1,0 +1,13 @@
+//! The value of an expression over a row of slot values, with numbers of 128 bits: the value, or the first operation in
+//! it whose result is outside.
+//!
+//! The names of an expression are found before any instant is evaluated: it is resolved to numbers of slots.
+#![tactic(auto)]
+
+mod evaluation;
+pub mod laws;
+mod operation;
+mod resolved;
+
+pub use evaluation::evaluate;
+pub use resolved::{PastAt, Resolved};
