@@ -95,7 +95,9 @@ pub returns-in-Err-clause-kept : goal.returns-in-Err-clause-kept
 returns-in-Err-clause-kept c = kept_pairs c.args.assignment.now c.args.head c.args.watches.now c.replace.new.self c.in-Err.ensures.err.pairs
 
 pub returns-in-Ok-clause-kept : goal.returns-in-Ok-clause-kept
-returns-in-Ok-clause-kept c = kept c.args.clauses.now c.args.assignment.now c.requires.is_trail c.args.watches.now c.args.head c.args.literal c.args.at c.requires.visiting
+returns-in-Ok-clause-kept c =
+    kept c.args.clauses.now c.args.assignment.now c.requires.is_trail c.args.watches.now c.args.head c.args.literal c.args.at
+    c.requires.visiting
     c.args.number c.requires.entry c.args.other c.requires.other (clause_view c.look-clause.result.now) c.in-Some.found
     c.replace.new.self c.look-clause.ensures.clause
     (subst (λ x. IsReplacement c.args.assignment.now x c.args.other (Some c.in-Some.found)) c.as_slice.ensures c.in-Some.ensures)
