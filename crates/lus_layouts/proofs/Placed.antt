@@ -17,7 +17,7 @@ use Rattle.lus_limits.specs.Widths.{frame_width}
 use Rattle.lus_limits.proofs.Instances.{component_called, made_of_callees}
 use Rattle.lus_limits.proofs.Sums.{frame_so, own_in}
 use Rattle.lus_limits.proofs.Widths.{any_way, width_by_text}
-use Rattle.lus_layouts.specs.Layouts.{callee_width, places_from, LaidOut, laid_out, layout_of, own_count, IsPlaced, ArePlaced, LayoutsHold}
+use Rattle.lus_layouts.specs.Layouts.{callee_width, calls_from, LaidOut, laid_out, layout_of, own_count, IsPlaced, ArePlaced, LayoutsHold}
 
 -- ---- lists
 
@@ -97,7 +97,7 @@ module _ (p : Program) (i : Instance) (path : List ℕ) (own : ℕ) where
 
   -- behind these slots
   all_placed : (pre : List Slot) (before : ℕ) (ss : List Site) → length pre ≡ own + before → before + sites_width (frame_width p) p ss < bound
-      → ArePlaced (pre ++ slots_behind ss) own p i path ss (places_from before (map (link_of p) ss))
+      → ArePlaced (pre ++ slots_behind ss) own p i path ss (calls_from before (map (link_of p) ss))
   all_placed pre before [] e l = tt
   all_placed pre before (s ∷ ss) e l =
       let w : width_of s ≡ frame_width p (as_import []) (callee p s.callee) + sofar_count (way_of s.manner) (not (is_none (callee p s.callee).contract)) =
@@ -113,8 +113,8 @@ module _ (p : Program) (i : Instance) (path : List ℕ) (own : ℕ) where
       ∙ ap (λ xs. pre ++ xs) (sym (called s ss)) in (
         subst (λ xs. IsPlaced xs own p i path s (record { held = (link_of p s).held; frame = cut (before + (link_of p s).held) }))
             (ap (λ xs. pre ++ xs) (sym (called s ss))) (one_placed pre (slots_behind ss) before s e f),
-        subst (λ k. ArePlaced (pre ++ slots_behind (s ∷ ss)) own p i path ss (places_from k (map (link_of p) ss))) (sym n)
-            (subst (λ xs. ArePlaced xs own p i path ss (places_from (before + (held_many s + width_of s)) (map (link_of p) ss))) same
+        subst (λ k. ArePlaced (pre ++ slots_behind (s ∷ ss)) own p i path ss (calls_from k (map (link_of p) ss))) (sym n)
+            (subst (λ xs. ArePlaced xs own p i path ss (calls_from (before + (held_many s + width_of s)) (map (link_of p) ss))) same
             (all_placed next (before + (held_many s + width_of s)) ss m (omega arith))),
       )
     where
@@ -160,7 +160,7 @@ layouts_hold p c n i m path l =
       many = many;
       own = λ j h. ap (λ xs. slice_get xs j) made
           ∙ got_before cells (call_slots k path (instances_with (instance_called_so p) (all_sites n))) j (omega arith);
-      calls = subst (λ xs. ArePlaced xs (own_count (way_of m) (layout_of p n)) p k path (all_sites n) (layout_of p n).places) (sym made)
+      calls = subst (λ xs. ArePlaced xs (own_count (way_of m) (layout_of p n)) p k path (all_sites n) (layout_of p n).calls) (sym made)
           (all_placed p k path (own_count (way_of m) (layout_of p n)) cells 0 (all_sites n) (omega arith) (omega arith));
     }
   where

@@ -4,4 +4,4 @@
 pub mod laws;
 mod placing;
 
-pub use placing::{Layout, Place, layouts};
+pub use placing::{CallSlots, Layout, layouts};

@@ -6,7 +6,7 @@ ghost use Rattle.lus_meaning.specs.ClockFaults.{components};
 ghost use Rattle.lus_meaning.specs.Refusals.{IsChecked};
 ghost use Rattle.lus_limits.specs.Framed.{frame_view};
 ghost use Rattle.lus_limits.specs.Summaries.{cut, sofar_count};
-ghost use Rattle.lus_layouts.specs.Layouts.{callee_width, laid_out, layout_of, layout_view, own_count, places_from};
+ghost use Rattle.lus_layouts.specs.Layouts.{callee_width, calls_from, laid_out, layout_of, layout_view, own_count};
 
 use lus_limits::{Frame, Link, Way, program_frames};
 use lus_tree::Program;
@@ -18,7 +18,7 @@ const BOUND: usize = 20_001;
 /// Where a call stands in its caller's frame: the caller holds `held` of its outputs, and right behind them the callee's
 /// frame begins, `frame` slots behind the caller's own cells.
 #[derive(Clone, Copy)]
-pub struct Place {
+pub struct CallSlots {
     pub held: usize,
     pub frame: usize,
 }
@@ -29,7 +29,7 @@ pub struct Place {
 pub struct Layout {
     pub own: usize,
     pub imported: usize,
-    pub places: Vec<Place>,
+    pub calls: Vec<CallSlots>,
 }
 
 impl Layout {
@@ -64,7 +64,7 @@ fn with_sofar(count: usize, way: Way, contract: bool) -> usize
 
 /// Behind how many slots the next call stands, behind one that stands behind so many.
 #[tactic(auto, using(crate::proofs::Cuts::cut_next))]
-fn place_behind(before: usize, link: &Link) -> usize
+fn behind_call(before: usize, link: &Link) -> usize
     ensures { result ≡ cut (before + (link.now.held + callee_width link.now)) }
 {
     let callee = with_sofar(link.callee.frame, link.way, link.callee.contract);
@@ -72,19 +72,19 @@ fn place_behind(before: usize, link: &Link) -> usize
 }
 
 /// Where calls stand, behind the caller's own cells.
-fn places(alloc: Global, links: &[Link]) -> Result<Vec<Place>, AllocError>
-    ensures { IfOk result (λ v. v.items ≡ places_from 0 links.now) }
+fn placed_calls(alloc: Global, links: &[Link]) -> Result<Vec<CallSlots>, AllocError>
+    ensures { IfOk result (λ v. v.items ≡ calls_from 0 links.now) }
 {
-    let mut places = Vec::with_capacity(alloc, links.len())?;
+    let mut calls = Vec::with_capacity(alloc, links.len())?;
     let mut before = 0;
     for link in links {
-        places.push(Place {
+        calls.push(CallSlots {
             held: link.held,
             frame: sum(before, link.held),
         })?;
-        before = place_behind(before, link);
+        before = behind_call(before, link);
     }
-    Ok(places)
+    Ok(calls)
 }
 
 /// Where the slots of a frame stand.
@@ -94,7 +94,7 @@ fn laid_out(alloc: Global, frame: &Frame) -> Result<Layout, AllocError>
     Ok(Layout {
         own: with_sofar(frame.own, Way::Plain, frame.contract),
         imported: frame.own,
-        places: places(alloc, &frame.links)?,
+        calls: placed_calls(alloc, &frame.links)?,
     })
 }
 
