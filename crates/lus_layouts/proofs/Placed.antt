@@ -1,5 +1,5 @@
 -- The slots of a frame stand where its layout says.
-use Rattle.std.proofs.Common.{◌≡◌, ℕ, zero, suc, ◌+◌, ◌<◌, List, [], ◌∷◌, ◌++◌, map, length, length-append, append_assoc, zero-add, refl, sym, ap, ◌∙◌, subst, arith}
+use Rattle.std.proofs.Common.{◌≡◌, ℕ, zero, suc, ◌+◌, ◌<◌, ◌≤◌, List, [], ◌∷◌, ◌++◌, map, length, length-append, append_assoc, zero-add, refl, sym, ap, ◌∙◌, subst, arith}
 use Rattle.std.proofs.Common.{IfOk, Result, Ok, Err}
 use Rattle.std.specs.Prelude.{is_none, not, slice_get}
 use Rattle.lus_tree.specs.Tree.{Component, Program}
@@ -40,6 +40,9 @@ got_within xs ys zs j k e h = ap (λ i. slice_get (xs ++ (ys ++ zs)) (i + k)) e 
 
 exact : (h k : ℕ) → h + k < bound → cut h ≡ h
 exact h k l = omega arith
+
+has_room : (before h : ℕ) → cut h ≤ cut (before + cut h)
+has_room before h = omega arith
 
 same_start : (own before h w j n : ℕ) → before + (h + w) < bound → j + cut h ≡ cut (before + cut h) → n ≡ own + before → own + j ≡ n
 same_start own before h w j n l e f = omega arith
@@ -87,6 +90,7 @@ module _ (p : Program) (i : Instance) (path : List ℕ) (own : ℕ) where
       (record { held = (link_of p s).held; frame = cut (before + (link_of p s).held) })
   one_placed pre rest before s e l = record {
     many = exact (held_many s) (before + width_of s) (omega arith);
+    room = has_room before (held_many s);
     held = λ j k a b. got_within pre (held_of s) (slots_of s ++ rest) (own + j) k
         (same_start own before (held_many s) (width_of s) j (length pre) l a e) (is_held (held_many s) k (length (held_of s)) b (many_held s));
     frame = λ k a. ap (λ xs. slice_get xs ((own + cut (before + cut (held_many s))) + k)) (sym (append_assoc pre (held_of s) (slots_of s ++ rest)))

@@ -1,5 +1,5 @@
 -- Where the slots of a frame stand: its own ones, then for each call those that are held of it and those of its frame.
-use Rattle.std.specs.Prelude.{◌≡◌, ℕ, ◌+◌, ◌<◌, List, [], ◌∷◌, ◌++◌, map, length, slice_get}
+use Rattle.std.specs.Prelude.{◌≡◌, ℕ, ◌+◌, ◌<◌, ◌≤◌, List, [], ◌∷◌, ◌++◌, map, length, slice_get}
 use Rattle.lus_tree.specs.Tree.{Component, Program}
 use Rattle.lus_meaning.specs.Program.{all_sites, instance_of}
 use Rattle.lus_meaning.specs.RuleLaws.{OfEach}
@@ -55,6 +55,7 @@ own_count Condition l = l.own
 -- this are those of the callee.
 pub record IsPlaced (all : List Slot) (own : ℕ) (p : Program) (i : Instance) (path : List ℕ) (s : Site) (q : CallSlots) : Type 0 where
   pub many : q.held ≡ length (held_cells s (callee p s.callee) s.manner)
+  pub room : q.held ≤ q.frame
   pub held : (j k : ℕ) → j + q.held ≡ q.frame → k < q.held
       → slice_get all ((own + j) + k) ≡ slice_get (map (slot i path) (held_cells s (callee p s.callee) s.manner)) k
   pub frame : (k : ℕ) → k < frame_width p s.manner (callee p s.callee)
