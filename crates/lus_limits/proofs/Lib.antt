@@ -20,3 +20,4 @@ pub mod Contracted
 mod Settled
 pub mod Nodes
 pub mod SystemSizes
+pub mod LinkedFrames

@@ -164,7 +164,7 @@ size_is p os s a e =
     let r : (d : Needs) × IsAt p (components p) os (number_of (names_of p) s.callee) (callee p s.callee) d = callee_known p os s a e in
     ap sizes_or r.1.needs ∙ r.1.right.sizes
 
-links_are : (p : Program) (os : List (Option Needs)) → AreKnown p (components p) os → (ss : List Site) → all_known (names_of p) os (map called_of ss) ≡ true
+pub links_are : (p : Program) (os : List (Option Needs)) → AreKnown p (components p) os → (ss : List Site) → all_known (names_of p) os (map called_of ss) ≡ true
     → map (link_at (names_of p) (components p) os) (map called_of ss) ≡ map (link_of p) ss
 links_are p os a [] e = refl
 links_are p os a (s ∷ ss) e =

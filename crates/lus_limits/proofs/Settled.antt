@@ -1,5 +1,5 @@
 -- When nothing is left to note, all are known, as callees are lower.
-use Rattle.std.proofs.Common.{◌≡◌, ℕ, zero, suc, ◌<◌, Bool, true, false, ◌||◌, ◌&&◌, List, [], ◌∷◌, ◌++◌, length, map, get_or, Option, Some, None, refl, sym, ap, ◌∙◌, subst, arith}
+use Rattle.std.proofs.Common.{◌≡◌, ℕ, zero, suc, ◌<◌, ◌≤◌, Bool, true, false, ◌||◌, ◌&&◌, List, [], ◌∷◌, ◌++◌, length, map, get_or, Option, Some, None, refl, sym, ap, ◌∙◌, subst, arith}
 use Rattle.std.specs.Prelude.{Contains, MatchOption, unwrap_or, replicate}
 use Rattle.std.specs.Option.{IsSome}
 use Rattle.std.proofs.lemmas.Option.{none-some}
@@ -26,7 +26,7 @@ use Rattle.way_laws.specs.Laws.{GoesLower}
 use Rattle.way_laws.proofs.Callees.{callees_lower}
 use Rattle.lus_limits.specs.declared.needs.Needs.{Needs}
 use Rattle.lus_limits.specs.Calls.{called_of}
-use Rattle.lus_limits.specs.Needed.{AllKnown, AreKnown, IsSettled, IsStuckAt, all_known, is_known, names_of}
+use Rattle.lus_limits.specs.Needed.{AllKnown, AreKnown, AreTried, AreTriedFrom, IsSettled, IsStuckAt, IsTried, unknowns, all_known, is_known, names_of}
 use Rattle.lus_limits.proofs.Needed.{found_at, many_named}
 
 mentioned : (ns : List Component) (m : Component) → Contains ns m → named_in m.name.text (map (λ (n : Component). n.name.text) ns) ≡ true
@@ -88,6 +88,85 @@ module _ (p : Program) (c : IsChecked p) (known : List (Option Needs))
 
   pub each_known : (j : ℕ) → j < length (components p) → is_known known j ≡ true
   each_known j h = known_below (suc (rank (at j))) j h (omega arith)
+
+-- ---- rounds
+
+first_or_later : (k j : ℕ) → k ≤ j → (k ≡ j) ⊎ (suc k ≤ j)
+first_or_later zero zero h = inl refl
+first_or_later zero (suc j) h = inr (omega arith)
+first_or_later (suc k) zero h = absurd (omega (arith, h))
+first_or_later (suc k) (suc j) h = go (first_or_later k j (omega (arith, h)))
+  where
+    go : (k ≡ j) ⊎ (suc k ≤ j) → (suc k ≡ suc j) ⊎ (suc (suc k) ≤ suc j)
+    go (inl e) = inl (ap suc e)
+    go (inr l) = inr (omega (arith, l))
+
+-- one more from the back
+pub tried_back : (names : List Name) (ns : List Component) (old mid new : List (Option Needs)) (k many : ℕ) (more one : Bool)
+    → AreTriedFrom names ns old mid (suc k) many more → IsTried names ns mid new k one → AreTriedFrom names ns old new k many (more || one)
+tried_back names ns old mid new k many more one a b = record {
+  kept = λ p c g q r. b.kept p c g q (a.kept p c g q r);
+  same_many = b.many ∙ a.same_many;
+  added = added more one a.added a.stays b.added b.stays;
+  stays = stays more one a.stays b.stays;
+}
+  where
+    added : (more one : Bool) → (more ≡ true → unknowns mid < unknowns old)
+        → (more ≡ false → (mid ≡ old) × ((j : ℕ) → suc k ≤ j → j < many → IsStuckAt names ns old j)) → (one ≡ true → unknowns new < unknowns mid)
+        → (one ≡ false → (new ≡ mid) × IsStuckAt names ns mid k) → (more || one) ≡ true → unknowns new < unknowns old
+    added true true f g h i e = omega (arith, f refl, h refl)
+    added true false f g h i e = omega (arith, f refl, ap unknowns (i refl).0)
+    added false true f g h i e = omega (arith, h refl, ap unknowns (g refl).0)
+    added false false f g h i e = absurd (false≢true e)
+
+    stays : (more one : Bool) → (more ≡ false → (mid ≡ old) × ((j : ℕ) → suc k ≤ j → j < many → IsStuckAt names ns old j))
+        → (one ≡ false → (new ≡ mid) × IsStuckAt names ns mid k) → (more || one) ≡ false
+        → (new ≡ old) × ((j : ℕ) → k ≤ j → j < many → IsStuckAt names ns old j)
+    stays true true g i e = absurd (false≢true (sym e))
+    stays true false g i e = absurd (false≢true (sym e))
+    stays false true g i e = absurd (false≢true (sym e))
+    stays false false g i e = (
+      (i refl).0 ∙ (g refl).0,
+      λ j l m. here j m (first_or_later k j l),
+    )
+      where
+        here : (j : ℕ) → j < many → (k ≡ j) ⊎ (suc k ≤ j) → IsStuckAt names ns old j
+        here j m (inl e) = subst (λ z. IsStuckAt names ns old z) e (subst (λ z. IsStuckAt names ns z k) (g refl).0 (i refl).1)
+        here j m (inr l) = (g refl).1 j l m
+
+-- as the code has it, where nothing was new before
+pub tried_next : (names : List Name) (ns : List Component) (old mid new : List (Option Needs)) (left k many : ℕ) (more one : Bool) → left ≡ suc k
+    → more ≡ false → AreTriedFrom names ns old mid left many more → IsTried names ns mid new k one → AreTriedFrom names ns old new k many one
+tried_next names ns old mid new left k many more one h e a b =
+    subst (λ m. AreTriedFrom names ns old new k many (m || one)) e
+    (tried_back names ns old mid new k many more one (subst (λ z. AreTriedFrom names ns old mid z many more) h a) b)
+
+-- there and back
+pub tried_both : (names : List Name) (ns : List Component) (old mid new : List (Option Needs)) (many : ℕ) (there back : Bool)
+    → AreTried names ns old mid many there → AreTriedFrom names ns mid new 0 many back → AreTried names ns old new many (there || back)
+tried_both names ns old mid new many there back a b = record {
+  kept = λ p c g q r. b.kept p c g q (a.kept p c g q r);
+  many = b.same_many ∙ a.many;
+  added = added there back a.added a.stays b.added b.stays;
+  stays = stays there back a.stays b.stays;
+}
+  where
+    added : (more one : Bool) → (more ≡ true → unknowns mid < unknowns old)
+        → (more ≡ false → (mid ≡ old) × ((j : ℕ) → j < many → IsStuckAt names ns old j)) → (one ≡ true → unknowns new < unknowns mid)
+        → (one ≡ false → (new ≡ mid) × ((j : ℕ) → 0 ≤ j → j < many → IsStuckAt names ns mid j)) → (more || one) ≡ true
+        → unknowns new < unknowns old
+    added true true f g h i e = omega (arith, f refl, h refl)
+    added true false f g h i e = omega (arith, f refl, ap unknowns (i refl).0)
+    added false true f g h i e = omega (arith, h refl, ap unknowns (g refl).0)
+    added false false f g h i e = absurd (false≢true e)
+
+    stays : (more one : Bool) → (more ≡ false → (mid ≡ old) × ((j : ℕ) → j < many → IsStuckAt names ns old j))
+        → (one ≡ false → (new ≡ mid) × ((j : ℕ) → 0 ≤ j → j < many → IsStuckAt names ns mid j)) → (more || one) ≡ false
+        → (new ≡ old) × ((j : ℕ) → j < many → IsStuckAt names ns old j)
+    stays true true g i e = absurd (false≢true (sym e))
+    stays true false g i e = absurd (false≢true (sym e))
+    stays false true g i e = absurd (false≢true (sym e))
+    stays false false g i e = ((i refl).0 ∙ (g refl).0, (g refl).1)
 
 -- before anything is noted
 pub none_known : (p : Program) (ns : List Component) → AreKnown p ns (replicate (length ns) None)

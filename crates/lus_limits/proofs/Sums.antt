@@ -149,7 +149,7 @@ starts_counted n k =
     subst (λ xs. are_counted xs ≡ true) (ap (λ xs. all_numbers arrow_number n ++ xs) (no_started (contract_statements n))
     ∙ append_none (all_numbers arrow_number n) ∙ sym (start_numbers n)) (k.each an_arrow)
 
-own_counted : (n : Component) → IsNumbered n → length (own_cells (as_import []) n) ≡ own_count n
+pub own_counted : (n : Component) → IsNumbered n → length (own_cells (as_import []) n) ≡ own_count n
 own_counted n k =
     let ms : List Memory = in_order (λ p. p.number) (memories n) in
     let ss : List Start = in_order (λ p. p.number) (starts n) in
@@ -184,7 +184,7 @@ sofar_cells plain (Some cs) = refl
 sofar_cells (while_true a) (Some cs) = refl
 sofar_cells (as_import xs) (Some cs) = refl
 
-own_in : (m : Manner) (n : Component) → length (own_cells m n) ≡ length (own_cells (as_import []) n) + sofar_count (way_of m) (not (is_none n.contract))
+pub own_in : (m : Manner) (n : Component) → length (own_cells m n) ≡ length (own_cells (as_import []) n) + sofar_count (way_of m) (not (is_none n.contract))
 own_in m n =
     let xs : List Cell = map name_cell (variables n) in
     let ys : List Cell = map memory_cell (in_order (λ p. p.number) (memories n)) in

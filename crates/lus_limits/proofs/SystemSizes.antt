@@ -1,16 +1,13 @@
 -- The sizes of a declaration's system, by what is known of all declarations.
-use Rattle.std.proofs.Common.{◌≡◌, ℕ, suc, ◌+◌, ◌<◌, Bool, List, [], ◌∷◌, ◌++◌, map, length, get_or, drop, drop-cons, Option, Some, None, refl, sym, ap, ◌∙◌, subst, arith, append_assoc, add-one, is_none, not}
-use Rattle.std.specs.Prelude.{min}
+use Rattle.std.proofs.Common.{◌≡◌, ℕ, ◌+◌, ◌<◌, List, [], ◌∷◌, ◌++◌, map, length, get_or, drop, drop-cons, Option, Some, None, sym, ap, ◌∙◌, subst, arith, append_assoc, add-one, is_none, not}
 use Rattle.lus_tree.specs.Tree.{Component, Program}
 use Rattle.lus_streams.specs.declared.owner.Owner.{Owner}
 use Rattle.lus_streams.specs.Owner.{owner_view}
 use Rattle.lus_meaning.specs.ClockFaults.{components}
 use Rattle.lus_meaning.specs.Program.{all_sites, instance_of}
-use Rattle.lus_meaning.specs.Property.{properties}
 use Rattle.lus_meaning.specs.Refusals.{IsChecked}
 use Rattle.lus_meaning.specs.Scene.{as_import, plain, no_component}
 use Rattle.lus_meaning.specs.Sizes.{Size, term_sizes}
-use Rattle.lus_meaning.specs.Slots.{width}
 use Rattle.lus_limits.specs.declared.calls.Way.TheVariants.{Plain}
 use Rattle.lus_limits.specs.declared.needs.Needs.{Needs}
 use Rattle.lus_limits.specs.declared.systems.SystemSize.{SystemSize}
@@ -70,9 +67,9 @@ module _ (p : Program) (c : IsChecked p) (known : List (Option Needs)) (a : AllK
       (ap (λ z. z.parts) t)
 
 -- one more
-pub one_size : (f : Component → SystemSize) (ns : List Component) (k : ℕ) (xs ys : List SystemSize) (x : SystemSize) (t : List SystemSize) → k < length ns
+pub one_more : {X : Type 0} (f : Component → X) (ns : List Component) (k : ℕ) (xs ys : List X) (x : X) (t : List X) → k < length ns
     → x ≡ f (get_or ns k no_component) → ys ≡ xs ++ x ∷ [] → xs ++ map f (drop k ns) ≡ t → ys ++ map f (drop (k + 1) ns) ≡ t
-one_size f ns k xs ys x t l e g h =
+one_more f ns k xs ys x t l e g h =
     ap (λ zs. zs ++ map f (drop (k + 1) ns)) g
     ∙ append_assoc xs (x ∷ []) (map f (drop (k + 1) ns))
     ∙ ap (λ z. xs ++ (z ∷ map f (drop (k + 1) ns))) e

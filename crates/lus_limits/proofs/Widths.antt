@@ -13,7 +13,7 @@ use Rattle.lus_limits.specs.Widths.{frame_width, WidthByText, WidthIsPlain, Widt
 use Rattle.lus_limits.proofs.Instances.{component_called, made_of_callees}
 
 -- the way to a frame doesn't count
-any_way : (p : Program) (m : Manner) (path : List ℕ) (n : Component) → length (slots_in m path (instance_of p n)) ≡ frame_width p m n
+pub any_way : (p : Program) (m : Manner) (path : List ℕ) (n : Component) → length (slots_in m path (instance_of p n)) ≡ frame_width p m n
 any_way p m path n = width_of_frame (length p) p m path n ∙ sym (width_of_frame (length p) p m [] n)
 
 calls_width : (p : Program) (i : Instance) (path : List ℕ) (ss : List Site) → length (call_slots i path (instances_with (instance_called_so p) ss))

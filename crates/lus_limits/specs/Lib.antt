@@ -20,3 +20,4 @@ pub mod Contracted
 pub mod Tables
 pub mod Nodes
 pub mod SystemSizes
+pub mod Framed

@@ -1,5 +1,5 @@
 -- What callers need of the declarations of a program, by their numbers.
-use Rattle.std.specs.Prelude.{◌≡◌, ℕ, suc, ◌<◌, min, Bool, true, false, List, [], ◌∷◌, map, length, get_or, Option, Some, None, is_some}
+use Rattle.std.specs.Prelude.{◌≡◌, ℕ, suc, ◌<◌, ◌≤◌, min, Bool, true, false, List, [], ◌∷◌, map, length, get_or, Option, Some, None, is_some}
 use Rattle.std.specs.List.{list_all}
 use Rattle.lus_tree.specs.Tree.{Name, Component, Program}
 use Rattle.lus_meaning.specs.ClockFaults.{components}
@@ -131,6 +131,13 @@ pub record AreTried (names : List Name) (ns : List Component) (old new : List (O
   pub many : length new ≡ length old
   pub added : more ≡ true → unknowns new < unknowns old
   pub stays : more ≡ false → (new ≡ old) × ((j : ℕ) → j < k → IsStuckAt names ns old j)
+
+-- of those from one number on
+pub record AreTriedFrom (names : List Name) (ns : List Component) (old new : List (Option Needs)) (k many : ℕ) (more : Bool) : Type 0 where
+  pub kept : KeepsKnown names ns old new
+  pub same_many : length new ≡ length old
+  pub added : more ≡ true → unknowns new < unknowns old
+  pub stays : more ≡ false → (new ≡ old) × ((j : ℕ) → k ≤ j → j < many → IsStuckAt names ns old j)
 
 -- nothing is left that can be noted
 pub record IsSettled (names : List Name) (ns : List Component) (old new : List (Option Needs)) : Type 0 where

@@ -1,5 +1,5 @@
 -- How large the system of a declaration is, each number cut one past the greatest limit of its kind.
-use Rattle.std.specs.Prelude.{ℕ, min, length}
+use Rattle.std.specs.Prelude.{min, length}
 use Rattle.lus_tree.specs.Tree.{Component, Program}
 use Rattle.lus_meaning.specs.Program.{instance_of}
 use Rattle.lus_meaning.specs.Property.{properties}

@@ -6,6 +6,7 @@ mod calls;
 mod chains;
 mod contract_size;
 mod frame_size;
+mod framed;
 mod inner;
 mod known;
 pub mod laws;
@@ -23,6 +24,7 @@ mod term_size;
 mod texts;
 
 pub use calls::{Call, Way};
+pub use framed::{Frame, program_frames};
 pub use sites::calls_of;
 pub use summing::{ItemCounts, Link, Summary, summed};
 pub use systems::{SystemSize, system_sizes};

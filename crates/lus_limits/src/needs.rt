@@ -109,7 +109,7 @@ fn link(
 }
 
 /// How all calls are linked, if what they call is known.
-fn links(
+pub(crate) fn links(
     alloc: Global,
     names: &NameTable,
     parts: &[Owner<'_>],

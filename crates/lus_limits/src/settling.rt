@@ -3,7 +3,7 @@
 ghost use Rattle.std.specs.Prelude.{◌≡◌, IfOk, None, length, map, replicate};
 ghost use Rattle.lus_tree.specs.View.{program_view};
 ghost use Rattle.lus_meaning.specs.Refusals.{IsChecked};
-ghost use Rattle.lus_limits.specs.Needed.{AreTried, IsSettled};
+ghost use Rattle.lus_limits.specs.Needed.{AreTried, AreTriedFrom, IsSettled};
 ghost use Rattle.lus_limits.specs.Tables.{IsTableOf};
 ghost use Rattle.lus_streams.specs.Owner.{owner_view};
 
@@ -34,6 +34,47 @@ fn round(
     Ok(more)
 }
 
+/// Notes the needs of the declarations from the last one back, and tells whether some are new.
+#[tactic(auto, using(crate::proofs::Settled::tried_back))]
+fn round_back(
+    alloc: Global,
+    names: &NameTable,
+    parts: &[Owner<'_>],
+    known: &mut Vec<Option<Needs>>,
+) -> Result<bool, AllocError>
+    requires known { length known.old.items ≡ length names.now }
+    requires parts { length parts.now ≡ length names.now }
+    ensures { IfOk result (λ b. AreTriedFrom names.now (map owner_view parts.now) known.old.items known.new.items
+        0 (length parts.now) b) }
+{
+    let mut more = false;
+    let mut left = parts.len();
+    while left > 0 {
+        left -= 1;
+        let one = try_one(alloc, names, parts, known, left)?;
+        more = more || one;
+    }
+    Ok(more)
+}
+
+/// Notes the needs of the declarations in turn, there and back, and tells whether some are new.
+#[tactic(auto, using(crate::proofs::Settled::tried_both))]
+fn both_rounds(
+    alloc: Global,
+    names: &NameTable,
+    parts: &[Owner<'_>],
+    known: &mut Vec<Option<Needs>>,
+) -> Result<bool, AllocError>
+    requires known { length known.old.items ≡ length names.now }
+    requires parts { length parts.now ≡ length names.now }
+    ensures { IfOk result (λ b. AreTried names.now (map owner_view parts.now) known.old.items known.new.items
+        (length parts.now) b) }
+{
+    let there = round(alloc, names, parts, known)?;
+    let back = round_back(alloc, names, parts, known)?;
+    Ok(there || back)
+}
+
 /// Notes the needs of the declarations until nothing is left that can be noted.
 fn settle(
     alloc: Global,
@@ -45,7 +86,7 @@ fn settle(
     requires parts { length parts.now ≡ length names.now }
     ensures { IfOk result (λ _. IsSettled names.now (map owner_view parts.now) known.old.items known.new.items) }
 {
-    while round(alloc, names, parts, known)? {}
+    while both_rounds(alloc, names, parts, known)? {}
     Ok(())
 }
 

@@ -307,7 +307,7 @@ fn name_count(part: Owner<'_>) -> usize
 
 /// How many cells a declaration's frame has of its own where it runs as an import.
 #[tactic(auto, using(crate::proofs::Cutting::own_cut))]
-fn own_count(part: Owner<'_>, texts: &[&Expr]) -> usize
+pub(crate) fn own_count(part: Owner<'_>, texts: &[&Expr]) -> usize
     requires { sides_view texts.now ≡ sides (owner_view part) }
     ensures { result ≡ cut (own_count (owner_view part.entry)) }
 {
