@@ -281,7 +281,7 @@ module _ (s : Sight) (ms : List Mode) (g : Stage) (h : IsSightOf s ms g) where
 
   -- ---- expressions
 
-  sort_is : (e : Expression) → sort_by s e ≡ sort_of g.place e
+  pub sort_is : (e : Expression) → sort_by s e ≡ sort_of g.place e
   sort_is (truth p b) = refl
   sort_is (number p n) = refl
   sort_is (name p x) = h.sorts x

@@ -20,7 +20,11 @@ fn output_part(output: Output) -> Part
 }
 
 /// An output where its frame is active, else what is held of it.
-fn latest_part(alloc: Global, beat: u32, output: Output) -> Result<Part, AllocError>
+///
+/// # Errors
+///
+/// Want of memory.
+pub fn latest_part(alloc: Global, beat: u32, output: Output) -> Result<Part, AllocError>
     ensures { IfOk result (λ r. part_view r ≡ latest_part beat (output_view output)) }
 {
     let now = output_part(output);

@@ -92,14 +92,14 @@ fn number_at(numbers: &[u32], missing: u32, place: u32) -> u32
 }
 
 /// The number of the variable of a `pre`.
-pub(crate) fn memory(sight: &Sight<'_>, number: u32) -> u32
+pub fn memory(sight: &Sight<'_>, number: u32) -> u32
     ensures { result ≡ number_at (sight_view sight.now).memories (sight_view sight.now).missing number }
 {
     number_at(&sight.memories, sight.missing, number)
 }
 
 /// The number of the variable of a `->`.
-pub(crate) fn start(sight: &Sight<'_>, number: u32) -> u32
+pub fn start(sight: &Sight<'_>, number: u32) -> u32
     ensures { result ≡ number_at (sight_view sight.now).starts (sight_view sight.now).missing number }
 {
     number_at(&sight.starts, sight.missing, number)

@@ -1,0 +1,4 @@
+pub mod Conditioned
+pub mod Named
+pub mod Views
+pub mod Laws
