@@ -12,7 +12,7 @@ use Rattle.lus_evaluation.specs.Past.{past_of_numbers, past_of_minus}
 use Rattle.lus_evaluation.specs.Outcome.{StaysWithin, MeetsPast}
 use Rattle.evaluation_rows.specs.Orders.{OrderTree, order_tree, no_trees, with_tree, orders_of}
 use Rattle.evaluation_rows.specs.OrderRows.{one_equation}
-use Rattle.evaluation_rows.specs.PastRows.{column, product_past, growing, growing_frame, two, two_frame, scaling, scaling_frame, least, greatest, minus_one, told}
+use Rattle.evaluation_rows.specs.PastRows.{column, product_past, growing, growing_frame, two, two_frame, scaling, scaling_frame, merging, merging_frame, sampling, sampling_frame, resting, resting_frame, argued, argued_frame, least, greatest, minus_one, told}
 use Rattle.evaluation_rows.proofs.EvaluationTest.{evaluation_by}
 use Rattle.evaluation_rows.proofs.PastTest.{within_by, first_by}
 
@@ -79,6 +79,64 @@ scaling_past = record {
   parts = scaling_parts;
   evaluation = evaluation_by 8 scaling scaling_orders scaling_numbers refl refl;
   first = first_by scaling scaling_frame scaling_parts 9 3 (column 50) 2 (product_past (pos (2 ^ 124))) refl (omega arith) refl refl refl refl;
+}
+
+-- ---- clocks
+
+-- z: 1, then z, which is late, `pre`, the factor, `*`, `->`; then the other equation
+abbrev in_two : OrderTree
+in_two = order_tree (0 ∷ 1 ∷ []) no_trees
+
+abbrev merging_numbers : List ℕ
+merging_numbers = 0 ∷ 2 ∷ 3 ∷ 4 ∷ 5 ∷ 1 ∷ 6 ∷ 7 ∷ 8 ∷ 9 ∷ 10 ∷ 11 ∷ []
+
+pub merging_within : StaysWithin merging merging_frame 3
+unfolding within
+merging_within = record {
+  parts = picked merging_numbers (in_turn (orders_of in_two) merging);
+  evaluation = evaluation_by 6 merging in_two merging_numbers refl refl;
+  within = within_by merging merging_frame (picked merging_numbers (in_turn (orders_of in_two) merging)) 3 refl;
+}
+
+abbrev sampling_numbers : List ℕ
+sampling_numbers = 0 ∷ 2 ∷ 3 ∷ 4 ∷ 5 ∷ 1 ∷ 6 ∷ 7 ∷ 8 ∷ 9 ∷ []
+
+abbrev sampling_parts : List Part
+sampling_parts = picked sampling_numbers (in_turn (orders_of in_two) sampling)
+
+pub sampling_past : MeetsPast sampling sampling_frame 3 (column 3) 2 (product_past (pos (2 ^ 124)))
+unfolding within
+sampling_past = record {
+  parts = sampling_parts;
+  evaluation = evaluation_by 6 sampling in_two sampling_numbers refl refl;
+  first = first_by sampling sampling_frame sampling_parts 8 3 (column 3) 2 (product_past (pos (2 ^ 124))) refl (omega arith) refl refl refl refl;
+}
+
+-- ---- condacts
+
+abbrev resting_numbers : List ℕ
+resting_numbers = 0 ∷ 2 ∷ 3 ∷ 4 ∷ 5 ∷ 1 ∷ 6 ∷ 7 ∷ 8 ∷ 9 ∷ 10 ∷ 11 ∷ 12 ∷ []
+
+pub resting_within : StaysWithin resting resting_frame 3
+unfolding within
+resting_within = record {
+  parts = picked resting_numbers (in_turn (orders_of scaling_orders) resting);
+  evaluation = evaluation_by 8 resting scaling_orders resting_numbers refl refl;
+  within = within_by resting resting_frame (picked resting_numbers (in_turn (orders_of scaling_orders) resting)) 3 refl;
+}
+
+abbrev argued_numbers : List ℕ
+argued_numbers = 0 ∷ 2 ∷ 3 ∷ 4 ∷ 5 ∷ 1 ∷ 6 ∷ 7 ∷ 8 ∷ 9 ∷ 10 ∷ 11 ∷ 12 ∷ 13 ∷ 14 ∷ []
+
+abbrev argued_parts : List Part
+argued_parts = picked argued_numbers (in_turn (orders_of scaling_orders) argued)
+
+pub argued_past : MeetsPast argued argued_frame 3 (column 3) 2 (product_past (pos (2 ^ 124)))
+unfolding within
+argued_past = record {
+  parts = argued_parts;
+  evaluation = evaluation_by 8 argued scaling_orders argued_numbers refl refl;
+  first = first_by argued argued_frame argued_parts 9 3 (column 3) 2 (product_past (pos (2 ^ 124))) refl (omega arith) refl refl refl refl;
 }
 
 -- ---- the ends of 128 bits

@@ -7,7 +7,7 @@ ghost use Rattle.lus_meaning.specs.Value.{whole};
 ghost use Rattle.lus_meaning.specs.Trace.{IsFrameOf};
 ghost use Rattle.lus_evaluation.specs.Past.{past_of_numbers, past_of_minus};
 ghost use Rattle.lus_evaluation.specs.Outcome.{StaysWithin, MeetsPast};
-ghost use Rattle.evaluation_rows.specs.PastRows.{column, product_past, growing, growing_frame, two, two_frame, scaling, scaling_frame, least, greatest, minus_one, told};
+ghost use Rattle.evaluation_rows.specs.PastRows.{column, product_past, growing, growing_frame, two, two_frame, scaling, scaling_frame, merging, merging_frame, merging_lines, sampling, sampling_frame, resting, resting_frame, argued, argued_frame, argued_lines, least, greatest, minus_one, told};
 
 /// A product that grows by the factor 2^62 is outside at instant 3; three instants stay within.
 pub fn growing_row()
@@ -27,6 +27,23 @@ pub fn two_values_row()
 pub fn callee_past_row()
     ensures trace { IsFrameOf [] scaling 3 scaling_frame }
     ensures past { MeetsPast scaling scaling_frame 3 (column 50) 2 (product_past (pos (2 ^ 124))) }
+{}
+
+/// A part is evaluated where its own clock is on: a branch of a merge where the name has its truth value alone, the
+/// operand of `when` also where the name has the other one.
+pub fn clocks_row()
+    ensures merge { IsFrameOf merging_lines merging 3 merging_frame }
+    ensures merge_within { StaysWithin merging merging_frame 3 }
+    ensures sampled { IsFrameOf merging_lines sampling 3 sampling_frame }
+    ensures sampled_past { MeetsPast sampling sampling_frame 3 (column 3) 2 (product_past (pos (2 ^ 124))) }
+{}
+
+/// A callee is evaluated where it runs, the arguments of a condact also where its condition is false.
+pub fn condact_row()
+    ensures callee { IsFrameOf merging_lines resting 3 resting_frame }
+    ensures callee_within { StaysWithin resting resting_frame 3 }
+    ensures argument { IsFrameOf argued_lines argued 3 argued_frame }
+    ensures argument_past { MeetsPast argued argued_frame 3 (column 3) 2 (product_past (pos (2 ^ 124))) }
 {}
 
 /// The ends of 128 bits, by each operator. A minus is told as taken from 0, and of `mod` the quotient counts.

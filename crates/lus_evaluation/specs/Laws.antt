@@ -1,17 +1,31 @@
 -- The laws of evaluation.
-use Rattle.std.specs.Prelude.{◌≡◌, ℕ, List, ◌⊎◌}
+use Rattle.std.specs.Prelude.{◌≡◌, ℕ, ◌<◌, true, List, ◌∷◌, ◌++◌, length, Some, slice_get, ◌⊎◌}
 use Rattle.lus_tree.specs.declared.place.Pos.{Pos}
 use Rattle.kind_num.specs.declared.Past.{Past}
 use Rattle.lus_meaning.specs.Frame.{Frame}
 use Rattle.lus_meaning.specs.Scene.{Instance}
+use Rattle.lus_meaning.specs.Order.{is_listed, IsLeastOrder}
 use Rattle.lus_evaluation.specs.Part.{Part}
-use Rattle.lus_evaluation.specs.Evaluation.{IsEvaluation}
+use Rattle.lus_evaluation.specs.Evaluation.{Waits, IsEvaluation}
 use Rattle.lus_evaluation.specs.Past.{IsWithin, IsFirstPast}
 use Rattle.lus_evaluation.specs.Outcome.{StaysWithin, MeetsPast}
 
 -- an instant is evaluated in one order alone
 abbrev pub OneEvaluation : Type 0
 OneEvaluation = (i : Instance) (qs rs : List Part) → IsEvaluation i qs → IsEvaluation i rs → qs ≡ rs
+
+-- of two parts of a frame whose wholes need the same, as those of one whole do, the one that comes first in turn is evaluated first
+abbrev pub TurnKept : Type 0
+TurnKept =
+    (i : Instance) (ps : List Part) (ks : List ℕ) → IsLeastOrder (length ps) (Waits i ps) ks → (first second : ℕ) (p q : Part) →
+    slice_get ps first ≡ Some p → slice_get ps second ≡ Some q → first < second → p.way ≡ q.way → p.needs ≡ q.needs → (before after : List ℕ) →
+    ks ≡ before ++ second ∷ after → is_listed before first ≡ true
+
+-- a part that comes directly behind one that in turn stands behind it waits for that one: it can't be that it does not
+abbrev pub LateComesBehind : Type 0
+LateComesBehind =
+    (i : Instance) (ps : List Part) (ks : List ℕ) → IsLeastOrder (length ps) (Waits i ps) ks → (late given : ℕ) (before after : List ℕ) →
+    ks ≡ before ++ given ∷ late ∷ after → late < given → (Waits i ps late given → ⊥) → ⊥
 
 -- what is said of a first value outside 128 bits
 pub record Told (i : Instance) (f : Frame) (qs : List Part) (n : ℕ) : Type 0 where

@@ -3,3 +3,5 @@ pub mod Mismatched
 pub mod ByZero
 pub mod WorthSeen
 pub mod WorthOff
+pub mod FrameRow
+pub mod Parts

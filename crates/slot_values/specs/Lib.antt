@@ -3,3 +3,5 @@ pub mod Evaluated
 pub mod Stepwise
 pub mod Resolved
 pub mod Clocked
+pub mod FrameRow
+pub mod Parts

@@ -92,13 +92,13 @@ fn walk(e: &Resolved, on: bool, row: &[Option<Value>]) -> Result<Option<Value>, 
     }
 }
 
-/// The value of an expression in the row of values of its frame's slots, where its own clock is on or not; none where it
-/// is absent.
+/// The value of an expression in the row of values of its frame's slots, where its own clock is on or not; none where
+/// it is absent.
 ///
 /// # Errors
 ///
-/// The first of its operations, operands from left to right and before their operator, whose result is outside 128 bits,
-/// at the clocks that are on.
+/// The first of its operations, operands from left to right and before their operator, whose result is outside 128
+/// bits, of those whose clock is on.
 #[tactic(auto, using(crate::proofs::Stepwise::stepwise_is))]
 pub fn evaluate(e: &Resolved, on: bool, row: &[Option<Value>]) -> Result<Option<Value>, PastAt>
     ensures { answer_view result ≡ evaluated (slots_in row.now) on (resolved_view e.now) }

@@ -34,7 +34,7 @@ pub enum Resolved {
     When(u32, bool, Box<Resolved>),
     /// `merge c (true -> a) (false -> b)`
     Merge(u32, Box<Resolved>, Box<Resolved>),
-    /// A call that runs while a condition is true: the condition, and the slots of the callee's beat, of its output, and
-    /// of what is held of that.
+    /// A call that runs while a condition is true: the condition, and the slots of the callee's beat, of its output,
+    /// and of what is held of that.
     Latest(Box<Resolved>, u32, u32, u32),
 }
