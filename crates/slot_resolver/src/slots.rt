@@ -1,14 +1,12 @@
 //! Where the slots of a declaration's frame are.
 
-ghost use Rattle.std.specs.Prelude.{◌≡◌, IfOk, option_map, option_to_list, string_bytes};
-ghost use Rattle.lus_tree.specs.View.{word_view};
+ghost use Rattle.std.specs.Prelude.{◌≡◌, IfOk, option_map, option_to_list};
 ghost use Rattle.sys_meaning.specs.Slot.{memory, named, own, starting};
 ghost use Rattle.slot_values.specs.Resolution.{resolved_view};
 ghost use Rattle.slot_values.specs.Resolved.{Numbering, name_resolution, mode_resolution};
 ghost use Rattle.slot_resolver.specs.Found.{found_view, output_found, held_found};
 
 use lus_meaning::Value;
-use lus_tree::PlacedName;
 use slot_values::Resolved;
 use std::alloc::{AllocError, Global};
 
