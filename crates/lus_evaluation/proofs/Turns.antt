@@ -11,7 +11,8 @@ use Rattle.lus_evaluation.specs.Laws.{TurnKept, LateComesBehind}
 
 module _ (count : ℕ) (Needs : ℕ → ℕ → Type 0) where
   -- each number is the next behind those before it
-  pub next_at : (done before : List ℕ) (k : ℕ) (after : List ℕ) → AreNext count Needs done (before ++ k ∷ after) → IsNext count Needs (done ++ before) k
+  pub next_at : (done before : List ℕ) (k : ℕ) (after : List ℕ) → AreNext count Needs done (before ++ k ∷ after) →
+      IsNext count Needs (done ++ before) k
   next_at done [] k after a = subst (λ d. IsNext count Needs d k) (sym (nothing done)) a.0
     where
       nothing : (d : List ℕ) → d ++ [] ≡ d
@@ -74,11 +75,14 @@ late_comes_behind i ps ks o late given before after d l none = given_next.least 
     new : is_listed before late ≡ false
     new = first_false (is_listed before late) (is_listed (given ∷ []) late) (sym (list_any-append (eqb late) before (given ∷ [])) ∙ late_next.new)
 
-    split : (j : ℕ) → Waits i ps late j → (is_listed before j ≡ true) ⊎ (is_listed before j ≡ false) → is_listed (before ++ given ∷ []) j ≡ true →
+    split : (j : ℕ) → Waits i ps late j → (is_listed before j ≡ true) ⊎ (is_listed before j ≡ false) →
+        is_listed (before ++ given ∷ []) j ≡ true →
         is_listed before j ≡ true
     split j w (inl t) e = t
     split j w (inr f) e =
-        absurd (none (subst (Waits i ps late) (eqb-true j given (last (is_listed before j) (eqb j given) f (sym (list_any-append (eqb j) before (given ∷ [])) ∙ e))) w))
+        let same : j ≡ given =
+        eqb-true j given (last (is_listed before j) (eqb j given) f (sym (list_any-append (eqb j) before (given ∷ [])) ∙ e)) in
+        absurd (none (subst (Waits i ps late) same w))
       where
         last : (a b : Bool) → a ≡ false → (a || (b || false)) ≡ true → b ≡ true
         last true b h e = absurd (true≢false h)

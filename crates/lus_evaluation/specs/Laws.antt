@@ -18,8 +18,8 @@ OneEvaluation = (i : Instance) (qs rs : List Part) → IsEvaluation i qs → IsE
 abbrev pub TurnKept : Type 0
 TurnKept =
     (i : Instance) (ps : List Part) (ks : List ℕ) → IsLeastOrder (length ps) (Waits i ps) ks → (first second : ℕ) (p q : Part) →
-    slice_get ps first ≡ Some p → slice_get ps second ≡ Some q → first < second → p.way ≡ q.way → p.needs ≡ q.needs → (before after : List ℕ) →
-    ks ≡ before ++ second ∷ after → is_listed before first ≡ true
+    slice_get ps first ≡ Some p → slice_get ps second ≡ Some q → first < second → p.way ≡ q.way → p.needs ≡ q.needs →
+    (before after : List ℕ) → ks ≡ before ++ second ∷ after → is_listed before first ≡ true
 
 -- a part that comes directly behind one that in turn stands behind it waits for that one: it can't be that it does not
 abbrev pub LateComesBehind : Type 0

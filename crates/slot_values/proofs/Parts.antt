@@ -61,7 +61,8 @@ right_of P (x ∷ xs) ys a = right_of P xs ys a.1
 -- ---- one operation
 
 -- by the operand's value where the clock is on, and by an absent one where it is off
-same_past : (F : Value → Option Past) (on : Bool) (v w : Value) → F absent ≡ None → v ≡ w → (on ≡ false → v ≡ absent) → F v ≡ cond on (F w) None
+same_past : (F : Value → Option Past) (on : Bool) (v w : Value) → F absent ≡ None → v ≡ w → (on ≡ false → v ≡ absent) →
+    F v ≡ cond on (F w) None
 same_past F true v w a e h = ap F e
 same_past F false v w a e h = ap F (h refl) ∙ a
 

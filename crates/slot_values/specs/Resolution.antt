@@ -3,7 +3,7 @@ use Rattle.std.specs.Prelude.{ℕ, Bool}
 use Rattle.lus_tree.specs.declared.place.Pos.{Pos}
 use Rattle.lus_tree.specs.declared.expression.Operator.{Operator}
 use Rattle.lus_meaning.specs.Value.{Value}
-use Rattle.lus_meaning.specs.CodeValue.{value_view}
+use Rattle.lus_meaning.specs.TraceView.{entry_view}
 use Rattle.slot_values.specs.declared.resolved.Resolved.{Resolved}
 use Rattle.slot_values.specs.declared.resolved.Resolved.TheVariants as r
 
@@ -25,7 +25,7 @@ pub data Resolution : Type 0 where
   latest : Resolution → ℕ → ℕ → ℕ → Resolution
 
 abbrev pub resolved_view : Resolved → Resolution
-resolved_view (r.Known v) = known (value_view v)
+resolved_view (r.Known v) = known (entry_view v)
 resolved_view (r.Slot k) = slot k
 resolved_view (r.Not' p a) = negated (resolved_view a)
 resolved_view (r.Minus' at p a) = opposite at (resolved_view a)

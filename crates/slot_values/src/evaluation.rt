@@ -43,7 +43,7 @@ fn walk(e: &Resolved, on: bool, row: &[Option<Value>]) -> Result<Option<Value>, 
     ensures { answer_view result ≡ stepwise (slots_in row.now) on (resolved_view e.now) }
 {
     match e {
-        Resolved::Known(value) => Ok(value_if(on, Some(*value))),
+        Resolved::Known(value) => Ok(value_if(on, *value)),
         Resolved::Slot(slot) => Ok(value_if(on, slot_value(row, *slot))),
         Resolved::Not(a) => {
             let a = walk(a, on, row)?;

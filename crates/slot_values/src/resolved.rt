@@ -16,8 +16,8 @@ pub struct PastAt {
 #[cycle(resolved)]
 #[derive(Drop)]
 pub enum Resolved {
-    /// A literal or a constant.
-    Known(Value),
+    /// A literal or a constant; none where there is no value.
+    Known(Option<Value>),
     /// A name, the memory of a `pre`, or the output of a call.
     Slot(u32),
     /// `not a`
