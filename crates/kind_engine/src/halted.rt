@@ -33,7 +33,8 @@ pub(crate) fn left_open(
     proofs: Vec<Proof>,
     left: Open,
 ) -> Result<Halted, AllocError>
-    ensures grounds { IfOk result (λ h. halted_grounds h ≡ open_grounds places.items (proofs_view proofs.items) left) }
+    ensures grounds { IfOk result (λ h. halted_grounds h
+        ≡ open_grounds places.items (proofs_view proofs.items) left) }
     ensures cause { IfOk result (λ h. h.cause ≡ left.cause) }
 {
     let Open {
