@@ -53,7 +53,8 @@ mutual
   memory_one n s (name p x) = refl
   memory_one n s (negation p a) = memory_one n (within s) a
   memory_one n s (minus p a) = memory_one n (within s) a
-  memory_one n s (pre p k a) = ap (λ (ms : List Memory). (let m : Memory = record { number = k; clock = s.clock; operand = a } in m ∷ ms)) (memory_one n (before s) a)
+  memory_one n s (pre p k a) =
+      ap (λ (ms : List Memory). let m : Memory = record { number = k; clock = s.clock; operand = a } in m ∷ ms) (memory_one n (before s) a)
   memory_one n s (arrow p k a b) = memory_split (occurrences n (within s) a) _ ∙ (rw (memory_one n (within s) a, memory_one n (within s) b) refl)
   memory_one n s (binary p o a b) = memory_split (occurrences n (within s) a) _ ∙ (rw (memory_one n (within s) a, memory_one n (within s) b) refl)
   memory_one n s (choice p a b d) = memory_split (occurrences n (within s) a) _
