@@ -146,7 +146,8 @@ pub fn push_at_first(
 
 /// Where the frame is not active, or all these are true.
 fn kept_so_far(alloc: Global, sight: &Sight<'_>, assumes: &[Term]) -> Result<Term, AllocError>
-    ensures { IfOk result (λ t. term_view t ≡ where_active (sight_view sight.now).beat (all_of (terms_view assumes.now))) }
+    ensures { IfOk result (λ t. term_view t ≡ where_active (sight_view sight.now).beat
+        (all_of (terms_view assumes.now))) }
 {
     let all = all_of(alloc, assumes)?;
     where_active(alloc, sight.beat, all)

@@ -100,7 +100,8 @@ fn where_on(
     stream: &Param,
     part: Part,
 ) -> Result<Part, AllocError>
-    ensures { IfOk result (λ p. part_view p ≡ where_on (sight_view sight.now) (param_view stream.now) (part_view part)) }
+    ensures { IfOk result (λ p. part_view p ≡ where_on (sight_view sight.now) (param_view stream.now)
+        (part_view part)) }
 {
     let on = present(alloc, sight, declared(&stream.clock))?;
     choose_part(alloc, on, part, zero_of(stream.sort))

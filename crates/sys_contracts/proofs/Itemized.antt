@@ -148,7 +148,12 @@ module _ (s : Sight) (i : Instance) (at : Place → ℕ) (h : IsSightOf s [] (ba
 
   imported_mode_is : (k : ℕ) (c : Name) (n : ModeItem Written) → imported_mode c (mode_at (below_call k at) n) ≡ mode_at at (m.imported_item written k c n)
   imported_mode_is k c n =
-      ap (λ w. let z : Mode = record { way = w; name = n.key.1; asked = n.asked (below_call k at); ensures_each = map (λ f. f (below_call k at)) n.ensures_each } in z)
+      ap (λ w. let z : Mode = record {
+        way = w;
+        name = n.key.1;
+        asked = n.asked (below_call k at);
+        ensures_each = map (λ f. f (below_call k at)) n.ensures_each;
+      } in z)
       (longer_way c n.key.0)
       ∙ ap (λ fs. let z : Mode = record { way = way_of (c ∷ n.key.0); name = n.key.1; asked = n.asked (below_call k at); ensures_each = fs } in z)
       (sym (twice (λ (f : Written). f at) (written.through k) n.ensures_each))

@@ -62,7 +62,8 @@ fn push_items<'a>(
     contract: &'a str,
     more: &Items<'a>,
 ) -> Result<(), AllocError>
-    ensures { OnOk result (items_view items.new ≡ with_import (items_view items.old) contract.now (items_view more.now)) }
+    ensures { OnOk result (items_view items.new ≡ with_import (items_view items.old) contract.now
+        (items_view more.now)) }
 {
     push_copies(alloc, &mut items.assumes, &more.assumes)?;
     push_copies(alloc, &mut items.guarantees, &more.guarantees)?;

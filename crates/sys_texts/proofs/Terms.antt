@@ -121,7 +121,8 @@ module _ (s : Sight) (ms : List Mode) (g : Stage) (h : IsSightOf s ms g) where
 
   left_fixed : (o : Operator) (a b : Expression) (q : Part) → HasConstant cs o a b → is_constant cs a ≡ true → is_constant cs b ≡ false
       → operated_parts o (known (constant_value cs a)) (left_open q) ≡ binary_part g o a b (fixed (constant_value cs a)) q
-  left_fixed Mul a b q c e f = sym (picked_true (is_constant cs a) (scaled (constant_number g a) q) (scaled (constant_number g b) (fixed (constant_value cs a))) e)
+  left_fixed Mul a b q c e f =
+      sym (picked_true (is_constant cs a) (scaled (constant_number g a) q) (scaled (constant_number g b) (fixed (constant_value cs a))) e)
   left_fixed Div a b q c e f = never (is_constant cs b) c f
   left_fixed Mod a b q c e f = never (is_constant cs b) c f
   left_fixed Implies a b q c e f = refl
@@ -139,7 +140,8 @@ module _ (s : Sight) (ms : List Mode) (g : Stage) (h : IsSightOf s ms g) where
 
   right_fixed : (o : Operator) (a b : Expression) (p : Part) → is_constant cs a ≡ false
       → operated_parts o (left_open p) (known (constant_value cs b)) ≡ binary_part g o a b p (fixed (constant_value cs b))
-  right_fixed Mul a b p e = sym (picked_false (is_constant cs a) (scaled (constant_number g a) (fixed (constant_value cs b))) (scaled (constant_number g b) p) e)
+  right_fixed Mul a b p e =
+      sym (picked_false (is_constant cs a) (scaled (constant_number g a) (fixed (constant_value cs b))) (scaled (constant_number g b) p) e)
   right_fixed Div a b p e = refl
   right_fixed Mod a b p e = refl
   right_fixed Implies a b p e = refl

@@ -23,7 +23,8 @@ use sys_terms::Term;
 
 /// What a name comes to.
 fn folded_name(sight: &Sight<'_>, name: &str) -> Folded
-    ensures { folded_view result ≡ folded_name (sight_view sight.now) name.now ((sight_view sight.now).constant name.now) }
+    ensures { folded_view result ≡ folded_name (sight_view sight.now) name.now
+        ((sight_view sight.now).constant name.now) }
 {
     match constant(sight, name) {
         Some(value) => Folded::Known(value),
@@ -53,7 +54,8 @@ pub fn folded(
     modes: &[Mode<'_>],
     e: &Expr,
 ) -> Result<Folded, AllocError>
-    ensures { IfOk result (λ r. folded_view r ≡ folded (sight_view sight.now) (modes_view modes.now) (expr_view e.now)) }
+    ensures { IfOk result (λ r. folded_view r ≡ folded (sight_view sight.now) (modes_view modes.now)
+        (expr_view e.now)) }
 {
     match &e.form {
         Form::Truth(truth) => Ok(Folded::Known(values::of_truth(*truth))),
