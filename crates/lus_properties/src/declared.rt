@@ -1,0 +1,53 @@
+//! The declarations with parts by their names.
+
+ghost use Rattle.std.specs.Prelude.{◌≡◌, option_map, pred, map, slice_get};
+ghost use Rattle.lus_tree.specs.View.{decl_view, program_view, word_view};
+ghost use Rattle.lus_limits.specs.Calls.{call_view};
+ghost use Rattle.lus_meaning.specs.Program.{component_named, is_component};
+ghost use Rattle.lus_streams.specs.Owner.{owner_view};
+ghost use Rattle.lus_properties.specs.Marks.{callees_of};
+
+use lus_limits::Call;
+use lus_streams::owner::Owner;
+use lus_tree::{Decl, Program};
+
+/// The declaration, where it has parts and that name.
+fn if_named<'a>(decl: &'a Decl, name: &str) -> Option<Owner<'a>>
+    ensures { option_map owner_view result ≡ is_component name.now (decl_view decl.now) }
+{
+    let owner = match decl {
+        Decl::Constant(_) => return None,
+        Decl::Node(node) => Owner::Node(node),
+        Decl::Contract(contract) => Owner::Contract(contract),
+    };
+    if owner.name() == name {
+        Some(owner)
+    } else {
+        None
+    }
+}
+
+/// The first declaration with parts that has this name.
+pub(crate) fn declared<'a>(program: &'a Program, name: &str) -> Option<Owner<'a>>
+    ensures { option_map owner_view result ≡ component_named (program_view program.now) name.now }
+{
+    for decl in &program.decls {
+        if let Some(owner) = if_named(decl, name) {
+            return Some(owner);
+        }
+    }
+    None
+}
+
+/// The name of what the call or import with that number calls.
+pub(crate) fn callee_at<'a>(calls: &[Call<'a>], number: u32) -> Option<&'a str>
+    ensures { option_map (λ x. x.now) result ≡ slice_get (callees_of (map call_view calls.now)) (pred number) }
+{
+    let place = number.saturating_sub(1) as usize;
+    if place < calls.len() {
+        let callee = calls[place].callee;
+        Some(&callee.text)
+    } else {
+        None
+    }
+}
