@@ -1,5 +1,5 @@
 -- What the checks of rules refuse is refused by the first fault of the earliest phase that has one.
-use Rattle.std.proofs.Common.{inl, inr, ap}
+use Rattle.std.proofs.Common.{◌≡◌, inl, inr, ap, subst, Result, Ok, Err, IfOk}
 use Rattle.lus_tree.specs.Tree.{Program}
 use Rattle.lus_tree.specs.Reason.{Refused}
 use Rattle.std.specs.Prelude.{None}
@@ -7,7 +7,8 @@ use Rattle.lus_meaning.specs.Refusals.{IsTyped, IsClocked, by_typing, by_clocks,
 use Rattle.lus_types.specs.Refusals as T
 use Rattle.lus_clocks.specs.Program as C
 use Rattle.lus_checked.specs.Refusals as K
-use Rattle.kind_main.specs.Source.{IsRuling}
+use Rattle.lus_meaning.specs.Refusals.{IsChecked, IsWithinLimits}
+use Rattle.kind_main.specs.Source.{FollowsAll, IsRuling}
 
 pub typing_ruling : (p : Program) (r : Refused) → T.IsRefusal p r → IsRuling p r
 typing_ruling p r (inl m) = inl (ap (λ (x : Refused). x.reason) m)
@@ -21,3 +22,9 @@ pub checked_ruling : (p : Program) (r : Refused) → IsClocked p → K.IsRefusal
 checked_ruling p r c (K.no_memory m) = inl (ap (λ (x : Refused). x.reason) m)
 checked_ruling p r c (K.by_equations f) = inr (by_equations c f)
 checked_ruling p r c (K.by_limits rules f) = inr (by_limits rules f)
+
+-- what is checked follows all rules, of a program that is the same
+pub all_followed : {A B : Type 0} (r : Result A B) (q p : Program) → q ≡ p → IfOk r (λ _. IsChecked q) → IfOk r (λ _. IsWithinLimits q None)
+    → IfOk r (λ _. FollowsAll p)
+all_followed (Ok a) q p e c w = record { rules = subst IsChecked e c; limits = subst (λ x. IsWithinLimits x None) e w }
+all_followed (Err b) q p e c w = tt
