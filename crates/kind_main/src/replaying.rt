@@ -43,11 +43,7 @@ pub struct Replayed<'a> {
 }
 
 /// Reads a trace and replays it on a program.
-fn read_replay<'a>(
-    alloc: Global,
-    checked: &'a Built,
-    bytes: &[u8],
-) -> Result<Replayed<'a>, Stopped>
+fn read_replay<'a>(alloc: Global, checked: &'a Built, bytes: &[u8]) -> Result<Replayed<'a>, Stopped>
     requires { length bytes.now ≤ 1048576 }
     ensures { MatchResult result
         (λ r. IsTraceText bytes.now (trace_view r.trace) × FitsProgram (program_view checked.now) (trace_view r.trace) × ReplaysTrace (program_view checked.now) (trace_view r.trace) (replay_view r.replay))

@@ -1,24 +1,24 @@
 -- What the checks give, put together.
-use Rattle.std.proofs.Common.{◌≡◌, ◌≢◌, ℕ, zero, suc, ◌<◌, ◌≤◌, Bool, true, false, cond, List, [], ◌∷◌, ◌++◌, length, map, Vec, Global, Option, Some, None, refl, sym, subst, ap, ◌∙◌, arith}
+use Rattle.std.proofs.Common.{◌≡◌, ℕ, zero, suc, ◌<◌, Bool, true, false, cond, List, [], ◌∷◌, length, map, Vec, Global, Option, Some, None, refl, sym, subst, ap, ◌∙◌, arith}
 use Rattle.std.specs.Prelude.{◌==◌, Contains, slice_get, is_none, option_map}
 use Rattle.std.specs.Str.{bytes_eq}
 use Rattle.lus_tree.specs.Tree.{Name, Component, Program}
-use Rattle.lus_tree.specs.Lookup.{nodes_of, place_of, number_of}
-use Rattle.lus_tree.specs.Reason.{Refused, memory, no_node, main_unknown, name_twice}
+use Rattle.lus_tree.specs.Lookup.{nodes_of, place_of}
+use Rattle.lus_tree.specs.Reason.{Refused, no_node, main_unknown}
 use Rattle.lus_meaning.specs.ClockFaults.{components}
 use Rattle.lus_meaning.specs.EquationFaults.{IsEquationFault}
-use Rattle.lus_meaning.specs.Faults.{IsFirst, fault, if_so, words_twice}
+use Rattle.lus_meaning.specs.Faults.{fault, if_so}
 use Rattle.lus_meaning.specs.Grammatical.{IsGrammatical}
 use Rattle.lus_meaning.specs.Limits.{main_faults, limit_faults, size_faults}
-use Rattle.lus_meaning.specs.NameFaults.{start_of_text, declaration_word, declaration_faults, typing_faults}
+use Rattle.lus_meaning.specs.NameFaults.{start_of_text, typing_faults}
 use Rattle.lus_meaning.specs.Order.{IsLeastEquationOrder}
 use Rattle.lus_meaning.specs.Program.{instance_of}
-use Rattle.lus_meaning.specs.Refusals.{HasNone, IsTyped, IsClocked, FollowsRules, IsChecked, IsWithinLimits}
+use Rattle.lus_meaning.specs.Refusals.{HasNone, IsTyped, IsClocked, IsChecked, IsWithinLimits}
 use Rattle.lus_meaning.specs.Run.{equations}
 use Rattle.lus_meaning.proofs.NamesOnce.{not_nil, no_parts, empty_of}
 use Rattle.lus_order.specs.Checked.{AreLeastOrders}
 use Rattle.lus_checked.specs.Main.{is_marked, first_marked, last_number, unless_found, main_node}
-use Rattle.lus_checked.specs.Program.{IsCheckedWith, IsOrderOf}
+use Rattle.lus_checked.specs.Program.{IsCheckedWith}
 
 none_some : {A : Type 0} (x : A) → None ≡ Some x → ⊥
 none_some x e = cc
@@ -89,7 +89,7 @@ main_below p None k e = go (first_marked (nodes_of p)) refl e
 nodes_there : (p : Program) → IsTyped p → (nodes_of p ≡ []) → ⊥
 nodes_there p h e =
     let faults : if_so (length (nodes_of p) == 0) no_node start_of_text ≡ [] =
-        (no_parts (if_so (length (nodes_of p) == 0) no_node start_of_text) _ (empty_of (typing_faults p) h)).0 in
+    (no_parts (if_so (length (nodes_of p) == 0) no_node start_of_text) _ (empty_of (typing_faults p) h)).0 in
     not_nil _ _ (subst (λ ns. if_so (length ns == 0) no_node start_of_text ≡ []) e faults)
 
 last_there : (ns : List Component) → ((ns ≡ []) → ⊥) → last_number ns ≡ None → ⊥

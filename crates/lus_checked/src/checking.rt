@@ -19,7 +19,6 @@ use crate::main_node::main_number;
 use crate::orders::all_narrowed;
 use lus_bounds::limits;
 use lus_clocks::Clocked;
-
 use lus_order::equations;
 use lus_tree::{Pos, Program, Refusal, What};
 use std::alloc::{AllocError, Global};

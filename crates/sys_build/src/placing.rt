@@ -49,11 +49,7 @@ fn spot_of(node: &Node, streams: usize, number: u32) -> Result<Spot, AllocError>
 /// # Errors
 ///
 /// Only want of memory.
-pub fn place_of(
-    alloc: Global,
-    checked: &Built,
-    number: u32,
-) -> Result<(Vec<u32>, Spot), BuildFault>
+pub fn place_of(alloc: Global, checked: &Built, number: u32) -> Result<(Vec<u32>, Spot), BuildFault>
     requires placed { (d : Component) → IsBooleanChecked (program_view checked.now) d
         → is_some (printed_place (instance_of (program_view checked.now) d) number) ≡ true }
     ensures exact { IfOk result (λ r. (d : Component) → IsBooleanChecked (program_view checked.now) d

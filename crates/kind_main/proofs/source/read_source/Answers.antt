@@ -1,9 +1,6 @@
-use Rattle.std.proofs.Common.{rules, subst, sym}
 use Rattle.lus_tree.specs.View.{program_view}
 use Rattle.lus_tree.specs.Reason.{refusal_view}
-use Rattle.lus_grammar.specs.Source.{IsSource}
-use Rattle.kind_main.specs.Source.{FollowsAll}
-use Rattle.kind_main.proofs.Answering.{stop_as, misread_ends, ruled_out_ends, unbuilt_ends}
+use Rattle.kind_main.proofs.Answering.{stop_as, misread_ends, ruled_out_ends}
 use Rattle.kind_main.proofs.source.read_source.Goals as goal
 
 pub returns-in-Err : goal.returns-in-Err

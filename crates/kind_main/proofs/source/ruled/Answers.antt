@@ -1,4 +1,4 @@
-use Rattle.std.proofs.Common.{rules, ◌≡◌}
+use Rattle.std.proofs.Common.{rules}
 use Rattle.lus_tree.specs.View.{program_view}
 use Rattle.kind_main.proofs.Ruling.{all_followed}
 use Rattle.kind_main.proofs.source.ruled.Goals as goal

@@ -1,5 +1,5 @@
-use Rattle.std.proofs.Common.{rules, ◌≡◌, sym, subst}
-use Rattle.lus_tree.specs.View.{node_view, program_view}
+use Rattle.std.proofs.Common.{rules, sym, subst}
+use Rattle.lus_tree.specs.View.{node_view}
 use Rattle.lus_meaning.specs.BooleanRules.{BreaksNoBooleanRule}
 use Rattle.lus_checked.specs.Program.{tree_of}
 use Rattle.lus_built.specs.Shaped.{IsShapedAs}

@@ -8,6 +8,6 @@ pub returns : goal.returns
 returns c =
     let same : c.in_ok-order.order.items ≡ c.order.result.now = search rules in (
       orders_are (tree_of c.args.checked.now) c.in_ok-order.order.items
-      (subst (IsOrderOf (tree_of c.args.checked.now) 0) (sym same) c.order.ensures),
+          (subst (IsOrderOf (tree_of c.args.checked.now) 0) (sym same) c.order.ensures),
       tables_are (tree_of c.args.checked.now) (node_view c.args.node.now) c.requires _ _ c.in_ok-tables.ensures,
     )

@@ -1,4 +1,4 @@
-use Rattle.std.proofs.Common.{rules, ◌≡◌, map, sym, subst}
+use Rattle.std.proofs.Common.{rules, sym, subst}
 use Rattle.lus_tree.specs.View.{program_view}
 use Rattle.lus_meaning.specs.ClockFaults.{components}
 use Rattle.lus_order.specs.Checked.{AreLeastOrders}

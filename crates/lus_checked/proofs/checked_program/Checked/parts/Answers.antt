@@ -1,4 +1,4 @@
-use Rattle.std.proofs.Common.{rules, ◌≡◌, ap, ◌∙◌, sym, map, length}
+use Rattle.std.proofs.Common.{rules, ◌≡◌, ap, ◌∙◌, sym, length}
 use Rattle.lus_tree.specs.View.{program_view}
 use Rattle.lus_meaning.specs.ClockFaults.{components}
 use Rattle.lus_checked.specs.Program.{Marked, tree_of}
