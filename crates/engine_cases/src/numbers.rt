@@ -178,9 +178,6 @@ fn is_odd_twice(alloc: Global) -> Result<Term, AllocError> {
 pub fn halves(alloc: Global) -> Result<System, AllocError> {
     let mut system = free(alloc, Term::Truth(false))?;
     system.shapes.push(Shape::Number)?;
-    let odd = plus(alloc, multiple(alloc, 2, number(1))?, constant(1))?;
-    system
-        .here
-        .push(equal(alloc, multiple(alloc, 2, number(0))?, odd)?)?;
+    system.here.push(is_odd_twice(alloc)?)?;
     Ok(system)
 }

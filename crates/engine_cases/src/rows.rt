@@ -19,14 +19,14 @@ pub struct Case {
     pub order: Order,
 }
 
-/// The order of the first turns, by the engines' numbers.
+/// The first turns.
 #[derive(Clone, Copy)]
 pub enum Order {
-    /// The first engine goes to its end.
+    /// One of bounded search, and then each engine goes to its end.
     First,
-    /// The second one begins.
+    /// One of induction, and then each engine goes to its end.
     Second,
-    /// In turns.
+    /// In turns, as many as the depth; then each engine goes to its end.
     Turns,
 }
 

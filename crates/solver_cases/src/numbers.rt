@@ -140,10 +140,7 @@ fn is_odd_twice(alloc: Global) -> Result<Term, AllocError> {
 /// other odd. Fractions meet it, so that it takes splits to see that.
 pub fn halves(alloc: Global) -> Result<System, AllocError> {
     let mut system = in_ranges(alloc, Term::Truth(false))?;
-    let odd = plus(alloc, multiple(alloc, 2, number(1))?, constant(1))?;
-    system
-        .here
-        .push(equal(alloc, multiple(alloc, 2, number(0))?, odd)?)?;
+    system.here.push(is_odd_twice(alloc)?)?;
     Ok(system)
 }
 
@@ -159,10 +156,20 @@ pub fn thirds(alloc: Global) -> Result<System, AllocError> {
     Ok(system)
 }
 
+/// Three times the first number's quotient by 3.
+fn quotient_times(alloc: Global) -> Result<Num, AllocError> {
+    multiple(alloc, 3, quotient(alloc, number(0), 3)?)
+}
+
+/// That and the remainder.
+fn put_together(alloc: Global) -> Result<Num, AllocError> {
+    let times = quotient_times(alloc)?;
+    plus(alloc, times, remainder(alloc, number(0), 3)?)
+}
+
 /// The first number is three times its quotient by 3 and the remainder.
 fn divides(alloc: Global) -> Result<Term, AllocError> {
-    let thirds = multiple(alloc, 3, quotient(alloc, number(0), 3)?)?;
-    let whole = plus(alloc, thirds, remainder(alloc, number(0), 3)?)?;
+    let whole = put_together(alloc)?;
     equal(alloc, number(0), whole)
 }
 
