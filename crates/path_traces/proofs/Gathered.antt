@@ -1,5 +1,5 @@
 -- Lists that are made one part after another.
-use Rattle.std.proofs.Common.{◌≡◌, ℕ, suc, ◌+◌, List, [], ◌∷◌, ◌++◌, map, flat_map, append_assoc, refl, sym, ap, ◌∙◌, Result, Ok, Err, OnOk, Box, Vec}
+use Rattle.std.proofs.Common.{◌≡◌, ℕ, suc, ◌+◌, List, [], ◌++◌, map, flat_map, append_assoc, refl, sym, ap, ◌∙◌, Result, Ok, Err, OnOk, Box, Vec}
 use Rattle.std.specs.declared.alloc.Global.{Global}
 use Rattle.std.proofs.lemmas.Grind.{flat_map-append}
 use Rattle.lus_tree.proofs.Views.{view-Expr, view-Condact}

@@ -1,14 +1,14 @@
 -- What a walk over all frames makes is the trace of the states.
 use Rattle.std.proofs.Common.{◌≡◌, ℕ, ◌+◌, ◌<◌, List, [], ◌∷◌, ◌++◌, map, length, refl, sym, ap, ◌∙◌, arith}
 use Rattle.std.specs.Prelude.{Contains}
-use Rattle.lus_tree.specs.Tree.{Name, Variable, Component, Program}
+use Rattle.lus_tree.specs.Tree.{Variable, Component, Program}
 use Rattle.lus_meaning.specs.declared.trace.TraceLine.{TraceLine}
 use Rattle.lus_meaning.specs.ClockFaults.{components}
 use Rattle.lus_meaning.specs.Program.{instance_of}
 use Rattle.lus_meaning.specs.Refusals.{IsChecked}
 use Rattle.lus_meaning.specs.Scene.{plain}
 use Rattle.lus_meaning.specs.Slots.{width}
-use Rattle.lus_meaning.specs.Trace.{BareLine, free_names}
+use Rattle.lus_meaning.specs.Trace.{free_names}
 use Rattle.lus_meaning.specs.TraceView.{bare_line, bare_view, line_view}
 use Rattle.lus_limits.specs.declared.calls.Way.TheVariants.{Plain}
 use Rattle.sys_terms.specs.declared.term.Entry.{Entry}

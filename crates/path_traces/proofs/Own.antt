@@ -1,20 +1,20 @@
 -- The lines of a frame by the numbers of its variables are those of its definition.
-use Rattle.std.proofs.Common.{◌≡◌, ℕ, zero, suc, ◌+◌, ◌<◌, Bool, true, false, cond, not, ◌&&◌, ◌||◌, List, [], ◌∷◌, ◌++◌, map, length, length-append, append_assoc, refl, sym, ap, ◌∙◌, subst, arith, Option, Some, None, slice_get, get_or}
+use Rattle.std.proofs.Common.{◌≡◌, ℕ, zero, suc, ◌+◌, ◌<◌, Bool, true, false, cond, not, ◌&&◌, ◌||◌, List, [], ◌∷◌, ◌++◌, map, length, length-append, append_assoc, refl, sym, ap, ◌∙◌, subst, arith, Some, slice_get, get_or}
 use Rattle.std.specs.List.{AllByRecursion}
 use Rattle.std.specs.Str.{bytes_eq}
 use Rattle.std.proofs.lemmas.Bool.{false≢true}
 use Rattle.lus_tree.specs.declared.place.Sort.{Sort}
 use Rattle.lus_tree.specs.declared.place.Sort.TheVariants.{Bool as Flags, Int as Numbers}
-use Rattle.lus_tree.specs.Tree.{Name, Variable, Component}
+use Rattle.lus_tree.specs.Tree.{Name, Variable}
 use Rattle.lus_meaning.specs.Value.{Value, absent, Stream}
-use Rattle.lus_meaning.specs.Frame.{Frame, entry}
+use Rattle.lus_meaning.specs.Frame.{entry}
 use Rattle.lus_meaning.specs.Scene.{Clock, base, sampled_by, Instance, component_of, clock_from, variables}
 use Rattle.lus_meaning.specs.Depends.{named_in}
 use Rattle.lus_meaning.specs.Occurrences.{Memory}
 use Rattle.lus_meaning.specs.Recompute.{sample}
 use Rattle.lus_meaning.specs.Run.{sort_of, sort_of_name}
 use Rattle.lus_meaning.specs.Slots.{Cell, name_cell, memory_cell, Slot, slot, slots}
-use Rattle.lus_meaning.specs.Trace.{of_name, of_first, BareLine}
+use Rattle.lus_meaning.specs.Trace.{of_first, BareLine}
 use Rattle.lus_meaning.proofs.Lists.{append_none}
 use Rattle.lus_meaning.proofs.Unique.{same_bytes}
 use Rattle.sys_terms.specs.declared.term.Entry.{Entry}

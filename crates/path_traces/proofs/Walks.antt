@@ -1,5 +1,5 @@
 -- The lines of a walk are those of the trace's definition.
-use Rattle.std.proofs.Common.{◌≡◌, ℕ, zero, suc, ◌+◌, ◌<◌, min, Bool, true, false, cond, not, List, [], ◌∷◌, ◌++◌, map, length, length-append, append_assoc, refl, sym, ap, ◌∙◌, subst, arith, Option, Some, None, get_or}
+use Rattle.std.proofs.Common.{◌≡◌, ℕ, zero, suc, ◌+◌, min, Bool, true, false, cond, not, List, [], ◌∷◌, ◌++◌, map, length, length-append, append_assoc, refl, sym, ap, ◌∙◌, arith, Option, Some, None, get_or}
 use Rattle.std.specs.Prelude.{Contains, is_none, unwrap_or}
 use Rattle.std.specs.List.{AllByRecursion}
 use Rattle.std.specs.Str.{bytes_eq}
@@ -8,11 +8,11 @@ use Rattle.lus_tree.specs.Tree.{Name, Variable, Expression, ContractStatement, C
 use Rattle.lus_meaning.specs.ClockFaults.{components}
 use Rattle.lus_meaning.specs.Frame.{Frame, calls_in, firsts_of, entry}
 use Rattle.lus_meaning.specs.Occurrences.{Memory, Start, memories, starts}
-use Rattle.lus_meaning.specs.Program.{all_sites, component_named, constants_in, first_of_two, if_named, in_order, instances_with, instance_of, instance_within}
+use Rattle.lus_meaning.specs.Program.{all_sites, component_named, constants_in, first_of_two, in_order, instances_with, instance_of, instance_within}
 use Rattle.lus_meaning.specs.Recompute.{sample}
 use Rattle.lus_meaning.specs.Refusals.{IsChecked}
 use Rattle.lus_meaning.specs.Run.{first_sorts}
-use Rattle.lus_meaning.specs.Scene.{Manner, plain, while_true, as_import, Site, Instance, Instances, instance, no_component, no_instances, with_instance, component_of, variables}
+use Rattle.lus_meaning.specs.Scene.{Manner, plain, while_true, as_import, Site, Instance, Instances, instance, no_component, no_instances, component_of, variables}
 use Rattle.lus_meaning.specs.Slots.{Cell, beat_cell, name_cell, memory_cell, start_cell, contract_cells, own_cells, held_each, held_cells, Slot, slot, slots_in, call_slots, slots}
 use Rattle.lus_meaning.specs.Value.{Value}
 use Rattle.lus_meaning.specs.Trace.{BareLine, of_name, free_names, free_in}
@@ -26,19 +26,18 @@ use Rattle.rule_laws.proofs.Unfolded.{component_within}
 use Rattle.sys_terms.specs.declared.term.Entry.{Entry}
 use Rattle.sys_terms.specs.Fits.{state_fits}
 use Rattle.sys_terms.specs.Paths.{IsPath}
-use Rattle.sys_meaning.specs.Slot.{Place, beat, named, own}
+use Rattle.sys_meaning.specs.Slot.{Place, named, own}
 use Rattle.sys_meaning.specs.Path.{course_of, frame_by, frames_by, frame_of_path, firsts_by, name_lines, first_lines, lines_from, lines_below, trace_of}
 use Rattle.sys_meaning.specs.System.{below_call, number_of, shape_of, system_of}
 use Rattle.sys_meaning.specs.WellTyped.{IsKnown, StreamFits, TreeFits, CallsFit, WellTyped, is_declared}
 use Rattle.sys_meaning.proofs.Backward.{tree_own}
 use Rattle.sys_meaning.proofs.PathStates.{some_length}
-use Rattle.path_laws.proofs.Lines.{Within, all_of_within, names_within, top_within}
+use Rattle.path_laws.proofs.Lines.{all_of_within, names_within, top_within}
 use Rattle.path_laws.proofs.Main.{each_is_well_typed}
 use Rattle.path_laws.proofs.Numbers.{CountedFrom, in_order_counted}
-use Rattle.lus_limits.specs.Calls.{Called, called_of, way_of}
+use Rattle.lus_limits.specs.Calls.{called_of, way_of}
 use Rattle.lus_limits.specs.Instances.{callee}
 use Rattle.lus_limits.specs.Summaries.{sofar_count}
-use Rattle.lus_limits.specs.declared.calls.Way.{Way}
 use Rattle.path_traces.specs.Numbered.{name_line, name_number, place_in}
 use Rattle.path_traces.specs.Numbered as n
 use Rattle.path_traces.specs.Plans.{Plan, plan_of, plan_named, own_width, held_by, held_count, free_by}
@@ -305,14 +304,14 @@ module _ (p : Program) (c : IsChecked p) (states : List (List Entry)) where
         let listed : free_in s.manner (component_of k) ≡ free_by (way_of s.manner) (plan_of d) =
         ap (free_in s.manner) (component_within f p d) ∙ free_so s.manner d in
         both
-            (so d (counted_so p c s.callee) s.manner (path ++ s.number ∷ []) (below_call s.number at)
-            (λ y. is_at (s.number ∷ y.0, y.1) ∙ ap (λ z. number_of top (z, y.1)) (sym (append_assoc path (s.number ∷ []) y.0)))
-            (pre ++ h) (r ++ post) e1 t.1 (free_in s.manner (component_of k))
-            (free_streams (StreamFits k (IsKnown k)) s.manner (component_of k) (tree_own IsKnown k t.1).streams)
-            ∙ ap (λ z. (walked f).lines (way_of s.manner) (path ++ s.number ∷ []) z (free_in s.manner (component_of k)) (plan_of d)) long1
-            ∙ ap (λ z. (walked f).lines (way_of s.manner) (path ++ s.number ∷ []) (length pre + held_count (called_of s) (plan_of d)) z (plan_of d)) listed)
-            (calls_so f so i path at is_at ss (suc q) t.2 ((pre ++ h) ++ x) post (e1 ∙ sym (append_assoc (pre ++ h) x (r ++ post)))
-            ∙ ap (λ z. calls_lines (walked f) ps path z (map called_of ss)) long2)
+        (so d (counted_so p c s.callee) s.manner (path ++ s.number ∷ []) (below_call s.number at)
+        (λ y. is_at (s.number ∷ y.0, y.1) ∙ ap (λ z. number_of top (z, y.1)) (sym (append_assoc path (s.number ∷ []) y.0)))
+        (pre ++ h) (r ++ post) e1 t.1 (free_in s.manner (component_of k))
+        (free_streams (StreamFits k (IsKnown k)) s.manner (component_of k) (tree_own IsKnown k t.1).streams)
+        ∙ ap (λ z. (walked f).lines (way_of s.manner) (path ++ s.number ∷ []) z (free_in s.manner (component_of k)) (plan_of d)) long1
+        ∙ ap (λ z. (walked f).lines (way_of s.manner) (path ++ s.number ∷ []) (length pre + held_count (called_of s) (plan_of d)) z (plan_of d)) listed)
+        (calls_so f so i path at is_at ss (suc q) t.2 ((pre ++ h) ++ x) post (e1 ∙ sym (append_assoc (pre ++ h) x (r ++ post)))
+        ∙ ap (λ z. calls_lines (walked f) ps path z (map called_of ss)) long2)
         ∙ ap (λ y. call_line (walked f) path (length pre) (called_of s) y
         ++ calls_lines (walked f) ps path (length pre + call_width (walked f) (called_of s) y) (map called_of ss)) (sym (planned p s.callee))
       where

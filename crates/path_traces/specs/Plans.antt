@@ -1,5 +1,5 @@
 -- What a trace lists of a declaration's frames, and how many variables they have.
-use Rattle.std.specs.Prelude.{ℕ, suc, ◌+◌, min, Bool, not, is_none, List, [], ◌∷◌, map, flat_map, length, cond, Option, Some, None}
+use Rattle.std.specs.Prelude.{ℕ, suc, ◌+◌, min, Bool, not, is_none, List, [], ◌∷◌, map, flat_map, length, cond}
 use Rattle.std.specs.List.{list_any}
 use Rattle.std.specs.Str.{bytes_eq}
 use Rattle.lus_tree.specs.Numbers.{arrow_number, pre_number, all_numbers}

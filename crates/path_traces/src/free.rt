@@ -17,10 +17,7 @@ use lus_tree::{ContractItem, Item, Param, PlacedName};
 use std::alloc::{AllocError, Global};
 
 /// The streams, and behind them these.
-fn push_all<'a>(
-    streams: &mut Vec<&'a Param>,
-    params: &'a [Param],
-) -> Result<(), AllocError>
+fn push_all<'a>(streams: &mut Vec<&'a Param>, params: &'a [Param]) -> Result<(), AllocError>
     ensures { OnOk result (params_view streams.new.items ≡ params_view streams.old.items ++ map param_view params.now) }
 {
     for param in params {
@@ -30,10 +27,7 @@ fn push_all<'a>(
 }
 
 /// The streams, and behind them an item's ghost variable, where it is one.
-fn push_ghost<'a>(
-    streams: &mut Vec<&'a Param>,
-    item: &'a ContractItem,
-) -> Result<(), AllocError>
+fn push_ghost<'a>(streams: &mut Vec<&'a Param>, item: &'a ContractItem) -> Result<(), AllocError>
     ensures { OnOk result (params_view streams.new.items ≡ params_view streams.old.items
         ++ ghosts (contract_item_view item.now ∷ [])) }
 {
@@ -86,7 +80,9 @@ fn is_ghost(items: &[ContractItem], name: &str) -> bool
     ensures { result ≡ is_left (ghost_equations (map contract_item_view items.now)) name.now }
 {
     for item in items {
-        if let ContractItem::Ghost(param, _) = item && name == param.name.text.as_str() {
+        if let ContractItem::Ghost(param, _) = item
+            && name == param.name.text.as_str()
+        {
             return true;
         }
     }
@@ -98,7 +94,9 @@ fn is_left(items: &[Item], name: &str) -> bool
     ensures { result ≡ is_left (body_equations (map item_view items.now)) name.now }
 {
     for item in items {
-        if let Item::Equation(words, _) = item && is_among(words, name) {
+        if let Item::Equation(words, _) = item
+            && is_among(words, name)
+        {
             return true;
         }
     }
@@ -156,7 +154,8 @@ pub(crate) fn free_of(alloc: Global, owner: Owner<'_>) -> Result<Vec<&Param>, Al
 /// The inputs, and behind them the outputs and locals that no equation defines.
 #[tactic(auto, using(crate::proofs::FreeNames::free_both))]
 pub(crate) fn inputs_and_free(alloc: Global, owner: Owner<'_>) -> Result<Vec<&Param>, AllocError>
-    ensures { IfOk result (λ v. params_view v.items ≡ (owner_view owner.entry).inputs ++ free_names (owner_view owner.entry)) }
+    ensures { IfOk result (λ v. params_view v.items
+        ≡ (owner_view owner.entry).inputs ++ free_names (owner_view owner.entry)) }
 {
     let mut listed = Vec::new(alloc);
     push_all(&mut listed, owner.inputs())?;

@@ -14,8 +14,9 @@ use lus_streams::owner::Owner;
 use lus_tree::{Decl, Param, Program};
 use std::alloc::{AllocError, Global};
 
-/// What a trace lists of a declaration's frames, and what their variables are counted by: its name and streams, those that
-/// no equation defines, how many outputs, `pre` and `->` it has, whether a contract, and its calls and imports by number.
+/// What a trace lists of a declaration's frames, and what their variables are counted by: its name and streams, those
+/// that no equation defines, how many outputs, `pre` and `->` it has, whether a contract, and its calls and imports by
+/// number.
 #[derive(Drop)]
 pub(crate) struct Plan<'a> {
     pub(crate) name: &'a str,
@@ -76,11 +77,7 @@ pub(crate) fn no_plan(alloc: Global) -> Plan<'static>
 }
 
 /// The plans, and behind them that of a declaration with streams.
-fn push_plan<'a>(
-    plans: &mut Vec<Plan<'a>>,
-    alloc: Global,
-    decl: &'a Decl,
-) -> Result<(), AllocError>
+fn push_plan<'a>(plans: &mut Vec<Plan<'a>>, alloc: Global, decl: &'a Decl) -> Result<(), AllocError>
     ensures { OnOk result (map plan_view plans.new.items ≡ map plan_view plans.old.items
         ++ map plan_of (components (decl_view decl.now ∷ []))) }
 {
@@ -108,7 +105,11 @@ pub(crate) fn plans_of(alloc: Global, program: &Program) -> Result<Vec<Plan<'_>>
 }
 
 /// The first plan of that name, else that of what isn't there.
-pub(crate) fn plan_named<'a, 'p>(plans: &'p [Plan<'a>], none: &'p Plan<'a>, name: &str) -> &'p Plan<'a>
+pub(crate) fn plan_named<'a, 'p>(
+    plans: &'p [Plan<'a>],
+    none: &'p Plan<'a>,
+    name: &str,
+) -> &'p Plan<'a>
     requires { plan_view none.now ≡ plan_of no_component }
     ensures { plan_view result.now ≡ plan_named (map plan_view plans.now) name.now }
 {

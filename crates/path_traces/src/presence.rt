@@ -23,7 +23,8 @@ pub(crate) fn on_within(
     clock: Clock<'_>,
 ) -> bool
     requires { base < 2 ^ 32 }
-    ensures { result ≡ on_within bound (params_view names.now) base (values_of (state_view state.now)) (clock_seen clock.entry) }
+    ensures { result ≡ on_within bound (params_view names.now) base (values_of (state_view state.now))
+        (clock_seen clock.entry) }
 {
     match clock {
         Clock::Base => flag_at(state, base),

@@ -81,7 +81,14 @@ fn push_own(
     let states = tables.states;
     push_names(lines, tables.alloc, path, &plan.names, base, states, listed)?;
     let variable = base + 1 + plan.names.len();
-    push_firsts(lines, tables.alloc, path, &states[0], variable, plan.memories as u32)
+    push_firsts(
+        lines,
+        tables.alloc,
+        path,
+        &states[0],
+        variable,
+        plan.memories as u32,
+    )
 }
 
 /// Visits a frame, which runs so and lists these names, and those of its calls, with calls nested no deeper than `depth`.
@@ -97,12 +104,14 @@ pub(crate) fn visit_frame(
 ) -> Result<(), AllocError>
     requires some { tables.states.now ≢ [] }
     requires room { visit.old.next
-        + (walk (states_view tables.states.now) (map plan_view tables.plans.now) depth).width way (plan_view plan.now) < 2 ^ 32 }
+        + (walk (states_view tables.states.now) (map plan_view tables.plans.now) depth).width way (plan_view plan.now)
+        < 2 ^ 32 }
     ensures lines { OnOk result (map bare_view visit.new.lines.items ≡ map bare_view visit.old.lines.items
         ++ (walk (states_view tables.entry.states.now) (map plan_view tables.entry.plans.now) depth).lines
         way path.now visit.old.next (params_view listed.now) (plan_view plan.now)) }
     ensures next { OnOk result (visit.new.next ≡ visit.old.next
-        + (walk (states_view tables.entry.states.now) (map plan_view tables.entry.plans.now) depth).width way (plan_view plan.now)) }
+        + (walk (states_view tables.entry.states.now) (map plan_view tables.entry.plans.now) depth).width
+        way (plan_view plan.now)) }
 {
     let base = visit.next;
     push_own(tables, &mut visit.lines, path, base, listed, plan)?;
@@ -152,7 +161,8 @@ fn visit_call(
         (call_view call.now) (plan_named (map plan_view tables.plans.now) (call_view call.now).callee) < 2 ^ 32 }
     ensures lines { OnOk result (map bare_view visit.new.lines.items ≡ map bare_view visit.old.lines.items
         ++ call_line (walk (states_view tables.entry.states.now) (map plan_view tables.entry.plans.now) depth)
-        path.now visit.old.next (call_view call.now) (plan_named (map plan_view tables.entry.plans.now) (call_view call.now).callee)) }
+        path.now visit.old.next (call_view call.now)
+        (plan_named (map plan_view tables.entry.plans.now) (call_view call.now).callee)) }
     ensures next { OnOk result (visit.new.next ≡ visit.old.next
         + call_width (walk (states_view tables.entry.states.now) (map plan_view tables.entry.plans.now) depth)
         (call_view call.now) (plan_named (map plan_view tables.entry.plans.now) (call_view call.now).callee)) }
@@ -160,5 +170,13 @@ fn visit_call(
     let plan = plan_named(tables.plans, tables.none, &call.callee.text);
     let way = way_to(tables.alloc, path, call.number)?;
     visit.next += held_count(call, plan);
-    visit_frame(tables, depth, visit, call.way, &way, free_by(call.way, plan), plan)
+    visit_frame(
+        tables,
+        depth,
+        visit,
+        call.way,
+        &way,
+        free_by(call.way, plan),
+        plan,
+    )
 }

@@ -1,4 +1,4 @@
-use Rattle.std.proofs.Common.{rules, ◌≡◌, ℕ, map, length, sym, ap, ◌∙◌}
+use Rattle.std.proofs.Common.{rules, ◌≡◌, map, length, sym, ap, ◌∙◌}
 use Rattle.lus_tree.specs.View.{decl_view, program_view}
 use Rattle.lus_meaning.proofs.Exists.{length_mapped}
 use Rattle.lus_streams.specs.Owner.{owner_view}
@@ -24,8 +24,8 @@ returns c = record {
     length = sym (length_mapped state_view c.args.states.now);
     lines =
         let many : c.len-depth.result ≡ length c.args.program.now.decls.items = search rules in
-    let deep : c.len-depth.result ≡ length (program_view c.args.program.now) =
-    many ∙ sym (length_mapped decl_view c.args.program.now.decls.items) in
+        let deep : c.len-depth.result ≡ length (program_view c.args.program.now) =
+        many ∙ sym (length_mapped decl_view c.args.program.now.decls.items) in
         lines_so (program_view c.args.program.now) c.requires.checked (owner_view c.args.node) c.requires.declared (states_view c.args.states.now)
         (map plan_view c.deref.result.now) (plan_view c.in_ok-plan.plan) c.len-depth.result (ap (map plan_view) c.deref.ensures.value ∙ c.in_ok-plans.ensures)
         c.in_ok-plan.ensures deep c.new.result.items c.visit_frame.new.visit.lines.items (params_view c.deref-2.result.now) c.new.ensures.items
