@@ -49,7 +49,8 @@ all_gathered k d n0 n1 n2 n3 as_ bs cs a b e f g h i =
     let z : List Expression = flat_map statement_expressions d.body in
     let one : n1 ≡ flat_map N x =
     b ∙ ap (λ l. l ++ flat_map N (flat_map contract_statement_expressions as_)) a ∙ ap (λ l. flat_map N (flat_map contract_statement_expressions l)) e in
-    let two : n2 ≡ flat_map N x ++ flat_map N y = f ∙ ap (λ l. l ++ flat_map N (map (λ c. c.value) bs)) one ∙ ap (λ l. flat_map N x ++ flat_map N (map (λ c. c.value) l)) g in
+    let two : n2 ≡ flat_map N x ++ flat_map N y =
+    f ∙ ap (λ l. l ++ flat_map N (map (λ c. c.value) bs)) one ∙ ap (λ l. flat_map N x ++ flat_map N (map (λ c. c.value) l)) g in
     h ∙ ap (λ l. l ++ flat_map N (flat_map statement_expressions cs)) two
     ∙ ap (λ l. (flat_map N x ++ flat_map N y) ++ flat_map N (flat_map statement_expressions l)) i
     ∙ append_assoc (flat_map N x) (flat_map N y) (flat_map N z) ∙ ap (λ l. flat_map N x ++ l) (sym (flat_map-append N y z))

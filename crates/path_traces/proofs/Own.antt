@@ -164,8 +164,10 @@ module _ (top : Instance) (w : WellTyped IsKnown top) (states : List (List Entry
       value_so v h t l =
           let s : Values = values_of (get_or states t []) in
           callee_entry IsKnown i at (course_of states) len t l v.name.text h.name.declared
-          ∙ ap (λ k. cond (truth_of s s (present (bare_stage i at) k)) (value_in s (sort_of_name i v.name.text) (at (own (named v.name.text)))) absent) h.name.clock
-          ∙ ap (λ o. cond o (value_in s (sort_of_name i v.name.text) (at (own (named v.name.text)))) absent) (present_so s (length vs) (clock_from v.clock) h.clock)
+          ∙ ap (λ k. cond (truth_of s s (present (bare_stage i at) k)) (value_in s (sort_of_name i v.name.text) (at (own (named v.name.text)))) absent)
+          h.name.clock
+          ∙ ap (λ o. cond o (value_in s (sort_of_name i v.name.text) (at (own (named v.name.text)))) absent)
+          (present_so s (length vs) (clock_from v.clock) h.clock)
           ∙ ap (λ z. cond (on_within (length vs) vs b s (clock_from v.clock)) (value_in s z (at (own (named v.name.text)))) absent) h.sort
           ∙ ap (λ j. cond (on_within (length vs) vs b s (clock_from v.clock)) (value_in s v.sort j) absent) (names v.name.text h.name.declared)
 

@@ -29,7 +29,8 @@ fn name_value(
 ) -> Option<Value>
     requires base { base < 2 ^ 32 }
     requires number { number ≡ name_number (params_view names.now) base (param_view param.now).name.text }
-    ensures { entry_view result ≡ name_value (params_view names.now) base (param_view param.now) (state_view state.now) }
+    ensures { entry_view result
+        ≡ name_value (params_view names.now) base (param_view param.now) (state_view state.now) }
 {
     if on_within(names.len(), names, base, state, declared(&param.clock)) {
         Some(value_in(state, param.sort, number))

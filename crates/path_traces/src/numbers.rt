@@ -93,7 +93,8 @@ fn push_among(numbers: &mut Vec<u32>, kind: Kind, values: &[Expr]) -> Result<(),
 
 /// The numbers, and behind them those of these expressions.
 fn push_each(numbers: &mut Vec<u32>, kind: Kind, values: &[Expr]) -> Result<(), AllocError>
-    ensures { OnOk result (numbers.new.items ≡ numbers.old.items ++ flat_map (numbers_of kind) (map expr_view values.now)) }
+    ensures { OnOk result (numbers.new.items ≡ numbers.old.items
+        ++ flat_map (numbers_of kind) (map expr_view values.now)) }
 {
     for value in values {
         push_numbers(numbers, kind, value)?;

@@ -13,8 +13,8 @@ use lus_streams::clock::Clock;
 use lus_tree::Param;
 use sys_terms::State;
 
-/// Whether a clock is on in a state, of which no more clocks than `bound` follow from one another, in a frame whose beat
-/// has the number `base`.
+/// Whether a clock is on in a state, of which no more clocks than `bound` follow from one another, in a frame whose
+/// beat has the number `base`.
 pub(crate) fn on_within(
     bound: usize,
     names: &[&Param],

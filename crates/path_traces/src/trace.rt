@@ -25,11 +25,11 @@ use lus_tree::Program;
 use std::alloc::{AllocError, Global};
 use sys_terms::State;
 
-/// The trace of states of the system of a node, function or contract node of a checked program. It lists the inputs, and
-/// of each frame, that of the node and those of its calls and imports, the names without an equation, but for imports,
-/// in each state, absent where their clocks are off, and the first value of each `pre`, which is its memory in the first
-/// state. Where the states are a path it is exactly the trace of the path. It stands in no text: all its places are
-/// line 1, column 1.
+/// The trace of states of the system of a node, function or contract node of a checked program. It lists the inputs,
+/// and of each frame, that of the node and those of its calls and imports, the names without an equation, but for
+/// imports, in each state, absent where their clocks are off, and the first value of each `pre`, which is its memory in
+/// the first state. Where the states are a path it is exactly the trace of the path. It stands in no text: all its
+/// places are line 1, column 1.
 ///
 /// # Errors
 ///

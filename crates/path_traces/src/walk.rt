@@ -76,7 +76,8 @@ fn push_own(
     requires some { tables.states.now ≢ [] }
     requires room { base + (suc (length (plan_view plan.now).names) + (plan_view plan.now).memories) < 2 ^ 32 }
     ensures { OnOk result (map bare_view lines.new.items ≡ map bare_view lines.old.items
-        ++ own_lines (states_view tables.entry.states.now) path.now base (params_view listed.now) (plan_view plan.now)) }
+        ++ own_lines (states_view tables.entry.states.now) path.now base (params_view listed.now)
+        (plan_view plan.now)) }
 {
     let states = tables.states;
     push_names(lines, tables.alloc, path, &plan.names, base, states, listed)?;
@@ -91,7 +92,8 @@ fn push_own(
     )
 }
 
-/// Visits a frame, which runs so and lists these names, and those of its calls, with calls nested no deeper than `depth`.
+/// Visits a frame, which runs so and lists these names, and those of its calls, with calls nested no deeper than
+/// `depth`.
 #[cycle(walk)]
 pub(crate) fn visit_frame(
     tables: Tables<'_, '_>,
@@ -132,7 +134,8 @@ fn visit_calls(
     calls: &[Call<'_>],
 ) -> Result<(), AllocError>
     requires some { tables.states.now ≢ [] }
-    requires room { visit.old.next + calls_width (walk (states_view tables.states.now) (map plan_view tables.plans.now) depth)
+    requires room { visit.old.next
+        + calls_width (walk (states_view tables.states.now) (map plan_view tables.plans.now) depth)
         (map plan_view tables.plans.now) (map call_view calls.now) < 2 ^ 32 }
     ensures lines { OnOk result (map bare_view visit.new.lines.items ≡ map bare_view visit.old.lines.items
         ++ calls_lines (walk (states_view tables.entry.states.now) (map plan_view tables.entry.plans.now) depth)
@@ -157,7 +160,8 @@ fn visit_call(
     call: &Call<'_>,
 ) -> Result<(), AllocError>
     requires some { tables.states.now ≢ [] }
-    requires room { visit.old.next + call_width (walk (states_view tables.states.now) (map plan_view tables.plans.now) depth)
+    requires room { visit.old.next
+        + call_width (walk (states_view tables.states.now) (map plan_view tables.plans.now) depth)
         (call_view call.now) (plan_named (map plan_view tables.plans.now) (call_view call.now).callee) < 2 ^ 32 }
     ensures lines { OnOk result (map bare_view visit.new.lines.items ≡ map bare_view visit.old.lines.items
         ++ call_line (walk (states_view tables.entry.states.now) (map plan_view tables.entry.plans.now) depth)
