@@ -1,0 +1,6 @@
+mod Bare
+mod FreeNames
+mod Gathered
+mod Made
+mod Own
+mod Walks

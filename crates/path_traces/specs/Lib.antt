@@ -1,0 +1,4 @@
+pub mod Numbered
+pub mod Kinds
+pub mod Plans
+pub mod Walked

@@ -1,0 +1,15 @@
+//! The trace of the states of a path of a node's system.
+#![tactic(auto)]
+
+mod free;
+mod lines;
+mod names;
+mod numbers;
+mod plan;
+mod presence;
+mod reading;
+mod tables;
+mod trace;
+mod walk;
+
+pub use trace::trace_of;
