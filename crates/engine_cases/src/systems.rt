@@ -44,6 +44,7 @@ pub fn system(
     })
 }
 
+/// The system of that case.
 pub fn system_of(alloc: Global, which: Which) -> Result<System, AllocError> {
     match which {
         Which::Latch => latch(alloc),
@@ -62,6 +63,7 @@ pub fn system_of(alloc: Global, which: Which) -> Result<System, AllocError> {
     }
 }
 
+/// What the lines call it.
 pub fn name_of(which: Which) -> &'static str {
     match which {
         Which::Latch => "latch",
