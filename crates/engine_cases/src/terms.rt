@@ -16,6 +16,7 @@ pub fn next(number: u32) -> Term {
     Term::Flag(Var { number, next: true })
 }
 
+/// The opposite of a term.
 pub fn not(alloc: Global, a: Term) -> Result<Term, AllocError> {
     Ok(Term::Not(Box::new(alloc, a)?))
 }
@@ -60,15 +61,18 @@ pub fn next_number(variable: u32) -> Num {
     })
 }
 
+/// A constant number.
 pub fn constant(value: i128) -> Num {
     Num::Constant(value)
 }
 
+/// The sum of two numbers.
 pub fn plus(alloc: Global, a: Num, b: Num) -> Result<Num, AllocError> {
     let a = Box::new(alloc, a)?;
     Ok(Num::Add(a, Box::new(alloc, b)?))
 }
 
+/// A number times a factor.
 pub fn multiple(alloc: Global, factor: i128, a: Num) -> Result<Num, AllocError> {
     Ok(Num::Scale(factor, Box::new(alloc, a)?))
 }
@@ -80,11 +84,13 @@ pub fn choose_number(alloc: Global, c: Term, a: Num, b: Num) -> Result<Num, Allo
     Ok(Num::Choose(c, a, Box::new(alloc, b)?))
 }
 
+/// Whether the one is at most the other.
 pub fn at_most(alloc: Global, a: Num, b: Num) -> Result<Term, AllocError> {
     let a = Box::new(alloc, a)?;
     Ok(Term::AtMost(a, Box::new(alloc, b)?))
 }
 
+/// Whether the two are equal.
 pub fn equal(alloc: Global, a: Num, b: Num) -> Result<Term, AllocError> {
     let a = Box::new(alloc, a)?;
     Ok(Term::Equal(a, Box::new(alloc, b)?))
