@@ -1,5 +1,5 @@
 -- The constants of a checked program have the values that kept values give in text order.
-use Rattle.std.proofs.Common.{◌≡◌, ℕ, zero, suc, Bool, true, false, cond, ◌||◌, List, [], ◌∷◌, ◌++◌, map, Option, Some, None, refl, sym, ap, ◌∙◌, subst}
+use Rattle.std.proofs.Common.{◌≡◌, ℕ, zero, suc, Bool, true, false, cond, ◌||◌, List, [], ◌∷◌, ◌++◌, map, Option, Some, None, refl, sym, ap, ◌∙◌, subst, append_assoc, pos}
 use Rattle.std.specs.Prelude.{Contains, find, unwrap_or}
 use Rattle.std.specs.List.{AllByRecursion}
 use Rattle.std.specs.Map.{lookup}
@@ -152,7 +152,7 @@ module _ (p : Program) (outer : List Entry) where
       let there : IsThere (constant_of s k.value) =
       (right_part HasValue done (e ∷ []) (so_far HasValue (done ++ e ∷ []) xs t)).0 refl in
       let all : AllByRecursion (Says cs) (done ++ outer) = both_parts (Says cs) done outer a o in
-      let q : Same s cs k.value (constant_of s k.value) =
+      let q : Same cs k.value (constant_of s k.value) =
       same s cs (λ x h. (found_says cs (done ++ outer) all x h).0) (λ x h. (found_says cs (done ++ outer) all x h).1) k.value there in
       let more : Values = cs ++ (k.name.text, constant_value cs k.value) ∷ [] in
       let new : named_in k.name.text (value_names cs) ≡ false = fresh (value_names cs) k.name.text (constant_names (fixed_of xs)) d in
@@ -246,6 +246,9 @@ module _ (p : Program) (w : IsCleanProgram p) (h : ℕ × Component) (clean : Cl
   abbrev place : Home
   place = home p h.0 h.1
 
+  grouped : (n : Component) → constants_for p n ≡ program_constants p ++ own_constants n
+  grouped n = append_assoc (program_constants p) (contract_statement_constants (contract_statements n)) n.constants
+
   own_distinct : AreDistinct (value_names (constant_values [] (program_constants p)) ++ constant_names (fixed_of (declared_in h.1)))
   own_distinct =
       subst (λ cs. AreDistinct (value_names (outer_values p) ++ constant_names cs)) (sym (fixed_in_order h.1))
@@ -269,10 +272,12 @@ module _ (p : Program) (w : IsCleanProgram p) (h : ℕ × Component) (clean : Cl
 
   all_kept : kept_values [] (constants_for p h.1) ≡ constants_in p h.1
   all_kept =
-      kept_append [] (program_constants p) (own_constants h.1)
+      ap (kept_values []) (grouped h.1)
+      ∙ kept_append [] (program_constants p) (own_constants h.1)
       ∙ ap (λ cs. kept_values cs (own_constants h.1)) (outer_kept p w)
       ∙ own_kept
       ∙ sym (values_append [] (program_constants p) (own_constants h.1))
+      ∙ sym (ap (constant_values []) (grouped h.1))
 
 pub outer_constants_are_kept : OuterConstantsAreKept
 outer_constants_are_kept p c = outer_kept p (clean_program p c.rules.clocked.typed)
@@ -313,7 +318,7 @@ choose_small true (whole n) v w h k = refl
 
 kept_small : (cs : Values) → AllByRecursion IsSmallPair cs → (e : Expression) → is_small (kept_value cs e) ≡ true
 kept_small cs a (truth p b) = refl
-kept_small cs a (number p n) = small_tame _
+kept_small cs a (number p n) = small_tame (whole (pos n))
 kept_small cs a (name p x) = found_small x cs a
 kept_small cs a (negation p b) = not_small (kept_value cs b)
 kept_small cs a (minus p b) = small_tame (minus_value (kept_value cs b))

@@ -2,7 +2,8 @@
 use Rattle.std.proofs.Common.{◌≡◌, ℕ, zero, suc, ◌≤◌, ◌^◌, Bool, true, false, cond, ◌&&◌, Option, Some, None, refl, sym, ap, ◌∙◌, subst, arith, ℤ, pos, negsuc}
 use Rattle.std.specs.Prelude.{nat_lt, unsigned_abs}
 use Rattle.std.proofs.lemmas.Bool.{false≢true}
-use Rattle.std.proofs.lemmas.Bool.Decides.{nat_tests}
+use Rattle.std.specs.Ordering.{int_eq}
+use Rattle.std.proofs.lemmas.Bool.Decides.{nat_tests, Decides-int_eq}
 use Rattle.lus_tree.specs.declared.expression.Operator.{Operator}
 use Rattle.lus_tree.specs.declared.expression.Operator.TheVariants.{Implies, Or, Xor, And, Less, AtMost, Equal, Differs, AtLeast, More, Add, Sub, Mul, Div, Mod}
 use Rattle.lus_tree.specs.declared.place.Sort.{Sort}
@@ -42,9 +43,11 @@ small_tame v = go (is_small v) refl
 not_zero : (w : Value) → fits.is_zero (number_of_value w) ≡ false → is_zero w ≡ false
 not_zero absent h = refl
 not_zero (flag b) h = refl
-not_zero (whole (pos zero)) h = absurd (false≢true (sym h))
-not_zero (whole (pos (suc n))) h = refl
-not_zero (whole (negsuc n)) h = refl
+not_zero (whole n) h = go (int_eq n (pos 0)) refl
+  where
+    go : (b : Bool) → int_eq n (pos 0) ≡ b → b ≡ false
+    go true e = absurd (false≢true (sym h ∙ ap fits.is_zero ((Decides-int_eq n (pos 0)).0 e)))
+    go false e = refl
 
 undivided : (b : Bool) (v : Value) → b ≡ false → cond b absent v ≡ v
 undivided b v e = ap (λ c. cond c absent v) e

@@ -332,6 +332,10 @@ choice_there c (whole a) (flag b) t = nothing t
 
 -- ---- expressions
 
+-- kept values and those of the constants both give this value
+abbrev pub Same : List (Name × Value) → Expression → Value → Type 0
+Same cs e v = (kept_value cs e ≡ v) × (constant_value cs e ≡ v)
+
 module _ (s : Scope) (cs : List (Name × Value))
     (light : (x : Name) → IsThere (value_of_entry s x) → is_constant_name s x ≡ true)
     (found : (x : Name) → IsThere (value_of_entry s x) → lookup (bytes_eq x) cs ≡ Some (value_of_entry s x)) where
@@ -354,10 +358,7 @@ module _ (s : Scope) (cs : List (Name × Value))
   bound (condact p k a f as_ ds) = tt
   bound (mode_name p d m) = tt
 
-  abbrev pub Same : Expression → Value → Type 0
-  Same e v = (kept_value cs e ≡ v) × (constant_value cs e ≡ v)
-
-  pub same : (e : Expression) → IsThere (constant_of s e) → Same e (constant_of s e)
+  pub same : (e : Expression) → IsThere (constant_of s e) → Same cs e (constant_of s e)
   same (truth p b) t = (refl, refl)
   same (number p n) t =
       let m = made (whole (pos n)) (Some n) (omega arith) t in (m.1 ∙ sym m.0, sym m.0)
