@@ -32,9 +32,9 @@ use Rattle.rule_laws.proofs.Goods.{PlaceOf, place_of, TypedDeclaration, typed_de
 use Rattle.rule_laws.proofs.Unfolded.{typed_tree}
 use Rattle.sys_parts.specs.Values.{is_small, tame}
 use Rattle.term_laws.proofs.Scopes.{value_in}
-use Rattle.steady_laws.specs.Kept.{kept_value, kept_values, constants_for}
-use Rattle.steady_laws.specs.Laws.{OuterConstantsAreKept, ConstantsAreKept, ConstantsAreSmall}
-use Rattle.steady_laws.proofs.Distinct.{constant_names, own_constants, program_distinct, all_distinct}
+use Rattle.steady_laws.specs.Kept.{kept_value, kept_values, own_constants, constants_for}
+use Rattle.steady_laws.specs.Laws.{OuterConstantsAreKept, OwnConstantsAreKept, ConstantsAreKept, ConstantsAreSmall}
+use Rattle.steady_laws.proofs.Distinct.{constant_names, program_distinct, all_distinct}
 use Rattle.steady_laws.proofs.Small.{small_tame}
 use Rattle.steady_laws.proofs.Worths.{IsThere, nothing, Same, same}
 
@@ -270,25 +270,44 @@ module _ (p : Program) (w : IsCleanProgram p) (h : ℕ × Component) (clean : Cl
       (λ e g. good_value (constant_values (outer_values p) (fixed_of (declared_in h.1))) e g) (own_names place) own_good)
       (first_all (Says (outer_values p)) (says_known (outer_values p)) h.0 (outer_table p) (outer_says p w)) tt own_distinct)
 
+  own_values : kept_values (constant_values [] (program_constants p)) (own_constants h.1) ≡ constants_in p h.1
+  own_values =
+      own_kept ∙ sym (values_append [] (program_constants p) (own_constants h.1)) ∙ sym (ap (constant_values []) (grouped h.1))
+
   all_kept : kept_values [] (constants_for p h.1) ≡ constants_in p h.1
   all_kept =
       ap (kept_values []) (grouped h.1)
       ∙ kept_append [] (program_constants p) (own_constants h.1)
       ∙ ap (λ cs. kept_values cs (own_constants h.1)) (outer_kept p w)
-      ∙ own_kept
-      ∙ sym (values_append [] (program_constants p) (own_constants h.1))
-      ∙ sym (ap (constant_values []) (grouped h.1))
+      ∙ own_values
 
 pub outer_constants_are_kept : OuterConstantsAreKept
 outer_constants_are_kept p c = outer_kept p (clean_program p c.rules.clocked.typed)
 
-pub constants_are_kept : ConstantsAreKept
-constants_are_kept p c n j =
+-- a declaration at its place, without faults of names and types
+record IsCleanHere (p : Program) (n : Component) : Type 0 where
+  before : ℕ
+  names : CleanHome p (before, n)
+  typed : TypedDeclaration p (before, n)
+
+clean_here : (p : Program) → IsChecked p → (n : Component) → Contains (components p) n → IsCleanHere p n
+clean_here p c n j =
     let w : IsCleanProgram p = clean_program p c.rules.clocked.typed in
     let place : PlaceOf (placed 0 p) n = place_of 0 p n j in
     let h : ℕ × Component = (place.before, n) in
-    all_kept p w h (at_one (CleanHome p) (placed 0 p) h (homes_clean p 0 p w.faultless) place.is)
-    (typed_declaration p (typed_tree p c) h place.is j)
+    record {
+      before = place.before;
+      names = at_one (CleanHome p) (placed 0 p) h (homes_clean p 0 p w.faultless) place.is;
+      typed = typed_declaration p (typed_tree p c) h place.is j;
+    }
+
+pub own_constants_are_kept : OwnConstantsAreKept
+own_constants_are_kept p c n j =
+    let k : IsCleanHere p n = clean_here p c n j in own_values p (clean_program p c.rules.clocked.typed) (k.before, n) k.names k.typed
+
+pub constants_are_kept : ConstantsAreKept
+constants_are_kept p c n j =
+    let k : IsCleanHere p n = clean_here p c n j in all_kept p (clean_program p c.rules.clocked.typed) (k.before, n) k.names k.typed
 
 -- ---- sizes
 

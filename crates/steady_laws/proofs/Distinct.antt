@@ -18,13 +18,10 @@ use Rattle.lus_meaning.proofs.RulesFit.{none_mapped}
 use Rattle.rule_laws.proofs.Cleaned.{CleanHome}
 use Rattle.rule_laws.proofs.Lists.{other_bytes, all_mapped}
 use Rattle.clock_laws.proofs.Lefts.{distinct_behind}
+use Rattle.steady_laws.specs.Kept.{own_constants}
 
 abbrev pub constant_names : List Constant → List Name
 constant_names cs = map (λ c. c.name.text) cs
-
--- those of a declaration's contract, and its own
-abbrev pub own_constants : Component → List Constant
-own_constants n = contract_statement_constants (contract_statements n) ++ n.constants
 
 -- ---- names that stand once
 

@@ -1,23 +1,32 @@
 -- A steady constant expression has by kept values, and by tables that find the constants, its own value.
-use Rattle.std.proofs.Common.{◌≡◌, Bool, true, false, ◌&&◌, List, Option, Some, None, is_some, refl, ap, ◌∙◌, pos}
+use Rattle.std.proofs.Common.{◌≡◌, ℕ, Bool, true, false, ◌&&◌, List, [], ◌∷◌, map, Option, Some, None, is_some, refl, ap, ◌∙◌, subst, pos}
 use Rattle.std.specs.Prelude.{unwrap_or}
 use Rattle.std.specs.Map.{lookup}
 use Rattle.std.specs.Str.{bytes_eq}
 use Rattle.std.proofs.lemmas.Bool.{false≢true}
-use Rattle.lus_tree.specs.Tree.{Name, Expression, truth, number, name, negation, minus, pre, arrow, binary, choice, sampled, merged, call, condact, mode_name}
+use Rattle.lus_tree.specs.Tree.{Name, Expression, truth, number, name, negation, minus, pre, arrow, binary, choice, sampled, merged, call, condact, mode_name, Variable, Component}
 use Rattle.lus_meaning.specs.Value.{Value, absent, whole, not_value, minus_value}
 use Rattle.lus_meaning.specs.Frame.{empty_frame, entry}
 use Rattle.lus_meaning.specs.Meaning.{constant_or}
+use Rattle.lus_meaning.specs.Scene.{Manner, plain, while_true, as_import, Site, Instance, component_of, constants_of, call_instance}
 use Rattle.lus_meaning.specs.Program.{constant_value}
 use Rattle.lus_meaning.specs.Scope.{apply_total, choose_total}
 use Rattle.rule_laws.proofs.Truths.{both_true}
-use Rattle.sys_meaning.specs.Defaults.{is_constant}
+use Rattle.sys_terms.specs.View.{Formula}
+use Rattle.sys_meaning.specs.Defaults.{is_constant, default_of}
+use Rattle.sys_meaning.specs.Part.{variable, fixed, equal_parts}
+use Rattle.sys_meaning.specs.Slot.{own, held}
+use Rattle.sys_meaning.specs.System.{held_first}
+use Rattle.sys_meaning.specs.Translate.{Stage}
+use Rattle.sys_conditions.specs.Conditioned.{held_at_first}
+use Rattle.sys_conditions.specs.Laws.{output_of}
 use Rattle.sys_parts.specs.Values.{tame}
 use Rattle.sys_texts.specs.Laws.{IsSteady}
 use Rattle.sys_texts.specs.Sights.{Sight, Mode}
 use Rattle.sys_texts.specs.Texts.{Folded, known, negated, opposite, operated, chosen, folded, folded_name}
 use Rattle.steady_laws.specs.Kept.{kept_value}
-use Rattle.steady_laws.specs.Laws.{ValuesAreKept, FoldedIsKnown}
+use Rattle.steady_laws.specs.Laws.{ValuesAreKept, FoldedIsKnown, FirstIsHeld}
+use Rattle.steady_laws.specs.Steady.{HasDefaults, first_held}
 use Rattle.steady_laws.proofs.Small.{tame_small}
 
 module _ (cs : List (Name × Value)) where
@@ -88,3 +97,29 @@ values_are_kept cs e u k = value_kept cs e u k
 
 pub folded_is_known : FoldedIsKnown
 folded_is_known s ms cs h e u k = folded_is s ms cs h e u k
+
+-- ---- what is held at first
+
+outputs_first : (g : Stage) (k : ℕ) (vs : List Variable) (ws : List Value) → map (λ v. default_of g.place k v.name.text) vs ≡ ws →
+    held_at_first (map (output_of g k) vs) ws
+    ≡ map (λ v. equal_parts (variable v.sort (g.number (own (held k v.name.text)))) (fixed (default_of g.place k v.name.text))) vs
+outputs_first g k vs ws e = subst (λ us. held_at_first (map (output_of g k) vs) us ≡ given vs) e (each vs)
+  where
+    given : List Variable → List Formula
+    given us = map (λ v. equal_parts (variable v.sort (g.number (own (held k v.name.text)))) (fixed (default_of g.place k v.name.text))) us
+
+    each : (us : List Variable) → held_at_first (map (output_of g k) us) (map (λ v. default_of g.place k v.name.text) us) ≡ given us
+    each [] = refl
+    each (u ∷ us) =
+        ap (λ fs. equal_parts (variable u.sort (g.number (own (held k u.name.text)))) (fixed (default_of g.place k u.name.text)) ∷ fs) (each us)
+
+first_of : (g : Stage) (s : Site) (m : Manner) (i : Instance) → HasDefaults g.place s m →
+    component_of (call_instance g.place s.number) ≡ component_of i → first_held g s m i ≡ held_first g s m i
+first_of g s plain i h e = refl
+first_of g s (as_import xs) i h e = refl
+first_of g s (while_true a) i h e =
+    outputs_first g s.number (component_of i).outputs (map (constant_value (constants_of g.place)) s.defaults)
+    (subst (λ (n : Component). map (λ v. default_of g.place s.number v.name.text) n.outputs ≡ map (constant_value (constants_of g.place)) s.defaults) e h)
+
+pub first_is_held : FirstIsHeld
+first_is_held g s i h e = first_of g s s.manner i h e

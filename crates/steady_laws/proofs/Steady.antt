@@ -98,10 +98,10 @@ module _ (i : Instance) where
   )
   steady t (choice p b d e) a l = (
     (λ k.
-      let q = both_true (is_constant (constants_of i) b) (is_constant (constants_of i) d && is_constant (constants_of i) e) k in
-      let r = both_true (is_constant (constants_of i) d) (is_constant (constants_of i) e) q.1 in
-      chosen (sort_of i d) (value_here i b) (value_here i d) (value_here i e) (typed (within t) d a.2 r.0)
-      (has_as (sort_of i e) (sort_of i d) (value_here i e) a.0.fits.1 (typed (within t) e a.3 r.1))),
+        let q = both_true (is_constant (constants_of i) b) (is_constant (constants_of i) d && is_constant (constants_of i) e) k in
+        let r = both_true (is_constant (constants_of i) d) (is_constant (constants_of i) e) q.1 in
+        chosen (sort_of i d) (value_here i b) (value_here i d) (value_here i e) (typed (within t) d a.2 r.0)
+        (has_as (sort_of i e) (sort_of i d) (value_here i e) a.0.fits.1 (typed (within t) e a.3 r.1))),
     steady (within t) b a.1 l.1,
     steady (within t) d a.2 l.2,
     steady (within t) e a.3 l.3,

@@ -32,6 +32,10 @@ abbrev pub kept_values : List (Name × Value) → List Constant → List (Name �
 kept_values cs [] = cs
 kept_values cs (d ∷ ds) = kept_values (cs ++ (d.name.text, kept_value cs d.value) ∷ []) ds
 
--- the constants of the program, and then those of the declaration
+-- those of a declaration's contract, and its own
+abbrev pub own_constants : Component → List Constant
+own_constants n = contract_statement_constants (contract_statements n) ++ n.constants
+
+-- those of the program, and then those of the declaration
 abbrev pub constants_for : Program → Component → List Constant
 constants_for p n = program_constants p ++ contract_statement_constants (contract_statements n) ++ n.constants

@@ -5,21 +5,23 @@ use Rattle.std.specs.Map.{lookup}
 use Rattle.std.specs.Str.{bytes_eq}
 use Rattle.lus_tree.specs.Tree.{Name, Expression, Component, Program}
 use Rattle.lus_meaning.specs.Value.{Value}
-use Rattle.lus_meaning.specs.Scene.{Site, constants_of, contract_statements}
+use Rattle.lus_meaning.specs.Scene.{Site, Instance, component_of, constants_of, call_instance, contract_statements}
 use Rattle.lus_meaning.specs.Program.{in_order, all_sites, constant_value, constant_values, program_constants, constants_in, instance_of}
 use Rattle.lus_meaning.specs.Run.{Equation, equations}
 use Rattle.lus_meaning.specs.Occurrences.{Text, texts, Occurrence, all_occurrences, Memory, memories}
 use Rattle.lus_meaning.specs.Refusals.{IsChecked}
 use Rattle.lus_meaning.specs.RuleLaws.{OfEach}
 use Rattle.sys_meaning.specs.Defaults.{is_constant}
+use Rattle.sys_meaning.specs.System.{held_first}
+use Rattle.sys_meaning.specs.Translate.{Stage}
 use Rattle.sys_parts.specs.Values.{is_small}
 use Rattle.sys_texts.specs.Laws.{IsSteady}
 use Rattle.sys_texts.specs.Sights.{Sight, Mode}
 use Rattle.sys_texts.specs.Texts.{known, folded}
 use Rattle.sys_conditions.specs.Laws.{IsSteadyItem}
 use Rattle.sys_contracts.specs.Laws.{IsSteadyStatement}
-use Rattle.steady_laws.specs.Kept.{kept_value, kept_values, constants_for}
-use Rattle.steady_laws.specs.Steady.{IsSteadySite, HasDefaults}
+use Rattle.steady_laws.specs.Kept.{kept_value, kept_values, own_constants, constants_for}
+use Rattle.steady_laws.specs.Steady.{IsSteadySite, HasDefaults, first_held}
 
 -- ---- texts
 
@@ -70,11 +72,20 @@ FoldedIsKnown = (s : Sight) (ms : List Mode) (cs : List (Name × Value)) → ((x
 abbrev pub DefaultsInOrder : Type 0
 DefaultsInOrder = OfEach (λ p n. AllByRecursion (λ (s : Site). HasDefaults (instance_of p n) s s.manner) (all_sites n))
 
+-- and so holds of what it gives them at first
+abbrev pub FirstIsHeld : Type 0
+FirstIsHeld = (g : Stage) (s : Site) (i : Instance) → HasDefaults g.place s s.manner
+    → component_of (call_instance g.place s.number) ≡ component_of i → first_held g s s.manner i ≡ held_first g s s.manner i
+
 -- ---- constants
 
--- the kept values of constants in text order are their values: those of the program, and with them those of a declaration
+-- the kept values of constants in text order are their values: those of the program, those of a declaration by these, and all
 abbrev pub OuterConstantsAreKept : Type 0
 OuterConstantsAreKept = (p : Program) → IsChecked p → kept_values [] (program_constants p) ≡ constant_values [] (program_constants p)
+
+abbrev pub OwnConstantsAreKept : Type 0
+OwnConstantsAreKept =
+    OfEach (λ p n. kept_values (constant_values [] (program_constants p)) (own_constants n) ≡ constants_in p n)
 
 abbrev pub ConstantsAreKept : Type 0
 ConstantsAreKept = OfEach (λ p n. kept_values [] (constants_for p n) ≡ constants_in p n)

@@ -6,11 +6,13 @@ ghost use Rattle.steady_laws.specs.Laws.{
   ConstantsOfInstances,
   DefaultsInOrder,
   EquationsAreSteady,
+  FirstIsHeld,
   FoldedIsKnown,
   ItemsAreSteady,
   MemoriesAreSteady,
   MemoriesInOrder,
   OuterConstantsAreKept,
+  OwnConstantsAreKept,
   PartsAreSteady,
   SitesAreSteady,
   StatementsAreSteady,
@@ -35,17 +37,19 @@ pub fn texts_are_steady()
 
 /// A steady constant expression has by kept parts the value that it has, and that is what its text comes to where the
 /// tables find the constants. So the defaults of each call that runs while a condition is true have the values that the
-/// translation gives the outputs, in their order.
+/// translation gives the outputs, in their order, and so what is held of these at first is the translation's.
 pub fn values_are_kept()
     ensures values { ValuesAreKept }
     ensures folded { FoldedIsKnown }
     ensures defaults { DefaultsInOrder }
+    ensures first { FirstIsHeld }
 {}
 
 /// In a checked program the constants of a declaration, each by the kept values of those before it, have the values that
 /// its instance has; none of these is a number of a size above 2^63.
 pub fn constants_are_kept()
     ensures outer { OuterConstantsAreKept }
+    ensures own { OwnConstantsAreKept }
     ensures constants { ConstantsAreKept }
     ensures small { ConstantsAreSmall }
     ensures instances { ConstantsOfInstances }

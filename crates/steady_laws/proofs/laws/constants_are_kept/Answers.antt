@@ -1,4 +1,4 @@
-use Rattle.steady_laws.proofs.Constants.{outer_constants_are_kept, constants_are_kept, constants_are_small}
+use Rattle.steady_laws.proofs.Constants.{outer_constants_are_kept, own_constants_are_kept, constants_are_kept, constants_are_small}
 use Rattle.steady_laws.proofs.Declarations.{constants_of_instances}
 use Rattle.steady_laws.proofs.laws.constants_are_kept.Goals as goal
 
@@ -13,3 +13,6 @@ returns-clause-small c = constants_are_small
 
 pub returns-clause-instances : goal.returns-clause-instances
 returns-clause-instances c = constants_of_instances
+
+pub returns-clause-own : goal.returns-clause-own
+returns-clause-own c = own_constants_are_kept
