@@ -1,5 +1,5 @@
 -- The constants of a checked program have the values that kept values give in text order.
-use Rattle.std.proofs.Common.{◌≡◌, ℕ, zero, suc, Bool, true, false, cond, ◌||◌, List, [], ◌∷◌, ◌++◌, map, Option, Some, None, refl, sym, ap, ◌∙◌, subst, append_assoc, pos}
+use Rattle.std.proofs.Common.{◌≡◌, ℕ, Bool, true, false, cond, ◌||◌, List, [], ◌∷◌, ◌++◌, map, Some, None, refl, sym, ap, ◌∙◌, subst, append_assoc, pos}
 use Rattle.std.specs.Prelude.{Contains, find, unwrap_or}
 use Rattle.std.specs.List.{AllByRecursion}
 use Rattle.std.specs.Map.{lookup}
@@ -14,7 +14,7 @@ use Rattle.lus_meaning.specs.Scene.{contract_statements}
 use Rattle.lus_meaning.specs.Program.{constant_value, constant_values, program_constants, contract_statement_constants, constants_in}
 use Rattle.lus_meaning.specs.Depends.{named_in}
 use Rattle.lus_meaning.specs.WellMade.{AreDistinct}
-use Rattle.lus_meaning.specs.Scope.{Entry, is_constant_role, Scope, apply_total, are_alike, choose_total, constant_of, Declared, a_stream, a_fixed, names_only, entry_for, entries_from, known_after, left_after, first_constants, constants_declared, declared_in, Home, own_names, outer_names}
+use Rattle.lus_meaning.specs.Scope.{Entry, is_constant_role, Scope, apply_total, are_alike, constant_of, Declared, a_stream, a_fixed, names_only, entry_for, entries_from, known_after, left_after, first_constants, constants_declared, declared_in, Home, own_names, outer_names}
 use Rattle.lus_meaning.specs.Faults.{words_twice}
 use Rattle.lus_meaning.specs.NameFaults.{home, declaration_word, declaration_faults, typing_faults}
 use Rattle.lus_meaning.specs.ClockFaults.{components}
@@ -26,11 +26,11 @@ use Rattle.lus_meaning.proofs.Now.{left_part, right_part}
 use Rattle.lus_meaning.proofs.Unique.{same_bytes}
 use Rattle.rule_laws.specs.Laws.{placed}
 use Rattle.rule_laws.proofs.Cleaned.{outer_table, outer_clean, CleanHome, homes_clean, own_clean}
-use Rattle.rule_laws.proofs.Constants.{Values, value_names, not_none, found_more, IsFixed, Good, is_word, fixed_in, fixed_of, all_good}
+use Rattle.rule_laws.proofs.Constants.{Values, value_names, found_more, IsFixed, Good, is_word, fixed_in, fixed_of, all_good}
 use Rattle.rule_laws.proofs.Declared.{fixed_in_order}
 use Rattle.rule_laws.proofs.Goods.{PlaceOf, place_of, TypedDeclaration, typed_declaration}
 use Rattle.rule_laws.proofs.Unfolded.{typed_tree}
-use Rattle.sys_parts.specs.Values.{is_small, tame}
+use Rattle.sys_parts.specs.Values.{is_small}
 use Rattle.term_laws.proofs.Scopes.{value_in}
 use Rattle.steady_laws.specs.Kept.{kept_value, kept_values, own_constants, constants_for}
 use Rattle.steady_laws.specs.Laws.{OuterConstantsAreKept, OwnConstantsAreKept, ConstantsAreKept, ConstantsAreSmall}

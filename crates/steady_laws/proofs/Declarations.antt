@@ -5,7 +5,7 @@ use Rattle.std.specs.List.{AllByRecursion}
 use Rattle.lus_tree.specs.Tree.{Name, Expression, Labelled, Statement, equation, assertion, property, main_mark, ContractStatement, assume, guarantee, ghost_variable, constant, mode, «import», Component, Program}
 use Rattle.lus_meaning.specs.Value.{Value}
 use Rattle.lus_meaning.specs.Scene.{base, Site, Instance, component_of, constants_of, contract_statements}
-use Rattle.lus_meaning.specs.Program.{in_order, site_in, import_site, all_sites, constants_in, instance_of, instance_within}
+use Rattle.lus_meaning.specs.Program.{site_in, import_site, all_sites, constants_in, instance_of, instance_within}
 use Rattle.lus_meaning.specs.Run.{Equation, equations, ghost_equations, body_equations}
 use Rattle.lus_meaning.specs.Occurrences.{on_clock, on_base, Occurrence, Text, contract_statement_texts, statement_texts, constant_texts, texts, all_occurrences, gathered, Memory, memory_in, memories}
 use Rattle.lus_meaning.specs.ClockFaults.{components}

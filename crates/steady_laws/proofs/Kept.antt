@@ -1,5 +1,5 @@
 -- A steady constant expression has by kept values, and by tables that find the constants, its own value.
-use Rattle.std.proofs.Common.{◌≡◌, ℕ, Bool, true, false, ◌&&◌, List, [], ◌∷◌, map, Option, Some, None, is_some, refl, ap, ◌∙◌, subst, pos}
+use Rattle.std.proofs.Common.{◌≡◌, ℕ, true, false, ◌&&◌, List, [], ◌∷◌, map, Option, Some, None, is_some, refl, ap, ◌∙◌, subst, pos}
 use Rattle.std.specs.Prelude.{unwrap_or}
 use Rattle.std.specs.Map.{lookup}
 use Rattle.std.specs.Str.{bytes_eq}
@@ -23,7 +23,7 @@ use Rattle.sys_conditions.specs.Laws.{output_of}
 use Rattle.sys_parts.specs.Values.{tame}
 use Rattle.sys_texts.specs.Laws.{IsSteady}
 use Rattle.sys_texts.specs.Sights.{Sight, Mode}
-use Rattle.sys_texts.specs.Texts.{Folded, known, negated, opposite, operated, chosen, folded, folded_name}
+use Rattle.sys_texts.specs.Texts.{known, negated, opposite, operated, chosen, folded, folded_name}
 use Rattle.steady_laws.specs.Kept.{kept_value}
 use Rattle.steady_laws.specs.Laws.{ValuesAreKept, FoldedIsKnown, FirstIsHeld}
 use Rattle.steady_laws.specs.Steady.{HasDefaults, first_held}

@@ -1,17 +1,14 @@
 -- An expression that fits where it stands and is light is steady, and so is all that is read of it.
-use Rattle.std.proofs.Common.{◌≡◌, ℕ, ◌≤◌, Bool, true, false, ◌&&◌, ◌||◌, List, [], ◌∷◌, map, refl, sym, ap, ◌∙◌, subst, arith}
+use Rattle.std.proofs.Common.{◌≡◌, ℕ, ◌≤◌, Bool, true, false, ◌&&◌, ◌||◌, List, [], ◌∷◌, map, refl, sym, ap, ◌∙◌, arith}
 use Rattle.std.specs.List.{AllByRecursion}
 use Rattle.std.proofs.Math.Logic.{◌⊎◌, inl, inr}
-use Rattle.std.proofs.lemmas.Bool.{false≢true}
 use Rattle.lus_tree.specs.declared.expression.Operator.{Operator}
 use Rattle.lus_tree.specs.declared.expression.Operator.TheVariants.{Implies, Or, Xor, And, Less, AtMost, Equal, Differs, AtLeast, More, Add, Sub, Mul, Div, Mod}
-use Rattle.lus_tree.specs.declared.place.Sort.{Sort}
-use Rattle.lus_tree.specs.declared.place.Sort.TheVariants.{Bool as Flags, Int as Numbers}
-use Rattle.lus_tree.specs.Tree.{Name, Expression, Expressions, truth, number, name, negation, minus, pre, arrow, binary, choice, sampled, merged, call, condact, mode_name, no_more, more, Variable}
-use Rattle.lus_meaning.specs.Value.{Value, has_sort, minus_value, apply}
+use Rattle.lus_tree.specs.Tree.{Expression, Expressions, truth, number, name, negation, minus, pre, arrow, binary, choice, sampled, merged, call, condact, mode_name, no_more, more, Variable}
+use Rattle.lus_meaning.specs.Value.{has_sort}
 use Rattle.lus_meaning.specs.Scene.{sampled_by, Site, Instance, component_of, constants_of, call_instance, clock_of}
 use Rattle.lus_meaning.specs.Program.{listed, site_in, constant_value}
-use Rattle.lus_meaning.specs.Run.{sort_of, sort_of_operator}
+use Rattle.lus_meaning.specs.Run.{sort_of}
 use Rattle.lus_meaning.specs.Occurrences.{Standing, within, before, moved, Memory, memory_in}
 use Rattle.lus_meaning.specs.Scope.{greatest_weight}
 use Rattle.lus_meaning.proofs.EachPart.{Each, EachAmong}
@@ -26,7 +23,7 @@ use Rattle.sys_meaning.specs.WellTyped.{IsKnown, DefaultsFit, Stands}
 use Rattle.sys_parts.specs.Values.{tame}
 use Rattle.sys_texts.specs.Laws.{HasConstant, IsSteady}
 use Rattle.term_laws.proofs.Lights.{IsLight, value_within}
-use Rattle.term_laws.proofs.Weights.{value_size, value_here, weighs, LightAmong, light_root, constant_size}
+use Rattle.term_laws.proofs.Weights.{value_size, value_here, LightAmong}
 use Rattle.steady_laws.specs.Steady.{IsSteadyDefault, IsSteadySite, HasDefaults}
 use Rattle.steady_laws.proofs.Small.{small_number, small_within, tame_small, total, chosen}
 
@@ -34,12 +31,6 @@ le_trans : (a b c : ℕ) → a ≤ b → b ≤ c → a ≤ c
 le_trans a b c h k = omega arith
 
 module _ (i : Instance) where
-  abbrev cs : List (Name × Value)
-  cs = constants_of i
-
-  abbrev Parts : Standing → Expression → Type 0
-  Parts t e = Each (Known i) (component_of i) t e
-
   -- ---- one form
 
   either : (a b : Expression) → (c d : Bool) → is_constant (constants_of i) a ≡ c → is_constant (constants_of i) b ≡ d → (c || d) ≡ true →

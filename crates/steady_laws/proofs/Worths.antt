@@ -12,9 +12,8 @@ use Rattle.lus_meaning.specs.Value.{Value, absent, flag, whole, is_absent, not_v
 use Rattle.lus_meaning.specs.Frame.{empty_frame, entry}
 use Rattle.lus_meaning.specs.Meaning.{constant_or}
 use Rattle.lus_meaning.specs.Program.{constant_value}
-use Rattle.lus_meaning.specs.Scope.{Scope, is_constant_name, value_of_entry, is_constant, is_zero, apply_total, are_alike, choose_total, size_of, both_weights, greater, greatest_weight, is_heavy, Worth, name_weight, operator_weight, worth_of, constant_of, weight_of}
+use Rattle.lus_meaning.specs.Scope.{Scope, is_constant_name, value_of_entry, is_constant, is_zero, apply_total, choose_total, size_of, both_weights, greater, greatest_weight, is_heavy, Worth, name_weight, operator_weight, worth_of, constant_of, weight_of}
 use Rattle.sys_terms.specs.Fits as fits
-use Rattle.sys_meaning.specs.Translate.{number_of_value}
 use Rattle.sys_parts.specs.Values.{is_small, tame}
 use Rattle.term_laws.proofs.Small.{within as less_or_same}
 use Rattle.term_laws.proofs.Weights.{value_size, applied_size, chosen_size}
