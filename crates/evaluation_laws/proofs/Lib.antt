@@ -4,3 +4,6 @@ pub mod Waiting
 pub mod Turns
 pub mod Orders
 pub mod Evaluations
+pub mod FrameShown
+pub mod ModesShown
+pub mod RowFrames
