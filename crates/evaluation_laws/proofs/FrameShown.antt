@@ -1,19 +1,18 @@
 -- A row that has what a frame of a run reads shows that frame.
-use Rattle.std.proofs.Common.{not, ◌≡◌, ℕ, zero, suc, pred, ◌<◌, Bool, true, false, List, [], ◌∷◌, map, refl, ap, ◌∙◌, sym, subst, arith, Option, Some, None, option_to_list}
+use Rattle.std.proofs.Common.{not, ◌≡◌, ℕ, zero, suc, ◌<◌, Bool, true, false, List, [], ◌∷◌, refl, ap, ◌∙◌, sym, subst, Option, option_to_list}
 use Rattle.std.specs.List.{AllByRecursion}
 use Rattle.lus_tree.specs.declared.place.Sort.{Sort}
 use Rattle.lus_tree.specs.declared.place.Sort.TheVariants.{Bool as Flags}
 use Rattle.lus_tree.specs.Tree.{Name, Variable, Expression, Expressions}
 use Rattle.lus_meaning.specs.Value.{absent, flag, Instants, is, was_on, latest}
 use Rattle.lus_meaning.specs.Frame.{Frame, entry, first_value, call_frame, calls_in}
-use Rattle.lus_meaning.specs.Scene.{Clock, base, sampled_by, Instance, component_of, call_instance, outputs_of, Scene, clock_from, clock_of, variables, is_on}
+use Rattle.lus_meaning.specs.Scene.{Clock, base, sampled_by, Instance, component_of, call_instance, outputs_of, Scene, clock_from, variables, is_on}
 use Rattle.lus_meaning.specs.Meaning.{value, mode_stream}
 use Rattle.lus_meaning.specs.Contract.{scene}
 use Rattle.lus_meaning.specs.Run.{IsRun, is_typed, sort_of, sort_of_name, active}
 use Rattle.lus_meaning.specs.Depends.{named_in}
 use Rattle.lus_meaning.proofs.Lists.{mapped_all}
 use Rattle.lus_meaning.proofs.Ranked.{all_named}
-use Rattle.sys_terms.specs.Meaning.{Values}
 use Rattle.sys_meaning.specs.Slot.{Spot, Place, beat, named, memory, starting, held, own, in_call}
 use Rattle.sys_meaning.specs.Items.{Key, Known}
 use Rattle.sys_meaning.specs.Defaults.{site_of}
@@ -22,7 +21,7 @@ use Rattle.sys_meaning.specs.Path.{Course}
 use Rattle.sys_meaning.specs.Seen.{Row, seen_mode}
 use Rattle.sys_meaning.specs.System.{below_call}
 use Rattle.lus_meaning.specs.Scene.{as_import}
-use Rattle.sys_meaning.specs.WellTyped.{no_constant, is_declared, clock_here, IsMemory, IsStart, OutputFits, IsCall, IsPlainCall, IsHeldCall, StreamFits, ClockEnds, ClockFits, OwnFits, TreeFits, HasPlaceIn, IsKnown}
+use Rattle.sys_meaning.specs.WellTyped.{no_constant, is_declared, clock_here, IsMemory, IsStart, OutputFits, IsCall, IsHeldCall, StreamFits, ClockEnds, ClockFits, TreeFits, HasPlaceIn, IsKnown}
 use Rattle.sys_meaning.proofs.Balanced.{Picked, pick}
 use Rattle.sys_meaning.proofs.ContractStatements.{modes_off}
 use Rattle.sys_meaning.proofs.Forward.{modes_of, calls_of_run, own_fits, calls_fit}
@@ -179,7 +178,7 @@ module _ (i : Instance) (v : Standing i) where
     }
 
 -- the frame of a call
-pub called : (i : Instance) (v : Standing i) (k : ℕ) → IsCall i (IsKnown i) k → Standing (call_instance i k)
+abbrev pub called : (i : Instance) (v : Standing i) (k : ℕ) → IsCall i (IsKnown i) k → Standing (call_instance i k)
 called i v k c = record {
   at = below_call k v.at;
   b = active (scene i v.b v.f) (site_of i k);

@@ -2,12 +2,12 @@
 use Rattle.std.proofs.Common.{◌≡◌, ℕ, zero, suc, pred, ◌<◌, Bool, true, false, cond, ◌||◌, get_or, List, [], ◌∷◌, ◌++◌, map, slice_index_or, refl, ap, ◌∙◌, sym, subst, arith, Option, Some, option_to_list, unwrap_or}
 use Rattle.std.specs.List.{AllByRecursion, list_any}
 use Rattle.std.specs.Map.{lookup}
-use Rattle.std.proofs.lemmas.Bool.{false≢true, true≢false}
+use Rattle.std.proofs.lemmas.Bool.{false≢true}
 use Rattle.lus_tree.specs.declared.expression.Operator.TheVariants.{And}
 use Rattle.lus_tree.specs.Tree.{Name, Labelled, ContractStatement, assume, guarantee, ghost_variable, constant, mode, «import»}
 use Rattle.lus_meaning.specs.Value.{Value, absent, flag, Instants, apply}
 use Rattle.lus_meaning.specs.Frame.{Frame, call_frame}
-use Rattle.lus_meaning.specs.Scene.{base, Instance, Instances, instance, no_instances, with_instance, instance_at, call_instance, calls_of, component_of, contract_statements, Scene}
+use Rattle.lus_meaning.specs.Scene.{base, Instance, Instances, instance, no_instances, with_instance, instance_at, call_instance, calls_of, contract_statements, Scene}
 use Rattle.lus_meaning.specs.Meaning.{mode_key, head_stream}
 use Rattle.lus_meaning.specs.Contract.{ModeTerms, Terms, no_terms, mode_streams, all_true, says, mode_terms, imported_mode, terms_after, terms, terms_each, scene}
 use Rattle.sys_meaning.specs.Slot.{Place}

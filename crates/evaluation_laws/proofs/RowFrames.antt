@@ -1,22 +1,21 @@
 -- The row of a run at an instant shows the frame at the end of each way of calls.
-use Rattle.std.proofs.Common.{◌≡◌, ℕ, zero, suc, pred, ◌+◌, ◌<◌, Bool, true, false, cond, List, [], ◌∷◌, ◌++◌, map, refl, ap, ◌∙◌, sym, subst, arith, Option, Some, None, unwrap_or, slice_get}
+use Rattle.std.proofs.Common.{◌≡◌, ℕ, zero, suc, pred, ◌+◌, ◌<◌, Bool, true, false, cond, List, [], ◌∷◌, map, refl, ap, sym, subst, arith, Some, unwrap_or, slice_get}
 use Rattle.std.proofs.lemmas.Option.{none-some}
 use Rattle.lus_tree.specs.declared.place.Sort.{Sort}
 use Rattle.lus_meaning.specs.Value.{Value, absent}
-use Rattle.lus_meaning.specs.Frame.{Frame, call_frame}
+use Rattle.lus_meaning.specs.Frame.{Frame}
 use Rattle.lus_tree.specs.Tree.{Expression}
 use Rattle.lus_meaning.specs.Meaning.{value}
 use Rattle.lus_meaning.specs.Program.{instance_of}
 use Rattle.lus_meaning.specs.Scene.{Clock, plain, Instance, Instances, no_instances, with_instance, calls_of, call_instance, Scene, is_on}
 use Rattle.lus_meaning.specs.Contract.{scene}
-use Rattle.lus_meaning.specs.Run.{IsRun, active}
+use Rattle.lus_meaning.specs.Run.{IsRun}
 use Rattle.lus_meaning.specs.Slots.{Slot, slots}
 use Rattle.lus_meaning.specs.Verdict.{throughout}
 use Rattle.sys_terms.specs.Meaning.{values_of}
 use Rattle.sys_meaning.specs.Slot.{Place, place_of, same_place, number_in}
-use Rattle.sys_meaning.specs.Defaults.{site_of}
 use Rattle.sys_meaning.specs.State.{reading, state_of}
-use Rattle.sys_meaning.specs.System.{below_call, number_of}
+use Rattle.sys_meaning.specs.System.{number_of}
 use Rattle.sys_meaning.specs.WellTyped.{count_of, IsCall, IsKnown, Stands, ClockFits, CallsFit, slot_sort, WellTyped}
 use Rattle.sys_meaning.proofs.Forward.{calls_fit}
 use Rattle.sys_meaning.proofs.Shows.{same_places, in_any, state_reads}
@@ -58,7 +57,8 @@ call_at i (with_instance c k is) p (suc j) w h =
 
 is_call : (i : Instance) (v : Standing i) (k : ℕ) → 0 < k → pred k < count_of (calls_of i) → IsCall i (IsKnown i) k
 is_call i v zero c l = absurd (omega arith)
-is_call i v (suc j) c l = call_at i (calls_of i) 0 j (calls_fit IsKnown i v.fits) l
+is_call i v (suc j) c l =
+    subst (λ q. IsCall i (IsKnown i) (suc q)) (let e : 0 + j ≡ j = omega arith in e) (call_at i (calls_of i) 0 j (calls_fit IsKnown i v.fits) l)
 
 -- of a frame that stands somewhere, what is so of each such frame is so at the end of each way of calls
 along_way : (P : (s : Scene) → (Place → ℕ) → SlotValues → ℕ → Type 0) →
@@ -81,7 +81,7 @@ values_here i v c e h o =
 
 -- ---- the run of a checked declaration
 
-top_standing : (i : Instance) → WellTyped IsKnown i → (m : ℕ) (f : Frame) → IsRun i m throughout f → (t : ℕ) → t < m → Standing i
+abbrev top_standing : (i : Instance) → WellTyped IsKnown i → (m : ℕ) (f : Frame) → IsRun i m throughout f → (t : ℕ) → t < m → Standing i
 top_standing i w m f r t l = record {
   at = number_of i;
   b = throughout;
