@@ -6,7 +6,7 @@ use Rattle.lus_tree.specs.declared.place.Sort.TheVariants.{Bool as Flags}
 use Rattle.lus_tree.specs.Tree.{Name, Variable, Expression, Expressions}
 use Rattle.lus_meaning.specs.Value.{absent, flag, Instants, is, was_on, latest}
 use Rattle.lus_meaning.specs.Frame.{Frame, entry, first_value, call_frame, calls_in}
-use Rattle.lus_meaning.specs.Scene.{Clock, base, sampled_by, Instance, component_of, call_instance, outputs_of, Scene, clock_from, variables, is_on}
+use Rattle.lus_meaning.specs.Scene.{Clock, base, sampled_by, as_import, Instance, component_of, call_instance, outputs_of, Scene, clock_from, variables, is_on}
 use Rattle.lus_meaning.specs.Meaning.{value, mode_stream}
 use Rattle.lus_meaning.specs.Contract.{scene}
 use Rattle.lus_meaning.specs.Run.{IsRun, is_typed, sort_of, sort_of_name, active}
@@ -20,7 +20,6 @@ use Rattle.sys_meaning.specs.State.{remembered, still_starting, held_before, rea
 use Rattle.sys_meaning.specs.Path.{Course}
 use Rattle.sys_meaning.specs.Seen.{Row, seen_mode}
 use Rattle.sys_meaning.specs.System.{below_call}
-use Rattle.lus_meaning.specs.Scene.{as_import}
 use Rattle.sys_meaning.specs.WellTyped.{no_constant, is_declared, clock_here, IsMemory, IsStart, OutputFits, IsCall, IsHeldCall, StreamFits, ClockEnds, ClockFits, TreeFits, HasPlaceIn, IsKnown}
 use Rattle.sys_meaning.proofs.Balanced.{Picked, pick}
 use Rattle.sys_meaning.proofs.ContractStatements.{modes_off}
@@ -64,11 +63,8 @@ pub record Standing (i : Instance) : Type 0 where
   pub has : RowHas i at b f row t
 
 module _ (i : Instance) (v : Standing i) where
-  abbrev pub scene_of : Scene
-  scene_of = scene i v.b v.f
-
   abbrev s : Scene
-  s = scene_of
+  s = scene i v.b v.f
 
   abbrev M : Key → Type 0
   M = IsKnown i
