@@ -2,7 +2,12 @@
 use Rattle.std.proofs.Common.{◌≡◌, ℕ, ◌+◌, ◌<◌, arith}
 use Rattle.lus_limits.specs.Summaries.{bound, cut}
 
--- where a call's frame begins, behind those that are held of it
+-- where the first is held of a call
+pub held_begins : (base own before h w j n : ℕ) → before + (h + w) < bound → n ≡ own + before → j + cut h ≡ cut (before + cut h)
+    → base + n ≡ (base + own) + j
+held_begins base own before h w j n l e f = omega arith
+
+-- where its frame begins, behind those that are held of it
 pub frame_begins : (base own before h w n m : ℕ) → before + (h + w) < bound → n ≡ own + before → m ≡ h
     → (base + n) + m ≡ (base + own) + cut (before + cut h)
 frame_begins base own before h w n m l e f = omega arith

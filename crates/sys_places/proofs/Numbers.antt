@@ -1,12 +1,13 @@
 -- The numbers of places in a list of slots, part by part.
-use Rattle.std.proofs.Common.{◌≡◌, ℕ, zero, suc, ◌+◌, Bool, true, false, cond, ◌&&◌, List, [], ◌∷◌, ◌++◌, map, length, zero-add, refl, sym, ap, ◌∙◌, arith}
+use Rattle.std.proofs.Common.{◌≡◌, ℕ, zero, suc, ◌+◌, Bool, true, false, cond, ◌&&◌, List, [], ◌∷◌, ◌++◌, map, length, Option, Some, None, zero-add, refl, sym, ap, ◌∙◌, arith}
 use Rattle.std.specs.Prelude.{◌==◌}
 use Rattle.std.specs.List.{AllByRecursion}
-use Rattle.lus_meaning.specs.Scene.{Instance}
-use Rattle.lus_meaning.specs.Slots.{Cell, Slot, slot, slots}
+use Rattle.lus_meaning.specs.Slots.{Slot, slots}
 use Rattle.lus_meaning.specs.Trace.{same_numbers}
-use Rattle.sys_meaning.specs.Slot.{Place, in_call, spot_of, place_of, same_spot, same_place, number_in}
+use Rattle.lus_meaning.proofs.Lists.{all_from}
+use Rattle.sys_meaning.specs.Slot.{Spot, beat, named, memory, starting, so_far, held, Place, in_call, spot_of, place_of, same_spot, same_place, number_in}
 use Rattle.sys_meaning.proofs.Found.{self_number}
+use Rattle.sys_meaning.proofs.Shows.{same_places}
 use Rattle.path_laws.proofs.OnePlace.{behind}
 use Rattle.sys_places.specs.Places.{number_from, StandsAtRoot}
 
@@ -46,8 +47,6 @@ pub before_none : (missing base : ℕ) (xs ys : List Slot) (p : Place) → NoneA
 before_none missing base xs ys p a =
     from_parts missing base xs ys p ∙ ap (λ m. number_from m base xs p) (none_there missing (base + length xs) ys p a)
 
--- ---- calls
-
 -- the slots of a call's frame, each by way of the call
 pub numbered_in_call : (missing base k : ℕ) (qs : List Slot) (p : Place)
     → number_from missing base (map (behind k) qs) (in_call k p) ≡ number_from missing base qs p
@@ -57,16 +56,34 @@ numbered_in_call missing base k (q ∷ qs) p =
     (number_from missing (suc base) (map (behind k) qs) (in_call k p))) (self_number k)
     ∙ ap (λ r. cond (same_place p (place_of q)) base r) (numbered_in_call missing (suc base) k qs p)
 
--- a frame's own are in no call
-pub own_in_no_call : (i : Instance) (cs : List Cell) (k : ℕ) (p : Place) → NoneAt (in_call k p) (map (slot i []) cs)
-own_in_no_call i [] k p = tt
-own_in_no_call i (c ∷ cs) k p = (refl, own_in_no_call i cs k p)
+-- ---- whose a place is
 
--- those of a call are in no other
-pub in_other_call : (k j : ℕ) (qs : List Slot) (p : Place) → (k == j) ≡ false → NoneAt (in_call k p) (map (behind j) qs)
-in_other_call k j [] p e = tt
-in_other_call k j (q ∷ qs) p e =
-    (ap (λ b. (b && same_numbers p.0 q.path) && same_spot p.1 (spot_of q.cell)) e, in_other_call k j qs p e)
+abbrev pub holder : Spot → Option ℕ
+holder (held k x) = Some k
+holder beat = None
+holder (named x) = None
+holder (memory k) = None
+holder (starting k) = None
+holder so_far = None
+
+-- the number of the call that a place is of: held of it, or of its frame
+abbrev pub call_of : Place → Option ℕ
+call_of ([], s) = holder s
+call_of (k ∷ ks, s) = Some k
+
+abbrev pub IsOf : Option ℕ → Slot → Type 0
+IsOf o q = call_of (place_of q) ≡ o
+
+other_place : (p : Place) (q : Slot) → (call_of p ≡ call_of (place_of q) → ⊥) → same_place p (place_of q) ≡ false
+other_place p q h = go (same_place p (place_of q)) refl
+  where
+    go : (b : Bool) → same_place p (place_of q) ≡ b → b ≡ false
+    go true e = absurd (h (ap call_of (same_places p (place_of q) e)))
+    go false e = refl
+
+pub none_of_others : (o : Option ℕ) (p : Place) (qs : List Slot) → (call_of p ≡ o → ⊥) → AllByRecursion (IsOf o) qs → NoneAt p qs
+none_of_others o p qs h a =
+    all_from (IsOf o) (λ q. same_place p (place_of q) ≡ false) (λ q e. other_place p q (λ f. h (f ∙ e))) qs a
 
 -- ---- all
 

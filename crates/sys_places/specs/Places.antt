@@ -1,6 +1,6 @@
 -- Where the variables of a frame stand among all variables.
 use Rattle.std.specs.Prelude.{◌≡◌, ℕ, suc, ◌+◌, ◌<◌, cond, List, [], ◌∷◌, slice_get, Option, Some}
-use Rattle.lus_tree.specs.Tree.{Program}
+use Rattle.lus_tree.specs.Tree.{Component, Program}
 use Rattle.lus_meaning.specs.Program.{all_sites, instance_of}
 use Rattle.lus_meaning.specs.RuleLaws.{OfEach}
 use Rattle.lus_meaning.specs.Scene.{Manner, plain, Site, Instance}
@@ -29,27 +29,37 @@ StandsAtRoot = (i : Instance) → StandsAt (number_of i) (width i) 0 plain i
 
 -- ---- calls
 
--- the frame of a call, `q.frame` behind its caller's own cells, which end at `own_end`
-abbrev pub CallStandsAt : (Place → ℕ) → ℕ → ℕ → Program → Site → CallSlots → Type 0
-CallStandsAt at missing own_end p s q =
-    StandsAt (below_call s.number at) missing (own_end + q.frame) s.manner (instance_called_so p s.callee)
+-- of each call or import and of where it stands
+abbrev pub OfEachCall : (Site → CallSlots → Type 0) → List Site → List CallSlots → Type 0
+OfEachCall P [] [] = Unit {0}
+OfEachCall P [] (q ∷ qs) = ⊥
+OfEachCall P (s ∷ ss) [] = ⊥
+OfEachCall P (s ∷ ss) (q ∷ qs) = P s q × OfEachCall P ss qs
 
-abbrev pub CallsStandAt : (Place → ℕ) → ℕ → ℕ → Program → List Site → List CallSlots → Type 0
-CallsStandAt at missing own_end p [] [] = Unit {0}
-CallsStandAt at missing own_end p [] (q ∷ qs) = ⊥
-CallsStandAt at missing own_end p (s ∷ ss) [] = ⊥
-CallsStandAt at missing own_end p (s ∷ ss) (q ∷ qs) =
-    CallStandsAt at missing own_end p s q × CallsStandAt at missing own_end p ss qs
+-- and of the one at a place of the lists
+abbrev pub AtEachPlace : (Site → CallSlots → Type 0) → List Site → List CallSlots → Type 0
+AtEachPlace P ss qs = (j : ℕ) (s : Site) (q : CallSlots) → slice_get ss j ≡ Some s → slice_get qs j ≡ Some q → P s q
+
+-- behind which number those of a frame's own end
+abbrev pub own_end : Program → Manner → Component → ℕ → ℕ
+own_end p m n base = base + own_count (way_of m) (layout_of p n)
+
+-- what follows for a frame of at most so many variables, of a declaration of a checked program, from where it stands
+abbrev pub OfEachFrame : ((Place → ℕ) → ℕ → ℕ → Program → Manner → Component → Type 0) → Type 0
+OfEachFrame P =
+    OfEach (λ p n. (m : Manner) (at : Place → ℕ) (missing base : ℕ) → frame_width p m n < bound → StandsAt at missing base m (instance_of p n)
+    → P at missing base p m n)
+
+-- the frame of a call, `q.frame` behind the cells of its caller's own
+abbrev pub CallStandsAt : (Place → ℕ) → ℕ → ℕ → Program → Site → CallSlots → Type 0
+CallStandsAt at missing end p s q = StandsAt (below_call s.number at) missing (end + q.frame) s.manner (instance_called_so p s.callee)
 
 -- in a checked program the frames of calls and imports stand where the caller's layout says
 abbrev pub StandsAtCalls : Type 0
 StandsAtCalls =
-    OfEach (λ p n. (m : Manner) (at : Place → ℕ) (missing base : ℕ) → frame_width p m n < bound → StandsAt at missing base m (instance_of p n)
-    → CallsStandAt at missing (base + own_count (way_of m) (layout_of p n)) p (all_sites n) (layout_of p n).calls)
+    OfEachFrame (λ at missing base p m n. OfEachCall (CallStandsAt at missing (own_end p m n base) p) (all_sites n) (layout_of p n).calls)
 
--- the same of the call at a place of the list
+-- the same of the call at a place of the lists
 abbrev pub StandsAtEachCall : Type 0
 StandsAtEachCall =
-    OfEach (λ p n. (m : Manner) (at : Place → ℕ) (missing base : ℕ) → frame_width p m n < bound → StandsAt at missing base m (instance_of p n)
-    → (j : ℕ) (s : Site) (q : CallSlots) → slice_get (all_sites n) j ≡ Some s → slice_get (layout_of p n).calls j ≡ Some q
-    → CallStandsAt at missing (base + own_count (way_of m) (layout_of p n)) p s q)
+    OfEachFrame (λ at missing base p m n. AtEachPlace (CallStandsAt at missing (own_end p m n base) p) (all_sites n) (layout_of p n).calls)
