@@ -7,14 +7,16 @@ use Rattle.std.proofs.lemmas.Bool.{eq-eqb, ne_eqb}
 use Rattle.std.proofs.lemmas.Bool.Decides.{nat_tests}
 use Rattle.lus_tree.specs.Tree.{Name, Variable, Expression, ContractStatement, Component}
 use Rattle.lus_meaning.specs.Depends.{named_in}
-use Rattle.lus_meaning.specs.Scene.{Manner, plain, while_true, as_import, Site, Instance}
+use Rattle.lus_meaning.specs.Scene.{Manner, plain, while_true, as_import, Site, Instance, no_instance}
 use Rattle.lus_meaning.specs.Slots.{Cell, beat_cell, name_cell, sofar_cell, Slot, slot, contract_cells, held_each, held_cells}
+use Rattle.lus_meaning.specs.WellMade.{AreDistinct}
 use Rattle.lus_meaning.proofs.Lists.{both_parts}
 use Rattle.name_table.specs.Names.{number_of}
 use Rattle.lus_streams.specs.Streams.{names_of}
 use Rattle.sys_meaning.specs.Slot.{Spot, named, so_far, held, Place, own, spot_of, place_of, same_spot, same_place}
 use Rattle.sys_meaning.specs.System.{has_so_far}
-use Rattle.sys_meaning.proofs.Cells.{same_place_self, Apart}
+use Rattle.sys_meaning.specs.WellTyped.{IsKnown}
+use Rattle.sys_meaning.proofs.Cells.{same_place_self, Apart, names_apart, slots_apart}
 use Rattle.sys_meaning.proofs.Follows.{some_same, none_some}
 use Rattle.sys_meaning.proofs.Found.{self_number}
 use Rattle.sys_meaning.proofs.PathStates.{at_index}
@@ -165,6 +167,11 @@ module _ (i : Instance) where
 
 -- ---- each by its place
 
+pub got_mapped : {A B : Type 0} (f : A → B) (xs : List A) (k : ℕ) (x : A) → slice_get xs k ≡ Some x → slice_get (map f xs) k ≡ Some (f x)
+got_mapped f [] k x e = absurd (none_some x e)
+got_mapped f (y ∷ xs) zero x e = ap (λ z. Some (f z)) (some_same y x e)
+got_mapped f (y ∷ xs) (suc k) x e = got_mapped f xs k x e
+
 pub apart_numbered : (missing base : ℕ) (qs : List Slot) → Apart qs → (k : ℕ) (q : Slot) → slice_get qs k ≡ Some q
     → number_from missing base qs (place_of q) ≡ base + k
 apart_numbered missing base [] a k q e = absurd (none_some q e)
@@ -177,3 +184,12 @@ apart_numbered missing base (r ∷ qs) a (suc k) q e =
   where
     ends : suc base + k ≡ base + suc k
     ends = omega arith
+
+-- streams of different names
+pub stream_numbered : (missing base : ℕ) (vs : List Variable) → AreDistinct (map (λ v. v.name.text) vs) → (k : ℕ) (v : Variable)
+    → slice_get vs k ≡ Some v → name_number missing base vs v.name.text ≡ base + k
+stream_numbered missing base vs d k v e =
+    sym (names_numbered no_instance missing base vs v.name.text)
+    ∙ apart_numbered missing base (map (slot no_instance []) (map name_cell vs))
+    (slots_apart IsKnown no_instance (map name_cell vs) (names_apart vs d)) k (slot no_instance [] (name_cell v))
+    (got_mapped (slot no_instance []) (map name_cell vs) k (name_cell v) (got_mapped name_cell vs k v e))

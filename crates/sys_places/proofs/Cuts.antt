@@ -1,6 +1,9 @@
 -- Sums below the cut.
-use Rattle.std.proofs.Common.{◌≡◌, ℕ, ◌+◌, ◌<◌, arith}
+use Rattle.std.proofs.Common.{◌≡◌, ℕ, ◌+◌, ◌<◌, ◌≤◌, arith}
 use Rattle.lus_limits.specs.Summaries.{bound, cut}
+
+pub has_room : (before h : ℕ) → cut h ≤ cut (before + cut h)
+has_room before h = omega arith
 
 -- where the first is held of a call
 pub held_begins : (base own before h w j n : ℕ) → before + (h + w) < bound → n ≡ own + before → j + cut h ≡ cut (before + cut h)

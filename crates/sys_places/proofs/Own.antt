@@ -13,6 +13,7 @@ use Rattle.lus_meaning.specs.Slots.{Cell, beat_cell, name_cell, memory_cell, sta
 use Rattle.lus_meaning.proofs.Exists.{length_mapped}
 use Rattle.lus_meaning.proofs.InOrder.{in_order_length}
 use Rattle.lus_meaning.proofs.Lists.{both_parts, map_append}
+use Rattle.lus_meaning.proofs.NamesOnce.{names_once}
 use Rattle.rule_laws.proofs.Places.{memories_counted, numbered, starts_counted}
 use Rattle.lus_limits.proofs.Instances.{made_of_callees}
 use Rattle.sys_meaning.specs.Slot.{Place, own, spot_of, place_of, same_place, beat, named, memory, starting, so_far}
@@ -26,7 +27,7 @@ use Rattle.path_laws.proofs.Numbers.{CountedFrom, in_order_counted}
 use Rattle.path_laws.proofs.OnePlace.{behind, tree_slots, tree_calls, slots_are, slots_apart}
 use Rattle.sys_places.specs.Own.{name_number, counted_number, streams_begin, memories_begin, starts_begin, so_far_number, OwnStands}
 use Rattle.sys_places.specs.Places.{number_from, StandsAt}
-use Rattle.sys_places.proofs.Cells.{names_numbered, counted_numbered, contract_numbered, none_of_kind, none_of_contract, apart_numbered}
+use Rattle.sys_places.proofs.Cells.{names_numbered, counted_numbered, contract_numbered, none_of_kind, none_of_contract, got_mapped, apart_numbered, stream_numbered}
 use Rattle.sys_places.proofs.Numbers.{NoneAt, call_of, IsOf, none_of_others, behind_none, before_none}
 use Rattle.sys_places.proofs.Whose.{made_of, held_of, own_of_none, frame_of_call}
 
@@ -179,11 +180,6 @@ left_apart : (xs ys : List Slot) → Apart (xs ++ ys) → Apart xs
 left_apart [] ys a = tt
 left_apart (x ∷ xs) ys a = (left_all (λ r. same_place (place_of r) (place_of x) ≡ false) xs ys a.0, left_apart xs ys a.1)
 
-got_mapped : {A B : Type 0} (f : A → B) (xs : List A) (k : ℕ) (x : A) → slice_get xs k ≡ Some x → slice_get (map f xs) k ≡ Some (f x)
-got_mapped f [] k x e = absurd (none_some x e)
-got_mapped f (y ∷ xs) zero x e = ap (λ z. Some (f z)) (some_same y x e)
-got_mapped f (y ∷ xs) (suc k) x e = got_mapped f xs k x e
-
 -- what a frame that runs plainly has besides
 abbrev contract_more : Manner → Option (List ContractStatement) → List Cell
 contract_more plain o = []
@@ -232,6 +228,8 @@ own_stands p c n j m at missing base a =
       pres = pres_stand at missing base m i made ms many_ms ss many_ss;
       arrows = arrows_stand at missing base m i made ms many_ms ss many_ss;
       assumed = assumed_stands at missing base m i made ms many_ms ss many_ss;
+      named_streams = λ k v e. streams_stand at missing base m i made v.name.text
+          ∙ stream_numbered missing (streams_begin base) (variables n) (names_once p c n j) k v e;
       cells = λ k x e. own_alone at missing base m i made (own (spot_of x)) (of_none k x e)
           ∙ apart_numbered missing base (map (slot i []) (own_cells m n)) (own_apart m i tree) k (slot i [] x) (got_mapped (slot i []) (own_cells m n) k x e);
     }

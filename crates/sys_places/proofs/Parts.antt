@@ -32,7 +32,7 @@ use Rattle.path_laws.proofs.Main.{each_is_well_typed}
 use Rattle.path_laws.proofs.Numbers.{CountedFrom}
 use Rattle.path_laws.proofs.OnePlace.{behind, tree_slots, tree_calls, slots_are, own_all}
 use Rattle.sys_places.specs.Places.{number_from, StandsAt, OfEachCall, AtEachPlace}
-use Rattle.sys_places.proofs.Cuts.{held_begins, frame_begins, next_begins}
+use Rattle.sys_places.proofs.Cuts.{has_room, held_begins, frame_begins, next_begins}
 use Rattle.sys_places.proofs.Numbers.{NoneAt, call_of, none_of_others}
 use Rattle.sys_places.proofs.Whose.{made_of, held_of, none_of_own, frame_of_call}
 
@@ -69,6 +69,11 @@ counted_calls : (i : Instance) (f : Name → Instance) (ss : List Site) (q : ℕ
     → CountedFrom call_number (suc q) ss
 counted_calls i f [] q t = tt
 counted_calls i f (s ∷ ss) q t = (t.0.number, counted_calls i f ss (suc q) t.2)
+
+each_fits : (i : Instance) (f : Name → Instance) (ss : List Site) (q : ℕ) → CallsFit IsKnown i (instances_with f ss) q
+    → AllByRecursion (λ s. TreeFits IsKnown (f s.callee)) ss
+each_fits i f [] q t = tt
+each_fits i f (s ∷ ss) q t = (t.1, each_fits i f ss (suc q) t.2)
 
 -- of none of so many calls that are numbered on from m
 abbrev pub Outside : Place → ℕ → ℕ → Type 0
@@ -128,6 +133,7 @@ module _ (p : Program) (i : Instance) where
       pub whole : (y : Place) → at y ≡ number_from missing base (front ++ (held_slots s ++ (frame_slots s ++ rest))) y
       pub fore : (y : Place) → call_of y ≡ Some s.number → NoneAt y front
       pub aft : (y : Place) → call_of y ≡ Some s.number → NoneAt y rest
+      pub room : q.held ≤ q.frame
       pub held_begin : (j : ℕ) → j + q.held ≡ q.frame → base + length front ≡ (base + own) + j
       pub frame_begin : (base + length front) + length (held_slots s) ≡ (base + own) + q.frame
 
@@ -147,6 +153,7 @@ module _ (p : Program) (i : Instance) where
             whole = a;
             fore = λ y h. none s.number y (numbered c.0) h;
             aft = λ y h. none_of_calls ss (suc m) y c.1 (λ k g r. absurd (only c.0 y h k g r));
+            room = has_room before (held_many s);
             held_begin = λ j h. held_begins base own before (held_many s) (width_of s) j (length front) f e h;
             frame_begin = frame_begins base own before (held_many s) (width_of s) (length front) (length (held_slots s)) f e (many_held s);
           },
@@ -193,6 +200,12 @@ module _ (p : Program) (c : IsChecked p) (n : Component) (j : Contains (componen
   numbered_calls =
       let t : TreeFits IsKnown (made_of p n) = subst (TreeFits IsKnown) (made_of_callees p c n j) (each_is_well_typed p c n j).0.tree in
       counted_calls (made_of p n) (instance_called_so p) (all_sites n) 0 t.1
+
+  -- all that is called fits
+  pub callees_fit : AllByRecursion (λ s. TreeFits IsKnown (instance_called_so p s.callee)) (all_sites n)
+  callees_fit =
+      let t : TreeFits IsKnown (made_of p n) = subst (TreeFits IsKnown) (made_of_callees p c n j) (each_is_well_typed p c n j).0.tree in
+      each_fits (made_of p n) (instance_called_so p) (all_sites n) 0 t.1
 
   module _ (m : Manner) (at : Place → ℕ) (missing base : ℕ) (a : StandsAt at missing base m (instance_of p n)) where
     pub stands_made : (y : Place) → at y ≡ number_from missing base (map (slot (made_of p n) []) (own_cells m n) ++ slots_behind p (made_of p n) (all_sites n)) y

@@ -1,6 +1,6 @@
 -- Where the variables of a frame's own stand, and those that it has of its calls.
 use Rattle.std.specs.Prelude.{◌≡◌, ℕ, zero, suc, ◌+◌, ◌<◌, ◌≤◌, nat_lt, cond, List, length, slice_get, Option, Some}
-use Rattle.lus_tree.specs.Tree.{Name, Variable, Component, Program}
+use Rattle.lus_tree.specs.Tree.{Name, Expression, Variable, Component, Program}
 use Rattle.lus_meaning.specs.Depends.{named_in}
 use Rattle.lus_meaning.specs.Occurrences.{memories, starts}
 use Rattle.lus_meaning.specs.Program.{all_sites, instance_of}
@@ -46,7 +46,8 @@ pub record OwnStandAt (at : Place → ℕ) (missing base : ℕ) (m : Manner) (n 
   pub pres : (k : ℕ) → at (own (memory k)) ≡ counted_number missing (memories_begin base n) (length (memories n)) k
   pub arrows : (k : ℕ) → at (own (starting k)) ≡ counted_number missing (starts_begin base n) (length (starts n)) k
   pub assumed : at (own so_far) ≡ cond (has_so_far m n) (so_far_number base n) missing
-  -- cell by cell
+  -- stream by stream, and cell by cell
+  pub named_streams : (k : ℕ) (v : Variable) → slice_get (variables n) k ≡ Some v → at (own (named v.name.text)) ≡ streams_begin base + k
   pub cells : (k : ℕ) (c : Cell) → slice_get (own_cells m n) k ≡ Some c → at (own (spot_of c)) ≡ base + k
 
 -- in a checked program, of each declaration's frame, however wide
@@ -65,11 +66,17 @@ held_number missing base (as_import xs) vs x = missing
 
 -- of a call or import: what its caller holds of it, right before its frame, and the beat and the streams of its frame
 pub record CallVariablesAt (at : Place → ℕ) (missing end : ℕ) (p : Program) (s : Site) (q : CallSlots) : Type 0 where
+  pub room : q.held ≤ q.frame
   pub holds : (j : ℕ) → j + q.held ≡ q.frame → (x : Name)
       → at (own (held s.number x)) ≡ held_number missing (end + j) s.manner (callee p s.callee).outputs x
   pub active : at (in_call s.number (own beat)) ≡ end + q.frame
   pub streams : (x : Name)
       → at (in_call s.number (own (named x))) ≡ name_number missing (streams_begin (end + q.frame)) (variables (callee p s.callee)) x
+  -- output by output, which stand behind the inputs
+  pub outputs : (k : ℕ) (v : Variable) → slice_get (callee p s.callee).outputs k ≡ Some v
+      → at (in_call s.number (own (named v.name.text))) ≡ (streams_begin (end + q.frame) + length (callee p s.callee).inputs) + k
+  pub held_outputs : (a : Expression) → s.manner ≡ while_true a → (j : ℕ) → j + q.held ≡ q.frame → (k : ℕ) (v : Variable)
+      → slice_get (callee p s.callee).outputs k ≡ Some v → at (own (held s.number v.name.text)) ≡ (end + j) + k
 
 abbrev pub CallVariablesStand : Type 0
 CallVariablesStand =
