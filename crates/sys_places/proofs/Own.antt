@@ -56,9 +56,6 @@ module _ (at : Place → ℕ) (missing base : ℕ) (m : Manner) where
       (none_of_calls (instance n cs is) is y e)
 
   module _ (i : Instance) where
-    abbrev n : Component
-    n = component_of i
-
     abbrev name_slots : List Slot
     name_slots = map (slot i []) (map name_cell (variables (component_of i)))
 
