@@ -27,7 +27,7 @@ use sys_occurrences::sites::{Site, sites};
 use sys_parts::constant::Constant;
 
 /// The calls and imports of a declaration, in the order of their numbers.
-#[tactic(auto, using(crate::proofs::Ordered::in_order_seen))]
+#[tactic(auto, using(crate::proofs::Ordered::sites_ordered))]
 pub(crate) fn sites_of<'a>(alloc: Global, names: Names<'a, '_>) -> Result<Vec<Site<'a>>, AllocError>
     ensures { IfOk result (λ v. map site_view v.items ≡ all_sites (names_view names.entry)) }
 {
@@ -36,6 +36,7 @@ pub(crate) fn sites_of<'a>(alloc: Global, names: Names<'a, '_>) -> Result<Vec<Si
 }
 
 /// The place of the declaration of that name; past the last one where there is none.
+#[tactic(auto, using(crate::proofs::Once::not_there))]
 fn place_of(names: &NameTable, name: &str) -> usize
     ensures { result ≡ number_of names.now name.now }
 {
@@ -123,8 +124,9 @@ pub(crate) fn all_linked<'a>(
         slots.now) }
 {
     let mut calls = Vec::new(alloc);
-    for (site, slots) in sites.iter().zip(slots) {
-        calls.push(linked(alloc, names, parts, known, site, *slots)?)?;
+    for place in 0..sites.len().min(slots.len()) {
+        let site = &sites[place];
+        calls.push(linked(alloc, names, parts, known, site, slots[place])?)?;
     }
     Ok(calls)
 }

@@ -81,7 +81,7 @@ fn has_contract(owner: Owner<'_>) -> bool
 }
 
 /// The `pre` of a declaration, in the order of their numbers.
-#[tactic(auto, using(crate::proofs::Ordered::in_order_seen))]
+#[tactic(auto, using(crate::proofs::Ordered::memories_ordered))]
 fn memories_of<'a>(alloc: Global, names: Names<'a, '_>) -> Result<Vec<Memory<'a>>, AllocError>
     ensures { IfOk result (λ v. map memory_view v.items ≡ in_order (λ m. m.number) (memories (names_view names.entry))) }
 {
@@ -90,7 +90,7 @@ fn memories_of<'a>(alloc: Global, names: Names<'a, '_>) -> Result<Vec<Memory<'a>
 }
 
 /// The `->` of a declaration, in the order of their numbers.
-#[tactic(auto, using(crate::proofs::Ordered::in_order_seen))]
+#[tactic(auto, using(crate::proofs::Ordered::starts_ordered))]
 fn starts_of<'a>(alloc: Global, names: Names<'a, '_>) -> Result<Vec<Start<'a>>, AllocError>
     ensures { IfOk result (λ v. map start_view v.items ≡ in_order (λ a. a.number) (starts (names_view names.entry))) }
 {
@@ -151,8 +151,9 @@ fn all_tables<'a>(
         (map layout_view layouts.now)) }
 {
     let mut tables = Vec::new(alloc);
-    for (part, layout) in parts.iter().zip(layouts) {
-        tables.push(table(alloc, names, parts, outer, *part, layout)?)?;
+    for place in 0..parts.len().min(layouts.len()) {
+        let layout = &layouts[place];
+        tables.push(table(alloc, names, parts, outer, parts[place], layout)?)?;
     }
     Ok(tables)
 }
