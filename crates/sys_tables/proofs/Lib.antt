@@ -5,3 +5,4 @@ pub mod Counted
 pub mod Once
 pub mod Joined
 pub mod Sighted
+pub mod Noted

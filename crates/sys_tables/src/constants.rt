@@ -8,8 +8,8 @@ ghost use Rattle.lus_tree.specs.View.{contract_item_view, decl_view, definition_
 ghost use Rattle.lus_meaning.specs.Program.{contract_statement_constants, program_constants};
 ghost use Rattle.lus_streams.specs.Owner.{owner_view};
 ghost use Rattle.sys_parts.specs.Constants.{constant_view};
-ghost use Rattle.sys_texts.specs.Views.{by_name, sight_view};
-ghost use Rattle.sys_tables.specs.Tabled.{bare, own_constants, small_value, small_values};
+ghost use Rattle.sys_texts.specs.Views.{by_name, folded_view};
+ghost use Rattle.sys_tables.specs.Tabled.{own_constants, small_value, small_values, value_of};
 ghost use Rattle.sys_tables.specs.Known.{IsBare, values_seen};
 ghost use Rattle.sys_tables.specs.Views.{fixed_view};
 
@@ -64,15 +64,23 @@ fn push<'a>(known: &mut Known<'a>, name: &'a str, value: Constant) -> Result<(),
     Ok(())
 }
 
+/// What an expression comes to, none where it isn't constant.
+fn value_of(folded: Folded) -> Constant
+    ensures { constant_view result ≡ value_of (folded_view folded) }
+{
+    match folded {
+        Folded::Known(value) => value,
+        Folded::Open(_) => no_value(),
+    }
+}
+
 /// The value of a constant expression.
 pub(crate) fn value(alloc: Global, known: &Known<'_>, e: &Expr) -> Result<Constant, AllocError>
     requires { IsBare known.now }
     ensures { IfOk result (λ v. constant_view v ≡ small_value (values_seen known.now) (expr_view e.now)) }
 {
-    match folded(alloc, &known.sight, &[], e)? {
-        Folded::Known(value) => Ok(value),
-        Folded::Open(_) => Ok(no_value()),
-    }
+    let found = folded(alloc, &known.sight, &[], e)?;
+    Ok(value_of(found))
 }
 
 /// One more constant behind, by its definition.

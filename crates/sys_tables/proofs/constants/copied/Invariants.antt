@@ -7,5 +7,5 @@ use Rattle.sys_tables.proofs.constants.copied.Given as goal
 abbrev pub invariant-loop-fixed : goal.invariant-loop-fixed
 invariant-loop-fixed l = record {
   values : values_seen l.known ++ map fixed_view (drop l.fixed-index l.outer) ≡ map fixed_view l.outer;
-  bare : IsBare l.known
+  bare : IsBare l.known;
 }

@@ -10,5 +10,5 @@ abbrev pub invariant-loop-decl : goal.invariant-loop-decl
 invariant-loop-decl l = record {
   values : small_values (values_seen l.known) (program_constants (map decl_view (drop l.decl-index l.program.decls.items)))
       ≡ small_values [] (program_constants (map decl_view l.program.decls.items));
-  bare : IsBare l.known
+  bare : IsBare l.known;
 }

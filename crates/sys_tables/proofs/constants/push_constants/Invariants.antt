@@ -9,5 +9,5 @@ abbrev pub invariant-loop-constant : goal.invariant-loop-constant
 invariant-loop-constant l = record {
   values : small_values (values_seen l.known) (map definition_view (drop l.constant-index l.constants))
       ≡ small_values (values_seen l.initial.known) (map definition_view l.constants);
-  bare : IsBare l.known
+  bare : IsBare l.known;
 }

@@ -10,5 +10,5 @@ abbrev pub invariant-loop-item : goal.invariant-loop-item
 invariant-loop-item l = record {
   values : small_values (values_seen l.known) (contract_statement_constants (map contract_item_view (drop l.item-index l.items)))
       ≡ small_values (values_seen l.initial.known) (contract_statement_constants (map contract_item_view l.items));
-  bare : IsBare l.known
+  bare : IsBare l.known;
 }

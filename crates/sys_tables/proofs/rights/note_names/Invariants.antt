@@ -11,5 +11,5 @@ invariant-loop-name l = record {
   at : l.place ≡ l.name-index;
   noted : (x : Name) →
       option_or (right_in l.rights x) (right_from (expr_view l.side) l.place (map text_of (map word_view (drop l.name-index l.names))) x)
-      ≡ option_or (right_in l.initial.rights x) (right_from (expr_view l.side) 0 (map text_of (map word_view l.names)) x)
+      ≡ option_or (right_in l.initial.rights x) (right_from (expr_view l.side) 0 (map text_of (map word_view l.names)) x);
 }

@@ -11,5 +11,5 @@ invariant-loop-call l = record {
   room : AllByRecursion (CallHasRoom l.from) (map linked_view (drop l.call-index l.calls));
   found :
       map call_view l.found.items ++ map (call_at l.from l.missing) (map linked_view (drop l.call-index l.calls))
-      ≡ map (call_at l.from l.missing) (map linked_view l.calls)
+      ≡ map (call_at l.from l.missing) (map linked_view l.calls);
 }

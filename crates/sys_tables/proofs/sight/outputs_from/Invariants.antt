@@ -12,5 +12,5 @@ invariant-loop-output l = record {
   found :
       map output_view l.found.items
       ++ outputs_from l.way l.number l.holder l.missing (map param_view (drop l.output-index l.outputs))
-      ≡ outputs_from l.way l.first l.held l.missing (map param_view l.outputs)
+      ≡ outputs_from l.way l.first l.held l.missing (map param_view l.outputs);
 }

@@ -12,5 +12,5 @@ invariant-loop-stream l = record {
   at : l.number ≡ l.first + l.stream-index;
   noted : (x : Name) →
       option_or (option_map stream_view (by_name l.table x)) (stream_from l.number (map named_view (drop l.stream-index l.streams)) x)
-      ≡ stream_from l.first (map named_view l.streams) x
+      ≡ stream_from l.first (map named_view l.streams) x;
 }

@@ -1,0 +1,9 @@
+use Rattle.std.proofs.Common.{rules, ◌≡◌, ap, ◌∙◌, []}
+use Rattle.lus_tree.specs.View.{expr_view}
+use Rattle.sys_texts.specs.Texts.{folded}
+use Rattle.sys_tables.specs.Tabled.{value_of}
+use Rattle.sys_tables.proofs.Sighted.{bared}
+use Rattle.sys_tables.proofs.constants.value.Goals as goal
+
+pub returns : goal.returns
+returns c = ?
