@@ -1,16 +1,16 @@
 -- The sight of a frame is one of the stage over its instance.
-use Rattle.std.proofs.Common.{◌≡◌, ℕ, zero, suc, ◌+◌, ◌<◌, List, [], ◌∷◌, length, map, option_map, unwrap_or, refl, sym, ap, ◌∙◌, subst, arith}
-use Rattle.std.specs.Prelude.{Contains, find, slice_get}
+use Rattle.std.proofs.Common.{◌≡◌, ℕ, zero, suc, ◌+◌, ◌<◌, true, cond, not, List, [], ◌∷◌, length, map, Option, Some, None, option_map, unwrap_or, refl, sym, ap, ◌∙◌, subst, arith}
+use Rattle.std.specs.Prelude.{Contains, find, is_none, is_some, slice_get}
 use Rattle.std.specs.Map.{lookup}
 use Rattle.std.specs.Option.{option_map_or}
 use Rattle.std.specs.Str.{bytes_eq}
-use Rattle.lus_tree.specs.Tree.{Name, Variable, Component, Program}
+use Rattle.lus_tree.specs.Tree.{Name, Variable, ContractStatement, Component, Program}
 use Rattle.lus_meaning.specs.ClockFaults.{components}
 use Rattle.lus_meaning.specs.Occurrences.{Memory, Start, memories, starts}
 use Rattle.lus_meaning.specs.Program.{all_sites, constants_in, in_order, instance_of, instances_with, site_in, import_site}
 use Rattle.lus_meaning.specs.Refusals.{IsChecked}
 use Rattle.lus_meaning.specs.Run.{sort_of_value}
-use Rattle.lus_meaning.specs.Scene.{Manner, Site, Instance, instance, call_instance, component_of, contract_statements, variables}
+use Rattle.lus_meaning.specs.Scene.{Manner, plain, while_true, as_import, Site, Instance, instance, call_instance, component_of, contract_statements, variables}
 use Rattle.lus_meaning.specs.Occurrences.{gathered}
 use Rattle.lus_meaning.specs.Value.{Value, absent}
 use Rattle.lus_meaning.proofs.InOrder.{in_order_length}
@@ -36,7 +36,7 @@ use Rattle.sys_texts.specs.Laws.{IsSightOf}
 use Rattle.sys_texts.specs.Sights.{Call, Mode, called_sort, latest_part, latest_at, output_part, outputs_at}
 use Rattle.sys_tables.specs.Numbers.{call_at, sight_at, stream_from}
 use Rattle.sys_tables.specs.Tabled.{constants_known, named_stream, table_of}
-use Rattle.sight_laws.specs.Sights.{AreModesOf, CallsAreCalls, ConstantsAreKnown, SightsAreSights, call_of, output_of}
+use Rattle.sight_laws.specs.Sights.{AreModesOf, CallsAreCalls, ConstantsAreKnown, SightsAreSights, SoFarIsKept, SoFarStands, call_of, output_of}
 use Rattle.sight_laws.proofs.Calls.{at_call, called_so, calls_so}
 use Rattle.sight_laws.proofs.Names.{clock_so, many_named, number_at_so, number_so, sort_so}
 
@@ -117,6 +117,34 @@ module _ (p : Program) (c : IsChecked p) (n : Component) (i : Contains (componen
         latest = latest_so;
         modes = modes;
       }
+
+-- ---- so far
+
+pub so_far_is_kept : SoFarIsKept
+so_far_is_kept p n plain = kept n.contract
+  where
+    kept : (o : Option (List ContractStatement)) → not (is_none o) ≡ is_some o
+    kept None = refl
+    kept (Some xs) = refl
+so_far_is_kept p n (while_true a) = kept n.contract
+  where
+    kept : (o : Option (List ContractStatement)) → not (is_none o) ≡ is_some o
+    kept None = refl
+    kept (Some xs) = refl
+so_far_is_kept p n (as_import xs) = refl
+
+pub so_far_stands : SoFarStands
+so_far_stands p c n i m at missing base stands keeps =
+    let o : OwnStandAt at missing base m n = own_stands p c n i m at missing base stands in
+    let many : length (map (named_stream n) (variables n)) ≡ length (variables n) = many_named n (variables n) in
+    let kept : length (in_order (λ (u : Memory). u.number) (memories n)) ≡ length (memories n) =
+    in_order_length (λ (u : Memory). u.number) (memories n) (memories_counted n (numbered p c.grammatical n i)) in
+    let started : length (in_order (λ (a : Start). a.number) (starts n)) ≡ length (starts n) =
+    in_order_length (λ (a : Start). a.number) (starts n) (starts_counted n (numbered p c.grammatical n i)) in
+    let there : ((suc base + length (variables n)) + length (memories n)) + length (starts n)
+    ≡ ((base + suc (length (map (named_stream n) (variables n)))) + length (in_order (λ (u : Memory). u.number) (memories n)))
+    + length (in_order (λ (a : Start). a.number) (starts n)) = omega (arith, many, kept, started) in
+    o.assumed ∙ ap (λ b. cond b (((suc base + length (variables n)) + length (memories n)) + length (starts n)) missing) keeps ∙ there
 
 pub sights_are_sights : ConstantsAreKnown → SightsAreSights
 sights_are_sights known p c n i m at missing base fits stands ms ks modes =

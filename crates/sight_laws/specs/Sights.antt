@@ -1,5 +1,5 @@
 -- The sight of a frame that stands at a number finds what the translation finds.
-use Rattle.std.specs.Prelude.{◌≡◌, ℕ, ◌<◌, ◌^◌, false, List, map, length, get_or, Contains, Option, option_to_list, unwrap_or}
+use Rattle.std.specs.Prelude.{◌≡◌, ℕ, ◌<◌, ◌^◌, true, false, List, map, length, get_or, Contains, Option, option_to_list, unwrap_or}
 use Rattle.std.specs.List.{AllByRecursion}
 use Rattle.std.specs.Map.{lookup}
 use Rattle.lus_tree.specs.Tree.{Name, Variable, Component, Program}
@@ -15,11 +15,12 @@ use Rattle.lus_limits.specs.Widths.{frame_width}
 use Rattle.sys_terms.specs.View.{Formula, truth}
 use Rattle.sys_meaning.specs.Defaults.{default_of}
 use Rattle.sys_meaning.specs.Items.{Known}
-use Rattle.sys_meaning.specs.Slot.{Place, own, in_call, beat, named, held}
+use Rattle.sys_meaning.specs.Slot.{Place, own, in_call, beat, named, so_far, held}
+use Rattle.sys_meaning.specs.System.{has_so_far}
 use Rattle.sys_places.specs.Places.{StandsAt}
 use Rattle.sys_texts.specs.Laws.{IsSightOf}
 use Rattle.sys_texts.specs.Sights.{Call, Output, Mode, asked_of}
-use Rattle.sys_tables.specs.Numbers.{HasRoom, sight_at}
+use Rattle.sys_tables.specs.Numbers.{HasRoom, keeps_so_far, sight_at, so_far_number}
 use Rattle.sys_tables.specs.Tabled.{Linked, constants_known, place_of, table_of}
 
 -- ---- constants
@@ -69,6 +70,15 @@ abbrev pub CallsAreCalls : Type 0
 CallsAreCalls =
     OfEach (λ p n. (m : Manner) (at : Place → ℕ) (missing base : ℕ) → frame_width p m n < bound → StandsAt at missing base m (instance_of p n)
     → (sight_at (table_of p n) (way_of m) base missing).calls ≡ map (call_of p at) (all_sites n))
+
+-- a frame keeps whether its assumptions were true so far where the translation says so, and under this number
+abbrev pub SoFarIsKept : Type 0
+SoFarIsKept = (p : Program) (n : Component) (m : Manner) → keeps_so_far (way_of m) (table_of p n) ≡ has_so_far m n
+
+abbrev pub SoFarStands : Type 0
+SoFarStands =
+    OfEach (λ p n. (m : Manner) (at : Place → ℕ) (missing base : ℕ) → StandsAt at missing base m (instance_of p n) → has_so_far m n ≡ true
+    → at (own so_far) ≡ so_far_number (table_of p n) base)
 
 -- modes ask what is known of them
 abbrev pub AreModesOf : List Mode → Known Formula → Type 0

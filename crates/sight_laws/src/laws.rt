@@ -1,6 +1,6 @@
 //! Sights of frames that stand at a number.
 
-ghost use Rattle.sight_laws.specs.Sights.{CallsAreCalls, CalleesAreThere, CalleesStand, ConstantsAreKnown, DefaultsAreKnown, FramesHaveRoom, SightsAreSights};
+ghost use Rattle.sight_laws.specs.Sights.{CallsAreCalls, CalleesAreThere, CalleesStand, ConstantsAreKnown, DefaultsAreKnown, FramesHaveRoom, SightsAreSights, SoFarIsKept, SoFarStands};
 
 use steady_laws::laws::{constants_are_kept, texts_are_steady, values_are_kept};
 
@@ -37,3 +37,10 @@ pub fn sights_are_sights()
 {
     constants_are_known();
 }
+
+/// A frame keeps whether its assumptions were true so far where the translation says so; and in a checked program this
+/// has in a frame that stands at a number the number that is known of it.
+pub fn so_far_stands()
+    ensures kept { SoFarIsKept }
+    ensures number { SoFarStands }
+{}
