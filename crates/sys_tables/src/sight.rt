@@ -1,14 +1,15 @@
 //! The sight of a frame: what its names and numbers mean.
 
-ghost use Rattle.std.specs.Prelude.{◌≡◌, ◌+◌, ◌<◌, ◌^◌, IfOk, length, map, option_map};
+ghost use Rattle.std.specs.Prelude.{◌≡◌, ◌+◌, ◌<◌, ◌^◌, IfOk, length, map, option_map, suc};
 ghost use Rattle.std.specs.List.{AllByRecursion};
 ghost use Rattle.std.specs.Map.{lookup};
 ghost use Rattle.std.specs.Str.{bytes_eq};
 ghost use Rattle.lus_tree.specs.Numbers.{counting};
 ghost use Rattle.lus_tree.specs.Tree.{Name};
 ghost use Rattle.lus_tree.specs.View.{param_view};
+ghost use Rattle.sys_parts.specs.Constants.{constant_view};
 ghost use Rattle.sys_texts.specs.Views.{by_name, call_view, output_view, sight_view, stream_view};
-ghost use Rattle.sys_tables.specs.Numbers.{CallHasRoom, HasRoom, call_at, held_or, outputs_from, sight_at, so_far_number, stream_from};
+ghost use Rattle.sys_tables.specs.Numbers.{CallHasRoom, HasRoom, behind_own, call_at, first_memory, first_start, held_or, outputs_from, sight_at, so_far_number, stream_from};
 ghost use Rattle.sys_tables.specs.Views.{linked_view, named_view, table_view};
 
 use crate::constants::values_by_name;
@@ -20,6 +21,7 @@ use lus_limits::Way;
 use lus_streams::clock::declared;
 use lus_tree::Param;
 use std::alloc::{AllocError, Global};
+use sys_parts::constant::Constant;
 use sys_texts::sight::{Call, Output, Sight, Stream};
 
 /// The numbers from `first` on, as many as said.
@@ -137,6 +139,70 @@ fn calls_at<'a>(
     Ok(found)
 }
 
+/// The constants of a declaration by their names.
+fn constants_of<'a>(
+    alloc: Global,
+    table: &Table<'a>,
+) -> Result<IndexMap<&'a str, Constant>, AllocError>
+    ensures { IfOk result (λ m. (x : Name) → option_map constant_view (by_name m x)
+        ≡ lookup (bytes_eq x) (table_view table.now).constants) }
+{
+    values_by_name(alloc, &table.constants)
+}
+
+/// The streams of a frame by their names.
+fn streams_at<'a>(
+    alloc: Global,
+    table: &Table<'a>,
+    base: u32,
+) -> Result<IndexMap<&'a str, Stream<'a>>, AllocError>
+    requires { so_far_number (table_view table.now) base < 2 ^ 32 }
+    ensures { IfOk result (λ m. (x : Name) → option_map stream_view (by_name m x)
+        ≡ stream_from (suc base) (table_view table.now).streams x) }
+{
+    streams_from(alloc, base + 1, &table.streams)
+}
+
+/// The numbers of the memories of a frame.
+fn memories_at(alloc: Global, table: &Table<'_>, base: u32) -> Result<Vec<u32>, AllocError>
+    requires { so_far_number (table_view table.now) base < 2 ^ 32 }
+    ensures { IfOk result (λ v. v.items
+        ≡ counting (first_memory (table_view table.now) base) (length (table_view table.now).memories)) }
+{
+    numbers_from(alloc, first_memory(table, base), table.memories.len())
+}
+
+/// The numbers of the starts of a frame.
+fn starts_at(alloc: Global, table: &Table<'_>, base: u32) -> Result<Vec<u32>, AllocError>
+    requires { so_far_number (table_view table.now) base < 2 ^ 32 }
+    ensures { IfOk result (λ v. v.items
+        ≡ counting (first_start (table_view table.now) base) (length (table_view table.now).starts)) }
+{
+    numbers_from(alloc, first_start(table, base), table.starts.len())
+}
+
+/// The calls of a frame that runs so.
+fn calls_of<'a>(
+    alloc: Global,
+    table: &Table<'a>,
+    way: Way,
+    base: u32,
+    missing: u32,
+) -> Result<Vec<Call<'a>>, AllocError>
+    requires { HasRoom way (table_view table.now) base }
+    ensures { IfOk result (λ v. map call_view v.items
+        ≡ map (call_at (behind_own way (table_view table.now) base) missing) (table_view table.now).calls) }
+{
+    calls_at(alloc, behind_own(table, way, base), missing, &table.calls)
+}
+
+/// How many streams a frame has.
+fn stream_count(table: &Table<'_>) -> usize
+    ensures { result ≡ length (table_view table.now).streams }
+{
+    table.streams.len()
+}
+
 /// The sight of a frame that runs so, of which the beat has the number `base`; what isn't there has the number
 /// `missing`.
 ///
@@ -153,15 +219,16 @@ pub fn sight<'a>(
     requires room { HasRoom way (table_view table.now) base }
     ensures { IfOk result (λ s. sight_view s ≡ sight_at (table_view table.now) way base missing) }
 {
-    let constants = values_by_name(alloc, &table.constants)?;
-    let streams = streams_from(alloc, base + 1, &table.streams)?;
-    let memories = numbers_from(alloc, first_memory(table, base), table.memories.len())?;
-    let starts = numbers_from(alloc, first_start(table, base), table.starts.len())?;
-    let calls = calls_at(alloc, behind_own(table, way, base), missing, &table.calls)?;
+    let constants = constants_of(alloc, table)?;
+    let streams = streams_at(alloc, table, base)?;
+    let memories = memories_at(alloc, table, base)?;
+    let starts = starts_at(alloc, table, base)?;
+    let calls = calls_of(alloc, table, way, base, missing)?;
+    let bound = stream_count(table);
     Ok(Sight {
         beat: base,
         missing,
-        bound: table.streams.len(),
+        bound,
         constants,
         streams,
         memories,
