@@ -1,0 +1,6 @@
+pub mod Tabled
+pub mod Views
+pub mod Numbers
+pub mod Seats
+pub mod Rights
+pub mod Made
