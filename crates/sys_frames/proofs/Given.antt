@@ -56,17 +56,17 @@ module _ (s : Sight) (ms : List Mode) (n : Component) where
   passed : (x : Name) (p : Part) (from : Sources) (vs : List Variable) → named_in x (map (λ v. v.name.text) vs) ≡ false
       → flat_map (by_name ((x, p) ∷ from)) vs ≡ flat_map (by_name from) vs
   passed x p from [] e = refl
-  passed x p from (v ∷ vs) e =
-      go (bytes_eq x v.name.text) refl e
+  passed x p from (v ∷ vs) e = go (bytes_eq x v.name.text) refl e (passed x p from vs)
     where
       go : (b : Bool) → bytes_eq x v.name.text ≡ b → (b || named_in x (map (λ v. v.name.text) vs)) ≡ false
+          → (named_in x (map (λ v. v.name.text) vs) ≡ false → flat_map (by_name ((x, p) ∷ from)) vs ≡ flat_map (by_name from) vs)
           → flat_map (by_name ((x, p) ∷ from)) (v ∷ vs) ≡ flat_map (by_name from) (v ∷ vs)
-      go true a e = cc
-      go false a e =
+      go true a e r = cc
+      go false a e r =
           ap (λ b. name_conditions s (named_in v.name.text (texts_of n.inputs)) v
           (given_or s ms (cond b (Some p) (lookup (bytes_eq v.name.text) from)) (right_of (equations n) v.name.text))
           ++ flat_map (by_name ((x, p) ∷ from)) vs) (other_bytes x v.name.text a)
-          ∙ ap (λ l. by_name from v ++ l) (passed x p from vs e)
+          ∙ ap (λ l. by_name from v ++ l) (r e)
 
   pub by_place : (vs : List Variable) (ps : List Part) → AreDistinct (map (λ v. v.name.text) vs)
       → flat_map (by_name (zipped vs ps)) vs ≡ streams_here s ms (map (named_stream n) vs) ps

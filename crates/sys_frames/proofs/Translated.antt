@@ -322,7 +322,7 @@ module _ (missing : ℕ) (ts : List Tabled) where
         → active_where s ms c h.call ≡ active_said g c
     active_so j q c k h =
         ap (λ n. same (x.flag_at n) (runs_where s ms c.clock c.manner)) h.beats
-        ∙ ap (same (flag_at g (in_call c.number (own beat)))) (conditions_are s ms g seen .calls c h.manner)
+        ∙ ap (same (flag_at g (in_call c.number (own beat)))) ((conditions_are s ms g seen).calls c h.manner)
 
     call_so : (d j : ℕ) (q : Linked) (c : Site) (k : Instance) (h : SeesCall missing i at s from j q c k) (u : Tabled) → slice_get ts q.place ≡ Some u
         → IH d u (way_of q.site.manner) (frame_base from q) c.manner k (below_call c.number at)
@@ -456,7 +456,7 @@ module _ (missing : ℕ) (ts : List Tabled) where
       ≡ y.properties_of (instance n cs is) at
   properties_so d t n cs is at h =
       ap (λ z. body_properties s r.modes z.body ++ (promises r ++ owes)) h.0.text
-      ∙ (ap (λ z. z ++ (promises r ++ owes)) (conditions missing t Plain 0 plain i at h.0 .properties n.body h.0.steady.items)
+      ∙ (ap (λ z. z ++ (promises r ++ owes)) ((conditions missing t Plain 0 plain i at h.0).properties n.body h.0.steady.items)
       ∙ (ap (λ z. body ++ (((r.guarantees ++ z) ++ one_mode r.modes) ++ owes)) (ensured_so at (contract_of i).modes)
       ∙ (ap (λ z. body ++ (((r.guarantees ++ ensured) ++ z) ++ owes)) (one_mode_so at (contract_of i).modes)
       ∙ (ap (λ z. body ++ (((r.guarantees ++ ensured) ++ y.one_mode (contract_of i).modes at) ++ z))

@@ -1,6 +1,6 @@
 //! The system of a declaration.
 
-ghost use Rattle.std.specs.Prelude.{◌≡◌, ◌<◌, Contains, IfOk, slice_get};
+ghost use Rattle.std.specs.Prelude.{◌≡◌, ◌<◌, [], Contains, IfOk, slice_get};
 ghost use Rattle.lus_tree.specs.View.{program_view};
 ghost use Rattle.lus_limits.specs.declared.calls.Way.TheVariants.{Plain};
 ghost use Rattle.lus_meaning.specs.ClockFaults.{components};
@@ -13,10 +13,11 @@ ghost use Rattle.sys_contracts.specs.Views.{items_view};
 ghost use Rattle.sys_meaning.specs.System.{system_of};
 ghost use Rattle.sys_tables.specs.Numbers.{behind_own};
 ghost use Rattle.sys_tables.specs.Views.{table_view, tables_view};
-ghost use Rattle.sys_terms.specs.View.{system_view};
+ghost use Rattle.sys_terms.specs.View.{system_view, terms_view};
 ghost use Rattle.sys_texts.specs.Views.{sight_view};
 ghost use Rattle.sys_frames.specs.Systems.{missing_in, names_in, no_machine, system_or_none};
-ghost use Rattle.sys_frames.specs.Walked.{HasRoomWithin, IfThere, system_over, system_within};
+ghost use Rattle.sys_frames.specs.Views.{lists_view};
+ghost use Rattle.sys_frames.specs.Walked.{HasRoomWithin, IfThere, machine_of, system_over, system_within};
 
 use crate::contracts::{Tables, items_seen, table_at};
 use crate::lists::{Lists, no_lists};
@@ -35,14 +36,23 @@ use sys_tables::tables::tables;
 use sys_terms::{System, Term};
 use sys_texts::sight::Sight;
 
-/// The system of what is said of frames, with these properties.
-fn assembled(lists: Lists, properties: Vec<Term>) -> System {
+/// The system of what is said of frames, with these properties. The states that meet what is asserted are legal.
+fn assembled(lists: Lists, properties: Vec<Term>) -> System
+    ensures { system_view result ≡ machine_of (lists_view lists) [] (terms_view properties.items) }
+{
+    let Lists {
+        shapes,
+        first,
+        here,
+        next,
+        asserts,
+    } = lists;
     System {
-        shapes: lists.shapes,
-        first: lists.first,
-        here: lists.here,
-        next: lists.next,
-        legal: lists.asserts,
+        shapes,
+        first,
+        here,
+        next,
+        legal: asserts,
         properties,
     }
 }
