@@ -309,35 +309,35 @@ module _ (missing : ℕ) (ts : List Tabled) where
   callee_said path at g c k = said c.manner (path ++ c.number ∷ []) k (below_call c.number at) (active_said g c) (from_call g c k)
 
   module _ (s : Sight) (i : Instance) (at : Place → ℕ) (from : ℕ) (ms : List Mode) (seen : IsSightOf s ms (stage i at)) (path : List ℕ) where
-    abbrev g : Stage
-    g = stage i at
+    abbrev now : Stage
+    now = stage i at
 
     held_so : (j : ℕ) (q : Linked) (c : Site) (k : Instance) (h : SeesCall missing i at s from j q c k)
-        → held_lists q.defaults h.call q.site.manner ≡ held_said i path g c k
+        → held_lists q.defaults h.call q.site.manner ≡ held_said i path now c k
     held_so j q c k h =
         ap (λ z. held_lists q.defaults h.call z.manner) h.site
         ∙ same_lists _ _ _ _ _ _ _ _ _ _ (h.held_shapes path) h.held_at_first (held_here q h.call c.manner) h.held_later (held_asserts q h.call c.manner)
 
     active_so : (j : ℕ) (q : Linked) (c : Site) (k : Instance) (h : SeesCall missing i at s from j q c k)
-        → active_where s ms c h.call ≡ active_said g c
+        → active_where s ms c h.call ≡ active_said now c
     active_so j q c k h =
         ap (λ n. same (x.flag_at n) (runs_where s ms c.clock c.manner)) h.beats
-        ∙ ap (same (flag_at g (in_call c.number (own beat)))) ((conditions_are s ms g seen).calls c h.manner)
+        ∙ ap (same (flag_at now (in_call c.number (own beat)))) ((conditions_are s ms now seen).calls c h.manner)
 
     call_so : (d j : ℕ) (q : Linked) (c : Site) (k : Instance) (h : SeesCall missing i at s from j q c k) (u : Tabled) → slice_get ts q.place ≡ Some u
         → IH d u (way_of q.site.manner) (frame_base from q) c.manner k (below_call c.number at)
-        → call_lists_or_none (frames d) ts s ms from q (slice_get s.calls j) ≡ joined (held_said i path g c k) (callee_said path at g c k)
+        → call_lists_or_none (frames d) ts s ms from q (slice_get s.calls j) ≡ joined (held_said i path now c k) (callee_said path at now c k)
     call_so d j q c k h u there f =
         ap (call_lists_or_none (frames d) ts s ms from q) h.seen
         ∙ (ap (λ z. joined z (lists_or_none (frames d) (slice_get ts q.place) (way_of q.site.manner) (frame_base from q) (active_where s ms q.site h.call)
         (given_by s ms q.site))) (held_so j q c k h)
-        ∙ ap (joined (held_said i path g c k))
+        ∙ ap (joined (held_said i path now c k))
         (ap (λ o. lists_or_none (frames d) o (way_of q.site.manner) (frame_base from q) (active_where s ms q.site h.call) (given_by s ms q.site)) there
         ∙ (f (path ++ c.number ∷ []) (active_where s ms q.site h.call) (given_by s ms q.site)
         ∙ (ap (λ z. said c.manner (path ++ c.number ∷ []) k (below_call c.number at) (active_where s ms z h.call) (zipped (variables (component_of k)) (given_by s ms z)))
         h.site
         ∙ (ap (λ z. said c.manner (path ++ c.number ∷ []) k (below_call c.number at) z (zipped (variables (component_of k)) (given_by s ms c))) (active_so j q c k h)
-        ∙ ap (said c.manner (path ++ c.number ∷ []) k (below_call c.number at) (active_said g c)) (given_so s ms g seen k c h.arguments h.many h.names))))))
+        ∙ ap (said c.manner (path ++ c.number ∷ []) k (below_call c.number at) (active_said now c)) (given_so s ms now seen k c h.arguments h.many h.names))))))
 
   calls_joined : (i : Instance) (path : List ℕ) (c : Site) (k : Instance) (is : Instances) (at : Place → ℕ)
       → joined (joined (held_said i path (stage i at) c k) (callee_said path at (stage i at) c k)) (said_of_calls i path is (stage i at))

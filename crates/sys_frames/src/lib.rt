@@ -8,7 +8,7 @@ mod own;
 mod properties;
 mod shapes;
 mod streams;
-mod system;
+mod systems;
 mod walk;
 
-pub use system::system;
+pub use systems::system;

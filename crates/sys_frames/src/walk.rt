@@ -50,11 +50,11 @@ fn call_at<'a, 's>(sight: &'s Sight<'a>, place: usize) -> Option<&'s Call<'a>>
 /// The lists, and behind them what is said of a frame that is seen so and has these items, and of those of its calls,
 /// with calls nested no deeper than `depth`.
 #[cycle(walk)]
-pub(crate) fn visit_seen(
-    tables: Tables<'_, '_>,
+pub(crate) fn visit_seen<'a>(
+    tables: Tables<'a, '_>,
     depth: usize,
     lists: &mut Lists,
-    table: &Table<'_>,
+    table: &Table<'a>,
     sight: &Sight<'_>,
     items: &Items<'_>,
     way: Way,
@@ -76,14 +76,14 @@ pub(crate) fn visit_seen(
 /// The lists, and behind them what is said of the frames of calls that stand from there on, with others nested in them no
 /// deeper than `depth`.
 #[cycle(walk)]
-fn visit_below(
-    tables: Tables<'_, '_>,
+fn visit_below<'a>(
+    tables: Tables<'a, '_>,
     depth: usize,
     lists: &mut Lists,
     sight: &Sight<'_>,
     modes: &[Mode<'_>],
     from: u32,
-    calls: &[Linked<'_>],
+    calls: &[Linked<'a>],
 ) -> Result<(), AllocError>
     requires room { AllByRecursion (CallHasRoom from) (map linked_view calls.now) }
     requires below { CallsHaveRoom depth (tables_view tables.all.now) from (map linked_view calls.now) }
@@ -99,14 +99,14 @@ fn visit_below(
 
 /// The lists, and behind them what is said of the frames of calls.
 #[cycle(walk)]
-fn visit_calls(
-    tables: Tables<'_, '_>,
+fn visit_calls<'a>(
+    tables: Tables<'a, '_>,
     depth: usize,
     lists: &mut Lists,
     sight: &Sight<'_>,
     modes: &[Mode<'_>],
     from: u32,
-    calls: &[Linked<'_>],
+    calls: &[Linked<'a>],
 ) -> Result<(), AllocError>
     requires room { AllByRecursion (CallHasRoom from) (map linked_view calls.now) }
     requires below { AllByRecursion (OfCall (HasRoomWithin depth (tables_view tables.all.now))
@@ -124,14 +124,14 @@ fn visit_calls(
 
 /// The lists, and behind them what is said of the frame of a call that the caller's sight has at that place.
 #[cycle(walk)]
-fn visit_placed(
-    tables: Tables<'_, '_>,
+fn visit_placed<'a>(
+    tables: Tables<'a, '_>,
     depth: usize,
     lists: &mut Lists,
     sight: &Sight<'_>,
     modes: &[Mode<'_>],
     from: u32,
-    call: &Linked<'_>,
+    call: &Linked<'a>,
     place: usize,
 ) -> Result<(), AllocError>
     requires room { CallHasRoom from (linked_view call.now) }
@@ -150,14 +150,14 @@ fn visit_placed(
 
 /// The lists, and behind them what is held of a call, and what is said of its frame.
 #[cycle(walk)]
-fn visit_call(
-    tables: Tables<'_, '_>,
+fn visit_call<'a>(
+    tables: Tables<'a, '_>,
     depth: usize,
     lists: &mut Lists,
     sight: &Sight<'_>,
     modes: &[Mode<'_>],
     from: u32,
-    call: &Linked<'_>,
+    call: &Linked<'a>,
     seen: &Call<'_>,
 ) -> Result<(), AllocError>
     requires room { CallHasRoom from (linked_view call.now) }
@@ -179,8 +179,8 @@ fn visit_call(
 
 /// The lists, and behind them what is said of a frame of the declaration of that place; nothing where there is none.
 #[cycle(walk)]
-fn visit_or_none(
-    tables: Tables<'_, '_>,
+fn visit_or_none<'a>(
+    tables: Tables<'a, '_>,
     depth: usize,
     lists: &mut Lists,
     place: usize,
@@ -205,11 +205,11 @@ fn visit_or_none(
 /// The lists, and behind them what is said of a frame of a declaration that runs so and has its variables from there on,
 /// and of those of its calls, with calls nested no deeper than `depth`.
 #[cycle(walk)]
-fn visit_frame(
-    tables: Tables<'_, '_>,
+fn visit_frame<'a>(
+    tables: Tables<'a, '_>,
     depth: usize,
     lists: &mut Lists,
-    table: &Table<'_>,
+    table: &Table<'a>,
     way: Way,
     base: u32,
     active: Term,

@@ -58,11 +58,11 @@ fn assembled(lists: Lists, properties: Vec<Term>) -> System
 }
 
 /// The system of a declaration whose frame is seen so and has these items.
-fn system_over(
-    tables: Tables<'_, '_>,
+fn system_over<'a>(
+    tables: Tables<'a, '_>,
     depth: usize,
-    table: &Table<'_>,
-    sight: &Sight<'_>,
+    table: &Table<'a>,
+    sight: &Sight<'a>,
     items: &Items<'_>,
 ) -> Result<System, AllocError>
     requires room { HasRoomWithin depth (tables_view tables.all.now) (table_view table.now) Plain 0 }
@@ -79,10 +79,10 @@ fn system_over(
 }
 
 /// The system of a declaration.
-fn system_within(
-    tables: Tables<'_, '_>,
+fn system_within<'a>(
+    tables: Tables<'a, '_>,
     depth: usize,
-    table: &Table<'_>,
+    table: &Table<'a>,
 ) -> Result<System, AllocError>
     requires room { HasRoomWithin depth (tables_view tables.all.now) (table_view table.now) Plain 0 }
     ensures { IfOk result (λ s. system_view s ≡ system_within depth (tables_view tables.entry.all.now)
