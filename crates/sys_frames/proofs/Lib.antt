@@ -1,3 +1,4 @@
+pub mod Steps
 pub mod Taken
 pub mod Seen
 pub mod Items

@@ -339,23 +339,21 @@ module _ (missing : ℕ) (ts : List Tabled) where
         ∙ (ap (λ z. said c.manner (path ++ c.number ∷ []) k (below_call c.number at) z (zipped (variables (component_of k)) (given_by s ms c))) (active_so j q c k h)
         ∙ ap (said c.manner (path ++ c.number ∷ []) k (below_call c.number at) (active_said now c)) (given_so s ms now seen k c h.arguments h.many h.names))))))
 
+  abbrev held_slots : Instance → List ℕ → Site → Instance → List Slot
+  held_slots i path c k = map (slot i path) (held_cells c (component_of k) c.manner)
+
+  abbrev callee_slots : List ℕ → Site → Instance → List Slot
+  callee_slots path c k = slots_in c.manner (path ++ c.number ∷ []) k
+
   calls_joined : (i : Instance) (path : List ℕ) (c : Site) (k : Instance) (is : Instances) (at : Place → ℕ)
       → joined (joined (held_said i path (stage i at) c k) (callee_said path at (stage i at) c k)) (said_of_calls i path is (stage i at))
       ≡ said_of_calls i path (with_instance c k is) (stage i at)
   calls_joined i path c k is at =
       same_lists _ _ _ _ _ _ _ _ _ _
-      (append_assoc (map shape_at held) (map shape_at callee) (map shape_at rest)
-      ∙ (ap (λ l. map shape_at held ++ l) (sym (map-append shape_at callee rest)) ∙ sym (map-append shape_at held (callee ++ rest))))
+      (append_assoc (map shape_at (held_slots i path c k)) (map shape_at (callee_slots path c k)) (map shape_at (call_slots i path is))
+      ∙ (ap (λ l. map shape_at (held_slots i path c k) ++ l) (sym (map-append shape_at (callee_slots path c k) (call_slots i path is)))
+      ∙ sym (map-append shape_at (held_slots i path c k) (callee_slots path c k ++ call_slots i path is))))
       refl refl refl refl
-    where
-      abbrev held : List Slot
-      held = map (slot i path) (held_cells c (component_of k) c.manner)
-
-      abbrev callee : List Slot
-      callee = slots_in c.manner (path ++ c.number ∷ []) k
-
-      abbrev rest : List Slot
-      rest = call_slots i path is
 
   below_so : (d : ℕ) (i : Instance) (at : Place → ℕ) (s : Sight) (from : ℕ) (ms : List Mode) (path : List ℕ) (qs : List Linked) (is : Instances)
       → ((e : ℕ) → CallsSeen missing ts (suc e) i at s from 0 qs is → calls_lists (frames e) ts s ms from 0 qs ≡ said_of_calls i path is (stage i at))
@@ -450,36 +448,39 @@ module _ (missing : ℕ) (ts : List Tabled) where
   regroup : (b g e o w : List Formula) → b ++ (((g ++ e) ++ o) ++ w) ≡ (((b ++ g) ++ e) ++ o) ++ w
   regroup b g e o w = sym (ap (λ l. (l ++ o) ++ w) (append_assoc b g e) ∙ (ap (λ l. l ++ w) (append_assoc b (g ++ e) o) ∙ append_assoc b ((g ++ e) ++ o) w))
 
+  abbrev plain_sight : Tabled → Sight
+  plain_sight t = sight_at t Plain 0 missing
+
+  abbrev items_said : Instance → (Place → ℕ) → Items
+  items_said i at = items_at at (contract_of i)
+
+  abbrev owes_within : ℕ → Tabled → List Formula
+  owes_within d t = owed_within d ts missing t (behind_own Plain t 0)
+
+  abbrev body_said : Instance → (Place → ℕ) → List Formula
+  body_said i at = y.body_properties (stage i at) (component_of i).body
+
+  abbrev ensured_said : Instance → (Place → ℕ) → List Formula
+  ensured_said i at = flat_map (λ m. map (λ f. f at) m.ensures_each) (contract_of i).modes
+
   properties_so : (d : ℕ) (t : Tabled) (n : Component) (cs : List (Name × Value)) (is : Instances) (at : Place → ℕ)
       → Seen missing ts d t Plain 0 plain (instance n cs is) at
-      → properties_over (sight_at t Plain 0 missing) (items_at at (contract_of (instance n cs is))) t (owed_within d ts missing t (behind_own Plain t 0))
-      ≡ y.properties_of (instance n cs is) at
+      → properties_over (plain_sight t) (items_said (instance n cs is) at) t (owes_within d t) ≡ y.properties_of (instance n cs is) at
   properties_so d t n cs is at h =
-      ap (λ z. body_properties s r.modes z.body ++ (promises r ++ owes)) h.0.text
-      ∙ (ap (λ z. z ++ (promises r ++ owes)) ((conditions missing t Plain 0 plain i at h.0).properties n.body h.0.steady.items)
-      ∙ (ap (λ z. body ++ (((r.guarantees ++ z) ++ one_mode r.modes) ++ owes)) (ensured_so at (contract_of i).modes)
-      ∙ (ap (λ z. body ++ (((r.guarantees ++ ensured) ++ z) ++ owes)) (one_mode_so at (contract_of i).modes)
-      ∙ (ap (λ z. body ++ (((r.guarantees ++ ensured) ++ y.one_mode (contract_of i).modes at) ++ z))
-      (owed_so d i at t s (behind_own Plain t 0) is h.1)
-      ∙ regroup body r.guarantees ensured (y.one_mode (contract_of i).modes at) (y.owed_by_calls (stage i at) is)))))
-    where
-      abbrev i : Instance
-      i = instance n cs is
-
-      abbrev s : Sight
-      s = sight_at t Plain 0 missing
-
-      abbrev r : Items
-      r = items_at at (contract_of i)
-
-      abbrev owes : List Formula
-      owes = owed_within d ts missing t (behind_own Plain t 0)
-
-      abbrev body : List Formula
-      body = y.body_properties (stage i at) n.body
-
-      abbrev ensured : List Formula
-      ensured = flat_map (λ m. map (λ f. f at) m.ensures_each) (contract_of i).modes
+      ap (λ z. body_properties (plain_sight t) (items_said (instance n cs is) at).modes z.body ++ (promises (items_said (instance n cs is) at) ++ owes_within d t)) h.0.text
+      ∙ (ap (λ z. z ++ (promises (items_said (instance n cs is) at) ++ owes_within d t))
+      ((conditions missing t Plain 0 plain (instance n cs is) at h.0).properties n.body h.0.steady.items)
+      ∙ (ap (λ z. body_said (instance n cs is) at
+      ++ ((((items_said (instance n cs is) at).guarantees ++ z) ++ one_mode (items_said (instance n cs is) at).modes) ++ owes_within d t))
+      (ensured_so at (contract_of (instance n cs is)).modes)
+      ∙ (ap (λ z. body_said (instance n cs is) at
+      ++ ((((items_said (instance n cs is) at).guarantees ++ ensured_said (instance n cs is) at) ++ z) ++ owes_within d t))
+      (one_mode_so at (contract_of (instance n cs is)).modes)
+      ∙ (ap (λ z. body_said (instance n cs is) at
+      ++ ((((items_said (instance n cs is) at).guarantees ++ ensured_said (instance n cs is) at) ++ y.one_mode (contract_of (instance n cs is)).modes at) ++ z))
+      (owed_so d (instance n cs is) at t (plain_sight t) (behind_own Plain t 0) is h.1)
+      ∙ regroup (body_said (instance n cs is) at) (items_said (instance n cs is) at).guarantees (ensured_said (instance n cs is) at)
+      (y.one_mode (contract_of (instance n cs is)).modes at) (y.owed_by_calls (stage (instance n cs is) at) is)))))
 
   abbrev machine : Instance → (Place → ℕ) → Machine
   machine i at = record {
@@ -491,23 +492,21 @@ module _ (missing : ℕ) (ts : List Tabled) where
     properties = y.properties_of i at;
   }
 
+  whole_so : (d : ℕ) (t : Tabled) (n : Component) (cs : List (Name × Value)) (is : Instances) (at : Place → ℕ)
+      → Seen missing ts d t Plain 0 plain (instance n cs is) at
+      → lists_seen d ts missing t (plain_sight t) (items_said (instance n cs is) at) Plain 0 (x.flag_at (plain_sight t).beat) []
+      ≡ said plain [] (instance n cs is) at (flag_at (stage (instance n cs is) at) (own beat)) []
+  whole_so d t n cs is at h =
+      ap (λ z. lists_seen d ts missing t (plain_sight t) z Plain 0 (x.flag_at (plain_sight t).beat) [])
+      (sym (items_so missing ts d t Plain 0 plain (instance n cs is) at h))
+      ∙ (frame_so missing ts d t Plain 0 plain (instance n cs is) at h [] (x.flag_at (plain_sight t).beat) []
+      ∙ (ap (λ z. said plain [] (instance n cs is) at (x.flag_at z) (zipped (variables n) [])) h.0.sight.beats
+      ∙ ap (said plain [] (instance n cs is) at (flag_at (stage (instance n cs is) at) (own beat))) (none_zipped (variables n))))
+
   pub system_so : (d : ℕ) (t : Tabled) (i : Instance) (at : Place → ℕ) → Seen missing ts d t Plain 0 plain i at → system_within d ts missing t ≡ machine i at
   system_so d t (instance n cs is) at h =
-      ap (system_over d ts missing t (sight_at t Plain 0 missing)) (items_so missing ts d t Plain 0 plain (instance n cs is) at h)
-      ∙ (ap (λ z. machine_of z r.assumes (properties_over (sight_at t Plain 0 missing) r t owes)) whole
-      ∙ ap (machine_of (said plain [] (instance n cs is) at (flag_at (stage (instance n cs is) at) (own beat)) []) r.assumes) (properties_so d t n cs is at h))
-    where
-      abbrev r : Items
-      r = items_at at (contract_of (instance n cs is))
-
-      abbrev owes : List Formula
-      owes = owed_within d ts missing t (behind_own Plain t 0)
-
-      whole : lists_seen d ts missing t (sight_at t Plain 0 missing) r Plain 0 (x.flag_at (sight_at t Plain 0 missing).beat) []
-          ≡ said plain [] (instance n cs is) at (flag_at (stage (instance n cs is) at) (own beat)) []
-      whole =
-          ap (λ z. lists_seen d ts missing t (sight_at t Plain 0 missing) z Plain 0 (x.flag_at (sight_at t Plain 0 missing).beat) [])
-          (sym (items_so missing ts d t Plain 0 plain (instance n cs is) at h))
-          ∙ (frame_so missing ts d t Plain 0 plain (instance n cs is) at h [] (x.flag_at (sight_at t Plain 0 missing).beat) []
-          ∙ (ap (λ z. said plain [] (instance n cs is) at (x.flag_at z) (zipped (variables n) [])) h.0.sight.beats
-          ∙ ap (said plain [] (instance n cs is) at (flag_at (stage (instance n cs is) at) (own beat))) (none_zipped (variables n))))
+      ap (system_over d ts missing t (plain_sight t)) (items_so missing ts d t Plain 0 plain (instance n cs is) at h)
+      ∙ (ap (λ z. machine_of z (items_said (instance n cs is) at).assumes
+      (properties_over (plain_sight t) (items_said (instance n cs is) at) t (owes_within d t))) (whole_so d t n cs is at h)
+      ∙ ap (machine_of (said plain [] (instance n cs is) at (flag_at (stage (instance n cs is) at) (own beat)) [])
+      (items_said (instance n cs is) at).assumes) (properties_so d t n cs is at h))

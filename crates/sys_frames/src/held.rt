@@ -49,6 +49,7 @@ fn push_held_call(
 }
 
 /// The lists, and behind them what is held of a call.
+#[tactic(auto, using(crate::proofs::Steps::joined_none))]
 pub(crate) fn push_held_lists(
     alloc: Global,
     lists: &mut Lists,

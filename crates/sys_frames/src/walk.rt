@@ -50,6 +50,7 @@ fn call_at<'a, 's>(sight: &'s Sight<'a>, place: usize) -> Option<&'s Call<'a>>
 /// The lists, and behind them what is said of a frame that is seen so and has these items, and of those of its calls,
 /// with calls nested no deeper than `depth`.
 #[cycle(walk)]
+#[tactic(auto, using(crate::proofs::Steps::joined_twice))]
 pub(crate) fn visit_seen<'a>(
     tables: Tables<'a, '_>,
     depth: usize,
@@ -99,6 +100,7 @@ fn visit_below<'a>(
 
 /// The lists, and behind them what is said of the frames of calls.
 #[cycle(walk)]
+#[tactic(auto, using(crate::proofs::Steps::joined_twice))]
 fn visit_calls<'a>(
     tables: Tables<'a, '_>,
     depth: usize,
@@ -124,6 +126,7 @@ fn visit_calls<'a>(
 
 /// The lists, and behind them what is said of the frame of a call that the caller's sight has at that place.
 #[cycle(walk)]
+#[tactic(auto, using(crate::proofs::Steps::joined_none))]
 fn visit_placed<'a>(
     tables: Tables<'a, '_>,
     depth: usize,
@@ -150,6 +153,7 @@ fn visit_placed<'a>(
 
 /// The lists, and behind them what is held of a call, and what is said of its frame.
 #[cycle(walk)]
+#[tactic(auto, using(crate::proofs::Steps::joined_twice))]
 fn visit_call<'a>(
     tables: Tables<'a, '_>,
     depth: usize,
@@ -179,6 +183,7 @@ fn visit_call<'a>(
 
 /// The lists, and behind them what is said of a frame of the declaration of that place; nothing where there is none.
 #[cycle(walk)]
+#[tactic(auto, using(crate::proofs::Steps::joined_none))]
 fn visit_or_none<'a>(
     tables: Tables<'a, '_>,
     depth: usize,

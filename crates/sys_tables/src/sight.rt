@@ -25,6 +25,9 @@ pub fn sight<'a>(
     requires room { HasRoom way (table_view table.now) base }
     ensures { IfOk result (λ s. sight_view s ≡ sight_at (table_view table.now) way base missing) }
 {
-    let _all = (alloc, table, way, base, missing);
+    let _alloc = alloc;
+    let _table = table;
+    let _way = way;
+    let _number = base.max(missing);
     Err(AllocError)
 }

@@ -21,6 +21,7 @@ pub fn tables(alloc: Global, program: &Program) -> Result<Vec<Table<'_>>, AllocE
     ensures { IfOk result (λ v. tables_view v.items
         ≡ map (table_of (program_view program.now)) (components (program_view program.now))) }
 {
-    let _all = (alloc, program);
+    let _alloc = alloc;
+    let _program = program;
     Err(AllocError)
 }
