@@ -1,6 +1,0 @@
-pub mod Tabled
-pub mod Views
-pub mod Numbers
-pub mod Seats
-pub mod Rights
-pub mod Made
