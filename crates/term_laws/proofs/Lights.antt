@@ -130,7 +130,7 @@ module _ (i : Instance) where
   all_light no_more h = tt
   all_light (more a as_) h = (h.0, all_light as_ h.1)
 
-  value_within : (d : Expression) → IsLight i d → is_fixed (constants_of i) d ≡ true →
+  pub value_within : (d : Expression) → IsLight i d → is_fixed (constants_of i) d ≡ true →
       has_sort (sort_of i d) (value_here i d) ≡ true → value_size (value_here i d) ≤ greatest_weight
   value_within d l f h = go (sort_of i d) (value_here i d) refl refl h
     where
@@ -311,14 +311,14 @@ module _ (p : Program) (c : IsChecked p) where
           (text_typed p i v.scope v.of.program (shown x v) x v.clean l) k,
     )
 
-    good_texts : AllByRecursion (GoodText i) (texts (component_of i))
+    pub good_texts : AllByRecursion (GoodText i) (texts (component_of i))
     good_texts =
         all_from_three (ValuedText p home_of) (TextPlacedIn p i) (KnownText p c i u j) (GoodText i) good_text (texts here)
         (valued_texts p c home_of place.is j) (texts_placed_there p (typed_tree p c) home_of place.is j i same) (known_texts p c i u j)
 
     -- ---- occurrences
 
-    abbrev Both : Occurrence → Type 0
+    abbrev pub Both : Occurrence → Type 0
     Both o = Each (Known i) (component_of i) o.standing o.expression × IsLight i o.expression
 
     both_there : (x : Text) → KnownText p c i u j x → GoodText i x → AllByRecursion Both (occurrences (component_of i) x.0 x.1)
@@ -326,7 +326,7 @@ module _ (p : Program) (c : IsChecked p) where
         (each_of_both (Whole (Known i) here) (λ o. IsLight i o.expression) Both (λ o a b. (a, b)) here x.0 x.1 (nested (Known i) here x.0 x.1 k)
         (light_parts i x.0 x.1 g.1))
 
-    all_both : AllByRecursion Both (all_occurrences (component_of i))
+    pub all_both : AllByRecursion Both (all_occurrences (component_of i))
     all_both = all_flat Both (λ x. occurrences here x.0 x.1) (texts here)
         (all_from_both (KnownText p c i u j) (GoodText i) (λ x. AllByRecursion Both (occurrences here x.0 x.1)) both_there (texts here)
         (known_texts p c i u j) good_texts)

@@ -137,7 +137,7 @@ DivisorFits Div w = is_zero (number_of_value w) ≡ false
 DivisorFits Mod w = is_zero (number_of_value w) ≡ false
 DivisorFits o w = Unit {0}
 
-applied_size : (o : Operator) (c : Bool) (v w : Value) (a b : ℕ) → DivisorFits o w → value_size v ≤ a → value_size w ≤ b →
+pub applied_size : (o : Operator) (c : Bool) (v w : Value) (a b : ℕ) → DivisorFits o w → value_size v ≤ a → value_size w ≤ b →
     value_size (apply o v w) ≤ operator_size o c v a w b
 applied_size Add c v w a b d h k = on_two _ (a + b) v w (λ x y e g.
     let s = abs_sum x y in let p : unsigned_abs x ≤ a = subst (λ z. value_size z ≤ a) e h in
@@ -165,7 +165,7 @@ applied_size More c v w a b d h k = no_order _ v w
 applied_size Equal c v w a b d h k = no_equal v w
 applied_size Differs c v w a b d h k = no_not (equal_values v w)
 
-chosen_size : (c v w : Value) (a b : ℕ) → value_size v ≤ a → value_size w ≤ b → value_size (choose c v w) ≤ max 1 (max a b)
+pub chosen_size : (c v w : Value) (a b : ℕ) → value_size v ≤ a → value_size w ≤ b → value_size (choose c v w) ≤ max 1 (max a b)
 chosen_size absent v w a b h k = omega arith
 chosen_size (flag true) v w a b h k = omega (arith, h)
 chosen_size (flag false) v w a b h k = omega (arith, k)

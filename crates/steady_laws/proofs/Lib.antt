@@ -1,0 +1,7 @@
+mod Small
+mod Steady
+mod Declarations
+mod Kept
+mod Worths
+mod Distinct
+mod Constants

@@ -1,0 +1,3 @@
+pub mod Kept
+pub mod Steady
+pub mod Laws
