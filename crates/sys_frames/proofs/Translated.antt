@@ -246,10 +246,10 @@ module _ (missing : ℕ) (ts : List Tabled) where
   module _ (s : Sight) (ms : List Mode) (g : Stage) (h : IsSightOf s ms g) (k : Instance) where
     names_given : (xs : List Name) → map (name_part s) xs ≡ map (t.name_part g) xs
     names_given [] = refl
-    names_given (x ∷ xs) =
-        ap (λ z. variable z (x.name_number s x) ∷ map (name_part s) xs) (h.sorts x)
-        ∙ (ap (λ z. variable (sort_of_name g.place x) z ∷ map (name_part s) xs) (h.numbers x)
-        ∙ ap (λ l. t.name_part g x ∷ l) (names_given xs))
+    names_given (n ∷ xs) =
+        ap (λ z. variable z (x.name_number s n) ∷ map (name_part s) xs) (h.sorts n)
+        ∙ (ap (λ z. variable (sort_of_name g.place n) z ∷ map (name_part s) xs) (h.numbers n)
+        ∙ ap (λ l. t.name_part g n ∷ l) (names_given xs))
 
     shared_so : (m : Manner) (ws : List Variable) → HasNames m k
         → zipped ((component_of k).outputs ++ ws) (outputs_given s m) ≡ shared_outputs g m k
@@ -308,7 +308,7 @@ module _ (missing : ℕ) (ts : List Tabled) where
   abbrev callee_said : List ℕ → (Place → ℕ) → Stage → Site → Instance → Lists
   callee_said path at g c k = said c.manner (path ++ c.number ∷ []) k (below_call c.number at) (active_said g c) (from_call g c k)
 
-  module _ (s : Sight) (i : Instance) (at : Place → ℕ) (from : ℕ) (ms : List Mode) (seen : IsSightOf s ms (stage i at)) (path : List ℕ) where
+  module _ (s : Sight) (i : Instance) (at : Place → ℕ) (from : ℕ) (ms : List Mode) (sees : IsSightOf s ms (stage i at)) (path : List ℕ) where
     abbrev now : Stage
     now = stage i at
 
@@ -322,7 +322,7 @@ module _ (missing : ℕ) (ts : List Tabled) where
         → active_where s ms c h.call ≡ active_said now c
     active_so j q c k h =
         ap (λ n. same (x.flag_at n) (runs_where s ms c.clock c.manner)) h.beats
-        ∙ ap (same (flag_at now (in_call c.number (own beat)))) ((conditions_are s ms now seen).calls c h.manner)
+        ∙ ap (same (flag_at now (in_call c.number (own beat)))) ((conditions_are s ms now sees).calls c h.manner)
 
     call_so : (d j : ℕ) (q : Linked) (c : Site) (k : Instance) (h : SeesCall missing i at s from j q c k) (u : Tabled) → slice_get ts q.place ≡ Some u
         → IH d u (way_of q.site.manner) (frame_base from q) c.manner k (below_call c.number at)
@@ -337,7 +337,7 @@ module _ (missing : ℕ) (ts : List Tabled) where
         ∙ (ap (λ z. said c.manner (path ++ c.number ∷ []) k (below_call c.number at) (active_where s ms z h.call) (zipped (variables (component_of k)) (given_by s ms z)))
         h.site
         ∙ (ap (λ z. said c.manner (path ++ c.number ∷ []) k (below_call c.number at) z (zipped (variables (component_of k)) (given_by s ms c))) (active_so j q c k h)
-        ∙ ap (said c.manner (path ++ c.number ∷ []) k (below_call c.number at) (active_said now c)) (given_so s ms now seen k c h.arguments h.many h.names))))))
+        ∙ ap (said c.manner (path ++ c.number ∷ []) k (below_call c.number at) (active_said now c)) (given_so s ms now sees k c h.arguments h.many h.names))))))
 
   abbrev held_slots : Instance → List ℕ → Site → Instance → List Slot
   held_slots i path c k = map (slot i path) (held_cells c (component_of k) c.manner)
@@ -378,18 +378,18 @@ module _ (missing : ℕ) (ts : List Tabled) where
         (sees_modes (sight_at t v b missing) (instance n cs is) at h.0.sight) path 0 t.calls is z) h.1)
         ∙ parts_joined m path n cs is at active (zipped (variables n) ps)))
 
-    calls_so : (d : ℕ) (i : Instance) (at : Place → ℕ) (s : Sight) (from : ℕ) (ms : List Mode) (seen : IsSightOf s ms (stage i at)) (path : List ℕ)
+    calls_so : (d : ℕ) (i : Instance) (at : Place → ℕ) (s : Sight) (from : ℕ) (ms : List Mode) (sees : IsSightOf s ms (stage i at)) (path : List ℕ)
         (j : ℕ) (qs : List Linked) (is : Instances) → CallsSeen missing ts (suc d) i at s from j qs is
         → calls_lists (frames d) ts s ms from j qs ≡ said_of_calls i path is (stage i at)
-    calls_so d i at s from ms seen path j [] no_instances h = refl
-    calls_so d i at s from ms seen path j (q ∷ qs) no_instances h = absurd h
-    calls_so d i at s from ms seen path j [] (with_instance c k is) h = absurd h
-    calls_so d i at s from ms seen path j (q ∷ qs) (with_instance c k is) h =
+    calls_so d i at s from ms sees path j [] no_instances h = refl
+    calls_so d i at s from ms sees path j (q ∷ qs) no_instances h = absurd h
+    calls_so d i at s from ms sees path j [] (with_instance c k is) h = absurd h
+    calls_so d i at s from ms sees path j (q ∷ qs) (with_instance c k is) h =
         ap (λ z. joined z (calls_lists (frames d) ts s ms from (suc j) qs))
-        (call_so s i at from ms seen path d j q c k h.0 h.1.0 h.1.1
+        (call_so s i at from ms sees path d j q c k h.0 h.1.0 h.1.1
         (frame_so d h.1.0 (way_of q.site.manner) (frame_base from q) c.manner k (below_call c.number at) h.1.2))
         ∙ (ap (joined (joined (held_said i path (stage i at) c k) (callee_said path at (stage i at) c k)))
-        (calls_so d i at s from ms seen path (suc j) qs is h.2)
+        (calls_so d i at s from ms sees path (suc j) qs is h.2)
         ∙ calls_joined i path c k is at)
 
 -- ---- the system
