@@ -97,13 +97,16 @@ abbrev pub so_far_next : Sight → Option ℕ → List Formula → List Formula
 so_far_next s None assumes = []
 so_far_next s (Some n) assumes = so_far_condition s n assumes ∷ []
 
+abbrev pub start_shapes : List Start → List Shape
+start_shapes ss = map (λ a. shape_of Flags) ss
+
 -- the beat, the streams, what `pre` and `->` keep, and whether the assumptions were true so far
 abbrev pub own_shapes : Sight → Tabled → Option ℕ → List Shape
 own_shapes s t n =
     shape_of Flags
     ∷ map (λ v. shape_of v.variable.sort) t.streams
     ++ (map (λ u. shape_of (sort_by s u.operand)) t.memories
-    ++ (map (λ (a : Start). shape_of Flags) t.starts ++ so_far_shapes n))
+    ++ (start_shapes t.starts ++ so_far_shapes n))
 
 -- where it is active, and what its caller gives
 abbrev pub own_lists : Tabled → Sight → Items → Option ℕ → Formula → List Part → Lists

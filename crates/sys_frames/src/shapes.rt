@@ -1,15 +1,13 @@
 //! The shapes of the variables of a frame.
 
 ghost use Rattle.std.specs.Prelude.{◌≡◌, ◌++◌, OnOk, map};
-ghost use Rattle.lus_tree.specs.declared.place.Sort.TheVariants.{Bool as Flags};
-ghost use Rattle.lus_meaning.specs.Occurrences.{Start};
 ghost use Rattle.sys_meaning.specs.System.{shape_of};
 ghost use Rattle.sys_parts.specs.Constants.{constant_view};
 ghost use Rattle.sys_conditions.specs.Views.{memory_view, start_view};
 ghost use Rattle.sys_tables.specs.Views.{named_view, table_view};
 ghost use Rattle.sys_texts.specs.Texts.{sort_by};
 ghost use Rattle.sys_texts.specs.Views.{output_view, sight_view};
-ghost use Rattle.sys_frames.specs.Walked.{held_shapes, own_shapes, so_far_shapes};
+ghost use Rattle.sys_frames.specs.Walked.{held_shapes, own_shapes, so_far_shapes, start_shapes};
 
 use kind_num::Shape;
 use lus_tree::Sort;
@@ -59,7 +57,7 @@ fn push_memories(
 /// The shapes, and behind them those of starts.
 fn push_starts(shapes: &mut Vec<Shape>, starts: &[Start<'_>]) -> Result<(), AllocError>
     ensures { OnOk result (shapes.new.items ≡ shapes.old.items
-        ++ map (λ (a : Start). shape_of Flags) (map start_view starts.now)) }
+        ++ start_shapes (map start_view starts.now)) }
 {
     for _start in starts {
         shapes.push(Shape::Flag)?;

@@ -26,6 +26,7 @@ use crate::walk::visit_seen;
 use lus_limits::{SystemSize, Way, system_sizes};
 use lus_streams::owner::Owner;
 use lus_tree::Program;
+use sight_laws::laws::{constants_are_known, sights_are_sights};
 use std::alloc::{AllocError, Global};
 use sys_contracts::items::{Items, push_copies};
 use sys_parts::formulas::flag;
@@ -160,6 +161,8 @@ pub fn system(alloc: Global, program: &Program, node: Owner<'_>) -> Result<Syste
     ensures exact { IfOk result (λ s. system_view s
         ≡ system_of (instance_of (program_view program.now) (owner_view node.entry))) }
 {
+    constants_are_known();
+    sights_are_sights();
     let all = tables(alloc, program)?;
     let sizes = system_sizes(alloc, program)?;
     let place = place_named(&all, node.name());
