@@ -8,7 +8,7 @@ use Rattle.lus_tree.specs.declared.place.Sort.TheVariants.{Bool as Flags, Int as
 use Rattle.lus_tree.specs.Tree.{Variable, Expression, Expressions, no_more, more}
 use Rattle.lus_meaning.specs.Value.{Value, absent, flag, whole, Instants, is, latest, choose}
 use Rattle.lus_meaning.specs.Frame.{entry, call_frame}
-use Rattle.lus_meaning.specs.Scene.{Clock, Site, Scene, component_of, call_instance, is_on}
+use Rattle.lus_meaning.specs.Scene.{Clock, base, Site, Scene, component_of, call_instance, is_on}
 use Rattle.lus_meaning.specs.Meaning.{value, values, call_outputs, held_outputs}
 use Rattle.lus_meaning.specs.Run.{is_typed, sort_of_name, at_instant, active}
 use Rattle.lus_meaning.proofs.Agree.{latest_agree}
@@ -61,6 +61,10 @@ module _ (s : Scene) (test : Key → Bool) (number : Place → ℕ) (modes : Kno
       ap is_there (shows.names x e d)
       ∙ there_where (sort_of_name s.place x) (is_on s (clock_here s.place (Passes test) x) t) (entry s.frame x t) (shows.types x e d)
       ∙ sym (shows.clocks x e d)
+
+  -- what the modes ask is absent where the base clock is off
+  asked_absent : clock_on places base ≡ false → AllByRecursion (λ m. worth row false m.1 ≡ absent) modes
+  asked_absent o = shows.asked_off (sym (ap (is true) shows.beats ∙ true_flag (s.beat t)) ∙ o)
 
   outputs_seen : (k : ℕ) (vs : List Variable) →
       AllByRecursion (λ v. row (number (in_call k (own (named v.name.text)))) ≡ entry (call_frame s.frame k) v.name.text t) vs →
@@ -138,7 +142,7 @@ module _ (s : Scene) (test : Key → Bool) (number : Place → ℕ) (modes : Kno
           ∙ value_seen s (Passes test) places sight.modes t row_is e c h y
       go (inr n) =
           ap (λ k. worth row k (resolution (numbering s number modes) e)) n
-          ∙ worth_off (numbering s number modes) row (Passes test) clocked shows.asked_off c e h (o ∙ n)
+          ∙ worth_off (numbering s number modes) row (Passes test) clocked asked_absent c e h (o ∙ n)
           ∙ sym (value_off s (Passes test) t shows.types calls_off shows.modes_off e c h n)
 
 pub values_by_rows : ValuesByRows
@@ -149,4 +153,5 @@ pub absent_by_row : (s : Scene) (test : Key → Bool) (number : Place → ℕ) (
     clock_on (row_by number row) c ≡ is_on s c t → is_on s c t ≡ false → worth row (is_on s c t) (resolution (numbering s number modes) e) ≡ absent
 absent_by_row s test number modes row t shows c e h o n =
     ap (λ k. worth row k (resolution (numbering s number modes) e)) n
-    ∙ worth_off (numbering s number modes) row (Passes test) (clocked s test number modes row t shows) shows.asked_off c e h (o ∙ n)
+    ∙ worth_off (numbering s number modes) row (Passes test) (clocked s test number modes row t shows)
+    (asked_absent s test number modes row t shows) c e h (o ∙ n)

@@ -8,7 +8,7 @@ use Rattle.lus_tree.specs.declared.expression.Operator.{Operator}
 use Rattle.lus_tree.specs.declared.expression.Operator.TheVariants.{Implies, Or, Xor, And, Less, AtMost, Equal, Differs, AtLeast, More, Add, Sub, Mul, Div, Mod}
 use Rattle.lus_tree.specs.Tree.{Name, text_of, Expression, truth, number, name, negation, minus, pre, arrow, binary, choice, sampled, merged, call, condact, mode_name}
 use Rattle.lus_meaning.specs.Value.{Value, absent, flag, whole, is, choose, apply, not_value, minus_value}
-use Rattle.lus_meaning.specs.Scene.{Clock, constants_of}
+use Rattle.lus_meaning.specs.Scene.{Clock, base, constants_of}
 use Rattle.lus_meaning.specs.Meaning.{mode_key}
 use Rattle.sys_meaning.specs.Slot.{named, own}
 use Rattle.sys_meaning.specs.Items.{Key, Known}
@@ -72,7 +72,7 @@ module _ (g : Numbering) (s : SlotValues) where
   latest_off k a (y ∷ ys) = refl
 
   module _ (ModeAt : Key → Type 0) (clocked : IsClocked g.place ModeAt (row_by g.number s))
-      (modes : AllByRecursion (λ m. worth s false m.1 ≡ absent) g.modes) where
+      (modes : clock_on (row_by g.number s) base ≡ false → AllByRecursion (λ m. worth s false m.1 ≡ absent) g.modes) where
     abbrev row : Row
     row = row_by g.number s
 
@@ -94,7 +94,8 @@ module _ (g : Numbering) (s : SlotValues) where
         (clocked x.text h.0.stream h.0.declared ∙ ap (clock_on row) h.0.clock ∙ o)
     worth_off c (call p k f as_) h o = output_off k (outputs_at g k)
     worth_off c (condact p k a f as_ ds) h o = latest_off k (resolution g a) (outputs_at g k)
-    worth_off c (mode_name p d m) h o = mode_off (mode_key (option_to_list (option_map text_of d), m.text)) g.modes modes
+    worth_off c (mode_name p d m) h o =
+        mode_off (mode_key (option_to_list (option_map text_of d), m.text)) g.modes (modes (sym (ap (clock_on row) h.0) ∙ o))
 
 pub worth_is_absent : WorthIsAbsent
 worth_is_absent g test s clocked modes c e h o = worth_off g s (Passes test) clocked modes c e h o

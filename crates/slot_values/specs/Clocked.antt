@@ -46,9 +46,9 @@ RightsAreSeen =
     Stands g.place (Passes test) c e → clock_on (row_by g.number s) c ≡ true →
     map (worth s true) (right_resolutions g e) ≡ seen_right (sight_by g s) e
 
--- Off its clock it is absent, where the resolutions of modes are.
+-- Off its clock it is absent, where the resolutions of modes are so off the base clock.
 abbrev pub WorthIsAbsent : Type 0
 WorthIsAbsent =
     (g : Numbering) (test : Key → Bool) (s : SlotValues) → IsClocked g.place (Passes test) (row_by g.number s) →
-    AllByRecursion (λ m. worth s false m.1 ≡ absent) g.modes → (c : Clock) (e : Expression) → Stands g.place (Passes test) c e →
-    clock_on (row_by g.number s) c ≡ false → worth s false (resolution g e) ≡ absent
+    (clock_on (row_by g.number s) base ≡ false → AllByRecursion (λ m. worth s false m.1 ≡ absent) g.modes) → (c : Clock) (e : Expression) →
+    Stands g.place (Passes test) c e → clock_on (row_by g.number s) c ≡ false → worth s false (resolution g e) ≡ absent

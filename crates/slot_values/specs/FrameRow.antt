@@ -53,7 +53,7 @@ pub record Shows (s : Scene) (test : Key → Bool) (number : Place → ℕ) (mod
   pub modes_on : (d : Option Name) (m : Name) → test (option_to_list d, m) ≡ true → s.beat t ≡ true →
       seen_mode (sight_by (numbering s number modes) row) (option_to_list d, m) ≡ mode_stream s d m t
   pub modes_off : (d : Option Name) (m : Name) → s.beat t ≡ false → mode_stream s d m t ≡ absent
-  pub asked_off : AllByRecursion (λ m. worth row false m.1 ≡ absent) modes
+  pub asked_off : s.beat t ≡ false → AllByRecursion (λ m. worth row false m.1 ≡ absent) modes
 
 -- In such a row the resolution of an expression is worth the expression's value at the instant, on its clock and off it.
 abbrev pub ValuesByRows : Type 0

@@ -1,5 +1,5 @@
 -- The frames of calls stand where their callers' layouts say.
-use Rattle.std.proofs.Common.{◌≡◌, ℕ, ◌+◌, ◌++◌, length, refl, sym, ap, ◌∙◌}
+use Rattle.std.proofs.Common.{ℕ, ◌+◌, ◌++◌, length, refl, sym, ap, ◌∙◌}
 use Rattle.lus_tree.specs.Tree.{Program}
 use Rattle.lus_meaning.specs.Program.{all_sites}
 use Rattle.lus_meaning.specs.Scene.{Site, Instance, component_of}

@@ -1,16 +1,14 @@
 -- The numbers of a frame's own variables, kind by kind.
-use Rattle.std.proofs.Common.{◌≡◌, ℕ, zero, suc, ◌+◌, ◌<◌, ◌≤◌, Bool, true, false, cond, ◌&&◌, ◌||◌, List, [], ◌∷◌, ◌++◌, map, length, Option, Some, None, is_some, refl, sym, ap, ◌∙◌, subst, arith, slice_get}
+use Rattle.std.proofs.Common.{◌≡◌, ℕ, zero, suc, ◌+◌, Bool, true, false, cond, ◌&&◌, ◌||◌, List, [], ◌∷◌, map, length, Option, Some, None, is_some, refl, sym, ap, ◌∙◌, arith, slice_get}
 use Rattle.std.specs.Prelude.{◌==◌, nat_lt}
-use Rattle.std.specs.List.{AllByRecursion}
 use Rattle.std.specs.Str.{bytes_eq}
 use Rattle.std.proofs.lemmas.Bool.{eq-eqb, ne_eqb}
 use Rattle.std.proofs.lemmas.Bool.Decides.{nat_tests}
 use Rattle.lus_tree.specs.Tree.{Name, Variable, Expression, ContractStatement, Component}
 use Rattle.lus_meaning.specs.Depends.{named_in}
 use Rattle.lus_meaning.specs.Scene.{Manner, plain, while_true, as_import, Site, Instance, no_instance}
-use Rattle.lus_meaning.specs.Slots.{Cell, beat_cell, name_cell, sofar_cell, Slot, slot, contract_cells, held_each, held_cells}
+use Rattle.lus_meaning.specs.Slots.{Cell, name_cell, Slot, slot, contract_cells, held_each, held_cells}
 use Rattle.lus_meaning.specs.WellMade.{AreDistinct}
-use Rattle.lus_meaning.proofs.Lists.{both_parts}
 use Rattle.name_table.specs.Names.{number_of}
 use Rattle.lus_streams.specs.Streams.{names_of}
 use Rattle.sys_meaning.specs.Slot.{Spot, named, so_far, held, Place, own, spot_of, place_of, same_spot, same_place}

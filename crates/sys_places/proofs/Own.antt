@@ -1,13 +1,11 @@
 -- The variables of a frame's own stand one behind the other.
-use Rattle.std.proofs.Common.{◌≡◌, ℕ, zero, suc, ◌+◌, false, List, [], ◌∷◌, ◌++◌, map, length, append_assoc, Option, Some, None, refl, sym, ap, ◌∙◌, subst, arith, slice_get}
-use Rattle.std.specs.Prelude.{Contains, cond}
+use Rattle.std.proofs.Common.{◌≡◌, ℕ, suc, ◌+◌, false, List, [], ◌∷◌, ◌++◌, map, length, append_assoc, Option, Some, None, refl, sym, ap, ◌∙◌, subst, slice_get}
+use Rattle.std.specs.Prelude.{cond}
 use Rattle.std.specs.List.{AllByRecursion}
 use Rattle.std.proofs.lemmas.Option.{none-some}
-use Rattle.lus_tree.specs.Tree.{Name, ContractStatement, Component, Program}
-use Rattle.lus_meaning.specs.ClockFaults.{components}
+use Rattle.lus_tree.specs.Tree.{Name, ContractStatement, Component}
 use Rattle.lus_meaning.specs.Occurrences.{Memory, Start, memories, starts}
 use Rattle.lus_meaning.specs.Program.{in_order}
-use Rattle.lus_meaning.specs.Refusals.{IsChecked}
 use Rattle.lus_meaning.specs.Scene.{Manner, plain, while_true, as_import, Instance, Instances, instance, no_instances, with_instance, component_of, variables}
 use Rattle.lus_meaning.specs.Slots.{Cell, beat_cell, name_cell, memory_cell, start_cell, sofar_cell, Slot, slot, own_cells, contract_cells, held_cells, call_slots}
 use Rattle.lus_meaning.proofs.Exists.{length_mapped}
@@ -20,7 +18,6 @@ use Rattle.sys_meaning.specs.Slot.{Place, own, spot_of, place_of, same_place, be
 use Rattle.sys_meaning.specs.System.{has_so_far}
 use Rattle.sys_meaning.specs.WellTyped.{IsKnown, TreeFits}
 use Rattle.sys_meaning.proofs.Cells.{Apart}
-use Rattle.sys_meaning.proofs.Follows.{some_same, none_some}
 use Rattle.sys_meaning.proofs.PathStates.{at_index}
 use Rattle.path_laws.proofs.Main.{each_is_well_typed}
 use Rattle.path_laws.proofs.Numbers.{CountedFrom, in_order_counted}

@@ -1,17 +1,16 @@
 -- The slots of a frame, call by call.
-use Rattle.std.proofs.Common.{◌≡◌, ℕ, zero, suc, ◌+◌, ◌<◌, ◌≤◌, List, [], ◌∷◌, ◌++◌, map, length, length-append, append_assoc, Option, Some, None, refl, sym, ap, ◌∙◌, subst, arith}
-use Rattle.std.specs.Prelude.{false, is_none, not, slice_get}
+use Rattle.std.proofs.Common.{◌≡◌, ℕ, zero, suc, ◌+◌, ◌<◌, ◌≤◌, List, [], ◌∷◌, ◌++◌, map, length, length-append, append_assoc, Some, sym, ap, ◌∙◌, subst, arith}
+use Rattle.std.specs.Prelude.{false, is_none, not}
 use Rattle.std.specs.List.{AllByRecursion}
 use Rattle.std.proofs.lemmas.Option.{none-some}
-use Rattle.lus_tree.specs.Tree.{Name, Expression, Variable, ContractStatement, Component, Program}
+use Rattle.lus_tree.specs.Tree.{Name, Component, Program}
 use Rattle.lus_meaning.specs.ClockFaults.{components}
 use Rattle.lus_meaning.specs.Refusals.{IsChecked}
 use Rattle.std.specs.Prelude.{Contains}
-use Rattle.lus_meaning.specs.Program.{in_order, all_sites, constants_in, instances_with, instance_of}
+use Rattle.lus_meaning.specs.Program.{all_sites, instances_with, instance_of}
 use Rattle.lus_meaning.specs.RuleLaws.{sites_width}
-use Rattle.lus_meaning.specs.Occurrences.{memories, starts}
-use Rattle.lus_meaning.specs.Scene.{Manner, plain, while_true, as_import, Site, Instance, instance, component_of, variables}
-use Rattle.lus_meaning.specs.Slots.{Cell, name_cell, memory_cell, start_cell, Slot, slot, own_cells, contract_cells, held_each, held_cells, slots_in}
+use Rattle.lus_meaning.specs.Scene.{Manner, as_import, Site, Instance, component_of}
+use Rattle.lus_meaning.specs.Slots.{Slot, slot, own_cells, held_cells, slots_in}
 use Rattle.lus_meaning.proofs.Exists.{length_mapped}
 use Rattle.lus_meaning.proofs.Lists.{both_parts}
 use Rattle.rule_laws.proofs.Truths.{same_some}
@@ -25,12 +24,11 @@ use Rattle.lus_limits.proofs.Widths.{width_by_text}
 use Rattle.lus_layouts.specs.Layouts.{calls_from, layout_of, own_count}
 use Rattle.lus_layouts.specs.declared.placing.CallSlots.{CallSlots}
 use Rattle.lus_layouts.proofs.Placed.{layouts_hold}
-use Rattle.sys_meaning.specs.Slot.{Place, in_call, place_of, same_place}
+use Rattle.sys_meaning.specs.Slot.{Place, place_of, same_place}
 use Rattle.sys_meaning.specs.WellTyped.{IsKnown, TreeFits, CallsFit}
-use Rattle.sys_meaning.proofs.Cells.{everywhere}
 use Rattle.path_laws.proofs.Main.{each_is_well_typed}
 use Rattle.path_laws.proofs.Numbers.{CountedFrom}
-use Rattle.path_laws.proofs.OnePlace.{behind, tree_slots, tree_calls, slots_are, own_all}
+use Rattle.path_laws.proofs.OnePlace.{behind, tree_slots, tree_calls, slots_are}
 use Rattle.sys_places.specs.Places.{number_from, StandsAt, OfEachCall, AtEachPlace}
 use Rattle.sys_places.proofs.Cuts.{has_room, held_begins, frame_begins, next_begins}
 use Rattle.sys_places.proofs.Numbers.{NoneAt, call_of, none_of_others}

@@ -1,5 +1,5 @@
 -- Whose the slots of a frame are: its own, or those of a call.
-use Rattle.std.proofs.Common.{◌≡◌, ℕ, false, List, [], ◌∷◌, map, Option, Some, None, refl, sym, ◌∙◌}
+use Rattle.std.proofs.Common.{◌≡◌, ℕ, List, [], ◌∷◌, map, Option, Some, None, refl, sym, ◌∙◌}
 use Rattle.std.specs.List.{AllByRecursion}
 use Rattle.std.proofs.lemmas.Option.{none-some}
 use Rattle.lus_tree.specs.Tree.{Expression, Variable, ContractStatement, Component, Program}
@@ -8,7 +8,7 @@ use Rattle.lus_meaning.specs.Program.{in_order, all_sites, constants_in, instanc
 use Rattle.lus_meaning.specs.Scene.{Manner, plain, while_true, as_import, Site, Instance, instance, variables}
 use Rattle.lus_meaning.specs.Slots.{Cell, name_cell, memory_cell, start_cell, Slot, slot, own_cells, contract_cells, held_each, held_cells}
 use Rattle.lus_limits.specs.Instances.{instance_called_so}
-use Rattle.sys_meaning.specs.Slot.{Place, in_call, place_of, same_place}
+use Rattle.sys_meaning.specs.Slot.{Place, in_call}
 use Rattle.sys_meaning.proofs.Cells.{everywhere}
 use Rattle.path_laws.proofs.OnePlace.{behind, own_all}
 use Rattle.sys_places.proofs.Numbers.{NoneAt, call_of, IsOf, none_of_others}

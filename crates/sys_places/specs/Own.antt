@@ -1,5 +1,5 @@
 -- Where the variables of a frame's own stand, and those that it has of its calls.
-use Rattle.std.specs.Prelude.{◌≡◌, ℕ, zero, suc, ◌+◌, ◌<◌, ◌≤◌, nat_lt, cond, List, length, slice_get, Option, Some}
+use Rattle.std.specs.Prelude.{◌≡◌, ℕ, zero, suc, ◌+◌, ◌<◌, ◌≤◌, nat_lt, cond, List, length, slice_get, Some}
 use Rattle.lus_tree.specs.Tree.{Name, Expression, Variable, Component, Program}
 use Rattle.lus_meaning.specs.Depends.{named_in}
 use Rattle.lus_meaning.specs.Occurrences.{memories, starts}

@@ -1,0 +1,9 @@
+pub mod EachPart
+pub mod Wholes
+pub mod Waiting
+pub mod Turns
+pub mod Orders
+pub mod Evaluations
+pub mod FrameShown
+pub mod ModesShown
+pub mod RowFrames

@@ -1,0 +1,3 @@
+pub mod Resolvings
+pub mod Rows
+pub mod Laws
