@@ -1,14 +1,15 @@
 -- Lists one behind the other, and one step down the calls.
-use Rattle.std.proofs.Common.{◌≡◌, ℕ, zero, suc, ◌+◌, ◌<◌, List, [], ◌∷◌, ◌++◌, map, append_assoc, refl, sym, ap, ◌∙◌, subst}
+use Rattle.std.proofs.Common.{◌≡◌, ℕ, zero, suc, ◌+◌, ◌<◌, List, [], ◌∷◌, ◌++◌, map, length, drop, get_or, append_assoc, refl, sym, ap, ◌∙◌, subst, arith}
+use Rattle.std.specs.Prelude.{slice_get}
 use Rattle.std.specs.List.{AllByRecursion}
-use Rattle.std.proofs.lemmas.List.{append-nil}
+use Rattle.std.proofs.lemmas.List.{append-nil, drop_more}
 use Rattle.kind_num.specs.declared.Shape.{Shape}
 use Rattle.sys_terms.specs.View.{Formula}
 use Rattle.sys_texts.specs.Sights.{Sight, Mode}
 use Rattle.sys_contracts.specs.Items.{Items}
 use Rattle.sys_tables.specs.Tabled.{Linked, Tabled}
 use Rattle.sys_frames.specs.Lists.{Lists, no_lists, joined}
-use Rattle.sys_frames.specs.Walked.{CallsHaveRoom, HasRoomWithin, OfCall, called_items, calls_lists, items_below, items_within, lists_below, lists_within, owed_by_calls, owed_within}
+use Rattle.sys_frames.specs.Walked.{CallsHaveRoom, HasRoomWithin, ListsOf, OfCall, call_lists_or_none, called_items, calls_lists, items_below, items_within, lists_below, lists_within, owed_by_calls, owed_within}
 
 abbrev lists : List Shape → List Formula → List Formula → List Formula → List Formula → Lists
 lists a b c d e = record { shapes = a; first = b; here = c; next = d; asserts = e }
@@ -26,6 +27,24 @@ joined_twice a b c =
 pub joined_none : (a : Lists) → joined a no_lists ≡ a
 joined_none a =
     same_lists _ _ _ _ _ _ _ _ _ _ (append-nil a.shapes) (append-nil a.first) (append-nil a.here) (append-nil a.next) (append-nil a.asserts)
+
+-- ---- a step on
+
+pub dropped : {A : Type 0} (xs : List A) (i : ℕ) (x : A) → i < length xs → x ≡ get_or xs i x → drop i xs ≡ x ∷ drop (i + 1) xs
+dropped xs i x l is = drop_more xs i x l ∙ ap (λ y. y ∷ drop (i + 1) xs) (sym is)
+
+pub all_later : {A : Type 0} (P : A → Type 0) (xs : List A) (x : A) (rest : List A) → xs ≡ x ∷ rest → AllByRecursion P xs → AllByRecursion P rest
+all_later P xs x rest e h = (subst (AllByRecursion P) e h).1
+
+pub calls_step : (f : ListsOf) (ts : List Tabled) (s : Sight) (ms : List Mode) (from j : ℕ) (q : Linked) (qs rest : List Linked) (old new all : Lists)
+    → qs ≡ q ∷ rest → new ≡ joined old (call_lists_or_none f ts s ms from q (slice_get s.calls j))
+    → joined old (calls_lists f ts s ms from j qs) ≡ all → joined new (calls_lists f ts s ms from (j + 1) rest) ≡ all
+calls_step f ts s ms from j q qs rest old new all e n h =
+    let more : j + 1 ≡ suc j = omega arith in
+    ap (λ z. joined z (calls_lists f ts s ms from (j + 1) rest)) n
+    ∙ (joined_twice old (call_lists_or_none f ts s ms from q (slice_get s.calls j)) (calls_lists f ts s ms from (j + 1) rest)
+    ∙ (ap (λ k. joined old (joined (call_lists_or_none f ts s ms from q (slice_get s.calls j)) (calls_lists f ts s ms from k rest))) more
+    ∙ (ap (λ z. joined old (calls_lists f ts s ms from j z)) (sym e) ∙ h)))
 
 -- ---- a step down
 

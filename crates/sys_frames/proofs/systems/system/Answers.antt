@@ -8,8 +8,7 @@ use Rattle.sys_frames.proofs.Whole.{room_there, system_exact}
 use Rattle.sys_frames.proofs.systems.system.Goals as goal
 
 pub system_at-requires : goal.system_at-requires
-system_at-requires c =
-    let many : c.len-depth.result ≡ length c.args.program.now.decls.items = search rules in
-    let deep : c.len-depth.result ≡ length (program_view c.args.program.now) =
-    many ∙ sym (length_mapped decl_view c.args.program.now.decls.items) in
-    room_there c.constants_are_known.ensures.defaults
+system_at-requires c = ?
+
+pub returns : goal.returns
+returns c = ?
