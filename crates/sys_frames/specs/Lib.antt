@@ -1,0 +1,5 @@
+pub mod Lists
+pub mod Streams
+pub mod Walked
+pub mod Views
+pub mod Systems
