@@ -24,24 +24,24 @@ line_and_more old mid new line text more e f g =
 
 -- ---- verdicts
 
-module _ {X : Type 0} (d : Instance) (label : X → List ℕ) (properties : List X) (outcomes : List Outcome) where
+module _ {X : Type 0} (place : Instance) (label : X → List ℕ) (properties : List X) (outcomes : List Outcome) where
   abbrev pub report_from : ℕ → List Line
-  report_from i = verdict_report d (map label (drop i properties)) (outcomes_view (drop i outcomes))
+  report_from i = verdict_report place (map label (drop i properties)) (outcomes_view (drop i outcomes))
 
   pub report_next : (i : ℕ) (p : X) (o : Outcome) → i < length properties → p ≡ get_or properties i p → i < length outcomes → o ≡ get_or outcomes i o
-      → (old grown all : List Line) → old ++ report_from i ≡ all → grown ≡ old ++ verdict_lines d (label p) (outcome_view o)
+      → (old grown all : List Line) → old ++ report_from i ≡ all → grown ≡ old ++ verdict_lines place (label p) (outcome_view o)
       → grown ++ report_from (i + 1) ≡ all
   report_next i p o a b c d old grown all e g =
       let x : drop i properties ≡ p ∷ drop (i + 1) properties = dropped properties i p a b in
       let y : drop i outcomes ≡ o ∷ drop (i + 1) outcomes = dropped outcomes i o c d in
-      let f : report_from i ≡ verdict_lines d (label p) (outcome_view o) ++ report_from (i + 1) =
-      ap (λ l. verdict_report d (map label l) (outcomes_view (drop i outcomes))) x
-      ∙ ap (λ l. verdict_report d (map label (p ∷ drop (i + 1) properties)) (outcomes_view l)) y in
-      add_one old (verdict_lines d (label p) (outcome_view o)) (report_from (i + 1)) all grown (sym (ap (λ l. old ++ l) f) ∙ e) g
+      let f : report_from i ≡ verdict_lines place (label p) (outcome_view o) ++ report_from (i + 1) =
+      ap (λ l. verdict_report place (map label l) (outcomes_view (drop i outcomes))) x
+      ∙ ap (λ l. verdict_report place (map label (p ∷ drop (i + 1) properties)) (outcomes_view l)) y in
+      add_one old (verdict_lines place (label p) (outcome_view o)) (report_from (i + 1)) all grown (sym (ap (λ l. old ++ l) f) ∙ e) g
 
   pub report_done : (i : ℕ) → length properties ≤ i → (old all : List Line) → old ++ report_from i ≡ all → old ≡ all
   report_done i le old all e =
-      nothing_more old all (sym (ap (λ l. old ++ verdict_report d (map label l) (outcomes_view (drop i outcomes))) (dropped_all properties i le)) ∙ e)
+      nothing_more old all (sym (ap (λ l. old ++ verdict_report place (map label l) (outcomes_view (drop i outcomes))) (dropped_all properties i le)) ∙ e)
 
 -- ---- lines of a trace
 

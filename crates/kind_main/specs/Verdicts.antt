@@ -144,12 +144,16 @@ abbrev pub causes_text : Instance → List Because → List ℕ
 causes_text i [] = []
 causes_text i (b ∷ bs) = because_text i b ++ more_text i bs
 
+-- the lines of a property that a trace breaks, with this label
+abbrev pub falsifiable_lines : List ℕ → ℕ → List Line → List Line
+falsifiable_lines label last trace =
+    (codes "falsifiable " ++ (label ++ (codes " at " ++ (decimal last ++ codes "\n"))))
+    ∷ map (λ l. codes "  " ++ l) trace
+
 -- the lines of what is said of the property with this label
 abbrev pub verdict_lines : Instance → List ℕ → Verdict → List Line
 verdict_lines i label valid = (codes "valid " ++ (label ++ codes "\n")) ∷ []
-verdict_lines i label (falsifiable last trace) =
-    (codes "falsifiable " ++ (label ++ (codes " at " ++ (decimal last ++ codes "\n"))))
-    ∷ map (λ l. codes "  " ++ l) trace
+verdict_lines i label (falsifiable last trace) = falsifiable_lines label last trace
 verdict_lines i label (unknown causes) =
     (codes "unknown " ++ (label ++ (codes ": " ++ (causes_text i causes ++ codes "\n")))) ∷ []
 

@@ -6,7 +6,6 @@ ghost use Rattle.proof_steps.specs.StopView.{stop_view};
 ghost use Rattle.lus_tree.specs.View.{node_view, program_view};
 ghost use Rattle.lus_meaning.specs.Label.{path_text};
 ghost use Rattle.lus_meaning.specs.Program.{instance_of};
-ghost use Rattle.lus_meaning.specs.Scene.{Instance};
 ghost use Rattle.lus_meaning.specs.TraceView.{spot_view};
 ghost use Rattle.lus_properties.specs.Texts.{mark_text};
 ghost use Rattle.lus_properties.specs.Views.{property_view};
@@ -16,7 +15,7 @@ ghost use Rattle.board_core.specs.View.{cause_view};
 ghost use Rattle.kind_main.specs.Causes.{because_view};
 ghost use Rattle.kind_main.specs.Options.{number_of};
 ghost use Rattle.kind_main.specs.Ending.{lines_view};
-ghost use Rattle.kind_main.specs.Verdicts.{because_text, engine_text, falsifiable, IsAnalysed, more_text, unknown, halt_text, operation_text, outcome_view, outcomes_view, past_text, place_text, verdict_lines, verdict_report as report_of_verdicts, why_text};
+ghost use Rattle.kind_main.specs.Verdicts.{because_text, engine_text, falsifiable_lines, IsAnalysed, more_text, unknown, halt_text, operation_text, outcome_view, outcomes_view, past_text, place_text, verdict_lines, verdict_report as report_of_verdicts, why_text};
 
 use crate::cause::Because;
 use crate::options::EngineName;
@@ -240,8 +239,8 @@ fn push_falsifiable(
     trace: &[Vec<u8>],
     lines: &mut Vec<Vec<u8>>,
 ) -> Result<(), AllocError>
-    ensures { (i : Instance) → OnOk result (lines_view lines.new.items ≡ lines_view lines.old.items
-        ++ verdict_lines i label.now (falsifiable last (lines_view trace.now))) }
+    ensures { OnOk result (lines_view lines.new.items ≡ lines_view lines.old.items
+        ++ falsifiable_lines label.now last (lines_view trace.now)) }
 {
     let line = format!(in alloc; "falsifiable {label} at {last}\n")?;
     push_line(lines, line)?;
