@@ -14,7 +14,7 @@ returns-in_err-checked g c =
 pub proof_report-requires-clause-analysed : goal.proof_report-requires-clause-analysed
 proof_report-requires-clause-analysed g c =
     let read = rw c.deref.ensures.value at c.in_ok-checked.ensures in
-    let same = c.program.ensures.same in
+    let same = c.program-program.ensures.same in
     rw same (analysed_main c.identified_sources.ensures c.in_ok-bytes.bytes.items (tree_of c.in_ok-checked.checked) read.0 read.1
     (main_of c.in_ok-checked.checked) (node_view c.main_node-node.result.now) c.main_node-node.ensures)
 
@@ -22,7 +22,7 @@ pub returns : goal.returns
 returns g c =
     let held = c.in_ok-bytes.ensures.fetched in
     let read = rw c.deref.ensures.value at c.in_ok-checked.ensures in
-    let same = c.program.ensures.same in
+    let same = c.program-program.ensures.same in
     proof_done c.args.options (g.H.Shelf.told c.args.shelf.now) (g.H.Shelf.faults c.args.shelf.now) (g.H.Shelf.faults c.fetch.new.shelf) c.args.source.now
     (tree_of c.in_ok-checked.checked)
     (held_source _ (tree_of c.in_ok-checked.checked) c.in_ok-bytes.bytes.items held.0 held.1 read.0 read.1)
