@@ -325,7 +325,14 @@ pub fn verdict_report(
 {
     let mut lines = Vec::new(alloc);
     for i in 0..outcomes.len() {
-        push_verdict(alloc, program, node, &properties[i], &outcomes[i], &mut lines)?;
+        push_verdict(
+            alloc,
+            program,
+            node,
+            &properties[i],
+            &outcomes[i],
+            &mut lines,
+        )?;
     }
     Ok(lines)
 }

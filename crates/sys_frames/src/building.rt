@@ -20,11 +20,7 @@ use sys_terms::System;
 /// # Errors
 ///
 /// Only want of memory.
-pub fn system(
-    _alloc: Global,
-    _program: &Program,
-    _node: Owner<'_>,
-) -> Result<System, AllocError>
+pub fn system(_alloc: Global, _program: &Program, _node: Owner<'_>) -> Result<System, AllocError>
     requires checked { IsChecked (program_view _program.now) }
     requires declared { Contains (components (program_view _program.now)) (owner_view _node) }
     requires small { width (instance_of (program_view _program.now) (owner_view _node)) < 20001 }

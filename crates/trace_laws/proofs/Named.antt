@@ -107,7 +107,6 @@ node_named p t n i = named_first p (words_once p t) n i
 
 -- ---- what a name names
 
-
 -- the named node is declared, under that name
 pub named_node : (x : Name) (ds : Program) (n : Component) → first_named x (nodes_of ds) ≡ Some n → Contains ds (declared_node n) × (x ≡ n.name.text)
 named_node x [] n e = absurd cc
