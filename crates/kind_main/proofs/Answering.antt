@@ -22,7 +22,7 @@ use Rattle.kind_main.specs.declared.ending.Stopped.TheVariants.{Usage, Unread, R
 use Rattle.kind_main.specs.Ending.{Ending, usage, unread, refused, done, IfStopped, IfEnded}
 use Rattle.kind_main.specs.Fetched.{Tells, limit, IsUnfetched}
 use Rattle.kind_main.specs.Source as S
-use Rattle.kind_main.specs.Source.{EndsAtSource, HoldsSource, FollowsAll, IsRuling}
+use Rattle.kind_main.specs.Source.{EndsAtSource, EndsReplayAtSource, HoldsSource, HoldsBuilt, FollowsAll, IsRuling}
 use Rattle.kind_main.specs.Traced as R
 use Rattle.kind_main.specs.Traced.{EndsAt, EndsAtTrace, IsReplayed, EndsReplay}
 use Rattle.kind_main.proofs.Printing.{rose-later}
@@ -51,11 +51,18 @@ ruled_out_ends bytes p r s (inl m) e h = absurd (h.1 m)
 ruled_out_ends bytes p r s (inr m) e h =
     subst (EndsAtSource bytes) (sym h.0) (S.ruled_out r record { tree = p; source = s; broken = m } refl)
 
+-- what is no source is none for a replay
+pub source_ends : (bytes : List ℕ) (e : Ending) → EndsAtSource bytes e → EndsReplayAtSource bytes e
+source_ends bytes usage h = absurd h
+source_ends bytes (unread name) h = absurd h
+source_ends bytes (refused line) h = S.no_source h
+source_ends bytes (done lines code) h = absurd h
+
 -- what follows all rules and is not of the shape is not built
 pub unbuilt_ends : (bytes : List ℕ) (p : Program) → IsSource bytes p → FollowsAll p → (IsOfTheShape p → ⊥) → (e : Ending) →
-    e ≡ refused not_built_line → EndsAtSource bytes e
+    e ≡ refused not_built_line → EndsReplayAtSource bytes e
 unbuilt_ends bytes p s k m e h =
-    subst (EndsAtSource bytes) (sym h) (S.unbuilt record { tree = p; source = s; right = k; because = m } refl)
+    subst (EndsReplayAtSource bytes) (sym h) (S.unbuilt record { tree = p; source = s; right = k; because = m } refl)
 
 -- a trace is refused for its fault
 pub formless_ends : (bytes : List ℕ) (p : Program) (f : TraceFault) → Refuses bytes f → (e : Ending) → EndsAt f e → EndsAtTrace bytes p e
@@ -75,26 +82,32 @@ handed_on P r s h p =
 
 -- a source that is read and follows the rules
 pub held_source : (told : Told) (p : Program) (bytes : List ℕ) → MayHold told bytes → length bytes ≤ limit → IsSource bytes p
-    → FollowsAll p → BreaksNoBooleanRule p → HoldsSource told p
-held_source told p bytes m le s k f = record { bytes = bytes; held = m; short = le; source = s; right = k; follows = f }
+    → FollowsAll p → HoldsSource told p
+held_source told p bytes m le s k = record { bytes = bytes; held = m; short = le; source = s; right = k }
+
+-- and is of the shape that replays are built for
+pub held_built : (told : Told) (p : Program) (bytes : List ℕ) → MayHold told bytes → length bytes ≤ limit → IsSource bytes p
+    → FollowsAll p → BreaksNoBooleanRule p → HoldsBuilt told p
+held_built told p bytes m le s k f = record { holds = held_source told p bytes m le s k; follows = f }
 
 module _ (told : Tells) (before now : ℕ) (file trace : List ℕ) where
   -- the source gives no bytes
   pub no_source : (e : Ending) → IsUnfetched (told file) before now file e → EndsReplay told before now file trace e
   no_source usage h = absurd h
   no_source (unread name) h = (h.0, R.unread_source h.1)
-  no_source (refused line) h = R.refused_source (S.too_long h.0 h.1)
+  no_source (refused line) h = R.refused_source (S.no_source_file (S.too_long h.0 h.1))
   no_source (done lines code) h = absurd h
 
   -- its bytes are refused
-  pub bad_source : (bytes : List ℕ) → MayHold (told file) bytes → length bytes ≤ limit → (e : Ending) → EndsAtSource bytes e
+  pub bad_source : (bytes : List ℕ) → MayHold (told file) bytes → length bytes ≤ limit → (e : Ending) → EndsReplayAtSource bytes e
       → EndsReplay told before now file trace e
   bad_source bytes m le usage h = absurd h
   bad_source bytes m le (unread name) h = absurd h
-  bad_source bytes m le (refused line) h = R.refused_source (S.refused_bytes bytes m le h)
+  bad_source bytes m le (refused line) (S.no_source h) = R.refused_source (S.no_source_file (S.refused_bytes bytes m le h))
+  bad_source bytes m le (refused line) (S.unbuilt h e) = R.refused_source (S.unbuilt_bytes bytes m le h e)
   bad_source bytes m le (done lines code) h = absurd h
 
-  module _ (p : Program) (source : HoldsSource (told file) p) where
+  module _ (p : Program) (source : HoldsBuilt (told file) p) where
     -- the trace gives no bytes
     pub no_trace : (mid : ℕ) → before ≤ mid → (tells : Told) → tells ≡ told trace → (e : Ending) → IsUnfetched tells mid now trace e
         → EndsReplay told before now file trace e

@@ -1,5 +1,6 @@
 -- The trace of a path that breaks a property, as it is written and read back.
-use Rattle.std.proofs.Common.{◌≡◌, ◌≤◌, ◌<◌, ℕ, suc, pred, List, length, Some, sym, ap, ◌∙◌, subst}
+use Rattle.std.proofs.Common.{◌≡◌, ◌≤◌, ℕ, suc, pred, List, length, Some, None, sym, ap, ◌∙◌, subst}
+use Rattle.std.specs.Prelude.{Contains}
 use Rattle.std.specs.List.{AllByRecursion}
 use Rattle.lus_tree.specs.Tree.{Program, Component}
 use Rattle.lus_tree.specs.Lookup.{nodes_of}
@@ -10,17 +11,21 @@ use Rattle.lus_meaning.specs.Trace.{IsFrameOf}
 use Rattle.lus_meaning.specs.TraceView.{Listing, lines_of}
 use Rattle.lus_meaning.specs.Fits.{FitsProgram, FitsNode, first_named}
 use Rattle.lus_meaning.specs.Replay.{Shown, Replays, ReplaysTrace}
-use Rattle.lus_meaning.specs.BooleanRules.{IsBooleanChecked}
+use Rattle.lus_meaning.specs.ClockFaults.{components}
+use Rattle.lus_meaning.specs.Refusals.{IsChecked}
 use Rattle.trace_replay.specs.Traces.{IsTraceText, trace_text}
-use Rattle.trace_replay.specs.Laws.{FitReadBack, SameButPlaces}
+use Rattle.trace_replay.specs.Laws.{SameButPlaces}
 use Rattle.sys_terms.specs.declared.term.Entry.{Entry}
 use Rattle.sys_terms.specs.Paths as paths
 use Rattle.sys_meaning.specs.System.{system_of}
 use Rattle.sys_meaning.specs.Path.{frame_of_path, trace_of}
-use Rattle.sys_meaning.specs.Checked.{CheckedTraces, CheckedBreaks, CheckedReplays, HasTrace, IsTraceOf}
+use Rattle.sys_meaning.specs.Checked.{HasTrace, IsTraceOf}
+use Rattle.path_laws.specs.Laws.{EachBreaks, EachHasTraces, HasSmallNumbers}
+use Rattle.trace_laws.specs.Laws.{EachReadBack, EachReplays}
+use Rattle.trace_laws.proofs.Named.{node_component}
 use Rattle.kind_main.specs.declared.options.Options.{Options}
 use Rattle.kind_main.specs.Lines.{Line, text_of}
-use Rattle.kind_main.specs.Verdicts.{falsifiable, IsOneLine, IsReadable, IsTrueOfNumber}
+use Rattle.kind_main.specs.Verdicts.{falsifiable, IsAnalysed, IsOneLine, IsTrueOfNumber}
 
 -- what is so of a trace is so of one that is the same but for its places
 fits_as : (p : Program) (s t : Listing) → SameButPlaces s t → FitsProgram p t → FitsProgram p s
@@ -36,24 +41,24 @@ replays_as p s t e w r = record {
       (subst (λ ls. Replays (instance_of p r.node) ls s.length w) e.lines r.replays);
 }
 
-module _ (traces : CheckedTraces) (breaks : CheckedBreaks) (replays : CheckedReplays) (read_back : FitReadBack)
-    (p : Program) (readable : IsReadable p) (k : ℕ) (states : List (List Entry)) (short : length states ≤ 1001) (some : 0 < length states)
-    (path : (d : Component) → IsBooleanChecked p d → paths.Breaks (system_of (instance_of p d)) k states)
-    (t : Listing) (of : (d : Component) → IsBooleanChecked p d → IsTraceOf p d states t) where
+module _ (traces : EachHasTraces) (breaks : EachBreaks) (replays : EachReplays) (read_back : EachReadBack)
+    (p : Program) (d : Component) (a : IsAnalysed p d) (k : ℕ) (states : List (List Entry)) (short : length states ≤ 1001)
+    (broken : paths.Breaks (system_of (instance_of p d)) k states) (small : HasSmallNumbers states)
+    (t : Listing) (is : IsTraceOf p d states t) where
   pub broken_by : (lines : List Line) → AllByRecursion IsOneLine lines → text_of lines ≡ trace_text t → (last : ℕ) → suc last ≡ length states
-      → (o : Options) (d : Component) → IsBooleanChecked p d → IsTrueOfNumber o p d k (falsifiable last lines)
-  broken_by lines each text last count o d checked q found =
-      let broken : paths.Breaks (system_of (instance_of p d)) k states = path d checked in
-      let is : IsTraceOf p d states t = of d checked in
-      let has : HasTrace (instance_of p d) states = traces p d checked states broken.path in
-      let replayed = replays p d checked k states broken short t is in
-      let written = read_back p d checked (readable.limits d checked) (readable.identifiers d checked) t replayed.0 in
+      → (o : Options) → IsTrueOfNumber o p d k (falsifiable last lines)
+  broken_by lines each text last count o q found =
+      let rules : IsChecked p = a.follows.rules in
+      let at : Contains (components p) d = node_component p d a.declared in
+      let has : HasTrace (instance_of p d) states = traces p rules d at states broken.path small in
+      let replayed = replays p rules d a.declared k states broken small short t is in
+      let written = read_back p None rules a.follows.limits a.identified t replayed.0 in
       let read : Listing = written.0 in
       let same : SameButPlaces read t = written.2 in
       let many : read.length ≡ length states = same.length ∙ is.length in
       let listed : lines_of read ≡ trace_of (instance_of p d) states = same.lines ∙ is.lines in
       let end : pred (length states) ≡ last = ap pred (sym count) in
-      let at_last = breaks p d checked k states broken in
+      let at_last = breaks p rules d at k states broken in
       let this : at_last.0 ≡ q = let e = at_last.1 in cc in
       let frame : Frame = frame_of_path (instance_of p d) states in (
         each,

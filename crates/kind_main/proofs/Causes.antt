@@ -1,20 +1,11 @@
 -- The causes that a book has.
 use Rattle.std.proofs.Common.{rules, arith, ◌≡◌, ◌≢◌, ◌==◌, ◌&&◌, ◌||◌, ℕ, zero, suc, Bool, true, false, List, [], ◌∷◌, Option, Some, None, refl, subst, slice_get, take}
-use Rattle.std.specs.List.{AllByRecursion}
-use Rattle.std.proofs.lemmas.List.Elements.{recursion_from_All}
-use lib.IntN.{ℤ}
-use Rattle.kind_num.specs.declared.Shape.{Shape}
-use Rattle.kind_num.specs.declared.Shape.TheVariants as s
-use Rattle.sys_terms.specs.declared.term.Entry.{Entry}
-use Rattle.sys_terms.specs.declared.term.Entry.TheVariants as e
-use Rattle.sys_terms.specs.View.{Machine, Task}
-use Rattle.sys_terms.specs.Fits.{state_fits}
-use Rattle.sys_terms.specs.Paths.{IsState}
+use Rattle.sys_terms.specs.View.{Machine}
 use Rattle.board_core.specs.declared.plan.Plan.{Plan}
-use Rattle.board_core.specs.Entries.{Why, depth, frames, blocked, done, stopped, wide, Grounds, Claim, proved, broken, stuck, spent, Posting, AreSound, IsWhy, IsTrueAfter, OfQuery, IsWide}
+use Rattle.board_core.specs.Entries.{Why, Grounds, Claim, proved, broken, stuck, spent, Posting, AreSound, IsWhy, IsTrueAfter}
 use Rattle.board_core.specs.Seats.{has_cause, is_spent}
 use Rattle.board_core.specs.Verdicts.{cause_of, cause_in, cause_if, or_later}
-use Rattle.kind_main.specs.Causes.{all_flags, IsPlain, IsTrueCause}
+use Rattle.kind_main.specs.Causes.{IsTrueCause}
 
 -- ---- a cause that was posted is found
 
@@ -122,37 +113,3 @@ module _ (m : Machine) (plan : Plan) (history : List Posting) (sound : AreSound 
     where
       IsTrueClaim : List Posting → Claim → Type 0
       IsTrueClaim = IsTrueAfter m plan
-
--- ---- a system of flags has no cause of another kind
-
-no-number : (shapes : List Shape) (cells : List Entry) (v : ℕ) (n : ℤ) → all_flags shapes ≡ true → state_fits shapes cells ≡ true
-    → slice_get cells v ≡ Some (e.Number n) → ⊥
-no-number [] [] v n a f h = absurd cc
-no-number [] (x ∷ xs) v n a f h = absurd cc
-no-number (h ∷ hs) [] v n a f g = absurd cc
-no-number (s.Flag ∷ hs) (e.Flag b ∷ xs) zero n a f h = absurd cc
-no-number (s.Flag ∷ hs) (e.Flag b ∷ xs) (suc v) n a f h = no-number hs xs v n a f h
-no-number (s.Flag ∷ hs) (e.Number k ∷ xs) v n a f h = absurd cc
-no-number (s.Number ∷ hs) (x ∷ xs) v n a f h = absurd cc
-
-at-place : {X : Type 0} (P : X → Type 0) (xs : List X) (n : ℕ) (x : X) → AllByRecursion P xs → slice_get xs n ≡ Some x → P x
-at-place P [] n x h e = absurd cc
-at-place P (y ∷ ys) zero x h e = let f : y ≡ x = cc in subst P f h.0
-at-place P (y ∷ ys) (suc n) x h e = at-place P ys n x h.1 e
-
-pub plain-cause : (m : Machine) (plan : Plan) (earlier : List Posting) (engine p : ℕ) (why : Why) (g : Grounds)
-    → all_flags m.shapes ≡ true → IsWhy m plan earlier engine p why g → IsPlain why
-plain-cause m plan earlier engine p (depth n) g a h = tt
-plain-cause m plan earlier engine p (frames n) g a h = h
-plain-cause m plan earlier engine p (blocked n) g a h = h
-plain-cause m plan earlier engine p (done n) g a h = h
-plain-cause m plan earlier engine p (stopped halt) g a h = tt
-plain-cause m plan earlier engine p (wide path variable instant value) g a h = by g.query h
-  where
-    by : (q : Option (Task × List ℕ)) → OfQuery earlier (λ task cites. IsWide m plan earlier g engine p path variable instant value task cites) q → ⊥
-    by None h = h
-    by (Some (task, places)) h =
-        let w = h.2 in
-        let (cells, at, cell, big) = w.too_wide in
-        no-number m.shapes cells variable value a
-        (at-place (IsState m) path instant cells (recursion_from_All (IsState m) path w.breaks.path.loose.each) at).fit cell

@@ -1,17 +1,12 @@
 -- Verdicts on properties, one after the other, and their lines.
 use Rattle.std.proofs.Common.{◌≡◌, ◌≤◌, ◌<◌, ◌+◌, ℕ, zero, suc, List, [], ◌∷◌, ◌++◌, length, Some, refl, sym, ap, ◌∙◌, subst, arith, slice_get, get_or, take, drop, map, add-one}
-use Rattle.std.proofs.Math.Seq.{drop-cons}
 use Rattle.std.proofs.lemmas.List.{take_all}
-use Rattle.lus_tree.specs.Tree.{Program, Component, Statement, equation, assertion, property, main_mark}
-use Rattle.lus_meaning.specs.Scene.{Instance}
+use Rattle.lus_tree.specs.Tree.{Program, Component}
 use Rattle.lus_meaning.specs.Program.{instance_of}
 use Rattle.lus_meaning.specs.Contract.{Property}
-use Rattle.lus_meaning.specs.Property.{properties, body_properties}
-use Rattle.lus_meaning.specs.Label.{label_of}
-use Rattle.lus_meaning.specs.BooleanRules.{IsBooleanChecked}
+use Rattle.lus_meaning.specs.Property.{properties}
 use Rattle.kind_main.specs.declared.options.Options.{Options}
-use Rattle.kind_main.specs.Report.{labelled_in}
-use Rattle.kind_main.specs.Verdicts.{Verdict, IsTrueVerdict, AreTrueVerdicts, IsTrueOfNumber, property_label, verdict_lines, verdict_report}
+use Rattle.kind_main.specs.Verdicts.{Verdict, IsTrueVerdict, AreTrueVerdicts, IsTrueOfNumber}
 
 -- as many verdicts as properties
 pub as_many_verdicts : (o : Options) (p : Program) (d : Component) (k : ℕ) (qs : List Property) (vs : List Verdict) → AreTrueVerdicts o p d k qs vs → length qs ≡ length vs
@@ -48,54 +43,31 @@ pub all_done : (o : Options) (p : Program) (d : Component) (vs : List Verdict) �
     → AreTrueOfFirst o p d 0 (properties (instance_of p d)) vs → AreTrueVerdicts o p d 0 (properties (instance_of p d)) vs
 all_done o p d vs e h = subst (λ qs. AreTrueVerdicts o p d 0 qs vs) (take_all (length vs) (properties (instance_of p d)) (omega (arith, e))) h
 
--- ---- labels
-
-pub labels_of : (i : Instance) (ss : List Statement) → map property_label (labelled_in ss) ≡ map label_of (body_properties i ss)
-labels_of i [] = refl
-labels_of i (property l ∷ ss) = ap (λ x. property_label l ∷ x) (labels_of i ss)
-labels_of i (equation xs e ∷ ss) = labels_of i ss
-labels_of i (assertion e ∷ ss) = labels_of i ss
-labels_of i (main_mark p ∷ ss) = labels_of i ss
-
--- ---- the lines of the verdicts from place i on
-
-pub report_step : (labels : List (List ℕ)) (vs : List Verdict) (i : ℕ) (l : List ℕ) (v : Verdict) → i < length labels → i < length vs
-    → l ≡ get_or labels i l → v ≡ get_or vs i v
-    → verdict_report (drop i labels) (drop i vs) ≡ verdict_lines l v ++ verdict_report (drop (i + 1) labels) (drop (i + 1) vs)
-report_step labels vs i l v a b e f =
-    let x : drop i labels ≡ l ∷ drop (suc i) labels = drop-cons labels i l a ∙ ap (λ y. y ∷ drop (suc i) labels) (sym e) in
-    let y : drop i vs ≡ v ∷ drop (suc i) vs = drop-cons vs i v b ∙ ap (λ y. y ∷ drop (suc i) vs) (sym f) in
-    rw (x, y, add-one) refl
-
 -- ---- a loop over the properties
 
 -- verdicts on the first i properties
-pub record DecidingUpTo (o : Options) (p : Program) (i : ℕ) (vs : List Verdict) : Type 0 where
+pub record DecidingUpTo (o : Options) (p : Program) (d : Component) (i : ℕ) (vs : List Verdict) : Type 0 where
   pub count : i ≡ length vs
-  pub right : (d : Component) → IsBooleanChecked p d → AreTrueOfFirst o p d 0 (properties (instance_of p d)) vs
+  pub right : AreTrueOfFirst o p d 0 (properties (instance_of p d)) vs
 
-pub deciding_start : (o : Options) (p : Program) → DecidingUpTo o p 0 []
-deciding_start o p = record { count = refl; right = λ d checked. none_yet o p d }
+pub deciding_start : (o : Options) (p : Program) (d : Component) → DecidingUpTo o p d 0 []
+deciding_start o p d = record { count = refl; right = none_yet o p d }
 
 counted_more : {X : Type 0} (xs : List X) (x : X) (i : ℕ) → i ≡ length xs → i + 1 ≡ length (xs ++ x ∷ [])
 counted_more [] x i e = omega (arith, e)
 counted_more (y ∷ ys) x zero e = absurd (omega (arith, e))
 counted_more (y ∷ ys) x (suc i) e = let f : i + 1 ≡ length (ys ++ x ∷ []) = counted_more ys x i (omega (arith, e)) in omega (arith, f)
 
-pub deciding_next : (o : Options) (p : Program) (i : ℕ) (vs : List Verdict) (v : Verdict) → DecidingUpTo o p i vs
-    → ((d : Component) → IsBooleanChecked p d → i < length (properties (instance_of p d)))
-    → ((d : Component) → IsBooleanChecked p d → IsTrueOfNumber o p d i v) → DecidingUpTo o p (i + 1) (vs ++ v ∷ [])
-deciding_next o p i vs v r lt f = record {
+pub deciding_next : (o : Options) (p : Program) (d : Component) (i : ℕ) (vs : List Verdict) (v : Verdict) → DecidingUpTo o p d i vs
+    → i < length (properties (instance_of p d)) → IsTrueOfNumber o p d i v → DecidingUpTo o p d (i + 1) (vs ++ v ∷ [])
+deciding_next o p d i vs v r lt f = record {
   count = counted_more vs v i r.count;
-  right = λ d checked. one_more o p d vs v i r.count (lt d checked) (r.right d checked) (f d checked);
+  right = one_more o p d vs v i r.count lt r.right f;
 }
 
-pub deciding_end : (o : Options) (p : Program) (i : ℕ) (vs : List Verdict) → DecidingUpTo o p i vs
-    → ((d : Component) → IsBooleanChecked p d → length (properties (instance_of p d)) ≤ i)
-    → ((d : Component) → IsBooleanChecked p d → i ≤ length (properties (instance_of p d)))
-    → (d : Component) → IsBooleanChecked p d → AreTrueVerdicts o p d 0 (properties (instance_of p d)) vs
-deciding_end o p i vs r le ge d checked =
-    let a = le d checked in
-    let b = ge d checked in
+pub deciding_end : (o : Options) (p : Program) (d : Component) (i : ℕ) (vs : List Verdict) → DecidingUpTo o p d i vs
+    → length (properties (instance_of p d)) ≤ i → i ≤ length (properties (instance_of p d))
+    → AreTrueVerdicts o p d 0 (properties (instance_of p d)) vs
+deciding_end o p d i vs r le ge =
     let e = r.count in
-    all_done o p d vs (omega (arith, a, b, e)) (r.right d checked)
+    all_done o p d vs (omega (arith, le, ge, e)) r.right

@@ -2,13 +2,12 @@
 use Rattle.std.proofs.Common.{◌≡◌, ◌≢◌, ◌<◌, ◌||◌, ℕ, zero, suc, Bool, true, false, cond, List, [], ◌∷◌, Option, Some, None, refl, sym, ap, ◌∙◌, subst, arith, length, slice_get, option_map, take, Result, Ok, Err, IfOk}
 use Rattle.lus_tree.specs.Tree.{Program, Component}
 use Rattle.lus_meaning.specs.Program.{instance_of}
-use Rattle.lus_meaning.specs.BooleanRules.{IsBooleanChecked}
 use Rattle.sys_terms.specs.declared.term.Entry.{Entry}
 use Rattle.sys_terms.specs.View.{Machine}
-use Rattle.sys_terms.specs.Paths as paths
 use Rattle.sys_terms.specs.Queries.{property_term}
 use Rattle.sys_meaning.specs.System.{system_of}
-use Rattle.sys_meaning.specs.Checked.{CheckedHolds}
+use Rattle.path_laws.specs.Laws.{EachHolds}
+use Rattle.trace_laws.proofs.Named.{node_component}
 use Rattle.sys_meaning.specs.Law.{TrueReachable}
 use Rattle.board_core.specs.declared.plan.Plan.{Plan}
 use Rattle.board_core.specs.Entries.{Claim, broken, Posting, AreSound, IsBroken, IsTrueAfter}
@@ -16,7 +15,7 @@ use Rattle.board_core.specs.Books.{Contents, machine_of, plan_of, history_of}
 use Rattle.board_core.specs.Verdicts.{Judged, valid_by, falsifiable_by, unknown, holds, breaks, judged_by, judged_from, judged, decides, BreaksBy, IsJudged}
 use Rattle.kind_main.specs.declared.options.Options.{Options}
 use Rattle.kind_main.specs.Verdicts as V
-use Rattle.kind_main.specs.Verdicts.{Verdict, AreTrueCauses, IsTrueOfNumber}
+use Rattle.kind_main.specs.Verdicts.{Verdict, AreTrueCauses, IsAnalysed, IsTrueOfNumber}
 use Rattle.kind_main.specs.Played.{AreCausesOf, IsBrokenAt, IsBrokenEntry}
 
 -- ---- a property of which nothing is known
@@ -52,22 +51,16 @@ open-property p history h = open-from p 0 history h
 
 -- ---- what is said of the program
 
-module _ (p : Program) (m : Machine) (of : (d : Component) → IsBooleanChecked p d → m ≡ system_of (instance_of p d)) (k : ℕ) where
-  pub valid_by_book : CheckedHolds → (o : Options) → TrueReachable m (property_term m k) → (d : Component) → IsBooleanChecked p d
-      → IsTrueOfNumber o p d k V.valid
-  valid_by_book law o h d checked q found =
-      law p d checked k q found (subst (λ (n : Machine). TrueReachable n (property_term n k)) (of d checked) h)
+pub valid_by_book : (p : Program) (d : Component) → IsAnalysed p d → (m : Machine) → m ≡ system_of (instance_of p d) → (k : ℕ) → EachHolds
+    → (o : Options) → TrueReachable m (property_term m k) → IsTrueOfNumber o p d k V.valid
+valid_by_book p d a m of k law o h q found =
+    law p a.follows.rules d (node_component p d a.declared) k q found (subst (λ (n : Machine). TrueReachable n (property_term n k)) of h)
 
-  pub path_by : (states : List (List Entry)) → paths.Breaks m k states → (d : Component) → IsBooleanChecked p d
-      → paths.Breaks (system_of (instance_of p d)) k states
-  path_by states h d checked = subst (λ n. paths.Breaks n k states) (of d checked) h
-
-pub causes_by : (p : Program) (o : Options) (b : Contents)
-    → ((d : Component) → IsBooleanChecked p d → machine_of b ≡ system_of (instance_of p d)) → (k : ℕ) (v : Verdict) → AreCausesOf o b k v
-    → (d : Component) → IsBooleanChecked p d → IsTrueOfNumber o p d k v
-causes_by p o b of k V.valid h d checked q found = absurd h
-causes_by p o b of k (V.falsifiable last trace) h d checked q found = absurd h
-causes_by p o b of k (V.unknown causes) h d checked q found = subst (λ n. AreTrueCauses n o k causes) (of d checked) h
+pub causes_by : (p : Program) (d : Component) (o : Options) (b : Contents) → machine_of b ≡ system_of (instance_of p d) → (k : ℕ) (v : Verdict)
+    → AreCausesOf o b k v → IsTrueOfNumber o p d k v
+causes_by p d o b of k V.valid h q found = absurd h
+causes_by p d o b of k (V.falsifiable last trace) h q found = absurd h
+causes_by p d o b of k (V.unknown causes) h q found = subst (λ n. AreTrueCauses n o k causes) of h
 
 -- ---- an entry that breaks the property
 

@@ -100,7 +100,7 @@ module _ (told : Tells) (before now : ℕ) (words : List (List ℕ)) (puts_befor
   -- a command that was carried out has a status of its own
   done_code : (lines : List Line) (k : ℕ) → EndsSo told before now words (done lines k) → IsDoneCode k
   done_code lines k (A.no_command o e) = cc
-  done_code lines k (A.prove file o m r) = inl (subst IsProofCode (sym r.proof.status) (proof_code (tally_of r.proof.verdicts)))
+  done_code lines k (A.prove file o m r) = inl (subst IsProofCode (sym r.proof.proof.status) (proof_code (tally_of r.proof.proof.verdicts)))
   done_code lines k (A.replay file trace m r) = inr (subst IsReplayCode (sym r.replay.status) (replay_code r.replay.broken))
 
   line_alone : (lines : List Line) (line : Line) → lines ≡ line ∷ [] → Appends old new (text_of lines) → Appends old new line
@@ -173,7 +173,7 @@ module _ (told : Tells) (before now : ℕ) (words : List (List ℕ)) (puts_befor
   known_by lines code (refused line) s h = L.of_no_command (inr (inl h.status))
   known_by lines code (done ls j) (A.no_command o e) h = cc
   known_by lines code (done ls j) (A.prove file o m r) h =
-      L.of_proof file o m (subst IsProofCode (sym (h.status ∙ r.proof.status)) (proof_code (tally_of r.proof.verdicts)))
+      L.of_proof file o m (subst IsProofCode (sym (h.status ∙ r.proof.proof.status)) (proof_code (tally_of r.proof.proof.verdicts)))
   known_by lines code (done ls j) (A.replay file trace m r) h =
       L.of_replay file trace m (subst IsReplayCode (sym (h.status ∙ r.replay.status)) (replay_code r.replay.broken))
 

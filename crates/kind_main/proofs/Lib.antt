@@ -1,7 +1,6 @@
 pub mod FewWords
 pub mod Lists
 pub mod Counting
-pub mod Outcomes
 pub mod Lining
 pub mod Proofs
 pub mod FirstToken
@@ -13,7 +12,6 @@ pub mod Replayed
 pub mod BrokenBy
 pub mod Deciding
 pub mod Cutting
-pub mod Readable
 pub mod Ready
 pub mod Ruling
 pub mod Causes

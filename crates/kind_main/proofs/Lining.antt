@@ -2,15 +2,12 @@
 use Rattle.std.proofs.Common.{◌≡◌, ◌≤◌, ◌<◌, ◌+◌, ℕ, List, [], ◌∷◌, ◌++◌, length, get_or, drop, map, refl, sym, ap, ◌∙◌, append_assoc, append-nil}
 use Rattle.std.specs.declared.vec.Vec.{Vec}
 use Rattle.std.specs.declared.alloc.Global.{Global}
-use Rattle.lus_tree.specs.declared.declaration.Item.{Item}
-use Rattle.lus_tree.specs.View.{item_view}
-use Rattle.lus_tree.specs.Tree.{Labelled, Statement, equation, assertion, property, main_mark}
+use Rattle.lus_meaning.specs.Scene.{Instance}
 use Rattle.kind_main.specs.declared.outcome.Outcome.{Outcome}
 use Rattle.kind_main.specs.Ending.{line_bytes, lines_view}
 use Rattle.kind_main.specs.Lines.{Line}
-use Rattle.kind_main.specs.Report.{labelled_in}
 use Rattle.kind_main.specs.Verdicts.{outcome_view, outcomes_view, verdict_lines, verdict_report}
-use Rattle.kind_main.proofs.Lists.{dropped, dropped_all, map_map}
+use Rattle.kind_main.proofs.Lists.{dropped, dropped_all}
 
 -- what was added and what is still to come make the whole
 add_one : {X : Type 0} (old more rest all grown : List X) → old ++ (more ++ rest) ≡ all → grown ≡ old ++ more → grown ++ rest ≡ all
@@ -27,50 +24,24 @@ line_and_more old mid new line text more e f g =
 
 -- ---- verdicts
 
-module _ {X : Type 0} (label : X → List ℕ) (properties : List X) (outcomes : List Outcome) where
+module _ {X : Type 0} (place : Instance) (label : X → List ℕ) (properties : List X) (outcomes : List Outcome) where
   abbrev pub report_from : ℕ → List Line
-  report_from i = verdict_report (map label (drop i properties)) (outcomes_view (drop i outcomes))
+  report_from i = verdict_report place (map label (drop i properties)) (outcomes_view (drop i outcomes))
 
   pub report_next : (i : ℕ) (p : X) (o : Outcome) → i < length properties → p ≡ get_or properties i p → i < length outcomes → o ≡ get_or outcomes i o
-      → (old grown all : List Line) → old ++ report_from i ≡ all → grown ≡ old ++ verdict_lines (label p) (outcome_view o)
+      → (old grown all : List Line) → old ++ report_from i ≡ all → grown ≡ old ++ verdict_lines place (label p) (outcome_view o)
       → grown ++ report_from (i + 1) ≡ all
   report_next i p o a b c d old grown all e g =
       let x : drop i properties ≡ p ∷ drop (i + 1) properties = dropped properties i p a b in
       let y : drop i outcomes ≡ o ∷ drop (i + 1) outcomes = dropped outcomes i o c d in
-      let f : report_from i ≡ verdict_lines (label p) (outcome_view o) ++ report_from (i + 1) =
-      ap (λ l. verdict_report (map label l) (outcomes_view (drop i outcomes))) x
-      ∙ ap (λ l. verdict_report (map label (p ∷ drop (i + 1) properties)) (outcomes_view l)) y in
-      add_one old (verdict_lines (label p) (outcome_view o)) (report_from (i + 1)) all grown (sym (ap (λ l. old ++ l) f) ∙ e) g
+      let f : report_from i ≡ verdict_lines place (label p) (outcome_view o) ++ report_from (i + 1) =
+      ap (λ l. verdict_report place (map label l) (outcomes_view (drop i outcomes))) x
+      ∙ ap (λ l. verdict_report place (map label (p ∷ drop (i + 1) properties)) (outcomes_view l)) y in
+      add_one old (verdict_lines place (label p) (outcome_view o)) (report_from (i + 1)) all grown (sym (ap (λ l. old ++ l) f) ∙ e) g
 
   pub report_done : (i : ℕ) → length properties ≤ i → (old all : List Line) → old ++ report_from i ≡ all → old ≡ all
   report_done i le old all e =
-      nothing_more old all (sym (ap (λ l. old ++ verdict_report (map label l) (outcomes_view (drop i outcomes))) (dropped_all properties i le)) ∙ e)
-
-pub labels_through : {X : Type 0} (named : X → Labelled) (label : Labelled → List ℕ) (xs : List X) (ls : List Labelled) → map named xs ≡ ls
-    → map (λ x. label (named x)) xs ≡ map label ls
-labels_through named label xs ls e = sym (map_map named label xs) ∙ ap (map label) e
-
--- ---- properties among items
-
-labelled_more : (s : Statement) (ss : List Statement) → labelled_in (s ∷ ss) ≡ labelled_in (s ∷ []) ++ labelled_in ss
-labelled_more (property l) ss = refl
-labelled_more (equation xs e) ss = refl
-labelled_more (assertion e) ss = refl
-labelled_more (main_mark p) ss = refl
-
-module _ (items : List Item) where
-  abbrev pub labelled_from : ℕ → List Labelled
-  labelled_from i = labelled_in (map item_view (drop i items))
-
-  pub labelled_next : (i : ℕ) (x : Item) → i < length items → x ≡ get_or items i x → (old grown all : List Labelled)
-      → old ++ labelled_from i ≡ all → grown ≡ old ++ labelled_in (item_view x ∷ []) → grown ++ labelled_from (i + 1) ≡ all
-  labelled_next i x lt is old grown all e g =
-      let f : labelled_from i ≡ labelled_in (item_view x ∷ []) ++ labelled_from (i + 1) =
-      ap (λ l. labelled_in (map item_view l)) (dropped items i x lt is) ∙ labelled_more (item_view x) (map item_view (drop (i + 1) items)) in
-      add_one old (labelled_in (item_view x ∷ [])) (labelled_from (i + 1)) all grown (sym (ap (λ l. old ++ l) f) ∙ e) g
-
-  pub labelled_done : (i : ℕ) → length items ≤ i → (old all : List Labelled) → old ++ labelled_from i ≡ all → old ≡ all
-  labelled_done i le old all e = nothing_more old all (sym (ap (λ l. old ++ labelled_in (map item_view l)) (dropped_all items i le)) ∙ e)
+      nothing_more old all (sym (ap (λ l. old ++ verdict_report place (map label l) (outcomes_view (drop i outcomes))) (dropped_all properties i le)) ∙ e)
 
 -- ---- lines of a trace
 

@@ -1,5 +1,5 @@
 -- The book that the engines leave.
-use Rattle.std.specs.Prelude.{◌≡◌, ℕ, true, List, length, Option, None, Some, slice_get}
+use Rattle.std.specs.Prelude.{◌≡◌, ℕ, List, length, Option, None, Some, slice_get}
 use Rattle.std.specs.List.{AllByRecursion}
 use Rattle.sys_terms.specs.View.{Machine}
 use Rattle.board_core.specs.declared.plan.Plan.{Plan}
@@ -10,7 +10,6 @@ use Rattle.board_core.specs.Seats.{HasCauses}
 use Rattle.kind_engine.specs.Ready.{IsReady}
 use Rattle.kind_main.specs.declared.options.Options.{Options}
 use Rattle.kind_main.specs.Options.{numbers_of, options_plan}
-use Rattle.kind_main.specs.Causes.{all_flags}
 use Rattle.kind_main.specs.Verdicts.{Verdict, valid, falsifiable, unknown, AreTrueCauses}
 
 -- the engine of this number has posted, at the seat of its number, its cause for each property that the book leaves
@@ -24,10 +23,9 @@ pub record IsPlayedBy (m : Machine) (given : Plan) (b : Contents) : Type 0 where
   pub plan : plan_of b ≡ given
   pub sound : AreSound (machine_of b) (plan_of b) (history_of b)
 
--- a sound book of flags, with these options, in which each of their engines has posted its causes
+-- a sound book with these options, in which each of their engines has posted its causes
 pub record IsPlayed (o : Options) (b : Contents) : Type 0 where
   pub ready : IsReady (machine_of b) (options_plan o)
-  pub flags : all_flags (machine_of b).shapes ≡ true
   pub plan : plan_of b ≡ options_plan o
   pub sound : AreSound (machine_of b) (plan_of b) (history_of b)
   pub spent : AllByRecursion (HasSpent b) (numbers_of o.engines)

@@ -26,19 +26,11 @@ pub record FollowsAll (p : Program) : Type 0 where
 abbrev pub IsRuling : Program → Refused → Type 0
 IsRuling p r = (r.reason ≡ memory) ⊎ IsRefusedFor p None r
 
--- the bytes are a source, whose tree breaks no rule and passes no limit, and is not of the shape that is built
-pub record IsNotBuilt (bytes : List ℕ) : Type 0 where
-  pub tree : Program
-  pub source : IsSource bytes tree
-  pub right : FollowsAll tree
-  pub because : IsOfTheShape tree → ⊥
-
 -- why the bytes of a source are refused, and the line that says so: their tokens or their grammar have a first fault, or they
--- break a rule, or they are not built
+-- break a rule
 pub data IsRefusedSource (bytes : List ℕ) (line : Line) : Type 0 where
   misread : (r : Refused) → IsMisread bytes r → line ≡ refused_line r → IsRefusedSource bytes line
   ruled_out : (r : Refused) → IsRuledOut bytes r → line ≡ refused_line r → IsRefusedSource bytes line
-  unbuilt : IsNotBuilt bytes → line ≡ not_built_line → IsRefusedSource bytes line
 
 -- how a command ends whose source is refused
 abbrev pub EndsAtSource : List ℕ → Ending → Type 0
@@ -47,16 +39,47 @@ EndsAtSource bytes usage = ⊥
 EndsAtSource bytes (unread name) = ⊥
 EndsAtSource bytes (done lines code) = ⊥
 
--- the file holds a source that follows the rules, of the shape that is built
+-- the file holds a source that follows all rules and limits
 pub record HoldsSource (told : Told) (p : Program) : Type 0 where
   pub bytes : List ℕ
   pub held : MayHold told bytes
   pub short : length bytes ≤ limit
   pub source : IsSource bytes p
   pub right : FollowsAll p
-  pub follows : BreaksNoBooleanRule p
 
 -- why a file is refused as a source, and the line that says so
 pub data IsRefusedFile (told : Told) (line : Line) : Type 0 where
   too_long : MayExceed told limit → line ≡ too_long_line → IsRefusedFile told line
   refused_bytes : (bytes : List ℕ) → MayHold told bytes → length bytes ≤ limit → IsRefusedSource bytes line → IsRefusedFile told line
+
+-- ---- replays
+
+-- the bytes are a source, whose tree breaks no rule and passes no limit, and is not of the shape that replays are built for
+pub record IsNotBuilt (bytes : List ℕ) : Type 0 where
+  pub tree : Program
+  pub source : IsSource bytes tree
+  pub right : FollowsAll tree
+  pub because : IsOfTheShape tree → ⊥
+
+-- why the bytes of a source are refused for a replay, and the line that says so
+pub data IsRefusedForReplay (bytes : List ℕ) (line : Line) : Type 0 where
+  no_source : IsRefusedSource bytes line → IsRefusedForReplay bytes line
+  unbuilt : IsNotBuilt bytes → line ≡ not_built_line → IsRefusedForReplay bytes line
+
+-- how a replay ends whose source is refused
+abbrev pub EndsReplayAtSource : List ℕ → Ending → Type 0
+EndsReplayAtSource bytes (refused line) = IsRefusedForReplay bytes line
+EndsReplayAtSource bytes usage = ⊥
+EndsReplayAtSource bytes (unread name) = ⊥
+EndsReplayAtSource bytes (done lines code) = ⊥
+
+-- the file holds a source that follows all rules and limits, of the shape that replays are built for
+pub record HoldsBuilt (told : Told) (p : Program) : Type 0 where
+  pub holds : HoldsSource told p
+  pub follows : BreaksNoBooleanRule p
+
+-- why a file is refused as the source of a replay, and the line that says so
+pub data IsRefusedReplayFile (told : Told) (line : Line) : Type 0 where
+  no_source_file : IsRefusedFile told line → IsRefusedReplayFile told line
+  unbuilt_bytes : (bytes : List ℕ) → MayHold told bytes → length bytes ≤ limit → IsNotBuilt bytes → line ≡ not_built_line
+      → IsRefusedReplayFile told line

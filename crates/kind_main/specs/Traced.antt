@@ -12,7 +12,7 @@ use Rattle.trace_replay.specs.Traces.{IsTraceText, FirstMisfit}
 use Rattle.kind_main.specs.Lines.{Line, too_long_line, formless_line}
 use Rattle.kind_main.specs.Report.{IsReplay}
 use Rattle.kind_main.specs.Fetched.{Tells, limit}
-use Rattle.kind_main.specs.Source.{HoldsSource, IsRefusedFile}
+use Rattle.kind_main.specs.Source.{HoldsBuilt, IsRefusedReplayFile}
 use Rattle.kind_main.specs.Ending.{Ending, usage, unread, refused, done}
 
 -- why the bytes of a trace are refused, at their first word or line end that is outside the format, or at their first word that does not fit the program
@@ -49,7 +49,7 @@ pub data IsRefusedTrace (told : Told) (p : Program) (line : Line) : Type 0 where
 -- the files hold a source and a trace, and the lines say what the trace's one frame breaks
 pub record IsReplayed (told : Tells) (file trace : List ℕ) (lines : List Line) (code : ℕ) : Type 0 where
   pub program : Program
-  pub source : HoldsSource (told file) program
+  pub source : HoldsBuilt (told file) program
   pub listing : Listing
   pub held : HoldsTrace (told trace) program listing
   pub replay : IsReplay program listing lines code
@@ -57,12 +57,12 @@ pub record IsReplayed (told : Tells) (file trace : List ℕ) (lines : List Line)
 -- A file could not be read: the source or, where that is held, the trace.
 pub data IsUnreadOf (told : Tells) (file trace name : List ℕ) : Type 0 where
   unread_source : name ≡ file → IsUnreadOf told file trace name
-  unread_trace : (p : Program) → HoldsSource (told file) p → name ≡ trace → IsUnreadOf told file trace name
+  unread_trace : (p : Program) → HoldsBuilt (told file) p → name ≡ trace → IsUnreadOf told file trace name
 
 -- A file is refused: the source or, where that is held, the trace.
 pub data IsRefusedOf (told : Tells) (file trace : List ℕ) (line : Line) : Type 0 where
-  refused_source : IsRefusedFile (told file) line → IsRefusedOf told file trace line
-  refused_trace : (p : Program) → HoldsSource (told file) p → IsRefusedTrace (told trace) p line → IsRefusedOf told file trace line
+  refused_source : IsRefusedReplayFile (told file) line → IsRefusedOf told file trace line
+  refused_trace : (p : Program) → HoldsBuilt (told file) p → IsRefusedTrace (told trace) p line → IsRefusedOf told file trace line
 
 -- How the replay of a trace on a source ends. The counts are the shelf's faults before the call and now.
 abbrev pub EndsReplay : Tells → ℕ → ℕ → List ℕ → List ℕ → Ending → Type 0

@@ -1,31 +1,35 @@
 -- What is said of a property, when that is true, and the lines that say it.
-use Rattle.std.specs.Prelude.{◌≡◌, ◌≢◌, ℕ, suc, zero, ◌++◌, ◌==◌, cond, codes, decimal, length, map, List, [], ◌∷◌, Some, slice_get, option_map, option_to_list}
+use Rattle.std.specs.Prelude.{◌≡◌, ◌≢◌, ℕ, suc, zero, ◌++◌, ◌==◌, cond, codes, decimal, length, map, List, [], ◌∷◌, Some, slice_get, option_map, option_to_list, Contains, Option, None}
 use Rattle.std.specs.List.{AllByRecursion}
 use Rattle.std.specs.Fmt.{signed_decimal}
 use Rattle.proof_steps.specs.StopView.{Halt, conflicts, splits, pivots, past}
 use Rattle.kind_num.specs.declared.Past.{Past}
 use Rattle.kind_num.specs.declared.Op.{Op}
 use Rattle.kind_num.specs.declared.Op.TheVariants.{Add, Sub, Mul, Div}
-use Rattle.lus_tree.specs.Tree.{Program, Component, Labelled}
+use Rattle.lus_tree.specs.Lookup.{node_at}
+use Rattle.lus_tree.specs.Tree.{Program, Component, declared_node}
 use Rattle.lus_meaning.specs.Frame.{Frame}
 use Rattle.lus_meaning.specs.Program.{instance_of}
-use Rattle.lus_meaning.specs.Contract.{Property, first_token}
+use Rattle.lus_meaning.specs.Scene.{Instance}
+use Rattle.lus_meaning.specs.Contract.{Property}
 use Rattle.lus_meaning.specs.Property.{properties}
-use Rattle.lus_meaning.specs.Label.{label_of, name_text}
+use Rattle.lus_meaning.specs.Label.{label_of, path_text}
 use Rattle.lus_meaning.specs.Verdict.{Holds, Breaks}
 use Rattle.lus_meaning.specs.Trace.{IsFrameOf}
 use Rattle.lus_meaning.specs.TraceView.{Listing, lines_of}
 use Rattle.lus_meaning.specs.Fits.{FitsProgram}
 use Rattle.lus_meaning.specs.Replay.{Shown, ReplaysTrace}
-use Rattle.lus_meaning.specs.BooleanRules.{IsBooleanChecked}
-use Rattle.lus_meaning.specs.Rules.{IsWithinCounts}
+use Rattle.lus_checked.specs.Main.{main_node}
+use Rattle.source_laws.specs.Laws.{AreIdentified}
+use Rattle.path_traces.specs.Printed.{PrintedPlace, printed_place}
 use Rattle.trace_replay.specs.Traces.{IsTraceText}
+use Rattle.trace_replay.specs.Words.{subject_text}
 use Rattle.sys_terms.specs.View.{Machine}
 use Rattle.sys_meaning.specs.System.{system_of}
-use Rattle.trace_replay.specs.Laws.{HasIdentifiers}
 use Rattle.board_core.specs.Entries.{Why, depth, frames, blocked, done, stopped, wide}
 use Rattle.kind_main.specs.declared.options.Options.{Options}
 use Rattle.kind_main.specs.Options.{numbers_of, options_plan}
+use Rattle.kind_main.specs.Source.{FollowsAll}
 use Rattle.kind_main.specs.Causes.{Because, IsTrueCause, because_view}
 use Rattle.kind_main.specs.declared.outcome.Outcome.{Outcome}
 use Rattle.kind_main.specs.declared.outcome.Outcome.TheVariants.{Valid, Falsifiable, Unknown}
@@ -107,14 +111,21 @@ halt_text (splits pairs) = codes "splits " ++ decimal (length pairs)
 halt_text (pivots start pairs) = codes "pivots " ++ decimal start.pivots
 halt_text (past step pairs) = codes "past 128 bits " ++ past_text step.past
 
--- (a cause for wide values has no text yet: no system of flags has one)
-abbrev pub why_text : Why → List ℕ
-why_text (depth k) = codes "depth " ++ decimal k
-why_text (frames k) = codes "frames " ++ decimal k
-why_text (blocked k) = codes "blocked " ++ decimal k
-why_text (done k) = codes "done " ++ decimal k
-why_text (stopped halt) = halt_text halt
-why_text (wide path variable instant value) = []
+-- a place as a trace has it; a variable that has a number has one
+abbrev pub place_text : Option PrintedPlace → List ℕ
+place_text None = []
+place_text (Some place) = path_text place.0 ++ subject_text place.1
+
+-- in the system of a declaration, whose variables stand at their places
+abbrev pub why_text : Instance → Why → List ℕ
+why_text i (depth k) = codes "depth " ++ decimal k
+why_text i (frames k) = codes "frames " ++ decimal k
+why_text i (blocked k) = codes "blocked " ++ decimal k
+why_text i (done k) = codes "done " ++ decimal k
+why_text i (stopped halt) = halt_text halt
+why_text i (wide path variable instant value) =
+    codes "wide " ++ (place_text (printed_place i variable) ++ (codes " at " ++ (decimal instant
+    ++ (codes " value " ++ signed_decimal value))))
 
 abbrev pub engine_text : ℕ → List ℕ
 engine_text zero = codes "bounded"
@@ -122,30 +133,34 @@ engine_text (suc zero) = codes "step"
 engine_text (suc (suc e)) = []
 
 -- the engine, and its cause
-abbrev pub because_text : Because → List ℕ
-because_text b = engine_text b.engine ++ (codes " " ++ why_text b.why)
+abbrev pub because_text : Instance → Because → List ℕ
+because_text i b = engine_text b.engine ++ (codes " " ++ why_text i b.why)
 
-abbrev pub more_text : List Because → List ℕ
-more_text [] = []
-more_text (b ∷ bs) = codes "; " ++ (because_text b ++ more_text bs)
+abbrev pub more_text : Instance → List Because → List ℕ
+more_text i [] = []
+more_text i (b ∷ bs) = codes "; " ++ (because_text i b ++ more_text i bs)
 
-abbrev pub causes_text : List Because → List ℕ
-causes_text [] = []
-causes_text (b ∷ bs) = because_text b ++ more_text bs
+abbrev pub causes_text : Instance → List Because → List ℕ
+causes_text i [] = []
+causes_text i (b ∷ bs) = because_text i b ++ more_text i bs
 
--- the lines of what is said of the property with this label
-abbrev pub verdict_lines : List ℕ → Verdict → List Line
-verdict_lines label valid = (codes "valid " ++ (label ++ codes "\n")) ∷ []
-verdict_lines label (falsifiable last trace) =
+-- the lines of a property that a trace breaks, with this label
+abbrev pub falsifiable_lines : List ℕ → ℕ → List Line → List Line
+falsifiable_lines label last trace =
     (codes "falsifiable " ++ (label ++ (codes " at " ++ (decimal last ++ codes "\n"))))
     ∷ map (λ l. codes "  " ++ l) trace
-verdict_lines label (unknown causes) =
-    (codes "unknown " ++ (label ++ (codes ": " ++ (causes_text causes ++ codes "\n")))) ∷ []
 
-abbrev pub verdict_report : List (List ℕ) → List Verdict → List Line
-verdict_report (l ∷ ls) (s ∷ ss) = verdict_lines l s ++ verdict_report ls ss
-verdict_report [] ss = []
-verdict_report (l ∷ ls) [] = []
+-- the lines of what is said of the property with this label
+abbrev pub verdict_lines : Instance → List ℕ → Verdict → List Line
+verdict_lines i label valid = (codes "valid " ++ (label ++ codes "\n")) ∷ []
+verdict_lines i label (falsifiable last trace) = falsifiable_lines label last trace
+verdict_lines i label (unknown causes) =
+    (codes "unknown " ++ (label ++ (codes ": " ++ (causes_text i causes ++ codes "\n")))) ∷ []
+
+abbrev pub verdict_report : Instance → List (List ℕ) → List Verdict → List Line
+verdict_report i (l ∷ ls) (s ∷ ss) = verdict_lines i l s ++ verdict_report i ls ss
+verdict_report i [] ss = []
+verdict_report i (l ∷ ls) [] = []
 
 -- ---- the summary
 
@@ -171,14 +186,21 @@ tally_code t = cond (t.falsifiable == 0) (cond (t.unknown == 0) 0 4) 1
 
 -- ---- all of it
 
--- each property of the program's node has its verdict, in order, and then comes the summary
-pub record IsProof (o : Options) (p : Program) (lines : List Line) (code : ℕ) : Type 0 where
-  pub node : Component
-  pub checked : IsBooleanChecked p node
+-- each property of the node has its verdict, in order, printed with its label, and then comes the summary
+pub record IsProofOf (o : Options) (p : Program) (d : Component) (lines : List Line) (code : ℕ) : Type 0 where
   pub verdicts : List Verdict
-  pub right : AreTrueVerdicts o p node 0 (properties (instance_of p node)) verdicts
-  pub printed : lines ≡ verdict_report (map label_of (properties (instance_of p node))) verdicts ++ summary_line (tally_of verdicts) ∷ []
+  pub right : AreTrueVerdicts o p d 0 (properties (instance_of p d)) verdicts
+  pub printed : lines ≡ verdict_report (instance_of p d) (map label_of (properties (instance_of p d))) verdicts
+      ++ summary_line (tally_of verdicts) ∷ []
   pub status : code ≡ tally_code (tally_of verdicts)
+
+-- so it is of the program's main node: the first with a mark, else the last
+pub record IsProof (o : Options) (p : Program) (lines : List Line) (code : ℕ) : Type 0 where
+  pub number : ℕ
+  pub is_main : main_node p None ≡ Some number
+  pub node : Component
+  pub stands : node_at number p ≡ Some node
+  pub proof : IsProofOf o p node lines code
 
 -- ---- as clauses see it
 
@@ -194,14 +216,11 @@ outcome_view (Unknown first second) = unknown (because_view first ∷ option_to_
 abbrev pub outcomes_view : List Outcome → List Verdict
 outcomes_view = map outcome_view
 
--- the label of a body's property
-abbrev pub property_label : Labelled → List ℕ
-property_label l = codes "property " ++ name_text l.label (first_token l.value)
-
--- what is written of a trace of the program is read back: its names are identifiers, and it is within the limits
-pub record IsReadable (p : Program) : Type 0 where
-  pub identifiers : (d : Component) → IsBooleanChecked p d → HasIdentifiers d
-  pub limits : (d : Component) → IsBooleanChecked p d → IsWithinCounts p d
+-- a node or function of a program that follows all rules and limits, and whose names are identifiers
+pub record IsAnalysed (p : Program) (d : Component) : Type 0 where
+  pub follows : FollowsAll p
+  pub declared : Contains p (declared_node d)
+  pub identified : AreIdentified p
 
 abbrev pub counts_of : Counted → Tally
 counts_of t = record { valid = t.valid; falsifiable = t.falsifiable; unknown = t.unknown }

@@ -1,11 +1,10 @@
 //! The play of the engines on a node's system.
 
-ghost use Rattle.std.specs.Prelude.{◌≡◌, [], true, IfOk};
+ghost use Rattle.std.specs.Prelude.{◌≡◌, [], IfOk};
 ghost use Rattle.sys_terms.specs.View.{system_view};
 ghost use Rattle.board_core.specs.Books.{machine_of};
 ghost use Rattle.kind_engine.specs.Ready.{IsReady};
 ghost use Rattle.kind_engine.specs.Engines.{worker_machine, worker_plan, worker_known};
-ghost use Rattle.kind_main.specs.Causes.{all_flags};
 ghost use Rattle.kind_main.specs.Options.{options_plan};
 ghost use Rattle.kind_main.specs.Played.{HasSpent, IsPlayed, IsPlayedBy};
 
@@ -92,8 +91,7 @@ fn both(alloc: Global, system: System, plan: Plan) -> Result<Book, AllocError>
 
 /// The book that the engines of these options leave.
 pub fn played(alloc: Global, system: System, options: Options) -> Result<Book, AllocError>
-    requires ready { IsReady (system_view system) (options_plan options) }
-    requires flags { all_flags (system_view system).shapes ≡ true }
+    requires { IsReady (system_view system) (options_plan options) }
     ensures system { IfOk result (λ b. machine_of b ≡ system_view system) }
     ensures played { IfOk result (IsPlayed options) }
 {

@@ -1,10 +1,12 @@
 //! The command `prove`.
-ghost use Rattle.std.specs.Prelude.{◌≡◌, ◌≤◌, IfOk};
-ghost use Rattle.lus_tree.specs.View.{program_view};
+ghost use Rattle.std.specs.Prelude.{◌≡◌, ◌≤◌, IfOk, Some};
+ghost use Rattle.lus_tree.specs.Lookup.{node_at};
+ghost use Rattle.lus_tree.specs.View.{node_view, program_view};
+ghost use Rattle.lus_checked.specs.Program.{main_of, tree_of};
 ghost use Rattle.kind_main.specs.Ending.{IfEnded, lines_view};
 ghost use Rattle.kind_main.specs.Options.{IsInRange};
 ghost use Rattle.kind_main.specs.Proved.{EndsProof};
-ghost use Rattle.kind_main.specs.Verdicts.{IsReadable, IsProof};
+ghost use Rattle.kind_main.specs.Verdicts.{IsAnalysed, IsProofOf};
 
 use crate::ending::{Report, Stopped};
 use crate::fetching::fetch;
@@ -14,28 +16,34 @@ use crate::source::read_source;
 use crate::tally::{Tally, summary_text};
 use crate::verdicts::verdict_report;
 use kind_io::Shelf;
-use lus_built::Built;
+use lus_checked::Checked;
+use lus_properties::properties;
+use lus_streams::owner::Owner;
+use lus_tree::{Node, Program};
 use source_laws::laws::identified_sources;
 use std::alloc::{AllocError, Global};
-use sys_build::build;
-use sys_build::laws::{few_properties, mild_systems, small_systems, systems_of_flags};
+use sys_frames::system;
+use term_laws::laws::{as_many_formulas, mild_systems, small_systems};
 
-/// What is proved of a program.
-fn proof_report(alloc: Global, checked: &Built, options: Options) -> Result<Report, AllocError>
-    requires readable { IsReadable (program_view checked.now) }
+/// What is proved of a node or function of a program.
+fn proof_report(
+    alloc: Global,
+    program: &Program,
+    node: &Node,
+    options: Options,
+) -> Result<Report, AllocError>
+    requires analysed { IsAnalysed (program_view program.now) (node_view node.now) }
     requires range { IsInRange options }
-    ensures { IfOk result (λ r. IsProof options (program_view checked.now) (lines_view r.lines.items) r.status.code) }
+    ensures { IfOk result (λ r. IsProofOf options (program_view program.now) (node_view node.now)
+        (lines_view r.lines.items) r.status.code) }
 {
     mild_systems();
     small_systems();
-    systems_of_flags();
-    few_properties();
-    let node = checked.node();
-    let Ok(system) = build(alloc, checked) else {
-        return Err(AllocError);
-    };
-    let outcomes = outcomes(alloc, checked, system, options)?;
-    let mut lines = verdict_report(alloc, &node.items, &outcomes)?;
+    as_many_formulas();
+    let system = system(alloc, program, Owner::Node(node))?;
+    let outcomes = outcomes(alloc, program, node, system, options)?;
+    let properties = properties(alloc, program, Owner::Node(node))?;
+    let mut lines = verdict_report(alloc, program, node, &properties, &outcomes)?;
     let tally = Tally::of(&outcomes);
     let summary = summary_text(alloc, tally)?;
     lines.push(summary.into_bytes())?;
@@ -43,6 +51,16 @@ fn proof_report(alloc: Global, checked: &Built, options: Options) -> Result<Repo
         lines,
         status: tally.status(),
     })
+}
+
+/// The main node or function of a program.
+fn main_node(checked: &Checked) -> &Node
+    ensures { node_at (main_of checked.now) (tree_of checked.now) ≡ Some (node_view result.now) }
+{
+    match checked.program().node(checked.main()) {
+        Some(node) => node,
+        None => unreachable!(),
+    }
 }
 
 /// Decides the properties of a source.
@@ -58,5 +76,7 @@ pub fn prove_file<H: Shelf>(
     identified_sources();
     let bytes = fetch(alloc, source, shelf)?;
     let checked = read_source(alloc, &bytes)?;
-    Ok(proof_report(alloc, &checked, options)?)
+    let program = checked.program();
+    let node = main_node(&checked);
+    Ok(proof_report(alloc, program, node, options)?)
 }

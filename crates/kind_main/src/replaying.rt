@@ -13,7 +13,7 @@ ghost use Rattle.kind_main.specs.Traced.{EndsAt, EndsAtTrace, EndsReplay};
 use crate::ending::{Report, Stopped};
 use crate::fetching::fetch;
 use crate::report::break_lines;
-use crate::source::read_source;
+use crate::source::read_built;
 use crate::status::Status;
 use crate::text::{formless_text, lawful_text};
 use kind_io::Shelf;
@@ -99,7 +99,7 @@ pub fn replay_files<H: Shelf>(
         (H.faults shelf.new) source.now trace.now) result }
 {
     let bytes = fetch(alloc, source, shelf)?;
-    let checked = read_source(alloc, &bytes)?;
+    let checked = read_built(alloc, &bytes)?;
     let bytes = fetch(alloc, trace, shelf)?;
     let replayed = read_replay(alloc, &checked, &bytes)?;
     Ok(replay_report(alloc, &checked, &replayed.trace, &replayed.replay)?)

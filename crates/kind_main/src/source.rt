@@ -1,14 +1,15 @@
 //! The source of a command.
-ghost use Rattle.std.specs.Prelude.{◌≡◌, ◌≢◌, ◌≤◌, length, IfErr, IfOk, MatchResult};
+ghost use Rattle.std.specs.Prelude.{◌≡◌, ◌≢◌, ◌≤◌, length, IfErr, IfOk, MatchResult, None, Some};
 ghost use Rattle.lus_tree.specs.View.{program_view};
 ghost use Rattle.lus_tree.specs.Reason.{refusal_view, memory};
 ghost use Rattle.lus_meaning.specs.BooleanRules.{BreaksNoBooleanRule};
 ghost use Rattle.lus_meaning.specs.Grammatical.{IsGrammatical};
 ghost use Rattle.lus_grammar.specs.Source.{IsSource};
-ghost use Rattle.lus_checked.specs.Program.{tree_of};
+ghost use Rattle.lus_checked.specs.Main.{main_node};
+ghost use Rattle.lus_checked.specs.Program.{main_of, tree_of};
 ghost use Rattle.kind_main.specs.Lines.{not_built_line, refused_line};
 ghost use Rattle.kind_main.specs.Ending.{IfStopped, refused as ends_refused};
-ghost use Rattle.kind_main.specs.Source.{EndsAtSource, FollowsAll, IsRuling};
+ghost use Rattle.kind_main.specs.Source.{EndsAtSource, EndsReplayAtSource, FollowsAll, IsRuling};
 
 use crate::ending::Stopped;
 use crate::text::refused_text;
@@ -35,7 +36,7 @@ fn refused(alloc: Global, refusal: &Refusal) -> Stopped
     }
 }
 
-/// The end of a command whose source follows all rules and is not built.
+/// The end of a replay whose source follows all rules and is not built.
 fn not_built(alloc: Global) -> Stopped
     ensures { IfStopped (λ e. e ≡ ends_refused not_built_line) result }
 {
@@ -48,12 +49,14 @@ fn not_built(alloc: Global) -> Stopped
     )
 }
 
-/// The program with what its checks know of it: it breaks no rule, and passes no limit.
+/// The program with what its checks know of it: it breaks no rule, and passes no limit, and its main node is the first
+/// with a mark, else the last.
 #[tactic(auto, using(crate::proofs::Ruling::typing_ruling, crate::proofs::Ruling::clocks_ruling, crate::proofs::Ruling::checked_ruling))]
 fn ruled(alloc: Global, program: Program) -> Result<Checked, Refusal>
     requires grammatical { IsGrammatical (program_view program) }
     ensures same { IfOk result (λ c. tree_of c ≡ program_view program) }
     ensures right { IfOk result (λ _. FollowsAll (program_view program)) }
+    ensures main { IfOk result (λ c. main_node (program_view program) None ≡ Some (main_of c)) }
     ensures refused { IfErr result (λ e. IsRuling (program_view program) (refusal_view e)) }
 {
     let typed = types(alloc, program)?;
@@ -61,20 +64,34 @@ fn ruled(alloc: Global, program: Program) -> Result<Checked, Refusal>
     checked(alloc, clocked, None)
 }
 
-/// The program of a source, which follows all rules and is of the shape that is built.
-pub fn read_source(alloc: Global, bytes: &[u8]) -> Result<Built, Stopped>
+/// The program of a source, which follows all rules and limits, with its main node.
+pub fn read_source(alloc: Global, bytes: &[u8]) -> Result<Checked, Stopped>
     requires { length bytes.now ≤ 1048576 }
-    ensures { MatchResult result (λ c. IsSource bytes.now (program_view c)
-        × FollowsAll (program_view c) × BreaksNoBooleanRule (program_view c)) (IfStopped (EndsAtSource bytes.now)) }
+    ensures { MatchResult result (λ c. IsSource bytes.now (tree_of c)
+        × FollowsAll (tree_of c) × (main_node (tree_of c) None ≡ Some (main_of c)))
+        (IfStopped (EndsAtSource bytes.now)) }
 {
     grammatical_sources();
     let program = match read_program(alloc, bytes) {
         Ok(program) => program,
         Err(refusal) => return Err(refused(alloc, &refusal)),
     };
-    let checked = match ruled(alloc, program) {
+    match ruled(alloc, program) {
+        Ok(checked) => Ok(checked),
+        Err(refusal) => Err(refused(alloc, &refusal)),
+    }
+}
+
+/// The program of a source, which follows all rules and limits and is of the shape that replays are built for.
+pub fn read_built(alloc: Global, bytes: &[u8]) -> Result<Built, Stopped>
+    requires { length bytes.now ≤ 1048576 }
+    ensures { MatchResult result (λ c. IsSource bytes.now (program_view c)
+        × FollowsAll (program_view c) × BreaksNoBooleanRule (program_view c))
+        (IfStopped (EndsReplayAtSource bytes.now)) }
+{
+    let checked = match read_source(alloc, bytes) {
         Ok(checked) => checked,
-        Err(refusal) => return Err(refused(alloc, &refusal)),
+        Err(stopped) => return Err(stopped),
     };
     match built(alloc, checked) {
         Ok(Some(built)) => Ok(built),

@@ -2,3 +2,4 @@ pub mod Numbered
 pub mod Kinds
 pub mod Plans
 pub mod Walked
+pub mod Printed

@@ -5,6 +5,7 @@ mod free;
 mod lines;
 mod names;
 mod numbers;
+mod places;
 mod plan;
 mod presence;
 mod reading;
@@ -12,4 +13,5 @@ mod tables;
 mod trace;
 mod walk;
 
+pub use places::{Place, place_of};
 pub use trace::trace_of;

@@ -1,5 +1,5 @@
 use Rattle.std.proofs.Common.{sym, subst}
-use Rattle.lus_tree.specs.View.{program_view}
+use Rattle.lus_tree.specs.View.{node_view, program_view}
 use Rattle.board_core.specs.Books.{machine_of, plan_of, history_of}
 use Rattle.board_core.specs.Verdicts.{IsJudged}
 use Rattle.kind_main.specs.Verdicts.{outcome_view}
@@ -23,7 +23,8 @@ returns-in-Valid c =
     let b = c.args.book.now in
     let law = c.verdicts_are_true.ensures (machine_of b) (plan_of b) (history_of b) c.args.property c.requires.played.ready.mild.fit
     c.requires.played.sound in
-    valid_by_book (program_view c.args.checked.now) (machine_of b) c.requires.system c.args.property c.checked_verdicts.ensures.valid c.args.options
+    valid_by_book (program_view c.args.program.now) (node_view c.args.node.now) c.requires.analysed (machine_of b) c.requires.system
+    c.args.property c.each_verdicts.ensures.valid c.args.options
     (subst (IsJudged (machine_of b) c.args.property (history_of b)) (sym (rw c.in-Valid.is at c.verdict.ensures.first)) law)
 
 pub returns-in-Falsifiable : goal.returns-in-Falsifiable
@@ -31,5 +32,6 @@ returns-in-Falsifiable c = ok_as _ _ (λ o h. h c.args.options) c.broken_at.resu
 
 pub returns-in-Unknown : goal.returns-in-Unknown
 returns-in-Unknown c =
-    ok_as _ _ (λ o h. causes_by (program_view c.args.checked.now) c.args.options c.args.book.now c.requires.system c.args.property (outcome_view o) h)
+    ok_as _ _ (λ o h. causes_by (program_view c.args.program.now) (node_view c.args.node.now) c.args.options c.args.book.now c.requires.system
+    c.args.property (outcome_view o) h)
     c.undecided.result c.undecided.ensures
