@@ -4,3 +4,4 @@ mod Gathered
 mod Made
 mod Own
 mod Walks
+mod Placed

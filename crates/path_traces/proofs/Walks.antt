@@ -80,7 +80,7 @@ counted_at p c d i = record {
   counted = in_order_counted (λ (m : Memory). m.number) (memories d) (memories_counted d (numbered p c.grammatical d i));
 }
 
-counted_so : (p : Program) → IsChecked p → (x : Name) → IsCounted (callee p x)
+pub counted_so : (p : Program) → IsChecked p → (x : Name) → IsCounted (callee p x)
 counted_so p c x = go (component_named p x) (λ d e. counted_at p c d (found_declared p x d e))
   where
     go : (o : Option Component) → ((d : Component) → o ≡ Some d → IsCounted d) → IsCounted (unwrap_or o no_component)

@@ -3,3 +3,4 @@ pub mod Kinds
 pub mod Plans
 pub mod Walked
 pub mod Printed
+pub mod Places

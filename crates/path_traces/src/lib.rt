@@ -1,6 +1,7 @@
 //! The trace of the states of a path of a node's system.
 #![tactic(auto)]
 
+mod declared;
 mod free;
 mod lines;
 mod names;

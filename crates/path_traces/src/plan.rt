@@ -30,7 +30,7 @@ pub(crate) struct Plan<'a> {
 }
 
 /// Whether a declaration has a contract.
-fn has_contract(owner: Owner<'_>) -> bool
+pub(crate) fn has_contract(owner: Owner<'_>) -> bool
     ensures { result ≡ not (is_none (owner_view owner.entry).contract) }
 {
     match owner {

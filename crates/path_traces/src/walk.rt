@@ -56,7 +56,7 @@ fn free_by<'a, 'p>(way: Way, plan: &'p Plan<'a>) -> &'p [&'a Param]
 }
 
 /// The way to a call's frame.
-fn way_to(alloc: Global, path: &[u32], number: u32) -> Result<Vec<u32>, AllocError>
+pub(crate) fn way_to(alloc: Global, path: &[u32], number: u32) -> Result<Vec<u32>, AllocError>
     ensures { IfOk result (λ v. v.items ≡ path.now ++ number ∷ []) }
 {
     let mut way = path.to_vec(alloc)?;
