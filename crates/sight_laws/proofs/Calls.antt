@@ -64,7 +64,7 @@ module _ (p : Program) (at : Place → ℕ) (missing end : ℕ) (s : Site) (q : 
       ap (λ z. record { callee = s.callee; beat = z; outputs = (call_at end missing (linked p n s q)).outputs }) (sym a.active)
       ∙ ap (λ z. record { callee = s.callee; beat = at (in_call s.number (own beat)); outputs = z })
       (outputs_so outs 0 ((end + q.frame) + suc (length (callee p s.callee).inputs)) (end + (q.frame - q.held)) (omega arith) (omega arith)
-      (λ j v r. r))
+      (λ j v r. ap (slice_get outs) (omega arith) ∙ r))
 
 -- ---- all of them
 
