@@ -1,12 +1,10 @@
 -- The defaults that are known of calls are what the translation gives their outputs at first.
-use Rattle.std.proofs.Common.{◌≡◌, ℕ, zero, suc, ◌+◌, true, List, [], ◌∷◌, ◌++◌, map, flat_map, refl, sym, ap, ◌∙◌, subst, arith}
-use Rattle.std.specs.Prelude.{Contains}
+use Rattle.std.proofs.Common.{◌≡◌, ℕ, suc, ◌+◌, List, [], ◌∷◌, ◌++◌, map, flat_map, refl, sym, ap, ◌∙◌, arith}
 use Rattle.std.specs.List.{AllByRecursion}
 use Rattle.lus_tree.specs.Tree.{Name, Expression, Component, Program}
-use Rattle.lus_meaning.specs.ClockFaults.{components}
 use Rattle.lus_meaning.specs.Occurrences.{gathered}
 use Rattle.lus_meaning.specs.Program.{all_sites, constant_value, import_site, site_in, constants_in, instance_of, instances_with}
-use Rattle.lus_meaning.specs.Scene.{Manner, plain, while_true, as_import, Site, Instance, Instances, instance, call_instance, calls_of, component_of, constants_of, contract_statements, instance_at}
+use Rattle.lus_meaning.specs.Scene.{Manner, plain, while_true, as_import, Site, Instance, instance, call_instance, calls_of, component_of, constants_of, contract_statements, instance_at}
 use Rattle.lus_meaning.specs.Value.{Value}
 use Rattle.lus_limits.specs.Instances.{callee, instance_called_so}
 use Rattle.lus_limits.proofs.Instances.{component_called, made_of_callees}

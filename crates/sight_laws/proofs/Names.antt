@@ -9,7 +9,7 @@ use Rattle.lus_tree.specs.declared.place.Sort.{Sort}
 use Rattle.lus_tree.specs.Numbers.{counting}
 use Rattle.lus_tree.specs.Tree.{Name, Variable, Component}
 use Rattle.lus_meaning.specs.Depends.{named_in}
-use Rattle.lus_meaning.specs.Scene.{Clock, base, clock_from}
+use Rattle.lus_meaning.specs.Scene.{base, clock_from}
 use Rattle.lus_streams.specs.Streams.{names_of}
 use Rattle.name_table.specs.Names.{number_of}
 use Rattle.sys_places.specs.Own.{counted_number, name_number}

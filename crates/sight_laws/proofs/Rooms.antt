@@ -1,13 +1,11 @@
 -- Frames of at most 20,000 variables have room.
-use Rattle.std.proofs.Common.{◌≡◌, ℕ, zero, suc, ◌+◌, ◌<◌, ◌≤◌, ◌^◌, List, [], ◌∷◌, ◌++◌, length, map, length-append, refl, sym, ap, ◌∙◌, subst, arith}
+use Rattle.std.proofs.Common.{◌≡◌, ℕ, suc, ◌+◌, ◌<◌, ◌≤◌, ◌^◌, List, [], ◌∷◌, ◌++◌, length, map, length-append, refl, subst, arith}
 use Rattle.std.specs.Prelude.{Contains}
 use Rattle.std.specs.List.{AllByRecursion}
 use Rattle.lus_tree.specs.Tree.{Variable, Component, Program}
-use Rattle.lus_meaning.specs.ClockFaults.{components}
 use Rattle.lus_meaning.specs.Occurrences.{Memory, Start, memories, starts}
 use Rattle.lus_meaning.specs.Program.{all_sites, in_order, instance_of}
-use Rattle.lus_meaning.specs.Refusals.{IsChecked}
-use Rattle.lus_meaning.specs.Scene.{Manner, Site, Instance, Instances, instance, component_of, contract_statements, ghosts, variables}
+use Rattle.lus_meaning.specs.Scene.{Manner, Site, Instance, instance, component_of, contract_statements, ghosts, variables}
 use Rattle.lus_meaning.specs.Slots.{Cell, call_slots, contract_cells, memory_cell, name_cell, own_cells, slot, slots_in, start_cell}
 use Rattle.lus_meaning.proofs.Exists.{length_mapped}
 use Rattle.lus_limits.specs.Calls.{way_of}
@@ -18,10 +16,10 @@ use Rattle.lus_limits.specs.Widths.{frame_width}
 use Rattle.lus_limits.specs.declared.summing.Link.{Link}
 use Rattle.lus_limits.proofs.Instances.{component_called}
 use Rattle.lus_layouts.specs.declared.placing.CallSlots.{CallSlots}
-use Rattle.lus_layouts.specs.Layouts.{IsLaidOut, callee_width, calls_from, layout_of, own_count}
+use Rattle.lus_layouts.specs.Layouts.{callee_width, calls_from, layout_of, own_count}
 use Rattle.lus_layouts.proofs.Fits.{callees_fit}
 use Rattle.lus_layouts.proofs.Placed.{layouts_hold}
-use Rattle.sys_tables.specs.Numbers.{CallHasRoom, HasRoom, behind_own, so_far_number}
+use Rattle.sys_tables.specs.Numbers.{CallHasRoom, behind_own}
 use Rattle.sys_tables.specs.Tabled.{all_linked, named_stream, table_of}
 use Rattle.sight_laws.specs.Sights.{FramesHaveRoom}
 use Rattle.sight_laws.proofs.Names.{many_named}

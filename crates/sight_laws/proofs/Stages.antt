@@ -1,10 +1,10 @@
 -- The sight of a frame is one of the stage over its instance.
-use Rattle.std.proofs.Common.{◌≡◌, ℕ, zero, suc, ◌+◌, ◌<◌, true, cond, not, List, [], ◌∷◌, ◌++◌, length, map, flat_map, Option, Some, None, option_map, unwrap_or, refl, sym, ap, ◌∙◌, subst, arith}
+use Rattle.std.proofs.Common.{◌≡◌, ℕ, zero, suc, ◌+◌, ◌<◌, cond, not, List, [], ◌∷◌, ◌++◌, length, map, flat_map, Option, Some, None, option_map, unwrap_or, refl, sym, ap, ◌∙◌, subst, arith}
 use Rattle.std.specs.Prelude.{Contains, find, is_none, is_some, slice_get}
 use Rattle.std.specs.Map.{lookup}
 use Rattle.std.specs.Option.{option_map_or}
 use Rattle.std.specs.Str.{bytes_eq}
-use Rattle.lus_tree.specs.Tree.{Name, Variable, ContractStatement, Component, Program}
+use Rattle.lus_tree.specs.Tree.{Variable, ContractStatement, Component, Program}
 use Rattle.lus_meaning.specs.ClockFaults.{components}
 use Rattle.lus_meaning.specs.Occurrences.{Memory, Start, memories, starts}
 use Rattle.lus_meaning.specs.Program.{all_sites, constants_in, in_order, instance_of, instances_with, site_in, import_site}
@@ -12,7 +12,7 @@ use Rattle.lus_meaning.specs.Refusals.{IsChecked}
 use Rattle.lus_meaning.specs.Run.{sort_of_value}
 use Rattle.lus_meaning.specs.Scene.{Manner, plain, while_true, as_import, Site, Instance, instance, call_instance, component_of, contract_statements, variables}
 use Rattle.lus_meaning.specs.Occurrences.{gathered}
-use Rattle.lus_meaning.specs.Value.{Value, absent}
+use Rattle.lus_meaning.specs.Value.{absent}
 use Rattle.lus_meaning.proofs.InOrder.{in_order_length}
 use Rattle.lus_limits.specs.Calls.{way_of}
 use Rattle.lus_limits.specs.Instances.{callee, instance_called_so}
@@ -23,7 +23,6 @@ use Rattle.lus_layouts.specs.Layouts.{layout_of}
 use Rattle.rule_laws.proofs.Places.{memories_counted, numbered, sites_counted, starts_counted}
 use Rattle.path_laws.proofs.Numbers.{CountedFrom, in_order_counted}
 use Rattle.sys_meaning.specs.Items.{Known}
-use Rattle.sys_meaning.specs.Part.{Part}
 use Rattle.sys_meaning.specs.Slot.{Place}
 use Rattle.sys_meaning.specs.Translate.{Stage}
 use Rattle.sys_meaning.specs.Translate as t
@@ -34,7 +33,7 @@ use Rattle.sys_places.proofs.Own.{own_stands}
 use Rattle.sys_places.proofs.Held.{call_variables_stand}
 use Rattle.sys_texts.specs.Laws.{IsSightOf}
 use Rattle.sys_texts.specs.Sights.{Call, Mode, called_sort, latest_part, latest_at, output_part, outputs_at}
-use Rattle.sys_tables.specs.Numbers.{call_at, sight_at, stream_from}
+use Rattle.sys_tables.specs.Numbers.{call_at, sight_at}
 use Rattle.sys_tables.specs.Tabled.{constants_known, named_stream, table_of}
 use Rattle.sight_laws.specs.Sights.{AreModesOf, CallsAreCalls, ConstantsAreKnown, SightsAreSights, SoFarIsKept, SoFarStands, call_of, output_of}
 use Rattle.sight_laws.proofs.Calls.{at_call, called_so, calls_so}
