@@ -1,5 +1,5 @@
 -- The parts that a caller gives, one after the other, and the shapes of what is held.
-use Rattle.std.proofs.Common.{◌≡◌, ℕ, zero, suc, List, [], ◌∷◌, ◌++◌, ◌+◌, map, drop, append_assoc, Option, Some, None, option_map, refl, sym, ap, ◌∙◌, Bor, arith}
+use Rattle.std.proofs.Common.{◌≡◌, ℕ, zero, suc, List, [], ◌∷◌, ◌++◌, ◌+◌, map, length, drop, append_assoc, Option, Some, None, option_map, refl, sym, ap, ◌∙◌, Bor, arith}
 use Rattle.std.specs.Prelude.{slice_get}
 use Rattle.std.specs.Option.{option_copied}
 use Rattle.kind_num.specs.declared.Shape.{Shape}
@@ -43,3 +43,7 @@ streams_step s ms gs j v vs rest old new all e n h =
 pub no_shapes : (os : List Output) → held_shapes os [] ≡ []
 no_shapes [] = refl
 no_shapes (o ∷ os) = refl
+
+pub empty : {A : Type 0} (xs : List A) → length xs ≡ 0 → xs ≡ []
+empty [] e = refl
+empty (x ∷ xs) e = absurd (omega (arith, e))

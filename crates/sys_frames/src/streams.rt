@@ -32,7 +32,6 @@ fn push_stream(
 }
 
 /// The part of that place; none where there is none.
-#[tactic(auto, using(crate::proofs::Taken::part_seen))]
 fn part_at(parts: &[Part], place: usize) -> Option<&Part>
     ensures { option_map (λ p. part_view p.now) result ≡ first_part (drop place (map part_view parts.now)) }
 {
