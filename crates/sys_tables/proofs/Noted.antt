@@ -3,10 +3,11 @@ use Rattle.std.proofs.Common.{◌≡◌, Bool, true, false, cond, List, [], ◌�
 use Rattle.std.specs.Map.{lookup}
 use Rattle.std.specs.Option.{option_or}
 use Rattle.std.specs.Str.{bytes_eq}
-use Rattle.lus_tree.specs.Tree.{Name}
+use Rattle.lus_tree.specs.Tree.{Name, Constant as Defined}
 use Rattle.lus_meaning.specs.Value.{Value}
 use Rattle.sys_parts.specs.Constants.{constant_view}
 use Rattle.sys_parts.specs.declared.constant.Constant.{Constant}
+use Rattle.sys_tables.specs.Tabled.{small_value, small_values}
 
 found_last : (x n : Name) (cs : List (Name × Value)) (v : Value)
     → lookup (bytes_eq x) (cs ++ (n, v) ∷ []) ≡ option_or (lookup (bytes_eq x) cs) (cond (bytes_eq x n) (Some v) None)
@@ -31,3 +32,9 @@ noted_last x n cs v old new e h =
     seen (Some c) b = refl
     seen None true = refl
     seen None false = refl
+
+-- ---- values of more constants
+
+pub values_append : (cs : List (Name × Value)) (xs ys : List Defined) → small_values (small_values cs xs) ys ≡ small_values cs (xs ++ ys)
+values_append cs [] ys = refl
+values_append cs (d ∷ xs) ys = values_append (cs ++ (d.name.text, small_value cs d.value) ∷ []) xs ys

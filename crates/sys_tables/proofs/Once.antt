@@ -6,7 +6,7 @@ use Rattle.std.specs.Str.{bytes_eq}
 use Rattle.std.proofs.lemmas.Bool.{false≢true}
 use Rattle.std.proofs.lemmas.Option.{none-some}
 use Rattle.lus_tree.specs.Reason.{name_twice}
-use Rattle.lus_tree.specs.Tree.{Name, text_of, Component, Program, declared_constant, declared_node, declared_contract}
+use Rattle.lus_tree.specs.Tree.{Name, text_of, Program, declared_constant, declared_node, declared_contract}
 use Rattle.lus_meaning.specs.ClockFaults.{components}
 use Rattle.lus_meaning.specs.Depends.{named_in}
 use Rattle.lus_meaning.specs.Faults.{words_twice}

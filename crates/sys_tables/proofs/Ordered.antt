@@ -1,5 +1,5 @@
 -- What is seen of what is put in order.
-use Rattle.std.proofs.Common.{◌≡◌, List, map, refl, ap, ◌∙◌}
+use Rattle.std.proofs.Common.{◌≡◌, List, map, refl}
 use Rattle.lus_meaning.specs.Scene.{Site}
 use Rattle.lus_meaning.specs.Occurrences.{Memory, Start}
 use Rattle.lus_meaning.specs.Program.{in_order}

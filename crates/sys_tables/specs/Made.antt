@@ -1,5 +1,5 @@
 -- What is known of a declaration, by the names of all declarations and the constants of the program.
-use Rattle.std.specs.Prelude.{ℕ, Bool, is_none, not, List, [], ◌∷◌, map, length, get_or}
+use Rattle.std.specs.Prelude.{is_none, not, List, [], ◌∷◌, map, length, get_or}
 use Rattle.lus_tree.specs.Tree.{Name, Component}
 use Rattle.lus_meaning.specs.Occurrences as o
 use Rattle.lus_meaning.specs.Program.{all_sites, in_order}

@@ -1,7 +1,4 @@
 use Rattle.std.proofs.Common.{map, option_map}
-use Rattle.std.specs.Map.{lookup}
-use Rattle.std.specs.Str.{bytes_eq}
-use Rattle.lus_tree.specs.Numbers.{counting}
 use Rattle.sys_parts.specs.Constants.{constant_view}
 use Rattle.sys_texts.specs.Sights.{Sight}
 use Rattle.sys_texts.specs.Views.{by_name, call_view, stream_view}
