@@ -30,6 +30,7 @@ use Rattle.lus_layouts.specs.Layouts.{layout_of}
 use Rattle.lus_layouts.specs.declared.placing.CallSlots.{CallSlots}
 use Rattle.sys_meaning.specs.Defaults.{default_of}
 use Rattle.sys_meaning.specs.Part.{equal_parts, fixed, variable}
+use Rattle.sys_meaning.specs.Items.{Key}
 use Rattle.sys_meaning.specs.Slot.{Place, own, beat, held, so_far, in_call}
 use Rattle.sys_meaning.specs.System.{below_call, has_so_far, held_first, held_next, shape_of}
 use Rattle.sys_meaning.specs.WellTyped.{IsKnown, StatementsFit, TreeFits, CallsFit, CallFits, MannerFits}
@@ -41,7 +42,7 @@ use Rattle.sys_contracts.specs.Laws.{IsSteadyStatement, bare}
 use Rattle.sys_conditions.specs.Conditioned.{held_at_first, held_condition}
 use Rattle.sys_conditions.specs.Laws.{IsSteadyItem}
 use Rattle.steady_laws.specs.Steady.{IsSteadySite}
-use Rattle.steady_laws.proofs.Declarations.{constants_of_instances, equations_are_steady, items_are_steady, memories_in_order, sites_are_steady, statements_are_steady}
+use Rattle.steady_laws.specs.Laws.{ConstantsOfInstances, EquationsAreSteady, ItemsAreSteady, MemoriesInOrder, SitesAreSteady, StatementsAreSteady}
 use Rattle.sys_places.specs.Places.{StandsAt, OfEachCall, CallStandsAt, own_end}
 use Rattle.sys_places.specs.Own.{CallVariablesAt, OwnStandAt}
 use Rattle.sys_places.proofs.Calls.{stands_at_calls}
@@ -49,12 +50,25 @@ use Rattle.sys_places.proofs.Held.{call_variables_stand}
 use Rattle.sys_places.proofs.Own.{own_stands}
 use Rattle.sys_tables.specs.Tabled.{Linked, Tabled, all_linked, constants_known, linked, named_stream, place_of, small_value, table_of}
 use Rattle.sys_tables.specs.Numbers.{behind_own, frame_base, keeps_so_far, sight_at, so_far_number}
-use Rattle.sight_laws.specs.Sights.{HasItsDefaults, DefaultsAreKnown, SightsAreSights, call_of, output_of}
-use Rattle.sight_laws.proofs.Stages.{calls_are_calls}
-use Rattle.sight_laws.proofs.There.{callees_stand, callees_are_there}
+use Rattle.sight_laws.specs.Sights.{CalleesAreThere, CalleesStand, CallsAreCalls, DefaultsAreKnown, FramesHaveRoom, HasItsDefaults, SightsAreSights, call_of, output_of}
 use Rattle.sys_frames.specs.Walked.{held_lists, so_far_of}
 use Rattle.sys_frames.specs.Walked as w
 use Rattle.sys_frames.proofs.Seen.{HasNames, IsImportAt, IsSteadyText, SeesOwn, SeesCall, Seen, CallsSeen}
+
+-- the laws of texts and of sights that are called for
+pub record Laws : Type 0 where
+  pub sights : SightsAreSights
+  pub defaults : DefaultsAreKnown
+  pub constants : ConstantsOfInstances
+  pub memories : MemoriesInOrder
+  pub sites : SitesAreSteady
+  pub equations : EquationsAreSteady
+  pub items : ItemsAreSteady
+  pub statements : StatementsAreSteady
+  pub calls : CallsAreCalls
+  pub stand : CalleesStand
+  pub there : CalleesAreThere
+  pub room : FramesHaveRoom
 
 -- ---- lists
 
@@ -67,25 +81,25 @@ twice : {A B C : Type 0} (f : B → C) (h : A → B) (xs : List A) → map f (ma
 twice f h [] = refl
 twice f h (x ∷ xs) = ap (λ l. f (h x) ∷ l) (twice f h xs)
 
-abbrev table_list : Program → List Tabled
+abbrev pub table_list : Program → List Tabled
 table_list p = map (table_of p) (components p)
 
 -- the table of a callee stands at its place
-pub table_there : (p : Program) (x : Name) → place_of p x < length (components p) → slice_get (table_list p) (place_of p x) ≡ Some (table_of p (callee p x))
-table_there p x l =
+pub table_there : CalleesStand → (p : Program) (x : Name) → place_of p x < length (components p) → slice_get (table_list p) (place_of p x) ≡ Some (table_of p (callee p x))
+table_there stand p x l =
     slice_get-map (table_of p) (components p) (place_of p x)
-    ∙ ap (option_map (table_of p)) (got_some (components p) (place_of p x) no_component l ∙ ap Some (callees_stand p x))
+    ∙ ap (option_map (table_of p)) (got_some (components p) (place_of p x) no_component l ∙ ap Some (stand p x))
 
 -- ---- a frame itself
 
-imports_so : (i : Instance) (ks : _) (cs : List ContractStatement) → StatementsFit i ks cs → AllByRecursion (IsImportAt i) cs
-imports_so i ks [] h = tt
-imports_so i ks («import» k x as_ xs ∷ cs) h = ((h.0.outputs, h.0.manner), imports_so i _ cs h.1)
-imports_so i ks (assume l ∷ cs) h = (tt, imports_so i _ cs h.1)
-imports_so i ks (guarantee l ∷ cs) h = (tt, imports_so i _ cs h.1)
-imports_so i ks (ghost_variable x e ∷ cs) h = (tt, imports_so i _ cs h.1)
-imports_so i ks (constant d ∷ cs) h = (tt, imports_so i _ cs h.1)
-imports_so i ks (mode m rs es ∷ cs) h = (tt, imports_so i _ cs h.1)
+imports_so : (i : Instance) (cs : List ContractStatement) (ks : List Key) → StatementsFit i ks cs → AllByRecursion (IsImportAt i) cs
+imports_so i [] ks h = tt
+imports_so i («import» k x as_ xs ∷ cs) ks h = ((h.0.outputs, h.0.manner), imports_so i cs _ h.1)
+imports_so i (assume l ∷ cs) ks h = (tt, imports_so i cs _ h.1)
+imports_so i (guarantee l ∷ cs) ks h = (tt, imports_so i cs _ h.1)
+imports_so i (ghost_variable x e ∷ cs) ks h = (tt, imports_so i cs _ h.1)
+imports_so i (constant d ∷ cs) ks h = (tt, imports_so i cs _ h.1)
+imports_so i (mode m rs es ∷ cs) ks h = (tt, imports_so i cs _ h.1)
 
 keeps_is : (p : Program) (n : Component) (m : Manner) → keeps_so_far (way_of m) (table_of p n) ≡ has_so_far m n
 keeps_is p n plain = go n.contract
@@ -104,7 +118,7 @@ kept_as : (b : Bool) (a k j missing : ℕ) → a ≡ cond b j missing → k ≡ 
 kept_as true a k j missing e h = ap Some (h ∙ sym e)
 kept_as false a k j missing e h = refl
 
-module _ (sights : SightsAreSights) (p : Program) (c : IsChecked p) (n : Component) (j : Contains (components p) n) where
+module _ (laws : Laws) (p : Program) (c : IsChecked p) (n : Component) (j : Contains (components p) n) where
   abbrev i : Instance
   i = instance_of p n
 
@@ -112,7 +126,7 @@ module _ (sights : SightsAreSights) (p : Program) (c : IsChecked p) (n : Compone
   same_component = sym (component_called p n)
 
   same_constants : constants_in p n ≡ constants_of i
-  same_constants = sym (constants_of_instances p n)
+  same_constants = sym (laws.constants p n)
 
   tree : TreeFits IsKnown i
   tree = (each_is_well_typed p c n j).0.tree
@@ -120,13 +134,13 @@ module _ (sights : SightsAreSights) (p : Program) (c : IsChecked p) (n : Compone
   steady : IsSteadyText i
   steady = record {
     memories = subst (λ z. AllByRecursion (λ (u : Memory). IsSteady (constants_of i) u.operand) (in_order (λ (u : Memory). u.number) (memories z))) same_component
-        (subst (λ cs. AllByRecursion (λ (u : Memory). IsSteady cs u.operand) (in_order (λ (u : Memory). u.number) (memories n))) same_constants (memories_in_order p c n j));
+        (subst (λ cs. AllByRecursion (λ (u : Memory). IsSteady cs u.operand) (in_order (λ (u : Memory). u.number) (memories n))) same_constants (laws.memories p c n j));
     equations = subst (λ z. AllByRecursion (λ (e : Equation). IsSteady (constants_of i) e.right) (equations z)) same_component
-        (subst (λ cs. AllByRecursion (λ (e : Equation). IsSteady cs e.right) (equations n)) same_constants (equations_are_steady p c n j));
+        (subst (λ cs. AllByRecursion (λ (e : Equation). IsSteady cs e.right) (equations n)) same_constants (laws.equations p c n j));
     items = subst (λ z. AllByRecursion (IsSteadyItem (constants_of i)) z.body) same_component
-        (subst (λ cs. AllByRecursion (IsSteadyItem cs) n.body) same_constants (items_are_steady p c n j));
+        (subst (λ cs. AllByRecursion (IsSteadyItem cs) n.body) same_constants (laws.items p c n j));
     statements = subst (λ z. AllByRecursion (IsSteadyStatement (constants_of i)) (contract_statements z)) same_component
-        (subst (λ cs. AllByRecursion (IsSteadyStatement cs) (contract_statements n)) same_constants (statements_are_steady p c n j));
+        (subst (λ cs. AllByRecursion (IsSteadyStatement cs) (contract_statements n)) same_constants (laws.statements p c n j));
   }
 
   -- the memories and the starts are as many as there are
@@ -159,10 +173,10 @@ module _ (sights : SightsAreSights) (p : Program) (c : IsChecked p) (n : Compone
     memories = ap (λ z. in_order (λ (u : Memory). u.number) (memories z)) same_component;
     starts = ap (λ z. in_order (λ (a : Start). a.number) (starts z)) same_component;
     kept = kept_there m at missing base (own_stands p c n j m at missing base stands);
-    sight = sights p c n j m at missing base l stands [] [] (λ d x. refl);
+    sight = laws.sights p c n j m at missing base l stands [] [] (λ d x. refl);
     distinct = (tree_own IsKnown i tree).once;
     steady = steady;
-    imports = imports_so i [] (contract_statements (component_of i)) (tree_own IsKnown i tree).contract;
+    imports = imports_so i (contract_statements (component_of i)) [] (tree_own IsKnown i tree).contract;
   }
 
 -- ---- its calls
@@ -192,7 +206,7 @@ held_cells_shaped i path at s h [] ds = refl
 held_cells_shaped i path at s h (v ∷ vs) [] = refl
 held_cells_shaped i path at s h (v ∷ vs) (d ∷ ds) = ap (λ l. shape_of v.sort ∷ l) (held_cells_shaped i path at s h vs ds)
 
-module _ (p : Program) (c : IsChecked p) (n : Component) (j : Contains (components p) n) (m : Manner) (at : Place → ℕ) (missing base : ℕ) where
+module _ (laws : Laws) (p : Program) (c : IsChecked p) (n : Component) (j : Contains (components p) n) (m : Manner) (at : Place → ℕ) (missing base : ℕ) where
   abbrev f : Name → Instance
   f = instance_called_so p
 
@@ -294,7 +308,7 @@ module _ (p : Program) (c : IsChecked p) (n : Component) (j : Contains (componen
   calls_seen d below (x ∷ ss) [] q u t y a v k w e z h = absurd a
   calls_seen d below (x ∷ ss) (l ∷ ls) q u t y a v k w e z h = (
     call_seen x l q t.0 y.0 v.0 k.0 (ap (slice_get s.calls) (more_none q) ∙ h 0),
-    (table_of p (callee p x.callee), table_there p x.callee z.0,
+    (table_of p (callee p x.callee), table_there laws.stand p x.callee z.0,
       below (callee p x.callee) (declared x.callee (f x.callee) refl u.1) x.manner (below_call x.number at) (from + l.frame) w.0 a.0
       (ap (λ (is : Instances). instance_at is 0) e)),
     calls_seen d below ss ls (suc q) u.3 t.2 y.1 a.1 v.1 k.1 w.1 (ap rest_of e) z.1 (λ r. ap (slice_get s.calls) (one_more q r) ∙ h (suc r)),
@@ -327,19 +341,19 @@ module _ (p : Program) (c : IsChecked p) (n : Component) (j : Contains (componen
   widths_fit l = all_contained (λ (t : Site). frame_width p t.manner (callee p t.callee) < bound) (all_sites n) (callees_fit p c n j m l)
 
   places_there : AllByRecursion (λ t. place_of p t.callee < length (components p)) (all_sites n)
-  places_there = all_contained (λ (t : Site). place_of p t.callee < length (components p)) (all_sites n) (callees_are_there p c n j)
+  places_there = all_contained (λ (t : Site). place_of p t.callee < length (components p)) (all_sites n) (laws.there p c n j)
 
-  pub calls_so : (d : ℕ) → IsSeenBelow d → DefaultsAreKnown → frame_width p m n < bound → StandsAt at missing base m this
+  pub calls_so : (d : ℕ) → IsSeenBelow d → frame_width p m n < bound → StandsAt at missing base m this
       → instance_within (suc d) p n ≡ this → Called (suc d)
-  calls_so d below known l stands e =
+  calls_so d below l stands e =
       calls_seen d below (all_sites n) (layout_of p n).calls 0
       (subst (IsUnfolded p) made (each_unfolded p c n j)).1
       (subst (TreeFits IsKnown) made (each_is_well_typed p c n j).0.tree).1
-      (sites_are_steady p c n j)
+      (laws.sites p c n j)
       (stands_at_calls p c n j m at missing base l stands)
       (call_variables_stand p c n j m at missing base l stands)
-      (known p c n j) (widths_fit l) (ap calls_of (e ∙ made)) places_there
-      (λ k. ap (slice_get s.calls) (none_more k) ∙ ap (λ z. slice_get z k) (calls_are_calls p c n j m at missing base l stands))
+      (laws.defaults p c n j) (widths_fit l) (ap calls_of (e ∙ made)) places_there
+      (λ k. ap (slice_get s.calls) (none_more k) ∙ ap (λ z. slice_get z k) (laws.calls p c n j m at missing base l stands))
     where
       none_more : (k : ℕ) → 0 + k ≡ k
       none_more k = omega arith
@@ -348,11 +362,11 @@ module _ (p : Program) (c : IsChecked p) (n : Component) (j : Contains (componen
   none_so l stands e = none_seen (all_sites n) (layout_of p n).calls (stands_at_calls p c n j m at missing base l stands) (ap calls_of (e ∙ made))
 
 -- with calls nested no deeper than said, where the instance isn't nested deeper
-pub seen_so : SightsAreSights → DefaultsAreKnown → (p : Program) → IsChecked p → (missing d : ℕ) (n : Component) → Contains (components p) n
+pub seen_so : Laws → (p : Program) → IsChecked p → (missing d : ℕ) (n : Component) → Contains (components p) n
     → (m : Manner) (at : Place → ℕ) (base : ℕ) → frame_width p m n < bound → StandsAt at missing base m (instance_of p n)
     → instance_within d p n ≡ instance_of p n → Seen missing (table_list p) d (table_of p n) (way_of m) base m (instance_of p n) at
-seen_so sights known p c missing zero n j m at base l stands e =
-    put_together p c n j m at missing base 0 (own_seen sights p c n j m at missing base l stands) (none_so p c n j m at missing base l stands e)
-seen_so sights known p c missing (suc d) n j m at base l stands e =
-    put_together p c n j m at missing base (suc d) (own_seen sights p c n j m at missing base l stands)
-    (calls_so p c n j m at missing base d (λ x k r a b w q z. seen_so sights known p c missing d x k r a b w q z) known l stands e)
+seen_so laws p c missing zero n j m at base l stands e =
+    put_together laws p c n j m at missing base 0 (own_seen laws p c n j m at missing base l stands) (none_so laws p c n j m at missing base l stands e)
+seen_so laws p c missing (suc d) n j m at base l stands e =
+    put_together laws p c n j m at missing base (suc d) (own_seen laws p c n j m at missing base l stands)
+    (calls_so laws p c n j m at missing base d (λ x k r a b w q z. seen_so laws p c missing d x k r a b w q z) l stands e)

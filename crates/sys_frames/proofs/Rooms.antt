@@ -22,10 +22,8 @@ use Rattle.lus_layouts.specs.Layouts.{ArePlaced, IsPlaced, layout_of, own_count}
 use Rattle.lus_layouts.specs.declared.placing.CallSlots.{CallSlots}
 use Rattle.sys_tables.specs.Tabled.{Tabled, all_linked, place_of, table_of}
 use Rattle.sys_tables.specs.Numbers.{behind_own}
-use Rattle.sight_laws.proofs.Rooms.{frames_have_room}
-use Rattle.sight_laws.proofs.There.{callees_are_there}
 use Rattle.sys_frames.specs.Walked.{CallsHaveRoom, HasRoomWithin, IfThere, OfCall}
-use Rattle.sys_frames.proofs.Checked.{table_list, table_there}
+use Rattle.sys_frames.proofs.Checked.{Laws, table_list, table_there}
 
 -- what is in a list stands before its end
 got_below : {A : Type 0} (xs : List A) (k : ℕ) (x : A) → slice_get xs k ≡ Some x → k < length xs
@@ -42,7 +40,7 @@ some_at (x ∷ xs) (suc k) l = some_at xs k (omega arith)
 part_within : {A : Type 0} (all part : List A) (from : ℕ) → 1 ≤ length part → ((k : ℕ) → k < length part → slice_get all (from + k) ≡ slice_get part k)
     → from + length part ≤ length all
 part_within all [] from o h = absurd (omega (arith, o))
-part_within all (x ∷ part) from o h = last (length part) (omega arith) (h (length part) (omega arith)) (some_at (x ∷ part) (length part) (omega arith))
+part_within {A = A} all (x ∷ part) from o h = last (length part) (omega arith) (h (length part) (omega arith)) (some_at (x ∷ part) (length part) (omega arith))
   where
     last : (k : ℕ) → k ≡ length part → slice_get all (from + k) ≡ slice_get (x ∷ part) k → ((y : A) × (slice_get (x ∷ part) k ≡ Some y))
         → from + suc (length part) ≤ length all
@@ -52,7 +50,7 @@ part_within all (x ∷ part) from o h = last (length part) (omega arith) (h (len
 some_slots : (m : Manner) (path : List ℕ) (i : Instance) → 1 ≤ length (slots_in m path i)
 some_slots m path (instance n cs is) = omega arith
 
-module _ (p : Program) (c : IsChecked p) where
+module _ (laws : Laws) (p : Program) (c : IsChecked p) where
   abbrev f : Name → Instance
   f = instance_called_so p
 
@@ -71,7 +69,7 @@ module _ (p : Program) (c : IsChecked p) where
   calls_room d r n all own base l [] (q ∷ ls) a u z = absurd a
   calls_room d r n all own base l (t ∷ ss) [] a u z = absurd a
   calls_room d r n all own base l (t ∷ ss) (q ∷ ls) a u z = (
-    subst (λ (o : Option Tabled). IfThere (HasRoomWithin d (table_list p)) o (way_of t.manner) ((base + own) + q.frame)) (sym (table_there p t.callee z.0))
+    subst (λ (o : Option Tabled). IfThere (HasRoomWithin d (table_list p)) o (way_of t.manner) ((base + own) + q.frame)) (sym (table_there laws.stand p t.callee z.0))
         (r (callee p t.callee) (declared t.callee u.1) t.manner ((base + own) + q.frame) (ends base own q.frame (length all) (frame_width p t.manner (callee p t.callee)) fits l)),
     calls_room d r n all own base l ss ls a.1 u.3 z.1,
   )
@@ -93,15 +91,15 @@ module _ (p : Program) (c : IsChecked p) where
       ends b o q a w h l = omega arith
 
   pub rooms_within : (d : ℕ) → HasRoomFor d
-  rooms_within zero n j m base l = (frames_have_room p c n j m base (omega (arith, l)) (below base (frame_width p m n) l), tt)
+  rooms_within zero n j m base l = (laws.room p c n j m base (omega (arith, l)) (below base (frame_width p m n) l), tt)
     where
       below : (b w : ℕ) → b + w < bound → b < 2 ^ 31
       below b w l = omega arith
   rooms_within (suc d) n j m base l = (
-    frames_have_room p c n j m base (omega (arith, l)) (below base (frame_width p m n) l),
+    laws.room p c n j m base (omega (arith, l)) (below base (frame_width p m n) l),
     calls_room d (rooms_within d) n (slots_in m [] (instance_of p n)) (own_count (way_of m) (layout_of p n)) base l (all_sites n) (layout_of p n).calls
         (layouts_hold p c n j m [] (omega (arith, l))).calls (subst (IsUnfolded p) (made_of_callees p c n j) (each_unfolded p c n j)).1
-        (all_contained (λ (t : Site). place_of p t.callee < length (components p)) (all_sites n) (callees_are_there p c n j)),
+        (all_contained (λ (t : Site). place_of p t.callee < length (components p)) (all_sites n) (laws.there p c n j)),
   )
     where
       below : (b w : ℕ) → b + w < bound → b < 2 ^ 31

@@ -1,26 +1,19 @@
 -- The parts that a caller gives, one after the other, and the shapes of what is held.
-use Rattle.std.proofs.Common.{◌≡◌, ℕ, zero, suc, List, [], ◌∷◌, ◌++◌, ◌+◌, map, drop, append_assoc, Option, Some, None, option_map, refl, sym, ap, ◌∙◌, Bor, arith}
+use Rattle.std.proofs.Common.{◌≡◌, ℕ, zero, suc, List, [], ◌∷◌, ◌++◌, ◌+◌, map, length, drop, append_assoc, refl, sym, ap, ◌∙◌, arith}
 use Rattle.std.specs.Prelude.{slice_get}
-use Rattle.std.specs.Option.{option_copied}
 use Rattle.kind_num.specs.declared.Shape.{Shape}
 use Rattle.sys_terms.specs.View.{Formula}
 use Rattle.sys_meaning.specs.Part.{Part}
-use Rattle.sys_texts.proofs.Gotten.{seen_at}
 use Rattle.sys_texts.specs.Sights.{Sight, Mode, Output}
 use Rattle.sys_tables.specs.Tabled.{Named}
 use Rattle.sys_frames.specs.Streams.{first_part, other_parts, stream_here, streams_here}
 use Rattle.sys_frames.specs.Walked.{held_shapes}
 
-first_dropped : (ps : List Part) (k : ℕ) → slice_get ps k ≡ first_part (drop k ps)
+pub first_dropped : (ps : List Part) (k : ℕ) → slice_get ps k ≡ first_part (drop k ps)
 first_dropped [] zero = refl
 first_dropped [] (suc k) = refl
 first_dropped (p ∷ ps) zero = refl
 first_dropped (p ∷ ps) (suc k) = first_dropped ps k
-
--- the part of a place, as it is seen
-pub part_seen : {A : Type 0} (f : A → Part) (xs : List A) (k : ℕ) (o : Option (Bor A)) → option_copied o ≡ slice_get xs k
-    → option_map (λ c. f c.now) o ≡ first_part (drop k (map f xs))
-part_seen f xs k o e = seen_at f xs k o e ∙ first_dropped (map f xs) k
 
 others_dropped : (ps : List Part) (k : ℕ) → other_parts (drop k ps) ≡ drop (suc k) ps
 others_dropped [] zero = refl
@@ -43,3 +36,7 @@ streams_step s ms gs j v vs rest old new all e n h =
 pub no_shapes : (os : List Output) → held_shapes os [] ≡ []
 no_shapes [] = refl
 no_shapes (o ∷ os) = refl
+
+pub empty : {A : Type 0} (xs : List A) → length xs ≡ 0 → xs ≡ []
+empty [] e = refl
+empty (x ∷ xs) e = absurd (omega (arith, e))

@@ -24,10 +24,9 @@ use Rattle.sys_meaning.specs.System.{number_of as number_at, system_of}
 use Rattle.sys_terms.specs.View.{Machine}
 use Rattle.sys_places.proofs.Numbers.{stands_at_root}
 use Rattle.sys_tables.specs.Tabled.{Tabled, names_of, place_of, table_of}
-use Rattle.sight_laws.specs.Sights.{DefaultsAreKnown, SightsAreSights}
 use Rattle.sys_frames.specs.Systems.{missing_in, names_in, system_or_none}
 use Rattle.sys_frames.specs.Walked.{HasRoomWithin, IfThere}
-use Rattle.sys_frames.proofs.Checked.{table_list, seen_so}
+use Rattle.sys_frames.proofs.Checked.{Laws, table_list, seen_so}
 use Rattle.sys_frames.proofs.Rooms.{rooms_within}
 use Rattle.sys_frames.proofs.Translated.{system_so}
 
@@ -60,7 +59,7 @@ found_at (m ∷ ns) d n (suc k, l, e) =
     ap (λ b. slice_get (m ∷ ns) (cond b 0 (suc (number_of (names_of ns) n.name.text))))
     (other_bytes m.name.text n.name.text (not_named ns n k (omega (arith, l)) e m.name.text d.0)) ∙ found_at ns d.1 n (k, omega (arith, l), e)
 
-module _ (sights : SightsAreSights) (known : DefaultsAreKnown) (p : Program) (c : IsChecked p) (once : AreDistinct (names_of (components p)))
+module _ (laws : Laws) (p : Program) (c : IsChecked p) (once : AreDistinct (names_of (components p)))
     (n : Component) (j : Contains (components p) n) (small : width (instance_of p n) < 20001)
     (ts : List Tabled) (zs : List SystemSize) (place depth missing : ℕ)
     (tables : ts ≡ map (table_of p) (components p)) (sizes : zs ≡ map (system_size p) (components p))
@@ -86,7 +85,7 @@ module _ (sights : SightsAreSights) (known : DefaultsAreKnown) (p : Program) (c 
   pub room_there : IfThere (HasRoomWithin depth ts) (slice_get ts place) Plain 0
   room_there =
       subst (λ (o : Option Tabled). IfThere (HasRoomWithin depth ts) o Plain 0) (sym table_there)
-      (subst (λ zs. HasRoomWithin depth zs (table_of p n) Plain 0) (sym tables) (rooms_within p c depth n j plain 0 (within (width (instance_of p n)) small)))
+      (subst (λ zs. HasRoomWithin depth zs (table_of p n) Plain 0) (sym tables) (rooms_within laws p c depth n j plain 0 (within (width (instance_of p n)) small)))
     where
       within : (k : ℕ) → k < 20001 → 0 + k < bound
       within k l = omega arith
@@ -98,4 +97,4 @@ module _ (sights : SightsAreSights) (known : DefaultsAreKnown) (p : Program) (c 
       ∙ (ap (λ d. system_or_none d (table_list p) missing (Some (table_of p n))) deep
       ∙ (ap (λ k. system_or_none (length p) (table_list p) k (Some (table_of p n))) missing_there
       ∙ system_so (width (instance_of p n)) (table_list p) (length p) (table_of p n) (instance_of p n) (number_at (instance_of p n))
-      (seen_so sights known p c (width (instance_of p n)) (length p) n j plain (number_at (instance_of p n)) 0 small (stands_at_root (instance_of p n)) refl))))
+      (seen_so laws p c (width (instance_of p n)) (length p) n j plain (number_at (instance_of p n)) 0 small (stands_at_root (instance_of p n)) refl))))

@@ -1,11 +1,11 @@
 //! What holds of the streams of a frame.
 
-ghost use Rattle.std.specs.Prelude.{◌≡◌, ◌++◌, OnOk, drop, map, option_map};
+ghost use Rattle.std.specs.Prelude.{◌≡◌, ◌++◌, OnOk, map, option_map, slice_get};
 ghost use Rattle.sys_parts.specs.Parts.{part_view};
 ghost use Rattle.sys_tables.specs.Views.{named_view};
 ghost use Rattle.sys_terms.specs.View.{terms_view};
 ghost use Rattle.sys_texts.specs.Views.{modes_view, sight_view};
-ghost use Rattle.sys_frames.specs.Streams.{first_part, stream_here, streams_here};
+ghost use Rattle.sys_frames.specs.Streams.{stream_here, streams_here};
 
 use std::alloc::{AllocError, Global};
 use sys_conditions::named::{given_or, push_name};
@@ -32,9 +32,9 @@ fn push_stream(
 }
 
 /// The part of that place; none where there is none.
-#[tactic(auto, using(crate::proofs::Taken::part_seen))]
+#[tactic(auto, using(sys_texts::proofs::Gotten::seen_at))]
 fn part_at(parts: &[Part], place: usize) -> Option<&Part>
-    ensures { option_map (λ p. part_view p.now) result ≡ first_part (drop place (map part_view parts.now)) }
+    ensures { option_map (λ p. part_view p.now) result ≡ slice_get (map part_view parts.now) place }
 {
     parts.get(place)
 }

@@ -26,8 +26,9 @@ use crate::walk::visit_seen;
 use lus_limits::{SystemSize, Way, system_sizes};
 use lus_streams::owner::Owner;
 use lus_tree::Program;
-use sight_laws::laws::{constants_are_known, sights_are_sights};
+use sight_laws::laws::{callees_are_there, constants_are_known, frames_have_room, sights_are_sights};
 use std::alloc::{AllocError, Global};
+use steady_laws::laws::{constants_are_kept, texts_are_steady};
 use sys_contracts::items::{Items, push_copies};
 use sys_parts::formulas::flag;
 use sys_tables::numbers::behind_own;
@@ -161,15 +162,21 @@ pub fn system(alloc: Global, program: &Program, node: Owner<'_>) -> Result<Syste
     ensures exact { IfOk result (λ s. system_view s
         ≡ system_of (instance_of (program_view program.now) (owner_view node.entry))) }
 {
+    texts_are_steady();
+    constants_are_kept();
+    callees_are_there();
+    frames_have_room();
     constants_are_known();
     sights_are_sights();
     let all = tables(alloc, program)?;
     let sizes = system_sizes(alloc, program)?;
+    let depth = program.decls.len();
     let place = place_named(&all, node.name());
+    let missing = missing_at(&sizes, place);
     let tables = Tables {
         alloc,
         all: &all,
-        missing: missing_at(&sizes, place),
+        missing,
     };
-    system_at(tables, program.decls.len(), place)
+    system_at(tables, depth, place)
 }

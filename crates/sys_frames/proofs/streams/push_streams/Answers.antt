@@ -5,7 +5,7 @@ use Rattle.sys_terms.specs.View.{terms_view}
 use Rattle.sys_texts.specs.Views.{modes_view, sight_view}
 use Rattle.sys_frames.specs.Streams.{stream_here}
 use Rattle.sys_frames.proofs.Steps.{dropped}
-use Rattle.sys_frames.proofs.Taken.{streams_step}
+use Rattle.sys_frames.proofs.Taken.{first_dropped, streams_step}
 use Rattle.sys_frames.proofs.streams.push_streams.Goals as goal
 
 pub loop-place-preserved : goal.loop-place-preserved
@@ -20,5 +20,6 @@ loop-place-preserved c =
     _ rest
     (c.in_ok-push_stream.ensures
     ∙ ap (λ o. terms_view c.loop-place.formulas.items
-    ++ stream_here (sight_view c.args.sight.now) (modes_view c.args.modes.now) (named_view c.index-streams-place.result) o) c.part_at.ensures)
+    ++ stream_here (sight_view c.args.sight.now) (modes_view c.args.modes.now) (named_view c.index-streams-place.result) o)
+    (c.part_at.ensures ∙ first_dropped (map part_view c.args.given.now) c.loop-place.place))
     c.loop-place.invariant
