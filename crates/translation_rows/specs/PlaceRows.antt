@@ -10,7 +10,7 @@ use Rattle.lus_meaning.specs.Trace.{of_name, of_first}
 use Rattle.sys_terms.specs.declared.term.Entry.{Entry}
 use Rattle.sys_terms.specs.declared.term.Entry.TheVariants as entries
 use Rattle.sys_meaning.specs.Path.{trace_of}
-use Rattle.sys_build.specs.Printed.{PrintedPlace, printed_place}
+use Rattle.path_traces.specs.Printed.{PrintedPlace, printed_place}
 use Rattle.meaning_rows.specs.BooleanRows.{against}
 use Rattle.meaning_rows.specs.CallRows.{held_pair}
 use Rattle.meaning_rows.specs.OwedRows.{two_calls}
