@@ -11,7 +11,7 @@ use std::alloc::Global;
 use std::{fs, io};
 
 /// A table of cases is a file, and what each of its lines says.
-const TABLES: [Table; 20] = [
+const TABLES: [Table; 21] = [
     ("first_replays", Ask::Replay),
     ("order_of_properties", Ask::Replay),
     ("order_of_equations", Ask::Replay),
@@ -27,6 +27,7 @@ const TABLES: [Table; 20] = [
     ("misfits", Ask::Replay),
     ("proofs", Ask::Prove),
     ("proofs_of_operators", Ask::Prove),
+    ("proofs_of_programs", Ask::Prove),
     ("traces_of_proofs", Ask::Replay),
     ("other_words", Ask::Words),
     ("failing_calls", Ask::Calls),
