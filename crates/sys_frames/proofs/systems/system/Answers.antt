@@ -5,12 +5,13 @@ use Rattle.lus_meaning.proofs.Exists.{length_mapped}
 use Rattle.lus_streams.specs.Owner.{owner_view}
 use Rattle.name_table.specs.Names.{number_of}
 use Rattle.lus_limits.specs.SystemSizes.{system_size}
-use Rattle.lus_limits.proofs.Settled.{declared_once}
+
 use Rattle.sys_terms.specs.View.{system_view}
 use Rattle.sys_tables.specs.Tabled.{table_of}
 use Rattle.sys_tables.specs.Views.{tables_view}
 use Rattle.sys_frames.specs.Systems.{names_in}
 use Rattle.sys_frames.proofs.Checked.{Laws}
+use Rattle.sys_frames.proofs.Once.{declared_once}
 use Rattle.sys_frames.proofs.Whole.{room_there, system_exact}
 use Rattle.sys_frames.proofs.systems.system.Goals as goal
 
