@@ -1,26 +1,22 @@
 -- The calls of a sight are those of the translation.
-use Rattle.std.proofs.Common.{◌≡◌, ℕ, zero, suc, ◌+◌, ◌-◌, ◌≤◌, Bool, true, false, cond, List, [], ◌∷◌, length, map, Option, Some, None, refl, sym, ap, ◌∙◌, subst, arith}
+use Rattle.std.proofs.Common.{◌≡◌, ℕ, zero, suc, ◌+◌, ◌-◌, ◌≤◌, Bool, true, false, cond, List, [], ◌∷◌, length, map, Some, refl, sym, ap, ◌∙◌, arith}
 use Rattle.std.specs.Prelude.{slice_get}
 use Rattle.std.specs.Option.{option_map_or}
 use Rattle.std.specs.Str.{bytes_eq}
 use Rattle.lus_tree.specs.Tree.{Name, Variable, Component, Program}
 use Rattle.lus_meaning.specs.Run.{first_sort, output_sort}
-use Rattle.lus_meaning.specs.Scene.{Manner, plain, while_true, as_import, Site, Instance, Instances, component_of, instance_at, called_among, outputs_of}
+use Rattle.lus_meaning.specs.Scene.{Manner, plain, while_true, as_import, Site, component_of, instance_at, called_among}
 use Rattle.lus_meaning.specs.Program.{instances_with}
 use Rattle.lus_limits.specs.Calls.{way_of}
 use Rattle.lus_limits.specs.Instances.{callee, instance_called_so}
-use Rattle.lus_limits.specs.declared.calls.Way.{Way}
 use Rattle.lus_limits.proofs.Instances.{component_called}
 use Rattle.lus_layouts.specs.declared.placing.CallSlots.{CallSlots}
 use Rattle.path_laws.proofs.Numbers.{CountedFrom}
-use Rattle.sys_meaning.specs.Part.{Part}
 use Rattle.sys_meaning.specs.Slot.{Place, own, in_call, beat, named, held}
-use Rattle.sys_meaning.specs.Translate.{Stage}
-use Rattle.sys_meaning.specs.Translate as t
 use Rattle.sys_places.specs.Own.{CallVariablesAt, held_number}
 use Rattle.sys_places.specs.Places.{OfEachCall}
-use Rattle.sys_texts.specs.Sights.{Call, Output, called_sort, first_output_sort, latest_part, output_part}
-use Rattle.sys_tables.specs.Numbers.{call_at, first_held, frame_base, held_or, outputs_from}
+use Rattle.sys_texts.specs.Sights.{Call, called_sort, first_output_sort}
+use Rattle.sys_tables.specs.Numbers.{call_at, held_or, outputs_from}
 use Rattle.sys_tables.specs.Tabled.{all_linked, linked}
 use Rattle.sight_laws.specs.Sights.{call_of, output_of}
 
@@ -64,7 +60,7 @@ module _ (p : Program) (at : Place → ℕ) (missing end : ℕ) (s : Site) (q : 
       ap (λ z. record { callee = s.callee; beat = z; outputs = (call_at end missing (linked p n s q)).outputs }) (sym a.active)
       ∙ ap (λ z. record { callee = s.callee; beat = at (in_call s.number (own beat)); outputs = z })
       (outputs_so outs 0 ((end + q.frame) + suc (length (callee p s.callee).inputs)) (end + (q.frame - q.held)) (omega arith) (omega arith)
-      (λ j v r. r))
+      (λ j v r. ap (slice_get outs) (omega arith) ∙ r))
 
 -- ---- all of them
 

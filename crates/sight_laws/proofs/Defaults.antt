@@ -1,12 +1,10 @@
 -- The defaults that are known of calls are what the translation gives their outputs at first.
-use Rattle.std.proofs.Common.{◌≡◌, ℕ, zero, suc, ◌+◌, true, List, [], ◌∷◌, map, refl, sym, ap, ◌∙◌, subst, arith}
-use Rattle.std.specs.Prelude.{Contains}
+use Rattle.std.proofs.Common.{◌≡◌, ℕ, suc, ◌+◌, List, [], ◌∷◌, ◌++◌, map, flat_map, refl, sym, ap, ◌∙◌, arith}
 use Rattle.std.specs.List.{AllByRecursion}
 use Rattle.lus_tree.specs.Tree.{Name, Expression, Component, Program}
-use Rattle.lus_meaning.specs.ClockFaults.{components}
-use Rattle.lus_meaning.specs.Program.{all_sites, constant_value, constants_in, instance_of, instances_with}
-use Rattle.lus_meaning.specs.Refusals.{IsChecked}
-use Rattle.lus_meaning.specs.Scene.{Manner, plain, while_true, as_import, Site, Instance, Instances, instance, call_instance, calls_of, component_of, constants_of, instance_at}
+use Rattle.lus_meaning.specs.Occurrences.{gathered}
+use Rattle.lus_meaning.specs.Program.{all_sites, constant_value, import_site, site_in, constants_in, instance_of, instances_with}
+use Rattle.lus_meaning.specs.Scene.{Manner, plain, while_true, as_import, Site, Instance, instance, call_instance, calls_of, component_of, constants_of, contract_statements, instance_at}
 use Rattle.lus_meaning.specs.Value.{Value}
 use Rattle.lus_limits.specs.Instances.{callee, instance_called_so}
 use Rattle.lus_limits.proofs.Instances.{component_called, made_of_callees}
@@ -26,11 +24,12 @@ module _ (p : Program) (i : Instance) where
       → ((k : ℕ) → instance_at (calls_of i) (j + k) ≡ instance_at (instances_with (instance_called_so p) ss) k)
       → AllByRecursion (λ (s : Site). component_of (call_instance i s.number) ≡ callee p s.callee) ss
   placed_so [] j c h = tt
-  placed_so (s ∷ ss) j c h =
-      (ap (λ k. component_of (call_instance i k)) c.0
-      ∙ ap (λ k. component_of (instance_at (calls_of i) k)) (omega arith)
-      ∙ ap component_of (h 0) ∙ component_called p (callee p s.callee),
-      placed_so ss (suc j) c.1 (λ k. ap (instance_at (calls_of i)) (omega arith) ∙ h (suc k)))
+  placed_so (s ∷ ss) j c h = (
+    ap (λ k. component_of (call_instance i k)) c.0
+        ∙ ap (λ k. component_of (instance_at (calls_of i) k)) (omega arith)
+        ∙ ap component_of (h 0) ∙ component_called p (callee p s.callee),
+    placed_so ss (suc j) c.1 (λ k. ap (instance_at (calls_of i)) (omega arith) ∙ h (suc k)),
+  )
 
 values_known : FoldedIsKnown → (cs : List (Name × Value)) (ds : List Expression) → AllByRecursion (IsSteadyDefault cs) ds
     → map (small_value cs) ds ≡ map (constant_value cs) ds
@@ -66,8 +65,8 @@ module _ (p : Program) (n : Component) (known : constants_known p n ≡ constant
 pub defaults_known_so : ConstantsAreKnown → FoldedIsKnown → SitesAreSteady → DefaultsInOrder → DefaultsAreKnown
 defaults_known_so known f steady defaults p c n i =
     all_so p n (known p c n i) (ap constants_of made) f (all_sites n) (layout_of p n).calls (steady p c n i)
-    (placed_so p (instance_of p n) (all_sites n) 0 (in_order_counted (λ (s : Site). s.number) _ (sites_counted n (numbered p c.grammatical n i)))
-    (λ k. ap (λ j. instance_at (calls_of j) k) made)) (defaults p c n i)
+    (placed_so p (instance_of p n) (all_sites n) 0 (in_order_counted (λ (s : Site). s.number) (gathered site_in n ++ flat_map import_site (contract_statements n)) (sites_counted n (numbered p c.grammatical n i)))
+    (λ k. ap (instance_at (calls_of (instance_of p n))) (omega arith) ∙ ap (λ j. instance_at (calls_of j) k) made)) (defaults p c n i)
   where
     made : instance_of p n ≡ instance n (constants_in p n) (instances_with (instance_called_so p) (all_sites n))
     made = made_of_callees p c n i

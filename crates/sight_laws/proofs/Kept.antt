@@ -1,18 +1,18 @@
 -- The constants that are known have their values.
-use Rattle.std.proofs.Common.{◌≡◌, Bool, true, false, cond, List, [], ◌∷◌, ◌++◌, Option, Some, None, unwrap_or, refl, sym, ap, ◌∙◌}
+use Rattle.std.proofs.Common.{◌≡◌, Bool, true, false, cond, List, [], ◌∷◌, ◌++◌, Option, Some, None, unwrap_or, refl, ap, ◌∙◌}
 use Rattle.std.specs.Map.{lookup}
 use Rattle.std.specs.Str.{bytes_eq}
 use Rattle.lus_tree.specs.declared.expression.Operator.{Operator}
 use Rattle.lus_tree.specs.declared.expression.Operator.TheVariants.{Implies, Or, Xor, And, Less, AtMost, Equal, Differs, AtLeast, More, Add, Sub, Mul, Div, Mod}
-use Rattle.lus_tree.specs.Tree.{Name, Expression, truth, number, name, negation, minus, pre, arrow, binary, choice, sampled, merged, call, condact, mode_name, Constant, Component, Program}
-use Rattle.lus_meaning.specs.Program.{constant_values, program_constants}
+use Rattle.lus_tree.specs.Tree.{Name, Expression, truth, number, name, negation, minus, pre, arrow, binary, choice, sampled, merged, call, condact, mode_name, Constant}
+use Rattle.lus_meaning.specs.Program.{program_constants}
 use Rattle.lus_meaning.specs.Scope.{apply_total, choose_total}
 use Rattle.lus_meaning.specs.Value.{Value, absent, flag, whole, not_value, minus_value}
 use Rattle.sys_parts.specs.Values.{tame}
 use Rattle.sys_texts.specs.Texts.{Folded, known, left_open, folded, folded_name, negated, opposite, operated, chosen}
 use Rattle.steady_laws.specs.Kept.{kept_value, kept_values}
 use Rattle.steady_laws.specs.Laws.{OuterConstantsAreKept, OwnConstantsAreKept}
-use Rattle.sys_tables.specs.Tabled.{bare, constants_known, own_constants, small_value, small_values, value_of}
+use Rattle.sys_tables.specs.Tabled.{bare, own_constants, small_value, small_values, value_of}
 use Rattle.sight_laws.specs.Sights.{ConstantsAreKnown}
 
 -- ---- what is not known has no value

@@ -1,26 +1,25 @@
 -- Frames of at most 20,000 variables have room.
-use Rattle.std.proofs.Common.{◌≡◌, ℕ, zero, suc, ◌+◌, ◌<◌, ◌≤◌, ◌^◌, List, [], ◌∷◌, ◌++◌, length, map, length-append, refl, sym, ap, ◌∙◌, subst, arith}
+use Rattle.std.proofs.Common.{◌≡◌, ℕ, suc, ◌+◌, ◌<◌, ◌≤◌, ◌^◌, List, [], ◌∷◌, ◌++◌, length, map, length-append, refl, subst, arith}
 use Rattle.std.specs.Prelude.{Contains}
 use Rattle.std.specs.List.{AllByRecursion}
 use Rattle.lus_tree.specs.Tree.{Variable, Component, Program}
-use Rattle.lus_meaning.specs.ClockFaults.{components}
 use Rattle.lus_meaning.specs.Occurrences.{Memory, Start, memories, starts}
 use Rattle.lus_meaning.specs.Program.{all_sites, in_order, instance_of}
-use Rattle.lus_meaning.specs.Refusals.{IsChecked}
-use Rattle.lus_meaning.specs.Scene.{Manner, Site, Instance, Instances, instance, component_of, contract_statements, ghosts, variables}
+use Rattle.lus_meaning.specs.Scene.{Manner, Site, Instance, instance, component_of, contract_statements, ghosts, variables}
 use Rattle.lus_meaning.specs.Slots.{Cell, call_slots, contract_cells, memory_cell, name_cell, own_cells, slot, slots_in, start_cell}
 use Rattle.lus_meaning.proofs.Exists.{length_mapped}
 use Rattle.lus_limits.specs.Calls.{way_of}
+use Rattle.lus_limits.specs.Framed.{frame_of}
 use Rattle.lus_limits.specs.Instances.{callee}
-use Rattle.lus_limits.specs.Summaries.{bound}
+use Rattle.lus_limits.specs.Summaries.{bound, cut}
 use Rattle.lus_limits.specs.Widths.{frame_width}
 use Rattle.lus_limits.specs.declared.summing.Link.{Link}
 use Rattle.lus_limits.proofs.Instances.{component_called}
 use Rattle.lus_layouts.specs.declared.placing.CallSlots.{CallSlots}
-use Rattle.lus_layouts.specs.Layouts.{IsLaidOut, calls_from, layout_of, own_count}
+use Rattle.lus_layouts.specs.Layouts.{callee_width, calls_from, layout_of, own_count}
 use Rattle.lus_layouts.proofs.Fits.{callees_fit}
 use Rattle.lus_layouts.proofs.Placed.{layouts_hold}
-use Rattle.sys_tables.specs.Numbers.{CallHasRoom, HasRoom, behind_own, so_far_number}
+use Rattle.sys_tables.specs.Numbers.{CallHasRoom, behind_own}
 use Rattle.sys_tables.specs.Tabled.{all_linked, named_stream, table_of}
 use Rattle.sight_laws.specs.Sights.{FramesHaveRoom}
 use Rattle.sight_laws.proofs.Names.{many_named}
@@ -53,10 +52,11 @@ cells_many m n =
 sides_many : (n : Component) → length n.inputs + length n.outputs ≤ length (variables n)
 sides_many n =
     let gs : List Variable = ghosts (contract_statements n) in
-    let a : length (n.inputs ++ (n.outputs ++ (n.locals ++ gs))) ≡ length n.inputs + length (n.outputs ++ (n.locals ++ gs)) =
-    length-append n.inputs (n.outputs ++ (n.locals ++ gs)) in
-    let b : length (n.outputs ++ (n.locals ++ gs)) ≡ length n.outputs + length (n.locals ++ gs) = length-append n.outputs (n.locals ++ gs) in
-    omega (arith, a, b)
+    let a : length (variables n) ≡ length ((n.inputs ++ n.outputs) ++ n.locals) + length gs = length-append ((n.inputs ++ n.outputs) ++ n.locals) gs in
+    let b : length ((n.inputs ++ n.outputs) ++ n.locals) ≡ length (n.inputs ++ n.outputs) + length n.locals =
+    length-append (n.inputs ++ n.outputs) n.locals in
+    let c : length (n.inputs ++ n.outputs) ≡ length n.inputs + length n.outputs = length-append n.inputs n.outputs in
+    omega (arith, a, b, c)
 
 own_within : (m : Manner) (i : Instance) → length (own_cells m (component_of i)) ≤ length (slots_in m [] i)
 own_within m (instance n cs is) =
@@ -71,9 +71,12 @@ own_fits p m n = subst (λ k. length (own_cells m k) ≤ frame_width p m n) (com
 
 -- ---- calls
 
-frames_cut : (k : ℕ) (ls : List Link) → AllByRecursion (λ (q : CallSlots). q.frame ≤ bound) (calls_from k ls)
-frames_cut k [] = tt
-frames_cut k (l ∷ ls) = (omega arith, frames_cut _ ls)
+frames_cut : (ls : List Link) (k : ℕ) → AllByRecursion (λ (q : CallSlots). q.frame ≤ bound) (calls_from k ls)
+frames_cut [] k = tt
+frames_cut (l ∷ ls) k = (below_cut (k + l.held), frames_cut ls (cut (k + (l.held + callee_width l))))
+  where
+    below_cut : (j : ℕ) → cut j ≤ bound
+    below_cut j = omega arith
 
 one_room : (from frame inputs outputs width : ℕ) → from < 2 ^ 31 + bound → frame ≤ bound → inputs + outputs ≤ width → width < bound
     → (from + frame) + suc (inputs + outputs) < 2 ^ 32
@@ -90,9 +93,10 @@ calls_room p n from (s ∷ ss) (q ∷ qs) l a b =
     let f : length k.inputs + length k.outputs ≤ length (variables k) = sides_many k in
     let g : suc (length (variables k) + (length (in_order (λ (u : Memory). u.number) (memories k)) + length (in_order (λ (a : Start). a.number) (starts k))))
     ≤ length (own_cells s.manner k) = cells_many s.manner k in
-    let h : length (own_cells s.manner k) ≤ frame_width p s.manner k = own_fits p s.manner k in
-    (one_room from q.frame (length k.inputs) (length k.outputs) (frame_width p s.manner k) l a.0 (omega (arith, f, g, h)) b.0,
-    calls_room p n from ss qs l a.1 b.1)
+    let h : length (own_cells s.manner k) ≤ frame_width p s.manner k = own_fits p s.manner k in (
+      one_room from q.frame (length k.inputs) (length k.outputs) (frame_width p s.manner k) l a.0 (omega (arith, f, g, h)) b.0,
+      calls_room p n from ss qs l a.1 b.1,
+    )
 
 -- ---- frames
 
@@ -110,7 +114,7 @@ frames_have_room p c n i m base fits small =
       behind = behind_room base (own_count (way_of m) (layout_of p n)) small (omega (arith, b, d, fits));
       calls = calls_room p n (behind_own (way_of m) (table_of p n) base) (all_sites n) (layout_of p n).calls
           (end_room base (own_count (way_of m) (layout_of p n)) small (omega (arith, b, d, fits)))
-          (frames_cut 0 _) (all_contained _ (all_sites n) (λ s j. callees_fit p c n i m fits s j));
+          (frames_cut (frame_of p n).links 0) (all_contained _ (all_sites n) (λ s j. callees_fit p c n i m fits s j));
     }
   where
     own_room : (base named many kept started : ℕ) → base < 2 ^ 31 → named ≡ many → suc (many + (kept + started)) < bound

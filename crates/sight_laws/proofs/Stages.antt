@@ -1,10 +1,10 @@
 -- The sight of a frame is one of the stage over its instance.
-use Rattle.std.proofs.Common.{◌≡◌, ℕ, zero, suc, ◌+◌, ◌<◌, true, cond, not, List, [], ◌∷◌, length, map, Option, Some, None, option_map, unwrap_or, refl, sym, ap, ◌∙◌, subst, arith}
+use Rattle.std.proofs.Common.{◌≡◌, ℕ, zero, suc, ◌+◌, ◌<◌, cond, not, List, [], ◌∷◌, ◌++◌, length, map, flat_map, Option, Some, None, option_map, unwrap_or, refl, sym, ap, ◌∙◌, subst, arith}
 use Rattle.std.specs.Prelude.{Contains, find, is_none, is_some, slice_get}
 use Rattle.std.specs.Map.{lookup}
 use Rattle.std.specs.Option.{option_map_or}
 use Rattle.std.specs.Str.{bytes_eq}
-use Rattle.lus_tree.specs.Tree.{Name, Variable, ContractStatement, Component, Program}
+use Rattle.lus_tree.specs.Tree.{Variable, ContractStatement, Component, Program}
 use Rattle.lus_meaning.specs.ClockFaults.{components}
 use Rattle.lus_meaning.specs.Occurrences.{Memory, Start, memories, starts}
 use Rattle.lus_meaning.specs.Program.{all_sites, constants_in, in_order, instance_of, instances_with, site_in, import_site}
@@ -12,7 +12,7 @@ use Rattle.lus_meaning.specs.Refusals.{IsChecked}
 use Rattle.lus_meaning.specs.Run.{sort_of_value}
 use Rattle.lus_meaning.specs.Scene.{Manner, plain, while_true, as_import, Site, Instance, instance, call_instance, component_of, contract_statements, variables}
 use Rattle.lus_meaning.specs.Occurrences.{gathered}
-use Rattle.lus_meaning.specs.Value.{Value, absent}
+use Rattle.lus_meaning.specs.Value.{absent}
 use Rattle.lus_meaning.proofs.InOrder.{in_order_length}
 use Rattle.lus_limits.specs.Calls.{way_of}
 use Rattle.lus_limits.specs.Instances.{callee, instance_called_so}
@@ -23,7 +23,6 @@ use Rattle.lus_layouts.specs.Layouts.{layout_of}
 use Rattle.rule_laws.proofs.Places.{memories_counted, numbered, sites_counted, starts_counted}
 use Rattle.path_laws.proofs.Numbers.{CountedFrom, in_order_counted}
 use Rattle.sys_meaning.specs.Items.{Known}
-use Rattle.sys_meaning.specs.Part.{Part}
 use Rattle.sys_meaning.specs.Slot.{Place}
 use Rattle.sys_meaning.specs.Translate.{Stage}
 use Rattle.sys_meaning.specs.Translate as t
@@ -34,11 +33,11 @@ use Rattle.sys_places.proofs.Own.{own_stands}
 use Rattle.sys_places.proofs.Held.{call_variables_stand}
 use Rattle.sys_texts.specs.Laws.{IsSightOf}
 use Rattle.sys_texts.specs.Sights.{Call, Mode, called_sort, latest_part, latest_at, output_part, outputs_at}
-use Rattle.sys_tables.specs.Numbers.{call_at, sight_at, stream_from}
+use Rattle.sys_tables.specs.Numbers.{call_at, sight_at}
 use Rattle.sys_tables.specs.Tabled.{constants_known, named_stream, table_of}
 use Rattle.sight_laws.specs.Sights.{AreModesOf, CallsAreCalls, ConstantsAreKnown, SightsAreSights, SoFarIsKept, SoFarStands, call_of, output_of}
 use Rattle.sight_laws.proofs.Calls.{at_call, called_so, calls_so}
-use Rattle.sight_laws.proofs.Names.{clock_so, many_named, number_at_so, number_so, sort_so}
+use Rattle.sight_laws.proofs.Names.{at_least_one, clock_so, many_named, number_at_so, number_so, sort_so}
 
 pub calls_are_calls : CallsAreCalls
 calls_are_calls p c n i m at missing base fits stands =
@@ -62,7 +61,10 @@ module _ (p : Program) (c : IsChecked p) (n : Component) (i : Contains (componen
   over j = record { place = j; number = at; modes = ks }
 
   abbrev counted : CountedFrom (λ (s : Site). s.number) 1 (all_sites n)
-  counted = in_order_counted (λ (s : Site). s.number) _ (sites_counted n (numbered p c.grammatical n i))
+  counted = in_order_counted (λ (s : Site). s.number) (gathered site_in n ++ flat_map import_site (contract_statements n)) (sites_counted n (numbered p c.grammatical n i))
+
+  abbrev calls_there : List Call
+  calls_there = map (call_at (own_end p m n base) missing) (table_of p n).calls
 
   calls_here : map (call_at (own_end p m n base) missing) (table_of p n).calls ≡ map (call_of p at) (all_sites n)
   calls_here = calls_are_calls p c n i m at missing base fits stands
@@ -73,17 +75,20 @@ module _ (p : Program) (c : IsChecked p) (n : Component) (i : Contains (componen
       ≡ map (of_output (suc k)) (component_of (call_instance here (suc k))).outputs
   of_calls of_call of_output same k =
       ap (λ cs. option_map_or of_call (slice_get cs k) []) calls_here ∙ at_call p at of_call of_output same (all_sites n) 1 counted k
+      ∙ ap (λ j. map (of_output j) (component_of (call_instance here (suc k))).outputs) (omega arith)
 
   outputs_so : (k : ℕ) → outputs_at (sight_at (table_of p n) (way_of m) base missing) k ≡ map (t.output_part (over here) k) (t.outputs_at (over here) k)
   outputs_so zero = refl
   outputs_so (suc k) =
-      of_calls (λ d. map output_part d.outputs) (t.output_part (over here))
+      ap (λ b. option_map_or (λ (d : Call). map output_part d.outputs) (cond b (slice_get calls_there k) None) []) (at_least_one k)
+      ∙ of_calls (λ d. map output_part d.outputs) (t.output_part (over here))
       (λ s. read_twice output_part (output_of at s.number) (t.output_part (over here) s.number) (λ v. refl) (callee p s.callee).outputs) k
 
   latest_so : (k : ℕ) → latest_at (sight_at (table_of p n) (way_of m) base missing) k ≡ map (t.latest_part (over here) k) (t.outputs_at (over here) k)
   latest_so zero = refl
   latest_so (suc k) =
-      of_calls (λ d. map (latest_part d.beat) d.outputs) (t.latest_part (over here))
+      ap (λ b. option_map_or (λ (d : Call). map (latest_part d.beat) d.outputs) (cond b (slice_get calls_there k) None) []) (at_least_one k)
+      ∙ of_calls (λ d. map (latest_part d.beat) d.outputs) (t.latest_part (over here))
       (λ s. read_twice (latest_part (call_of p at s).beat) (output_of at s.number) (t.latest_part (over here) s.number) (λ v. refl)
       (callee p s.callee).outputs) k
 

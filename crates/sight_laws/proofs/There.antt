@@ -1,14 +1,12 @@
 -- What calls and imports name is there.
-use Rattle.std.proofs.Common.{◌≡◌, ℕ, zero, suc, ◌<◌, Bool, true, false, ◌||◌, List, [], ◌∷◌, length, map, refl, sym, ap, ◌∙◌, subst, arith}
+use Rattle.std.proofs.Common.{◌≡◌, ℕ, zero, suc, ◌<◌, Bool, true, false, ◌||◌, List, [], ◌∷◌, length, refl, ap, ◌∙◌, subst, arith}
 use Rattle.std.specs.Prelude.{Contains}
 use Rattle.std.specs.Str.{bytes_eq}
 use Rattle.std.proofs.lemmas.Bool.{false≢true}
-use Rattle.lus_tree.specs.Tree.{Component, Program}
+use Rattle.lus_tree.specs.Tree.{Component}
 use Rattle.lus_meaning.specs.ClockFaults.{components}
 use Rattle.lus_meaning.specs.Depends.{named_in}
-use Rattle.lus_meaning.specs.Program.{all_sites}
 use Rattle.lus_meaning.specs.RuleLaws.{callee_of}
-use Rattle.lus_meaning.specs.Scene.{Site}
 use Rattle.lus_limits.proofs.Needed.{many_named}
 use Rattle.name_table.proofs.Names.{itself}
 use Rattle.name_table.proofs.Numbers.{number_below}
