@@ -14,8 +14,8 @@ use Rattle.sys_frames.proofs.Once.{declared_once}
 use Rattle.sys_frames.proofs.Whole.{room_there, system_exact}
 use Rattle.sys_frames.proofs.systems.system.Goals as goal
 
-pub system_at-requires-clause-room : goal.system_at-requires-clause-room
-system_at-requires-clause-room c =
+pub system_at-requires : goal.system_at-requires
+system_at-requires c =
     let many : c.len-depth.result ≡ length c.args.program.now.decls.items = search rules in
     let deep : c.len-depth.result ≡ length (program_view c.args.program.now) =
     many ∙ sym (length_mapped decl_view c.args.program.now.decls.items) in
@@ -33,12 +33,14 @@ system_at-requires-clause-room c =
       there = c.callees_are_there.ensures.there;
       room = c.frames_have_room.ensures;
     } in
-    room_there laws (program_view c.args.program.now) c.requires.checked (declared_once (program_view c.args.program.now) c.requires.checked)
-    (owner_view c.args.node) c.requires.declared c.requires.small (tables_view c.deref-3.result.now) c.deref-2.result.now c.place_named-place.result
-    c.len-depth.result c.missing_at-missing.result (ap tables_view c.deref-3.ensures.value ∙ c.in_ok-all.ensures) (c.deref-2.ensures.value ∙ c.in_ok-sizes.ensures)
-    (c.place_named-place.ensures ∙ (ap (λ z. number_of (names_in (tables_view z)) c.name.result.now) (c.deref.ensures.value ∙ sym c.deref-3.ensures.value)
-    ∙ ap (number_of (names_in (tables_view c.deref-3.result.now))) c.name.ensures))
-    deep c.missing_at-missing.ensures
+    record {
+      room = room_there laws (program_view c.args.program.now) c.requires.checked (declared_once (program_view c.args.program.now) c.requires.checked)
+          (owner_view c.args.node) c.requires.declared c.requires.small (tables_view c.deref-3.result.now) c.deref-2.result.now c.place_named-place.result
+          c.len-depth.result c.missing_at-missing.result (ap tables_view c.deref-3.ensures.value ∙ c.in_ok-all.ensures) (c.deref-2.ensures.value ∙ c.in_ok-sizes.ensures)
+          (c.place_named-place.ensures ∙ (ap (λ z. number_of (names_in (tables_view z)) c.name.result.now) (c.deref.ensures.value ∙ sym c.deref-3.ensures.value)
+          ∙ ap (number_of (names_in (tables_view c.deref-3.result.now))) c.name.ensures))
+          deep c.missing_at-missing.ensures;
+    }
 
 pub returns : goal.returns
 returns c =
