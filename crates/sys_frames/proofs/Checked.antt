@@ -308,9 +308,12 @@ module _ (laws : Laws) (p : Program) (c : IsChecked p) (n : Component) (j : Cont
   calls_seen d below (x ∷ ss) [] q u t y a v k w e z h = absurd a
   calls_seen d below (x ∷ ss) (l ∷ ls) q u t y a v k w e z h = (
     call_seen x l q t.0 y.0 v.0 k.0 (ap (slice_get s.calls) (more_none q) ∙ h 0),
-    (table_of p (callee p x.callee), table_there laws.stand p x.callee z.0,
+    (
+      table_of p (callee p x.callee),
+      table_there laws.stand p x.callee z.0,
       below (callee p x.callee) (declared x.callee (f x.callee) refl u.1) x.manner (below_call x.number at) (from + l.frame) w.0 a.0
-      (ap (λ (is : Instances). instance_at is 0) e)),
+          (ap (λ (is : Instances). instance_at is 0) e),
+    ),
     calls_seen d below ss ls (suc q) u.3 t.2 y.1 a.1 v.1 k.1 w.1 (ap rest_of e) z.1 (λ r. ap (slice_get s.calls) (one_more q r) ∙ h (suc r)),
   )
     where

@@ -44,10 +44,6 @@ zipped_behind (v ∷ vs) ws (p ∷ ps) qs e = ap (λ l. (v.name.text, p) ∷ l) 
 
 -- ---- by place
 
-
-
-
-
 module _ (s : Sight) (ms : List Mode) (n : Component) where
   abbrev by_name : Sources → Variable → List Formula
   by_name from v = name_conditions s (named_in v.name.text (texts_of n.inputs)) v (given_or s ms (lookup (bytes_eq v.name.text) from) (right_of (equations n) v.name.text))
