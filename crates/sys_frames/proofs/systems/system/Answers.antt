@@ -1,12 +1,9 @@
-use Rattle.std.proofs.Common.{rules, ◌≡◌, IfOk, length, map, sym, ap, ◌∙◌, subst}
+use Rattle.std.proofs.Common.{rules, ◌≡◌, IfOk, length, sym, ap, ◌∙◌, subst}
 use Rattle.lus_tree.specs.View.{decl_view, program_view}
-use Rattle.lus_meaning.specs.ClockFaults.{components}
 use Rattle.lus_meaning.proofs.Exists.{length_mapped}
 use Rattle.lus_streams.specs.Owner.{owner_view}
 use Rattle.name_table.specs.Names.{number_of}
-use Rattle.lus_limits.specs.SystemSizes.{system_size}
 use Rattle.sys_terms.specs.View.{system_view}
-use Rattle.sys_tables.specs.Tabled.{table_of}
 use Rattle.sys_tables.specs.Views.{tables_view}
 use Rattle.sys_frames.specs.Systems.{names_in}
 use Rattle.sys_frames.proofs.Checked.{Laws}
