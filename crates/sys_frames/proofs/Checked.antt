@@ -1,5 +1,5 @@
 -- The tables of a checked program's declarations have what the translation finds in the frames of their instances.
-use Rattle.std.proofs.Common.{◌≡◌, ℕ, zero, suc, pred, ◌+◌, ◌<◌, Bool, true, false, cond, List, [], ◌∷◌, ◌++◌, map, length, Option, Some, None, option_map, refl, sym, ap, ◌∙◌, subst, arith, get_or}
+use Rattle.std.proofs.Common.{◌≡◌, ℕ, zero, suc, ◌+◌, ◌<◌, Bool, true, false, cond, List, [], ◌∷◌, map, length, Option, Some, None, option_map, refl, sym, ap, ◌∙◌, subst, arith, get_or}
 use Rattle.std.specs.Prelude.{Contains, slice_get, is_none, is_some, not}
 use Rattle.std.specs.List.{AllByRecursion}
 use Rattle.std.proofs.lemmas.Option.{slice_get-map}
@@ -12,7 +12,6 @@ use Rattle.lus_meaning.specs.Run.{Equation, equations, sort_of, sort_of_name}
 use Rattle.lus_meaning.specs.Scene.{Manner, plain, while_true, as_import, Site, Instance, Instances, instance, no_instances, with_instance, calls_of, component_of, constants_of, contract_statements, instance_at, no_component, variables}
 use Rattle.lus_meaning.specs.Slots.{held_cells, held_each, slot}
 use Rattle.lus_meaning.specs.Value.{Value}
-use Rattle.lus_meaning.specs.WellMade.{AreDistinct}
 use Rattle.lus_meaning.proofs.Exists.{length_mapped}
 use Rattle.lus_meaning.proofs.InOrder.{in_order_length}
 use Rattle.rule_laws.specs.Laws.{IsUnfolded, AreUnfolded}
@@ -23,7 +22,6 @@ use Rattle.lus_limits.specs.Calls.{way_of}
 use Rattle.lus_limits.specs.Instances.{callee, instance_called_so}
 use Rattle.lus_limits.specs.Summaries.{bound}
 use Rattle.lus_limits.specs.Widths.{frame_width}
-use Rattle.lus_limits.specs.declared.calls.Way.{Way}
 use Rattle.lus_limits.proofs.Instances.{component_called, made_of_callees}
 use Rattle.lus_layouts.proofs.Fits.{callees_fit}
 use Rattle.lus_layouts.specs.Layouts.{layout_of}
@@ -36,7 +34,7 @@ use Rattle.sys_meaning.specs.System.{below_call, has_so_far, held_first, held_ne
 use Rattle.sys_meaning.specs.WellTyped.{IsKnown, StatementsFit, TreeFits, CallsFit, CallFits, MannerFits}
 use Rattle.sys_meaning.proofs.Backward.{tree_own}
 use Rattle.path_laws.proofs.Main.{each_is_well_typed}
-use Rattle.sys_texts.specs.Sights.{Sight, Call, Output}
+use Rattle.sys_texts.specs.Sights.{Sight}
 use Rattle.sys_texts.specs.Laws.{IsSteady}
 use Rattle.sys_contracts.specs.Laws.{IsSteadyStatement, bare}
 use Rattle.sys_conditions.specs.Conditioned.{held_at_first, held_condition}
@@ -48,8 +46,8 @@ use Rattle.sys_places.specs.Own.{CallVariablesAt, OwnStandAt}
 use Rattle.sys_places.proofs.Calls.{stands_at_calls}
 use Rattle.sys_places.proofs.Held.{call_variables_stand}
 use Rattle.sys_places.proofs.Own.{own_stands}
-use Rattle.sys_tables.specs.Tabled.{Linked, Tabled, all_linked, constants_known, linked, named_stream, place_of, small_value, table_of}
-use Rattle.sys_tables.specs.Numbers.{behind_own, frame_base, keeps_so_far, sight_at, so_far_number}
+use Rattle.sys_tables.specs.Tabled.{Tabled, all_linked, constants_known, linked, named_stream, place_of, small_value, table_of}
+use Rattle.sys_tables.specs.Numbers.{keeps_so_far, sight_at, so_far_number}
 use Rattle.sight_laws.specs.Sights.{CalleesAreThere, CalleesStand, CallsAreCalls, DefaultsAreKnown, FramesHaveRoom, HasItsDefaults, SightsAreSights, call_of, output_of}
 use Rattle.sys_frames.specs.Walked.{held_lists, so_far_of}
 use Rattle.sys_frames.specs.Walked as w
@@ -308,9 +306,12 @@ module _ (laws : Laws) (p : Program) (c : IsChecked p) (n : Component) (j : Cont
   calls_seen d below (x ∷ ss) [] q u t y a v k w e z h = absurd a
   calls_seen d below (x ∷ ss) (l ∷ ls) q u t y a v k w e z h = (
     call_seen x l q t.0 y.0 v.0 k.0 (ap (slice_get s.calls) (more_none q) ∙ h 0),
-    (table_of p (callee p x.callee), table_there laws.stand p x.callee z.0,
+    (
+      table_of p (callee p x.callee),
+      table_there laws.stand p x.callee z.0,
       below (callee p x.callee) (declared x.callee (f x.callee) refl u.1) x.manner (below_call x.number at) (from + l.frame) w.0 a.0
-      (ap (λ (is : Instances). instance_at is 0) e)),
+          (ap (λ (is : Instances). instance_at is 0) e),
+    ),
     calls_seen d below ss ls (suc q) u.3 t.2 y.1 a.1 v.1 k.1 w.1 (ap rest_of e) z.1 (λ r. ap (slice_get s.calls) (one_more q r) ∙ h (suc r)),
   )
     where

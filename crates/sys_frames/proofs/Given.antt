@@ -1,12 +1,12 @@
 -- What callers give to the streams of frames, by names and by places.
-use Rattle.std.proofs.Common.{◌≡◌, ℕ, zero, suc, Bool, true, false, cond, ◌||◌, List, [], ◌∷◌, ◌++◌, map, flat_map, length, Option, Some, None, refl, sym, ap, ◌∙◌, arith}
+use Rattle.std.proofs.Common.{◌≡◌, Bool, true, false, cond, ◌||◌, List, [], ◌∷◌, ◌++◌, map, flat_map, length, Some, refl, sym, ap, ◌∙◌, arith}
 use Rattle.std.specs.List.{AllByRecursion}
 use Rattle.std.specs.Map.{lookup}
 use Rattle.std.specs.Str.{bytes_eq}
 use Rattle.lus_tree.specs.Tree.{Name, Variable, Component}
 use Rattle.lus_meaning.specs.Depends.{named_in}
-use Rattle.lus_meaning.specs.Run.{Equation, equations, inputs_of}
-use Rattle.lus_meaning.specs.Scene.{Instance, component_of, constants_of, variables}
+use Rattle.lus_meaning.specs.Run.{equations}
+use Rattle.lus_meaning.specs.Scene.{component_of, constants_of, variables}
 use Rattle.lus_meaning.specs.WellMade.{AreDistinct}
 use Rattle.lus_meaning.proofs.Exists.{self_bytes}
 use Rattle.rule_laws.proofs.Lists.{other_bytes}
@@ -17,9 +17,9 @@ use Rattle.sys_meaning.specs.System.{Sources, paired, name_here, names_here, equ
 use Rattle.sys_texts.specs.Sights.{Sight, Mode}
 use Rattle.sys_texts.specs.Laws.{IsSteady}
 use Rattle.sys_conditions.specs.Laws.{AreConditionsOf}
-use Rattle.sys_conditions.specs.Named.{Right, given_or, name_conditions, right_of}
-use Rattle.sys_tables.specs.Tabled.{Named, named_stream, texts_of}
-use Rattle.sys_frames.specs.Streams.{first_part, other_parts, stream_here, streams_here}
+use Rattle.sys_conditions.specs.Named.{given_or, name_conditions, right_of}
+use Rattle.sys_tables.specs.Tabled.{named_stream, texts_of}
+use Rattle.sys_frames.specs.Streams.{stream_here, streams_here}
 
 -- a part for each of the first streams
 abbrev pub zipped : List Variable → List Part → Sources
@@ -43,10 +43,6 @@ zipped_behind (v ∷ vs) ws [] qs e = absurd (omega arith)
 zipped_behind (v ∷ vs) ws (p ∷ ps) qs e = ap (λ l. (v.name.text, p) ∷ l) (zipped_behind vs ws ps qs (omega arith))
 
 -- ---- by place
-
-
-
-
 
 module _ (s : Sight) (ms : List Mode) (n : Component) where
   abbrev by_name : Sources → Variable → List Formula

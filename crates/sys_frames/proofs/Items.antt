@@ -1,21 +1,21 @@
 -- The items of the contracts of frames by tables are those of the translation.
-use Rattle.std.proofs.Common.{◌≡◌, ℕ, zero, suc, pred, Bool, true, false, cond, ◌&&◌, List, [], ◌∷◌, ◌++◌, map, Option, Some, None, unwrap_or, refl, sym, ap, ◌∙◌, subst}
+use Rattle.std.proofs.Common.{◌≡◌, ℕ, zero, suc, pred, Bool, true, false, cond, ◌&&◌, List, [], ◌∷◌, map, Option, Some, None, unwrap_or, refl, sym, ap, ◌∙◌}
 use Rattle.std.specs.Prelude.{option_to_list, slice_get, nat_le}
 use Rattle.std.specs.List.{AllByRecursion}
 use Rattle.std.specs.Map.{lookup}
 use Rattle.std.specs.Str.{bytes_eq}
 use Rattle.lus_tree.specs.Tree.{Name, ContractStatement, assume, guarantee, ghost_variable, constant, mode, «import»}
 use Rattle.lus_meaning.specs.Meaning.{mode_key, same_path}
-use Rattle.lus_meaning.specs.Scene.{Manner, plain, while_true, as_import, Instance, Instances, instance, no_instances, with_instance, calls_of, component_of, contract_statements}
+use Rattle.lus_meaning.specs.Scene.{Manner, plain, as_import, Instance, Instances, instance, no_instances, with_instance, contract_statements}
 use Rattle.lus_limits.specs.Calls.{way_of}
 use Rattle.lus_limits.specs.declared.calls.Way.{Way}
 use Rattle.lus_limits.specs.declared.calls.Way.TheVariants.{Import}
 use Rattle.sys_terms.specs.View.{truth}
-use Rattle.sys_meaning.specs.Defaults.{site_of, site_at}
+use Rattle.sys_meaning.specs.Defaults.{site_at}
 use Rattle.sys_meaning.specs.Items.{ModeItem, known}
 use Rattle.sys_meaning.specs.Slot.{Place}
 use Rattle.sys_meaning.specs.System.{Written, at_numbers, below_call, contract_of, stage}
-use Rattle.sys_texts.specs.Sights.{Sight, is_way, asked_of, counted_from_one}
+use Rattle.sys_texts.specs.Sights.{Sight, is_way, asked_of}
 use Rattle.sys_texts.specs.Laws.{IsSightOf}
 use Rattle.sys_contracts.specs.Items.{Items, no_items, imported_at, with_import, with_statement, with_statements, contract_items}
 use Rattle.sys_contracts.specs.Laws.{bare, way_of as way_of_key, mode_at, items_at, called_from}
@@ -23,7 +23,7 @@ use Rattle.sys_contracts.proofs.Itemized.{items_are}
 use Rattle.sys_tables.specs.Tabled.{Linked, Tabled}
 use Rattle.sys_tables.specs.Numbers.{behind_own, frame_base, sight_at}
 use Rattle.sys_frames.specs.Walked.{called_item, items_below, items_or_none, items_within}
-use Rattle.sys_frames.proofs.Seen.{IsImportAt, SeesOwn, SeesCall, Seen, CallsSeen}
+use Rattle.sys_frames.proofs.Seen.{IsImportAt, Seen, CallsSeen}
 
 -- ---- modes
 

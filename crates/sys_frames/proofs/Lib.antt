@@ -6,4 +6,5 @@ pub mod Given
 pub mod Translated
 pub mod Checked
 pub mod Rooms
+pub mod Once
 pub mod Whole

@@ -1,5 +1,5 @@
 -- No number of the frames of a system is 2^32 or more.
-use Rattle.std.proofs.Common.{◌≡◌, ℕ, zero, suc, ◌+◌, ◌<◌, ◌≤◌, List, [], ◌∷◌, ◌++◌, ◌^◌, map, length, Option, Some, None, refl, sym, ap, ◌∙◌, subst, arith}
+use Rattle.std.proofs.Common.{◌≡◌, ℕ, zero, suc, ◌+◌, ◌<◌, ◌≤◌, List, [], ◌∷◌, ◌++◌, ◌^◌, length, Option, Some, refl, sym, ◌∙◌, subst, arith}
 use Rattle.std.specs.Prelude.{Contains, slice_get}
 use Rattle.std.specs.List.{AllByRecursion}
 use Rattle.lus_tree.specs.Tree.{Name, Component, Program}
@@ -18,11 +18,10 @@ use Rattle.lus_limits.specs.Widths.{frame_width}
 use Rattle.lus_limits.proofs.Widths.{any_way}
 use Rattle.lus_limits.proofs.Instances.{component_called, made_of_callees}
 use Rattle.lus_layouts.proofs.Placed.{layouts_hold}
-use Rattle.lus_layouts.specs.Layouts.{ArePlaced, IsPlaced, layout_of, own_count}
+use Rattle.lus_layouts.specs.Layouts.{ArePlaced, layout_of, own_count}
 use Rattle.lus_layouts.specs.declared.placing.CallSlots.{CallSlots}
 use Rattle.sys_tables.specs.Tabled.{Tabled, all_linked, place_of, table_of}
-use Rattle.sys_tables.specs.Numbers.{behind_own}
-use Rattle.sys_frames.specs.Walked.{CallsHaveRoom, HasRoomWithin, IfThere, OfCall}
+use Rattle.sys_frames.specs.Walked.{HasRoomWithin, IfThere, OfCall}
 use Rattle.sys_frames.proofs.Checked.{Laws, table_list, table_there}
 
 -- what is in a list stands before its end

@@ -1,12 +1,11 @@
 -- Lists one behind the other, and one step down the calls.
-use Rattle.std.proofs.Common.{◌≡◌, ℕ, zero, suc, ◌+◌, ◌<◌, List, [], ◌∷◌, ◌++◌, map, length, drop, get_or, append_assoc, refl, sym, ap, ◌∙◌, subst, arith}
+use Rattle.std.proofs.Common.{◌≡◌, ℕ, suc, ◌+◌, ◌<◌, List, [], ◌∷◌, length, drop, get_or, append_assoc, sym, ap, ◌∙◌, subst, arith}
 use Rattle.std.specs.Prelude.{slice_get}
 use Rattle.std.specs.List.{AllByRecursion}
 use Rattle.std.proofs.lemmas.List.{append-nil, drop_more}
 use Rattle.kind_num.specs.declared.Shape.{Shape}
 use Rattle.sys_terms.specs.View.{Formula}
 use Rattle.sys_texts.specs.Sights.{Sight, Mode}
-use Rattle.sys_contracts.specs.Items.{Items}
 use Rattle.sys_tables.specs.Tabled.{Linked, Tabled}
 use Rattle.sys_frames.specs.Lists.{Lists, no_lists, joined}
 use Rattle.sys_frames.specs.Walked.{CallsHaveRoom, HasRoomWithin, ListsOf, OfCall, call_lists_or_none, called_items, calls_lists, items_below, items_within, lists_below, lists_within, owed_by_calls, owed_within}

@@ -1,7 +1,6 @@
 -- The parts that a caller gives, one after the other, and the shapes of what is held.
-use Rattle.std.proofs.Common.{◌≡◌, ℕ, zero, suc, List, [], ◌∷◌, ◌++◌, ◌+◌, map, length, drop, append_assoc, refl, sym, ap, ◌∙◌, arith}
+use Rattle.std.proofs.Common.{◌≡◌, ℕ, zero, suc, List, [], ◌∷◌, ◌++◌, ◌+◌, length, drop, append_assoc, refl, sym, ap, ◌∙◌, arith}
 use Rattle.std.specs.Prelude.{slice_get}
-use Rattle.kind_num.specs.declared.Shape.{Shape}
 use Rattle.sys_terms.specs.View.{Formula}
 use Rattle.sys_meaning.specs.Part.{Part}
 use Rattle.sys_texts.specs.Sights.{Sight, Mode, Output}

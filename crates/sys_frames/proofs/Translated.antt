@@ -4,13 +4,13 @@ use Rattle.std.specs.Prelude.{slice_get, is_some}
 use Rattle.std.specs.List.{AllByRecursion}
 use Rattle.std.proofs.lemmas.List.{append-nil, map-append}
 use Rattle.lus_tree.specs.declared.place.Sort.TheVariants.{Bool as Flags}
-use Rattle.lus_tree.specs.Tree.{Name, Variable, Expression, ContractStatement, Component}
+use Rattle.lus_tree.specs.Tree.{Name, Variable, ContractStatement, Component}
 use Rattle.lus_meaning.specs.Occurrences.{Memory, memories, Start, starts}
 use Rattle.lus_meaning.specs.Program.{in_order}
 use Rattle.lus_meaning.specs.Value.{Value}
 use Rattle.lus_meaning.specs.Run.{inputs_of, sort_of, sort_of_name}
-use Rattle.lus_meaning.specs.Scene.{Manner, plain, while_true, as_import, Site, Instance, Instances, instance, no_instances, with_instance, component_of, constants_of, contract_statements, ghosts, outputs_of, variables}
-use Rattle.lus_meaning.specs.Slots.{Cell, beat_cell, name_cell, memory_cell, start_cell, contract_cells, own_cells, held_cells, Slot, slot, cell_sort, slots_in, call_slots, slots}
+use Rattle.lus_meaning.specs.Scene.{Manner, plain, while_true, as_import, Site, Instance, Instances, instance, no_instances, with_instance, component_of, constants_of, contract_statements, ghosts, variables}
+use Rattle.lus_meaning.specs.Slots.{Cell, name_cell, memory_cell, start_cell, contract_cells, own_cells, held_cells, Slot, slot, cell_sort, slots_in, call_slots, slots}
 use Rattle.lus_meaning.proofs.Exists.{length_mapped}
 use Rattle.kind_num.specs.declared.Shape.{Shape}
 use Rattle.lus_limits.specs.Calls.{way_of}
@@ -34,9 +34,9 @@ use Rattle.sys_contracts.specs.Laws.{mode_at, items_at}
 use Rattle.sys_conditions.specs.Conditioned.{assert_conditions, at_first, body_properties, memory_conditions, owed, runs_where, start_conditions}
 use Rattle.sys_conditions.specs.Laws.{AreConditionsOf}
 use Rattle.sys_conditions.proofs.Translated.{conditions_are}
-use Rattle.sys_tables.specs.Tabled.{Linked, Named, Tabled, named_stream}
+use Rattle.sys_tables.specs.Tabled.{Linked, Tabled, named_stream}
 use Rattle.sys_tables.specs.Numbers.{behind_own, frame_base, sight_at}
-use Rattle.sys_frames.specs.Lists.{Lists, no_lists, joined}
+use Rattle.sys_frames.specs.Lists.{Lists, joined}
 use Rattle.sys_frames.specs.Streams.{streams_here}
 use Rattle.sys_frames.specs.Walked.{ItemsOf, ListsOf, active_where, call_lists, call_lists_or_none, calls_lists, given_by, held_lists, items_within, lists_below, lists_or_none, lists_seen, lists_within, machine_of, outputs_given, owed_by, owed_by_calls, owed_within, own_lists, own_shapes, properties_over, so_far_of, so_far_shapes, system_over, system_within}
 use Rattle.sys_frames.specs.Walked as w

@@ -1,5 +1,5 @@
 -- The system that the walk makes of a declaration is its translation.
-use Rattle.std.proofs.Common.{◌≡◌, ℕ, zero, suc, ◌+◌, ◌<◌, min, Bool, true, false, cond, ◌||◌, List, [], ◌∷◌, map, length, Option, Some, None, option_map, refl, sym, ap, ◌∙◌, subst, arith, get_or}
+use Rattle.std.proofs.Common.{◌≡◌, ℕ, zero, suc, ◌+◌, ◌<◌, min, Bool, true, false, cond, ◌||◌, List, [], ◌∷◌, map, length, Option, Some, option_map, refl, sym, ap, ◌∙◌, subst, arith, get_or}
 use Rattle.std.specs.Prelude.{Contains, slice_get}
 use Rattle.std.specs.Str.{bytes_eq}
 use Rattle.std.proofs.lemmas.Bool.{false≢true}
@@ -9,7 +9,7 @@ use Rattle.lus_meaning.specs.ClockFaults.{components}
 use Rattle.lus_meaning.specs.Depends.{named_in}
 use Rattle.lus_meaning.specs.Program.{instance_of}
 use Rattle.lus_meaning.specs.Refusals.{IsChecked}
-use Rattle.lus_meaning.specs.Scene.{plain, no_component}
+use Rattle.lus_meaning.specs.Scene.{plain}
 use Rattle.lus_meaning.specs.Slots.{width}
 use Rattle.lus_meaning.specs.WellMade.{AreDistinct}
 use Rattle.lus_meaning.proofs.Exists.{self_bytes}
@@ -17,11 +17,9 @@ use Rattle.rule_laws.proofs.Lists.{other_bytes}
 use Rattle.name_table.specs.Names.{number_of}
 use Rattle.lus_limits.specs.Summaries.{bound, cut}
 use Rattle.lus_limits.specs.SystemSizes.{system_size}
-use Rattle.lus_limits.specs.Widths.{frame_width}
 use Rattle.lus_limits.specs.declared.calls.Way.TheVariants.{Plain}
 use Rattle.lus_limits.specs.declared.systems.SystemSize.{SystemSize}
 use Rattle.sys_meaning.specs.System.{number_of as number_at, system_of}
-use Rattle.sys_terms.specs.View.{Machine}
 use Rattle.sys_places.proofs.Numbers.{stands_at_root}
 use Rattle.sys_tables.specs.Tabled.{Tabled, names_of, place_of, table_of}
 use Rattle.sys_frames.specs.Systems.{missing_in, names_in, system_or_none}

@@ -64,14 +64,7 @@ fn push_here(
         (table_view table.now).streams (map part_view given.now)) }
 {
     formulas.push(active)?;
-    push_streams(
-        alloc,
-        formulas,
-        sight,
-        &items.modes,
-        &table.streams,
-        given,
-    )
+    push_streams(alloc, formulas, sight, &items.modes, &table.streams, given)
 }
 
 /// The formulas, and behind them what holds of the variable that says whether the assumptions were true so far.

@@ -123,7 +123,13 @@ pub(crate) fn properties_of(
         (table_view table.now) from)) }
 {
     let mut formulas = Vec::new(tables.alloc);
-    push_properties(tables.alloc, &mut formulas, sight, &items.modes, table.owner.body())?;
+    push_properties(
+        tables.alloc,
+        &mut formulas,
+        sight,
+        &items.modes,
+        table.owner.body(),
+    )?;
     push_promises(tables.alloc, &mut formulas, items)?;
     push_owed_within(tables, depth, &mut formulas, table, from)?;
     Ok(formulas)

@@ -26,7 +26,9 @@ use crate::walk::visit_seen;
 use lus_limits::{SystemSize, Way, system_sizes};
 use lus_streams::owner::Owner;
 use lus_tree::Program;
-use sight_laws::laws::{callees_are_there, constants_are_known, frames_have_room, sights_are_sights};
+use sight_laws::laws::{
+    callees_are_there, constants_are_known, frames_have_room, sights_are_sights,
+};
 use std::alloc::{AllocError, Global};
 use steady_laws::laws::{constants_are_kept, texts_are_steady};
 use sys_contracts::items::{Items, push_copies};
@@ -74,7 +76,18 @@ fn system_over<'a>(
     let mut lists = no_lists(tables.alloc);
     push_copies(tables.alloc, &mut lists.asserts, &items.assumes)?;
     let active = flag(sight.beat);
-    visit_seen(tables, depth, &mut lists, table, sight, items, Way::Plain, 0, active, &[])?;
+    visit_seen(
+        tables,
+        depth,
+        &mut lists,
+        table,
+        sight,
+        items,
+        Way::Plain,
+        0,
+        active,
+        &[],
+    )?;
     let from = behind_own(table, Way::Plain, 0);
     let properties = properties_of(tables, depth, table, sight, items, from)?;
     Ok(assembled(lists, properties))
@@ -91,7 +104,13 @@ fn system_within<'a>(
         tables.entry.missing (table_view table.now)) }
 {
     let sight = sight(tables.alloc, table, Way::Plain, 0, tables.missing)?;
-    let items = items_seen(tables, depth, table, &sight, behind_own(table, Way::Plain, 0))?;
+    let items = items_seen(
+        tables,
+        depth,
+        table,
+        &sight,
+        behind_own(table, Way::Plain, 0),
+    )?;
     system_over(tables, depth, table, &sight, &items)
 }
 
@@ -110,11 +129,7 @@ fn no_system(alloc: Global) -> System
 }
 
 /// The system of the declaration of that place; nothing where there is none.
-fn system_at(
-    tables: Tables<'_, '_>,
-    depth: usize,
-    place: usize,
-) -> Result<System, AllocError>
+fn system_at(tables: Tables<'_, '_>, depth: usize, place: usize) -> Result<System, AllocError>
     requires room { IfThere (HasRoomWithin depth (tables_view tables.all.now))
         (slice_get (tables_view tables.all.now) place) Plain 0 }
     ensures { IfOk result (λ s. system_view s ≡ system_or_none depth (tables_view tables.entry.all.now)

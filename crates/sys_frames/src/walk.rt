@@ -69,9 +69,26 @@ pub(crate) fn visit_seen<'a>(
         (sight_view sight.now) (items_view items.now) way base (term_view active) (map part_view given.now))) }
 {
     let so_far = so_far_of(table, way, base);
-    push_own(tables.alloc, lists, table, sight, items, so_far, active, given)?;
+    push_own(
+        tables.alloc,
+        lists,
+        table,
+        sight,
+        items,
+        so_far,
+        active,
+        given,
+    )?;
     let from = behind_own(table, way, base);
-    visit_below(tables, depth, lists, sight, &items.modes, from, &table.calls)
+    visit_below(
+        tables,
+        depth,
+        lists,
+        sight,
+        &items.modes,
+        from,
+        &table.calls,
+    )
 }
 
 /// The lists, and behind them what is said of the frames of calls that stand from there on, with others nested in them no
@@ -227,5 +244,7 @@ fn visit_frame<'a>(
 {
     let sight = sight(tables.alloc, table, way, base, tables.missing)?;
     let items = items_seen(tables, depth, table, &sight, behind_own(table, way, base))?;
-    visit_seen(tables, depth, lists, table, &sight, &items, way, base, active, given)
+    visit_seen(
+        tables, depth, lists, table, &sight, &items, way, base, active, given,
+    )
 }

@@ -12,7 +12,7 @@ pub loop-place-preserved : goal.loop-place-preserved
 loop-place-preserved c =
     let l : c.loop-place.place < length c.args.streams.now = search rules in
     let rest : map named_view (drop c.loop-place.place c.args.streams.now)
-        ≡ named_view c.index-streams-place.result ∷ map named_view (drop (c.loop-place.place + 1) c.args.streams.now) =
+    ≡ named_view c.index-streams-place.result ∷ map named_view (drop (c.loop-place.place + 1) c.args.streams.now) =
     ap (map named_view) (dropped c.args.streams.now c.loop-place.place c.index-streams-place.result l c.index-streams-place.is) in
     streams_step (sight_view c.args.sight.now) (modes_view c.args.modes.now) (map part_view c.args.given.now) c.loop-place.place
     (named_view c.index-streams-place.result) (map named_view (drop c.loop-place.place c.args.streams.now))

@@ -1,16 +1,13 @@
-use Rattle.std.proofs.Common.{rules, ◌≡◌, IfOk, length, map, sym, ap, ◌∙◌, subst}
+use Rattle.std.proofs.Common.{rules, ◌≡◌, IfOk, length, sym, ap, ◌∙◌, subst}
 use Rattle.lus_tree.specs.View.{decl_view, program_view}
-use Rattle.lus_meaning.specs.ClockFaults.{components}
 use Rattle.lus_meaning.proofs.Exists.{length_mapped}
 use Rattle.lus_streams.specs.Owner.{owner_view}
 use Rattle.name_table.specs.Names.{number_of}
-use Rattle.lus_limits.specs.SystemSizes.{system_size}
-use Rattle.lus_limits.proofs.Settled.{declared_once}
 use Rattle.sys_terms.specs.View.{system_view}
-use Rattle.sys_tables.specs.Tabled.{table_of}
 use Rattle.sys_tables.specs.Views.{tables_view}
 use Rattle.sys_frames.specs.Systems.{names_in}
 use Rattle.sys_frames.proofs.Checked.{Laws}
+use Rattle.sys_frames.proofs.Once.{declared_once}
 use Rattle.sys_frames.proofs.Whole.{room_there, system_exact}
 use Rattle.sys_frames.proofs.systems.system.Goals as goal
 
@@ -33,12 +30,14 @@ system_at-requires c =
       there = c.callees_are_there.ensures.there;
       room = c.frames_have_room.ensures;
     } in
-    room_there laws (program_view c.args.program.now) c.requires.checked (declared_once (program_view c.args.program.now) c.requires.checked)
-    (owner_view c.args.node) c.requires.declared c.requires.small (tables_view c.deref-3.result.now) c.deref-2.result.now c.place_named.result
-    c.len-depth.result c.missing_at.result (ap tables_view c.deref-3.ensures.value ∙ c.in_ok-all.ensures) (c.deref-2.ensures.value ∙ c.in_ok-sizes.ensures)
-    (c.place_named.ensures ∙ (ap (λ z. number_of (names_in (tables_view z)) c.name.result.now) (c.deref.ensures.value ∙ sym c.deref-3.ensures.value)
-    ∙ ap (number_of (names_in (tables_view c.deref-3.result.now))) c.name.ensures))
-    deep c.missing_at.ensures
+    record {
+      room = room_there laws (program_view c.args.program.now) c.requires.checked (declared_once (program_view c.args.program.now) c.requires.checked)
+          (owner_view c.args.node) c.requires.declared c.requires.small (tables_view c.deref-3.result.now) c.deref-2.result.now c.place_named-place.result
+          c.len-depth.result c.missing_at-missing.result (ap tables_view c.deref-3.ensures.value ∙ c.in_ok-all.ensures) (c.deref-2.ensures.value ∙ c.in_ok-sizes.ensures)
+          (c.place_named-place.ensures ∙ (ap (λ z. number_of (names_in (tables_view z)) c.name.result.now) (c.deref.ensures.value ∙ sym c.deref-3.ensures.value)
+          ∙ ap (number_of (names_in (tables_view c.deref-3.result.now))) c.name.ensures))
+          deep c.missing_at-missing.ensures;
+    }
 
 pub returns : goal.returns
 returns c =
@@ -62,11 +61,11 @@ returns c =
     record {
       exact = subst (λ m. IfOk c.system_at.result (λ s. system_view s ≡ m))
           (system_exact laws (program_view c.args.program.now) c.requires.checked (declared_once (program_view c.args.program.now) c.requires.checked)
-          (owner_view c.args.node) c.requires.declared c.requires.small (tables_view c.deref-3.result.now) c.deref-2.result.now c.place_named.result
-          c.len-depth.result c.missing_at.result (ap tables_view c.deref-3.ensures.value ∙ c.in_ok-all.ensures)
+          (owner_view c.args.node) c.requires.declared c.requires.small (tables_view c.deref-3.result.now) c.deref-2.result.now c.place_named-place.result
+          c.len-depth.result c.missing_at-missing.result (ap tables_view c.deref-3.ensures.value ∙ c.in_ok-all.ensures)
           (c.deref-2.ensures.value ∙ c.in_ok-sizes.ensures)
-          (c.place_named.ensures ∙ (ap (λ z. number_of (names_in (tables_view z)) c.name.result.now) (c.deref.ensures.value ∙ sym c.deref-3.ensures.value)
+          (c.place_named-place.ensures ∙ (ap (λ z. number_of (names_in (tables_view z)) c.name.result.now) (c.deref.ensures.value ∙ sym c.deref-3.ensures.value)
           ∙ ap (number_of (names_in (tables_view c.deref-3.result.now))) c.name.ensures))
-          deep c.missing_at.ensures)
+          deep c.missing_at-missing.ensures)
           c.system_at.ensures;
     }

@@ -11,7 +11,7 @@ pub visit_calls-loop-place-preserved : goal.visit_calls-loop-place-preserved
 visit_calls-loop-place-preserved t c =
     let l : c.loop-place.place < length c.args.calls.now = search rules in
     let rest : map linked_view (drop c.loop-place.place c.args.calls.now)
-        ≡ linked_view c.index-calls-place.result ∷ map linked_view (drop (c.loop-place.place + 1) c.args.calls.now) =
+    ≡ linked_view c.index-calls-place.result ∷ map linked_view (drop (c.loop-place.place + 1) c.args.calls.now) =
     ap (map linked_view) (dropped c.args.calls.now c.loop-place.place c.index-calls-place.result l c.index-calls-place.is) in
     record {
       made = calls_step (lists_within c.args.depth (tables_view c.args.tables.all.now) c.args.tables.missing) (tables_view c.args.tables.all.now)
