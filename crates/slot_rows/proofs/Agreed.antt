@@ -1,0 +1,181 @@
+-- Row after row the table has the values that follow, for the slots of a closed set.
+use Rattle.std.proofs.Common.{◌≡◌, ℕ, zero, suc, ◌<◌, ◌≤◌, ◌+◌, Bool, true, false, ◌||◌, List, [], ◌∷◌, ◌++◌, Option, Some, None, length, get_or, slice_get, refl, ap, ◌∙◌, sym, subst, arith, length-append}
+use Rattle.std.specs.List.{AllByRecursion}
+use Rattle.std.proofs.Math.Logic.{◌⊎◌, inl, inr}
+use Rattle.std.proofs.lemmas.Bool.{true≢false, false≢true, cases_order}
+use Rattle.std.proofs.lemmas.List.{get_or_push, get_or_append_left}
+use Rattle.lus_meaning.specs.Value.{Value, absent}
+use Rattle.lus_meaning.specs.Order.{is_listed}
+use Rattle.lus_meaning.proofs.Lists.{all_from}
+use Rattle.slot_values.specs.Evaluated.{SlotValues}
+use Rattle.slot_sources.specs.Source.{Source, always, runs, runs_while, same, given, argument, listed, remembered, starting, held, unread}
+use Rattle.slot_sources.specs.Rows.{Choices, Follow, brought, brought_first, brought_next, is_read, outside_next, outside_now, reads_before, value_now}
+use Rattle.slot_rows.specs.Order.{IsSlotOrder}
+use Rattle.slot_rows.specs.Table.{Row, brought_to, closed as closed_row, filled, first_values, is_any, listed_or, next_outside, next_value, next_values, no_row, row_at, row_from, rows, slots_of, unless}
+use Rattle.slot_rows.specs.Agreement.{FollowIn, IsClosed, NoneOutside, ReadAgree, RowsAgree, UnmetAgree, read_slots}
+use Rattle.slot_rows.proofs.Dependence.{SameOn, next_same, outside_next_same}
+use Rattle.slot_rows.proofs.Filled.{fills, none_of}
+use Rattle.slot_rows.proofs.RowAt.{row_is}
+
+-- ---- what is brought
+
+some_is : (d e : Source) → Some d ≡ Some e → d ≡ e
+some_is d e q = cc
+
+pub first_whole : (c : Choices) (n : ℕ) (es : List Source) → length (first_values c n es) ≡ length es
+first_whole c n [] = refl
+first_whole c n (e ∷ es) = ap suc (first_whole c (suc n) es)
+
+pub next_whole : (s : SlotValues) (n : ℕ) (es : List Source) → length (next_values s n es) ≡ length es
+next_whole s n [] = refl
+next_whole s n (e ∷ es) = ap suc (next_whole s (suc n) es)
+
+first_at : (c : Choices) (n : ℕ) (es : List Source) (k : ℕ) (e : Source) → slice_get es k ≡ Some e
+    → slots_of (first_values c n es) k ≡ brought_first (c.first (n + k)) e
+first_at c n [] k e q = cc
+first_at c n (d ∷ es) zero e q = let z : n ≡ n + 0 = omega arith in
+    subst (λ m. brought_first (c.first n) d ≡ brought_first (c.first m) e) z (ap (brought_first (c.first n)) (some_is d e q))
+first_at c n (d ∷ es) (suc k) e q = let z : suc n + k ≡ n + suc k = omega arith in
+    first_at c (suc n) es k e q ∙ ap (λ m. brought_first (c.first m) e) z
+
+next_at : (s : SlotValues) (n : ℕ) (es : List Source) (k : ℕ) (e : Source) → slice_get es k ≡ Some e
+    → slots_of (next_values s n es) k ≡ next_value s (n + k) e
+next_at s n [] k e q = cc
+next_at s n (d ∷ es) zero e q = let z : n ≡ n + 0 = omega arith in
+    subst (λ m. next_value s n d ≡ next_value s m e) z (ap (next_value s n) (some_is d e q))
+next_at s n (d ∷ es) (suc k) e q = let z : suc n + k ≡ n + suc k = omega arith in
+    next_at s (suc n) es k e q ∙ ap (λ m. next_value s m e) z
+
+first_here : (c : Choices) (es : List Source) (k : ℕ) (e : Source) → slice_get es k ≡ Some e → slots_of (first_values c 0 es) k ≡ brought_first (c.first k) e
+first_here c es k e q = let z : 0 + k ≡ k = omega arith in
+    subst (λ m. slots_of (first_values c 0 es) k ≡ brought_first (c.first m) e) z (first_at c 0 es k e q)
+
+next_here : (s : SlotValues) (es : List Source) (k : ℕ) (e : Source) → slice_get es k ≡ Some e → slots_of (next_values s 0 es) k ≡ next_value s k e
+next_here s es k e q = let z : 0 + k ≡ k = omega arith in subst (λ m. slots_of (next_values s 0 es) k ≡ next_value s m e) z (next_at s 0 es k e q)
+
+neither : (a b : Bool) → (a || b) ≡ false → (a ≡ false) × (b ≡ false)
+neither true b e = absurd (true≢false e)
+neither false b e = (refl, e)
+
+none_next : (s : SlotValues) (es : List Source) (k : ℕ) (e : Source) → slice_get es k ≡ Some e → next_outside s es ≡ false → outside_next s e ≡ []
+none_next s [] k e q f = cc
+none_next s (d ∷ es) zero e q f =
+    let h : is_any (outside_next s d) ≡ false = (neither (is_any (outside_next s d)) (next_outside s es) f).0 in
+    subst (λ e. outside_next s e ≡ []) (some_is d e q) (none_of (outside_next s d) (λ x. true≢false (sym x ∙ h)))
+none_next s (d ∷ es) (suc k) e q f = none_next s es k e q (neither (is_any (outside_next s d)) (next_outside s es) f).1
+
+brought_zero : (c : Choices) (s : ℕ → SlotValues) (k : ℕ) (v : Value) (e : Source) → v ≡ brought_first (c.first k) e
+    → brought c s k zero e ≡ listed_or c zero k v e
+brought_zero c s k v always h = sym h
+brought_zero c s k v (runs w) h = sym h
+brought_zero c s k v (runs_while w e) h = sym h
+brought_zero c s k v (same j) h = sym h
+brought_zero c s k v (given w e) h = sym h
+brought_zero c s k v (argument b w e) h = sym h
+brought_zero c s k v (listed w) h = refl
+brought_zero c s k v (remembered w e) h = sym h
+brought_zero c s k v (starting w) h = sym h
+brought_zero c s k v (held b o d) h = sym h
+brought_zero c s k v unread h = sym h
+
+brought_later : (c : Choices) (s : ℕ → SlotValues) (k t : ℕ) (v : Value) (e : Source) → v ≡ brought_next (s t) k e
+    → brought c s k (suc t) e ≡ listed_or c (suc t) k v e
+brought_later c s k t v always h = sym h
+brought_later c s k t v (runs w) h = sym h
+brought_later c s k t v (runs_while w e) h = sym h
+brought_later c s k t v (same j) h = sym h
+brought_later c s k t v (given w e) h = sym h
+brought_later c s k t v (argument b w e) h = sym h
+brought_later c s k t v (listed w) h = refl
+brought_later c s k t v (remembered w e) h = sym h
+brought_later c s k t v (starting w) h = sym h
+brought_later c s k t v (held b o d) h = sym h
+brought_later c s k t v unread h = sym h
+
+-- ---- row after row
+
+module _ (es : List Source) (c : Choices) (ks : List ℕ) (in_set : ℕ → Bool) (n m : ℕ) (s : ℕ → SlotValues) (order : IsSlotOrder es ks)
+    (closed : IsClosed es in_set) (few : m ≤ n) (follow : FollowIn es in_set c n s)
+    (fine : (t : ℕ) → t < m → NoneOutside es in_set (s t) ⊎ ((row_at c es ks t).outside ≡ false)) where
+  -- the row of an instant, by what is brought to it
+  row_agrees : (t : ℕ) → t < m → (vs : List Value) → length vs ≡ length es
+      → ((k : ℕ) (e : Source) → slice_get es k ≡ Some e → in_set k ≡ true → brought c s k t e ≡ listed_or c t k (slots_of vs k) e)
+      → NoneOutside es in_set (s t) ⊎ ((row_from c es ks t vs).outside ≡ false)
+      → (k : ℕ) → in_set k ≡ true → slots_of (row_from c es ks t vs).values k ≡ s t k
+  row_agrees t l vs whole told none k i = fills c es t in_set closed (s t) (slots_of vs)
+      (λ j e q g. follow j e q g t (omega (arith, l, few)) ∙ ap (λ v. value_now (s t) v e) (told j e q g))
+      [] ks (record { values = vs; outside = false }) whole order.ready order.once order.below (λ j g e. absurd (false≢true e)) (λ j e. refl)
+      (now none) k i (order.all k (closed.slots k i))
+    where
+      now : NoneOutside es in_set (s t) ⊎ ((row_from c es ks t vs).outside ≡ false)
+          → ((k : ℕ) (e : Source) → slice_get es k ≡ Some e → in_set k ≡ true → outside_now (s t) e ≡ [])
+          ⊎ ((filled c es t (record { values = vs; outside = false }) ks).outside ≡ false)
+      now (inl h) = inl (λ k e q g. (h k e q g).0)
+      now (inr f) = inr (neither (filled c es t (record { values = vs; outside = false }) ks).outside
+          (next_outside (slots_of (filled c es t (record { values = vs; outside = false }) ks).values) es) f).0
+
+  -- what a row brings, where it has the values that follow
+  brings : (t : ℕ) → t < m → ((k : ℕ) → in_set k ≡ true → slots_of (row_at c es ks t).values k ≡ s t k) → (k : ℕ) (e : Source)
+      → slice_get es k ≡ Some e → in_set k ≡ true → next_value (slots_of (row_at c es ks t).values) k e ≡ brought_next (s t) k e
+  brings t l agreed k e q g = ap (λ ps. unless ps (brought_next row k e)) (none (fine t l)) ∙ next_same row (s t) k e (agreed k g) reads
+    where
+      row : SlotValues
+      row = slots_of (row_at c es ks t).values
+
+      reads : SameOn row (s t) (reads_before e)
+      reads = all_from (λ j. in_set j ≡ true) (λ j. row j ≡ s t j) agreed (reads_before e) (closed.before k e q g)
+
+      flag : (r v : Row) → r ≡ closed_row es v → r.outside ≡ false → next_outside (slots_of r.values) es ≡ false
+      flag r v x f = subst (λ r. r.outside ≡ false → next_outside (slots_of r.values) es ≡ false) (sym x)
+          (λ f. (neither v.outside (next_outside (slots_of v.values) es) f).1) f
+
+      none : NoneOutside es in_set (s t) ⊎ ((row_at c es ks t).outside ≡ false) → outside_next row e ≡ []
+      none (inl h) = outside_next_same row (s t) e reads ∙ (h k e q g).1
+      none (inr f) = none_next row es k e q
+          (flag (row_at c es ks t) (filled c es t (record { values = brought_to c es ks t; outside = false }) ks) (row_is c es ks t) f)
+
+  pub agrees : (t : ℕ) → t < m → (k : ℕ) → in_set k ≡ true → slots_of (row_at c es ks t).values k ≡ s t k
+  agrees zero l = row_agrees zero l (first_values c zero es) (first_whole c zero es)
+      (λ k e q g. brought_zero c s k (slots_of (first_values c zero es) k) e (first_here c es k e q)) (fine zero l)
+  agrees (suc t) l =
+      let before : t < m = omega (arith, l) in
+      let row : SlotValues = slots_of (row_at c es ks t).values in
+      row_agrees (suc t) l (next_values row zero es) (next_whole row zero es)
+      (λ k e q g. brought_later c s k t (slots_of (next_values row zero es) k) e
+      (next_here row es k e q ∙ brings t before (agrees t before) k e q g)) (fine (suc t) l)
+
+-- ---- in the table
+
+pub rows_whole : (c : Choices) (es : List Source) (ks : List ℕ) (n : ℕ) → length (rows c es ks n) ≡ n
+rows_whole c es ks zero = refl
+rows_whole c es ks (suc n) = omega (arith, length-append (rows c es ks n) (row_at c es ks n ∷ []), rows_whole c es ks n)
+
+pub row_there : (c : Choices) (es : List Source) (ks : List ℕ) (n t : ℕ) → t < n → get_or (rows c es ks n) t no_row ≡ row_at c es ks t
+row_there c es ks zero t l = absurd (omega (arith, l))
+row_there c es ks (suc n) t l = go (cases_order t n) (row_there c es ks n t)
+  where
+    go : (t ≡ n) ⊎ ((t < n) ⊎ (n < t)) → (t < n → get_or (rows c es ks n) t no_row ≡ row_at c es ks t) → get_or (rows c es ks n ++ row_at c es ks n ∷ []) t no_row ≡ row_at c es ks t
+    go (inl q) earlier = subst (λ t. get_or (rows c es ks n ++ row_at c es ks n ∷ []) t no_row ≡ row_at c es ks t) (sym q)
+        (get_or_push (rows c es ks n) (row_at c es ks n) no_row n (rows_whole c es ks n))
+    go (inr (inl h)) earlier =
+        get_or_append_left (rows c es ks n) (row_at c es ks n ∷ []) no_row t (subst (λ z. t < z) (sym (rows_whole c es ks n)) h)
+        ∙ earlier h
+    go (inr (inr h)) earlier = absurd (omega (arith, l, h))
+
+pub rows_agree : RowsAgree
+rows_agree es c ks in_set n m s order closed few follow none t l k i =
+    let h : t < n = omega (arith, l, few) in
+    ap (λ r. slots_of r.values k) (row_there c es ks n t h)
+    ∙ agrees es c ks in_set n m s order closed few follow (λ t l. inl (none t l)) t l k i
+
+pub unmet_agree : UnmetAgree
+unmet_agree es c ks in_set n m s order closed few follow none t l k i =
+    let h : t < n = omega (arith, l, few) in
+    ap (λ r. slots_of r.values k) (row_there c es ks n t h) ∙ agrees es c ks in_set n m s order closed few follow (λ t l. inr (unmet t l)) t l k i
+  where
+    unmet : (t : ℕ) → t < m → (row_at c es ks t).outside ≡ false
+    unmet t l = let h : t < n = omega (arith, l, few) in ap (λ r. r.outside) (sym (row_there c es ks n t h)) ∙ none t l
+
+pub read_agree : ReadAgree
+read_agree es c ks n m s order closed few follow none =
+    unmet_agree es c ks (read_slots es) n m s order closed few (λ k e q i. follow k e q (closed.read k e q i)) none

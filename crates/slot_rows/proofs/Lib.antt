@@ -1,0 +1,5 @@
+pub mod Slots
+pub mod Dependence
+pub mod Filled
+pub mod RowAt
+pub mod Agreed

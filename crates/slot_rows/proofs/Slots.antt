@@ -1,0 +1,63 @@
+-- Rows of the code and those of the table.
+use Rattle.std.proofs.Common.{◌≡◌, ℕ, zero, suc, List, [], ◌∷◌, Option, Some, None, Bool, Result, Ok, Err, map, refl, ap, ◌∙◌, subst, slice_get, get_or, set, option_map}
+use Rattle.std.proofs.Math.Path.{fun_ext}
+use Rattle.lus_meaning.specs.declared.value.Value.{Value as CodeValue}
+use Rattle.lus_meaning.specs.Value.{Value, absent}
+use Rattle.lus_meaning.specs.TraceView.{entry_view}
+use Rattle.slot_values.specs.declared.resolved.PastAt.{PastAt}
+use Rattle.slot_values.specs.Evaluated.{slots_in, first_or}
+use Rattle.slot_sources.specs.Source.{Source}
+use Rattle.slot_sources.specs.Rows.{Choices, brought_next, outside_next, outside_now, value_now}
+use Rattle.slot_rows.specs.Table.{Row, is_any, kept_value, listed_or, next_value, slots_of, unless, value_by, was_outside, with_value}
+
+slot_same : (vs : List (Option CodeValue)) (k : ℕ) → slots_in vs k ≡ slots_of (map entry_view vs) k
+slot_same [] k = refl
+slot_same (v ∷ vs) zero = refl
+slot_same (v ∷ vs) (suc k) = slot_same vs k
+
+pub slots_same : (vs : List (Option CodeValue)) → slots_in vs ≡ slots_of (map entry_view vs)
+slots_same vs = fun_ext (slot_same vs)
+
+pub kept_unless : (ps : List PastAt) (v : Value) → kept_value (first_or ps v) ≡ unless ps v
+kept_unless [] v = refl
+kept_unless (p ∷ ps) v = refl
+
+pub outside_any : (ps : List PastAt) (v : Value) → was_outside (first_or ps v) ≡ is_any ps
+outside_any [] v = refl
+outside_any (p ∷ ps) v = refl
+
+-- ---- what a row brings to the next instant
+
+pub next_outside_is : (b : Bool) (a : Result Value PastAt) (vs : List (Option CodeValue)) (k : ℕ) (e : Source) → b ≡ was_outside a
+    → a ≡ first_or (outside_next (slots_in vs) e) (brought_next (slots_in vs) k e) → b ≡ is_any (outside_next (slots_of (map entry_view vs)) e)
+next_outside_is b a vs k e h q =
+    h ∙ (ap was_outside q ∙ (outside_any (outside_next (slots_in vs) e) (brought_next (slots_in vs) k e)
+    ∙ ap (λ s. is_any (outside_next s e)) (slots_same vs)))
+
+pub next_value_is : (v : Value) (a : Result Value PastAt) (vs : List (Option CodeValue)) (k : ℕ) (e : Source) → v ≡ kept_value a
+    → a ≡ first_or (outside_next (slots_in vs) e) (brought_next (slots_in vs) k e) → v ≡ next_value (slots_of (map entry_view vs)) k e
+next_value_is v a vs k e h q =
+    h ∙ (ap kept_value q ∙ (kept_unless (outside_next (slots_in vs) e) (brought_next (slots_in vs) k e)
+    ∙ ap (λ s. next_value s k e) (slots_same vs)))
+
+-- ---- the value of a slot
+
+pub now_outside_is : (b : Bool) (a : Result Value PastAt) (vs : List (Option CodeValue)) (v : Value) (e : Source) → b ≡ was_outside a
+    → a ≡ first_or (outside_now (slots_in vs) e) (value_now (slots_in vs) v e) → b ≡ is_any (outside_now (slots_of (map entry_view vs)) e)
+now_outside_is b a vs v e h q =
+    h ∙ (ap was_outside q ∙ (outside_any (outside_now (slots_in vs) e) (value_now (slots_in vs) v e)
+    ∙ ap (λ s. is_any (outside_now s e)) (slots_same vs)))
+
+pub now_value_is : (c : Choices) (t k : ℕ) (u : Value) (a : Result Value PastAt) (vs : List (Option CodeValue)) (v w : Value) (e : Source)
+    → u ≡ kept_value a → a ≡ first_or (outside_now (slots_in vs) e) (value_now (slots_in vs) v e) → v ≡ listed_or c t k w e → w ≡ slots_in vs k
+    → u ≡ value_by c t k (slots_of (map entry_view vs)) e
+now_value_is c t k u a vs v w e h q l o =
+    h ∙ (ap kept_value q ∙ (kept_unless (outside_now (slots_in vs) e) (value_now (slots_in vs) v e)
+    ∙ (ap (λ v. unless (outside_now (slots_in vs) e) (value_now (slots_in vs) v e)) (l ∙ ap (λ w. listed_or c t k w e) o)
+    ∙ ap (λ s. value_by c t k s e) (slots_same vs))))
+
+abbrev pub row_of : List Value → Bool → Row
+row_of vs b = record { values = vs; outside = b }
+
+pub same_row : (vs ws : List Value) (a b : Bool) → vs ≡ ws → a ≡ b → row_of vs a ≡ row_of ws b
+same_row vs ws a b p q = rw (p, q) refl

@@ -1,0 +1,226 @@
+//! Filling the table.
+
+ghost use Rattle.std.specs.Prelude.{◌≡◌, ◌++◌, ◌∷◌, ◌||◌, [], false, length, map, suc, set, slice_get, IfOk, OnOk, Some};
+ghost use Rattle.lus_meaning.specs.TraceView.{entry_view};
+ghost use Rattle.slot_values.specs.Evaluated.{answer_view};
+ghost use Rattle.slot_sources.specs.Source.{source_view};
+ghost use Rattle.slot_sources.specs.Rows.{brought_first, outside_next};
+ghost use Rattle.slot_rows.specs.Table.{brought_to, closed, filled, first_values, is_any, kept_value, listed_or, next_value, next_values, next_outside, row_at, row_view, rows, slots_of, table_view, was_outside, with_value};
+
+use crate::chosen::Chosen;
+use crate::slot::{slot_value, value_next, value_now};
+use crate::table::{Row, Table};
+use lus_meaning::Value;
+use slot_sources::Source;
+use slot_values::PastAt;
+use std::alloc::{AllocError, Global};
+
+/// A value, none where an operation is outside 128 bits; and whether one is.
+fn kept(answer: Result<Option<Value>, PastAt>) -> (Option<Value>, bool)
+    ensures value { entry_view result.0 ≡ kept_value (answer_view answer) }
+    ensures outside { result.1 ≡ was_outside (answer_view answer) }
+{
+    match answer {
+        Ok(value) => (value, false),
+        Err(_) => (None, true),
+    }
+}
+
+/// What is listed of a slot, else what was brought to it.
+fn listed_or<C: Chosen>(
+    source: &Source,
+    chosen: &C,
+    instant: u32,
+    slot: usize,
+    brought: Option<Value>,
+) -> Option<Value>
+    ensures { entry_view result ≡ listed_or (C.choices chosen.now) instant slot (entry_view brought) (source_view source.now) }
+{
+    match source {
+        Source::Listed(_) => chosen.listed(slot, instant),
+        Source::Always
+        | Source::Runs(_)
+        | Source::RunsWhile(_, _)
+        | Source::Same(_)
+        | Source::Given(_, _)
+        | Source::Argument(_, _, _)
+        | Source::Remembered(_, _)
+        | Source::Starting(_)
+        | Source::Held { .. }
+        | Source::Unread => brought,
+    }
+}
+
+/// Writes a value, if the row has that slot.
+fn write(values: &mut Vec<Option<Value>>, slot: usize, value: Option<Value>)
+    ensures { map entry_view values.new.items ≡ set (map entry_view values.old.items) slot (entry_view value) }
+{
+    if slot < values.len() {
+        values[slot] = value;
+    }
+}
+
+/// Gives a slot the value of its source by the row so far.
+fn give_value<C: Chosen>(
+    source: &Source,
+    chosen: &C,
+    instant: u32,
+    row: &mut Row,
+    slot: usize,
+)
+    ensures { row_view row.new ≡ with_value (C.choices chosen.now) instant slot (Some (source_view source.now)) (row_view row.old) }
+{
+    let brought = listed_or(source, chosen, instant, slot, slot_value(&row.values, slot));
+    let (value, outside) = kept(value_now(source, &row.values, brought));
+    write(&mut row.values, slot, value);
+    row.outside |= outside;
+}
+
+/// The same of the slot with that number, if there is one.
+fn give_slot<C: Chosen>(
+    sources: &[Source],
+    chosen: &C,
+    instant: u32,
+    row: &mut Row,
+    slot: usize,
+)
+    ensures { row_view row.new ≡ with_value (C.choices chosen.now) instant slot
+        (slice_get (map source_view sources.now) slot) (row_view row.old) }
+{
+    if slot < sources.len() {
+        give_value(&sources[slot], chosen, instant, row, slot);
+    }
+}
+
+/// Gives each slot its value, in that order.
+fn fill_row<C: Chosen>(
+    sources: &[Source],
+    order: &[usize],
+    chosen: &C,
+    instant: u32,
+    row: &mut Row,
+)
+    ensures { row_view row.new ≡ filled (C.choices chosen.now) (map source_view sources.now) instant (row_view row.old) order.now }
+{
+    for slot in order {
+        give_slot(sources, chosen, instant, row, *slot);
+    }
+}
+
+/// What is brought to the first instant, of a slot.
+fn first_value<C: Chosen>(source: &Source, chosen: &C, slot: usize) -> Option<Value>
+    ensures { entry_view result ≡ brought_first ((C.choices chosen.now).first slot) (source_view source.now) }
+{
+    match source {
+        Source::Remembered(_, _) => chosen.first(slot),
+        Source::Starting(_) => Some(Value::Truth(true)),
+        Source::Held { default, .. } => *default,
+        Source::Always
+        | Source::Runs(_)
+        | Source::RunsWhile(_, _)
+        | Source::Same(_)
+        | Source::Given(_, _)
+        | Source::Argument(_, _, _)
+        | Source::Listed(_)
+        | Source::Unread => None,
+    }
+}
+
+/// What is brought to the first instant.
+fn first_values<C: Chosen>(
+    alloc: Global,
+    sources: &[Source],
+    chosen: &C,
+) -> Result<Vec<Option<Value>>, AllocError>
+    ensures { IfOk result (λ v. map entry_view v.items ≡ first_values (C.choices chosen.now) 0 (map source_view sources.now)) }
+{
+    let mut values = Vec::new(alloc);
+    for source in sources {
+        let value = first_value(source, chosen, values.len());
+        values.push(value)?;
+    }
+    Ok(values)
+}
+
+/// The value that a row brings to the next instant, of the slot that comes next; and whether an operation is outside
+/// 128 bits.
+fn push_next(
+    source: &Source,
+    row: &[Option<Value>],
+    values: &mut Vec<Option<Value>>,
+) -> Result<bool, AllocError>
+    ensures outside { IfOk result (λ b. b ≡ is_any (outside_next (slots_of (map entry_view row.now)) (source_view source.now))) }
+    ensures pushed { OnOk result (map entry_view values.new.items ≡ map entry_view values.old.items
+        ++ next_value (slots_of (map entry_view row.now)) (length values.old.items) (source_view source.now) ∷ []) }
+{
+    let (value, outside) = kept(value_next(source, row, values.len()));
+    values.push(value)?;
+    Ok(outside)
+}
+
+/// What a row brings to the next instant. It counts as outside where that does.
+fn next_values(
+    alloc: Global,
+    sources: &[Source],
+    row: &mut Row,
+) -> Result<Vec<Option<Value>>, AllocError>
+    ensures values { IfOk result (λ v. map entry_view v.items
+        ≡ next_values (slots_of (row_view row.old).values) 0 (map source_view sources.now)) }
+    ensures outside { OnOk result (row_view row.new ≡ closed (map source_view sources.now) (row_view row.old)) }
+{
+    let mut values = Vec::new(alloc);
+    for source in sources {
+        let outside = push_next(source, &row.values, &mut values)?;
+        row.outside |= outside;
+    }
+    Ok(values)
+}
+
+/// Adds the row of an instant to which this is brought; and what it brings to the next one.
+fn push_row<C: Chosen>(
+    alloc: Global,
+    sources: &[Source],
+    order: &[usize],
+    chosen: &C,
+    values: Vec<Option<Value>>,
+    rows: &mut Vec<Row>,
+    instant: u32,
+) -> Result<Vec<Option<Value>>, AllocError>
+    requires { map entry_view values.items ≡ brought_to (C.choices chosen.now) (map source_view sources.now) order.now instant }
+    ensures values { IfOk result (λ v. map entry_view v.items
+        ≡ brought_to (C.choices chosen.now) (map source_view sources.now) order.now (suc instant)) }
+    ensures pushed { OnOk result (map row_view rows.new.items ≡ map row_view rows.old.items
+        ++ row_at (C.choices chosen.now) (map source_view sources.now) order.now instant ∷ []) }
+{
+    let mut row = Row {
+        values,
+        outside: false,
+    };
+    fill_row(sources, order, chosen, instant, &mut row);
+    let next = next_values(alloc, sources, &mut row)?;
+    rows.push(row)?;
+    Ok(next)
+}
+
+/// The table of so many instants. The slots of a row get their values in that order, each from its source.
+///
+/// # Errors
+///
+/// Want of memory.
+pub fn fill<C: Chosen>(
+    alloc: Global,
+    sources: &[Source],
+    order: &[usize],
+    chosen: &C,
+    instants: u32,
+) -> Result<Table, AllocError>
+    ensures { IfOk result (λ t. table_view t
+        ≡ rows (C.choices chosen.now) (map source_view sources.now) order.now instants) }
+{
+    let mut rows = Vec::new(alloc);
+    let mut values = first_values(alloc, sources, chosen)?;
+    for instant in 0..instants {
+        values = push_row(alloc, sources, order, chosen, values, &mut rows, instant)?;
+    }
+    Ok(Table { rows })
+}

@@ -1,0 +1,15 @@
+//! Rows of values from sources: in which order the slots of a frame get their values at an instant, and the table of
+//! these values, instant after instant.
+#![tactic(auto)]
+
+mod chosen;
+mod filling;
+pub mod laws;
+mod reads;
+mod slot;
+mod table;
+
+pub use chosen::Chosen;
+pub use filling::fill;
+pub use reads::{push_reads_now, reads_now};
+pub use table::Table;
