@@ -10,11 +10,11 @@ use Rattle.slot_sources.specs.Rows.{brought_next, outside_next, outside_now, rea
 abbrev pub SameOn : SlotValues → SlotValues → List ℕ → Type 0
 SameOn s r ks = AllByRecursion (λ k. s k ≡ r k) ks
 
-left_of : {X : Type 0} (P : X → Type 0) (xs ys : List X) → AllByRecursion P (xs ++ ys) → AllByRecursion P xs
+pub left_of : {X : Type 0} (P : X → Type 0) (xs ys : List X) → AllByRecursion P (xs ++ ys) → AllByRecursion P xs
 left_of P [] ys a = tt
 left_of P (x ∷ xs) ys a = (a.0, left_of P xs ys a.1)
 
-right_of : {X : Type 0} (P : X → Type 0) (xs ys : List X) → AllByRecursion P (xs ++ ys) → AllByRecursion P ys
+pub right_of : {X : Type 0} (P : X → Type 0) (xs ys : List X) → AllByRecursion P (xs ++ ys) → AllByRecursion P ys
 right_of P [] ys a = a
 right_of P (x ∷ xs) ys a = right_of P xs ys a.1
 

@@ -3,3 +3,5 @@ pub mod Dependence
 pub mod Filled
 pub mod RowAt
 pub mod Agreed
+pub mod Searched
+pub mod SlotOrders

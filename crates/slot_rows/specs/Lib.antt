@@ -1,3 +1,5 @@
 pub mod Order
+pub mod SlotReads
+pub mod Searching
 pub mod Table
 pub mod Agreement

@@ -5,11 +5,15 @@
 mod chosen;
 mod filling;
 pub mod laws;
+mod ordering;
 mod reads;
+mod search;
 mod slot;
+mod slot_reads;
 mod table;
 
 pub use chosen::Chosen;
 pub use filling::fill;
+pub use ordering::order;
 pub use reads::{push_reads_now, reads_now};
 pub use table::Table;
