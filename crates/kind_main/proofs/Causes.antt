@@ -103,6 +103,7 @@ module _ (m : Machine) (plan : Plan) (history : List Posting) (sound : AreSound 
       record {
         history = history;
         sound = sound;
+        answered = is;
         place = r.place;
         entry = r.entry;
         stands = r.at;

@@ -16,4 +16,5 @@ pub mod Ready
 pub mod Ruling
 pub mod Causes
 pub mod Judging
+pub mod Completing
 pub mod Givens

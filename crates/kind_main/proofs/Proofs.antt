@@ -15,7 +15,9 @@ use Rattle.lus_properties.specs.Texts.{mark_text}
 use Rattle.source_laws.specs.Laws.{IdentifiedSources}
 use Rattle.kind_main.specs.declared.options.Options.{Options}
 use Rattle.kind_main.specs.Lines.{Line}
-use Rattle.kind_main.specs.Verdicts.{Verdict, AreTrueVerdicts, Tally, tally_of, tally_code, summary_line, verdict_report, IsAnalysed, IsProofOf}
+use Rattle.kind_main.specs.Verdicts.{Verdict, AreTrueVerdicts, Tally, tally_of, tally_code, summary_line, verdict_report, IsAnalysed}
+use Rattle.kind_main.specs.Proof.{IsProofOf}
+use Rattle.kind_main.specs.Complete.{AreComplete}
 use Rattle.kind_main.specs.Ending.{Ending, usage, unread, refused, done}
 use Rattle.kind_main.specs.Fetched.{Tells, limit, IsUnfetched}
 use Rattle.kind_main.specs.Source as S
@@ -28,16 +30,17 @@ labels_so : (ms : List Mark) (qs : List Property) → ms ≡ map mark_of qs → 
 labels_so ms qs e = ap (map mark_text) e ∙ map_map mark_of mark_text qs
 
 pub proof_made : (o : Options) (p : Program) (d : Component) (vs : List Verdict) → AreTrueVerdicts o p d 0 (properties (instance_of p d)) vs
-    → {X : Type 0} (mark : X → Mark) (xs : List X) → map mark xs ≡ map mark_of (properties (instance_of p d))
+    → AreComplete o (instance_of p d) 0 (properties (instance_of p d)) vs → {X : Type 0} (mark : X → Mark) (xs : List X) → map mark xs ≡ map mark_of (properties (instance_of p d))
     → (report lines : List Line) → report ≡ verdict_report (instance_of p d) (map (λ x. mark_text (mark x)) xs) vs
     → (t : Tally) → t ≡ tally_of vs → (summary : Line) → summary ≡ summary_line t → lines ≡ report ++ summary ∷ [] → (code : ℕ)
     → code ≡ tally_code t → IsProofOf o p d lines code
-proof_made o p d vs right mark xs marks report lines shape t counts summary text printed code status =
+proof_made o p d vs right complete mark xs marks report lines shape t counts summary text printed code status =
     let labels : map (λ x. mark_text (mark x)) xs ≡ map label_of (properties (instance_of p d)) =
     sym (map_map mark mark_text xs) ∙ labels_so (map mark xs) (properties (instance_of p d)) marks in
     record {
       verdicts = vs;
       right = right;
+      complete = complete;
       printed = printed ∙ (ap (λ l. l ++ summary ∷ []) (shape ∙ ap (λ l. verdict_report (instance_of p d) l vs) labels)
           ∙ ap (λ (l : Line). verdict_report (instance_of p d) (map label_of (properties (instance_of p d))) vs ++ l ∷ [])
           (text ∙ ap summary_line counts));

@@ -9,6 +9,8 @@ pub mod Source
 pub mod Traced
 pub mod Causes
 pub mod Verdicts
+pub mod Complete
+pub mod Proof
 pub mod Played
 pub mod Proved
 pub mod Answer

@@ -5,7 +5,7 @@ use Rattle.kind_io.specs.Told.{Told}
 use Rattle.lus_tree.specs.Tree.{Program}
 use Rattle.kind_main.specs.Lines.{Line}
 use Rattle.kind_main.specs.declared.options.Options.{Options}
-use Rattle.kind_main.specs.Verdicts.{IsProof}
+use Rattle.kind_main.specs.Proof.{IsProof}
 use Rattle.kind_main.specs.Fetched.{Tells}
 use Rattle.kind_main.specs.Source.{HoldsSource, IsRefusedFile}
 use Rattle.kind_main.specs.Ending.{Ending, usage, unread, refused, done}

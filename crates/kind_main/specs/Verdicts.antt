@@ -6,20 +6,18 @@ use Rattle.proof_steps.specs.StopView.{Halt, conflicts, splits, pivots, past}
 use Rattle.kind_num.specs.declared.Past.{Past}
 use Rattle.kind_num.specs.declared.Op.{Op}
 use Rattle.kind_num.specs.declared.Op.TheVariants.{Add, Sub, Mul, Div}
-use Rattle.lus_tree.specs.Lookup.{node_at}
 use Rattle.lus_tree.specs.Tree.{Program, Component, declared_node}
 use Rattle.lus_meaning.specs.Frame.{Frame}
 use Rattle.lus_meaning.specs.Program.{instance_of}
 use Rattle.lus_meaning.specs.Scene.{Instance}
 use Rattle.lus_meaning.specs.Contract.{Property}
 use Rattle.lus_meaning.specs.Property.{properties}
-use Rattle.lus_meaning.specs.Label.{label_of, path_text}
+use Rattle.lus_meaning.specs.Label.{path_text}
 use Rattle.lus_meaning.specs.Verdict.{Holds, Breaks}
 use Rattle.lus_meaning.specs.Trace.{IsFrameOf}
 use Rattle.lus_meaning.specs.TraceView.{Listing, lines_of}
 use Rattle.lus_meaning.specs.Fits.{FitsProgram}
 use Rattle.lus_meaning.specs.Replay.{Shown, ReplaysTrace}
-use Rattle.lus_checked.specs.Main.{main_node}
 use Rattle.source_laws.specs.Laws.{AreIdentified}
 use Rattle.path_traces.specs.Printed.{PrintedPlace, printed_place}
 use Rattle.trace_replay.specs.Traces.{IsTraceText}
@@ -183,24 +181,6 @@ summary_line t =
 -- 1 where some property is falsifiable, else 4 where some is unknown, else 0
 abbrev pub tally_code : Tally → ℕ
 tally_code t = cond (t.falsifiable == 0) (cond (t.unknown == 0) 0 4) 1
-
--- ---- all of it
-
--- each property of the node has its verdict, in order, printed with its label, and then comes the summary
-pub record IsProofOf (o : Options) (p : Program) (d : Component) (lines : List Line) (code : ℕ) : Type 0 where
-  pub verdicts : List Verdict
-  pub right : AreTrueVerdicts o p d 0 (properties (instance_of p d)) verdicts
-  pub printed : lines ≡ verdict_report (instance_of p d) (map label_of (properties (instance_of p d))) verdicts
-      ++ summary_line (tally_of verdicts) ∷ []
-  pub status : code ≡ tally_code (tally_of verdicts)
-
--- so it is of the program's main node: the first with a mark, else the last
-pub record IsProof (o : Options) (p : Program) (lines : List Line) (code : ℕ) : Type 0 where
-  pub number : ℕ
-  pub is_main : main_node p None ≡ Some number
-  pub node : Component
-  pub stands : node_at number p ≡ Some node
-  pub proof : IsProofOf o p node lines code
 
 -- ---- as clauses see it
 

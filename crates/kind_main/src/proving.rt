@@ -6,7 +6,8 @@ ghost use Rattle.lus_checked.specs.Program.{main_of, tree_of};
 ghost use Rattle.kind_main.specs.Ending.{IfEnded, lines_view};
 ghost use Rattle.kind_main.specs.Options.{IsInRange};
 ghost use Rattle.kind_main.specs.Proved.{EndsProof};
-ghost use Rattle.kind_main.specs.Verdicts.{IsAnalysed, IsProofOf};
+ghost use Rattle.kind_main.specs.Proof.{IsProofOf};
+ghost use Rattle.kind_main.specs.Verdicts.{IsAnalysed};
 
 use crate::ending::{Report, Stopped};
 use crate::fetching::fetch;
@@ -15,6 +16,7 @@ use crate::outcome::outcomes;
 use crate::source::read_source;
 use crate::tally::{Tally, summary_text};
 use crate::verdicts::verdict_report;
+use depth_laws::laws::{depth_of_step, whole_causes_are_depths};
 use kind_io::Shelf;
 use lus_checked::Checked;
 use lus_properties::properties;
@@ -24,6 +26,7 @@ use source_laws::laws::identified_sources;
 use std::alloc::{AllocError, Global};
 use sys_frames::system;
 use term_laws::laws::{as_many_formulas, mild_systems, small_systems};
+use verdict_laws::laws::{depths_of_runs, inductive_runs_hold};
 
 /// What is proved of a node or function of a program.
 fn proof_report(
@@ -40,6 +43,10 @@ fn proof_report(
     mild_systems();
     small_systems();
     as_many_formulas();
+    depths_of_runs();
+    depth_of_step();
+    whole_causes_are_depths();
+    inductive_runs_hold();
     let system = system(alloc, program, Owner::Node(node))?;
     let outcomes = outcomes(alloc, program, node, system, options)?;
     let properties = properties(alloc, program, Owner::Node(node))?;

@@ -9,6 +9,7 @@ use Rattle.kind_engine.specs.Ready.{IsReady}
 use Rattle.kind_main.specs.Options.{options_plan}
 use Rattle.kind_main.specs.Ending.{line_bytes, lines_view}
 use Rattle.kind_main.specs.Verdicts.{counts_of, outcome_view, outcomes_view, tally_of, verdict_report}
+use Rattle.kind_main.proofs.Completing.{complete}
 use Rattle.kind_main.proofs.Deciding.{as_many_verdicts}
 use Rattle.kind_main.proofs.Lists.{as_long}
 use Rattle.kind_main.proofs.Proofs.{proof_made}
@@ -55,11 +56,16 @@ returns c =
     let p = program_view c.args.program.now in
     let d = node_view c.args.node.now in
     let counts : counts_of c.of-tally.result ≡ tally_of (outcomes_view c.in_ok-outcomes.outcomes.items) = rw c.deref-3.ensures.value at c.of-tally.ensures in
+    let fit =
+    (ready_system p d c.requires.analysed c.mild_systems.ensures c.small_systems.ensures c.args.options c.requires.range).mild.fit in
+    let decided =
+    complete c.whole_causes_are_depths.ensures c.depths_of_runs.ensures.depths c.depth_of_step.ensures.inductive c.inductive_runs_hold.ensures
+    c.args.options p d c.requires.analysed fit (outcomes_view c.in_ok-outcomes.outcomes.items) c.in_ok-outcomes.ensures in
     let report : lines_view c.in_ok-lines.lines.items
     ≡ verdict_report (instance_of p d) (map (λ q. mark_text (property_view q)) c.in_ok-properties.properties.items)
     (outcomes_view c.in_ok-outcomes.outcomes.items) =
     rw (c.deref.ensures.value, c.deref-2.ensures.value) at c.in_ok-lines.ensures in
-    proof_made c.args.options p d (outcomes_view c.in_ok-outcomes.outcomes.items) c.in_ok-outcomes.ensures
+    proof_made c.args.options p d (outcomes_view c.in_ok-outcomes.outcomes.items) c.in_ok-outcomes.ensures decided
     property_view c.in_ok-properties.properties.items c.in_ok-properties.ensures
     (lines_view c.in_ok-lines.lines.items) _ report (counts_of c.of-tally.result) counts
     (line_bytes c.into_bytes.result) (ap line_bytes c.into_bytes.ensures.value ∙ c.in_ok-summary.ensures)
