@@ -1,15 +1,13 @@
 -- Row after row the table has the values that follow, for the slots of a closed set.
-use Rattle.std.proofs.Common.{◌≡◌, ℕ, zero, suc, ◌<◌, ◌≤◌, ◌+◌, Bool, true, false, ◌||◌, List, [], ◌∷◌, ◌++◌, Option, Some, None, length, get_or, slice_get, refl, ap, ◌∙◌, sym, subst, arith, length-append}
-use Rattle.std.specs.List.{AllByRecursion}
+use Rattle.std.proofs.Common.{◌≡◌, ℕ, zero, suc, ◌<◌, ◌≤◌, ◌+◌, Bool, true, false, ◌||◌, List, [], ◌∷◌, ◌++◌, Some, length, get_or, slice_get, refl, ap, ◌∙◌, sym, subst, arith, length-append}
 use Rattle.std.proofs.Math.Logic.{◌⊎◌, inl, inr}
 use Rattle.std.proofs.lemmas.Bool.{true≢false, false≢true, cases_order}
 use Rattle.std.proofs.lemmas.List.{get_or_push, get_or_append_left}
-use Rattle.lus_meaning.specs.Value.{Value, absent}
-use Rattle.lus_meaning.specs.Order.{is_listed}
+use Rattle.lus_meaning.specs.Value.{Value}
 use Rattle.lus_meaning.proofs.Lists.{all_from}
 use Rattle.slot_values.specs.Evaluated.{SlotValues}
 use Rattle.slot_sources.specs.Source.{Source, always, runs, runs_while, same, given, argument, listed, remembered, starting, held, unread}
-use Rattle.slot_sources.specs.Rows.{Choices, Follow, brought, brought_first, brought_next, is_read, outside_next, outside_now, reads_before, value_now}
+use Rattle.slot_sources.specs.Rows.{Choices, brought, brought_first, brought_next, outside_next, outside_now, reads_before, value_now}
 use Rattle.slot_rows.specs.Order.{IsSlotOrder}
 use Rattle.slot_rows.specs.Table.{Row, brought_to, closed as closed_row, filled, first_values, is_any, listed_or, next_outside, next_value, next_values, no_row, row_at, row_from, rows, slots_of, unless}
 use Rattle.slot_rows.specs.Agreement.{FollowIn, IsClosed, NoneOutside, ReadAgree, RowsAgree, UnmetAgree, read_slots}

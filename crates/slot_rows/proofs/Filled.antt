@@ -1,18 +1,18 @@
 -- A row that is filled has the values that follow, for the slots of a closed set.
-use Rattle.std.proofs.Common.{◌≡◌, ℕ, zero, suc, ◌<◌, ◌≤◌, Bool, true, false, ◌||◌, eqb, List, [], ◌∷◌, ◌++◌, Option, Some, None, length, map, get_or, set, slice_get, refl, ap, ◌∙◌, sym, subst, arith}
+use Rattle.std.proofs.Common.{◌≡◌, ℕ, zero, suc, ◌<◌, Bool, true, false, ◌||◌, eqb, List, [], ◌∷◌, ◌++◌, Option, Some, None, length, set, slice_get, refl, ap, ◌∙◌, sym, subst, arith}
 use Rattle.std.specs.List.{AllByRecursion, IsDistinct}
 use Rattle.std.proofs.Math.Logic.{◌⊎◌, inl, inr}
 use Rattle.std.proofs.lemmas.Bool.{true≢false, false≢true, eqb-true, eqb-false, eq-eqb, cases_Bool}
 use Rattle.std.proofs.lemmas.List.{get_or-set_same, get_or-set_other, length-set}
 use Rattle.std.proofs.lemmas.List.Folds.{list_any-append}
 use Rattle.lus_meaning.specs.Value.{Value, absent}
-use Rattle.lus_meaning.specs.Order.{AreReady, Passes, is_listed}
+use Rattle.lus_meaning.specs.Order.{AreReady, is_listed}
 use Rattle.lus_meaning.proofs.Lists.{or_true}
 use Rattle.slot_values.specs.declared.resolved.PastAt.{PastAt}
 use Rattle.slot_values.specs.Evaluated.{SlotValues}
 use Rattle.slot_sources.specs.Source.{Source}
 use Rattle.slot_sources.specs.Rows.{Choices, outside_now, reads_now, value_now}
-use Rattle.slot_rows.specs.Order.{NeedsSlot, needs, reads_each, reads_of}
+use Rattle.slot_rows.specs.Order.{NeedsSlot, reads_each, reads_of}
 use Rattle.slot_rows.specs.Table.{Row, filled, is_any, listed_or, slots_of, unless, value_by, with_value}
 use Rattle.slot_rows.specs.Agreement.{IsClosed}
 use Rattle.slot_rows.proofs.Dependence.{SameOn, now_same, outside_now_same}

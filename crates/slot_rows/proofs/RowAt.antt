@@ -1,5 +1,5 @@
 -- The row of an instant by what is brought to it.
-use Rattle.std.proofs.Common.{◌≡◌, ℕ, zero, suc, ◌+◌, ◌<◌, ◌≤◌, false, List, [], ◌∷◌, ◌++◌, refl, ap, ◌∙◌, sym, subst, arith}
+use Rattle.std.proofs.Common.{◌≡◌, ℕ, zero, suc, ◌+◌, false, List, [], ◌∷◌, ◌++◌, refl, ap, ◌∙◌, sym, subst, arith}
 use Rattle.lus_meaning.specs.Value.{Value}
 use Rattle.slot_sources.specs.Source.{Source}
 use Rattle.slot_sources.specs.Rows.{Choices}

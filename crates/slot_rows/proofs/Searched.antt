@@ -1,6 +1,6 @@
 -- Step by step the search keeps what holds of it, and where it stops early no order is possible.
-use Rattle.std.proofs.Common.{◌≡◌, ℕ, zero, suc, ◌<◌, ◌≤◌, ◌+◌, Bool, true, false, not, ◌&&◌, ◌||◌, cond, eqb, List, [], ◌∷◌, ◌++◌, length, get_or, set, take, replicate, refl, ap, ◌∙◌, sym, subst, arith, length-append}
-use Rattle.std.specs.List.{AllByRecursion, IsDistinct, list_all, list_any}
+use Rattle.std.proofs.Common.{◌≡◌, ℕ, zero, suc, ◌<◌, ◌≤◌, Bool, true, false, not, ◌&&◌, ◌||◌, cond, eqb, List, [], ◌∷◌, ◌++◌, length, get_or, set, take, refl, ap, ◌∙◌, sym, subst, arith, length-append}
+use Rattle.std.specs.List.{AllByRecursion}
 use Rattle.std.specs.Bool.{MatchBool}
 use Rattle.std.proofs.Math.Logic.{◌⊎◌, inl, inr}
 use Rattle.std.proofs.lemmas.Bool.{true≢false, false≢true, eqb-true, eqb-false, eq-eqb, cases_Bool, cases_lt}
@@ -10,7 +10,7 @@ use Rattle.lus_meaning.specs.Order.{AreReady, IsReady, Passes, is_listed}
 use Rattle.lus_meaning.proofs.Lists.{both_parts, or_left, or_true}
 use Rattle.lus_meaning.proofs.Orders.{distinct-snoc, no_numbers}
 use Rattle.slot_rows.specs.Order.{AreRanks, IsUnranked, Reads, needs, reads_of}
-use Rattle.slot_rows.specs.Searching.{GoesOn, IsChain, IsPassed, LeadsOn, Searching, State, StaysMet, again, are_done, entered, is_done, is_met, met, nothing_listed, passed_to, steps_left, unmet, with_listed}
+use Rattle.slot_rows.specs.Searching.{GoesOn, IsChain, IsPassed, Searching, State, StaysMet, again, are_done, entered, is_done, is_met, met, nothing_listed, passed_to, steps_left, unmet, with_listed}
 use Rattle.slot_rows.proofs.Dependence.{left_of, right_of}
 
 -- ---- lists
@@ -155,9 +155,6 @@ unmet_less [] k e = absurd (true≢false e)
 unmet_less (b ∷ bs) zero e = rw e refl
 unmet_less (true ∷ bs) (suc k) e = unmet_less bs k e
 unmet_less (false ∷ bs) (suc k) e = ap suc (unmet_less bs k e)
-
-same_met : (bs : List Bool) (k j : ℕ) → get_or bs j true ≡ true → get_or (set bs k true) j true ≡ true
-same_met = still_done
 
 -- ---- steps
 
@@ -310,7 +307,7 @@ module _ (rows : Reads) where
       → GoesOn rows (again s k) (with_listed (passed_to s k place) k)
   goes_on s k place h p l =
       let g = step_lists (passed_to s k place) k (passes (again s k) k place h (last_below s k h) p.listed)
-          (all_passed s.done (reads_of rows k) place p.listed l) in
+      (all_passed s.done (reads_of rows k) place p.listed l) in
       record { searching = g.searching; fewer = g.fewer; stays = g.stays }
 
   -- one that it reads is not, and is visited next, or slots read each other in a circle

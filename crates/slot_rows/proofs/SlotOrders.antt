@@ -1,15 +1,15 @@
 -- When the search is at its end all slots are listed, and where it stops earlier there is no order.
-use Rattle.std.proofs.Common.{◌≡◌, ℕ, zero, suc, ◌<◌, ◌≤◌, ◌+◌, Bool, true, false, eqb, List, [], ◌∷◌, Some, length, map, get_or, slice_get, refl, ap, ◌∙◌, sym, subst, arith}
+use Rattle.std.proofs.Common.{◌≡◌, ℕ, suc, ◌<◌, ◌≤◌, ◌+◌, true, false, eqb, List, [], ◌∷◌, Some, length, slice_get, refl, ap, ◌∙◌, sym, subst, arith}
 use Rattle.std.specs.List.{AllByRecursion}
 use Rattle.std.proofs.Math.Logic.{◌⊎◌, inl, inr}
-use Rattle.std.proofs.lemmas.Bool.{true≢false, false≢true, cases_Bool, cases_order, eqb-true}
+use Rattle.std.proofs.lemmas.Bool.{false≢true, cases_Bool, cases_order, eqb-true}
 use Rattle.lus_meaning.specs.Order.{AreReady, Passes, is_listed}
 use Rattle.lus_meaning.proofs.Orders.{place_in, place_lowers}
 use Rattle.slot_sources.specs.Source.{Source}
 use Rattle.slot_sources.specs.Rows.{reads_now}
 use Rattle.slot_sources.specs.Sources.{HasRanks}
-use Rattle.slot_rows.specs.Order.{AreRanks, HasNoOrder, IsSlotOrder, IsUnranked, Reads, needs, reads_each, reads_of}
-use Rattle.slot_rows.specs.Searching.{IsSettled, Searching, State, StaysMet, is_done, is_met}
+use Rattle.slot_rows.specs.Order.{HasNoOrder, IsSlotOrder, IsUnranked, Reads, needs, reads_each}
+use Rattle.slot_rows.specs.Searching.{IsSettled, Searching, State, is_done, is_met}
 use Rattle.slot_rows.proofs.Filled.{read_at, source_at}
 
 reads_whole : (es : List Source) → length (reads_each es) ≡ length es

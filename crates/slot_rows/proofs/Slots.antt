@@ -1,14 +1,14 @@
 -- Rows of the code and those of the table.
-use Rattle.std.proofs.Common.{◌≡◌, ℕ, zero, suc, List, [], ◌∷◌, Option, Some, None, Bool, Result, Ok, Err, map, refl, ap, ◌∙◌, subst, slice_get, get_or, set, option_map}
+use Rattle.std.proofs.Common.{◌≡◌, ℕ, zero, suc, List, [], ◌∷◌, Option, Bool, Result, map, refl, ap, ◌∙◌}
 use Rattle.std.proofs.Math.Path.{fun_ext}
 use Rattle.lus_meaning.specs.declared.value.Value.{Value as CodeValue}
-use Rattle.lus_meaning.specs.Value.{Value, absent}
+use Rattle.lus_meaning.specs.Value.{Value}
 use Rattle.lus_meaning.specs.TraceView.{entry_view}
 use Rattle.slot_values.specs.declared.resolved.PastAt.{PastAt}
 use Rattle.slot_values.specs.Evaluated.{slots_in, first_or}
 use Rattle.slot_sources.specs.Source.{Source}
 use Rattle.slot_sources.specs.Rows.{Choices, brought_next, outside_next, outside_now, value_now}
-use Rattle.slot_rows.specs.Table.{Row, is_any, kept_value, listed_or, next_value, slots_of, unless, value_by, was_outside, with_value}
+use Rattle.slot_rows.specs.Table.{Row, is_any, kept_value, listed_or, next_value, slots_of, unless, value_by, was_outside}
 
 slot_same : (vs : List (Option CodeValue)) (k : ℕ) → slots_in vs k ≡ slots_of (map entry_view vs) k
 slot_same [] k = refl

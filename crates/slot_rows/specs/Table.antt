@@ -1,6 +1,6 @@
 -- The table of a declaration's slots: row after row, an instant each. A row begins with what is brought to its instant, and its slots get their values in an
 -- order.
-use Rattle.std.specs.Prelude.{◌≡◌, ℕ, zero, suc, Bool, true, false, ◌||◌, List, [], ◌∷◌, ◌++◌, map, Option, Some, None, Result, Ok, Err, slice_get, get_or, set}
+use Rattle.std.specs.Prelude.{ℕ, zero, suc, Bool, true, false, ◌||◌, List, [], ◌∷◌, ◌++◌, map, Option, Some, None, Result, Ok, Err, slice_get, get_or, set}
 use Rattle.lus_meaning.specs.Value.{Value, absent}
 use Rattle.lus_meaning.specs.TraceView.{entry_view}
 use Rattle.slot_values.specs.declared.resolved.PastAt.{PastAt}

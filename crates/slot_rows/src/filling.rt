@@ -61,13 +61,7 @@ fn write(values: &mut Vec<Option<Value>>, slot: usize, value: Option<Value>)
 }
 
 /// Gives a slot the value of its source by the row so far.
-fn give_value<C: Chosen>(
-    source: &Source,
-    chosen: &C,
-    instant: u32,
-    row: &mut Row,
-    slot: usize,
-)
+fn give_value<C: Chosen>(source: &Source, chosen: &C, instant: u32, row: &mut Row, slot: usize)
     ensures { row_view row.new ≡ with_value (C.choices chosen.now) instant slot (Some (source_view source.now)) (row_view row.old) }
 {
     let brought = listed_or(source, chosen, instant, slot, slot_value(&row.values, slot));
@@ -77,13 +71,7 @@ fn give_value<C: Chosen>(
 }
 
 /// The same of the slot with that number, if there is one.
-fn give_slot<C: Chosen>(
-    sources: &[Source],
-    chosen: &C,
-    instant: u32,
-    row: &mut Row,
-    slot: usize,
-)
+fn give_slot<C: Chosen>(sources: &[Source], chosen: &C, instant: u32, row: &mut Row, slot: usize)
     ensures { row_view row.new ≡ with_value (C.choices chosen.now) instant slot
         (slice_get (map source_view sources.now) slot) (row_view row.old) }
 {
@@ -93,13 +81,7 @@ fn give_slot<C: Chosen>(
 }
 
 /// Gives each slot its value, in that order.
-fn fill_row<C: Chosen>(
-    sources: &[Source],
-    order: &[usize],
-    chosen: &C,
-    instant: u32,
-    row: &mut Row,
-)
+fn fill_row<C: Chosen>(sources: &[Source], order: &[usize], chosen: &C, instant: u32, row: &mut Row)
     ensures { row_view row.new ≡ filled (C.choices chosen.now) (map source_view sources.now) instant (row_view row.old) order.now }
 {
     for slot in order {

@@ -81,10 +81,9 @@ pub(crate) fn value_now(
             Ok(value_if(is_true(*beat, row), value))
         }
         Source::Listed(clock) => Ok(value_if(is_on(clock, row), brought)),
-        Source::Remembered(_, _)
-        | Source::Starting(_)
-        | Source::Held { .. }
-        | Source::Unread => Ok(brought),
+        Source::Remembered(_, _) | Source::Starting(_) | Source::Held { .. } | Source::Unread => Ok(
+            brought,
+        ),
     }
 }
 

@@ -18,6 +18,6 @@ returns-clause-pushed c =
     let e = source_view c.args.source.now in
     let n : c.len.result ≡ length old = omega (arith, c.len.ensures, c.args.values.now.ok.0) in
     let v = next_value_is (entry_view c.kept-value.result.0) (answer_view c.value_next.result) row c.len.result e c.kept-value.ensures.value
-        c.value_next.ensures in
+    c.value_next.ensures in
     rw c.in_ok-push.ensures.items (map_append entry_view old (c.kept-value.result.0 ∷ [])
     ∙ ap (λ u. map entry_view old ++ u ∷ []) (v ∙ ap (λ k. next_value (slots_of (map entry_view row)) k e) n))

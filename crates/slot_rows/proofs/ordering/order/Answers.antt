@@ -1,4 +1,4 @@
-use Rattle.std.proofs.Common.{◌≡◌, ◌≤◌, length, map, ap, subst, sym, arith}
+use Rattle.std.proofs.Common.{◌≤◌, length, map, ap, subst, sym, arith}
 use Rattle.std.proofs.lemmas.Bool.{MatchBool-at_false}
 use Rattle.slot_sources.specs.Source.{source_view}
 use Rattle.slot_rows.specs.SlotReads.{reads_view}

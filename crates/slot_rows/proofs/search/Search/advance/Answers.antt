@@ -1,4 +1,4 @@
-use Rattle.std.proofs.Common.{◌≡◌, ◌≤◌, length, get_or, refl, arith}
+use Rattle.std.proofs.Common.{◌≤◌, length, get_or, refl, arith}
 use Rattle.slot_rows.specs.SlotReads.{reads_view}
 use Rattle.slot_rows.specs.Searching.{search_view}
 use Rattle.slot_rows.proofs.Searched.{advanced, finished}
