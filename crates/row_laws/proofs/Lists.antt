@@ -29,6 +29,12 @@ pub both_mapped : {X A B : Type 0} (P : A → B → Type 0) (f : X → A) (g : X
 both_mapped P f g [] a = tt
 both_mapped P f g (x ∷ xs) a = (a.0, both_mapped P f g xs a.1)
 
+pub both_over : {A B C : Type 0} (P : B → C → Type 0) (w : A → B) (xs : List A) (ys : List C) → Both (λ x y. P (w x) y) xs ys → Both P (map w xs) ys
+both_over P w [] [] a = tt
+both_over P w (x ∷ xs) (y ∷ ys) a = (a.0, both_over P w xs ys a.1)
+both_over P w [] (y ∷ ys) a = absurd a
+both_over P w (x ∷ xs) [] a = absurd a
+
 pub both_at : {A B : Type 0} (P : A → B → Type 0) (xs : List A) (ys : List B) → Both P xs ys → (k : ℕ) (y : B) →
     slice_get ys k ≡ Some y → (x : A) × (slice_get xs k ≡ Some x) × P x y
 both_at P [] [] a zero y e = absurd (none-some y e)

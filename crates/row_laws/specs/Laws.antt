@@ -2,6 +2,7 @@
 use Rattle.std.specs.Prelude.{◌≡◌, ℕ, List, length}
 use Rattle.lus_meaning.specs.Frame.{Frame}
 use Rattle.lus_meaning.specs.Program.{instance_of}
+use Rattle.lus_meaning.specs.Scene.{Instance}
 use Rattle.lus_meaning.specs.RuleLaws.{OfEach}
 use Rattle.lus_meaning.specs.Slots.{slots}
 use Rattle.lus_meaning.specs.Trace.{BareLine, IsFrameOf}
@@ -16,5 +17,6 @@ RowsFollow =
     OfEach (λ p n. (ls : List BareLine) (m : ℕ) (f : Frame) → IsFrameOf ls (instance_of p n) m f →
     Follow (sources_of (instance_of p n)) (choices_of ls (instance_of p n)) m (λ t. row_at (instance_of p n) f t))
 
+-- there are as many sources as slots
 abbrev pub EachSlotHasASource : Type 0
-EachSlotHasASource = OfEach (λ p n. length (sources_of (instance_of p n)) ≡ length (slots (instance_of p n)))
+EachSlotHasASource = (i : Instance) → length (sources_of i) ≡ length (slots i)
