@@ -24,7 +24,7 @@ use Rattle.slot_sources.specs.Source.{Source, given, same}
 use Rattle.slot_sources.specs.Rows as r
 use Rattle.slot_sources.specs.Rows.{value_now}
 use Rattle.slot_sources.specs.Sources.{switch_of, NameSources, paired, equation_sources, argument_source, beat_source, call_beat, shared_sources, from_call}
-use Rattle.row_laws.proofs.Lists.{mapped_many, mapped_twice, first_same, rest_same, some_inner}
+use Rattle.row_laws.proofs.Lists.{mapped_many, mapped_twice, first_same, rest_same}
 use Rattle.row_laws.proofs.Running as q
 use Rattle.row_laws.proofs.Running.{Running, shown, switch_on, worth_here, beat_here, below}
 use Rattle.row_laws.proofs.Rights.{rights_many, rights_here}
@@ -51,15 +51,6 @@ module _ (rows : ℕ → SlotValues) (n : ℕ) (f : Frame) where
   -- the name has in the frame what its source says, whatever is brought to it or listed
   abbrev pub HasValue : Name × Source → Type 0
   HasValue x = (v : Value) (t : ℕ) → t < n → entry f x.0 t ≡ value_now (rows t) v x.1
-
-  pub found_value : (x : Name) (es : NameSources) → AllByRecursion HasValue es → (e : Source) → lookup (bytes_eq x) es ≡ Some e → HasValue (x, e)
-  found_value x [] a e h = absurd (none-some e h)
-  found_value x (z ∷ es) a e h = go (bytes_eq x z.0) refl h (found_value x es a.1 e)
-    where
-      go : (c : Bool) → bytes_eq x z.0 ≡ c → cond c (Some z.1) (lookup (bytes_eq x) es) ≡ Some e →
-          (lookup (bytes_eq x) es ≡ Some e → HasValue (x, e)) → HasValue (x, e)
-      go true k h m = subst (λ y. HasValue (y, e)) (sym (same_bytes x z.0 k)) (subst (λ y. HasValue (z.0, y)) (some_inner z.1 e h) a.0)
-      go false k h m = m h
 
   pub pairs_have : (xs : List Name) (es : List Source) →
       ((v : Value) (t : ℕ) → t < n → map (λ x. entry f x t) xs ≡ map (value_now (rows t) v) es) → AllByRecursion HasValue (paired xs es)

@@ -5,3 +5,7 @@ pub mod Given
 pub mod Own
 pub mod Follow
 pub mod Counted
+pub mod Ranking
+pub mod Needed
+pub mod ModesNeeded
+pub mod Ranks

@@ -1,7 +1,11 @@
 -- Two lists side by side, and what is found in a list.
-use Rattle.std.proofs.Common.{◌≡◌, ℕ, zero, suc, ◌+◌, List, [], ◌∷◌, ◌++◌, map, length, refl, ap, subst, Option, Some, None, slice_get, unwrap_or}
+use Rattle.std.proofs.Common.{◌≡◌, ℕ, zero, suc, Bool, true, false, cond, List, [], ◌∷◌, ◌++◌, map, length, refl, ap, sym, subst, Option, Some, None, slice_get, unwrap_or}
 use Rattle.std.specs.List.{AllByRecursion}
+use Rattle.std.specs.Map.{lookup}
+use Rattle.std.specs.Str.{bytes_eq}
 use Rattle.std.proofs.lemmas.Option.{none-some}
+use Rattle.lus_tree.specs.Tree.{Name}
+use Rattle.lus_meaning.proofs.Unique.{same_bytes}
 
 pub some_inner : {A : Type 0} (x y : A) → Some x ≡ Some y → x ≡ y
 some_inner {A} x y e = ap back e
@@ -83,3 +87,13 @@ rest_same {A} x y xs ys e = ap back e
     back : List A → List A
     back [] = xs
     back (z ∷ zs) = zs
+
+-- what is found by a name has what all have
+pub found_has : {A : Type 0} (P : Name → A → Type 0) (x : Name) (es : List (Name × A)) → AllByRecursion (λ q. P q.0 q.1) es → (e : A) →
+    lookup (bytes_eq x) es ≡ Some e → P x e
+found_has P x [] a e h = absurd (none-some e h)
+found_has {A} P x (z ∷ es) a e h = go (bytes_eq x z.0) refl h (found_has P x es a.1 e)
+  where
+    go : (c : Bool) → bytes_eq x z.0 ≡ c → cond c (Some z.1) (lookup (bytes_eq x) es) ≡ Some e → (lookup (bytes_eq x) es ≡ Some e → P x e) → P x e
+    go true k h m = subst (λ y. P y e) (sym (same_bytes x z.0 k)) (subst (λ y. P z.0 y) (some_inner z.1 e h) a.0)
+    go false k h m = m h

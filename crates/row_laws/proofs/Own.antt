@@ -35,10 +35,10 @@ use Rattle.slot_sources.specs.Rows.{Choices, value_now, brought, is_read}
 use Rattle.slot_sources.specs.Sources as sources
 use Rattle.slot_sources.specs.Sources.{switch_of, NameSources, equation_sources, name_source, name_sources, held_source, held_sources, memory_source, start_source, contract_sources, own_sources, call_beat}
 use Rattle.row_laws.specs.Choices.{first_in, listed_in}
-use Rattle.row_laws.proofs.Lists.{Both, both_append, both_mapped, some_inner}
+use Rattle.row_laws.proofs.Lists.{Both, both_append, both_mapped, some_inner, found_has}
 use Rattle.row_laws.proofs.Running as q
 use Rattle.row_laws.proofs.Running.{Running, shown, reads_own, switch_on, worth_on, beat_here, below, moved}
-use Rattle.row_laws.proofs.Given.{source_names, not_found, HasValue, found_value}
+use Rattle.row_laws.proofs.Given.{source_names, not_found, HasValue}
 
 starts_on : (on was : Bool) → not (on || was) ≡ (is true (flag (not was)) && not on)
 starts_on true true = refl
@@ -113,7 +113,7 @@ module _ (ls : List BareLine) (choices : Choices) (W : Place → Stream) (rows :
 
         go : (e : Option Source) → lookup (bytes_eq x.name.text) es ≡ e →
             entry v.f x.name.text t ≡ value_now (rows t) (brought choices rows k t (unwrap_or e other)) (unwrap_or e other)
-        go (Some e) h = found_value rows n v.f x.name.text es a e h (brought choices rows k t e) t l
+        go (Some e) h = found_has (λ y z. HasValue rows n v.f (y, z)) x.name.text es a e h (brought choices rows k t e) t l
         go None h =
             by (cases_Bool (is_on s (clock_from x.clock) t)) (unset h)
             ∙ ap (λ c. only_where c one) (sym (switch_on W rows n path i v (clock_from x.clock) w.clock t l))
