@@ -9,3 +9,4 @@ pub mod Ranking
 pub mod Needed
 pub mod ModesNeeded
 pub mod Ranks
+pub mod ModeKeys
