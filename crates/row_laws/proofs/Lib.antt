@@ -10,3 +10,4 @@ pub mod Needed
 pub mod ModesNeeded
 pub mod Ranks
 pub mod ModeKeys
+pub mod Within

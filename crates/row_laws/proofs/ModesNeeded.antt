@@ -33,12 +33,12 @@ resolvings_at no_instances p h = absurd (omega (arith, h))
 resolvings_at (with_instance c k is) zero h = refl
 resolvings_at (with_instance c k is) (suc p) h = resolvings_at is p (omega (arith, h))
 
-resolvings_called : (i : Instance) (k : ℕ) → 0 < k → pred k < count_of (calls_of i) →
+pub resolvings_called : (i : Instance) (k : ℕ) → 0 < k → pred k < count_of (calls_of i) →
     slice_index_or (resolvings_each (calls_of i)) (pred k) [] ≡ resolvings (call_instance i k)
 resolvings_called i zero c h = absurd (omega (arith, c))
 resolvings_called i (suc p) c h = resolvings_at (calls_of i) p h
 
-by_number : (P : Instance → Type 0) (i : Instance) → ((p : ℕ) → p < count_of (calls_of i) → P (instance_at (calls_of i) p)) → (k : ℕ) → 0 < k →
+pub by_number : (P : Instance → Type 0) (i : Instance) → ((p : ℕ) → p < count_of (calls_of i) → P (instance_at (calls_of i) p)) → (k : ℕ) → 0 < k →
     pred k < count_of (calls_of i) → P (call_instance i k)
 by_number P i h zero c l = absurd (omega (arith, c))
 by_number P i h (suc p) c l = h p l

@@ -1,6 +1,7 @@
 //! The laws of rows and sources.
 
 ghost use Rattle.row_laws.specs.Laws.{EachSlotHasASource, RowsFollow, SourcesHaveRanks};
+ghost use Rattle.row_laws.specs.Within.{ModesStayWithin, RowsTellParts};
 
 /// Of a checked program the rows of the frame that lines of a trace give a declaration follow from the sources of its
 /// slots and from what the lines list: each value is what its source says. There is a source for each slot.
@@ -13,4 +14,12 @@ pub fn rows_follow()
 /// same instant: names and beats by what they need, and all that is brought from earlier instants below these.
 pub fn sources_have_ranks()
     ensures { SourcesHaveRanks }
+{}
+
+/// Of a checked program, in the row of a run at an instant and in the frame at the end of each way of calls: where what
+/// a mode requires is within 128 bits, its resolution has no operation outside. So the operations of an expression's
+/// resolution say which of its parts are outside.
+pub fn rows_tell_parts()
+    ensures modes { ModesStayWithin }
+    ensures parts { RowsTellParts }
 {}
