@@ -1,6 +1,5 @@
 -- Each slot of an instance has a source.
 use Rattle.std.proofs.Common.{ℕ, List, [], ◌∷◌, ◌++◌, map, Option, Some, None}
-use Rattle.std.specs.List.{AllByRecursion}
 use Rattle.lus_tree.specs.Tree.{Variable, Expression, ContractStatement, Component}
 use Rattle.lus_meaning.specs.Scene.{Manner, plain, while_true, as_import, Site, Instance, Instances, instance, no_instances, with_instance, component_of, variables}
 use Rattle.lus_meaning.specs.Occurrences.{memories, starts}
@@ -13,7 +12,7 @@ use Rattle.slot_sources.specs.Source.{Source, always}
 use Rattle.slot_sources.specs.Sources as sources
 use Rattle.slot_sources.specs.Sources.{numbering_of, NameSources, name_sources, beat_source, from_call, held_sources, memory_source, start_source, contract_sources, own_sources, sources_in, call_sources, sources_of}
 use Rattle.row_laws.specs.Laws.{EachSlotHasASource}
-use Rattle.row_laws.proofs.Lists.{Both, both_append, both_mapped, both_over, both_many}
+use Rattle.row_laws.proofs.Lists.{Both, both_append, both_over, both_many}
 
 abbrev Beside : {A : Type 0} → List A → List Source → Type 0
 Beside {A} xs es = Both (λ (x : A) (e : Source). Unit {0}) xs es

@@ -1,5 +1,5 @@
 -- The rows of the frame that lines of a trace give follow from the sources of the slots.
-use Rattle.std.proofs.Common.{◌≡◌, ℕ, zero, suc, ◌<◌, true, false, ◌||◌, List, [], ◌∷◌, ◌++◌, map, length, refl, ap, ◌∙◌, sym, subst, Option, Some, None, slice_get}
+use Rattle.std.proofs.Common.{◌≡◌, ℕ, suc, ◌<◌, List, [], ◌∷◌, ◌++◌, map, refl, ap, ◌∙◌, sym, subst, Some, None, slice_get}
 use Rattle.std.specs.Prelude.{Contains}
 use Rattle.std.specs.List.{AllByRecursion}
 use Rattle.std.specs.Map.{lookup}
@@ -9,7 +9,7 @@ use Rattle.lus_meaning.specs.Value.{Value, absent, flag, Stream}
 use Rattle.lus_meaning.specs.Frame.{Frame, Frames, no_frames, with_frame, calls_in}
 use Rattle.lus_meaning.specs.Scene.{Manner, plain, Site, Instance, Instances, instance, no_instances, with_instance, component_of, calls_of, variables}
 use Rattle.lus_meaning.specs.Program.{instance_of}
-use Rattle.lus_meaning.specs.Run.{CallsRun, equations, active}
+use Rattle.lus_meaning.specs.Run.{CallsRun, equations}
 use Rattle.lus_meaning.specs.Depends.{named_in, left_names, from_caller}
 use Rattle.lus_meaning.specs.Slots.{Slot, slot, slots, slots_in, call_slots, own_cells, held_cells}
 use Rattle.lus_meaning.specs.Trace.{BareLine, free_in, free_names, TakesFrom, TakesBelow, IsFrameOf}

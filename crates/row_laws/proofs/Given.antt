@@ -1,25 +1,23 @@
 -- What gives a name its value: a right side of an equation, or the caller.
-use Rattle.std.proofs.Common.{◌≡◌, ℕ, suc, ◌<◌, Bool, true, false, cond, ◌||◌, ◌&&◌, List, [], ◌∷◌, ◌++◌, map, flat_map, length, refl, ap, ◌∙◌, sym, subst, Option, Some, None, arith}
+use Rattle.std.proofs.Common.{◌≡◌, ℕ, ◌<◌, Bool, true, false, cond, ◌||◌, ◌&&◌, List, [], ◌∷◌, ◌++◌, map, flat_map, length, refl, ap, ◌∙◌, sym, Some, None, arith}
 use Rattle.std.specs.List.{AllByRecursion}
 use Rattle.std.specs.Map.{lookup}
 use Rattle.std.specs.Str.{bytes_eq}
-use Rattle.std.proofs.lemmas.Bool.{false≢true}
 use Rattle.std.proofs.lemmas.Option.{none-some}
-use Rattle.lus_tree.specs.Tree.{Name, Expression, Variable}
+use Rattle.lus_tree.specs.Tree.{Name, Expression}
 use Rattle.lus_meaning.specs.Value.{Value, absent, flag, Stream, is}
 use Rattle.lus_meaning.specs.Frame.{Frame, Frames, with_frame, entry, calls_in}
 use Rattle.lus_meaning.specs.Scene.{Clock, base, Manner, plain, while_true, as_import, Site, Instance, Instances, with_instance, component_of, calls_of, outputs_of, clock_of_names, Scene, is_on}
 use Rattle.lus_meaning.specs.Meaning.{value}
-use Rattle.lus_meaning.specs.Run.{Equation, equations, IsRun, IsCalled, SharesOutputs, IsBalanced, at_instant, right_values, sort_of_name, sort_of, inputs_of, active, condition_of}
+use Rattle.lus_meaning.specs.Run.{Equation, IsRun, IsCalled, SharesOutputs, IsBalanced, sort_of_name, sort_of, inputs_of, active, condition_of}
 use Rattle.lus_meaning.specs.Depends.{named_in, outputs_given, from_caller}
 use Rattle.lus_meaning.proofs.Lists.{both_parts, map_append}
-use Rattle.lus_meaning.proofs.Unique.{at_entries, same_bytes}
-use Rattle.sys_meaning.specs.Slot.{Place, beat, named, own, in_call}
-use Rattle.sys_meaning.specs.WellTyped.{IsKnown, IsNameOn, EquationFits, Stands, ClockFits, CallFits, MannerFits, TreeFits, right_sorts}
+use Rattle.lus_meaning.proofs.Unique.{at_entries}
+use Rattle.sys_meaning.specs.Slot.{Place, named, own}
+use Rattle.sys_meaning.specs.WellTyped.{IsKnown, IsNameOn, EquationFits, Stands, CallFits, MannerFits, TreeFits}
 use Rattle.sys_meaning.proofs.Forward.{drop_calls, drop_frames}
-use Rattle.slot_values.specs.Resolution.{Resolution}
-use Rattle.slot_values.specs.Evaluated.{SlotValues, only_where, worth}
-use Rattle.slot_values.specs.Resolved.{Numbering, resolution, right_resolutions}
+use Rattle.slot_values.specs.Evaluated.{SlotValues}
+use Rattle.slot_values.specs.Resolved.{Numbering, right_resolutions}
 use Rattle.slot_sources.specs.Source.{Source, given, same}
 use Rattle.slot_sources.specs.Rows as r
 use Rattle.slot_sources.specs.Rows.{value_now}

@@ -11,8 +11,7 @@ use Rattle.sys_meaning.specs.Items.{Key, Known}
 use Rattle.sys_meaning.specs.System.{below_call}
 use Rattle.sys_meaning.specs.WellTyped.{IsKnown, IsAmong, FlagFits, IsImport, StatementsFit, own_keys, count_of}
 use Rattle.sys_meaning.proofs.Forward.{own_fits}
-use Rattle.slot_values.specs.Resolution.{Resolution}
-use Rattle.slot_values.specs.Resolved.{Numbering, resolution}
+use Rattle.slot_values.specs.Resolved.{resolution}
 use Rattle.evaluation_laws.specs.Resolvings.{Resolving, at_numbers, all_resolved, asked_resolving, imported_resolving, resolvings_after, resolvings, resolvings_each}
 use Rattle.slot_sources.specs.Rows.{slots_read}
 use Rattle.row_laws.proofs.Ranking.{Ranking, called}

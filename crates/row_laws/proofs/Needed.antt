@@ -1,30 +1,27 @@
 -- The slots that a resolution reads are below each slot whose rank is above all that the expression needs.
-use Rattle.std.proofs.Common.{◌≡◌, ℕ, zero, suc, pred, ◌<◌, Bool, true, false, cond, ◌||◌, get_or, List, [], ◌∷◌, ◌++◌, map, flat_map, slice_index_or, refl, ap, ◌∙◌, sym, subst, arith, Option, Some, None, option_map, option_to_list, unwrap_or}
+use Rattle.std.proofs.Common.{◌≡◌, ℕ, suc, pred, ◌<◌, Bool, true, false, cond, List, [], ◌∷◌, ◌++◌, map, refl, sym, subst, arith, Option, Some, None, option_map, option_to_list, unwrap_or}
 use Rattle.std.specs.List.{AllByRecursion}
 use Rattle.std.specs.Map.{lookup}
 use Rattle.std.specs.Str.{bytes_eq}
 use Rattle.lus_tree.specs.declared.place.Sort.TheVariants.{Bool as Flags}
-use Rattle.lus_tree.specs.Tree.{Name, text_of, Variable, Expression, Expressions, truth, number, name, negation, minus, pre, arrow, binary, choice, sampled, merged, call, condact, mode_name, no_more, more, Labelled, Component, ContractStatement, assume, guarantee, ghost_variable, constant, mode, «import»}
+use Rattle.lus_tree.specs.Tree.{Name, text_of, Variable, Expression, Expressions, truth, number, name, negation, minus, pre, arrow, binary, choice, sampled, merged, call, condact, mode_name}
 use Rattle.lus_meaning.specs.Value.{Value, flag}
-use Rattle.lus_meaning.specs.Scene.{Clock, base, sampled_by, Instance, Instances, instance, no_instances, with_instance, instance_at, component_of, constants_of, outputs_of, calls_of, call_instance, clock_of, clock_from, variables, contract_statements, ghosts}
+use Rattle.lus_meaning.specs.Scene.{Clock, base, sampled_by, Instance, component_of, constants_of, outputs_of, call_instance, clock_of}
 use Rattle.lus_meaning.specs.Meaning.{mode_key}
-use Rattle.lus_meaning.specs.Run.{sort_of, sort_of_name}
-use Rattle.lus_meaning.specs.Depends.{Need, the_beat, a_name, inside, ModeNeeds, known_needs, clock_needs, output_needs, needs, needs_each, asked_needs, imported_needs, modes_after, modes_need, modes_need_each, Rank, below_calls, AllBelow, named_in}
+use Rattle.lus_meaning.specs.Run.{sort_of}
+use Rattle.lus_meaning.specs.Depends.{Need, the_beat, a_name, ModeNeeds, known_needs, clock_needs, output_needs, needs, needs_each, Rank, AllBelow, named_in}
 use Rattle.lus_meaning.proofs.Lists.{both_parts, mapped_all}
 use Rattle.lus_meaning.proofs.Ranked.{all_named}
-use Rattle.lus_meaning.proofs.Exists.{self_bytes}
 use Rattle.lus_meaning.proofs.Now.{left_part, right_part}
-use Rattle.sys_meaning.specs.Slot.{Spot, beat, named, memory, starting, held, Place, own, in_call}
+use Rattle.sys_meaning.specs.Slot.{beat, named, memory, starting, held, Place, own, in_call}
 use Rattle.sys_meaning.specs.Items.{Key, Known}
-use Rattle.sys_meaning.specs.System.{below_call}
-use Rattle.sys_meaning.specs.WellTyped.{IsKnown, IsAmong, IsCall, IsPlainCall, IsHeldCall, IsMemory, IsStart, OutputFits, NameFits, Stands, FlagFits, IsImport, StatementsFit, own_keys, no_constant, is_declared, OwnFits, count_of}
-use Rattle.sys_meaning.proofs.Forward.{own_fits}
+use Rattle.sys_meaning.specs.WellTyped.{IsKnown, IsCall, IsHeldCall, OutputFits, NameFits, Stands, no_constant, is_declared}
 use Rattle.slot_values.specs.Resolution.{Resolution}
-use Rattle.slot_values.specs.Resolved.{Numbering, resolution, right_resolutions, output_resolution, latest_resolution, constant_or_slot, slot_of, mode_resolution, first_resolution}
+use Rattle.slot_values.specs.Resolved.{Numbering, resolution, right_resolutions, output_resolution, latest_resolution, constant_or_slot, slot_of, first_resolution}
 use Rattle.slot_values.specs.Resolution as res
-use Rattle.evaluation_laws.specs.Resolvings.{Resolving, at_numbers, all_resolved, asked_resolving, imported_resolving, resolvings_after, resolvings, resolvings_each}
+use Rattle.evaluation_laws.specs.Resolvings.{Resolving, at_numbers}
 use Rattle.slot_sources.specs.Rows.{slots_read}
-use Rattle.row_laws.proofs.Ranking.{Ranking, called, name_rank, beat_rank, clock_below}
+use Rattle.row_laws.proofs.Ranking.{Ranking, called, name_rank, clock_below}
 
 module _ (rank : ℕ → ℕ) (b : ℕ) where
   abbrev pub IsLow : ℕ → Type 0

@@ -7,11 +7,10 @@ use Rattle.std.proofs.lemmas.Bool.{false≢true, cases_Bool}
 use Rattle.std.proofs.lemmas.Option.{none-some}
 use Rattle.std.proofs.Math.Logic.{◌⊎◌, inl, inr}
 use Rattle.lus_tree.specs.declared.place.Sort.{Sort}
-use Rattle.lus_tree.specs.declared.place.Sort.TheVariants.{Bool as Flags}
-use Rattle.lus_tree.specs.Tree.{Name, Variable, Expression, ContractStatement, Component}
-use Rattle.lus_meaning.specs.Value.{Value, absent, flag, Stream, is, was_on, latest}
+use Rattle.lus_tree.specs.Tree.{Variable, Expression, ContractStatement, Component}
+use Rattle.lus_meaning.specs.Value.{Value, flag, Stream, is, was_on, latest}
 use Rattle.lus_meaning.specs.Frame.{Frame, Frames, with_frame, entry, first_value, call_frame, calls_in}
-use Rattle.lus_meaning.specs.Scene.{base, Manner, plain, while_true, as_import, Site, Instance, Instances, with_instance, component_of, calls_of, outputs_of, clock_from, variables, Scene, is_on}
+use Rattle.lus_meaning.specs.Scene.{base, Manner, plain, while_true, as_import, Site, Instance, Instances, with_instance, component_of, calls_of, clock_from, variables, Scene, is_on}
 use Rattle.lus_meaning.specs.Meaning.{value}
 use Rattle.lus_meaning.specs.Occurrences.{Memory, memories, Start, starts}
 use Rattle.lus_meaning.specs.Program.{in_order}
@@ -19,8 +18,8 @@ use Rattle.lus_meaning.specs.Run.{IsRun, is_typed, sort_of, first_sorts, equatio
 use Rattle.lus_meaning.specs.Slots.{Cell, beat_cell, name_cell, memory_cell, start_cell, held_cell, Slot, slot, contract_cells, own_cells, held_each, held_cells}
 use Rattle.lus_meaning.specs.Trace.{BareLine, of_name, of_first, listed_at, or_default, TakesFirsts}
 use Rattle.lus_meaning.proofs.InOrder.{in_order_all}
-use Rattle.lus_meaning.proofs.Lists.{all_from, all_from_three, both_parts, map_append, mapped_all}
-use Rattle.sys_meaning.specs.Slot.{Spot, beat, named, memory, starting, held, Place, own, in_call, place_of}
+use Rattle.lus_meaning.proofs.Lists.{all_from, all_from_three, mapped_all}
+use Rattle.sys_meaning.specs.Slot.{beat, named, memory, starting, held, Place, own, in_call, place_of}
 use Rattle.sys_meaning.specs.Defaults.{site_of, default_of}
 use Rattle.sys_meaning.specs.State.{remembered, still_starting}
 use Rattle.sys_meaning.specs.WellTyped.{IsKnown, IsNameOn, StreamFits, MemoryFits, StartFits, OwnFits, CallFits, TreeFits}
@@ -38,7 +37,7 @@ use Rattle.row_laws.specs.Choices.{first_in, listed_in}
 use Rattle.row_laws.proofs.Lists.{Both, both_append, both_mapped, some_inner, found_has}
 use Rattle.row_laws.proofs.Running as q
 use Rattle.row_laws.proofs.Running.{Running, shown, reads_own, switch_on, worth_on, beat_here, below, moved}
-use Rattle.row_laws.proofs.Given.{source_names, not_found, HasValue}
+use Rattle.row_laws.proofs.Given.{HasValue}
 
 starts_on : (on was : Bool) → not (on || was) ≡ (is true (flag (not was)) && not on)
 starts_on true true = refl

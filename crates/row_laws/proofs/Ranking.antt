@@ -1,21 +1,20 @@
 -- Ranks of the slots of a frame: those of beats and names are the ranks of their places, raised by one; all others are 0.
-use Rattle.std.proofs.Common.{◌≡◌, ℕ, zero, suc, pred, ◌+◌, ◌<◌, List, [], ◌∷◌, ◌++◌, map, refl, ap, ◌∙◌, sym, subst, arith, Option, Some, None}
+use Rattle.std.proofs.Common.{◌≡◌, ℕ, zero, suc, pred, ◌<◌, List, [], ◌∷◌, map, refl, ap, ◌∙◌, sym, subst, arith, Some, None}
 use Rattle.std.specs.List.{AllByRecursion}
 use Rattle.lus_tree.specs.declared.place.Sort.{Sort}
 use Rattle.lus_tree.specs.declared.place.Sort.TheVariants.{Bool as Flags}
 use Rattle.lus_tree.specs.Tree.{Name, Variable}
-use Rattle.lus_meaning.specs.Scene.{Clock, base, sampled_by, as_import, Site, Instance, Instances, instance, no_instances, with_instance, no_instance, instance_at, component_of, calls_of, call_instance, clock_from, variables}
+use Rattle.lus_meaning.specs.Scene.{Clock, base, sampled_by, as_import, Instance, Instances, instance, no_instances, with_instance, instance_at, component_of, calls_of, call_instance, clock_from, variables}
 use Rattle.lus_meaning.specs.Run.{sort_of_name}
 use Rattle.lus_meaning.specs.Depends.{Rank, IsRanked, CallsRanked, AllBelow, below_calls, clock_needs}
-use Rattle.sys_meaning.specs.Slot.{Spot, beat, named, memory, starting, so_far, held, Place, own, in_call}
+use Rattle.sys_meaning.specs.Slot.{Spot, beat, named, memory, starting, so_far, held, Place, own}
 use Rattle.sys_meaning.specs.System.{below_call}
 use Rattle.sys_meaning.specs.Defaults.{site_of}
-use Rattle.sys_meaning.specs.WellTyped.{IsKnown, IsCall, IsNameOn, no_constant, is_declared, clock_here, StreamFits, ClockEnds, ClockFits, CallFits, TreeFits, HasPlaceIn, count_of}
+use Rattle.sys_meaning.specs.WellTyped.{IsKnown, IsCall, IsNameOn, no_constant, is_declared, clock_here, StreamFits, ClockEnds, ClockFits, TreeFits, HasPlaceIn, count_of}
 use Rattle.sys_meaning.proofs.Balanced.{Picked, pick, join_all}
-use Rattle.sys_meaning.proofs.Forward.{drop_calls, first_instance, instance_dropped, own_fits, calls_fit}
+use Rattle.sys_meaning.proofs.Forward.{own_fits, calls_fit}
 use Rattle.sys_meaning.proofs.Shows.{in_any}
 use Rattle.sys_meaning.proofs.Whole.{fits_called}
-use Rattle.slot_values.specs.Resolved.{Numbering}
 use Rattle.slot_sources.specs.Sources.{numbering_of, switch_of}
 
 -- calls are counted from 1 in places, and from 0 in ranks

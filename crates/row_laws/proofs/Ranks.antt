@@ -1,26 +1,24 @@
 -- The slots of a declaration have ranks by which each is above those that its source reads at the same instant.
-use Rattle.std.proofs.Common.{◌≡◌, ℕ, zero, suc, pred, ◌+◌, ◌<◌, Bool, true, false, cond, List, [], ◌∷◌, ◌++◌, map, refl, ap, ◌∙◌, sym, subst, arith, Option, Some, None, slice_get, unwrap_or}
+use Rattle.std.proofs.Common.{◌≡◌, ℕ, suc, pred, ◌+◌, ◌<◌, List, [], ◌∷◌, ◌++◌, map, refl, ap, ◌∙◌, sym, subst, arith, Option, Some, None, slice_get, unwrap_or}
 use Rattle.std.specs.List.{AllByRecursion}
 use Rattle.std.specs.Map.{lookup}
 use Rattle.std.specs.Str.{bytes_eq}
-use Rattle.std.proofs.lemmas.Option.{none-some}
 use Rattle.lus_tree.specs.declared.place.Sort.{Sort}
 use Rattle.lus_tree.specs.Tree.{Name, Variable, Expression, ContractStatement, Component}
 use Rattle.lus_meaning.specs.Scene.{Clock, base, Manner, plain, while_true, as_import, Site, Instance, Instances, instance, no_instances, with_instance, no_instance, component_of, calls_of, call_instance, outputs_of, clock_from, clock_of_names, variables}
-use Rattle.lus_meaning.specs.Occurrences.{Memory, memories, Start, starts}
+use Rattle.lus_meaning.specs.Occurrences.{memories, starts}
 use Rattle.lus_meaning.specs.Program.{in_order, instance_of}
 use Rattle.lus_meaning.specs.Run.{Equation, equations, inputs_of}
-use Rattle.lus_meaning.specs.Depends.{Need, a_name, needs, modes_need, clock_needs, site_needs, equation_needs, Rank, rank_of, AllBelow, below_calls, EachBelow, SharedBelow, IsRanked, CallsRanked}
-use Rattle.lus_meaning.specs.Slots.{Cell, beat_cell, name_cell, memory_cell, start_cell, held_cell, Slot, slot, slots, slots_in, call_slots, contract_cells, own_cells, held_each, held_cells}
+use Rattle.lus_meaning.specs.Depends.{a_name, needs, modes_need, clock_needs, site_needs, equation_needs, Rank, rank_of, AllBelow, below_calls, EachBelow, SharedBelow, IsRanked, CallsRanked}
+use Rattle.lus_meaning.specs.Slots.{Cell, beat_cell, name_cell, memory_cell, start_cell, Slot, slot, slots, slots_in, call_slots, contract_cells, own_cells, held_each, held_cells}
 use Rattle.lus_meaning.proofs.Lists.{all_from, all_from_both, both_parts, append_none}
 use Rattle.lus_meaning.proofs.Now.{left_part, right_part}
-use Rattle.lus_meaning.proofs.Unique.{same_bytes}
 use Rattle.clock_laws.specs.Laws.{HasRank}
 use Rattle.clock_laws.proofs.RunLaws.{each_has_rank}
-use Rattle.sys_meaning.specs.Slot.{Spot, beat, named, memory, starting, so_far, held, Place, own, in_call, place_of}
+use Rattle.sys_meaning.specs.Slot.{Spot, beat, named, memory, starting, so_far, held, Place, own, place_of}
 use Rattle.sys_meaning.specs.Defaults.{site_of}
 use Rattle.sys_meaning.specs.System.{number_of, below_call}
-use Rattle.sys_meaning.specs.WellTyped.{IsKnown, IsNameOn, StreamFits, EquationFits, Stands, ClockFits, OwnFits, CallFits, MannerFits, CallsFit, TreeFits, HasPlaceIn, WellTyped}
+use Rattle.sys_meaning.specs.WellTyped.{IsKnown, IsNameOn, StreamFits, EquationFits, Stands, CallFits, MannerFits, CallsFit, TreeFits, HasPlaceIn, WellTyped}
 use Rattle.sys_meaning.proofs.Forward.{drop_calls, first_instance, instance_dropped, calls_later, later_calls}
 use Rattle.sys_meaning.proofs.Shows.{in_any}
 use Rattle.path_laws.proofs.Main.{each_is_well_typed}
@@ -33,10 +31,10 @@ use Rattle.slot_sources.specs.Rows.{reads_now, slots_read}
 use Rattle.slot_sources.specs.Sources as sources
 use Rattle.slot_sources.specs.Sources.{numbering_of, switch_of, NameSources, paired, equation_sources, name_source, name_sources, call_beat, beat_source, argument_source, shared_sources, from_call, held_sources, memory_source, start_source, contract_sources, own_sources, sources_in, call_sources, sources_of, HasRanks}
 use Rattle.row_laws.specs.Laws.{SourcesHaveRanks}
-use Rattle.row_laws.proofs.Lists.{Both, both_append, both_mapped, both_over, both_at, mapped_at, some_inner, found_has}
+use Rattle.row_laws.proofs.Lists.{Both, both_append, both_mapped, both_over, both_at, mapped_at, found_has}
 use Rattle.row_laws.proofs.Running.{value_there}
 use Rattle.row_laws.proofs.Ranking.{spot_rank, names_ranked, Ranking, beat_rank, name_rank, switch_low, clock_below}
-use Rattle.row_laws.proofs.Needed.{IsLow, NeedLow, needs_low, reads_low, rights_low}
+use Rattle.row_laws.proofs.Needed.{IsLow, needs_low, reads_low, rights_low}
 use Rattle.row_laws.proofs.ModesNeeded.{modes_low}
 
 equations_ranked : (i : Instance) (r : Rank) → IsRanked i r →

@@ -4,7 +4,7 @@ use Rattle.std.proofs.lemmas.Option.{none-some}
 use Rattle.lus_tree.specs.declared.place.Sort.{Sort}
 use Rattle.lus_tree.specs.declared.place.Sort.TheVariants.{Bool as Flags}
 use Rattle.lus_tree.specs.Tree.{Expression}
-use Rattle.lus_meaning.specs.Value.{Value, flag, Stream, Instants}
+use Rattle.lus_meaning.specs.Value.{flag, Stream, Instants}
 use Rattle.lus_meaning.specs.Frame.{Frame, Frames, no_frames, with_frame, frame_at, call_frame, calls_in}
 use Rattle.lus_meaning.specs.Scene.{Clock, base, sampled_by, Site, Instance, Instances, no_instances, with_instance, no_instance, calls_of, call_instance, Scene, is_on}
 use Rattle.lus_meaning.specs.Meaning.{value}
@@ -12,7 +12,7 @@ use Rattle.lus_meaning.specs.Contract.{scene}
 use Rattle.lus_meaning.specs.Run.{IsRun, active}
 use Rattle.lus_meaning.specs.Slots.{Slot}
 use Rattle.lus_meaning.proofs.Lists.{append_none}
-use Rattle.sys_meaning.specs.Slot.{Spot, beat, Place, own, in_call, place_of, same_place, number_in}
+use Rattle.sys_meaning.specs.Slot.{Spot, beat, Place, own, place_of, same_place, number_in}
 use Rattle.sys_meaning.specs.Defaults.{site_at, site_of}
 use Rattle.sys_meaning.specs.State.{own_reading, reading}
 use Rattle.sys_meaning.specs.Path.{Course}

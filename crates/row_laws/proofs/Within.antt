@@ -1,19 +1,18 @@
 -- In a row of a run the resolutions of modes have no operation outside 128 bits where what the modes require is within.
-use Rattle.std.proofs.Common.{◌≡◌, ℕ, zero, suc, pred, ◌+◌, ◌<◌, Bool, true, false, cond, ◌||◌, get_or, List, [], ◌∷◌, ◌++◌, map, flat_map, slice_index_or, refl, ap, ◌∙◌, sym, subst, arith, Option, Some, None, option_to_list, unwrap_or}
+use Rattle.std.proofs.Common.{◌≡◌, ℕ, zero, suc, pred, ◌+◌, ◌<◌, Bool, true, false, cond, get_or, List, [], ◌∷◌, ◌++◌, map, flat_map, slice_index_or, refl, ap, ◌∙◌, sym, subst, arith, Some, None, option_to_list, unwrap_or}
 use Rattle.std.specs.List.{AllByRecursion, list_any}
 use Rattle.std.specs.Map.{lookup}
 use Rattle.lus_tree.specs.declared.expression.Operator.TheVariants.{And}
-use Rattle.lus_tree.specs.Tree.{Name, text_of, Expression, truth, number, name, negation, minus, pre, arrow, binary, choice, sampled, merged, call, condact, mode_name, Labelled, ContractStatement, assume, guarantee, ghost_variable, constant, mode, «import»}
-use Rattle.kind_num.specs.declared.Past.{Past}
-use Rattle.lus_meaning.specs.Value.{Value, absent, flag, whole, Instants, is}
-use Rattle.lus_meaning.specs.Frame.{Frame, call_frame}
+use Rattle.lus_tree.specs.Tree.{Name, Expression, truth, number, name, negation, minus, pre, arrow, binary, choice, sampled, merged, call, condact, mode_name, Labelled, ContractStatement, assume, guarantee, ghost_variable, constant, mode, «import»}
+use Rattle.lus_meaning.specs.Value.{Value, absent, flag, whole, is}
+use Rattle.lus_meaning.specs.Frame.{Frame}
 use Rattle.lus_meaning.specs.Scene.{Clock, base, sampled_by, plain, Instance, Instances, instance, no_instances, with_instance, instance_at, component_of, calls_of, call_instance, clock_of, contract_statements, Scene, is_on}
-use Rattle.lus_meaning.specs.Meaning.{mode_key, mode_stream}
+use Rattle.lus_meaning.specs.Meaning.{mode_key}
 use Rattle.lus_meaning.specs.Contract.{ModeTerms, terms, scene}
 use Rattle.lus_meaning.specs.Cycle.{Place as NeededPlace}
 use Rattle.lus_meaning.specs.Occurrences.{own}
 use Rattle.lus_meaning.specs.Program.{instance_of}
-use Rattle.lus_meaning.specs.Run.{IsRun, active}
+use Rattle.lus_meaning.specs.Run.{IsRun}
 use Rattle.lus_meaning.specs.Slots.{slots}
 use Rattle.lus_meaning.specs.Verdict.{throughout}
 use Rattle.lus_meaning.proofs.Lists.{append_none, both_parts, map_append}
@@ -25,14 +24,13 @@ use Rattle.sys_meaning.specs.Defaults.{site_at, site_of}
 use Rattle.sys_meaning.specs.Seen.{seen_mode}
 use Rattle.sys_meaning.specs.State.{state_of, reading}
 use Rattle.sys_meaning.specs.System.{below_call, number_of}
-use Rattle.sys_meaning.specs.WellTyped.{IsKnown, IsAmong, IsImport, IsCall, IsNameOn, Stands, ClockEnds, ClockFits, FlagFits, StatementsFit, own_keys, count_of, CallsFit, WellTyped}
-use Rattle.sys_meaning.proofs.ContractStatements.{terms_called}
+use Rattle.sys_meaning.specs.WellTyped.{IsKnown, IsAmong, IsImport, IsCall, Stands, ClockEnds, FlagFits, StatementsFit, own_keys, count_of, CallsFit, WellTyped}
 use Rattle.sys_meaning.proofs.Forward.{own_fits, calls_fit}
 use Rattle.sys_meaning.proofs.Shows.{in_any, state_reads}
 use Rattle.sys_meaning.proofs.Whole.{import_beat}
 use Rattle.path_laws.proofs.Main.{each_is_well_typed}
-use Rattle.lus_evaluation.specs.Part.{Part, Setting, needs_of, key_of, asked_in, part, parts, argument_parts, operand_parts}
-use Rattle.lus_evaluation.specs.Frame.{ModeText, ContractText, FrameText, no_text, Calls, setting, mode_text, imported_mode, contract_after, Orders, text_at, frame_text, call_texts}
+use Rattle.lus_evaluation.specs.Part.{Part, Setting, needs_of, asked_in, part, parts, argument_parts, operand_parts}
+use Rattle.lus_evaluation.specs.Frame.{ModeText, no_text, Calls, setting, mode_text, imported_mode, contract_after, Orders, text_at, frame_text, call_texts}
 use Rattle.lus_evaluation.specs.Past.{scene_on, past_of_values, part_past, NonePast}
 use Rattle.slot_values.specs.declared.resolved.PastAt.{PastAt}
 use Rattle.slot_values.specs.Resolution.{Resolution, known}
