@@ -11,3 +11,5 @@ pub mod ModesNeeded
 pub mod Ranks
 pub mod ModeKeys
 pub mod Within
+pub mod OneRow
+pub mod SlotsRead

@@ -1,0 +1,42 @@
+-- That rows follow from sources in one way alone.
+use Rattle.std.specs.Prelude.{◌≡◌, ℕ, ◌<◌, true, List, Some, slice_get}
+use Rattle.std.specs.List.{AllByRecursion}
+use Rattle.lus_meaning.specs.Frame.{Frame}
+use Rattle.lus_meaning.specs.Program.{instance_of}
+use Rattle.lus_meaning.specs.RuleLaws.{OfEach}
+use Rattle.lus_meaning.specs.Trace.{BareLine, IsFrameOf}
+use Rattle.slot_values.specs.Evaluated.{SlotValues}
+use Rattle.evaluation_laws.specs.Rows.{row_at}
+use Rattle.slot_sources.specs.Source.{Source}
+use Rattle.slot_sources.specs.Rows.{Choices, is_read, reads_now, reads_before, Follow}
+use Rattle.slot_sources.specs.Sources.{sources_of, HasRanks}
+use Rattle.row_laws.specs.Choices.{choices_of}
+
+-- there is a slot with this number, and it is one that is read
+abbrev pub IsReadSlot : List Source → ℕ → Type 0
+IsReadSlot es j = (e : Source) × (slice_get es j ≡ Some e) × (is_read e ≡ true)
+
+-- no source reads another one, at its instant or from the one before
+abbrev pub ReadSlotsAlone : List Source → Type 0
+ReadSlotsAlone es =
+    (k : ℕ) (e : Source) → slice_get es k ≡ Some e → AllByRecursion (IsReadSlot es) (reads_now e) × AllByRecursion (IsReadSlot es) (reads_before e)
+
+abbrev pub SourcesReadSlots : Type 0
+SourcesReadSlots = OfEach (λ p n. ReadSlotsAlone (sources_of (instance_of p n)))
+
+-- where two rows have the same in all slots that are read
+abbrev pub AreSameRows : List Source → ℕ → (ℕ → SlotValues) → (ℕ → SlotValues) → Type 0
+AreSameRows es n rows others =
+    (t : ℕ) → t < n → (k : ℕ) (e : Source) → slice_get es k ≡ Some e → is_read e ≡ true → rows t k ≡ others t k
+
+abbrev pub OneRowFollows : Type 0
+OneRowFollows =
+    (es : List Source) → HasRanks es → ReadSlotsAlone es → (c : Choices) (n : ℕ) (rows others : ℕ → SlotValues) → Follow es c n rows →
+    Follow es c n others → AreSameRows es n rows others
+
+-- rows that follow from the sources of a declaration and from what lines choose are those of the frame that the lines give
+abbrev pub RowsAreTheFrames : Type 0
+RowsAreTheFrames =
+    OfEach (λ p n. (ls : List BareLine) (m : ℕ) (f : Frame) → IsFrameOf ls (instance_of p n) m f → (rows : ℕ → SlotValues) →
+    Follow (sources_of (instance_of p n)) (choices_of ls (instance_of p n)) m rows →
+    AreSameRows (sources_of (instance_of p n)) m rows (λ t. row_at (instance_of p n) f t))
