@@ -13,3 +13,4 @@ pub mod ModeKeys
 pub mod Within
 pub mod OneRow
 pub mod SlotsRead
+pub mod Alone

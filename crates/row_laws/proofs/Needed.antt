@@ -89,7 +89,7 @@ module _ (rank : ℕ → ℕ) (b : ℕ) where
       output_low : (k : ℕ) → IsCall i (IsKnown i) k → (x : Variable) → OutputFits i (IsKnown i) k x → v.r (pred k ∷ []) (Some x.name.text) < b →
           IsLow (v.at (in_call k (own (named x.name.text))))
       output_low k c x o l =
-          subst (λ z. z < suc b) (sym (v.has (k ∷ []) (named x.name.text) x.sort (c, (o.2, o.3, o.1)))) (omega (arith, l))
+          subst (λ z. z < suc b) (sym (v.has (k ∷ []) (named x.name.text) x.sort refl (c, (o.2, o.3, o.1)))) (omega (arith, l))
 
       -- the beat of the callee is below its outputs
       beat_low : (k : ℕ) → IsCall i (IsKnown i) k → (x : Variable) → OutputFits i (IsKnown i) k x → v.r (pred k ∷ []) (Some x.name.text) < b →
@@ -98,7 +98,7 @@ module _ (rank : ℕ → ℕ) (b : ℕ) where
           let below : v.r (pred k ∷ []) None < v.r (pred k ∷ []) (Some x.name.text) =
           (clock_below rank (call_instance i k) (called rank i v k c) base x.name.text
           (record { stream = o.3; declared = o.2; clock = o.4 })).0 in
-          subst (λ z. z < suc b) (sym (v.has (k ∷ []) beat Flags (c, refl))) (omega (arith, l, below))
+          subst (λ z. z < suc b) (sym (v.has (k ∷ []) beat Flags refl (c, refl))) (omega (arith, l, below))
 
       module _ (ms : ModeNeeds) (qs : Known Resolving) (low : ModesLow v.r v.at ms qs) where
         abbrev g : Numbering
@@ -128,7 +128,7 @@ module _ (rank : ℕ → ℕ) (b : ℕ) where
             beat_low k h.call x o.0 l.0,
             (
               output_low k h.call x o.0 l.0,
-              (zero_low (v.at (own (held k x.name.text))) (v.has [] (held k x.name.text) x.sort (c, a, ds, h, w.0, o.0.1)), tt),
+              (zero_low (v.at (own (held k x.name.text))) (v.has [] (held k x.name.text) x.sort refl (c, a, ds, h, w.0, o.0.1)), tt),
             ),
           ),
           helds_low k c a ds h e y vs o.1 w.1 l.1,
@@ -161,10 +161,10 @@ module _ (rank : ℕ → ℕ) (b : ℕ) where
             go (Some z) e w = tt
         reads_low (negation p x) c h a = reads_low x c h.1 (parts c (needs i ms c x) a)
         reads_low (minus p x) c h a = reads_low x c h.1 (parts c (needs i ms c x) a)
-        reads_low (pre p k x) c h a = (zero_low (v.at (own (memory k))) (v.has [] (memory k) (sort_of i x) (c, x, h.0, refl)), tt)
+        reads_low (pre p k x) c h a = (zero_low (v.at (own (memory k))) (v.has [] (memory k) (sort_of i x) refl (c, x, h.0, refl)), tt)
         reads_low (arrow p k x y) c h a =
             let l = parts c (needs i ms c x ++ needs i ms c y) a in (
-              zero_low (v.at (own (starting k))) (v.has [] (starting k) Flags (c, h.0, refl)),
+              zero_low (v.at (own (starting k))) (v.has [] (starting k) Flags refl (c, h.0, refl)),
               both_parts IsLow (slots_read (resolution g x)) (slots_read (resolution g y))
                   (reads_low x c h.2 (front (needs i ms c x) (needs i ms c y) l)) (reads_low y c h.3 (back (needs i ms c x) (needs i ms c y) l)),
             )

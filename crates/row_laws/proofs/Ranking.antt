@@ -1,5 +1,5 @@
 -- Ranks of the slots of a frame: those of beats and names are the ranks of their places, raised by one; all others are 0.
-use Rattle.std.proofs.Common.{◌≡◌, ℕ, zero, suc, pred, ◌<◌, List, [], ◌∷◌, map, refl, ap, ◌∙◌, sym, subst, arith, Some, None}
+use Rattle.std.proofs.Common.{◌≡◌, ℕ, zero, suc, pred, ◌<◌, Bool, true, false, List, [], ◌∷◌, map, refl, ap, ◌∙◌, sym, subst, arith, Some, None}
 use Rattle.std.specs.List.{AllByRecursion}
 use Rattle.lus_tree.specs.declared.place.Sort.{Sort}
 use Rattle.lus_tree.specs.declared.place.Sort.TheVariants.{Bool as Flags}
@@ -26,6 +26,15 @@ spot_rank r ks (starting k) = 0
 spot_rank r ks so_far = 0
 spot_rank r ks (held k x) = 0
 
+-- what says whether the assumptions were true so far is read by none
+abbrev pub spot_read : Spot → Bool
+spot_read so_far = false
+spot_read beat = true
+spot_read (named x) = true
+spot_read (memory k) = true
+spot_read (starting k) = true
+spot_read (held k x) = true
+
 ranks_called : (i : Instance) (r : Rank) (rs : ℕ → Rank) (is : Instances) → CallsRanked i r rs is → (j : ℕ) → j < count_of is → IsRanked (instance_at is j) (rs j)
 ranks_called i r rs no_instances h j l = absurd (omega (arith, l))
 ranks_called i r rs (with_instance c k is) h zero l = h.3
@@ -50,7 +59,7 @@ module _ (rank : ℕ → ℕ) where
     pub r : Rank
     pub ranked : IsRanked i r
     pub fits : TreeFits IsKnown i
-    pub has : (ks : List ℕ) (p : Spot) (z : Sort) → HasPlaceIn IsKnown (as_import []) ks i p z → rank (at (ks, p)) ≡ spot_rank r ks p
+    pub has : (ks : List ℕ) (p : Spot) (z : Sort) → spot_read p ≡ true → HasPlaceIn IsKnown (as_import []) ks i p z → rank (at (ks, p)) ≡ spot_rank r ks p
 
   module _ (i : Instance) (v : Ranking i) where
     -- the frame of a call
@@ -60,7 +69,7 @@ module _ (rank : ℕ → ℕ) where
       r = below_calls v.r (pred k);
       ranked = ranked_by_number i v.r v.ranked k c.counted c.listed;
       fits = fits_called IsKnown i k c.counted c.listed (calls_fit IsKnown i v.fits);
-      has = λ ks p z h. v.has (k ∷ ks) p z (c, in_any IsKnown (site_of i k).manner ks (call_instance i k) p z h) ∙ there ks p;
+      has = λ ks p z q h. v.has (k ∷ ks) p z q (c, in_any IsKnown (site_of i k).manner ks (call_instance i k) p z h) ∙ there ks p;
     }
       where
         there : (ks : List ℕ) (p : Spot) → spot_rank v.r (k ∷ ks) p ≡ spot_rank (below_calls v.r (pred k)) ks p
@@ -72,10 +81,10 @@ module _ (rank : ℕ → ℕ) where
         there ks (held j x) = refl
 
     pub beat_rank : rank (v.at (own beat)) ≡ suc (v.r [] None)
-    beat_rank = v.has [] beat Flags refl
+    beat_rank = v.has [] beat Flags refl refl
 
     pub name_rank : (x : Name) → no_constant i (IsKnown i) x → is_declared i (IsKnown i) x → rank (v.at (own (named x))) ≡ suc (v.r [] (Some x))
-    name_rank x e d = v.has [] (named x) (sort_of_name i x) (d, e, refl)
+    name_rank x e d = v.has [] (named x) (sort_of_name i x) refl (d, e, refl)
 
     -- a clock's slot is below what is above what the clock needs
     ends_low : (m : ℕ) (c : Clock) → ClockEnds i (IsKnown i) m c → (b : ℕ) → AllBelow v.r (clock_needs c) b →

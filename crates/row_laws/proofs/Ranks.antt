@@ -1,5 +1,5 @@
 -- The slots of a declaration have ranks by which each is above those that its source reads at the same instant.
-use Rattle.std.proofs.Common.{◌≡◌, ℕ, suc, pred, ◌+◌, ◌<◌, List, [], ◌∷◌, ◌++◌, map, refl, ap, ◌∙◌, sym, subst, arith, Option, Some, None, slice_get, unwrap_or}
+use Rattle.std.proofs.Common.{◌≡◌, ℕ, suc, pred, ◌+◌, ◌<◌, List, [], ◌∷◌, ◌++◌, map, refl, ap, ◌∙◌, sym, subst, arith, Option, Some, None, slice_get, unwrap_or, true}
 use Rattle.std.specs.List.{AllByRecursion}
 use Rattle.std.specs.Map.{lookup}
 use Rattle.std.specs.Str.{bytes_eq}
@@ -33,7 +33,7 @@ use Rattle.slot_sources.specs.Sources.{numbering_of, switch_of, NameSources, pai
 use Rattle.row_laws.specs.Laws.{SourcesHaveRanks}
 use Rattle.row_laws.proofs.Lists.{Both, both_append, both_mapped, both_over, both_at, mapped_at, found_has}
 use Rattle.row_laws.proofs.Running.{value_there}
-use Rattle.row_laws.proofs.Ranking.{spot_rank, names_ranked, Ranking, beat_rank, name_rank, switch_low, clock_below}
+use Rattle.row_laws.proofs.Ranking.{spot_rank, spot_read, names_ranked, Ranking, beat_rank, name_rank, switch_low, clock_below}
 use Rattle.row_laws.proofs.Needed.{IsLow, needs_low, reads_low, rights_low}
 use Rattle.row_laws.proofs.ModesNeeded.{modes_low}
 
@@ -104,7 +104,7 @@ module _ (rank : ℕ → ℕ) where
     module _ (c : Site) (k : Instance) (rest : Instances) (p : ℕ) (fit : CallFits IsKnown i c k p)
         (e : drop_calls p (calls_of i) ≡ with_instance c k rest) (rs : Rank) (same_ranks : (ks : List ℕ) (x : Option Name) → rs ks x ≡ v.r (p ∷ ks) x)
         (ranked : IsRanked k rs) (w : TreeFits IsKnown k) where
-      instance_here : call_instance i (suc p) ≡ k
+      pub instance_here : call_instance i (suc p) ≡ k
       instance_here = instance_dropped (calls_of i) p ∙ ap (λ z. first_instance z no_instance) e
 
       -- the ranks of its places, seen from the caller
@@ -119,14 +119,14 @@ module _ (rank : ℕ → ℕ) where
       pub ranks_call : (ks : List ℕ) (q : Spot) → spot_rank v.r (c.number ∷ ks) q ≡ spot_rank rs ks q
       ranks_call ks q = ap (λ z. spot_rank v.r (z ∷ ks) q) fit.number ∙ ranks_there ks q
 
-      pub has_call : (ks : List ℕ) (q : Spot) (z : Sort) → HasPlaceIn IsKnown (as_import []) ks k q z →
+      pub has_call : (ks : List ℕ) (q : Spot) (z : Sort) → spot_read q ≡ true → HasPlaceIn IsKnown (as_import []) ks k q z →
           rank (below_call c.number v.at (ks, q)) ≡ spot_rank rs ks q
-      has_call ks q z o =
-          ap (λ y. rank (v.at (y ∷ ks, q))) fit.number
-          ∙ v.has (suc p ∷ ks) q z (
+      has_call ks q z y o =
+          ap (λ l. rank (v.at (l ∷ ks, q))) fit.number
+          ∙ v.has (suc p ∷ ks) q z y (
             fit.call,
             in_any IsKnown (site_of i (suc p)).manner ks (call_instance i (suc p)) q z
-                (subst (λ y. HasPlaceIn IsKnown (as_import []) ks y q z) (sym instance_here) o),
+                (subst (λ l. HasPlaceIn IsKnown (as_import []) ks l q z) (sym instance_here) o),
           ) ∙ ranks_there ks q
 
       abbrev pub there : Ranking rank k
@@ -326,7 +326,7 @@ module _ (i : Instance) (w : WellTyped IsKnown i) (r : Rank) (ranked : IsRanked 
     r = r;
     ranked = ranked;
     fits = w.tree;
-    has = λ ks p z o. value_there whole_rank 0 (slots i) (ks, p) z (w.places ks p z (in_any IsKnown plain ks i p z o));
+    has = λ ks p z q o. value_there whole_rank 0 (slots i) (ks, p) z (w.places ks p z (in_any IsKnown plain ks i p z o));
   }
 
   all_above : Both (IsAbove whole_rank slot_rank) (slots i) (sources_of i)

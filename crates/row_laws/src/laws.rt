@@ -1,6 +1,7 @@
 //! The laws of rows and sources.
 
 ghost use Rattle.row_laws.specs.Laws.{EachSlotHasASource, RowsFollow, SourcesHaveRanks};
+ghost use Rattle.row_laws.specs.OneRow.{OneRowFollows, RowsAreTheFrames, SourcesReadSlots};
 ghost use Rattle.row_laws.specs.Within.{ModesStayWithin, RowsTellParts};
 
 /// Of a checked program the rows of the frame that lines of a trace give a declaration follow from the sources of its
@@ -14,6 +15,15 @@ pub fn rows_follow()
 /// same instant: names and beats by what they need, and all that is brought from earlier instants below these.
 pub fn sources_have_ranks()
     ensures { SourcesHaveRanks }
+{}
+
+/// Of a checked program no source reads what none is to read, and rows that follow from the sources of a declaration and
+/// from what lines of a trace list are those of the frame that the lines give, in all slots that are read. From sources
+/// with ranks rows follow in one way alone.
+pub fn rows_are_the_frames()
+    ensures frames { RowsAreTheFrames }
+    ensures read { SourcesReadSlots }
+    ensures one { OneRowFollows }
 {}
 
 /// Of a checked program, in the row of a run at an instant and in the frame at the end of each way of calls: where what
