@@ -8,7 +8,7 @@ use Rattle.std.proofs.lemmas.Option.{none-some}
 use Rattle.lus_tree.specs.declared.place.Sort.{Sort}
 use Rattle.lus_tree.specs.declared.place.Sort.TheVariants.{Bool as Flags}
 use Rattle.lus_tree.specs.Tree.{Name, Variable, Expression, ContractStatement, Component}
-use Rattle.lus_meaning.specs.Scene.{Clock, base, sampled_by, Manner, plain, while_true, as_import, Site, Instance, Instances, instance, no_instances, with_instance, component_of, calls_of, call_instance, outputs_of, clock_from, clock_of_names, variables}
+use Rattle.lus_meaning.specs.Scene.{Clock, base, sampled_by, Manner, plain, while_true, as_import, Site, Instance, Instances, instance, no_instances, with_instance, component_of, calls_of, call_instance, outputs_of, clock_from, clock_of_names, variables, Scene}
 use Rattle.lus_meaning.specs.Occurrences.{Memory, memories, Start, starts}
 use Rattle.lus_meaning.specs.Program.{in_order, instance_of}
 use Rattle.lus_meaning.specs.Run.{Equation, equations, inputs_of, sort_of_name}
@@ -23,7 +23,7 @@ use Rattle.clock_laws.proofs.RunLaws.{each_has_rank}
 use Rattle.sys_meaning.specs.Slot.{Spot, beat, named, memory, starting, so_far, held, Place, own, in_call, place_of, spot_of, same_place, number_in}
 use Rattle.sys_meaning.specs.Defaults.{site_of}
 use Rattle.sys_meaning.specs.System.{number_of, below_call}
-use Rattle.sys_meaning.specs.WellTyped.{IsKnown, IsNameOn, StreamFits, EquationFits, MemoryFits, StartFits, Stands, ClockEnds, ClockFits, OwnFits, CallFits, MannerFits, CallsFit, TreeFits, HasPlaceIn, WellTyped, slot_sort}
+use Rattle.sys_meaning.specs.WellTyped.{IsKnown, IsCall, IsNameOn, StreamFits, EquationFits, MemoryFits, StartFits, Stands, ClockEnds, ClockFits, OwnFits, CallFits, MannerFits, CallsFit, TreeFits, HasPlaceIn, WellTyped, slot_sort}
 use Rattle.sys_meaning.proofs.Forward.{drop_calls, calls_later, later_calls}
 use Rattle.sys_meaning.proofs.Shows.{in_any, same_places}
 use Rattle.path_laws.proofs.Main.{each_is_well_typed}
@@ -35,16 +35,26 @@ use Rattle.slot_sources.specs.Source.{Source, always, given, same, listed}
 use Rattle.slot_sources.specs.Rows.{reads_now, reads_before, slots_read, is_read}
 use Rattle.slot_sources.specs.Sources as sources
 use Rattle.slot_sources.specs.Sources.{numbering_of, switch_of, NameSources, paired, equation_sources, name_source, name_sources, call_beat, beat_source, argument_source, shared_sources, from_call, held_sources, memory_source, start_source, contract_sources, own_sources, sources_in, call_sources, sources_of}
-use Rattle.row_laws.specs.OneRow.{IsReadSlot, SourcesReadSlots, RowsAreTheFrames}
+use Rattle.row_laws.specs.OneRow.{IsReadSlot, SourcesReadSlots, AreSameRows, RowsAreTheFrames, on_there, FollowingRowsGiveValues, FollowingRowsTellParts}
 use Rattle.row_laws.proofs.Lists.{Both, found_has, some_inner}
-use Rattle.row_laws.proofs.Ranking.{spot_rank, spot_read, Ranking}
+use Rattle.row_laws.proofs.Ranking.{spot_rank, spot_read, Ranking, called, call_of_number}
 use Rattle.row_laws.proofs.Needed.{IsLow, NeedLow, reads_low, rights_low}
 use Rattle.row_laws.proofs.ModesNeeded.{modes_low}
 use Rattle.row_laws.proofs.Ranks.{instance_here, there, sources_have_ranks}
 use Rattle.row_laws.specs.Choices.{choices_of}
-use Rattle.evaluation_laws.specs.Rows.{row_at}
+use Rattle.lus_meaning.specs.Value.{Instants}
+use Rattle.lus_meaning.specs.Frame.{Frame, call_frame}
+use Rattle.lus_meaning.specs.Contract.{scene}
+use Rattle.lus_meaning.specs.Run.{active}
+use Rattle.lus_meaning.specs.Verdict.{throughout}
+use Rattle.lus_evaluation.specs.Past.{scene_on}
+use Rattle.slot_values.specs.Evaluated.{SlotValues}
+use Rattle.slot_values.specs.FrameRow.{numbering}
+use Rattle.evaluation_laws.specs.Resolvings.{at_numbers}
+use Rattle.evaluation_laws.specs.Rows.{row_at, AreCalls, numbers_on, scene_there, resolution_there}
+use Rattle.evaluation_laws.proofs.RowFrames.{rows_give_values}
 use Rattle.row_laws.proofs.Running.{value_there}
-use Rattle.row_laws.proofs.OneRow.{one_row_follows}
+use Rattle.row_laws.proofs.OneRow.{Agree, worth_same, outside_same, one_row_follows}
 use Rattle.row_laws.proofs.Follow.{rows_follow}
 use Rattle.row_laws.proofs.SlotsRead.{cell_read, IsReadAs, read_alike}
 
@@ -228,6 +238,28 @@ module _ (rank : ℕ → ℕ) (b : ℕ) (R : ℕ → Type 0) (low : (j : ℕ) �
           helds_reading (component_of k).outputs c.defaults
           (mapped_all (IsNameOn k (IsKnown k) base) (λ x. x.name.text) (component_of k).outputs fit.outputs)
 
+  -- ---- the frame at the end of a way
+
+  abbrev seeing_called : (i : Instance) (w : Seeing i) (k : ℕ) → IsCall i (IsKnown i) k → Seeing (call_instance i k)
+  seeing_called i w k c = record {
+    v = called rank i w.v k c;
+    read = λ ks p z q h. w.read (k ∷ ks) p z q (c, in_any IsKnown (site_of i k).manner ks (call_instance i k) p z h);
+    bounded = λ ks x. w.bounded (pred k ∷ ks) x;
+  }
+
+  -- what the resolution of an expression there reads
+  abbrev ReadsThere : Scene → (Place → ℕ) → Type 0
+  ReadsThere s at =
+      (c : Clock) (e : Expression) → Stands s.place (IsKnown s.place) c e →
+      AllByRecursion R (slots_read (resolution (numbering s at (at_numbers at (resolvings s.place))) e))
+
+  pub reads_there : (way : List ℕ) (i : Instance) (w : Seeing i) (o : Instants) (f : Frame) → AreCalls i way →
+      ReadsThere (scene_on way i o f) (numbers_on way w.v.at)
+  reads_there [] i w o f a = λ c e h. expression_read i w c e h
+  reads_there (k ∷ way) i w o f a =
+      let c : IsCall i (IsKnown i) k = call_of_number i w.v.fits k a.0 a.1 in
+      reads_there way (call_instance i k) (seeing_called i w k c) (active (scene i o f) (site_of i k)) (call_frame f k) a.2
+
   mutual
     sources_reading : (m : Manner) (i : Instance) (w : Seeing i) (e : Source) → SourceReads e → (fc : NameSources) → AreReading fc →
         AllByRecursion SourceReads (sources_in m i w.v.at e fc)
@@ -345,3 +377,27 @@ pub rows_are_the_frames : RowsAreTheFrames
 rows_are_the_frames p c n j ls m f h rows g =
     one_row_follows (sources_of (instance_of p n)) (sources_have_ranks p c n j) (sources_read_slots p c n j) (choices_of ls (instance_of p n)) m rows
     (λ t. row_at (instance_of p n) f t) g (rows_follow p c n j ls m f h)
+
+-- ---- expressions
+
+module _ (i : Instance) (w : WellTyped IsKnown i) (r : HasRank i) (f : Frame) (way : List ℕ) (calls : AreCalls i way) (rows : ℕ → SlotValues) (m t : ℕ)
+    (l : t < m) (same : AreSameRows (sources_of i) m rows (λ t. row_at i f t)) where
+  agree_there : (c : Clock) (e : Expression) → Stands (scene_there i f way).place (IsKnown (scene_there i f way).place) c e →
+      Agree (rows t) (row_at i f t) (slots_read (resolution_there i f way e))
+  agree_there c e h =
+      all_from (IsReadSlot (sources_of i)) (λ k. rows t k ≡ row_at i f t k) (λ k y. same t l k y.0 y.1 y.2) (slots_read (resolution_there i f way e))
+      (reads_there (read_rank i w r) r.bound (IsReadSlot (sources_of i)) (read_there i w r (slots i) (sources_of i) (read_alike i)) way i (seeing i w r)
+      throughout f calls c e h)
+
+pub following_rows_give_values : FollowingRowsGiveValues
+following_rows_give_values p n j k ls m f h rows g t l way a c e st cl =
+    let i : Instance = instance_of p j in
+    worth_same (rows t) (row_at i f t) (resolution_there i f way e) (on_there i f t way c)
+    (agree_there i (each_is_well_typed p n j k).0 (each_has_rank p n j k) f way a rows m t l (rows_are_the_frames p n j k ls m f h rows g) c e st)
+    ∙ rows_give_values p n j k m f h.run t l way a c e st cl
+
+pub following_rows_tell_parts : FollowingRowsTellParts
+following_rows_tell_parts p n j k ls m f h rows g t l way a c e st cl =
+    let i : Instance = instance_of p j in
+    outside_same (rows t) (row_at i f t) (resolution_there i f way e) (on_there i f t way c)
+    (agree_there i (each_is_well_typed p n j k).0 (each_has_rank p n j k) f way a rows m t l (rows_are_the_frames p n j k ls m f h rows g) c e st)

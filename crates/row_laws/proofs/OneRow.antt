@@ -5,7 +5,7 @@ use Rattle.lus_meaning.specs.Value.{Value, is}
 use Rattle.lus_meaning.proofs.Lists.{all_from, all_from_both}
 use Rattle.lus_meaning.proofs.Now.{left_part, right_part}
 use Rattle.slot_values.specs.Resolution.{Resolution, known, slot, negated, opposite, combined, chosen, started, sampled, merged, latest}
-use Rattle.slot_values.specs.Evaluated.{SlotValues, worth}
+use Rattle.slot_values.specs.Evaluated.{SlotValues, worth, outside}
 use Rattle.slot_sources.specs.declared.source.Switch.{Switch}
 use Rattle.slot_sources.specs.Source.{Source, always, runs, runs_while, same, given, argument, listed, remembered, starting, held, unread}
 use Rattle.slot_sources.specs.Rows.{is_on, Choices, value_now, brought_next, brought, is_read, Follow, slots_read, reads_now, reads_before}
@@ -43,6 +43,29 @@ module _ (s u : SlotValues) where
       rw (a.0, worth_same e _ (first (slots_read e) (slots_read d) a.1), worth_same d _ (rest (slots_read e) (slots_read d) a.1)) refl
   worth_same (latest e b o h) on a =
       let z = rest (slots_read e) (b ∷ o ∷ h ∷ []) a in rw (z.0, z.1.0, z.1.1.0) refl
+
+  pub outside_same : (e : Resolution) (on : Bool) → Agree (slots_read e) → outside s on e ≡ outside u on e
+  outside_same (known v) on a = refl
+  outside_same (slot k) on a = refl
+  outside_same (negated e) on a = outside_same e on a
+  outside_same (opposite p e) on a = rw (outside_same e on a, worth_same e on a) refl
+  outside_same (combined p o e d) on a =
+      let b = first (slots_read e) (slots_read d) a in
+      let c = rest (slots_read e) (slots_read d) a in
+      rw (outside_same e on b, outside_same d on c, worth_same e on b, worth_same d on c) refl
+  outside_same (chosen e d c) on a =
+      let b = first (slots_read e ++ slots_read d) (slots_read c) a in
+      rw (
+        outside_same e on (first (slots_read e) (slots_read d) b),
+        outside_same d on (rest (slots_read e) (slots_read d) b),
+        outside_same c on (rest (slots_read e ++ slots_read d) (slots_read c) a),
+      ) refl
+  outside_same (started k e d) on a =
+      rw (outside_same e on (first (slots_read e) (slots_read d) a.1), outside_same d on (rest (slots_read e) (slots_read d) a.1)) refl
+  outside_same (sampled k q e) on a = rw (a.0, outside_same e _ a.1) refl
+  outside_same (merged k e d) on a =
+      rw (a.0, outside_same e _ (first (slots_read e) (slots_read d) a.1), outside_same d _ (rest (slots_read e) (slots_read d) a.1)) refl
+  outside_same (latest e b o h) on a = outside_same e on (first (slots_read e) (b ∷ o ∷ h ∷ []) a)
 
   on_same : (w : Switch) → s w.slot ≡ u w.slot → is_on s w ≡ is_on u w
   on_same w e = ap (is w.wanted) e

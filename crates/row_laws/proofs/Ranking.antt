@@ -1,5 +1,5 @@
 -- Ranks of the slots of a frame: those of beats and names are the ranks of their places, raised by one; all others are 0.
-use Rattle.std.proofs.Common.{◌≡◌, ℕ, zero, suc, pred, ◌<◌, Bool, true, false, List, [], ◌∷◌, map, refl, ap, ◌∙◌, sym, subst, arith, Some, None}
+use Rattle.std.proofs.Common.{◌≡◌, ℕ, zero, suc, pred, ◌+◌, ◌<◌, Bool, true, false, List, [], ◌∷◌, map, refl, ap, ◌∙◌, sym, subst, arith, Some, None}
 use Rattle.std.specs.List.{AllByRecursion}
 use Rattle.lus_tree.specs.declared.place.Sort.{Sort}
 use Rattle.lus_tree.specs.declared.place.Sort.TheVariants.{Bool as Flags}
@@ -10,7 +10,7 @@ use Rattle.lus_meaning.specs.Depends.{Rank, IsRanked, CallsRanked, AllBelow, bel
 use Rattle.sys_meaning.specs.Slot.{Spot, beat, named, memory, starting, so_far, held, Place, own}
 use Rattle.sys_meaning.specs.System.{below_call}
 use Rattle.sys_meaning.specs.Defaults.{site_of}
-use Rattle.sys_meaning.specs.WellTyped.{IsKnown, IsCall, IsNameOn, no_constant, is_declared, clock_here, StreamFits, ClockEnds, ClockFits, TreeFits, HasPlaceIn, count_of}
+use Rattle.sys_meaning.specs.WellTyped.{IsKnown, IsCall, IsNameOn, no_constant, is_declared, clock_here, StreamFits, ClockEnds, ClockFits, CallsFit, TreeFits, HasPlaceIn, count_of}
 use Rattle.sys_meaning.proofs.Balanced.{Picked, pick, join_all}
 use Rattle.sys_meaning.proofs.Forward.{own_fits, calls_fit}
 use Rattle.sys_meaning.proofs.Shows.{in_any}
@@ -51,6 +51,18 @@ pub ranked_by_number : (i : Instance) (r : Rank) → IsRanked i r → (k : ℕ) 
     IsRanked (call_instance i k) (below_calls r (pred k))
 ranked_by_number i r h zero c l = absurd (omega (arith, c))
 ranked_by_number i r h (suc k) c l = ranks_called i r (below_calls r) (calls_of i) (calls_ranked i r h) k l
+
+-- a number on a way is that of a call
+call_at : (i : Instance) (is : Instances) (p j : ℕ) → CallsFit IsKnown i is p → j < count_of is → IsCall i (IsKnown i) (suc (p + j))
+call_at i no_instances p j w h = absurd (omega (arith, h))
+call_at i (with_instance c k is) p zero w h = subst (λ q. IsCall i (IsKnown i) (suc q)) (let e : p ≡ p + 0 = omega arith in e) w.0.call
+call_at i (with_instance c k is) p (suc j) w h =
+    subst (λ q. IsCall i (IsKnown i) (suc q)) (let e : suc p + j ≡ p + suc j = omega arith in e) (call_at i is (suc p) j w.2 (omega (arith, h)))
+
+pub call_of_number : (i : Instance) → TreeFits IsKnown i → (k : ℕ) → 0 < k → pred k < count_of (calls_of i) → IsCall i (IsKnown i) k
+call_of_number i w zero c l = absurd (omega (arith, c))
+call_of_number i w (suc j) c l =
+    subst (λ q. IsCall i (IsKnown i) (suc q)) (let e : 0 + j ≡ j = omega arith in e) (call_at i (calls_of i) 0 j (calls_fit IsKnown i w) l)
 
 module _ (rank : ℕ → ℕ) where
   -- the slots of a frame's places have the ranks of the places

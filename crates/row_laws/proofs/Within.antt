@@ -48,6 +48,7 @@ use Rattle.evaluation_laws.proofs.RowFrames.{rows_show}
 use Rattle.row_laws.specs.Within.{standpoint, ModesStayWithin, RowsTellParts}
 use Rattle.row_laws.proofs.ModeKeys.{keys, resolving_keys, imported_keys, resolvings_more, found_first, known_first}
 use Rattle.row_laws.proofs.ModesNeeded.{by_number, resolvings_called}
+use Rattle.row_laws.proofs.Ranking.{call_of_number}
 use Rattle.row_laws.proofs.Running.{value_there}
 
 -- ---- parts and operations
@@ -422,24 +423,13 @@ module _ (o : Orders) (top : Instance) (whole : Frame) where
       }) ns key) t →
       outside row (s.beat t) (mode_resolution (numbering s at (at_numbers at (resolvings s.place))) key) ≡ []
 
-  call_at : (i : Instance) (is : Instances) (p j : ℕ) → CallsFit IsKnown i is p → j < count_of is → IsCall i (IsKnown i) (suc (p + j))
-  call_at i no_instances p j w h = absurd (omega (arith, h))
-  call_at i (with_instance c k is) p zero w h = subst (λ q. IsCall i (IsKnown i) (suc q)) (let e : p ≡ p + 0 = omega arith in e) w.0.call
-  call_at i (with_instance c k is) p (suc j) w h =
-      subst (λ q. IsCall i (IsKnown i) (suc q)) (let e : suc p + j ≡ p + suc j = omega arith in e) (call_at i is (suc p) j w.2 (omega (arith, h)))
-
-  is_call : (i : Instance) (v : Standing i) (k : ℕ) → 0 < k → pred k < count_of (calls_of i) → IsCall i (IsKnown i) k
-  is_call i v zero c l = absurd (omega (arith, c))
-  is_call i v (suc j) c l =
-      subst (λ q. IsCall i (IsKnown i) (suc q)) (let e : 0 + j ≡ j = omega arith in e) (call_at i (calls_of i) 0 j (calls_fit IsKnown i v.fits) l)
-
   pub within_along : (w path : List ℕ) (i : Instance) (v : Standing i) → IsThere path i v → AreCalls i w →
       Within (path ++ w) (scene_on w i v.b v.f) (numbers_on w v.at) v.row v.t
   within_along [] path i v h a =
       subst (λ l. Within l (scene i v.b v.f) v.at v.row v.t) (sym (append_none path))
       (λ key ns z. fine_found top whole v.at (v.b v.t) v.row v.t key ns _ (frame_text o path i).contract.modes (resolvings i) (all_fine i v path h) z)
   within_along (k ∷ w) path i v h a =
-      let c : IsCall i (IsKnown i) k = is_call i v k a.0 a.1 in
+      let c : IsCall i (IsKnown i) k = call_of_number i v.fits k a.0 a.1 in
       subst (λ l. Within l (scene_on (k ∷ w) i v.b v.f) (numbers_on (k ∷ w) v.at) v.row v.t) (assoc path w k)
       (within_along w (path ++ k ∷ []) (call_instance i k) (called i v k c) (there_called path i v h k c) a.2)
 

@@ -1,12 +1,16 @@
 -- That rows follow from sources in one way alone.
-use Rattle.std.specs.Prelude.{◌≡◌, ℕ, ◌<◌, true, List, Some, slice_get}
+use Rattle.std.specs.Prelude.{◌≡◌, ℕ, ◌<◌, Bool, true, List, Some, slice_get}
 use Rattle.std.specs.List.{AllByRecursion}
+use Rattle.lus_tree.specs.Tree.{Expression}
 use Rattle.lus_meaning.specs.Frame.{Frame}
+use Rattle.lus_meaning.specs.Scene.{Clock, Instance, is_on}
+use Rattle.lus_meaning.specs.Meaning.{value}
 use Rattle.lus_meaning.specs.Program.{instance_of}
 use Rattle.lus_meaning.specs.RuleLaws.{OfEach}
 use Rattle.lus_meaning.specs.Trace.{BareLine, IsFrameOf}
-use Rattle.slot_values.specs.Evaluated.{SlotValues}
-use Rattle.evaluation_laws.specs.Rows.{row_at}
+use Rattle.sys_meaning.specs.WellTyped.{IsKnown, Stands, ClockFits}
+use Rattle.slot_values.specs.Evaluated.{SlotValues, worth, outside}
+use Rattle.evaluation_laws.specs.Rows.{row_at, AreCalls, scene_there, resolution_there}
 use Rattle.slot_sources.specs.Source.{Source}
 use Rattle.slot_sources.specs.Rows.{Choices, is_read, reads_now, reads_before, Follow}
 use Rattle.slot_sources.specs.Sources.{sources_of, HasRanks}
@@ -40,3 +44,28 @@ RowsAreTheFrames =
     OfEach (λ p n. (ls : List BareLine) (m : ℕ) (f : Frame) → IsFrameOf ls (instance_of p n) m f → (rows : ℕ → SlotValues) →
     Follow (sources_of (instance_of p n)) (choices_of ls (instance_of p n)) m rows →
     AreSameRows (sources_of (instance_of p n)) m rows (λ t. row_at (instance_of p n) f t))
+
+-- ---- expressions
+
+-- of rows that follow from the sources of a declaration and from what lines choose: what is so at each instant, of the frame at the end of each way of
+-- calls and of each expression that stands there
+abbrev pub OfFollowingRows : (SlotValues → Instance → Frame → ℕ → List ℕ → Clock → Expression → Type 0) → Type 0
+OfFollowingRows P =
+    OfEach (λ p n. (ls : List BareLine) (m : ℕ) (f : Frame) → IsFrameOf ls (instance_of p n) m f → (rows : ℕ → SlotValues) →
+    Follow (sources_of (instance_of p n)) (choices_of ls (instance_of p n)) m rows → (t : ℕ) → t < m → (w : List ℕ) → AreCalls (instance_of p n) w →
+    let j : Instance = (scene_there (instance_of p n) f w).place in
+    (c : Clock) (e : Expression) → Stands j (IsKnown j) c e → ClockFits j (IsKnown j) c → P (rows t) (instance_of p n) f t w c e)
+
+abbrev pub on_there : Instance → Frame → ℕ → List ℕ → Clock → Bool
+on_there i f t w c = is_on (scene_there i f w) c t
+
+-- the resolution of the expression is worth the expression's value in the frame that the lines give
+abbrev pub FollowingRowsGiveValues : Type 0
+FollowingRowsGiveValues =
+    OfFollowingRows (λ s i f t w c e. worth s (on_there i f t w c) (resolution_there i f w e) ≡ value (scene_there i f w) c e t)
+
+-- and its operations outside 128 bits are those in the row of that frame
+abbrev pub FollowingRowsTellParts : Type 0
+FollowingRowsTellParts =
+    OfFollowingRows (λ s i f t w c e.
+    outside s (on_there i f t w c) (resolution_there i f w e) ≡ outside (row_at i f t) (on_there i f t w c) (resolution_there i f w e))

@@ -1,7 +1,7 @@
 //! The laws of rows and sources.
 
 ghost use Rattle.row_laws.specs.Laws.{EachSlotHasASource, RowsFollow, SourcesHaveRanks};
-ghost use Rattle.row_laws.specs.OneRow.{OneRowFollows, RowsAreTheFrames, SourcesReadSlots};
+ghost use Rattle.row_laws.specs.OneRow.{FollowingRowsGiveValues, FollowingRowsTellParts, OneRowFollows, RowsAreTheFrames, SourcesReadSlots};
 ghost use Rattle.row_laws.specs.Within.{ModesStayWithin, RowsTellParts};
 
 /// Of a checked program the rows of the frame that lines of a trace give a declaration follow from the sources of its
@@ -24,6 +24,13 @@ pub fn rows_are_the_frames()
     ensures frames { RowsAreTheFrames }
     ensures read { SourcesReadSlots }
     ensures one { OneRowFollows }
+{}
+
+/// So in such rows the resolution of each expression, of the frame at the end of each way of calls, is worth the
+/// expression's value in that frame, and has the operations outside 128 bits that it has in the row of the frame.
+pub fn following_rows_give_values()
+    ensures values { FollowingRowsGiveValues }
+    ensures operations { FollowingRowsTellParts }
 {}
 
 /// Of a checked program, in the row of a run at an instant and in the frame at the end of each way of calls: where what
