@@ -1,66 +1,45 @@
 -- The sources of a declaration read slots of places, and each of these is read.
-use Rattle.std.proofs.Common.{◌≡◌, ℕ, zero, suc, pred, ◌+◌, ◌<◌, Bool, true, false, cond, List, [], ◌∷◌, ◌++◌, map, refl, ap, ◌∙◌, sym, subst, arith, Option, Some, None, slice_get, unwrap_or}
+use Rattle.std.proofs.Common.{◌≡◌, ℕ, zero, suc, pred, ◌+◌, ◌<◌, true, List, [], ◌∷◌, ◌++◌, map, refl, ap, ◌∙◌, sym, subst, arith, Option, Some, None, unwrap_or}
 use Rattle.std.specs.List.{AllByRecursion}
 use Rattle.std.specs.Map.{lookup}
 use Rattle.std.specs.Str.{bytes_eq}
-use Rattle.std.proofs.lemmas.Bool.{false≢true}
-use Rattle.std.proofs.lemmas.Option.{none-some}
 use Rattle.lus_tree.specs.declared.place.Sort.{Sort}
 use Rattle.lus_tree.specs.declared.place.Sort.TheVariants.{Bool as Flags}
 use Rattle.lus_tree.specs.Tree.{Name, Variable, Expression, ContractStatement, Component}
 use Rattle.lus_meaning.specs.Scene.{Clock, base, sampled_by, Manner, plain, while_true, as_import, Site, Instance, Instances, instance, no_instances, with_instance, component_of, calls_of, call_instance, outputs_of, clock_from, clock_of_names, variables, Scene}
 use Rattle.lus_meaning.specs.Occurrences.{Memory, memories, Start, starts}
-use Rattle.lus_meaning.specs.Program.{in_order, instance_of}
+use Rattle.lus_meaning.specs.Program.{in_order}
 use Rattle.lus_meaning.specs.Run.{Equation, equations, inputs_of, sort_of_name}
 use Rattle.lus_meaning.specs.Depends.{Need, the_beat, a_name, needs, modes_need, Rank, below_calls, IsRanked, CallsRanked}
-use Rattle.lus_meaning.specs.Slots.{Cell, beat_cell, name_cell, memory_cell, start_cell, sofar_cell, held_cell, Slot, slots}
-use Rattle.lus_meaning.specs.Trace.{BareLine, IsFrameOf}
 use Rattle.lus_meaning.proofs.InOrder.{in_order_all}
 use Rattle.lus_meaning.proofs.Lists.{all_from, both_parts, mapped_all}
-use Rattle.lus_meaning.proofs.NamesOnce.{at_one}
-use Rattle.clock_laws.specs.Laws.{HasRank}
-use Rattle.clock_laws.proofs.RunLaws.{each_has_rank}
-use Rattle.sys_meaning.specs.Slot.{Spot, beat, named, memory, starting, so_far, held, Place, own, in_call, place_of, spot_of, same_place, number_in}
+use Rattle.sys_meaning.specs.Slot.{Spot, beat, named, Place, own}
 use Rattle.sys_meaning.specs.Defaults.{site_of}
-use Rattle.sys_meaning.specs.System.{number_of, below_call}
-use Rattle.sys_meaning.specs.WellTyped.{IsKnown, IsCall, IsNameOn, StreamFits, EquationFits, MemoryFits, StartFits, Stands, ClockEnds, ClockFits, OwnFits, CallFits, MannerFits, CallsFit, TreeFits, HasPlaceIn, WellTyped, slot_sort}
+use Rattle.sys_meaning.specs.System.{below_call}
+use Rattle.sys_meaning.specs.WellTyped.{IsKnown, IsCall, IsNameOn, StreamFits, EquationFits, MemoryFits, StartFits, Stands, ClockEnds, ClockFits, OwnFits, CallFits, MannerFits, CallsFit, TreeFits, HasPlaceIn}
 use Rattle.sys_meaning.proofs.Forward.{drop_calls, calls_later, later_calls}
-use Rattle.sys_meaning.proofs.Shows.{in_any, same_places}
-use Rattle.path_laws.proofs.Main.{each_is_well_typed}
+use Rattle.sys_meaning.proofs.Shows.{in_any}
 use Rattle.slot_values.specs.Resolution.{Resolution}
 use Rattle.slot_values.specs.Resolved.{Numbering, resolution, right_resolutions}
 use Rattle.evaluation_laws.specs.Resolvings.{resolvings}
 use Rattle.slot_sources.specs.declared.source.Switch.{Switch}
-use Rattle.slot_sources.specs.Source.{Source, always, given, same, listed}
-use Rattle.slot_sources.specs.Rows.{reads_now, reads_before, slots_read, is_read}
+use Rattle.slot_sources.specs.Source.{Source, given, same, listed}
+use Rattle.slot_sources.specs.Rows.{reads_now, reads_before, slots_read}
 use Rattle.slot_sources.specs.Sources as sources
 use Rattle.slot_sources.specs.Sources.{numbering_of, switch_of, NameSources, paired, equation_sources, name_source, name_sources, call_beat, beat_source, argument_source, shared_sources, from_call, held_sources, memory_source, start_source, contract_sources, own_sources, sources_in, call_sources, sources_of}
-use Rattle.row_laws.specs.OneRow.{IsReadSlot, SourcesReadSlots, AreSameRows, RowsAreTheFrames, on_there, FollowingRowsGiveValues, FollowingRowsTellParts}
-use Rattle.row_laws.proofs.Lists.{Both, found_has, some_inner}
-use Rattle.row_laws.proofs.Ranking.{spot_rank, spot_read, Ranking, called, call_of_number}
+use Rattle.row_laws.proofs.Lists.{found_has}
+use Rattle.row_laws.proofs.Ranking.{spot_read, Ranking, called, call_of_number}
 use Rattle.row_laws.proofs.Needed.{IsLow, NeedLow, reads_low, rights_low}
 use Rattle.row_laws.proofs.ModesNeeded.{modes_low}
-use Rattle.row_laws.proofs.Ranks.{instance_here, there, sources_have_ranks}
-use Rattle.row_laws.specs.Choices.{choices_of}
+use Rattle.row_laws.proofs.Ranks.{instance_here, there}
 use Rattle.lus_meaning.specs.Value.{Instants}
 use Rattle.lus_meaning.specs.Frame.{Frame, call_frame}
 use Rattle.lus_meaning.specs.Contract.{scene}
 use Rattle.lus_meaning.specs.Run.{active}
-use Rattle.lus_meaning.specs.Verdict.{throughout}
 use Rattle.lus_evaluation.specs.Past.{scene_on}
-use Rattle.slot_values.specs.Evaluated.{SlotValues}
 use Rattle.slot_values.specs.FrameRow.{numbering}
 use Rattle.evaluation_laws.specs.Resolvings.{at_numbers}
-use Rattle.evaluation_laws.specs.Rows.{row_at, AreCalls, numbers_on, scene_there, resolution_there}
-use Rattle.evaluation_laws.proofs.RowFrames.{rows_give_values}
-use Rattle.row_laws.proofs.Running.{value_there}
-use Rattle.row_laws.proofs.OneRow.{Agree, worth_same, outside_same, one_row_follows}
-use Rattle.row_laws.proofs.Follow.{rows_follow}
-use Rattle.row_laws.proofs.SlotsRead.{cell_read, IsReadAs, read_alike}
-
-all_of : {A : Type 0} (P : A → Type 0) → ((x : A) → P x) → (xs : List A) → AllByRecursion P xs
-all_of P h [] = tt
-all_of P h (x ∷ xs) = (h x, all_of P h xs)
+use Rattle.evaluation_laws.specs.Rows.{AreCalls, numbers_on}
 
 over_map : {A B : Type 0} (P : B → Type 0) (f : A → B) (xs : List A) → AllByRecursion (λ x. P (f x)) xs → AllByRecursion P (map f xs)
 over_map P f [] a = tt
@@ -186,9 +165,12 @@ module _ (rank : ℕ → ℕ) (b : ℕ) (R : ℕ → Type 0) (low : (j : ℕ) �
       below = record {
         v = there rank i w.v c k rest p fit e rs same_ranks ranked fits;
         read = λ ks q z l o. subst (λ y. R (w.v.at (y ∷ ks, q))) (sym fit.number)
-            (w.read (suc p ∷ ks) q z l (fit.call, in_any IsKnown (site_of i (suc p)).manner ks (call_instance i (suc p)) q z
-            (subst (λ y. HasPlaceIn IsKnown (as_import []) ks y q z)
-            (sym (instance_here rank i w.v c k rest p fit e rs same_ranks ranked fits)) o)));
+            (w.read (suc p ∷ ks) q z l (
+              fit.call,
+              in_any IsKnown (site_of i (suc p)).manner ks (call_instance i (suc p)) q z
+                  (subst (λ y. HasPlaceIn IsKnown (as_import []) ks y q z)
+                  (sym (instance_here rank i w.v c k rest p fit e rs same_ranks ranked fits)) o),
+            ));
         bounded = λ ks x. subst (λ z. z < b) (sym (same_ranks ks (Some x))) (w.bounded (p ∷ ks) x);
       }
 
@@ -227,9 +209,10 @@ module _ (rank : ℕ → ℕ) (b : ℕ) (R : ℕ → Type 0) (low : (j : ℕ) �
           AllByRecursion SourceReads (sources.held_each g c vs ds)
       helds_reading [] ds h = tt
       helds_reading (x ∷ vs) [] h = tt
-      helds_reading (x ∷ vs) (d ∷ ds) h =
-          ((tt, (callee_beat, (below.read [] (named x.name.text) (sort_of_name k x.name.text) refl (h.0.declared, h.0.stream, refl), tt))),
-          helds_reading vs ds h.1)
+      helds_reading (x ∷ vs) (d ∷ ds) h = (
+        (tt, (callee_beat, (below.read [] (named x.name.text) (sort_of_name k x.name.text) refl (h.0.declared, h.0.stream, refl), tt))),
+        helds_reading vs ds h.1,
+      )
 
       held_reading : (m : Manner) → AllByRecursion SourceReads (held_sources g c (component_of k) m)
       held_reading plain = tt
@@ -261,7 +244,7 @@ module _ (rank : ℕ → ℕ) (b : ℕ) (R : ℕ → Type 0) (low : (j : ℕ) �
       reads_there way (call_instance i k) (seeing_called i w k c) (active (scene i o f) (site_of i k)) (call_frame f k) a.2
 
   mutual
-    sources_reading : (m : Manner) (i : Instance) (w : Seeing i) (e : Source) → SourceReads e → (fc : NameSources) → AreReading fc →
+    pub sources_reading : (m : Manner) (i : Instance) (w : Seeing i) (e : Source) → SourceReads e → (fc : NameSources) → AreReading fc →
         AllByRecursion SourceReads (sources_in m i w.v.at e fc)
     sources_reading m (instance d cs is) w e h fc a =
         both_parts SourceReads (own_sources m (numbering_of (instance d cs is) w.v.at) e fc) (call_sources (numbering_of (instance d cs is) w.v.at) is)
@@ -285,119 +268,3 @@ module _ (rank : ℕ → ℕ) (b : ℕ) (R : ℕ → Type 0) (low : (j : ℕ) �
         (call_reading i w c k is p fits.0 e (rs 0) here a.3 fits.1))
         (calls_reading i w is (suc p) (calls_later p (calls_of i) ∙ ap later_calls e) (λ j. rs (suc j))
         (λ j q l. h (suc j) q (omega (arith, l))) a.4 fits.2))
-
--- ---- the law
-
-read_as_spot : (c : Cell) → cell_read c ≡ spot_read (spot_of c)
-read_as_spot beat_cell = refl
-read_as_spot (name_cell v) = refl
-read_as_spot (memory_cell m) = refl
-read_as_spot (start_cell a) = refl
-read_as_spot sofar_cell = refl
-read_as_spot (held_cell c v d) = refl
-
-module _ (i : Instance) (w : WellTyped IsKnown i) (h : HasRank i) where
-  -- slots that are not read are above the bound
-  abbrev place_rank : Place → ℕ
-  place_rank p = cond (spot_read p.1) (spot_rank h.rank p.0 p.1) (suc h.bound)
-
-  abbrev read_rank : ℕ → ℕ
-  read_rank k = unwrap_or (slice_get (map (λ q. place_rank (place_of q)) (slots i)) k) (suc h.bound)
-
-  on_true : (b : Bool) (x y : ℕ) → b ≡ true → cond b x y ≡ x
-  on_true true x y e = refl
-  on_true false x y e = absurd (false≢true e)
-
-  abbrev top_ranking : Ranking read_rank i
-  top_ranking = record {
-    at = number_of i;
-    r = h.rank;
-    ranked = h.ranked;
-    fits = w.tree;
-    has = λ ks p z q o. value_there place_rank (suc h.bound) (slots i) (ks, p) z (w.places ks p z (in_any IsKnown plain ks i p z o))
-        ∙ on_true (spot_read p) (spot_rank h.rank ks p) (suc h.bound) q;
-  }
-
-  -- of slots and sources side by side
-  read_there : (qs : List Slot) (es : List Source) → Both IsReadAs qs es → (k : ℕ) →
-      unwrap_or (slice_get (map (λ q. place_rank (place_of q)) qs) k) (suc h.bound) < suc h.bound → IsReadSlot es k
-  read_there [] [] a zero l = absurd (omega (arith, l))
-  read_there [] [] a (suc k) l = absurd (omega (arith, l))
-  read_there [] (e ∷ es) a k l = absurd a
-  read_there (q ∷ qs) [] a k l = absurd a
-  read_there (q ∷ qs) (e ∷ es) a (suc k) l = read_there qs es a.1 k l
-  read_there (q ∷ qs) (e ∷ es) a zero l = go (spot_read (spot_of q.cell)) refl l
-    where
-      go : (b : Bool) → spot_read (spot_of q.cell) ≡ b → cond b (spot_rank h.rank q.path (spot_of q.cell)) (suc h.bound) < suc h.bound →
-          IsReadSlot (e ∷ es) zero
-      go true y l = (e, refl, a.0 ∙ read_as_spot q.cell ∙ y)
-      go false y l = absurd (omega (arith, l))
-
-  -- the slot of a place is there, and it is read
-  found_there : (qs : List Slot) (es : List Source) → Both IsReadAs qs es → (ks : List ℕ) (p : Spot) (z : Sort) → spot_read p ≡ true →
-      slot_sort IsKnown qs (ks, p) ≡ Some z → IsReadSlot es (number_in qs (ks, p))
-  found_there [] es a ks p z y e = absurd (none-some z e)
-  found_there (q ∷ qs) [] a ks p z y e = absurd a
-  found_there (q ∷ qs) (x ∷ es) a ks p z y e = go (same_place (ks, p) (place_of q)) refl e (found_there qs es a.1 ks p z y)
-    where
-      go : (c : Bool) → same_place (ks, p) (place_of q) ≡ c → cond c (Some q.sort) (slot_sort IsKnown qs (ks, p)) ≡ Some z →
-          (slot_sort IsKnown qs (ks, p) ≡ Some z → IsReadSlot es (number_in qs (ks, p))) →
-          IsReadSlot (x ∷ es) (cond c zero (suc (number_in qs (ks, p))))
-      go true d e r =
-          (x, refl, a.0 ∙ read_as_spot q.cell ∙ ap (λ (l : Place). spot_read l.1) (sym (same_places (ks, p) (place_of q) d)) ∙ y)
-      go false d e r = r e
-
-  abbrev seeing : Seeing read_rank h.bound (IsReadSlot (sources_of i)) (read_there (slots i) (sources_of i) (read_alike i)) i
-  seeing = record {
-    v = top_ranking;
-    read = λ ks p z q o. found_there (slots i) (sources_of i) (read_alike i) ks p z q (w.places ks p z (in_any IsKnown plain ks i p z o));
-    bounded = λ ks x. h.below ks x;
-  }
-
-  all_alone : AllByRecursion (SourceReads read_rank h.bound (IsReadSlot (sources_of i)) (read_there (slots i) (sources_of i) (read_alike i))) (sources_of i)
-  all_alone =
-      sources_reading read_rank h.bound (IsReadSlot (sources_of i)) (read_there (slots i) (sources_of i) (read_alike i)) plain i seeing always
-      (tt, tt) [] tt
-
-at_place : {A : Type 0} (P : A → Type 0) (xs : List A) → AllByRecursion P xs → (k : ℕ) (x : A) → slice_get xs k ≡ Some x → P x
-at_place P [] a zero x e = absurd (none-some x e)
-at_place P [] a (suc k) x e = absurd (none-some x e)
-at_place P (y ∷ xs) a zero x e = subst P (some_inner y x e) a.0
-at_place P (y ∷ xs) a (suc k) x e = at_place P xs a.1 k x e
-
-pub sources_read_slots : SourcesReadSlots
-sources_read_slots p c n j k e h =
-    let i : Instance = instance_of p n in
-    let w : WellTyped IsKnown i = (each_is_well_typed p c n j).0 in
-    let r : HasRank i = each_has_rank p c n j in
-    at_place (λ e. AllByRecursion (IsReadSlot (sources_of i)) (reads_now e) × AllByRecursion (IsReadSlot (sources_of i)) (reads_before e))
-    (sources_of i) (all_alone i w r) k e h
-
-pub rows_are_the_frames : RowsAreTheFrames
-rows_are_the_frames p c n j ls m f h rows g =
-    one_row_follows (sources_of (instance_of p n)) (sources_have_ranks p c n j) (sources_read_slots p c n j) (choices_of ls (instance_of p n)) m rows
-    (λ t. row_at (instance_of p n) f t) g (rows_follow p c n j ls m f h)
-
--- ---- expressions
-
-module _ (i : Instance) (w : WellTyped IsKnown i) (r : HasRank i) (f : Frame) (way : List ℕ) (calls : AreCalls i way) (rows : ℕ → SlotValues) (m t : ℕ)
-    (l : t < m) (same : AreSameRows (sources_of i) m rows (λ t. row_at i f t)) where
-  agree_there : (c : Clock) (e : Expression) → Stands (scene_there i f way).place (IsKnown (scene_there i f way).place) c e →
-      Agree (rows t) (row_at i f t) (slots_read (resolution_there i f way e))
-  agree_there c e h =
-      all_from (IsReadSlot (sources_of i)) (λ k. rows t k ≡ row_at i f t k) (λ k y. same t l k y.0 y.1 y.2) (slots_read (resolution_there i f way e))
-      (reads_there (read_rank i w r) r.bound (IsReadSlot (sources_of i)) (read_there i w r (slots i) (sources_of i) (read_alike i)) way i (seeing i w r)
-      throughout f calls c e h)
-
-pub following_rows_give_values : FollowingRowsGiveValues
-following_rows_give_values p n j k ls m f h rows g t l way a c e st cl =
-    let i : Instance = instance_of p j in
-    worth_same (rows t) (row_at i f t) (resolution_there i f way e) (on_there i f t way c)
-    (agree_there i (each_is_well_typed p n j k).0 (each_has_rank p n j k) f way a rows m t l (rows_are_the_frames p n j k ls m f h rows g) c e st)
-    ∙ rows_give_values p n j k m f h.run t l way a c e st cl
-
-pub following_rows_tell_parts : FollowingRowsTellParts
-following_rows_tell_parts p n j k ls m f h rows g t l way a c e st cl =
-    let i : Instance = instance_of p j in
-    outside_same (rows t) (row_at i f t) (resolution_there i f way e) (on_there i f t way c)
-    (agree_there i (each_is_well_typed p n j k).0 (each_has_rank p n j k) f way a rows m t l (rows_are_the_frames p n j k ls m f h rows g) c e st)

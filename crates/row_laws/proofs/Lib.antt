@@ -14,3 +14,4 @@ pub mod Within
 pub mod OneRow
 pub mod SlotsRead
 pub mod Alone
+pub mod Frames

@@ -1,5 +1,5 @@
 -- Rows that follow from sources with ranks, for the same choices, have the same in all slots that are read.
-use Rattle.std.proofs.Common.{◌≡◌, ℕ, zero, suc, ◌<◌, Bool, true, false, not, cond, ◌&&◌, List, [], ◌∷◌, ◌++◌, refl, ap, ◌∙◌, sym, arith, Some, slice_get}
+use Rattle.std.proofs.Common.{◌≡◌, ℕ, zero, suc, ◌<◌, Bool, true, List, [], ◌∷◌, ◌++◌, refl, ap, ◌∙◌, sym, arith, Some, slice_get}
 use Rattle.std.specs.List.{AllByRecursion}
 use Rattle.lus_meaning.specs.Value.{Value, is}
 use Rattle.lus_meaning.proofs.Lists.{all_from, all_from_both}
@@ -10,7 +10,7 @@ use Rattle.slot_sources.specs.declared.source.Switch.{Switch}
 use Rattle.slot_sources.specs.Source.{Source, always, runs, runs_while, same, given, argument, listed, remembered, starting, held, unread}
 use Rattle.slot_sources.specs.Rows.{is_on, Choices, value_now, brought_next, brought, is_read, Follow, slots_read, reads_now, reads_before}
 use Rattle.slot_sources.specs.Sources.{HasRanks}
-use Rattle.row_laws.specs.OneRow.{IsReadSlot, ReadSlotsAlone, AreSameRows, OneRowFollows}
+use Rattle.row_laws.specs.OneRow.{IsReadSlot, ReadSlotsAlone, OneRowFollows}
 
 module _ (s u : SlotValues) where
   abbrev pub Agree : List ℕ → Type 0

@@ -28,29 +28,18 @@ use Rattle.row_laws.proofs.Running.{Running, shown, switch_on, worth_on}
 abbrev names_of : List Variable → List Name
 names_of vs = map (λ v. v.name.text) vs
 
+outputs_many : (i : Instance) (g : Numbering) → g.place ≡ i → (k : ℕ) (w : Name → Resolution) →
+    length (map w (names_of (component_of (call_instance g.place k)).outputs)) ≡ length (map (λ v. v.sort) (component_of (call_instance i k)).outputs)
+outputs_many i g h k w =
+    mapped_many w (names_of (component_of (call_instance g.place k)).outputs)
+    ∙ mapped_many (λ v. v.name.text) (component_of (call_instance g.place k)).outputs
+    ∙ ap (λ j. length (component_of (call_instance j k)).outputs) h ∙ sym (mapped_many (λ v. v.sort) (component_of (call_instance i k)).outputs)
+
 -- there are as many as there are types
 pub rights_many : (i : Instance) (g : Numbering) → g.place ≡ i → (e : Expression) →
     length (right_resolutions g e) ≡ length (right_sorts i (IsKnown i) e)
-rights_many i g h (call p k f as_) = many_outputs i g h k (λ x. output_resolution g k x)
-  where
-    many_outputs : (i : Instance) (g : Numbering) → g.place ≡ i → (k : ℕ) (w : Name → Resolution) →
-        length (map w (map (λ v. v.name.text) (component_of (call_instance g.place k)).outputs))
-        ≡ length (map (λ v. v.sort) (component_of (call_instance i k)).outputs)
-    many_outputs i g h k w =
-        mapped_many w (names_of (component_of (call_instance g.place k)).outputs)
-        ∙ mapped_many (λ v. v.name.text) (component_of (call_instance g.place k)).outputs
-        ∙ ap (λ j. length (component_of (call_instance j k)).outputs) h
-        ∙ sym (mapped_many (λ v. v.sort) (component_of (call_instance i k)).outputs)
-rights_many i g h (condact p k a f as_ ds) = many_outputs i g h k (λ x. latest_resolution g k (resolution g a) x)
-  where
-    many_outputs : (i : Instance) (g : Numbering) → g.place ≡ i → (k : ℕ) (w : Name → Resolution) →
-        length (map w (map (λ v. v.name.text) (component_of (call_instance g.place k)).outputs))
-        ≡ length (map (λ v. v.sort) (component_of (call_instance i k)).outputs)
-    many_outputs i g h k w =
-        mapped_many w (names_of (component_of (call_instance g.place k)).outputs)
-        ∙ mapped_many (λ v. v.name.text) (component_of (call_instance g.place k)).outputs
-        ∙ ap (λ j. length (component_of (call_instance j k)).outputs) h
-        ∙ sym (mapped_many (λ v. v.sort) (component_of (call_instance i k)).outputs)
+rights_many i g h (call p k f as_) = outputs_many i g h k (λ x. output_resolution g k x)
+rights_many i g h (condact p k a f as_ ds) = outputs_many i g h k (λ x. latest_resolution g k (resolution g a) x)
 rights_many i g h (truth p b) = refl
 rights_many i g h (number p n) = refl
 rights_many i g h (name p x) = refl

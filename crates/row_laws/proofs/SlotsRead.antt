@@ -1,41 +1,30 @@
 -- The sources of a declaration read slots that are read alone.
-use Rattle.std.proofs.Common.{◌≡◌, ℕ, zero, suc, pred, ◌+◌, ◌<◌, Bool, true, false, cond, List, [], ◌∷◌, ◌++◌, map, refl, ap, ◌∙◌, sym, subst, arith, Option, Some, None, slice_get, unwrap_or}
+use Rattle.std.proofs.Common.{◌≡◌, ℕ, true, List, [], ◌∷◌, ◌++◌, map, refl, Option, Some, None, unwrap_or}
 use Rattle.std.specs.List.{AllByRecursion}
 use Rattle.std.specs.Map.{lookup}
 use Rattle.std.specs.Str.{bytes_eq}
-use Rattle.std.proofs.lemmas.Bool.{false≢true}
 use Rattle.lus_tree.specs.Tree.{Name, Variable, Expression, ContractStatement, Component}
-use Rattle.lus_meaning.specs.Scene.{base, Manner, plain, while_true, as_import, Site, Instance, Instances, instance, no_instances, with_instance, component_of, variables, clock_from, clock_of_names, outputs_of}
+use Rattle.lus_meaning.specs.Scene.{Manner, plain, while_true, as_import, Site, Instance, Instances, instance, no_instances, with_instance, component_of, variables, clock_from, clock_of_names, outputs_of}
 use Rattle.lus_meaning.specs.Occurrences.{memories, starts}
 use Rattle.lus_meaning.specs.Program.{in_order}
 use Rattle.lus_meaning.specs.Run.{Equation, equations, inputs_of}
-use Rattle.lus_meaning.specs.Slots.{Cell, beat_cell, name_cell, memory_cell, start_cell, sofar_cell, held_cell, Slot, slot, slots, slots_in, call_slots, contract_cells, own_cells, held_each, held_cells}
+use Rattle.lus_meaning.specs.Slots.{Cell, name_cell, memory_cell, start_cell, Slot, slot, slots, slots_in, call_slots, contract_cells, own_cells, held_each, held_cells}
 use Rattle.lus_meaning.proofs.Lists.{both_parts}
-use Rattle.sys_meaning.specs.Slot.{Place, own, named}
+use Rattle.sys_meaning.specs.Slot.{Place, own, named, spot_of}
 use Rattle.sys_meaning.specs.System.{below_call, number_of}
-use Rattle.slot_values.specs.Resolution.{Resolution}
 use Rattle.slot_values.specs.Resolved.{Numbering, right_resolutions}
-use Rattle.slot_sources.specs.declared.source.Switch.{Switch}
 use Rattle.slot_sources.specs.Source.{Source, always, given, same, listed}
 use Rattle.slot_sources.specs.Rows.{is_read}
 use Rattle.slot_sources.specs.Sources as sources
 use Rattle.slot_sources.specs.Sources.{numbering_of, switch_of, NameSources, paired, equation_sources, name_source, name_sources, beat_source, argument_source, shared_sources, from_call, held_sources, memory_source, start_source, contract_sources, own_sources, sources_in, call_sources, sources_of}
-use Rattle.row_laws.proofs.Lists.{Both, both_append, both_mapped, both_over, found_has}
-
--- what says whether the assumptions were true so far is read by none
-abbrev pub cell_read : Cell → Bool
-cell_read sofar_cell = false
-cell_read beat_cell = true
-cell_read (name_cell v) = true
-cell_read (memory_cell m) = true
-cell_read (start_cell a) = true
-cell_read (held_cell c v d) = true
+use Rattle.row_laws.proofs.Ranking.{spot_read}
+use Rattle.row_laws.proofs.Lists.{Both, both_append, both_over, found_has}
 
 abbrev pub IsReadAs : Slot → Source → Type 0
-IsReadAs x e = is_read e ≡ cell_read x.cell
+IsReadAs x e = is_read e ≡ spot_read (spot_of x.cell)
 
 abbrev CellReadAs : Cell → Source → Type 0
-CellReadAs c e = is_read e ≡ cell_read c
+CellReadAs c e = is_read e ≡ spot_read (spot_of c)
 
 abbrev AreRead : NameSources → Type 0
 AreRead es = AllByRecursion (λ q. is_read q.1 ≡ true) es

@@ -1,5 +1,5 @@
 -- In a row of a run the resolutions of modes have no operation outside 128 bits where what the modes require is within.
-use Rattle.std.proofs.Common.{◌≡◌, ℕ, zero, suc, pred, ◌+◌, ◌<◌, Bool, true, false, cond, get_or, List, [], ◌∷◌, ◌++◌, map, flat_map, slice_index_or, refl, ap, ◌∙◌, sym, subst, arith, Some, None, option_to_list, unwrap_or}
+use Rattle.std.proofs.Common.{◌≡◌, ℕ, zero, suc, pred, ◌<◌, Bool, true, false, cond, get_or, List, [], ◌∷◌, ◌++◌, map, flat_map, slice_index_or, refl, ap, ◌∙◌, sym, subst, arith, Some, None, option_to_list, unwrap_or}
 use Rattle.std.specs.List.{AllByRecursion, list_any}
 use Rattle.std.specs.Map.{lookup}
 use Rattle.lus_tree.specs.declared.expression.Operator.TheVariants.{And}
@@ -24,8 +24,8 @@ use Rattle.sys_meaning.specs.Defaults.{site_at, site_of}
 use Rattle.sys_meaning.specs.Seen.{seen_mode}
 use Rattle.sys_meaning.specs.State.{state_of, reading}
 use Rattle.sys_meaning.specs.System.{below_call, number_of}
-use Rattle.sys_meaning.specs.WellTyped.{IsKnown, IsAmong, IsImport, IsCall, Stands, ClockEnds, FlagFits, StatementsFit, own_keys, count_of, CallsFit, WellTyped}
-use Rattle.sys_meaning.proofs.Forward.{own_fits, calls_fit}
+use Rattle.sys_meaning.specs.WellTyped.{IsKnown, IsAmong, IsImport, IsCall, Stands, ClockEnds, FlagFits, StatementsFit, own_keys, count_of, WellTyped}
+use Rattle.sys_meaning.proofs.Forward.{own_fits}
 use Rattle.sys_meaning.proofs.Shows.{in_any, state_reads}
 use Rattle.sys_meaning.proofs.Whole.{import_beat}
 use Rattle.path_laws.proofs.Main.{each_is_well_typed}

@@ -1,4 +1,4 @@
-use Rattle.row_laws.proofs.Alone.{following_rows_give_values, following_rows_tell_parts}
+use Rattle.row_laws.proofs.Frames.{following_rows_give_values, following_rows_tell_parts}
 use Rattle.row_laws.proofs.laws.following_rows_give_values.Goals as goal
 
 pub returns-clause-values : goal.returns-clause-values

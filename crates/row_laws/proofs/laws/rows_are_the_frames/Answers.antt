@@ -1,4 +1,4 @@
-use Rattle.row_laws.proofs.Alone.{sources_read_slots, rows_are_the_frames}
+use Rattle.row_laws.proofs.Frames.{sources_read_slots, rows_are_the_frames}
 use Rattle.row_laws.proofs.OneRow.{one_row_follows}
 use Rattle.row_laws.proofs.laws.rows_are_the_frames.Goals as goal
 
