@@ -19,7 +19,7 @@ use Rattle.path_laws.proofs.Main.{each_is_well_typed}
 use Rattle.slot_sources.specs.Source.{Source, always}
 use Rattle.slot_sources.specs.Rows.{reads_now, reads_before, slots_read}
 use Rattle.slot_sources.specs.Sources.{sources_of}
-use Rattle.row_laws.specs.OneRow.{IsReadSlot, SourcesReadSlots, AreSameRows, RowsAreTheFrames, on_there, FollowingRowsGiveValues, FollowingRowsTellParts}
+use Rattle.row_laws.specs.OneRow.{IsReadSlot, SourcesReadSlots, AreSameRows, RowsAreTheFrames, DoneSlotsAreTheFrames, on_there, FollowingRowsGiveValues, FollowingRowsTellParts}
 use Rattle.row_laws.proofs.Lists.{Both, some_inner}
 use Rattle.row_laws.proofs.Ranking.{spot_rank, spot_read, Ranking}
 use Rattle.row_laws.proofs.Ranks.{sources_have_ranks}
@@ -30,7 +30,7 @@ use Rattle.slot_values.specs.Evaluated.{SlotValues}
 use Rattle.evaluation_laws.specs.Rows.{row_at, AreCalls, scene_there, resolution_there}
 use Rattle.evaluation_laws.proofs.RowFrames.{rows_give_values}
 use Rattle.row_laws.proofs.Running.{value_there}
-use Rattle.row_laws.proofs.OneRow.{Agree, worth_same, outside_same, one_row_follows}
+use Rattle.row_laws.proofs.OneRow.{Agree, worth_same, outside_same, one_row_follows, done_same}
 use Rattle.row_laws.proofs.Follow.{rows_follow}
 use Rattle.row_laws.proofs.SlotsRead.{IsReadAs, read_alike}
 use Rattle.row_laws.proofs.Alone.{SourceReads, Seeing, reads_there, sources_reading}
@@ -118,6 +118,11 @@ pub rows_are_the_frames : RowsAreTheFrames
 rows_are_the_frames p c n j ls m f h rows g =
     one_row_follows (sources_of (instance_of p n)) (sources_have_ranks p c n j) (sources_read_slots p c n j) (choices_of ls (instance_of p n)) m rows
     (λ t. row_at (instance_of p n) f t) g (rows_follow p c n j ls m f h)
+
+pub done_slots_are_the_frames : DoneSlotsAreTheFrames
+done_slots_are_the_frames p c n j ls m f h rows t l g done d =
+    done_same (sources_of (instance_of p n)) (sources_have_ranks p c n j) (sources_read_slots p c n j) (choices_of ls (instance_of p n)) t rows
+    (λ t. row_at (instance_of p n) f t) g (λ k e a z u y. rows_follow p c n j ls m f h k e a z u (omega (arith, y, l))) done d
 
 -- ---- expressions
 

@@ -2,15 +2,15 @@
 use Rattle.std.proofs.Common.{◌≡◌, ℕ, zero, suc, ◌<◌, Bool, true, List, [], ◌∷◌, ◌++◌, refl, ap, ◌∙◌, sym, arith, Some, slice_get}
 use Rattle.std.specs.List.{AllByRecursion}
 use Rattle.lus_meaning.specs.Value.{Value, is}
-use Rattle.lus_meaning.proofs.Lists.{all_from, all_from_both}
+use Rattle.lus_meaning.proofs.Lists.{all_from, all_from_both, all_from_three}
 use Rattle.lus_meaning.proofs.Now.{left_part, right_part}
 use Rattle.slot_values.specs.Resolution.{Resolution, known, slot, negated, opposite, combined, chosen, started, sampled, merged, latest}
 use Rattle.slot_values.specs.Evaluated.{SlotValues, worth, outside}
 use Rattle.slot_sources.specs.declared.source.Switch.{Switch}
 use Rattle.slot_sources.specs.Source.{Source, always, runs, runs_while, same, given, argument, listed, remembered, starting, held, unread}
-use Rattle.slot_sources.specs.Rows.{is_on, Choices, value_now, brought_next, brought, is_read, Follow, slots_read, reads_now, reads_before}
+use Rattle.slot_sources.specs.Rows.{is_on, Choices, value_now, outside_now, brought_next, outside_next, brought, is_read, Follow, slots_read, reads_now, reads_before}
 use Rattle.slot_sources.specs.Sources.{HasRanks}
-use Rattle.row_laws.specs.OneRow.{IsReadSlot, ReadSlotsAlone, OneRowFollows}
+use Rattle.row_laws.specs.OneRow.{IsReadSlot, ReadSlotsAlone, OneRowFollows, ResolutionsBySlotsRead, SourcesBySlotsRead, IsDone}
 
 module _ (s u : SlotValues) where
   abbrev pub Agree : List ℕ → Type 0
@@ -99,6 +99,46 @@ module _ (s u : SlotValues) where
   next_same k (held b o d) h a = rw (a.0, a.1.0, h) refl
   next_same k unread h a = refl
 
+  outside_where : (w : Switch) (e : Resolution) → s w.slot ≡ u w.slot → Agree (slots_read e) → outside s (is_on s w) e ≡ outside u (is_on u w) e
+  outside_where w e h a = outside_same e (is_on s w) a ∙ ap (λ o. outside u o e) (on_same w h)
+
+  outside_now_same : (e : Source) → Agree (reads_now e) → outside_now s e ≡ outside_now u e
+  outside_now_same always a = refl
+  outside_now_same (runs w) a = refl
+  outside_now_same (runs_while w e) a = outside_where w e a.0 a.1
+  outside_now_same (same j) a = refl
+  outside_now_same (given w e) a = outside_where w e a.0 a.1
+  outside_now_same (argument b w e) a = outside_where w e a.1.0 a.1.1
+  outside_now_same (listed w) a = refl
+  outside_now_same (remembered w e) a = refl
+  outside_now_same (starting w) a = refl
+  outside_now_same (held b o d) a = refl
+  outside_now_same unread a = refl
+
+  outside_next_same : (e : Source) → Agree (reads_before e) → outside_next s e ≡ outside_next u e
+  outside_next_same always a = refl
+  outside_next_same (runs w) a = refl
+  outside_next_same (runs_while w e) a = refl
+  outside_next_same (same j) a = refl
+  outside_next_same (given w e) a = refl
+  outside_next_same (argument b w e) a = refl
+  outside_next_same (listed w) a = refl
+  outside_next_same (remembered w e) a = outside_where w e a.0 a.1
+  outside_next_same (starting w) a = refl
+  outside_next_same (held b o d) a = refl
+  outside_next_same unread a = refl
+
+pub resolutions_by_slots_read : ResolutionsBySlotsRead
+resolutions_by_slots_read s u on e a = (worth_same s u e on a, outside_same s u e on a)
+
+pub sources_by_slots_read : SourcesBySlotsRead
+sources_by_slots_read s u e = record {
+  values = λ a v. now_same s u v v e refl a;
+  operations = λ a. outside_now_same s u e a;
+  brought = λ a k h. next_same s u k e h a;
+  operations_before = λ a. outside_next_same s u e a;
+}
+
 module _ (c : Choices) (rows others : ℕ → SlotValues) (k : ℕ) where
   brought_zero : (e : Source) → brought c rows k zero e ≡ brought c others k zero e
   brought_zero always = refl
@@ -154,6 +194,31 @@ module _ (es : List Source) (r : HasRanks es) (alone : ReadSlotsAlone es) (c : C
       let before : SameAt t = all_same t (omega (arith, l)) in
       at_instant (suc t) l (λ k e h z. brought_later c rows others k t e (before k e h z)
       (all_from (IsReadSlot es) (λ j. rows t j ≡ others t j) (λ j y. before j y.0 y.1 y.2) (reads_before e) (alone k e h).1))
+
+-- ---- a row in the making
+
+module _ (es : List Source) (r : HasRanks es) (alone : ReadSlotsAlone es) (c : Choices) (n : ℕ) (rows others : ℕ → SlotValues)
+    (follow : Follow es c n rows) (follow' : Follow es c (suc n) others) (done : ℕ → Bool) (is_done : IsDone es c n rows done) where
+  earlier : (t : ℕ) → t < n → (k : ℕ) (e : Source) → slice_get es k ≡ Some e → is_read e ≡ true → rows t k ≡ others t k
+  earlier t l = all_same es r alone c n rows others follow (λ k e h z t l. follow' k e h z t (omega (arith, l))) t l
+
+  brought_here : (t : ℕ) → t ≡ n → (k : ℕ) (e : Source) → slice_get es k ≡ Some e → is_read e ≡ true → brought c rows k t e ≡ brought c others k t e
+  brought_here zero q k e h z = brought_zero c rows others k e
+  brought_here (suc t) q k e h z =
+      brought_later c rows others k t e (earlier t (omega (arith, q)) k e h z)
+      (all_from (IsReadSlot es) (λ j. rows t j ≡ others t j) (λ j y. earlier t (omega (arith, q)) j y.0 y.1 y.2) (reads_before e) (alone k e h).1)
+
+  done_by_rank : (m k : ℕ) (e : Source) → r.rank k < m → slice_get es k ≡ Some e → is_read e ≡ true → done k ≡ true → rows n k ≡ others n k
+  done_by_rank zero k e q h z d = absurd (omega (arith, q))
+  done_by_rank (suc m) k e q h z d =
+      (is_done k e h z d).0
+      ∙ now_same (rows n) (others n) (brought c rows k n e) (brought c others k n e) e (brought_here n refl k e h z)
+      (all_from_three (λ j. r.rank j < r.rank k) (IsReadSlot es) (λ j. done j ≡ true) (λ j. rows n j ≡ others n j)
+      (λ j o y i. done_by_rank m j y.0 (omega (arith, o, q)) y.1 y.2 i) (reads_now e) (r.above k e h) (alone k e h).0 (is_done k e h z d).1)
+      ∙ sym (follow' k e h z n (omega arith))
+
+  pub done_same : (k : ℕ) (e : Source) → slice_get es k ≡ Some e → is_read e ≡ true → done k ≡ true → rows n k ≡ others n k
+  done_same k e h z d = done_by_rank (suc (r.rank k)) k e (omega arith) h z d
 
 pub one_row_follows : OneRowFollows
 one_row_follows es r alone c n rows others f g t l = all_same es r alone c n rows others f g t l

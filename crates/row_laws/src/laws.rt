@@ -1,6 +1,7 @@
 //! The laws of rows and sources.
 
 ghost use Rattle.row_laws.specs.Laws.{EachSlotHasASource, RowsFollow, SourcesHaveRanks};
+ghost use Rattle.row_laws.specs.OneRow.{DoneSlotsAreTheFrames, ResolutionsBySlotsRead, SourcesBySlotsRead};
 ghost use Rattle.row_laws.specs.OneRow.{FollowingRowsGiveValues, FollowingRowsTellParts, OneRowFollows, RowsAreTheFrames, SourcesReadSlots};
 ghost use Rattle.row_laws.specs.Within.{ModesStayWithin, RowsTellParts};
 
@@ -24,6 +25,15 @@ pub fn rows_are_the_frames()
     ensures frames { RowsAreTheFrames }
     ensures read { SourcesReadSlots }
     ensures one { OneRowFollows }
+{}
+
+/// Of a row in the making, behind rows that follow: the slots that are done, where each has what its source says and
+/// reads slots that are done, are as in the row of the frame. What a resolution or a source says is decided by the slots
+/// that it reads.
+pub fn done_slots_are_the_frames()
+    ensures frames { DoneSlotsAreTheFrames }
+    ensures resolutions { ResolutionsBySlotsRead }
+    ensures sources { SourcesBySlotsRead }
 {}
 
 /// So in such rows the resolution of each expression, of the frame at the end of each way of calls, is worth the
