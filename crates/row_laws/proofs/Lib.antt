@@ -1,0 +1,17 @@
+pub mod Lists
+pub mod Running
+pub mod Rights
+pub mod Given
+pub mod Own
+pub mod Follow
+pub mod Counted
+pub mod Ranking
+pub mod Needed
+pub mod ModesNeeded
+pub mod Ranks
+pub mod ModeKeys
+pub mod Within
+pub mod OneRow
+pub mod SlotsRead
+pub mod Alone
+pub mod Frames
