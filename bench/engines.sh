@@ -4,29 +4,16 @@
 # Run at the top of the repository. Makes nodes of 5 to 50 counters, each with a property that holds and one that breaks
 # after at most five instants, a counter that breaks a property at instant 200, and a shift register of ten
 # steps, whose property is inductive with ten states alone. Prints the seconds of a proof and, where valgrind
-# is there, its instructions. Ends with status 1 where an answer is not the one worked out by hand. The word `quick`
-# leaves 25 and 50 counters and the late break out.
+# is there, its instructions; and where z3 is there the seconds that it takes for the queries of the same turns on
+# the counters, written in SMT-LIB: at each instant up to the break, and by induction with as many states. Ends with status 1
+# where an answer is not the one worked out by hand. The word `quick` leaves 25 and 50 counters and the late break out.
 set -eu
 
 top=$(pwd)
 program=$top/crates/kind/out/kind
 work=$(mktemp -d)
 trap 'rm -rf "$work"' EXIT
-
-# `$1` counters.
-counters() {
-    awk -v count="$1" 'BEGIN {
-        printf "node main(t : bool) returns ("
-        for (i = 1; i <= count; i++) printf "%sx%d", (i > 1 ? ", " : ""), i
-        print " : int);\nlet"
-        for (i = 1; i <= count; i++) {
-            c = 1 + (i * i) % 5
-            printf "  x%d = 0 -> if t and pre x%d < %d then pre x%d + 1 else pre x%d;\n", i, i, c, i, i
-            printf "  --%%PROPERTY \"p%d\" x%d <= %d;\n  --%%PROPERTY \"q%d\" x%d < %d;\n", i, i, c, i, i, c
-        }
-        print "tel"
-    }'
-}
+. bench/counters.sh
 
 # A shift register of ten steps that is never fed.
 register() {
@@ -37,11 +24,12 @@ register() {
     }'
 }
 
-# The seconds and the instructions of a proof with these words, whose last line is to be `$1`.
+# The seconds and the instructions of a proof with these words, whose last line is to be `$1`, and behind them `$3`.
 row() {
     wanted=$1
     name=$2
-    shift 2
+    other=$3
+    shift 3
     start=$(date +%s.%N)
     "$program" prove "$@" >"$work/printed" || true
     end=$(date +%s.%N)
@@ -51,19 +39,19 @@ row() {
         count=$(valgrind --tool=callgrind --callgrind-out-file="$work/counts" "$program" prove "$@" 2>&1 >"$work/again" |
             awk '/Collected/ { print $4 }' || true)
     fi
-    echo "$name $start $end $count" | awk '{ printf "%s %.2f %s\n", $1, $3 - $2, $4 }'
+    echo "$name $start $end $count $other" | awk '{ printf "%s %.2f %s %s\n", $1, $3 - $2, $4, $5 }'
 }
 
 # The program is built where it is missing or older than its sources.
 ./kind prove examples/debounce.lus >/dev/null || [ $? -eq 1 ]
 sizes="5 10 25 50"
 if [ "${1-}" = quick ]; then sizes="5 10"; fi
-echo "source seconds instructions"
+echo "source seconds instructions z3_seconds"
 for count in $sizes; do
     counters $count >"$work/counters"
-    row "summary valid $count falsifiable $count unknown 0" "counters_$count" "$work/counters"
+    row "summary valid $count falsifiable $count unknown 0" "counters_$count" "$(rival $count 20)" "$work/counters"
 done
 printf 'node main() returns (n : int);\nlet\n  n = 0 -> pre n + 1;\n  --%%PROPERTY "below" n < 200;\ntel\n' >"$work/late"
-[ "${1-}" = quick ] || row "summary valid 0 falsifiable 1 unknown 0" breaks_at_200 --depth 200 "$work/late"
+[ "${1-}" = quick ] || row "summary valid 0 falsifiable 1 unknown 0" breaks_at_200 "$(rival late 200)" --depth 200 "$work/late"
 register >"$work/register"
-row "summary valid 1 falsifiable 0 unknown 0" register_10 "$work/register"
+row "summary valid 1 falsifiable 0 unknown 0" register_10 - "$work/register"

@@ -1,18 +1,20 @@
 #!/bin/sh
-# Instructions that a proof takes of a property of a ring of latches.
+# Instructions that a proof takes of a property of a ring of latches, and of those of counters.
 #
 # Run at the top of the repository. Makes rings of 25 to 200 latches, one of which is set at first and
 # hands its value on where an input says so, with the property that at most one is set, and counts the
 # instructions of the program that proves it, where valgrind is there, less those of a run on a node of
 # one equation. Ends with status 1 where the property is not shown, or where a ring of twice as many
 # latches takes five times as many instructions or more: the search looks at more clauses, and
-# each layer of the query is wider.
+# each layer of the query is wider. Behind them 5 to 50 counters at the depth 1, with the seconds that
+# z3 takes for the same queries, where it is there. The word `latches` leaves the counters out.
 set -eu
 
 top=$(pwd)
 program=$top/crates/kind/out/kind
 work=$(mktemp -d)
 trap 'rm -rf "$work"' EXIT
+. bench/counters.sh
 
 # A ring of `$1` latches.
 ring_of() {
@@ -38,10 +40,10 @@ ring_of() {
     }'
 }
 
-# The instructions of the program on the source `$1`.
+# The instructions of the program on these words.
 counted() {
     valgrind --tool=callgrind --callgrind-out-file="$work/counts" \
-        "$program" prove "$1" >"$work/printed" 2>"$work/log" || true
+        "$program" prove "$@" >"$work/printed" 2>"$work/log" || true
     awk '/Collected/ { print $4 }' "$work/log"
 }
 
@@ -64,5 +66,23 @@ for latches in 25 50 100 200; do
         printf "%d %d %.1f %s\n", n, c, c / n, p ? sprintf("%.3f", c / p) : "-"
         if (p && c / p >= 5) exit 1
     }' || { echo "too slow"; exit 1; }
+    earlier=$count
+done
+
+[ "${1-}" = latches ] && exit 0
+echo "counters instructions each growth seconds z3_seconds"
+earlier=0
+for number in 5 10 25 50; do
+    counters $number >"$work/counters"
+    from=$(date +%s.%N)
+    "$program" prove --depth 1 "$work/counters" >"$work/printed" || true
+    to=$(date +%s.%N)
+    # Counter i stops at 1 + i * i mod 5, so the property below its end breaks within the depth where that is 1.
+    wanted=$(awk -v n=$number 'BEGIN { b = int(n / 5); print "summary valid " n " falsifiable " b " unknown " n - b }')
+    [ "$(tail -n 1 "$work/printed")" = "$wanted" ] || { tail -n 1 "$work/printed"; echo "not the answer"; exit 1; }
+    count=$(($(counted --depth 1 "$work/counters") - base))
+    awk -v n=$number -v c="$count" -v p="$earlier" -v from="$from" -v to="$to" -v z="$(rival $number 1)" 'BEGIN {
+        printf "%d %d %.1f %s %.2f %s\n", n, c, c / n, p ? sprintf("%.3f", c / p) : "-", to - from, z
+    }'
     earlier=$count
 done

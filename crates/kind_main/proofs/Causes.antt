@@ -1,8 +1,8 @@
 -- The causes that a book has.
-use Rattle.std.proofs.Common.{rules, arith, ◌≡◌, ◌≢◌, ◌==◌, ◌&&◌, ◌||◌, ℕ, zero, suc, Bool, true, false, List, [], ◌∷◌, Option, Some, None, refl, subst, slice_get, take}
+use Rattle.std.proofs.Common.{rules, arith, ◌≡◌, ◌≢◌, ◌==◌, ◌&&◌, ◌||◌, ℕ, suc, Bool, true, false, List, [], ◌∷◌, Option, Some, None, refl, subst, slice_get, take}
 use Rattle.sys_terms.specs.View.{Machine}
 use Rattle.board_core.specs.declared.plan.Plan.{Plan}
-use Rattle.board_core.specs.Entries.{Why, Grounds, Claim, proved, broken, stuck, spent, Posting, AreSound, IsWhy, IsTrueAfter}
+use Rattle.board_core.specs.Entries.{Why, Grounds, Claim, proved, broken, stuck, spent, Posting, AreSound, IsTrueAfter}
 use Rattle.board_core.specs.Seats.{has_cause, is_spent}
 use Rattle.board_core.specs.Verdicts.{cause_of, cause_in, cause_if, or_later}
 use Rattle.kind_main.specs.Causes.{IsTrueCause}

@@ -25,7 +25,7 @@ use Rattle.trace_laws.proofs.Named.{node_component}
 use Rattle.kind_main.specs.declared.options.Options.{Options}
 use Rattle.kind_main.specs.Options.{numbers_of, options_plan}
 use Rattle.kind_main.specs.Causes.{Because, IsTrueCause}
-use Rattle.kind_main.specs.Verdicts.{Verdict, valid, falsifiable, unknown, AreTrueCauses, IsTrueVerdict, AreTrueVerdicts, IsAnalysed}
+use Rattle.kind_main.specs.Verdicts.{Verdict, valid, falsifiable, unknown, IsTrueVerdict, AreTrueVerdicts, IsAnalysed}
 use Rattle.kind_main.specs.Complete.{IsUncutOf, IsUncut, IsFalsifiable, IsValid, IsComplete, AreComplete}
 
 -- ---- a cause of an engine
@@ -36,7 +36,7 @@ record Found (P : Because → Type 0) (e : ℕ) : Type 0 where
   pub engine : cause.engine ≡ e
   pub holds : P cause
 
-engines : List Because → List ℕ
+abbrev engines : List Because → List ℕ
 engines bs = map (λ (b : Because). b.engine) bs
 
 found-at : (P : Because → Type 0) (e : ℕ) (bs : List Because) (k : ℕ) → k < length (engines bs) → slice_index_or (engines bs) k e ≡ e
@@ -72,13 +72,13 @@ never-breaks i q f t h b =
 
 module _ (whole : WholeCausesAreDepths) (bounded : DepthsHold) (induction : DepthOfStep) (inductive : InductiveHold)
     (o : Options) (p : Program) (d : Component) (a : IsAnalysed p d) (fit : IsFit (system_of (instance_of p d))) where
-  i : Instance
+  abbrev pub i : Instance
   i = instance_of p d
 
-  m : Machine
+  abbrev pub m : Machine
   m = system_of i
 
-  plan : Plan
+  abbrev pub plan : Plan
   plan = options_plan o
 
   -- the engine's cause is the depth
@@ -127,10 +127,11 @@ module _ (whole : WholeCausesAreDepths) (bounded : DepthsHold) (induction : Dept
   complete-from k [] [] at h = tt
   complete-from k [] (v ∷ vs) at h = tt
   complete-from k (q ∷ qs) [] at h = tt
-  complete-from k (q ∷ qs) (v ∷ vs) at h =
-      (complete-one k q (subst (λ j. slice_get (properties i) j ≡ Some q) (omega arith) (at 0 q refl)) v h.0,
-       complete-from (suc k) qs vs
-       (λ j r e. subst (λ n. slice_get (properties i) n ≡ Some r) (omega arith) (at (suc j) r e)) h.1)
+  complete-from k (q ∷ qs) (v ∷ vs) at h = (
+    complete-one k q (subst (λ j. slice_get (properties i) j ≡ Some q) (omega arith) (at 0 q refl)) v h.0,
+    complete-from (suc k) qs vs
+        (λ j r e. subst (λ n. slice_get (properties i) n ≡ Some r) (omega arith) (at (suc j) r e)) h.1,
+  )
 
   pub complete : (vs : List Verdict) → AreTrueVerdicts o p d 0 (properties i) vs → AreComplete o i 0 (properties i) vs
   complete vs h =

@@ -1,5 +1,5 @@
 -- Verdicts on properties, one after the other, and their lines.
-use Rattle.std.proofs.Common.{◌≡◌, ◌≤◌, ◌<◌, ◌+◌, ℕ, zero, suc, List, [], ◌∷◌, ◌++◌, length, Some, refl, sym, ap, ◌∙◌, subst, arith, slice_get, get_or, take, drop, map, add-one}
+use Rattle.std.proofs.Common.{◌≡◌, ◌≤◌, ◌<◌, ◌+◌, ℕ, zero, suc, List, [], ◌∷◌, ◌++◌, length, Some, refl, ap, ◌∙◌, subst, arith, slice_get, take}
 use Rattle.std.proofs.lemmas.List.{take_all}
 use Rattle.lus_tree.specs.Tree.{Program, Component}
 use Rattle.lus_meaning.specs.Program.{instance_of}

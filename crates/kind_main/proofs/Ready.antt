@@ -1,5 +1,5 @@
 -- The system of a node or function that is analysed is one whose properties can be decided.
-use Rattle.std.proofs.Common.{◌≡◌, ◌<◌, ◌≤◌, ◌+◌, ◌^◌, ℕ, suc, arith, length}
+use Rattle.std.proofs.Common.{◌<◌, ◌≤◌, ◌^◌, ℕ, arith, length}
 use Rattle.lus_tree.specs.Tree.{Program, Component}
 use Rattle.lus_meaning.specs.ClockFaults.{components}
 use Rattle.lus_meaning.specs.Program.{instance_of}

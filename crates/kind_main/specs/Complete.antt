@@ -1,5 +1,5 @@
 -- What is decided: where an engine went as far as the depth says, what it can decide up to there is decided.
-use Rattle.std.specs.Prelude.{◌≡◌, ◌≤◌, ℕ, suc, List, [], ◌∷◌, Contains}
+use Rattle.std.specs.Prelude.{◌≡◌, ◌≤◌, ℕ, suc, List, ◌∷◌, Contains}
 use Rattle.std.specs.List.{AllByRecursion}
 use Rattle.lus_meaning.specs.Frame.{Frame}
 use Rattle.lus_meaning.specs.Scene.{Instance}

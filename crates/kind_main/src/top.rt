@@ -38,7 +38,8 @@ pub fn kind_top<H: Shelf, K: Sink>(
     out: &mut K,
 ) -> Status
     // A proof, 0, 1 and 4: the file holds a source, and the lines say what is so of each of its properties: that it
-    // holds, by which trace it breaks, or why neither was found.
+    // holds, by which trace it breaks, or why neither was found. Where an engine was not cut short, neither was to be
+    // found up to the depth.
     ensures proved { (file : List ℕ) (options : Choices) → AreProve (map string_bytes words.now) file options
         → IsProofCode result.code
         → IsProofDone options (H.told shelf.old file) (K.written out.old) (K.written out.new) result.code }

@@ -1,7 +1,4 @@
-use Rattle.std.proofs.Common.{◌≡◌, ◌<◌, None, ap, ◌∙◌, refl, sym, length}
-use Rattle.std.specs.Prelude.{option_map}
-use Rattle.lus_tree.specs.Lookup.{node_at, nodes_of}
-use Rattle.lus_tree.specs.View.{node_view}
+use Rattle.std.proofs.Common.{None, refl}
 use Rattle.lus_checked.specs.Program.{main_of, tree_of}
 use Rattle.kind_main.proofs.Proofs.{some_node}
 use Rattle.kind_main.proofs.proving.main_node.Goals as goal
