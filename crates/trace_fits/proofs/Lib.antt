@@ -1,0 +1,4 @@
+mod Keys
+mod Seated
+mod Room
+mod Fits
