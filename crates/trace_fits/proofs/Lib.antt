@@ -2,3 +2,4 @@ mod Keys
 mod Seated
 mod Room
 mod Fits
+mod Chosen

@@ -4,3 +4,4 @@ pub mod Views
 pub mod Tables
 pub mod Given
 pub mod Refused
+pub mod Walked

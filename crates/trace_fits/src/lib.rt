@@ -8,6 +8,7 @@ mod fitting;
 mod listable;
 mod place;
 mod seats;
+mod streams;
 mod table;
 
 pub use fault::FitFault;
