@@ -32,14 +32,14 @@ use Rattle.trace_fits.specs.Given.{IsSlotted, ListedPlace, given_at, place_in, s
 use Rattle.trace_fits.specs.Refused.{Finds, IsMisfit}
 use Rattle.trace_fits.specs.Slotted.{Slotted}
 use Rattle.trace_fits.specs.Views.{fitted_at, listable_view, seats_view, slotted_view}
-use Rattle.trace_fits.specs.declared.listable.Listable.{Listable as CodeListable}
+use Rattle.trace_fits.specs.declared.permitted.Listable.{Listable as CodeListable}
 use Rattle.trace_fits.proofs.Keys.{self_place}
 use Rattle.trace_fits.proofs.Room.{as_many, none_seated}
 use Rattle.trace_fits.proofs.Seated.{IsFull, all_given, found_by, lines_so, tests_one_by_one, values_are}
 
 -- ---- the named node is declared
 
-node_declared : (p : Program) (x : Name) (d : Component) → first_named x (nodes_of p) ≡ Some d → Contains (components p) d
+pub node_declared : (p : Program) (x : Name) (d : Component) → first_named x (nodes_of p) ≡ Some d → Contains (components p) d
 node_declared [] x d e = absurd (none_some d e)
 node_declared (declared_constant c ∷ ds) x d e = node_declared ds x d e
 node_declared (declared_node n ∷ ds) x d e = go (bytes_eq x n.name.text) e (node_declared ds x d)

@@ -15,7 +15,7 @@ use Rattle.sys_meaning.proofs.Tracing.{same_subjects, self_subject, self_way}
 use Rattle.lus_meaning.specs.declared.trace.PlacedValue.{PlacedValue as CodePlacedValue}
 use Rattle.lus_meaning.specs.TraceView.{entry_view, values_view}
 use Rattle.sys_meaning.proofs.Follows.{none_some}
-use Rattle.trace_fits.specs.declared.listable.Listable.{Listable as CodeListable}
+use Rattle.trace_fits.specs.declared.permitted.Listable.{Listable as CodeListable}
 use Rattle.trace_fits.specs.declared.place.Subject.{Subject as CodeSubject}
 use Rattle.trace_fits.specs.declared.place.Subject.TheVariants.{Name, First}
 use Rattle.trace_fits.specs.declared.place.Place.{Place}

@@ -3,3 +3,7 @@ mod Seated
 mod Room
 mod Fits
 mod Chosen
+mod Walks
+mod Declared
+mod Steps
+mod Named

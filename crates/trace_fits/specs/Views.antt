@@ -2,13 +2,16 @@
 use Rattle.std.specs.Prelude.{ℕ, List, map, Option, option_map}
 use Rattle.std.specs.Borrow.{Bor}
 use Rattle.indexmap.specs.IndexMap.{IndexMap, get_by}
+use Rattle.lus_tree.specs.declared.declaration.Node.{Node}
+use Rattle.lus_tree.specs.Tree.{Component}
+use Rattle.lus_tree.specs.View.{node_view}
 use Rattle.lus_meaning.specs.declared.trace.PlacedValue.{PlacedValue as CodePlacedValue}
 use Rattle.lus_meaning.specs.Value.{Value}
 use Rattle.lus_meaning.specs.Trace.{Subject, of_name, of_first}
 use Rattle.lus_meaning.specs.TraceView.{values_view}
 use Rattle.lus_meaning.specs.Fits.{Listable, same_place}
 use Rattle.trace_fits.specs.declared.fitted.Fitted.{Fitted}
-use Rattle.trace_fits.specs.declared.listable.Listable.{Listable as CodeListable}
+use Rattle.trace_fits.specs.declared.permitted.Listable.{Listable as CodeListable}
 use Rattle.trace_fits.specs.declared.place.Subject.{Subject as CodeSubject}
 use Rattle.trace_fits.specs.declared.place.Subject.TheVariants.{Name, First}
 use Rattle.trace_fits.specs.declared.place.Place.{Place}
@@ -39,6 +42,11 @@ slotted_seen o = option_map (λ s. slotted_view s.now) o
 -- what a table has for a place
 abbrev pub found_at : {S : Type 0} → IndexMap Place (Bor CodeListable) S → List ℕ → Subject → Option Slotted
 found_at m path x = slotted_seen (get_by (λ k. same_place k.way.now (subject_view k.what) path x) m)
+
+-- ---- nodes
+
+abbrev pub node_seen : Option (Bor Node) → Option Component
+node_seen o = option_map (λ n. node_view n.now) o
 
 -- ---- what is listed
 

@@ -9,7 +9,7 @@ ghost use Rattle.trace_fits.specs.Filling.{are_given, filled, is_given, is_seate
 ghost use Rattle.trace_fits.specs.Tables.{listables_in};
 ghost use Rattle.trace_fits.specs.Views.{listable_view, seats_view, subject_view};
 
-use crate::listable::Listable;
+use crate::permitted::Listable;
 use crate::place::{Place, Subject};
 use crate::table::ListableTable;
 use lus_meaning::{PlacedValue, Spot, Trace, TraceLine, Value};

@@ -2,18 +2,21 @@
 #![tactic(auto)]
 
 mod fault;
-mod fit;
 mod fitted;
 mod fitting;
-mod listable;
+mod listing;
+mod permitted;
 mod place;
+mod program_fit;
 mod seats;
 mod streams;
 mod table;
+mod walk;
 
 pub use fault::FitFault;
-pub use fit::fit_listed;
 pub use fitted::Fitted;
-pub use listable::Listable;
+pub use listing::listable;
+pub use permitted::Listable;
 pub use place::{Place, Subject};
+pub use program_fit::{fit, fit_listed};
 pub use table::ListableTable;

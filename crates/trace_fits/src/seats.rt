@@ -5,7 +5,7 @@ ghost use Rattle.trace_fits.specs.Filling.{no_seats, seats_needed};
 ghost use Rattle.trace_fits.specs.Views.{seats_view, slotted_view};
 
 use crate::fitting::Seats;
-use crate::listable::Listable;
+use crate::permitted::Listable;
 use std::alloc::{AllocError, Global};
 
 /// How many slots there have to be.

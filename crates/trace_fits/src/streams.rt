@@ -8,7 +8,7 @@ ghost use Rattle.sys_texts.specs.Views.{sight_view};
 ghost use Rattle.trace_fits.specs.Views.{slotted_view};
 ghost use Rattle.trace_fits.specs.Walked.{free_listed, is_chosen, memories_listed, memory_listed, name_listed, stream_listed, streams_listed};
 
-use crate::listable::Listable;
+use crate::permitted::Listable;
 use crate::place::Subject;
 use lus_limits::Way;
 use lus_tree::Param;

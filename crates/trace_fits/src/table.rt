@@ -7,7 +7,7 @@ ghost use Rattle.lus_meaning.specs.Fits.{same_place};
 ghost use Rattle.trace_fits.specs.Slotted.{slotted_at};
 ghost use Rattle.trace_fits.specs.Views.{found_at, slotted_seen, slotted_view, subject_view};
 
-use crate::listable::Listable;
+use crate::permitted::Listable;
 use crate::place::Place;
 use indexmap::IndexMap;
 use std::alloc::{AllocError, Global};

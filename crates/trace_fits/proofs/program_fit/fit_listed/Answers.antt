@@ -5,7 +5,7 @@ use Rattle.trace_fits.specs.Filling.{seats_needed}
 use Rattle.trace_fits.specs.Views.{slotted_view}
 use Rattle.trace_fits.proofs.Fits.{fits, form, given_so, listables_seen}
 use Rattle.trace_fits.proofs.Room.{room_for}
-use Rattle.trace_fits.proofs.fit.fit_listed.Goals as goal
+use Rattle.trace_fits.proofs.program_fit.fit_listed.Goals as goal
 
 pub returns : goal.returns
 returns c =
