@@ -1,5 +1,5 @@
 -- What may be listed of a frame itself by its table is what the definition lists.
-use Rattle.std.proofs.Common.{◌≡◌, ℕ, zero, suc, Bool, true, false, cond, not, ◌&&◌, ◌||◌, List, [], ◌∷◌, ◌++◌, map, flat_map, append_assoc, Some, refl, sym, ap, ◌∙◌, subst}
+use Rattle.std.proofs.Common.{◌≡◌, ℕ, suc, Bool, true, false, cond, not, ◌&&◌, ◌||◌, List, [], ◌∷◌, ◌++◌, map, flat_map, append_assoc, Some, refl, sym, ap, ◌∙◌, subst}
 use Rattle.std.specs.Prelude.{is_none}
 use Rattle.std.specs.List.{AllByRecursion, list_any}
 use Rattle.std.specs.Str.{bytes_eq}
@@ -13,12 +13,11 @@ use Rattle.lus_meaning.specs.Scene.{contract_statements, ghosts, variables}
 use Rattle.lus_meaning.specs.Trace.{is_defined, free_names}
 use Rattle.lus_meaning.specs.WellMade.{AreDistinct}
 use Rattle.lus_meaning.proofs.Exists.{self_bytes}
-use Rattle.lus_meaning.proofs.Lists.{all_from, all_from_both, append_none, both_parts}
+use Rattle.lus_meaning.proofs.Lists.{all_from, all_from_both, append_none}
 use Rattle.rule_laws.proofs.Lists.{other_bytes}
 use Rattle.sys_meaning.proofs.Tracing.{any_left}
 use Rattle.sys_conditions.specs.Named.{place_in, right_of}
-use Rattle.sys_tables.specs.Tabled.{Named, named_stream, texts_of}
-use Rattle.trace_fits.specs.Slotted.{Slotted}
+use Rattle.sys_tables.specs.Tabled.{named_stream, texts_of}
 use Rattle.trace_fits.specs.Walked.{is_chosen, name_listed, streams_listed}
 
 -- ---- truth

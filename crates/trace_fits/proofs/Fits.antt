@@ -1,6 +1,6 @@
 -- A trace fits exactly where its lines fit by slots, and then each slot has what they list of it.
 use Rattle.std.proofs.Common.{◌≡◌, ℕ, zero, suc, ◌<◌, Bool, true, false, cond, ◌&&◌, List, [], ◌∷◌, ◌++◌, map, length, Option, Some, None, option_map, is_some, refl, sym, ap, ◌∙◌, subst, arith, Result, Ok, Err}
-use Rattle.std.specs.Prelude.{Contains, nat_le, slice_get, IfErr, IfOk, OnOk, get_or}
+use Rattle.std.specs.Prelude.{Contains, nat_le, slice_get, IfErr, IfOk, OnOk}
 use Rattle.std.specs.List.{AllByRecursion, list_all}
 use Rattle.std.specs.Option.{option_map_or}
 use Rattle.std.specs.Str.{bytes_eq}
@@ -22,7 +22,6 @@ use Rattle.rule_laws.proofs.Unfolded.{component_within}
 use Rattle.path_laws.proofs.Main.{each_is_well_typed}
 use Rattle.sys_meaning.specs.Slot.{Place, number_in, place_of, spot_of}
 use Rattle.sys_meaning.specs.System.{number_of}
-use Rattle.sys_meaning.specs.WellTyped.{IsKnown}
 use Rattle.sys_meaning.proofs.Follows.{some_same, none_some}
 use Rattle.trace_fits.specs.declared.fault.FitFault.{FitFault}
 use Rattle.trace_fits.specs.declared.fault.FitFault.TheVariants.{Form, Memory}

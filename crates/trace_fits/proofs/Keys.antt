@@ -1,5 +1,5 @@
 -- A table by places: what it has with one more, and what a look-up finds.
-use Rattle.std.proofs.Common.{◌≡◌, ℕ, Bool, true, false, cond, ◌&&◌, List, [], ◌∷◌, ◌++◌, Option, Some, None, option_map, is_some, suc, zero, refl, sym, ap, ◌∙◌, subst, true≢false, if◌then◌else◌, arith, map, take, get_or, length, ◌<◌, ◌+◌}
+use Rattle.std.proofs.Common.{◌≡◌, ℕ, Bool, true, false, cond, ◌&&◌, List, [], ◌∷◌, ◌++◌, Option, Some, None, option_map, is_some, suc, zero, refl, sym, ap, ◌∙◌, subst, if◌then◌else◌, arith, map, take, get_or, length, ◌<◌, ◌+◌}
 use Rattle.std.specs.Prelude.{nat_eq}
 use Rattle.std.specs.Borrow.{Bor}
 use Rattle.std.specs.Option.{option_or}

@@ -1,8 +1,7 @@
 -- The node that a trace names.
-use Rattle.std.proofs.Common.{◌≡◌, ℕ, zero, suc, Bool, true, false, cond, List, [], ◌∷◌, Option, Some, None, refl, sym, ap, ◌∙◌, arith, subst, Result, Ok, Err}
-use Rattle.std.specs.Prelude.{Contains, IfErr, IfOk, OnOk}
+use Rattle.std.proofs.Common.{◌≡◌, zero, suc, Bool, true, false, cond, List, [], ◌∷◌, Option, Some, None, sym, ap, ◌∙◌, arith, subst, Result, Ok, Err}
+use Rattle.std.specs.Prelude.{Contains, IfOk}
 use Rattle.std.specs.Str.{bytes_eq}
-use Rattle.lus_tree.specs.declared.place.Pos.{Pos}
 use Rattle.lus_tree.specs.Tree.{Name, Component, Program}
 use Rattle.lus_tree.specs.Lookup.{nodes_of}
 use Rattle.lus_meaning.specs.Fits.{first_failed, first_named, misfit, node_tests}

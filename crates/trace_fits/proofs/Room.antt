@@ -1,12 +1,11 @@
 -- Slots without values, as many as are needed.
-use Rattle.std.proofs.Common.{◌≡◌, ℕ, zero, suc, ◌+◌, ◌<◌, ◌≤◌, max, List, [], ◌∷◌, ◌++◌, map, length, replicate, Option, None, refl, sym, ap, ◌∙◌, arith}
+use Rattle.std.proofs.Common.{◌≡◌, ℕ, zero, suc, ◌+◌, ◌<◌, ◌≤◌, max, List, [], ◌∷◌, ◌++◌, length, Option, None, refl, sym, ap, ◌∙◌, arith}
 use Rattle.std.specs.Borrow.{Bor}
 use Rattle.std.specs.List.{AllByRecursion}
 use Rattle.lus_meaning.specs.declared.trace.PlacedValue.{PlacedValue as CodePlacedValue}
-use Rattle.lus_meaning.specs.Value.{Value}
 use Rattle.lus_meaning.proofs.Lists.{map_append}
 use Rattle.trace_fits.specs.Slotted.{Slotted}
-use Rattle.trace_fits.specs.Filling.{Seats, no_seats, seat_at, seats_needed}
+use Rattle.trace_fits.specs.Filling.{no_seats, seat_at, seats_needed}
 use Rattle.trace_fits.specs.Views.{seat_view, seats_view}
 
 last_none : (n : ℕ) → no_seats n ++ None ∷ [] ≡ no_seats (n + 1)

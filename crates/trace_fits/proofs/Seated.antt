@@ -1,20 +1,20 @@
 -- Where each slot has the values of the line that lists its place, lines are refused as they are by what was listed.
-use Rattle.std.proofs.Common.{◌≡◌, ◌≢◌, ℕ, zero, suc, ◌<◌, ◌≤◌, Bool, true, false, cond, not, ◌&&◌, ◌||◌, List, [], ◌∷◌, ◌++◌, map, length, Option, Some, None, option_map, is_some, refl, sym, ap, ◌∙◌, subst, arith, slice_index_or, slice_set, unwrap_or}
+use Rattle.std.proofs.Common.{◌≡◌, ◌≢◌, ℕ, zero, suc, ◌<◌, Bool, true, false, cond, not, ◌&&◌, ◌||◌, List, [], ◌∷◌, ◌++◌, map, length, Option, Some, None, option_map, is_some, refl, sym, ap, ◌∙◌, subst, arith, slice_set, unwrap_or}
 use Rattle.std.specs.Prelude.{nat_le, nat_lt, find, ◌-◌, ◌==◌}
-use Rattle.std.specs.List.{AllByRecursion, list_any, list_all}
+use Rattle.std.specs.List.{AllByRecursion, list_all}
 use Rattle.std.specs.Option.{option_map_or, option_or}
 use Rattle.std.proofs.lemmas.Bool.{false≢true}
 use Rattle.std.proofs.lemmas.List.{get_or-set_same, get_or-set_other, length-set}
 use Rattle.lus_tree.specs.declared.place.Pos.{Pos}
 use Rattle.lus_tree.specs.Tree.{Variable}
 use Rattle.lus_meaning.specs.Trace.{Subject, of_name, BareLine, same_numbers, same_subject}
-use Rattle.lus_meaning.specs.TraceView.{PlacedValue, PlacedLine, Listing, bare_line, bare_values, lines_of}
+use Rattle.lus_meaning.specs.TraceView.{PlacedValue, PlacedLine, bare_line, bare_values}
 use Rattle.lus_meaning.specs.Fits.{Listable, same_place, listable_at, is_listed, takes_value, Test, first_failed, value_tests, taken_tests, line_tests, lines_tests}
 use Rattle.lus_meaning.specs.Fits as f
-use Rattle.lus_meaning.specs.Value.{Value, absent}
+use Rattle.lus_meaning.specs.Value.{Value}
 use Rattle.sys_meaning.proofs.Follows.{some_same, none_some}
 use Rattle.trace_fits.specs.Slotted.{Slotted, slotted_at}
-use Rattle.trace_fits.specs.Filling.{Seats, seat_at, is_seated, seated_value, value_in, seated, with_line, filled, or_else, values_misfit, seat_misfit, line_misfit, lines_misfit, is_given, are_given, trace_misfit}
+use Rattle.trace_fits.specs.Filling.{Seats, seat_at, is_seated, seated_value, value_in, seated, with_line, filled, or_else, values_misfit, seat_misfit, line_misfit, lines_misfit, is_given, are_given}
 use Rattle.trace_fits.specs.Given.{ListedPlace, listed_there}
 use Rattle.trace_fits.proofs.Keys.{same_are, self_place, place_back}
 

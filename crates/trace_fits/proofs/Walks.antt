@@ -29,7 +29,7 @@ use Rattle.path_laws.proofs.Numbers.{CountedFrom, in_order_counted}
 use Rattle.lus_limits.specs.Calls.{way_of}
 use Rattle.lus_limits.specs.Instances.{callee}
 use Rattle.lus_limits.specs.declared.calls.Way.{Way}
-use Rattle.lus_limits.specs.declared.calls.Way.TheVariants.{Plain, Condition, Import}
+use Rattle.lus_limits.specs.declared.calls.Way.TheVariants.{Plain}
 use Rattle.sys_meaning.specs.Slot.{Place, Spot, named, memory, own, place_of}
 use Rattle.sys_meaning.specs.System.{below_call, number_of}
 use Rattle.sys_meaning.specs.WellTyped.{IsKnown, WellTyped}
@@ -38,7 +38,7 @@ use Rattle.sys_texts.specs.Sights.{Sight, Stream, number_at}
 use Rattle.sys_texts.proofs.Terms.{sort_is}
 use Rattle.sys_contracts.specs.Laws.{bare}
 use Rattle.sys_tables.specs.Numbers.{behind_own, first_memory, frame_base, sight_at, stream_from}
-use Rattle.sys_tables.specs.Tabled.{Linked, Named, Tabled, named_stream, texts_of}
+use Rattle.sys_tables.specs.Tabled.{Linked, Tabled, named_stream, texts_of}
 use Rattle.sys_frames.proofs.Seen.{CallsSeen, Seen, SeesOwn}
 use Rattle.trace_fits.specs.Given.{IsSlotted, place_in}
 use Rattle.trace_fits.specs.Slotted.{Slotted}

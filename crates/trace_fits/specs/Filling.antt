@@ -1,5 +1,5 @@
 -- The values of lines by slots, and the first word that doesn't fit by these.
-use Rattle.std.specs.Prelude.{ℕ, ◌+◌, ◌-◌, max, replicate, ◌==◌, Bool, false, cond, not, ◌&&◌, ◌||◌, nat_le, nat_lt, is_some, List, [], ◌∷◌, length, Option, Some, None, Result, Ok, Err, slice_index_or, slice_set, unwrap_or}
+use Rattle.std.specs.Prelude.{ℕ, ◌+◌, ◌-◌, max, replicate, ◌==◌, Bool, false, cond, ◌&&◌, ◌||◌, nat_le, nat_lt, is_some, List, [], ◌∷◌, length, Option, Some, None, Result, Ok, Err, slice_index_or, slice_set, unwrap_or}
 use Rattle.std.specs.List.{list_all}
 use Rattle.std.specs.Option.{option_map_or}
 use Rattle.lus_tree.specs.declared.place.Pos.{Pos}

@@ -1,5 +1,5 @@
 use Rattle.trace_fits.proofs.Keys.{noted_new, noted_there}
-use Rattle.std.proofs.Common.{rules, ◌≡◌, None, true, sym, ◌∙◌}
+use Rattle.std.proofs.Common.{rules}
 use Rattle.trace_fits.proofs.table.note.Goals as goal
 
 pub returns-in_ok-insert : goal.returns-in_ok-insert
