@@ -1,0 +1,9 @@
+mod Keys
+mod Seated
+mod Room
+mod Fits
+mod Chosen
+mod Walks
+mod Declared
+mod Steps
+mod Named
