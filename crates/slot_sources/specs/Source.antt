@@ -1,5 +1,5 @@
 -- What gives a slot its value, without where it lies in memory.
-use Rattle.std.specs.Prelude.{ℕ, Bool}
+use Rattle.std.specs.Prelude.{ℕ}
 use Rattle.lus_meaning.specs.Value.{Value}
 use Rattle.lus_meaning.specs.TraceView.{entry_view}
 use Rattle.slot_values.specs.Resolution.{Resolution, resolved_view}

@@ -1,18 +1,16 @@
 -- The sources of a declaration: one for each of its slots, in the order of their numbers.
-use Rattle.std.specs.Prelude.{◌≡◌, ℕ, ◌<◌, List, [], ◌∷◌, ◌++◌, map, Option, Some, None, slice_get, unwrap_or, option_map}
+use Rattle.std.specs.Prelude.{◌≡◌, ℕ, ◌<◌, true, List, [], ◌∷◌, ◌++◌, map, Option, Some, None, slice_get, unwrap_or}
 use Rattle.std.specs.List.{AllByRecursion}
 use Rattle.std.specs.Map.{lookup}
 use Rattle.std.specs.Str.{bytes_eq}
 use Rattle.lus_tree.specs.Tree.{Name, Variable, Expression, ContractStatement, Component}
-use Rattle.lus_meaning.specs.Value.{Value}
 use Rattle.lus_meaning.specs.Scene.{Clock, base, sampled_by, Manner, plain, while_true, as_import, Site, Instance, Instances, instance, no_instances, with_instance, component_of, outputs_of, clock_from, clock_of_names, variables}
 use Rattle.lus_meaning.specs.Run.{Equation, equations, inputs_of}
 use Rattle.lus_meaning.specs.Occurrences.{Memory, memories, Start, starts}
 use Rattle.lus_meaning.specs.Program.{in_order}
-use Rattle.sys_meaning.specs.Slot.{beat, named, held, Place, own, in_call}
+use Rattle.sys_meaning.specs.Slot.{beat, named, Place, own, in_call}
 use Rattle.sys_meaning.specs.Defaults.{default_of}
 use Rattle.sys_meaning.specs.System.{number_of, below_call}
-use Rattle.slot_values.specs.Resolution.{Resolution}
 use Rattle.slot_values.specs.Resolved.{Numbering, resolution, right_resolutions}
 use Rattle.evaluation_laws.specs.Resolvings.{resolvings, at_numbers}
 use Rattle.slot_sources.specs.declared.source.Switch.{Switch}
