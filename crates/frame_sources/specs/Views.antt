@@ -1,0 +1,18 @@
+-- What contracts see of modes and of sources.
+use Rattle.std.specs.Prelude.{List, map}
+use Rattle.sys_texts.specs.Views.{way_view}
+use Rattle.slot_values.specs.Resolution.{Resolution, resolved_view}
+use Rattle.slot_values.specs.declared.resolved.Resolved.{Resolved}
+use Rattle.slot_sources.specs.declared.source.Source.{Source as SourceCode}
+use Rattle.slot_sources.specs.Source.{Source, source_view}
+use Rattle.frame_sources.specs.declared.modes.Asked.{Asked as AskedCode}
+use Rattle.frame_sources.specs.Resolved.{Asked}
+
+abbrev pub asked_view : AskedCode → Asked
+asked_view m = record { way = way_view m.way; name = m.name.now; asked = resolved_view m.asked }
+
+abbrev pub all_asked_view : List AskedCode → List Asked
+all_asked_view = map asked_view
+
+abbrev pub sources_view : List SourceCode → List Source
+sources_view = map source_view
