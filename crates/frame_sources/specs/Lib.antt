@@ -1,3 +1,4 @@
 pub mod Resolved
 pub mod Views
 pub mod Numbered
+pub mod Modes
