@@ -27,9 +27,17 @@ pub(crate) fn copied(alloc: Global, e: &Resolved) -> Result<Resolved, AllocError
             boxed(alloc, b)?,
             boxed(alloc, c)?,
         )),
-        Resolved::Arrow(slot, a, b) => Ok(Resolved::Arrow(*slot, boxed(alloc, a)?, boxed(alloc, b)?)),
+        Resolved::Arrow(slot, a, b) => Ok(Resolved::Arrow(
+            *slot,
+            boxed(alloc, a)?,
+            boxed(alloc, b)?,
+        )),
         Resolved::When(slot, wanted, a) => Ok(Resolved::When(*slot, *wanted, boxed(alloc, a)?)),
-        Resolved::Merge(slot, a, b) => Ok(Resolved::Merge(*slot, boxed(alloc, a)?, boxed(alloc, b)?)),
+        Resolved::Merge(slot, a, b) => Ok(Resolved::Merge(
+            *slot,
+            boxed(alloc, a)?,
+            boxed(alloc, b)?,
+        )),
         Resolved::Latest(a, beat, output, held) => {
             Ok(Resolved::Latest(boxed(alloc, a)?, *beat, *output, *held))
         }

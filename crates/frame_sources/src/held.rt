@@ -174,7 +174,15 @@ pub(crate) fn from_call(
         beat (site_view site.entry)) }
 {
     let mut sources = Vec::new(alloc);
-    push_arguments(alloc, &mut sources, sight, modes, beat, site.clock, site.arguments)?;
+    push_arguments(
+        alloc,
+        &mut sources,
+        sight,
+        modes,
+        beat,
+        site.clock,
+        site.arguments,
+    )?;
     push_shared(&mut sources, sight, site.manner)?;
     Ok(sources)
 }

@@ -25,7 +25,13 @@ fn stream_source(
     ensures { IfOk result (λ e. source_view e ≡ stream_source (sight_view sight.now) (all_asked_view modes.now)
         (named_view stream.now)) }
 {
-    own_source(alloc, sight, modes, declared(&stream.param.clock), stream.right)
+    own_source(
+        alloc,
+        sight,
+        modes,
+        declared(&stream.param.clock),
+        stream.right,
+    )
 }
 
 /// The sources, and behind them those of streams by their equations.

@@ -55,11 +55,7 @@ fn missing_at(sizes: &[SystemSize], place: usize) -> u32
 }
 
 /// The sources of the declaration of that place; none where there is none.
-fn sources_at(
-    tables: Tables<'_, '_>,
-    depth: usize,
-    place: usize,
-) -> Result<Vec<Source>, AllocError>
+fn sources_at(tables: Tables<'_, '_>, depth: usize, place: usize) -> Result<Vec<Source>, AllocError>
     requires room { IfThere (HasRoomWithin depth (tables_view tables.all.now))
         (slice_get (tables_view tables.all.now) place) Plain 0 }
     ensures { IfOk result (λ v. sources_view v.items ≡ sources_at depth (tables_view tables.entry.all.now)
@@ -85,11 +81,7 @@ fn sources_at(
 /// # Errors
 ///
 /// Only want of memory.
-pub fn sources(
-    alloc: Global,
-    program: &Program,
-    node: Owner<'_>,
-) -> Result<Vec<Source>, AllocError>
+pub fn sources(alloc: Global, program: &Program, node: Owner<'_>) -> Result<Vec<Source>, AllocError>
     requires checked { IsChecked (program_view program.now) }
     requires declared { Contains (components (program_view program.now)) (owner_view node) }
     requires small { width (instance_of (program_view program.now) (owner_view node)) < 20001 }
