@@ -1,8 +1,8 @@
 -- What callers give to the frames of calls, and what they hold of them, by tables and by names.
-use Rattle.std.proofs.Common.{◌≡◌, ℕ, suc, ◌+◌, ◌≤◌, Bool, true, false, cond, List, [], ◌∷◌, ◌++◌, map, length, append_assoc, Option, Some, None, refl, sym, ap, ◌∙◌, subst, arith}
+use Rattle.std.proofs.Common.{◌≡◌, ℕ, ◌+◌, ◌≤◌, Bool, true, false, cond, List, [], ◌∷◌, ◌++◌, map, length, append_assoc, Option, Some, None, refl, sym, ap, ◌∙◌, arith}
 use Rattle.std.specs.Prelude.{is_some}
 use Rattle.std.proofs.lemmas.List.{append-nil}
-use Rattle.lus_tree.specs.Tree.{Name, Variable, Expression, ContractStatement, Component}
+use Rattle.lus_tree.specs.Tree.{Variable, Expression, ContractStatement, Component}
 use Rattle.lus_meaning.specs.Value.{Value}
 use Rattle.lus_meaning.specs.Run.{inputs_of}
 use Rattle.lus_meaning.specs.Scene.{Manner, plain, while_true, as_import, Site, Instance, component_of, contract_statements, ghosts, variables}
@@ -15,15 +15,14 @@ use Rattle.sys_meaning.specs.Slot.{Place, own, beat, named, so_far, in_call}
 use Rattle.sys_meaning.specs.System.{has_so_far}
 use Rattle.sys_meaning.specs.WellTyped.{IsKnown, OwnFits}
 use Rattle.sys_texts.specs.Laws.{IsSightOf}
-use Rattle.sys_texts.specs.Sights.{Sight, name_number}
+use Rattle.sys_texts.specs.Sights.{Sight}
 use Rattle.sys_contracts.specs.Laws.{bare}
-use Rattle.sys_tables.specs.Tabled.{Tabled, named_stream}
+use Rattle.sys_tables.specs.Tabled.{Tabled}
 use Rattle.sys_tables.specs.Numbers.{keeps_so_far, sight_at, so_far_number}
 use Rattle.sight_laws.specs.Sights.{output_of}
 use Rattle.sys_frames.proofs.Seen.{HasNames, SeesOwn}
 use Rattle.slot_values.specs.Resolved.{Numbering}
 use Rattle.evaluation_laws.specs.Resolvings.{resolvings}
-use Rattle.slot_sources.specs.declared.source.Switch.{Switch}
 use Rattle.slot_sources.specs.Source.{Source, runs, runs_while, same, argument, remembered, starting, unread}
 use Rattle.slot_sources.specs.Source as e
 use Rattle.slot_sources.specs.Sources.{NameSources, numbering_of, paired, switch_of}

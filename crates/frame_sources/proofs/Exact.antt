@@ -1,5 +1,5 @@
 -- The sources that the walk makes of a declaration are those of its instance.
-use Rattle.std.proofs.Common.{◌≡◌, ℕ, ◌<◌, min, List, [], map, length, Option, Some, None, option_map, refl, sym, ap, ◌∙◌, subst, arith}
+use Rattle.std.proofs.Common.{◌≡◌, ℕ, ◌<◌, min, List, [], map, length, Option, Some, None, option_map, refl, sym, ap, ◌∙◌, arith}
 use Rattle.std.specs.Prelude.{Contains, slice_get}
 use Rattle.std.proofs.lemmas.Option.{slice_get-map}
 use Rattle.lus_tree.specs.Tree.{Component, Program}

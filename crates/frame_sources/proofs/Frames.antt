@@ -5,19 +5,18 @@ use Rattle.std.specs.Option.{option_map_or}
 use Rattle.std.specs.Map.{lookup}
 use Rattle.std.specs.Str.{bytes_eq}
 use Rattle.std.proofs.lemmas.Bool.{le-leb}
-use Rattle.indexmap.specs.IndexMap.{IndexMap}
 use Rattle.lus_tree.specs.Tree.{Name, Expression}
 use Rattle.lus_meaning.specs.declared.value.Value.{Value as CodeValue}
 use Rattle.lus_meaning.specs.Meaning.{mode_key, same_path}
 use Rattle.lus_meaning.specs.Scene.{Instance, call_instance, instance_at, no_instance, outputs_of}
 use Rattle.lus_meaning.specs.TraceView.{entry_view}
-use Rattle.lus_meaning.specs.Value.{Value, flag}
+use Rattle.lus_meaning.specs.Value.{flag}
 use Rattle.sys_meaning.specs.Slot.{beat, named, held, own, in_call}
 use Rattle.sys_parts.specs.Constants.{constant_view}
 use Rattle.sys_parts.specs.Values.{known_value}
 use Rattle.sys_parts.specs.declared.constant.Constant.{Constant}
-use Rattle.sys_texts.specs.Sights.{Call, Output, Way, own as own_way, through, deeper, is_way, counted_from_one, name_number}
-use Rattle.sys_texts.specs.Views.{by_name, sight_view}
+use Rattle.sys_texts.specs.Sights.{Call, Output, Way, own as own_way, through, deeper, is_way, name_number}
+use Rattle.sys_texts.specs.Views.{sight_view}
 use Rattle.sys_texts.specs.declared.sight.Sight.{Sight as SightCode}
 use Rattle.slot_resolver.specs.declared.slots.Held.{Held}
 use Rattle.slot_resolver.specs.Found.{output_found, held_found, first_output, first_held as first_held_at}
@@ -25,7 +24,7 @@ use Rattle.slot_values.specs.Resolution.{Resolution}
 use Rattle.slot_values.specs.Resolution as r
 use Rattle.slot_values.specs.Resolved.{Numbering, constant_or_slot, first_resolution, latest_resolution, mode_resolution, name_resolution, output_resolution, outputs_at, resolution}
 use Rattle.frame_sources.specs.Resolved.{Asked, IsNumberedBy, asked_of, call_by, latest_each_by, latest_by, name_by, output_by, outputs_by, resolved_by}
-use Rattle.frame_sources.specs.Numbered.{callee_seen, callees_seen, constants_seen, first_held, first_number, first_slot, held_seen, key_of, numbering_seen, output_seen, path_of, place_seen}
+use Rattle.frame_sources.specs.Numbered.{callee_seen, callees_seen, first_held, first_number, first_slot, held_seen, key_of, numbering_seen, output_seen, path_of, place_seen}
 use Rattle.frame_sources.proofs.Resolutions.{resolved_is}
 
 -- ---- names

@@ -1,5 +1,5 @@
 -- What stands at a place of a list.
-use Rattle.std.proofs.Common.{◌≡◌, ℕ, zero, suc, length, drop, take, ◌≤◌, ◌-◌, arith, List, [], ◌∷◌, map, Option, Some, None, unwrap_or, refl, sym, ap, ◌∙◌, option_map}
+use Rattle.std.proofs.Common.{◌≡◌, ℕ, zero, suc, length, drop, take, ◌≤◌, ◌-◌, arith, List, [], ◌∷◌, map, Some, None, unwrap_or, refl, sym, ap, ◌∙◌, option_map}
 use Rattle.std.specs.Prelude.{slice_get, slice_range}
 use Rattle.std.proofs.lemmas.Option.{slice_get-map}
 

@@ -1,10 +1,10 @@
 -- The resolution of an expression by a sight.
-use Rattle.std.proofs.Common.{◌≡◌, ◌∷◌, List, [], map, refl, ap, ◌∙◌, option_map}
+use Rattle.std.proofs.Common.{◌≡◌, List, refl, ap, ◌∙◌, option_map}
 use Rattle.lus_tree.specs.Tree.{Expression, text_of, truth, number, name, negation, minus, pre, arrow, binary, choice, sampled, merged, call, condact, mode_name}
 use Rattle.sys_meaning.specs.Slot.{named, own}
 use Rattle.sys_texts.specs.Sights.{Sight, name_number, number_at}
 use Rattle.slot_values.specs.Resolution as r
-use Rattle.slot_values.specs.Resolved.{Numbering, constant_or_slot, resolution, first_resolution, latest_resolution, outputs_at}
+use Rattle.slot_values.specs.Resolved.{Numbering, constant_or_slot, resolution, first_resolution}
 use Rattle.frame_sources.specs.Resolved.{Asked, IsNumberedBy, call_by, latest_each_by, resolved_by}
 
 module _ (s : Sight) (ms : List Asked) (g : Numbering) (h : IsNumberedBy s ms g) where

@@ -1,5 +1,5 @@
 -- A sight that finds what the translation finds has the numbers of the frame's places.
-use Rattle.std.proofs.Common.{◌≡◌, ℕ, Bool, true, false, cond, ◌&&◌, List, [], ◌∷◌, map, Option, Some, None, option_map, unwrap_or, refl, sym, ap, ◌∙◌}
+use Rattle.std.proofs.Common.{◌≡◌, ℕ, Bool, true, false, cond, ◌&&◌, List, [], ◌∷◌, map, Option, Some, None, unwrap_or, refl, sym, ap, ◌∙◌}
 use Rattle.std.specs.Prelude.{option_to_list}
 use Rattle.std.specs.Option.{option_map_or}
 use Rattle.std.specs.Map.{lookup}
@@ -12,23 +12,23 @@ use Rattle.lus_meaning.specs.Scene.{Clock, base, sampled_by, Instance, call_inst
 use Rattle.lus_meaning.specs.Value.{absent, flag}
 use Rattle.sys_terms.specs.View.{Formula}
 use Rattle.sys_terms.specs.View as f
-use Rattle.sys_meaning.specs.Items.{Key, Known}
+use Rattle.sys_meaning.specs.Items.{Known}
 use Rattle.sys_meaning.specs.Part.{Part, a_flag, a_number}
-use Rattle.sys_meaning.specs.Slot.{Place, beat, named, held, own, in_call}
+use Rattle.sys_meaning.specs.Slot.{Place}
 use Rattle.sys_meaning.specs.Translate as t
 use Rattle.sys_texts.specs.Laws.{IsSightOf}
-use Rattle.sys_texts.specs.Sights.{Sight, Call, Output, is_way, output_part, latest_part, outputs_at, latest_at}
+use Rattle.sys_texts.specs.Sights.{Sight, Call, Output, is_way, output_part, latest_part}
 use Rattle.sys_contracts.specs.Laws.{bare, way_of}
 use Rattle.slot_values.specs.Resolution.{Resolution}
 use Rattle.slot_values.specs.Resolution as r
 use Rattle.slot_values.specs.Resolved as n
 use Rattle.slot_values.specs.Resolved.{Numbering, first_resolution, resolution, right_resolutions}
-use Rattle.evaluation_laws.specs.Resolvings.{Resolving, at_numbers, resolvings}
+use Rattle.evaluation_laws.specs.Resolvings.{Resolving, at_numbers}
 use Rattle.slot_sources.specs.declared.source.Switch.{Switch}
 use Rattle.slot_sources.specs.Sources.{numbering_of, switch_of}
 use Rattle.frame_sources.specs.Resolved.{Asked, IsNumberedBy, asked_of, call_by, latest_by, latest_each_by, output_by, outputs_by, resolved_by, rights_by}
 use Rattle.frame_sources.specs.Sourced.{switch_by}
-use Rattle.frame_sources.specs.Laws.{asked_at, modes_at}
+use Rattle.frame_sources.specs.Laws.{asked_at}
 use Rattle.frame_sources.proofs.Resolutions.{resolved_is}
 
 twice : {A B C : Type 0} (f : B → C) (h : A → B) (xs : List A) → map f (map h xs) ≡ map (λ x. f (h x)) xs

@@ -1,8 +1,8 @@
 -- The sources of frames by the tables of a checked program are those of the instances.
-use Rattle.std.proofs.Common.{◌≡◌, ℕ, zero, suc, ◌+◌, ◌<◌, ◌≤◌, List, [], ◌∷◌, ◌++◌, map, length, append_assoc, Option, Some, refl, sym, ap, ◌∙◌, subst, arith}
+use Rattle.std.proofs.Common.{◌≡◌, ℕ, zero, suc, ◌+◌, ◌<◌, ◌≤◌, List, [], ◌∷◌, ◌++◌, map, length, append_assoc, Some, refl, sym, ap, ◌∙◌, subst, arith}
 use Rattle.std.specs.Prelude.{Contains, slice_get}
 use Rattle.std.specs.List.{AllByRecursion}
-use Rattle.lus_tree.specs.Tree.{Name, Variable, Expression, Component, Program}
+use Rattle.lus_tree.specs.Tree.{Name, Variable, Component, Program}
 use Rattle.lus_meaning.specs.ClockFaults.{components}
 use Rattle.lus_meaning.specs.Program.{all_sites, component_named, constants_in, instances_with, instance_of, instance_within}
 use Rattle.lus_meaning.specs.Refusals.{IsChecked}
@@ -23,19 +23,17 @@ use Rattle.lus_layouts.specs.declared.placing.CallSlots.{CallSlots}
 use Rattle.sys_meaning.specs.Defaults.{default_of}
 use Rattle.sys_meaning.specs.Slot.{Place, own, beat, in_call}
 use Rattle.sys_meaning.specs.System.{below_call}
-use Rattle.sys_meaning.specs.WellTyped.{IsKnown, OwnFits, TreeFits, CallsFit, CallFits, MannerFits}
+use Rattle.sys_meaning.specs.WellTyped.{IsKnown, TreeFits, CallsFit, CallFits, MannerFits}
 use Rattle.sys_meaning.proofs.Backward.{tree_own}
 use Rattle.path_laws.proofs.Main.{each_is_well_typed}
 use Rattle.sys_texts.specs.Laws.{IsSightOf}
 use Rattle.sys_texts.specs.Sights.{Sight}
 use Rattle.sys_contracts.specs.Laws.{bare}
 use Rattle.sys_places.specs.Places.{StandsAt, OfEachCall, CallStandsAt, own_end}
-use Rattle.sys_places.specs.Own.{CallVariablesAt}
 use Rattle.sys_places.proofs.Calls.{stands_at_calls}
-use Rattle.sys_places.proofs.Held.{call_variables_stand}
-use Rattle.sys_tables.specs.Tabled.{Linked, Tabled, all_linked, constants_known, linked, place_of, small_value, table_of}
-use Rattle.sys_tables.specs.Numbers.{behind_own, keeps_so_far, sight_at}
-use Rattle.sight_laws.specs.Sights.{HasItsDefaults, call_of, output_of}
+use Rattle.sys_tables.specs.Tabled.{Tabled, all_linked, constants_known, linked, place_of, small_value, table_of}
+use Rattle.sys_tables.specs.Numbers.{keeps_so_far, sight_at}
+use Rattle.sight_laws.specs.Sights.{HasItsDefaults, call_of}
 use Rattle.sys_frames.proofs.Checked.{Laws, table_list, table_there, own_seen, seen_so}
 use Rattle.sys_frames.proofs.Seen.{HasNames, SeesOwn}
 use Rattle.slot_values.specs.Resolved.{Numbering}
@@ -46,7 +44,7 @@ use Rattle.frame_sources.specs.Laws.{modes_at}
 use Rattle.frame_sources.specs.Resolved.{Asked}
 use Rattle.frame_sources.specs.Sourced.{beat_source, from_call, held_sources}
 use Rattle.frame_sources.specs.OwnSources.{own_sources}
-use Rattle.frame_sources.specs.Walked.{SourcesOf, call_sources_or_none, calls_sources, modes_within, sources_below, sources_or_none, sources_within}
+use Rattle.frame_sources.specs.Walked.{SourcesOf, call_sources_or_none, calls_sources, sources_below, sources_or_none, sources_within}
 use Rattle.frame_sources.proofs.Calls.{beat_so, given_many, given_so, held_so, own_so}
 use Rattle.frame_sources.proofs.FrameModes.{modes_so}
 use Rattle.frame_sources.proofs.Named.{zipped}

@@ -1,15 +1,14 @@
 -- What is resolved by the sight of a frame is what is resolved by the numbers of its places.
 use Rattle.std.specs.Prelude.{◌≡◌, ℕ, suc, ◌≤◌, List, [], ◌∷◌, map}
 use Rattle.std.specs.List.{AllByRecursion}
-use Rattle.lus_tree.specs.Tree.{Name, Expression, ContractStatement, assume, guarantee, ghost_variable, constant, mode, «import»}
+use Rattle.lus_tree.specs.Tree.{Expression, ContractStatement, assume, guarantee, ghost_variable, constant, mode, «import»}
 use Rattle.lus_meaning.specs.Scene.{Clock, Instance, Instances, no_instances, with_instance, calls_of, component_of, contract_statements}
-use Rattle.sys_meaning.specs.Items.{Key, Known}
+use Rattle.sys_meaning.specs.Items.{Key}
 use Rattle.sys_meaning.specs.Slot.{Place}
 use Rattle.sys_meaning.specs.System.{below_call}
 use Rattle.sys_texts.specs.Laws.{IsSightOf}
 use Rattle.sys_texts.specs.Sights.{Sight}
 use Rattle.sys_contracts.specs.Laws.{bare, way_of}
-use Rattle.slot_values.specs.Resolution.{Resolution}
 use Rattle.slot_values.specs.Resolved.{Numbering, resolution, right_resolutions}
 use Rattle.evaluation_laws.specs.Resolvings.{Resolving, resolvings}
 use Rattle.slot_sources.specs.Sources.{numbering_of, switch_of}

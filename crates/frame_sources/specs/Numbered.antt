@@ -9,7 +9,7 @@ use Rattle.lus_meaning.specs.Value.{Value}
 use Rattle.lus_meaning.specs.Scene.{Instance, Instances, instance, no_component, no_instance, no_instances, with_instance}
 use Rattle.sys_meaning.specs.Slot.{beat, named, memory, starting, so_far, held, Place}
 use Rattle.sys_meaning.specs.Defaults.{no_site}
-use Rattle.sys_meaning.specs.Items.{Key, Known}
+use Rattle.sys_meaning.specs.Items.{Key}
 use Rattle.sys_parts.specs.Constants.{constant_view}
 use Rattle.sys_parts.specs.declared.constant.Constant.{Constant}
 use Rattle.sys_texts.specs.Sights.{Sight, Call, Output, Way, own, through, deeper, name_number, number_at}

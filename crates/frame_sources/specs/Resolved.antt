@@ -4,9 +4,9 @@ use Rattle.std.specs.Option.{option_map_or}
 use Rattle.std.specs.Map.{lookup}
 use Rattle.std.specs.Str.{bytes_eq}
 use Rattle.lus_tree.specs.Tree.{Name, text_of, Expression, truth, number, name, negation, minus, pre, arrow, binary, choice, sampled, merged, call, condact, mode_name}
-use Rattle.lus_meaning.specs.Value.{flag, whole, absent}
+use Rattle.lus_meaning.specs.Value.{flag, whole}
 use Rattle.lus_meaning.specs.Scene.{constants_of}
-use Rattle.sys_meaning.specs.Slot.{beat, named, memory, starting, own}
+use Rattle.sys_meaning.specs.Slot.{named, memory, starting, own}
 use Rattle.sys_texts.specs.Sights.{Sight, Call, Output, Way, is_way, counted_from_one, number_at, name_number}
 use Rattle.slot_values.specs.Resolution.{Resolution}
 use Rattle.slot_values.specs.Resolution as r

@@ -3,8 +3,7 @@ use Rattle.std.specs.Prelude.{List, map}
 use Rattle.std.specs.declared.alloc.Global.{Global}
 use Rattle.std.specs.declared.vec.Vec.{Vec}
 use Rattle.sys_texts.specs.Views.{way_view}
-use Rattle.slot_values.specs.Resolution.{Resolution, resolved_view}
-use Rattle.slot_values.specs.declared.resolved.Resolved.{Resolved}
+use Rattle.slot_values.specs.Resolution.{resolved_view}
 use Rattle.slot_sources.specs.declared.source.Source.{Source as SourceCode}
 use Rattle.slot_sources.specs.Source.{Source, source_view}
 use Rattle.frame_sources.specs.declared.modes.Asked.{Asked as AskedCode}
