@@ -1,0 +1,11 @@
+pub mod Resolutions
+pub mod Frames
+pub mod Placed
+pub mod Sights
+pub mod Contracted
+pub mod Named
+pub mod Calls
+pub mod FrameModes
+pub mod Translated
+pub mod Exact
+pub mod Steps
