@@ -71,13 +71,21 @@ module _ (c : Choices) (es : List Source) (t : ℕ) (in_set : ℕ → Bool) (clo
   abbrev pub Fine : Row → Type 0
   Fine r = ((k : ℕ) (e : Source) → slice_get es k ≡ Some e → in_set k ≡ true → outside_now s e ≡ []) ⊎ (r.outside ≡ false)
 
+  -- Some slots have their values, and the others have what was brought to them.
+  pub record Filling (done ks : List ℕ) (r : Row) : Type 0 where
+    pub whole : length r.values ≡ length es
+    pub ready : AreReady (length es) (NeedsSlot es) done ks
+    pub once : IsDistinct eqb ks
+    pub below : AllByRecursion (λ k. k < length es) ks
+    pub there : (j : ℕ) → in_set j ≡ true → is_listed done j ≡ true → slots_of r.values j ≡ s j
+    pub own : (j : ℕ) → is_listed ks j ≡ true → slots_of r.values j ≡ initial j
+
   -- those that it reads are there
-  reads_same : (done : List ℕ) (r : Row) (k : ℕ) (e : Source) → slice_get es k ≡ Some e → in_set k ≡ true
-      → ((j : ℕ) → j < length es → NeedsSlot es k j → is_listed done j ≡ true)
-      → ((j : ℕ) → in_set j ≡ true → is_listed done j ≡ true → slots_of r.values j ≡ s j) → SameOn (slots_of r.values) s (reads_now e)
-  reads_same done r k e q i ready there =
+  reads_same : (done ks : List ℕ) (r : Row) (k : ℕ) (e : Source) → Filling done (k ∷ ks) r → slice_get es k ≡ Some e → in_set k ≡ true
+      → SameOn (slots_of r.values) s (reads_now e)
+  reads_same done ks r k e f q i =
       all_listed (λ j. in_set j ≡ true) (λ j. slots_of r.values j ≡ s j) (reads_now e)
-      (λ j m g. there j g (ready j (closed.slots j g) (subst (λ js. is_listed js j ≡ true) (sym (read_at es k e q)) m))) (closed.now k e q i)
+      (λ j m g. f.there j g (f.ready.0 j (closed.slots j g) (subst (λ js. is_listed js j ≡ true) (sym (read_at es k e q)) m))) (closed.now k e q i)
 
   none_here : (ks : List ℕ) (r : Row) (k : ℕ) (e : Source) → slice_get es k ≡ Some e → in_set k ≡ true → SameOn (slots_of r.values) s (reads_now e)
       → Fine (filled c es t (with_value c t k (Some e) r) ks) → outside_now (slots_of r.values) e ≡ []
@@ -85,10 +93,10 @@ module _ (c : Choices) (es : List Source) (t : ℕ) (in_set : ℕ → Bool) (clo
   none_here ks r k e q i same (inr f) = none_of (outside_now (slots_of r.values) e)
       (λ x. true≢false (sym (stays_outside c es t (with_value c t k (Some e) r) ks (or_true r.outside (is_any (outside_now (slots_of r.values) e)) x)) ∙ f))
 
-  value_is : (ks : List ℕ) (r : Row) (k : ℕ) (e : Source) → slice_get es k ≡ Some e → in_set k ≡ true → SameOn (slots_of r.values) s (reads_now e)
-      → slots_of r.values k ≡ initial k → Fine (filled c es t (with_value c t k (Some e) r) ks) → value_by c t k (slots_of r.values) e ≡ s k
-  value_is ks r k e q i same own fine =
-      ap (λ ps. unless ps (value_now (slots_of r.values) (listed_or c t k (slots_of r.values k) e) e)) (none_here ks r k e q i same fine)
+  value_is : (r : Row) (k : ℕ) (e : Source) → slice_get es k ≡ Some e → in_set k ≡ true → SameOn (slots_of r.values) s (reads_now e)
+      → slots_of r.values k ≡ initial k → outside_now (slots_of r.values) e ≡ [] → value_by c t k (slots_of r.values) e ≡ s k
+  value_is r k e q i same own none =
+      ap (λ ps. unless ps (value_now (slots_of r.values) (listed_or c t k (slots_of r.values k) e) e)) none
       ∙ (now_same (slots_of r.values) s (listed_or c t k (slots_of r.values k) e) e same
       ∙ (ap (λ v. value_now s (listed_or c t k v e) e) own ∙ sym (follows k e q i)))
 
@@ -107,49 +115,87 @@ module _ (c : Choices) (es : List Source) (t : ℕ) (in_set : ℕ → Bool) (clo
       turn true e = refl
       turn false e = e
 
-  pub fills : (done ks : List ℕ) (r : Row) → length r.values ≡ length es → AreReady (length es) (NeedsSlot es) done ks → IsDistinct eqb ks
-      → AllByRecursion (λ k. k < length es) ks → ((j : ℕ) → in_set j ≡ true → is_listed done j ≡ true → slots_of r.values j ≡ s j)
-      → ((j : ℕ) → is_listed ks j ≡ true → slots_of r.values j ≡ initial j) → Fine (filled c es t r ks) → (j : ℕ) → in_set j ≡ true
-      → (is_listed done j || is_listed ks j) ≡ true → slots_of (filled c es t r ks).values j ≡ s j
+  -- one more slot has its value
+  step : (done ks : List ℕ) (r : Row) (k : ℕ) (e : Source) → Filling done (k ∷ ks) r → slice_get es k ≡ Some e
+      → (in_set k ≡ true → outside_now (slots_of r.values) e ≡ []) → Filling (done ++ k ∷ []) ks (with_value c t k (Some e) r)
   unfolding IsDistinct
-  fills done [] r whole ready once below there own fine j i m = there j i (turn (is_listed done j) m)
+  step done ks r k e f q none = record {
+    whole = length-set r.values k v ∙ f.whole;
+    ready = f.ready.1;
+    once = f.once.1;
+    below = f.below.1;
+    there = λ j g l. there j g l (cases_Bool (eqb j k));
+    own = λ j l. get_or-set_other r.values k j v absent (eqb-false j k (apart k ks j f.once.0 l)) ∙ f.own j (or_true (eqb j k) (is_listed ks j) l);
+  }
+    where
+      v : Value
+      v = value_by c t k (slots_of r.values) e
+
+      inside : k < length r.values
+      inside = subst (λ n. k < n) (sym f.whole) f.below.0
+
+      here : in_set k ≡ true → v ≡ s k
+      here g = value_is r k e q g (reads_same done ks r k e f q g) (f.own k (rw (eq-eqb k k refl) refl)) (none g)
+
+      there : (j : ℕ) → in_set j ≡ true → is_listed (done ++ k ∷ []) j ≡ true → (eqb j k ≡ true) ⊎ (eqb j k ≡ false)
+          → slots_of (set r.values k v) j ≡ s j
+      there j g l (inl y) = subst (λ n. in_set n ≡ true → slots_of (set r.values k v) n ≡ s n) (sym (eqb-true j k y))
+          (λ g. get_or-set_same r.values k v absent inside ∙ here g) g
+      there j g l (inr y) = get_or-set_other r.values k j v absent (eqb-false j k y) ∙ f.there j g (before done k j y l)
+
+  pub fills : (done ks : List ℕ) (r : Row) → Filling done ks r → Fine (filled c es t r ks) → (j : ℕ) → in_set j ≡ true
+      → (is_listed done j || is_listed ks j) ≡ true → slots_of (filled c es t r ks).values j ≡ s j
+  fills done [] r f fine j i m = f.there j i (turn (is_listed done j) m)
     where
       turn : (a : Bool) → (a || false) ≡ true → a ≡ true
       turn true e = refl
       turn false e = e
-  fills done (k ∷ ks) r whole ready once below there own fine j i m = subst (λ o. slots_of (filled c es t (with_value c t k o r) ks).values j ≡ s j) (sym q)
-      (fills (done ++ k ∷ []) ks (with_value c t k (Some e) r) (length-set r.values k v ∙ whole) ready.1 once.1 below.1
-      (λ x g l. there_now x g l (cases_Bool (eqb x k))) own_now fine_now j i (either done ks k j m))
+  fills done (k ∷ ks) r f fine j i m =
+      let found : (e : Source) × (slice_get es k ≡ Some e) = source_at es k f.below.0 in
+      let e : Source = found.0 in
+      let now : Fine (filled c es t (with_value c t k (Some e) r) ks) = subst (λ o. Fine (filled c es t (with_value c t k o r) ks)) found.1 fine in
+      subst (λ o. slots_of (filled c es t (with_value c t k o r) ks).values j ≡ s j) (sym found.1)
+      (fills (done ++ k ∷ []) ks (with_value c t k (Some e) r)
+      (step done ks r k e f found.1 (λ g. none_here ks r k e found.1 g (reads_same done ks r k e f found.1 g) now)) now j i (either done ks k j m))
+
+  -- where none was outside in this row, none is in the rows that follow
+  pub were_within : (done ks : List ℕ) (r : Row) → Filling done ks r → (filled c es t r ks).outside ≡ false → (j : ℕ) (d : Source)
+      → slice_get es j ≡ Some d → in_set j ≡ true → is_listed ks j ≡ true → outside_now s d ≡ []
+  were_within done [] r f o j d q g m = absurd (false≢true m)
+  were_within done (k ∷ ks) r f o j d q g m =
+      let found : (e : Source) × (slice_get es k ≡ Some e) = source_at es k f.below.0 in
+      let e : Source = found.0 in
+      let now : (filled c es t (with_value c t k (Some e) r) ks).outside ≡ false =
+      subst (λ o. (filled c es t (with_value c t k o r) ks).outside ≡ false) found.1 o in
+      go (cases_Bool (eqb j k)) (were_within (done ++ k ∷ []) ks (with_value c t k (Some e) r)
+      (step done ks r k e f found.1 (λ g. none_here ks r k e found.1 g (reads_same done ks r k e f found.1 g) (inr now))) now j d q g)
     where
-      found : (e : Source) × (slice_get es k ≡ Some e)
-      found = source_at es k below.0
+      here : slice_get es k ≡ Some d → in_set k ≡ true → outside_now s d ≡ []
+      here q g =
+          let same : SameOn (slots_of r.values) s (reads_now d) = reads_same done ks r k d f q g in
+          sym (outside_now_same (slots_of r.values) s d same)
+          ∙ none_here ks r k d q g same (inr (subst (λ o. (filled c es t (with_value c t k o r) ks).outside ≡ false) q o))
 
-      e : Source
-      e = found.0
+      go : (eqb j k ≡ true) ⊎ (eqb j k ≡ false) → (is_listed ks j ≡ true → outside_now s d ≡ []) → outside_now s d ≡ []
+      go (inl y) later =
+          here (subst (λ n. slice_get es n ≡ Some d) (eqb-true j k y) q) (subst (λ n. in_set n ≡ true) (eqb-true j k y) g)
+      go (inr y) later = later (rw y at m)
 
-      q : slice_get es k ≡ Some e
-      q = found.1
+  module _ (none : (k : ℕ) (e : Source) → slice_get es k ≡ Some e → in_set k ≡ true → outside_now s e ≡ [])
+      (others : (k : ℕ) (e : Source) → slice_get es k ≡ Some e → in_set k ≡ false → (r : SlotValues) → outside_now r e ≡ []) where
+    none_at : (done ks : List ℕ) (r : Row) (k : ℕ) (e : Source) → Filling done (k ∷ ks) r → slice_get es k ≡ Some e → outside_now (slots_of r.values) e ≡ []
+    none_at done ks r k e f q = go (cases_Bool (in_set k))
+      where
+        go : (in_set k ≡ true) ⊎ (in_set k ≡ false) → outside_now (slots_of r.values) e ≡ []
+        go (inl g) = outside_now_same (slots_of r.values) s e (reads_same done ks r k e f q g) ∙ none k e q g
+        go (inr g) = others k e q g (slots_of r.values)
 
-      v : Value
-      v = value_by c t k (slots_of r.values) e
-
-      fine_now : Fine (filled c es t (with_value c t k (Some e) r) ks)
-      fine_now = subst (λ o. Fine (filled c es t (with_value c t k o r) ks)) q fine
-
-      inside : k < length r.values
-      inside = subst (λ n. k < n) (sym whole) below.0
-
-      value_here : in_set k ≡ true → v ≡ s k
-      value_here g = value_is ks r k e q g (reads_same done r k e q g ready.0 there) (own k (rw (eq-eqb k k refl) refl)) fine_now
-
-      there_now : (x : ℕ) → in_set x ≡ true → is_listed (done ++ k ∷ []) x ≡ true → (eqb x k ≡ true) ⊎ (eqb x k ≡ false)
-          → slots_of (set r.values k v) x ≡ s x
-      there_now x g l (inl y) =
-          let z : k ≡ x = sym (eqb-true x k y) in
-          subst (λ n. in_set n ≡ true → slots_of (set r.values k v) n ≡ s n) z
-          (λ g. get_or-set_same r.values k v absent inside ∙ value_here g) g
-      there_now x g l (inr f) = get_or-set_other r.values k x v absent (eqb-false x k f) ∙ there x g (before done k x f l)
-
-      own_now : (x : ℕ) → is_listed ks x ≡ true → slots_of (set r.values k v) x ≡ initial x
-      own_now x l =
-          get_or-set_other r.values k x v absent (eqb-false x k (apart k ks x once.0 l)) ∙ own x (or_true (eqb x k) (is_listed ks x) l)
+    -- where none is outside in the rows that follow, none is in this row
+    pub stays_within : (done ks : List ℕ) (r : Row) → Filling done ks r → r.outside ≡ false → (filled c es t r ks).outside ≡ false
+    stays_within done [] r f o = o
+    stays_within done (k ∷ ks) r f o =
+        let found : (e : Source) × (slice_get es k ≡ Some e) = source_at es k f.below.0 in
+        let here : outside_now (slots_of r.values) found.0 ≡ [] = none_at done ks r k found.0 f found.1 in
+        let flag : (with_value c t k (Some found.0) r).outside ≡ false = rw (o, here) refl in
+        subst (λ o. (filled c es t (with_value c t k o r) ks).outside ≡ false) (sym found.1)
+        (stays_within (done ++ k ∷ []) ks (with_value c t k (Some found.0) r) (step done ks r k found.0 f found.1 (λ g. here)) flag)

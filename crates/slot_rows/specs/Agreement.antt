@@ -57,3 +57,17 @@ abbrev pub ReadAgree : Type 0
 ReadAgree =
     (es : List Source) (c : Choices) (ks : List ℕ) (n m : ℕ) (s : ℕ → SlotValues) → IsSlotOrder es ks → IsClosed es (read_slots es) → m ≤ n →
     Follow es c n s → NoneMet es c ks n m → AgreeIn es (read_slots es) c ks n m s
+
+-- ---- what the marks of the table say
+
+-- Where it met no operation outside, the rows that follow have none in a closed set,
+abbrev pub UnmetWithin : Type 0
+UnmetWithin =
+    (es : List Source) (c : Choices) (ks : List ℕ) (in_set : ℕ → Bool) (n m : ℕ) (s : ℕ → SlotValues) → IsSlotOrder es ks → IsClosed es in_set → m ≤ n →
+    FollowIn es in_set c n s → NoneMet es c ks n m → (t : ℕ) → t < m → NoneOutside es in_set (s t)
+
+-- and it meets none where these have none in any slot that is read.
+abbrev pub NoneMetWithin : Type 0
+NoneMetWithin =
+    (es : List Source) (c : Choices) (ks : List ℕ) (n m : ℕ) (s : ℕ → SlotValues) → IsSlotOrder es ks → IsClosed es (read_slots es) → m ≤ n →
+    Follow es c n s → ((t : ℕ) → t < m → NoneOutside es (read_slots es) (s t)) → NoneMet es c ks n m
