@@ -1,13 +1,14 @@
 //! What is noted from instant to instant.
 
-ghost use Rattle.std.specs.Prelude.{◌≡◌, ◌++◌, ◌∷◌, [], ◌&&◌, eqb, map, length, get_or, None, IfOk, OnOk};
+ghost use Rattle.std.specs.Prelude.{◌≡◌, ◌+◌, ◌<◌, ◌^◌, ◌&&◌, ◌||◌, ◌++◌, ◌∷◌, [], true, suc, cond, eqb, map, length, get_or, None, IfOk, OnOk};
 ghost use Rattle.slot_values.specs.Resolution.{resolved_view};
 ghost use Rattle.slot_values.specs.Evaluated.{outside, slots_in};
 ghost use Rattle.slot_rows.specs.Table.{is_any};
-ghost use Rattle.slot_replay.specs.Conditions.{any_outside, is_true};
-ghost use Rattle.slot_replay.specs.Marks.{marked, noted};
+ghost use Rattle.slot_replay.specs.Conditions.{any_outside, conditions_view, is_true};
+ghost use Rattle.slot_replay.specs.Marks.{marked, marks_after, marks_view, noted};
 
-use crate::truth::truth_in;
+use crate::conditions::Conditions;
+use crate::truth::{truth_in, truths_in};
 use lus_meaning::Value;
 use slot_values::Resolved;
 use std::alloc::{AllocError, Global};
@@ -65,7 +66,7 @@ fn push_marked(
 }
 
 /// What is found of each property, by an instant that counts or doesn't. Whether one has an operation outside 128 bits.
-pub(crate) fn noted(
+fn noted(
     alloc: Global,
     properties: &[Resolved],
     row: &[Option<Value>],
@@ -84,4 +85,40 @@ pub(crate) fn noted(
         outside |= past;
     }
     Ok((new, outside))
+}
+
+/// Whether an instant is lawful, where so many are before it.
+fn does_count(legal: bool, lawful: u32, instant: u32) -> bool
+    ensures { result ≡ (legal && eqb lawful instant) }
+{
+    legal && lawful == instant
+}
+
+/// How many instants are lawful behind one that counts or doesn't.
+fn lawful_after(counts: bool, lawful: u32, instant: u32) -> u32
+    requires { instant + 1 < 2 ^ 32 }
+    ensures { result ≡ cond counts (suc instant) lawful }
+{
+    if counts { instant + 1 } else { lawful }
+}
+
+/// Notes an instant. Whether a condition has an operation outside 128 bits there.
+pub(crate) fn note_instant(
+    alloc: Global,
+    conditions: &Conditions,
+    row: &[Option<Value>],
+    instant: u32,
+    marks: &Marks,
+) -> Result<(Marks, bool), AllocError>
+    requires { instant + 1 < 2 ^ 32 }
+    ensures marks { IfOk result (λ r. marks_view r.0
+        ≡ marks_after (slots_in row.now) (conditions_view conditions.now) instant (marks_view marks.now)) }
+    ensures outside { IfOk result (λ r. r.1 ≡ (any_outside (slots_in row.now) (conditions_view conditions.now).legal
+        || any_outside (slots_in row.now) (conditions_view conditions.now).properties)) }
+{
+    let (legal, past) = truths_in(&conditions.legal, row);
+    let counts = does_count(legal, marks.lawful, instant);
+    let (broken, other) = noted(alloc, &conditions.properties, row, counts, instant, &marks.broken)?;
+    let lawful = lawful_after(counts, marks.lawful, instant);
+    Ok((Marks { lawful, broken }, past | other))
 }
