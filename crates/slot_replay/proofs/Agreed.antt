@@ -1,5 +1,5 @@
 -- Rows that agree on what conditions and parts read have the same answers.
-use Rattle.std.proofs.Common.{◌≡◌, ℕ, zero, suc, ◌<◌, ◌≤◌, Bool, true, false, List, [], ◌∷◌, ◌++◌, Option, Some, None, slice_get, refl, ap, ◌∙◌, sym, subst, arith}
+use Rattle.std.proofs.Common.{◌≡◌, ℕ, zero, suc, ◌<◌, Bool, true, List, [], ◌∷◌, ◌++◌, Option, Some, None, slice_get, refl, ap, ◌∙◌, sym, subst, arith}
 use Rattle.lus_meaning.proofs.Lists.{all_from}
 use Rattle.slot_values.specs.Resolution.{Resolution}
 use Rattle.slot_values.specs.Evaluated.{SlotValues, outside}
@@ -8,8 +8,8 @@ use Rattle.slot_sources.specs.Rows.{is_on, slots_read}
 use Rattle.slot_rows.proofs.Dependence.{SameOn, outside_same, worth_same}
 use Rattle.slot_replay.specs.Conditions.{Conditions, all_true, any_outside, is_true}
 use Rattle.slot_replay.specs.Parts.{Part, pasts_of}
-use Rattle.slot_replay.specs.Answer.{AllGoOn, AreBreaks, AreLawful, Breaks, GoesOn, IsBreak, IsBreakOf, IsFirstTold, IsLawful, Seen, first_past, met_outside}
-use Rattle.slot_replay.specs.Agreement.{AgreeOn, AreIn, BreaksAgree, ConditionsReadIn, FirstAgree, LawfulAgree, PartsReadIn, PastsAgree, ReadIn, SamePasts, WithinTrue}
+use Rattle.slot_replay.specs.Answer.{Breaks, GoesOn, IsBreak, IsBreakOf, IsLawful, first_past, met_outside}
+use Rattle.slot_replay.specs.Agreement.{AgreeOn, AreIn, BreaksAgree, ConditionsReadIn, FirstAgree, LawfulAgree, PartsReadIn, PastsAgree, ReadIn, WithinTrue}
 
 -- ---- at one instant
 
@@ -30,8 +30,11 @@ module _ (in_set : ℕ → Bool) (s r : SlotValues) (agree : AgreeOn in_set s r)
 
   pasts_same : (ps : List Part) → PartsReadIn in_set ps → pasts_of s ps ≡ pasts_of r ps
   pasts_same [] a = refl
-  pasts_same (p ∷ ps) a = rw (agree p.clock.slot a.0.0,
-      outside_same s r (is_on r p.clock) p.expression (same_on (slots_read p.expression) a.0.1), pasts_same ps a.1) refl
+  pasts_same (p ∷ ps) a = rw (
+    agree p.clock.slot a.0.0,
+    outside_same s r (is_on r p.clock) p.expression (same_on (slots_read p.expression) a.0.1),
+    pasts_same ps a.1,
+  ) refl
 
 turned : (in_set : ℕ → Bool) (s r : SlotValues) → AgreeOn in_set s r → AgreeOn in_set r s
 turned in_set s r h k i = sym (h k i)
@@ -98,8 +101,11 @@ pasts_agree in_set q ps n s r reads parts agree flags = record {
 }
   where
     met_same : (t : ℕ) → t < n → met_outside s q t ≡ met_outside r q t
-    met_same t l = rw (flags t l, any_same in_set (s.values t) (r.values t) (agree t l) q.legal reads.legal,
-        any_same in_set (s.values t) (r.values t) (agree t l) q.properties reads.properties) refl
+    met_same t l = rw (
+      flags t l,
+      any_same in_set (s.values t) (r.values t) (agree t l) q.legal reads.legal,
+      any_same in_set (s.values t) (r.values t) (agree t l) q.properties reads.properties,
+    ) refl
 
     first_same : (t : ℕ) → t < n → first_past s ps t ≡ first_past r ps t
     first_same t l = ap (λ xs. slice_get xs 0) (pasts_same in_set (s.values t) (r.values t) (agree t l) ps parts)

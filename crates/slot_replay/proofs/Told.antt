@@ -1,5 +1,7 @@
 -- What is told, from instant to instant.
-use Rattle.std.proofs.Common.{◌≡◌, ℕ, suc, ◌<◌, ◌+◌, Bool, true, ◌||◌, List, None, Some, slice_get, refl, ap, ◌∙◌, sym, subst, arith}
+use Rattle.std.proofs.Common.{◌≡◌, ℕ, suc, ◌<◌, ◌+◌, Bool, true, ◌||◌, List, None, Some, slice_get, ap, ◌∙◌, sym, subst, arith, IfErr, Result, Err}
+use Rattle.std.proofs.lemmas.Result.{err_from_is_err_and}
+use Rattle.std.specs.Result.{IsErrAnd}
 use Rattle.std.proofs.Math.Logic.{◌⊎◌, inl, inr}
 use Rattle.std.proofs.lemmas.Bool.{cases_order}
 use Rattle.slot_values.specs.Evaluated.{SlotValues}
@@ -10,6 +12,11 @@ use Rattle.slot_replay.specs.Conditions.{Conditions, any_outside}
 use Rattle.slot_replay.specs.Parts.{Part, pasts_of}
 use Rattle.slot_replay.specs.Answer.{AllGoOn, GoesOn, IsPast, IsPastAt, IsToldOf, Seen, first_past, met_outside, seen_in}
 use Rattle.slot_replay.specs.Marks.{Marks, marks_after, marks_at}
+
+pub at_err : {T E : Type 0} (P : E → Type 0) (r : Result T E) (e : E) → IsErrAnd r (λ x. x ≡ e) → P e → IfErr r P
+at_err P r e h p =
+    let (y, u, w) = err_from_is_err_and r h in
+    subst (λ (z : Result _ _). IfErr z P) (sym (u ∙ ap Err w)) p
 
 pub told_here : (s : Seen) (q : Conditions) (ps : List Part) (t : ℕ) (z : SlotValues) (met : Bool) (e : ReplayFault) → z ≡ s.values t
     → met ≡ met_outside s q t → met ≡ true → IsToldOf (pasts_of z ps) t e → IsPastAt s q ps t e
@@ -45,4 +52,4 @@ marks_further s q t m u e f =
 pub met_here : (rs : List Row) (q : Conditions) (t : ℕ) (z : SlotValues) (a b : Bool) → z ≡ value_in rs t → a ≡ (row_in rs t).outside
     → b ≡ (any_outside z q.legal || any_outside z q.properties) → (a || b) ≡ met_outside (seen_in rs) q t
 met_here rs q t z a b same e f =
-    rw (e, f) (ap (λ z. (row_in rs t).outside || any_outside z q.legal || any_outside z q.properties) same)
+    rw (e, f) (ap (λ z. (row_in rs t).outside || (any_outside z q.legal || any_outside z q.properties)) same)

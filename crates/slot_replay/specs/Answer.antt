@@ -21,7 +21,7 @@ seen_in rs = record { values = value_in rs; outside = λ t. (row_in rs t).outsid
 
 -- whether something was outside at an instant: in the row, or in a condition
 abbrev pub met_outside : Seen → Conditions → ℕ → Bool
-met_outside s q t = s.outside t || any_outside (s.values t) q.legal || any_outside (s.values t) q.properties
+met_outside s q t = s.outside t || (any_outside (s.values t) q.legal || any_outside (s.values t) q.properties)
 
 -- the first operation outside that a part has there
 abbrev pub first_past : Seen → List Part → ℕ → Option PastAt

@@ -118,7 +118,14 @@ pub(crate) fn note_instant(
 {
     let (legal, past) = truths_in(&conditions.legal, row);
     let counts = does_count(legal, marks.lawful, instant);
-    let (broken, other) = noted(alloc, &conditions.properties, row, counts, instant, &marks.broken)?;
+    let (broken, other) = noted(
+        alloc,
+        &conditions.properties,
+        row,
+        counts,
+        instant,
+        &marks.broken,
+    )?;
     let lawful = lawful_after(counts, marks.lawful, instant);
     Ok((Marks { lawful, broken }, past | other))
 }

@@ -1,6 +1,6 @@
-use Rattle.std.proofs.Common.{◌≡◌, ◌||◌, ap, ◌∙◌}
+use Rattle.std.proofs.Common.{◌||◌, ap, ◌∙◌}
 use Rattle.slot_values.specs.Evaluated.{slots_in}
-use Rattle.slot_rows.specs.Table.{slots_of, table_view, value_in}
+use Rattle.slot_rows.specs.Table.{slots_of, table_view}
 use Rattle.slot_rows.proofs.Slots.{slots_same}
 use Rattle.slot_replay.specs.Conditions.{conditions_view}
 use Rattle.slot_replay.specs.Answer.{seen_in}
