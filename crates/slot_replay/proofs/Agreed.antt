@@ -90,27 +90,27 @@ lawful_agree in_set q n a s r reads agree h = record {
 -- ---- what is told
 
 pub pasts_agree : PastsAgree
-pasts_agree in_set q ps n s r reads parts agree flags = record {
-  told = λ t p h. let l = h.below in record {
-    below = l;
+pasts_agree in_set q ps n m s r reads parts agree flags = record {
+  told = λ t p l h. record {
+    below = h.below;
     met = sym (met_same t l) ∙ h.met;
     first = sym (first_same t l) ∙ h.first;
-    earlier = λ u m. goes_on u (omega (arith, l, m)) (h.earlier u m);
+    earlier = λ u k. goes_on u (omega (arith, l, k)) (h.earlier u k);
   };
   going_on = λ h t l. goes_on t l (h t l);
 }
   where
-    met_same : (t : ℕ) → t < n → met_outside s q t ≡ met_outside r q t
+    met_same : (t : ℕ) → t < m → met_outside s q t ≡ met_outside r q t
     met_same t l = rw (
       flags t l,
       any_same in_set (s.values t) (r.values t) (agree t l) q.legal reads.legal,
       any_same in_set (s.values t) (r.values t) (agree t l) q.properties reads.properties,
     ) refl
 
-    first_same : (t : ℕ) → t < n → first_past s ps t ≡ first_past r ps t
+    first_same : (t : ℕ) → t < m → first_past s ps t ≡ first_past r ps t
     first_same t l = ap (λ xs. slice_get xs 0) (pasts_same in_set (s.values t) (r.values t) (agree t l) ps parts)
 
-    goes_on : (t : ℕ) → t < n → GoesOn s q ps t → GoesOn r q ps t
+    goes_on : (t : ℕ) → t < m → GoesOn s q ps t → GoesOn r q ps t
     goes_on t l h met = sym (first_same t l) ∙ h (met_same t l ∙ met)
 
 first_front : (r : SlotValues) (front rest : List Part) (p : PastAt) → slice_get (pasts_of r front) 0 ≡ Some p

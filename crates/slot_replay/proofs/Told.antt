@@ -53,3 +53,6 @@ pub met_here : (rs : List Row) (q : Conditions) (t : ℕ) (z : SlotValues) (a b 
     → b ≡ (any_outside z q.legal || any_outside z q.properties) → (a || b) ≡ met_outside (seen_in rs) q t
 met_here rs q t z a b same e f =
     rw (e, f) (ap (λ z. (row_in rs t).outside || (any_outside z q.legal || any_outside z q.properties)) same)
+
+pub marks_here : (q : Conditions) (t : ℕ) (m u : Marks) (z w : SlotValues) → z ≡ w → u ≡ marks_after z q t m → u ≡ marks_after w q t m
+marks_here q t m u z w same e = e ∙ ap (λ z. marks_after z q t m) same

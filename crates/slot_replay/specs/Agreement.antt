@@ -42,15 +42,15 @@ LawfulAgree =
     (in_set : ℕ → Bool) (q : Conditions) (n a : ℕ) (s r : ℕ → SlotValues) → ConditionsReadIn in_set q →
     ((t : ℕ) → t < n → AgreeOn in_set (s t) (r t)) → AreLawful s q n a → AreLawful r q n a
 
--- the operation that is told
-pub record SamePasts (q : Conditions) (ps : List Part) (n : ℕ) (s r : Seen) : Type 0 where
-  pub told : (t : ℕ) (p : PastAt) → IsFirstTold s q ps n t p → IsFirstTold r q ps n t p
-  pub going_on : AllGoOn s q ps n → AllGoOn r q ps n
+-- the operation that is told at one of the first m instants, or that there is none
+pub record SamePasts (q : Conditions) (ps : List Part) (n m : ℕ) (s r : Seen) : Type 0 where
+  pub told : (t : ℕ) (p : PastAt) → t < m → IsFirstTold s q ps n t p → IsFirstTold r q ps n t p
+  pub going_on : AllGoOn s q ps m → AllGoOn r q ps m
 
 abbrev pub PastsAgree : Type 0
 PastsAgree =
-    (in_set : ℕ → Bool) (q : Conditions) (ps : List Part) (n : ℕ) (s r : Seen) → ConditionsReadIn in_set q → PartsReadIn in_set ps →
-    ((t : ℕ) → t < n → AgreeOn in_set (s.values t) (r.values t)) → ((t : ℕ) → t < n → s.outside t ≡ r.outside t) → SamePasts q ps n s r
+    (in_set : ℕ → Bool) (q : Conditions) (ps : List Part) (n m : ℕ) (s r : Seen) → ConditionsReadIn in_set q → PartsReadIn in_set ps →
+    ((t : ℕ) → t < m → AgreeOn in_set (s.values t) (r.values t)) → ((t : ℕ) → t < m → s.outside t ≡ r.outside t) → SamePasts q ps n m s r
 
 -- The first operation outside of an instant stands in the parts up to its own, which read only slots of the set.
 abbrev pub FirstAgree : Type 0
