@@ -1,0 +1,6 @@
+pub mod Conditions
+pub mod Parts
+pub mod Answer
+pub mod Shown
+pub mod Marks
+pub mod Agreement

@@ -1,0 +1,44 @@
+//! The parts of an instant.
+
+ghost use Rattle.std.specs.Prelude.{◌≡◌, IfOk, List, map, slice_get};
+ghost use Rattle.slot_values.specs.Evaluated.{slots_in};
+ghost use Rattle.slot_replay.specs.Parts.{Part, part_view, pasts_of};
+
+use crate::truth::is_on;
+use lus_meaning::Value;
+use slot_sources::Switch;
+use slot_values::{PastAt, Resolved, evaluate};
+use std::alloc::{AllocError, Global};
+
+/// An expression that is evaluated where its clock is on.
+#[derive(Drop)]
+pub struct PartAt {
+    pub clock: Switch,
+    pub expression: Resolved,
+}
+
+/// What is evaluated at each instant, in order. It is made only where an operation was outside 128 bits.
+pub trait Parts {
+    /// The parts as contracts see them.
+    ghost parts: { Self → List Part };
+
+    /// The parts.
+    ///
+    /// # Errors
+    ///
+    /// Want of memory.
+    fn in_order(&self, alloc: Global) -> Result<Vec<PartAt>, AllocError>
+        ensures { IfOk result (λ v. map part_view v.items ≡ parts self.now) };
+}
+
+/// The first operation of the first part that has one outside 128 bits.
+pub(crate) fn first_past(parts: &[PartAt], row: &[Option<Value>]) -> Option<PastAt>
+    ensures { result ≡ slice_get (pasts_of (slots_in row.now) (map part_view parts.now)) 0 }
+{
+    for part in parts {
+        if let Err(past) = evaluate(&part.expression, is_on(&part.clock, row), row) {
+            return Some(past);
+        }
+    }
+    None
+}
