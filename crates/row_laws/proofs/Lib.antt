@@ -1,0 +1,12 @@
+pub mod Lists
+pub mod Running
+pub mod Rights
+pub mod Given
+pub mod Own
+pub mod Follow
+pub mod Counted
+pub mod Ranking
+pub mod Needed
+pub mod ModesNeeded
+pub mod Ranks
+pub mod ModeKeys
