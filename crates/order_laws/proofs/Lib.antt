@@ -1,1 +1,7 @@
+pub mod Lists
 pub mod Earlier
+pub mod ModeKeys
+pub mod Same
+pub mod Frames
+pub mod Asked
+pub mod OwnPast
