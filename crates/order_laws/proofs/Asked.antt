@@ -22,9 +22,8 @@ use Rattle.sys_meaning.specs.System.{number_of, below_call}
 use Rattle.sys_meaning.specs.WellTyped.{IsKnown, IsAmong, IsCall, IsPlainCall, IsHeldCall, IsImport, FlagFits, StatementsFit, own_keys, count_of, TreeFits, CallsFit}
 use Rattle.sys_meaning.proofs.Forward.{own_fits}
 use Rattle.sys_meaning.proofs.Whole.{import_beat}
-use Rattle.lus_evaluation.specs.Part.{Part, Setting, part, parts}
+use Rattle.lus_evaluation.specs.Part.{Part, ModeParts, Setting, part}
 use Rattle.lus_evaluation.specs.Past.{past_of_values, part_past, NonePast}
-use Rattle.lus_evaluation.specs.Frame.{ModeText, ContractText, FrameText, no_text, Calls, setting, mode_text, imported_mode, contract_after, Orders, text_at, frame_text, call_texts}
 use Rattle.slot_values.specs.Resolution.{Resolution, known}
 use Rattle.slot_values.specs.Evaluated.{SlotValues, told, outside}
 use Rattle.slot_values.specs.Resolved.{resolution}
@@ -34,6 +33,7 @@ use Rattle.slot_values.specs.Parts.{operands, own_parts, Standpoint, scene_at, s
 use Rattle.slot_values.proofs.Parts.{parts_by_rows}
 use Rattle.evaluation_laws.specs.Resolvings.{Resolving, at_numbers, nowhere, all_resolved, asked_resolving, imported_resolving, resolvings_after, resolvings, resolvings_each}
 use Rattle.evaluation_laws.specs.Rows.{AreCalls, numbers_on, knows, row_at, scene_there, numbers_there, modes_there, RowShows}
+use Rattle.order_laws.specs.Own.{own_setting, own_asked, imported_own, own_modes_after, own_modes, own_modes_each}
 use Rattle.order_laws.proofs.Lists.{left_of, right_of}
 use Rattle.order_laws.proofs.ModeKeys.{keys, imported_keys, resolving_keys, resolvings_more, found_first, known_first}
 use Rattle.order_laws.proofs.Same.{same_resolution, own_among}
@@ -77,39 +77,39 @@ module _ (i : Instance) (f : Frame) (t : ℕ) (shown : (w : List ℕ) → AreCal
   Within qs = NonePast i f qs t
 
   -- where what a mode requires is within, its resolution has no operation outside
-  pub record IsFine (w : List ℕ) (m : ModeText) (q : Key × Resolving) : Type 0 where
-    pub key : q.0 ≡ m.key
-    pub none : (ns : List NeededPlace) → Within (m.asked ns) → outside row ((scene_there i f w).beat t) (q.1 (numbers_there i w)) ≡ []
+  pub record IsFine (w : List ℕ) (m : Key × (List NeededPlace → List Part)) (q : Key × Resolving) : Type 0 where
+    pub key : q.0 ≡ m.0
+    pub none : (ns : List NeededPlace) → Within (m.1 ns) → outside row ((scene_there i f w).beat t) (q.1 (numbers_there i w)) ≡ []
 
-  abbrev pub AreFine : List ℕ → List ModeText → Known Resolving → Type 0
+  abbrev pub AreFine : List ℕ → ModeParts → Known Resolving → Type 0
   AreFine w [] [] = Unit {0}
   AreFine w (m ∷ ms) (q ∷ qs) = IsFine w m q × AreFine w ms qs
   AreFine w [] (q ∷ qs) = ⊥
   AreFine w (m ∷ ms) [] = ⊥
 
-  fine_more : (w : List ℕ) (ms ns : List ModeText) (qs rs : Known Resolving) → AreFine w ms qs → AreFine w ns rs → AreFine w (ms ++ ns) (qs ++ rs)
+  fine_more : (w : List ℕ) (ms ns : ModeParts) (qs rs : Known Resolving) → AreFine w ms qs → AreFine w ns rs → AreFine w (ms ++ ns) (qs ++ rs)
   fine_more w [] ns [] rs a e = e
   fine_more w [] ns (q ∷ qs) rs a e = absurd a
   fine_more w (m ∷ ms) ns [] rs a e = absurd a
   fine_more w (m ∷ ms) ns (q ∷ qs) rs a e = (a.0, fine_more w ms ns qs rs a.1 e)
 
-  abbrev asked_of : List ModeText → Key → List NeededPlace → List Part
-  asked_of ms key ns = (unwrap_or (lookup (mode_key key) (map (λ m. (m.key, m.asked)) ms)) (λ ns. [])) ns
+  abbrev asked_of : ModeParts → Key → List NeededPlace → List Part
+  asked_of ms key ns = (unwrap_or (lookup (mode_key key) ms) (λ ns. [])) ns
 
   abbrev resolved_of : List ℕ → Known Resolving → Key → Resolution
   resolved_of w qs key = unwrap_or (lookup (mode_key key) (at_numbers (numbers_there i w) qs)) (known (flag false))
 
-  pub fine_found : (w : List ℕ) (key : Key) (ns : List NeededPlace) (ms : List ModeText) (qs : Known Resolving) → AreFine w ms qs → IsAmong (keys qs) key →
+  pub fine_found : (w : List ℕ) (key : Key) (ns : List NeededPlace) (ms : ModeParts) (qs : Known Resolving) → AreFine w ms qs → IsAmong (keys qs) key →
       Within (asked_of ms key ns) → outside row ((scene_there i f w).beat t) (resolved_of w qs key) ≡ []
   fine_found w key ns [] [] a h l = absurd (false≢true h)
   fine_found w key ns [] (q ∷ qs) a h l = absurd a
   fine_found w key ns (m ∷ ms) [] a h l = absurd a
   fine_found w key ns (m ∷ ms) (q ∷ qs) a h l =
-      go (mode_key key m.key) (subst (λ z. (mode_key key z || list_any (mode_key key) (keys qs)) ≡ true) a.0.key h) l (fine_found w key ns ms qs a.1)
+      go (mode_key key m.0) (subst (λ z. (mode_key key z || list_any (mode_key key) (keys qs)) ≡ true) a.0.key h) l (fine_found w key ns ms qs a.1)
       (ap (mode_key key) a.0.key)
     where
       go : (c : Bool) → (c || list_any (mode_key key) (keys qs)) ≡ true →
-          Within ((unwrap_or (cond c (Some m.asked) (lookup (mode_key key) (map (λ m. (m.key, m.asked)) ms))) (λ ns. [])) ns) →
+          Within ((unwrap_or (cond c (Some m.1) (lookup (mode_key key) ms)) (λ ns. [])) ns) →
           (IsAmong (keys qs) key → Within (asked_of ms key ns) → outside row ((scene_there i f w).beat t) (resolved_of w qs key) ≡ []) →
           mode_key key q.0 ≡ c →
           outside row ((scene_there i f w).beat t)
@@ -122,15 +122,15 @@ module _ (i : Instance) (f : Frame) (t : ℕ) (shown : (w : List ℕ) → AreCal
 
   abbrev ModeIsFine : List ℕ → Instance → Type 0
   ModeIsFine w j =
-      (sub : Calls) (ks : List Key) (ms : List ModeText) (qs more : Known Resolving) → AreFine w ms qs → keys qs ≡ ks → resolvings j ≡ qs ++ more →
-      (m : Name) (rs es : List Labelled) → AllByRecursion (FlagFits j ks) rs →
-      IsFine w (mode_text (setting j w sub ms) m rs es) (([], m), asked_resolving j qs rs)
+      (ks : List Key) (ms : ModeParts) (qs more : Known Resolving) → AreFine w ms qs → keys qs ≡ ks → resolvings j ≡ qs ++ more →
+      (m : Name) (rs : List Labelled) → AllByRecursion (FlagFits j ks) rs →
+      IsFine w (([], m), own_asked j w ms rs) (([], m), asked_resolving j qs rs)
 
   module _ (w : List ℕ) (sh : RowShows i f t w) where
     abbrev s : Scene
     s = scene_there i f w
 
-    module _ (sub : Calls) (ks : List Key) (ms : List ModeText) (qs more : Known Resolving) (fine : AreFine w ms qs) (named : keys qs ≡ ks)
+    module _ (ks : List Key) (ms : ModeParts) (qs more : Known Resolving) (fine : AreFine w ms qs) (named : keys qs ≡ ks)
         (all : resolvings s.place ≡ qs ++ more) where
       abbrev among : Key → Bool
       among key = list_any (mode_key key) ks
@@ -143,8 +143,8 @@ module _ (i : Instance) (f : Frame) (t : ℕ) (shown : (w : List ℕ) → AreCal
         top = i;
         frame = f;
         way = w;
-        body = λ k. (sub k).body;
-        asked = map (λ m. (m.key, m.asked)) ms;
+        body = λ k. [];
+        asked = ms;
         test = among;
         numbers = numbers_there i w;
         modes = modes_there i f w;
@@ -182,9 +182,9 @@ module _ (i : Instance) (f : Frame) (t : ℕ) (shown : (w : List ℕ) → AreCal
           ∙ fine_found w key ns ms qs fine (among_keys key k) l
 
       abbrev g : Setting
-      g = setting s.place w sub ms
+      g = own_setting s.place w ms
 
-      one_fine : (ns : List NeededPlace) (r : Labelled) → FlagFits s.place ks r → Within (parts g ns [] base r.value) →
+      one_fine : (ns : List NeededPlace) (r : Labelled) → FlagFits s.place ks r → Within (own_parts g ns [] base r.value) →
           outside row (s.beat t) (resolution (record { place = s.place; number = numbers_there i w; modes = at_numbers (numbers_there i w) qs }) r.value) ≡ []
       one_fine ns r h l =
           ap (outside row (s.beat t)) (same_resolution s.place (numbers_there i w) (IsAmong ks) (at_numbers (numbers_there i w) qs) (modes_there i f w)
@@ -199,33 +199,33 @@ module _ (i : Instance) (f : Frame) (t : ℕ) (shown : (w : List ℕ) → AreCal
           by = parts_by_rows v shown_first first_within ns [] base r.value h.0 (base_there i f t w sh)
 
           owned : Within (operands g ns base r.value ++ part g ns [] base r.value ∷ [])
-          owned = subst Within by.ends (own_among Fine g ns [] base r.value l)
+          owned = subst Within by.ends l
 
       each_fine : (ns : List NeededPlace) (rs : List Labelled) → AllByRecursion (FlagFits s.place ks) rs →
-          Within (flat_map (λ r. parts g ns [] base r.value) rs) →
+          Within (own_asked s.place w ms rs ns) →
           AllByRecursion (λ r. outside row (s.beat t) r ≡ [])
           (map (λ r. resolution (record { place = s.place; number = numbers_there i w; modes = at_numbers (numbers_there i w) qs }) r.value) rs)
       each_fine ns [] a l = tt
       each_fine ns (r ∷ rs) a l = (
-        one_fine ns r a.0 (left_of (λ q. part_past i f q t ≡ None) (parts g ns [] base r.value) _ l),
-        each_fine ns rs a.1 (right_of (λ q. part_past i f q t ≡ None) (parts g ns [] base r.value) _ l),
+        one_fine ns r a.0 (left_of (λ q. part_past i f q t ≡ None) (own_parts g ns [] base r.value) _ l),
+        each_fine ns rs a.1 (right_of (λ q. part_past i f q t ≡ None) (own_parts g ns [] base r.value) _ l),
       )
 
-      fine_here : (m : Name) (rs es : List Labelled) → AllByRecursion (FlagFits s.place ks) rs →
-          IsFine w (mode_text g m rs es) (([], m), asked_resolving s.place qs rs)
-      fine_here m rs es a = record { key = refl; none = λ ns l. all_none row (s.beat t) _ (each_fine ns rs a l) }
+      fine_here : (m : Name) (rs : List Labelled) → AllByRecursion (FlagFits s.place ks) rs →
+          IsFine w (([], m), own_asked s.place w ms rs) (([], m), asked_resolving s.place qs rs)
+      fine_here m rs a = record { key = refl; none = λ ns l. all_none row (s.beat t) _ (each_fine ns rs a l) }
 
     mode_fine : ModeIsFine w s.place
-    mode_fine sub ks ms qs more a n e m rs es h = fine_here sub ks ms qs more a n e m rs es h
+    mode_fine ks ms qs more a n e m rs h = fine_here ks ms qs more a n e m rs h
 
   mode_fine_at : (w : List ℕ) (j : Instance) → StandsAt i f w j → ModeIsFine w j
   mode_fine_at w j a = subst (ModeIsFine w) a.place (mode_fine w (shown w a.calls))
 
   -- ---- imports
 
-  imported_fine : (w : List ℕ) (k : ℕ) (c : Name) (ms : List ModeText) (qs : Known Resolving) →
+  imported_fine : (w : List ℕ) (k : ℕ) (c : Name) (ms : ModeParts) (qs : Known Resolving) →
       (scene_there i f (w ++ k ∷ [])).beat ≡ (scene_there i f w).beat → AreFine (w ++ k ∷ []) ms qs →
-      AreFine w (map (imported_mode c) ms) (map (imported_resolving k c) qs)
+      AreFine w (map (imported_own c) ms) (map (imported_resolving k c) qs)
   imported_fine w k c [] [] e a = tt
   imported_fine w k c [] (q ∷ qs) e a = absurd a
   imported_fine w k c (m ∷ ms) [] e a = absurd a
@@ -249,14 +249,14 @@ module _ (i : Instance) (f : Frame) (t : ℕ) (shown : (w : List ℕ) → AreCal
   abbrev under : Name → Key → Key
   under c z = (c ∷ z.0, z.1)
 
-  module _ (w : List ℕ) (j : Instance) (stands : StandsAt i f w j) (sub : Calls) (subr : ℕ → Known Resolving) where
+  module _ (w : List ℕ) (j : Instance) (stands : StandsAt i f w j) (sub : ℕ → ModeParts) (subr : ℕ → Known Resolving) where
     pub record Below (k : ℕ) : Type 0 where
       pub same : subr k ≡ resolvings (call_instance j k)
-      pub fine : AreFine (w ++ k ∷ []) (sub k).contract.modes (subr k)
+      pub fine : AreFine (w ++ k ∷ []) (sub k) (subr k)
 
-    after : ((k : ℕ) → IsImport j k → Below k) → (ks : List Key) (ms : List ModeText) (qs : Known Resolving) (cs : List ContractStatement) →
+    after : ((k : ℕ) → IsImport j k → Below k) → (ks : List Key) (ms : ModeParts) (qs : Known Resolving) (cs : List ContractStatement) →
         StatementsFit j ks cs → AreFine w ms qs → keys qs ≡ ks → resolvings j ≡ resolvings_after j subr qs cs →
-        AreFine w (contract_after j w sub ms cs).modes (resolvings_after j subr qs cs)
+        AreFine w (own_modes_after j w sub ms cs) (resolvings_after j subr qs cs)
     after below ks ms qs [] h a k e = a
     after below ks ms qs (assume l ∷ cs) h a k e = after below (ks ++ []) ms qs cs h.1 a (k ∙ sym (append_none ks)) e
     after below ks ms qs (guarantee l ∷ cs) h a k e = after below (ks ++ []) ms qs cs h.1 a (k ∙ sym (append_none ks)) e
@@ -264,19 +264,19 @@ module _ (i : Instance) (f : Frame) (t : ℕ) (shown : (w : List ℕ) → AreCal
     after below ks ms qs (constant c ∷ cs) h a k e = after below (ks ++ []) ms qs cs h.1 a (k ∙ sym (append_none ks)) e
     after below ks ms qs (mode m rs es ∷ cs) h a k e =
         let later = resolvings_more j subr qs (mode m rs es ∷ cs) in
-        let one : List ModeText = mode_text (setting j w sub ms) m.text rs es ∷ [] in
+        let one : ModeParts = (([], m.text), own_asked j w ms rs) ∷ [] in
         let resolving : Known Resolving = (([], m.text), asked_resolving j qs rs) ∷ [] in
         after below (ks ++ ([], m.text) ∷ []) (ms ++ one) (qs ++ resolving) cs h.1
         (fine_more w ms one qs resolving a
-        (mode_fine_at w j stands sub ks ms qs later.0 a k (e ∙ later.1) m.text rs es h.0.0, tt))
+        (mode_fine_at w j stands ks ms qs later.0 a k (e ∙ later.1) m.text rs h.0.0, tt))
         (map_append (λ q. q.0) qs resolving ∙ ap (λ l. l ++ ([], m.text) ∷ []) k) e
     after below ks ms qs («import» n c as_ xs ∷ cs) h a k e =
         let there : Below n = below n h.0 in
-        let some : List ModeText = map (imported_mode c.text) (sub n).contract.modes in
+        let some : ModeParts = map (imported_own c.text) (sub n) in
         let resolving : Known Resolving = map (imported_resolving n c.text) (subr n) in
         after below (ks ++ own_keys j («import» n c as_ xs)) (ms ++ some) (qs ++ resolving) cs h.1
         (fine_more w ms some qs resolving a
-        (imported_fine w n c.text (sub n).contract.modes (subr n) (same_beat w j stands n h.0) there.fine))
+        (imported_fine w n c.text (sub n) (subr n) (same_beat w j stands n h.0) there.fine))
         (map_append (λ q. q.0) qs resolving ∙ ap (λ l. l ++ keys resolving) k
         ∙ ap (λ l. ks ++ l) (imported_keys n c.text (subr n)
         ∙ ap (map (under c.text)) (ap keys there.same ∙ resolving_keys (call_instance j n))
@@ -289,40 +289,39 @@ module _ (i : Instance) (f : Frame) (t : ℕ) (shown : (w : List ℕ) → AreCal
 
   -- ---- at every depth
 
-  module _ (o : Orders) where
-    abbrev FrameIsFine : List ℕ → Instance → Type 0
-    FrameIsFine w j = AreFine w (frame_text o w j).contract.modes (resolvings j)
+  abbrev FrameIsFine : List ℕ → Instance → Type 0
+  FrameIsFine w j = AreFine w (own_modes w j) (resolvings j)
 
-    abbrev CallIsFine : List ℕ → Instances → ℕ → ℕ → Type 0
-    CallIsFine w is n p =
-        (slice_index_or (resolvings_each is) p [] ≡ resolvings (instance_at is p))
-        × AreFine (w ++ n ∷ []) (slice_index_or (call_texts o w is) p no_text).contract.modes (slice_index_or (resolvings_each is) p [])
+  abbrev CallIsFine : List ℕ → Instances → ℕ → ℕ → Type 0
+  CallIsFine w is n p =
+      (slice_index_or (resolvings_each is) p [] ≡ resolvings (instance_at is p))
+      × AreFine (w ++ n ∷ []) (slice_index_or (own_modes_each w is) p []) (slice_index_or (resolvings_each is) p [])
 
-    from_calls : (w : List ℕ) (d : Component) (cs : List (Name × Value)) (is : Instances) → StandsAt i f w (instance d cs is) →
-        ((p : ℕ) → p < count_of is → StandsAt i f (w ++ suc p ∷ []) (instance_at is p) → CallIsFine w is (suc p) p) → FrameIsFine w (instance d cs is)
-    from_calls w d cs is a each =
-        after w (instance d cs is) a (text_at (call_texts o w is)) (λ k. slice_index_or (resolvings_each is) (pred k) [])
-        (λ k im. below k im.call.counted im.call.listed) [] [] []
-        (contract_statements d) (own_fits IsKnown (instance d cs is) a.fits).contract tt refl refl
-      where
-        below : (k : ℕ) → 0 < k → pred k < count_of is → Below w (instance d cs is) a (text_at (call_texts o w is))
-            (λ k. slice_index_or (resolvings_each is) (pred k) []) k
-        below zero c l = absurd (omega arith)
-        below (suc p) c l =
-            let r : CallIsFine w is (suc p) p = each p l (stands_called i f w (instance d cs is) a (suc p) c l) in
-            record { same = r.0; fine = r.1 }
+  from_calls : (w : List ℕ) (d : Component) (cs : List (Name × Value)) (is : Instances) → StandsAt i f w (instance d cs is) →
+      ((p : ℕ) → p < count_of is → StandsAt i f (w ++ suc p ∷ []) (instance_at is p) → CallIsFine w is (suc p) p) → FrameIsFine w (instance d cs is)
+  from_calls w d cs is a each =
+      after w (instance d cs is) a (λ k. slice_index_or (own_modes_each w is) (pred k) []) (λ k. slice_index_or (resolvings_each is) (pred k) [])
+      (λ k im. below k im.call.counted im.call.listed) [] [] []
+      (contract_statements d) (own_fits IsKnown (instance d cs is) a.fits).contract tt refl refl
+    where
+      below : (k : ℕ) → 0 < k → pred k < count_of is → Below w (instance d cs is) a (λ k. slice_index_or (own_modes_each w is) (pred k) [])
+          (λ k. slice_index_or (resolvings_each is) (pred k) []) k
+      below zero c l = absurd (omega arith)
+      below (suc p) c l =
+          let r : CallIsFine w is (suc p) p = each p l (stands_called i f w (instance d cs is) a (suc p) c l) in
+          record { same = r.0; fine = r.1 }
 
-    mutual
-      pub frame_fine : (w : List ℕ) (j : Instance) → StandsAt i f w j → FrameIsFine w j
-      frame_fine w (instance d cs is) a =
-          from_calls w d cs is a (λ p l s. calls_fine w (instance d cs is) is 0 a.fits.1 p (suc p) (omega arith) l s)
+  mutual
+    pub frame_fine : (w : List ℕ) (j : Instance) → StandsAt i f w j → FrameIsFine w j
+    frame_fine w (instance d cs is) a =
+        from_calls w d cs is a (λ p l s. calls_fine w (instance d cs is) is 0 a.fits.1 p (suc p) (omega arith) l s)
 
-      calls_fine : (w : List ℕ) (j : Instance) (is : Instances) (q : ℕ) → CallsFit IsKnown j is q → (p n : ℕ) → n ≡ suc (q + p) → p < count_of is →
-          StandsAt i f (w ++ n ∷ []) (instance_at is p) →
-          CallIsFine w is n p
-      calls_fine w j no_instances q h p n e l a = absurd (omega arith)
-      calls_fine w j (with_instance c k is) q h zero n e l a =
-          let same : n ≡ c.number = (let u : n ≡ suc q = omega arith in u ∙ sym h.0.number) in
-          (refl, subst (λ z. AreFine (w ++ n ∷ []) (frame_text o (w ++ z ∷ []) k).contract.modes (resolvings k)) same (frame_fine (w ++ n ∷ []) k a))
-      calls_fine w j (with_instance c k is) q h (suc p) n e l a =
-          calls_fine w j is (suc q) h.2 p n (let u : n ≡ suc (suc q + p) = omega arith in u) (omega arith) a
+    calls_fine : (w : List ℕ) (j : Instance) (is : Instances) (q : ℕ) → CallsFit IsKnown j is q → (p n : ℕ) → n ≡ suc (q + p) → p < count_of is →
+        StandsAt i f (w ++ n ∷ []) (instance_at is p) →
+        CallIsFine w is n p
+    calls_fine w j no_instances q h p n e l a = absurd (omega arith)
+    calls_fine w j (with_instance c k is) q h zero n e l a =
+        let same : n ≡ c.number = (let u : n ≡ suc q = omega arith in u ∙ sym h.0.number) in
+        (refl, subst (λ z. AreFine (w ++ n ∷ []) (own_modes (w ++ z ∷ []) k) (resolvings k)) same (frame_fine (w ++ n ∷ []) k a))
+    calls_fine w j (with_instance c k is) q h (suc p) n e l a =
+        calls_fine w j is (suc q) h.2 p n (let u : n ≡ suc (suc q + p) = omega arith in u) (omega arith) a

@@ -12,7 +12,6 @@ use Rattle.sys_meaning.specs.Items.{Key}
 use Rattle.sys_meaning.specs.WellTyped.{IsKnown, IsAmong, TreeFits}
 use Rattle.path_laws.proofs.Main.{each_is_well_typed}
 use Rattle.lus_evaluation.specs.Part.{asked_in}
-use Rattle.lus_evaluation.specs.Frame.{Orders}
 use Rattle.slot_values.specs.Parts.{ModesWithin, setting_at}
 use Rattle.slot_values.proofs.Parts.{parts_by_rows}
 use Rattle.evaluation_laws.specs.Resolvings.{resolvings}
@@ -28,14 +27,14 @@ module _ (i : Instance) (f : Frame) (t : ℕ) (shown : (w : List ℕ) → AreCal
   known_key j key h =
       ap (λ l. list_any (mode_key key) l) (resolving_keys j) ∙ keys_any key (terms j).modes ∙ h
 
-  pub modes_within : (o : Orders) (w : List ℕ) → AreCalls i w → ModesWithin (standpoint_there o i f t w)
-  modes_within o w a key ns k l =
+  pub modes_within : (w : List ℕ) → AreCalls i w → ModesWithin (standpoint_there i f t w)
+  modes_within w a key ns k l =
       let j : Instance = place_there i f w in
-      fine_found i f t shown w key ns _ (resolvings j) (frame_fine i f t shown o w j (stands_there i f w a fits)) (known_key j key k) l
+      fine_found i f t shown w key ns _ (resolvings j) (frame_fine i f t shown w j (stands_there i f w a fits)) (known_key j key k) l
 
   pub own_past_there : (w : List ℕ) → AreCalls i w → OwnPast i f t w
-  own_past_there w a o ns xs c e h k =
-      parts_by_rows (standpoint_there o i f t w) (shown w a) (modes_within o w a) ns xs c e h (clock_there i f t w (shown w a) c k)
+  own_past_there w a ns xs c e h k =
+      parts_by_rows (standpoint_there i f t w) (shown w a) (modes_within w a) ns xs c e h (clock_there i f t w (shown w a) c k)
 
 pub rows_have_own_past : RowsHaveOwnPast
 rows_have_own_past p c n j m f r t l w a =
