@@ -5,3 +5,6 @@ pub mod Same
 pub mod Frames
 pub mod Asked
 pub mod OwnPast
+pub mod Placed
+pub mod Laying
+pub mod Laid
