@@ -8,3 +8,4 @@ pub mod OwnPast
 pub mod Placed
 pub mod Laying
 pub mod Laid
+pub mod Items
