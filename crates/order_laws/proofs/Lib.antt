@@ -9,3 +9,4 @@ pub mod Placed
 pub mod Laying
 pub mod Laid
 pub mod Items
+pub mod Contracts
