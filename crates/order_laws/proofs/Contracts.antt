@@ -5,7 +5,7 @@ use Rattle.std.specs.List.{AllByRecursion, list_any}
 use Rattle.std.specs.Map.{lookup}
 use Rattle.std.proofs.Math.Logic.{◌⊎◌, inl, inr}
 use Rattle.std.proofs.lemmas.Bool.{false≢true, eqb-true}
-use Rattle.lus_tree.specs.Tree.{Name, Expression, Labelled, ContractStatement, assume, guarantee, ghost_variable, constant, mode, «import», Component, Program}
+use Rattle.lus_tree.specs.Tree.{Name, Spelled, Expression, Labelled, ContractStatement, assume, guarantee, ghost_variable, constant, mode, «import», Component, Program}
 use Rattle.lus_meaning.specs.Frame.{Frame}
 use Rattle.lus_meaning.specs.Scene.{base, Instance, component_of, call_instance}
 use Rattle.lus_meaning.specs.Meaning.{mode_key}
@@ -286,3 +286,165 @@ module _ (i : Instance) (f : Frame) (t : ℕ) where
       pub all : k.modes ≡ first ++ more
       pub imports : (b : List Part) → Has sub ins b → Laid b (flat_map (import_parts (setting j w sub k.modes)) cs)
       pub has : (b : List Part) → Has sub ins b → Has sub (ins ++ import_numbers cs) (b ++ flat_map (import_parts (setting j w sub k.modes)) cs)
+
+    own_more : (qs : ModeParts) (cs : List ContractStatement) → (more : ModeParts) × (own_modes_after j w subo qs cs ≡ qs ++ more)
+    own_more qs [] = ([], sym (append_none qs))
+    own_more qs (assume l ∷ cs) = own_more qs cs
+    own_more qs (guarantee l ∷ cs) = own_more qs cs
+    own_more qs (ghost_variable x e ∷ cs) = own_more qs cs
+    own_more qs (constant x ∷ cs) = own_more qs cs
+    own_more qs (mode m rs es ∷ cs) =
+        let one : ModeParts = (([], m.text), own_asked j w qs rs) ∷ [] in
+        let r = own_more (qs ++ one) cs in
+        (one ++ r.0, r.1 ∙ grouped qs one r.0)
+    own_more qs («import» k x as_ xs ∷ cs) =
+        let some : ModeParts = map (imported_own x.text) (subo k) in
+        let r = own_more (qs ++ some) cs in
+        (some ++ r.0, r.1 ∙ grouped qs some r.0)
+
+    has_at : (ins : List ℕ) (k : ℕ) (more : List ℕ) (b : List Part) → Has sub (ins ++ k ∷ more) b → Holds (sub k).body b
+    has_at [] k more b a = a.0
+    has_at (n ∷ ins) k more b a = has_at ins k more b a.1
+
+    holds_further : (b qs : List Part) → Holds qs (b ++ qs)
+    holds_further b qs = all_from (λ r. IsIn r qs) (λ r. IsIn r (b ++ qs)) (λ r m. in_right r b qs m) qs (all_in_self qs)
+
+    under_all : (x : Name) (ts : List ModeTerms) →
+        map (λ (z : Key). let r : Key = (x ∷ z.0, z.1) in r) (map (λ m. m.key) ts) ≡ map (λ (m : ModeTerms). let r : Key = (x ∷ m.key.0, m.key.1) in r) ts
+    under_all x [] = refl
+    under_all x (m ∷ ts) = ap (λ l. let r : List Key = (x ∷ m.key.0, m.key.1) ∷ l in r) (under_all x ts)
+
+    module _ (below : (k : ℕ) → IsImport j k → Below k) where
+      import_laid : (ks : List Key) (ms : List ModeText) (qs : ModeParts) (ins : List ℕ) (here : Before ks ms qs ins) (n : ℕ) (x : Spelled)
+          (as_ : List Expression) (xs : List Spelled) (cs : List ContractStatement) → AllByRecursion (LabelFits j ks) as_ → Below n →
+          (k : ContractText) (own : ModeParts) (some : List ModeText) → AfterLaid (ins ++ n ∷ []) k own cs (ms ++ some) →
+          (ins ++ n ∷ []) ++ import_numbers cs ≡ ins ++ (n ∷ import_numbers cs) →
+          AfterLaid ins (record k { assumed = (sub n).contract.assumed ++ k.assumed; guaranteed = (sub n).contract.guaranteed ++ k.guaranteed })
+          own («import» n x as_ xs ∷ cs) ms
+      import_laid ks ms qs ins here n x as_ xs cs h there k own some r g = record {
+        modes = subst (λ l. AreLaid w (Has sub l) k.modes own) g r.modes;
+        assumed = λ b q. both b (sub n).contract.assumed k.assumed (there.laid.assumed b (has_at ins n (import_numbers cs) b q))
+            (r.assumed (b ++ (sub n).contract.assumed) (back (b ++ (sub n).contract.assumed)
+            (has_more sub (ins ++ (n ∷ import_numbers cs)) b (sub n).contract.assumed q)));
+        guaranteed = λ b q. both b (sub n).contract.guaranteed k.guaranteed (there.laid.guaranteed b (has_at ins n (import_numbers cs) b q))
+            (r.guaranteed (b ++ (sub n).contract.guaranteed) (back (b ++ (sub n).contract.guaranteed)
+            (has_more sub (ins ++ (n ∷ import_numbers cs)) b (sub n).contract.guaranteed q)));
+        more = some ++ r.more;
+        all = all;
+        imports = λ b q. both b (given ++ (sub n).body) rest (both b given (sub n).body (given_laid b q) (body n (b ++ given)))
+            (r.imports (b ++ (given ++ (sub n).body)) (has_now b q));
+        has = λ b q. subst (λ l. Has sub l (b ++ ((given ++ (sub n).body) ++ rest))) g
+            (subst (Has sub ((ins ++ n ∷ []) ++ import_numbers cs)) (grouped b (given ++ (sub n).body) rest)
+            (r.has (b ++ (given ++ (sub n).body)) (has_now b q)));
+      }
+        where
+          all : k.modes ≡ ms ++ (some ++ r.more)
+          all = r.all ∙ grouped ms some r.more
+
+          given : List Part
+          given = wholes (setting j w sub k.modes) base as_
+
+          rest : List Part
+          rest = flat_map (import_parts (setting j w sub k.modes)) cs
+
+          back : (b : List Part) → Has sub (ins ++ (n ∷ import_numbers cs)) b → Has sub ((ins ++ n ∷ []) ++ import_numbers cs) b
+          back b q = subst (λ l. Has sub l b) (sym g) q
+
+          given_laid : (b : List Part) → Has sub ins b → Laid b given
+          given_laid b q =
+              subst (λ z. Laid b (wholes (setting j w sub z) base as_)) (sym all) (labels_laid ks ms qs ins here (some ++ r.more) as_ h b q)
+
+          has_now : (b : List Part) → Has sub ins b → Has sub (ins ++ n ∷ []) (b ++ (given ++ (sub n).body))
+          has_now b q =
+              both_parts (λ k. Holds (sub k).body (b ++ (given ++ (sub n).body))) ins (n ∷ [])
+              (has_more sub ins b (given ++ (sub n).body) q)
+              (all_from (λ y. IsIn y (sub n).body) (λ y. IsIn y (b ++ (given ++ (sub n).body)))
+              (λ y m. in_right y b (given ++ (sub n).body) (in_right y given (sub n).body m)) (sub n).body (all_in_self (sub n).body), tt)
+
+      pub after : (ks : List Key) (ms : List ModeText) (qs : ModeParts) (ins : List ℕ) (cs : List ContractStatement) → ItemsFit j ks cs →
+          AreLaid w (Has sub ins) ms qs → keys qs ≡ ks → own_modes w j ≡ own_modes_after j w subo qs cs →
+          AfterLaid ins (contract_after j w sub ms cs) (own_modes_after j w subo qs cs) cs ms
+      after ks ms qs ins [] h a k e = record {
+        modes = subst (λ l. AreLaid w (Has sub l) ms qs) (sym (append_none ins)) a;
+        assumed = λ b r. tt;
+        guaranteed = λ b r. tt;
+        more = [];
+        all = sym (append_none ms);
+        imports = λ b r. tt;
+        has = λ b r. subst (λ l. Has sub l (b ++ [])) (sym (append_none ins)) (has_more sub ins b [] r);
+      }
+      after ks ms qs ins (assume l ∷ cs) h a k e =
+          let more = own_more qs cs in
+          let here : Before ks ms qs ins = record { laid = a; named = k; more = more.0; all = e ∙ more.1 } in
+          let r = after (ks ++ []) ms qs ins cs h.1 a (k ∙ sym (append_none ks)) e in
+          let one : List Part = conditions_of (setting j w sub ms) (l ∷ []) in
+          record {
+            modes = r.modes;
+            assumed = λ b q. both b one _ (here_laid ks ms qs ins here (l ∷ []) (h.0, tt) b (has_left sub ins (import_numbers cs) b q))
+                (r.assumed (b ++ one) (has_more sub (ins ++ import_numbers cs) b one q));
+            guaranteed = r.guaranteed;
+            more = r.more;
+            all = r.all;
+            imports = r.imports;
+            has = r.has;
+          }
+      after ks ms qs ins (guarantee l ∷ cs) h a k e =
+          let more = own_more qs cs in
+          let here : Before ks ms qs ins = record { laid = a; named = k; more = more.0; all = e ∙ more.1 } in
+          let r = after (ks ++ []) ms qs ins cs h.1 a (k ∙ sym (append_none ks)) e in
+          let one : List Part = conditions_of (setting j w sub ms) (l ∷ []) in
+          record {
+            modes = r.modes;
+            assumed = r.assumed;
+            guaranteed = λ b q. both b one _ (here_laid ks ms qs ins here (l ∷ []) (h.0, tt) b (has_left sub ins (import_numbers cs) b q))
+                (r.guaranteed (b ++ one) (has_more sub (ins ++ import_numbers cs) b one q));
+            more = r.more;
+            all = r.all;
+            imports = r.imports;
+            has = r.has;
+          }
+      after ks ms qs ins (ghost_variable x y ∷ cs) h a k e =
+          let r = after (ks ++ []) ms qs ins cs h.1 a (k ∙ sym (append_none ks)) e in
+          record {
+            modes = r.modes; assumed = r.assumed; guaranteed = r.guaranteed; more = r.more; all = r.all; imports = r.imports; has = r.has;
+          }
+      after ks ms qs ins (constant x ∷ cs) h a k e =
+          let r = after (ks ++ []) ms qs ins cs h.1 a (k ∙ sym (append_none ks)) e in
+          record {
+            modes = r.modes; assumed = r.assumed; guaranteed = r.guaranteed; more = r.more; all = r.all; imports = r.imports; has = r.has;
+          }
+      after ks ms qs ins (mode m rs es ∷ cs) h a k e =
+          let more = own_more qs (mode m rs es ∷ cs) in
+          let here : Before ks ms qs ins = record { laid = a; named = k; more = more.0; all = e ∙ more.1 } in
+          let one : List ModeText = mode_text (setting j w sub ms) m.text rs es ∷ [] in
+          let own : ModeParts = (([], m.text), own_asked j w qs rs) ∷ [] in
+          let r = after (ks ++ ([], m.text) ∷ []) (ms ++ one) (qs ++ own) ins cs h.1
+          (laid_more w (Has sub ins) ms one qs own a (one_mode ks ms qs ins here m.text rs es h.0.0 h.0.1, tt))
+          (map_append (λ q. q.0) qs own ∙ ap (λ l. let z : List Key = l ++ ([], m.text) ∷ [] in z) k) e in
+          record {
+            modes = r.modes;
+            assumed = r.assumed;
+            guaranteed = r.guaranteed;
+            more = one ++ r.more;
+            all = r.all ∙ grouped ms one r.more;
+            imports = r.imports;
+            has = r.has;
+          }
+      after ks ms qs ins («import» n x as_ xs ∷ cs) h a k e =
+          let more = own_more qs («import» n x as_ xs ∷ cs) in
+          let here : Before ks ms qs ins = record { laid = a; named = k; more = more.0; all = e ∙ more.1 } in
+          let there : Below n = below n h.0.0 in
+          let some : List ModeText = map (imported_mode x.text) (sub n).contract.modes in
+          let own : ModeParts = map (imported_own x.text) (subo n) in
+          let wider : AreLaid w (Has sub (ins ++ n ∷ [])) ms qs =
+          laid_when w (Has sub ins) (Has sub (ins ++ n ∷ [])) (λ b r. has_left sub ins (n ∷ []) b r) ms qs a in
+          let brought : AreLaid w (Has sub (ins ++ n ∷ [])) some own =
+          laid_when w (Holds (sub n).body) (Has sub (ins ++ n ∷ [])) (λ b r. has_at ins n [] b r) some own
+          (imported_laid w n x.text (Holds (sub n).body) there.laid.settled (sub n).contract.modes (subo n) there.laid.modes) in
+          let r = after (ks ++ own_keys j («import» n x as_ xs)) (ms ++ some) (qs ++ own) (ins ++ n ∷ []) cs h.1
+          (laid_more w (Has sub (ins ++ n ∷ [])) ms some qs own wider brought)
+          (map_append (λ q. q.0) qs own ∙ ap (λ l. l ++ keys own) k
+          ∙ ap (λ l. ks ++ l) (imported_keys x.text (subo n)
+          ∙ ap (λ l. map (λ (z : Key). let r : Key = (x.text ∷ z.0, z.1) in r) l) there.keyed
+          ∙ under_all x.text (terms (call_instance j n)).modes)) e in
+          import_laid ks ms qs ins here n x as_ xs cs h.0.1 there _ _ some r (grouped ins (n ∷ []) (import_numbers cs))
