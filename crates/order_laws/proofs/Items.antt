@@ -229,7 +229,7 @@ module _ (p : Program) (c : IsChecked p) (i : Instance) (u : IsUnfolded p i) (j 
   name_known s (call q l f as_) h = tt
   name_known s (condact q l a f as_ ds) h = tt
 
-  text_fits : (s : Standing) (e : Expression) → Each (Known i) (component_of i) s e → TextFits i s e
+  pub text_fits : (s : Standing) (e : Expression) → Each (Known i) (component_of i) s e → TextFits i s e
   text_fits s e a =
       (a, each_of_both (Known i) (Known i) (Named (IsKnown i)) (λ o x y. name_known o.standing o.expression x) (component_of i) s e a a)
 

@@ -10,3 +10,4 @@ pub mod Laying
 pub mod Laid
 pub mod Items
 pub mod Contracts
+pub mod Sites
