@@ -11,3 +11,4 @@ pub mod Laid
 pub mod Items
 pub mod Contracts
 pub mod Sites
+pub mod Bodies
