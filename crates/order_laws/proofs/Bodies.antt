@@ -44,8 +44,8 @@ use Rattle.order_laws.proofs.Placed.{Settled, OwnIn, EachPlaced, placed_both, al
 use Rattle.order_laws.proofs.Laying.{Has, has_more}
 use Rattle.order_laws.proofs.Laid.{each_laid}
 use Rattle.order_laws.proofs.Items.{TextFits, SideFits, items_fit, sides_fit, assertions_fit}
-use Rattle.order_laws.proofs.Sites.{SitesHeld, TextHeld, text_held, CallKnown, SiteKnown}
-use Rattle.order_laws.proofs.Contracts.{Holds, import_numbers, AreLaid, laid_found, ImportLaid, Below, AfterLaid, after}
+use Rattle.order_laws.proofs.Sites.{SitesHeld, TextHeld, text_held, CallKnown, SiteKnown, all_sites_known}
+use Rattle.order_laws.proofs.Contracts.{Holds, import_numbers, AreLaid, laid_when, laid_found, ImportLaid, Below, AfterLaid, after}
 
 -- ---- lists
 
@@ -394,3 +394,115 @@ module _ (i : Instance) (f : Frame) (t : ℕ) where
         let q : (z : Site) × IsIn z (evaluated_calls n) × (eqb z.number m ≡ true) = in_any (λ s. eqb s.number m) (evaluated_calls n) h in
         subst (λ y. Holds (sub y).body done) (eqb-true q.0.number m q.2)
         (in_all (λ (z : Site). Holds (sub z.number).body done) (evaluated_calls n) q.0 calls_held q.1)
+
+    -- ---- calls by themselves, and the assertions of their frames
+
+    abbrev ImportHeld : Site → Type 0
+    ImportHeld z = (xs : List Name) → z.manner ≡ as_import xs → Holds (sub z.number).body done
+
+    no_import : (s : Standing) (e : Expression) → AllByRecursion ImportHeld (site_in s e)
+    no_import s (call q l x as_) = ((λ xs e. cc), tt)
+    no_import s (condact q l a x as_ ds) = ((λ xs e. cc), tt)
+    no_import s (truth q a) = tt
+    no_import s (number q a) = tt
+    no_import s (name q a) = tt
+    no_import s (negation q a) = tt
+    no_import s (minus q a) = tt
+    no_import s (pre q l a) = tt
+    no_import s (arrow q l a e) = tt
+    no_import s (binary q o a e) = tt
+    no_import s (choice q a e z) = tt
+    no_import s (sampled q a l x) = tt
+    no_import s (merged q x a e) = tt
+    no_import s (mode_name q x m) = tt
+
+    imports_held : (xs : List ContractStatement) → Has sub (import_numbers xs) done → AllByRecursion ImportHeld (flat_map import_site xs)
+    imports_held [] a = tt
+    imports_held (assume l ∷ xs) a = imports_held xs a
+    imports_held (guarantee l ∷ xs) a = imports_held xs a
+    imports_held (ghost_variable x e ∷ xs) a = imports_held xs a
+    imports_held (constant x ∷ xs) a = imports_held xs a
+    imports_held (mode m rs qs ∷ xs) a = imports_held xs a
+    imports_held («import» l x as_ ys ∷ xs) a = ((λ zs e. a.0), imports_held xs a.1)
+
+    ready_done : ready done
+    ready_done = has_more sub ins first said (ready_after first (all_in_self first))
+
+    sites_held : AllByRecursion ImportHeld (all_sites n)
+    sites_held =
+        in_order_all (λ s. s.number) ImportHeld (gathered site_in n ++ flat_map import_site cs)
+        (both_parts ImportHeld (gathered site_in n) (flat_map import_site cs)
+        (all_flat ImportHeld (λ (o : Occurrence). site_in o.standing o.expression) (all_occurrences n)
+        (each (all_occurrences n))) (imports_held cs ready_done))
+      where
+        each : (os : List Occurrence) → AllByRecursion (λ o. AllByRecursion ImportHeld (site_in o.standing o.expression)) os
+        each [] = tt
+        each (o ∷ os) = (no_import o.standing o.expression, each os)
+
+    call_laid : (z : Site) → CallKnown j z → ClockFits j (IsKnown j) z.clock → (b : List Part) → ready b →
+        Laid b (wholes g z.clock (call_condition z z.manner ++ z.arguments))
+    call_laid z a h b r =
+        subst (λ q. Laid b (wholes g q (call_condition z z.manner ++ z.arguments))) a.clock
+        (wholes_on a.standing (subst Shown (sym a.clock) (clock_there i f t w sh z.clock h)) (call_condition z z.manner ++ z.arguments) a.given b r)
+
+    is_held : (z : Site) → ImportHeld z → (m : Manner) → z.manner ≡ m → is_evaluated n z m ≡ true → Holds (sub z.number).body done
+    is_held z h (as_import xs) e k = h xs e
+    is_held z h plain e k = evaluated_held z.number k
+    is_held z h (while_true a) e k = evaluated_held z.number k
+
+    no_site : (z : Site) → SiteKnown j z → is_evaluated n z z.manner ≡ false → CallKnown j z
+    no_site z (inl a) e = a
+    no_site z (inr a) e = absurd (false≢true (sym e ∙ ap (is_evaluated n z) a.1))
+
+    asserted_one : (z : Site) → SiteKnown j z → ClockFits j (IsKnown j) z.clock → ImportHeld z → (x : FrameText) → ((b : List Part) → Laid b x.body) →
+        ((b : List Part) → Holds x.body b → Laid b x.asserted) → (is_evaluated n z z.manner ≡ true → Holds x.body done) →
+        (b : List Part) → Holds done b → Laid b (asserted_below g z x)
+    asserted_one z s h v x laid told held b a = go x.body x.contract x.asserted laid told held
+      where
+        go : (bd : List Part) (ct : ContractText) (qs : List Part) → ((b : List Part) → Laid b bd) → ((b : List Part) → Holds bd b → Laid b qs) →
+            (is_evaluated n z z.manner ≡ true → Holds bd done) → Laid b (asserted_below g z record { body = bd; contract = ct; asserted = qs })
+        go bd ct [] l m e = tt
+        go bd ct (q ∷ qs) l m e = by (is_evaluated n z z.manner) refl
+          where
+            before : List Part
+            before = wholes g z.clock (call_condition z z.manner ++ z.arguments)
+
+            by : (y : Bool) → is_evaluated n z z.manner ≡ y → Laid b (cond y [] (before ++ bd) ++ q ∷ qs)
+            by true o = m b (holds_within bd done b (e o) a)
+            by false o =
+                both_laid b (before ++ bd) (q ∷ qs)
+                (both_laid b before bd (call_laid z (no_site z s o) h b (ready_after b (holds_left first said b a))) (l (b ++ before)))
+                (m (b ++ (before ++ bd)) (all_from (λ r. IsIn r bd) (λ r. IsIn r (b ++ (before ++ bd)))
+                (λ r y. in_right r b (before ++ bd) (in_right r before bd y)) bd (all_in_self bd)))
+
+    module _ (child : (k : ℕ) → 0 < k → pred k < count_of (calls_of j) → FrameLaid (w ++ k ∷ []) (sub k) (subo k)) where
+      pub each_asserted : (is : Instances) (ss : List Site) (q : ℕ) → CallsFit IsKnown j is q → AreUnfolded p ss is → AllByRecursion (SiteKnown j) ss →
+          AllByRecursion ImportHeld ss → q + count_of is ≡ count_of (calls_of j) → (b : List Part) → Holds done b → Laid b (asserted_in_calls g sub is)
+      each_asserted no_instances ss q h v a m e b r = tt
+      each_asserted (with_instance z x is) [] q h v a m e b r = absurd v
+      each_asserted (with_instance z x is) (s ∷ ss) q h v a m e b r =
+          let known : SiteKnown j z = subst (SiteKnown j) (sym v.0) a.0 in
+          let held : ImportHeld z = subst ImportHeld (sym v.0) m.0 in
+          let counted : suc q ≡ z.number = sym h.0.number in
+          let laid : FrameLaid (w ++ z.number ∷ []) (sub z.number) (subo z.number) =
+          subst (λ y. FrameLaid (w ++ y ∷ []) (sub y) (subo y)) counted (child (suc q) (omega arith) (omega (arith, e))) in
+          both_laid b (asserted_below g z (sub z.number)) (asserted_in_calls g sub is)
+          (asserted_one z known h.0.clock held (sub z.number) laid.own.body laid.asserted (is_held z held z.manner refl) b r)
+          (each_asserted is ss (suc q) h.2 v.3 a.1 m.1 (omega (arith, e)) (b ++ asserted_below g z (sub z.number))
+          (holds_more done b (asserted_below g z (sub z.number)) r))
+
+      module _ (fits : CallsFit IsKnown j (calls_of j) 0) (unfolded : AreUnfolded p (all_sites n) (calls_of j)) where
+        pub frame_here : FrameLaid w (text_over sub order w j) (own_modes w j)
+        frame_here = record {
+          own = record {
+            body = first_laid;
+            settled = settled;
+            modes = laid_when i f t w ready (Holds first) ready_after k.modes (own_modes w j) modes;
+            assumed = λ b h. whole.assumed b (ready_after b h);
+            guaranteed = λ b h. whole.guaranteed b (ready_after b h);
+          };
+          asserted = λ b h. both_laid b said (asserted_in_calls g sub (calls_of j)) (said_laid b (ready_after b h))
+              (each_asserted (calls_of j) (all_sites n) 0 fits unfolded (all_sites_known p c j u d) sites_held (omega arith) (b ++ said)
+              (both_parts (λ r. IsIn r (b ++ said)) first said (holds_more first b said h)
+              (all_from (λ r. IsIn r said) (λ r. IsIn r (b ++ said)) (λ r m. in_right r b said m) said (all_in_self said))));
+        }
