@@ -12,3 +12,4 @@ pub mod Items
 pub mod Contracts
 pub mod Sites
 pub mod Bodies
+pub mod Trees
