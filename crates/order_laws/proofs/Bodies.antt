@@ -6,12 +6,12 @@ use Rattle.std.proofs.Math.Logic.{◌⊎◌, inl, inr}
 use Rattle.std.proofs.lemmas.Bool.{false≢true, cases_Bool, eqb-true, eq-eqb}
 use Rattle.std.proofs.lemmas.List.Folds.{list_any-append}
 use Rattle.std.proofs.lemmas.Option.{none-some, same_Some}
-use Rattle.lus_tree.specs.Tree.{Name, Expression, truth, number, name, negation, minus, pre, arrow, binary, choice, sampled, merged, call, condact, mode_name, Statement, equation, assertion, property, main_mark, ContractStatement, assume, guarantee, ghost_variable, constant, mode, «import», Component, Program, text_of}
+use Rattle.lus_tree.specs.Tree.{Name, Expression, truth, number, name, negation, minus, pre, arrow, binary, choice, sampled, merged, call, condact, mode_name, Labelled, Statement, equation, assertion, property, main_mark, ContractStatement, assume, guarantee, ghost_variable, constant, mode, «import», Component, Program, text_of}
 use Rattle.lus_meaning.specs.Frame.{Frame}
 use Rattle.lus_meaning.specs.Scene.{Clock, base, sampled_by, clock_of, Manner, plain, while_true, as_import, Site, Instance, Instances, no_instances, with_instance, instance, component_of, calls_of, call_instance, contract_statements, clock_of_names, is_on}
 use Rattle.lus_meaning.specs.Contract.{terms}
 use Rattle.lus_meaning.specs.Meaning.{mode_key}
-use Rattle.lus_meaning.specs.Occurrences.{Standing, on_clock, as_side, Occurrence, occurrences, Text, gathered, all_occurrences, contract_statement_texts}
+use Rattle.lus_meaning.specs.Occurrences.{Standing, on_clock, on_base, as_side, Occurrence, occurrences, Text, gathered, all_occurrences, contract_statement_texts}
 use Rattle.lus_meaning.specs.Program.{site_in, import_site, all_sites}
 use Rattle.lus_meaning.specs.Property.{assertions}
 use Rattle.lus_meaning.specs.Run.{Equation, equations, ghost_equations, body_equations}
@@ -31,7 +31,7 @@ use Rattle.sys_meaning.specs.WellTyped.{IsKnown, IsAmong, IsImport, EquationFits
 use Rattle.path_laws.proofs.Tree.{own_fits, tree_fits}
 use Rattle.sys_meaning.proofs.Forward.{calls_fit}
 use Rattle.lus_evaluation.specs.Part.{Part, ModeParts, Setting, needs_of, key_of, asked_in, part, parts, argument_parts, operand_parts, whole_parts, wholes}
-use Rattle.lus_evaluation.specs.Frame.{ModeText, ContractText, FrameText, Calls, setting, contract_after, import_parts, equation_parts, picked, body_parts, evaluated_clause, evaluated_statement, evaluated_texts, evaluated_calls, stands_in, is_evaluated, call_condition, call_parts, asserted_below, asserted_in_calls, text_over}
+use Rattle.lus_evaluation.specs.Frame.{ModeText, ContractText, FrameText, Calls, setting, conditions_of, mode_text, imported_mode, contract_after, import_parts, equation_parts, picked, body_parts, evaluated_clause, evaluated_statement, evaluated_texts, evaluated_calls, stands_in, is_evaluated, call_condition, call_parts, asserted_below, asserted_in_calls, text_over}
 use Rattle.lus_evaluation.specs.Evaluation.{gives_name}
 use Rattle.slot_values.specs.Clocked.{row_by, clock_on}
 use Rattle.evaluation_laws.specs.Rows.{AreCalls, row_at, scene_there, numbers_there, RowShows}
@@ -506,3 +506,103 @@ module _ (i : Instance) (f : Frame) (t : ℕ) where
               (both_parts (λ r. IsIn r (b ++ said)) first said (holds_more first b said h)
               (all_from (λ r. IsIn r said) (λ r. IsIn r (b ++ said)) (λ r m. in_right r b said m) said (all_in_self said))));
         }
+
+        -- texts on the base clock, behind the frame's own parts
+        pub base_texts : (ls : List Expression) → AllByRecursion (TextFits j (on_clock base)) ls → (b : List Part) → Holds first b →
+            Laid b (wholes g base ls)
+        base_texts ls a b h = wholes_on (on_clock base) (base_there i f t w sh) ls a b (ready_after b h)
+
+-- ---- calls of all texts of a declaration
+
+-- the texts of an item that are no conditions
+abbrev pub contract_side : ContractStatement → List Text
+contract_side (ghost_variable x e) = (as_side base, e) ∷ []
+contract_side (constant c) = (on_clock base, c.value) ∷ []
+contract_side _ = []
+
+module _ (j : Instance) (w : List ℕ) (sub : Calls) (n : Component) (rs : List Part) where
+  abbrev Held : Text → Type 0
+  Held x = AllByRecursion (λ o. AllByRecursion (λ (z : Site). Holds (sub z.number).body rs) (site_in o.standing o.expression)) (occurrences n x.0 x.1)
+
+  abbrev InRs : List Part → Type 0
+  InRs qs = (r : Part) → IsIn r qs → IsIn r rs
+
+  modes_more : (ms : List ModeText) (cs : List ContractStatement) (m : ModeText) → IsIn m ms → IsIn m (contract_after j w sub ms cs).modes
+  modes_more ms [] m h = h
+  modes_more ms (assume l ∷ cs) m h = modes_more ms cs m h
+  modes_more ms (guarantee l ∷ cs) m h = modes_more ms cs m h
+  modes_more ms (ghost_variable x e ∷ cs) m h = modes_more ms cs m h
+  modes_more ms (constant x ∷ cs) m h = modes_more ms cs m h
+  modes_more ms (mode x qs es ∷ cs) m h =
+      modes_more (ms ++ mode_text (setting j w sub ms) x.text qs es ∷ []) cs m (in_left m ms (mode_text (setting j w sub ms) x.text qs es ∷ []) h)
+  modes_more ms («import» k x as_ xs ∷ cs) m h =
+      modes_more (ms ++ map (imported_mode x.text) (sub k).contract.modes) cs m (in_left m ms (map (imported_mode x.text) (sub k).contract.modes) h)
+
+  free_held : (s : Standing) (e : Expression) → AllByRecursion (λ o. site_in o.standing o.expression ≡ []) (occurrences n s e) → Held (s, e)
+  free_held s e a =
+      all_from (λ (o : Occurrence). site_in o.standing o.expression ≡ [])
+      (λ o. AllByRecursion (λ (z : Site). Holds (sub z.number).body rs) (site_in o.standing o.expression))
+      (λ o h. subst (AllByRecursion (λ (z : Site). Holds (sub z.number).body rs)) (sym h) tt) (occurrences n s e) a
+
+  base_held : (ms : List ModeText) (e : Expression) → InRs (whole_parts (setting j w sub ms) [] base e) → Held (on_clock base, e)
+  base_held ms e h = text_held (setting j w sub ms) n (needs_of (setting j w sub ms) base e) [] base (on_clock base) e rs h
+
+  labels_held : (ms : List ModeText) (ls : List Labelled) → InRs (conditions_of (setting j w sub ms) ls) → AllByRecursion Held (on_base ls)
+  labels_held ms [] h = tt
+  labels_held ms (l ∷ ls) h = (
+    base_held ms l.value (λ r m. h r (in_left r (whole_parts (setting j w sub ms) [] base l.value) (conditions_of (setting j w sub ms) ls) m)),
+    labels_held ms ls (λ r m. h r (in_right r (whole_parts (setting j w sub ms) [] base l.value) (conditions_of (setting j w sub ms) ls) m)),
+  )
+
+  wholes_held : (ms : List ModeText) (es : List Expression) → InRs (wholes (setting j w sub ms) base es) →
+      AllByRecursion Held (map (λ a. (on_clock base, a)) es)
+  wholes_held ms [] h = tt
+  wholes_held ms (e ∷ es) h = (
+    base_held ms e (λ r m. h r (in_left r (whole_parts (setting j w sub ms) [] base e) (wholes (setting j w sub ms) base es) m)),
+    wholes_held ms es (λ r m. h r (in_right r (whole_parts (setting j w sub ms) [] base e) (wholes (setting j w sub ms) base es) m)),
+  )
+
+  ensures_held : (ms : List ModeText) (qs es : List Labelled) →
+      InRs (flat_map (λ e. conditions_of (setting j w sub ms) qs ++ conditions_of (setting j w sub ms) (e ∷ [])) es) → AllByRecursion Held (on_base es)
+  ensures_held ms qs [] h = tt
+  ensures_held ms qs (l ∷ es) h =
+      let asked : List Part = conditions_of (setting j w sub ms) qs in
+      let own : List Part = conditions_of (setting j w sub ms) (l ∷ []) in (
+        (labels_held ms (l ∷ []) (λ r m. h r (in_left r (asked ++ own) _ (in_right r asked own m)))).0,
+        ensures_held ms qs es (λ r m. h r (in_right r (asked ++ own) _ m)),
+      )
+
+  -- what a contract says, its equations aside
+  pub contract_held : (full : List ModeText) (ms : List ModeText) (cs : List ContractStatement) →
+      ((x : ContractStatement) → IsIn x cs → AllByRecursion Held (contract_side x)) →
+      InRs (contract_after j w sub ms cs).assumed → InRs (contract_after j w sub ms cs).guaranteed →
+      ((m : ModeText) → IsIn m (contract_after j w sub ms cs).modes → InRs m.required × InRs m.ensured) →
+      InRs (flat_map (import_parts (setting j w sub full)) cs) → AllByRecursion Held (flat_map contract_statement_texts cs)
+  contract_held full ms [] v a b d e = tt
+  contract_held full ms (assume l ∷ cs) v a b d e =
+      let one : List Part = conditions_of (setting j w sub ms) (l ∷ []) in (
+        (labels_held ms (l ∷ []) (λ r m. a r (in_left r one _ m))).0,
+        contract_held full ms cs (λ x m. v x (inr m)) (λ r m. a r (in_right r one _ m)) b d e,
+      )
+  contract_held full ms (guarantee l ∷ cs) v a b d e =
+      let one : List Part = conditions_of (setting j w sub ms) (l ∷ []) in (
+        (labels_held ms (l ∷ []) (λ r m. b r (in_left r one _ m))).0,
+        contract_held full ms cs (λ x m. v x (inr m)) a (λ r m. b r (in_right r one _ m)) d e,
+      )
+  contract_held full ms (ghost_variable x y ∷ cs) v a b d e =
+      ((v (ghost_variable x y) (inl refl)).0, contract_held full ms cs (λ x m. v x (inr m)) a b d e)
+  contract_held full ms (constant x ∷ cs) v a b d e =
+      ((v (constant x) (inl refl)).0, contract_held full ms cs (λ x m. v x (inr m)) a b d e)
+  contract_held full ms (mode x qs es ∷ cs) v a b d e =
+      let m : ModeText = mode_text (setting j w sub ms) x.text qs es in
+      let h : InRs m.required × InRs m.ensured = d m (modes_more (ms ++ m ∷ []) cs m (in_right m ms (m ∷ []) (inl refl))) in
+      both_parts Held (on_base qs ++ on_base es) (flat_map contract_statement_texts cs)
+      (both_parts Held (on_base qs) (on_base es) (labels_held ms qs h.0) (ensures_held ms qs es h.1))
+      (contract_held full (ms ++ m ∷ []) cs (λ x m. v x (inr m)) a b d e)
+  contract_held full ms («import» k x as_ xs ∷ cs) v a b d e =
+      let one : List Part = wholes (setting j w sub full) base as_ ++ (sub k).body in
+      both_parts Held (map (λ a. (on_clock base, a)) as_) (flat_map contract_statement_texts cs)
+      (wholes_held full as_ (λ r m. e r (in_left r one _ (in_left r (wholes (setting j w sub full) base as_) (sub k).body m))))
+      (contract_held full (ms ++ map (imported_mode x.text) (sub k).contract.modes) cs (λ x m. v x (inr m))
+      (λ r m. a r (in_right r (sub k).contract.assumed _ m)) (λ r m. b r (in_right r (sub k).contract.guaranteed _ m)) d
+      (λ r m. e r (in_right r one _ m)))

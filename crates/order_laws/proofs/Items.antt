@@ -1,26 +1,31 @@
 -- What the items of a contract say is known, and names modes that stand before it alone.
 use Rattle.std.proofs.lemmas.Grind.{flat_map-append}
-use Rattle.std.proofs.Common.{◌≡◌, ℕ, true, List, [], ◌∷◌, ◌++◌, map, flat_map, refl, ap, ◌∙◌, sym, subst}
+use Rattle.std.proofs.Common.{◌≡◌, ℕ, suc, true, List, [], ◌∷◌, ◌++◌, map, flat_map, refl, ap, ◌∙◌, sym, subst}
 use Rattle.std.specs.Prelude.{Contains, is_none}
 use Rattle.std.specs.List.{AllByRecursion}
 use Rattle.lus_tree.specs.declared.place.Sort.TheVariants.{Bool as Flags}
-use Rattle.lus_tree.specs.Tree.{Expression, truth, number, name, negation, minus, pre, arrow, binary, choice, sampled, merged, call, condact, mode_name, Variable, Labelled, Statement, equation, assertion, property, main_mark, ContractStatement, assume, guarantee, ghost_variable, constant, mode, «import», Component, Program}
+use Rattle.lus_tree.specs.Tree.{Expression, truth, number, name, negation, minus, pre, arrow, binary, choice, sampled, merged, call, condact, mode_name, Variable, Labelled, Statement, equation, assertion, property, main_mark, ContractStatement, assume, guarantee, ghost_variable, constant, mode, «import», Constant, Component, Program}
 use Rattle.lus_meaning.specs.Scene.{Clock, base, Site, Instance, component_of, clock_from, clock_of, clock_of_names, contract_statements, ghosts, variables}
-use Rattle.lus_meaning.specs.Program.{import_site}
+use Rattle.lus_meaning.specs.Program.{site_in, import_site}
+use Rattle.lus_tree.specs.Reason.{not_constant}
+use Rattle.lus_meaning.specs.Faults.{fault}
 use Rattle.lus_meaning.specs.Property.{assertions}
 use Rattle.lus_meaning.specs.Run.{Equation, equations, ghost_equations, body_equations}
-use Rattle.lus_meaning.specs.Occurrences.{Standing, Occurrence, on_clock, on_base, as_side, Text, contract_statement_texts, statement_texts, constant_texts, texts}
+use Rattle.lus_meaning.specs.Occurrences.{Standing, Occurrence, occurrences, on_clock, on_base, as_side, Text, contract_statement_texts, statement_texts, constant_texts, texts}
 use Rattle.lus_meaning.specs.ClockFaults.{components}
-use Rattle.lus_meaning.specs.Scope.{Home, contract_statement_scope}
-use Rattle.lus_meaning.specs.ExpressionFaults.{needs_sort, flag_faults, expression_faults}
-use Rattle.lus_meaning.specs.NameFaults.{home, flags_of, contract_statement_faults, contract_faults}
+use Rattle.lus_meaning.specs.Scope.{Home, Scope, contract_statement_scope, constant_scope}
+use Rattle.lus_meaning.specs.ExpressionFaults.{needs_sort, flag_faults, hinders_constant, not_allowed, definition_faults, expression_faults}
+use Rattle.lus_meaning.specs.NameFaults.{home, flags_of, contract_statement_faults, contract_faults, local_constant_faults}
 use Rattle.lus_meaning.specs.Grammatical.{IsGrammaticalComponent, ghost_names}
 use Rattle.lus_meaning.specs.Refusals.{IsChecked}
 use Rattle.lus_meaning.proofs.EachPart.{Each, each_of_both}
-use Rattle.lus_meaning.proofs.Lists.{append_none, both_parts}
-use Rattle.lus_meaning.proofs.NamesOnce.{no_parts, at_one}
+use Rattle.lus_meaning.proofs.Lists.{append_none, all_from, both_parts}
+use Rattle.lus_meaning.proofs.NamesOnce.{no_parts, not_nil, at_one}
 use Rattle.lus_meaning.proofs.Now.{left_part, right_part}
+use Rattle.lus_meaning.proofs.RulesFit.{none_mapped}
 use Rattle.rule_laws.specs.Laws.{IsUnfolded}
+use Rattle.rule_laws.proofs.Texts.{no_positions}
+use Rattle.lus_evaluation.specs.Turn.{property_texts}
 use Rattle.rule_laws.specs.Fitting.{OnBase}
 use Rattle.rule_laws.specs.Declarations.{DeclarationFits}
 use Rattle.rule_laws.specs.Declarations as declarations
@@ -277,3 +282,82 @@ module _ (p : Program) (c : IsChecked p) (i : Instance) (u : IsUnfolded p i) (j 
 
   pub assertions_fit : AllByRecursion (TextFits i (on_clock base)) (assertions (component_of i).body)
   assertions_fit = assertions_from here.body body_known
+
+  -- ---- constants hold no calls
+
+  abbrev NoSite : Occurrence → Type 0
+  NoSite o = site_in o.standing o.expression ≡ []
+
+  no_site : (s : Scope) (t : Standing) (e : Expression) → hinders_constant s e ≡ [] → site_in t e ≡ []
+  no_site s t (call q k f as_) h = not_nil _ _ h
+  no_site s t (condact q k a f as_ ds) h = not_nil _ _ h
+  no_site s t (truth q a) h = refl
+  no_site s t (number q a) h = refl
+  no_site s t (name q a) h = refl
+  no_site s t (negation q a) h = refl
+  no_site s t (minus q a) h = refl
+  no_site s t (pre q l a) h = refl
+  no_site s t (arrow q l a b) h = refl
+  no_site s t (binary q o a b) h = refl
+  no_site s t (choice q a b d) h = refl
+  no_site s t (sampled q a b x) h = refl
+  no_site s t (merged q x a b) h = refl
+  no_site s t (mode_name q d m) h = refl
+
+  abbrev pub IsFree : Expression → Type 0
+  IsFree e = AllByRecursion (λ o. site_in o.standing o.expression ≡ []) (occurrences (component_of i) (on_clock base) e)
+
+  free_of : (s : Scope) → s.owner ≡ component_of i → (e : Expression) → not_allowed s e ≡ [] → IsFree e
+  free_of s o e h =
+      subst (λ n. AllByRecursion NoSite (occurrences n (on_clock base) e)) o
+      (all_from (λ (q : Occurrence). hinders_constant s q.expression ≡ []) NoSite (λ q a. no_site s q.standing q.expression a)
+      (occurrences s.owner (on_clock base) e)
+      (none_mapped (λ q. hinders_constant s q.expression) (occurrences s.owner (on_clock base) e) (no_positions (fault not_constant) _ h)))
+
+  abbrev pub ItemFree : ContractStatement → Type 0
+  ItemFree (constant x) = IsFree x.value
+  ItemFree _ = Unit {0}
+
+  items_free_from : (bs xs : List ContractStatement) → contract_faults place bs xs ≡ [] → AllByRecursion ItemFree xs
+  items_free_from bs [] f = tt
+  items_free_from bs (x ∷ xs) f =
+      let r = no_parts (contract_statement_faults (contract_statement_scope place bs) x) (contract_faults place (bs ++ x ∷ []) xs) f in
+      (one x r.0, items_free_from (bs ++ x ∷ []) xs r.1)
+    where
+      one : (x : ContractStatement) → contract_statement_faults (contract_statement_scope place bs) x ≡ [] → ItemFree x
+      one (constant y) f =
+          free_of (contract_statement_scope place bs) refl y.value (no_parts (not_allowed (contract_statement_scope place bs) y.value) _
+          (no_parts (not_allowed (contract_statement_scope place bs) y.value ++ expression_faults (contract_statement_scope place bs) (on_clock base) y.value) _ f).0).0
+      one (assume l) f = tt
+      one (guarantee l) f = tt
+      one (ghost_variable y e) f = tt
+      one (mode m rs es) f = tt
+      one («import» k y as_ ys) f = tt
+
+  constants_free_from : (k : ℕ) (xs : List Constant) → local_constant_faults place k xs ≡ [] → AllByRecursion (λ (x : Constant). IsFree x.value) xs
+  constants_free_from k [] f = tt
+  constants_free_from k (x ∷ xs) f =
+      let r = no_parts (definition_faults (constant_scope place k) x.sort x.value) (local_constant_faults place (suc k) xs) f in (
+        free_of (constant_scope place k) refl x.value (no_parts (not_allowed (constant_scope place k) x.value) _
+            (no_parts (not_allowed (constant_scope place k) x.value ++ expression_faults (constant_scope place k) (on_clock base) x.value) _ r.0).0).0,
+        constants_free_from (suc k) xs r.1,
+      )
+
+  pub items_free : AllByRecursion ItemFree (contract_statements (component_of i))
+  items_free = items_free_from [] (contract_statements here) (typed_declaration p (typed_tree p c) at_place (place_of 0 p (component_of i) j).is j).contract
+
+  pub constants_free : AllByRecursion (λ (x : Constant). IsFree x.value) (component_of i).constants
+  constants_free = constants_free_from 0 here.constants (typed_declaration p (typed_tree p c) at_place (place_of 0 p (component_of i) j).is j).constants
+
+  -- ---- properties
+
+  properties_from : (ss : List Statement) → AllByRecursion Text_known (flat_map (statement_texts (component_of i)) ss) →
+      AllByRecursion (TextFits i (on_clock base)) (property_texts ss)
+  properties_from [] a = tt
+  properties_from (equation xs e ∷ ss) a = properties_from ss a.1
+  properties_from (assertion e ∷ ss) a = properties_from ss a.1
+  properties_from (property l ∷ ss) a = (text_fits (on_clock base) l.value a.0, properties_from ss a.1)
+  properties_from (main_mark w ∷ ss) a = properties_from ss a
+
+  pub properties_fit : AllByRecursion (TextFits i (on_clock base)) (property_texts (component_of i).body)
+  properties_fit = properties_from here.body body_known
