@@ -538,7 +538,7 @@ module _ (j : Instance) (w : List ℕ) (sub : Calls) (n : Component) (rs : List 
   modes_more ms («import» k x as_ xs ∷ cs) m h =
       modes_more (ms ++ map (imported_mode x.text) (sub k).contract.modes) cs m (in_left m ms (map (imported_mode x.text) (sub k).contract.modes) h)
 
-  free_held : (s : Standing) (e : Expression) → AllByRecursion (λ o. site_in o.standing o.expression ≡ []) (occurrences n s e) → Held (s, e)
+  pub free_held : (s : Standing) (e : Expression) → AllByRecursion (λ o. site_in o.standing o.expression ≡ []) (occurrences n s e) → Held (s, e)
   free_held s e a =
       all_from (λ (o : Occurrence). site_in o.standing o.expression ≡ [])
       (λ o. AllByRecursion (λ (z : Site). Holds (sub z.number).body rs) (site_in o.standing o.expression))

@@ -13,3 +13,4 @@ pub mod Contracts
 pub mod Sites
 pub mod Bodies
 pub mod Trees
+pub mod Top
