@@ -14,3 +14,5 @@ pub mod Sites
 pub mod Bodies
 pub mod Trees
 pub mod Top
+pub mod Evaluated
+pub mod FirstByRows
