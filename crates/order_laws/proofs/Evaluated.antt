@@ -103,7 +103,7 @@ module _ (i : Instance) where
       placed_from b (x ∷ xs) (suc m) q a e =
           subst (λ z. Placed i f t z q) (grouped b (x ∷ []) (firsts m xs)) (placed_from (b ++ x ∷ []) xs m q a.1 e)
 
-      placed_at : (m : ℕ) (q : Part) → slice_get ps m ≡ Some q → Placed i f t (firsts m ps) q
+      pub placed_at : (m : ℕ) (q : Part) → slice_get ps m ≡ Some q → Placed i f t (firsts m ps) q
       placed_at m q e = placed_from [] ps m q laid e
 
       -- ---- before one part

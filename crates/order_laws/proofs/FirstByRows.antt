@@ -1,5 +1,5 @@
 -- In the rows of a run the first part with an operation outside 128 bits is the first value outside.
-use Rattle.std.proofs.Common.{◌≡◌, ℕ, suc, ◌<◌, ◌≤◌, true, List, [], ◌∷◌, ◌++◌, length, slice_get, refl, ap, ◌∙◌, sym, subst, arith, Option, Some, None}
+use Rattle.std.proofs.Common.{◌≡◌, ℕ, zero, suc, ◌<◌, ◌≤◌, true, List, [], ◌∷◌, ◌++◌, length, slice_get, refl, ap, ◌∙◌, sym, subst, arith, Option, Some, None}
 use Rattle.std.specs.Prelude.{Contains, option_to_list}
 use Rattle.std.specs.List.{AllByRecursion}
 use Rattle.std.proofs.lemmas.Option.{none-some, same_Some}
@@ -16,7 +16,7 @@ use Rattle.lus_meaning.specs.Verdict.{throughout}
 use Rattle.lus_meaning.specs.ClockFaults.{components}
 use Rattle.lus_meaning.specs.Refusals.{IsChecked}
 use Rattle.lus_meaning.proofs.BooleanOrder.{IsIn}
-use Rattle.lus_meaning.proofs.Lists.{all_from}
+use Rattle.lus_meaning.proofs.Lists.{append_none, all_from, both_parts}
 use Rattle.rule_laws.specs.Laws.{IsUnfolded}
 use Rattle.rule_laws.proofs.Unfolded.{component_within, each_unfolded}
 use Rattle.clock_laws.proofs.AllPlaces.{all_places}
@@ -31,7 +31,7 @@ use Rattle.lus_evaluation.specs.Evaluation.{Waits, IsEvaluation}
 use Rattle.lus_evaluation.specs.Past.{part_past, NonePast, IsFirstPast}
 use Rattle.slot_values.specs.declared.resolved.PastAt.{PastAt}
 use Rattle.slot_values.specs.Evaluated.{told}
-use Rattle.slot_values.specs.Parts.{operands, setting_at}
+use Rattle.slot_values.specs.Parts.{operands, setting_at, PartsByRow}
 use Rattle.slot_values.proofs.Parts.{parts_by_rows}
 use Rattle.evaluation_laws.specs.Rows.{AreCalls, RowShows}
 use Rattle.evaluation_laws.proofs.EachPart.{each_part}
@@ -39,12 +39,13 @@ use Rattle.evaluation_laws.proofs.Wholes.{NeedsItsWhole, gives_nothing, right_si
 use Rattle.evaluation_laws.proofs.RowFrames.{rows_show}
 use Rattle.order_laws.specs.Laws.{operations_there, OwnPastInOrder, IsFirstByRows, PartsHaveOwnPast, FirstPastByRows}
 use Rattle.order_laws.specs.Rows.{standpoint_there}
+use Rattle.order_laws.proofs.Lists.{grouped}
 use Rattle.order_laws.proofs.Frames.{stands_there}
 use Rattle.order_laws.proofs.OwnPast.{modes_within}
 use Rattle.order_laws.proofs.Placed.{OwnIn, Placed, EachPlaced}
 use Rattle.order_laws.proofs.Bodies.{in_all, slice_below, picked_in}
 use Rattle.order_laws.proofs.Top.{instant_laid}
-use Rattle.order_laws.proofs.Evaluated.{placed_at, operand_listed}
+use Rattle.order_laws.proofs.Evaluated.{firsts, placed_at, operand_listed}
 
 -- ---- a part of the order
 
@@ -125,10 +126,10 @@ module _ (p : Program) (c : IsChecked p) (n : Component) (j : Contains (componen
         at : Numbered ps ev.numbers front q
         at = numbered ps ev.numbers ev.turn.order.below front q rest (sym ev.parts ∙ e)
 
-        here : Placed i f t _ q
+        here : Placed i f t (firsts at.number ps) q
         here = placed_at i (rank_here i) (rank_lowers i (no_circle p c i unfolded declared)) f t ps laid whole ev.numbers ev.turn at.number q at.there
 
-        fine : (r : Part) → OwnIn i f t q.way _ _ q.needs r → part_past i f r t ≡ None
+        fine : (r : Part) → OwnIn i f t q.way (firsts at.number ps) (firsts at.number ps) q.needs r → part_past i f r t ≡ None
         fine r a =
             let k : (m : ℕ) × (slice_get ps m ≡ Some r) × (is_listed at.before m ≡ true) =
             operand_listed i (rank_here i) (rank_lowers i (no_circle p c i unfolded declared)) f t ps laid whole ev.numbers ev.turn at.number q at.there
@@ -138,13 +139,110 @@ module _ (p : Program) (c : IsChecked p) (n : Component) (j : Contains (componen
 
         operands_fine : NonePast i f (operands (setting_at (standpoint_there i f t q.way)) q.needs q.clock q.expression) t
         operands_fine =
-            all_from (OwnIn i f t q.way _ _ q.needs) (λ y. part_past i f y t ≡ None) fine
+            all_from (OwnIn i f t q.way (firsts at.number ps) (firsts at.number ps) q.needs) (λ y. part_past i f y t ≡ None) fine
             (operands (setting_at (standpoint_there i f t q.way)) q.needs q.clock q.expression) here.operands
 
-        parts : _
+        parts : PartsByRow (standpoint_there i f t q.way) q.needs q.gives q.clock q.expression
         parts =
             parts_by_rows (standpoint_there i f t q.way) (shown q.way here.calls)
             (modes_within i f t shown (each_is_well_typed p c n j).0.tree q.way here.calls) q.needs q.gives q.clock q.expression here.stands here.clock
 
 pub parts_have_own_past : PartsHaveOwnPast
 parts_have_own_past p c n j qs ev m f run t l = own_in_order p c n j qs ev m f run t l
+
+-- ---- the first one
+
+none_told : (at : Pos) (o : Option Past) → told at o ≡ [] → o ≡ None
+none_told at None e = refl
+none_told at (Some x) e = cc
+
+-- what is told is one operation at this place
+record Told (at : Pos) (o : Option Past) (at' : Pos) (past : Past) : Type 0 where
+  place : at' ≡ at
+  outside : o ≡ Some past
+
+told_one : (at : Pos) (o : Option Past) (at' : Pos) (past : Past) (more : List PastAt) → told at o ≡ record { at = at'; past = past } ∷ more → Told at o at' past
+told_one at None at' past more e = cc
+told_one at (Some x) at' past more e = record { place = place; outside = outside }
+  where
+    same : (let one : PastAt = record { at = at; past = x } in one) ≡ record { at = at'; past = past }
+    same = cc
+
+    place : at' ≡ at
+    place = ap (λ z. z.at) (sym same)
+
+    outside : (let one : Option Past = Some x in one) ≡ Some past
+    outside = ap (λ z. let one : Option Past = Some z in one) (ap (λ z. z.past) same)
+
+module _ (i : Instance) (f : Frame) (t : ℕ) (qs : List Part) (own_one : OwnPastInOrder i f t qs) where
+  abbrev NoOperation : Part → Type 0
+  NoOperation q = operations_there i f t q ≡ []
+
+  abbrev Fine : Part → Type 0
+  Fine q = part_past i f q t ≡ None
+
+  abbrev All : (Part → Type 0) → List Part → Type 0
+  All P xs = AllByRecursion P xs
+
+  joined : (P : Part → Type 0) (xs : List Part) (y : Part) → All P xs → P y → All P (xs ++ y ∷ [])
+  joined P xs y a h = both_parts P xs (y ∷ []) a (h, tt)
+
+  fine_from : (done todo rest : List Part) → qs ≡ done ++ (todo ++ rest) → All Fine done → All NoOperation todo → All Fine todo
+  fine_from done [] rest e a h = tt
+  fine_from done (y ∷ todo) rest e a h =
+      let mine : Fine y = none_told (own y.expression) (part_past i f y t) (sym (own_one done y (todo ++ rest) e a) ∙ h.0) in
+      (mine, fine_from (done ++ y ∷ []) todo rest (e ∙ sym (grouped done (y ∷ []) (todo ++ rest))) (joined Fine done y a mine) h.1)
+
+  none_from : (done todo rest : List Part) → qs ≡ done ++ (todo ++ rest) → All Fine done → All Fine todo → All NoOperation todo
+  none_from done [] rest e a h = tt
+  none_from done (y ∷ todo) rest e a h =
+      (own_one done y (todo ++ rest) e a ∙ ap (told (own y.expression)) h.0,
+      none_from (done ++ y ∷ []) todo rest (e ∙ sym (grouped done (y ∷ []) (todo ++ rest))) (joined Fine done y a h.0) h.1)
+
+  pub all_fine : All NoOperation qs → All Fine qs
+  all_fine h = fine_from [] qs [] (sym (append_none qs)) tt h
+
+  pub all_none : All Fine qs → All NoOperation qs
+  all_none h = none_from [] qs [] (sym (append_none qs)) tt h
+
+pub first_past_by_rows : FirstPastByRows
+first_past_by_rows p c n j qs ev m f run k le at t past = (first, back)
+  where
+    own_one : (u : ℕ) → u < k → OwnPastInOrder (instance_of p n) f u qs
+    own_one u l = own_in_order p c n j qs ev m f run u (omega (arith, l, le))
+
+    first : IsFirstByRows (instance_of p n) f qs k at t past → IsFirstPast (instance_of p n) f qs k at t past
+    first h =
+        let l : t < k = h.below in
+        let before : NonePast (instance_of p n) f h.front t =
+        fine_from (instance_of p n) f t qs (own_one t h.below) [] h.front (h.part ∷ h.rest) h.split tt h.before in
+        let told : Told (own h.part.expression) (part_past (instance_of p n) f h.part t) at past =
+        told_one (own h.part.expression) (part_past (instance_of p n) f h.part t) at past h.more
+        (sym (own_one t h.below h.front h.part h.rest h.split before) ∙ h.outside) in
+        record {
+          below = h.below;
+          earlier = λ u g. all_fine (instance_of p n) f u qs (own_one u (omega (arith, g, l))) (h.earlier u g);
+          front = h.front;
+          part = h.part;
+          rest = h.rest;
+          split = h.split;
+          before = before;
+          place = told.place;
+          outside = told.outside;
+        }
+
+    back : IsFirstPast (instance_of p n) f qs k at t past → IsFirstByRows (instance_of p n) f qs k at t past
+    back h =
+        let l : t < k = h.below in
+        record {
+          below = h.below;
+          earlier = λ u g. all_none (instance_of p n) f u qs (own_one u (omega (arith, g, l))) (h.earlier u g);
+          front = h.front;
+          part = h.part;
+          rest = h.rest;
+          split = h.split;
+          before = none_from (instance_of p n) f t qs (own_one t h.below) [] h.front (h.part ∷ h.rest) h.split tt h.before;
+          more = [];
+          outside = own_one t h.below h.front h.part h.rest h.split h.before ∙ ap (told (own h.part.expression)) h.outside
+              ∙ ap (λ (z : Pos). let one : List PastAt = record { at = z; past = past } ∷ [] in one) (sym h.place);
+        }

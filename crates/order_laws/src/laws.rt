@@ -1,6 +1,6 @@
 //! The laws of what comes before a part.
 
-ghost use Rattle.order_laws.specs.Laws.{ComesFirst};
+ghost use Rattle.order_laws.specs.Laws.{ComesFirst, PartsHaveOwnPast, FirstPastByRows};
 ghost use Rattle.order_laws.specs.Rows.{RowsHaveOwnPast};
 
 /// In a least order what stands before another part in turn comes before it, where all that it waits for the other one
@@ -13,4 +13,12 @@ pub fn comes_first()
 /// calls whose own operands are within 128 bits, the operations that are outside are its own one, exactly if that is.
 pub fn own_past_by_rows()
     ensures { RowsHaveOwnPast }
+{}
+
+/// In the evaluation of an instant of a run of such a declaration, where no part that comes before is outside 128 bits,
+/// the operations of a part that are outside in the row of the instant are its own one, exactly if that part is. So the
+/// first part with an operation outside, at the first instant that has one, is the first value outside.
+pub fn first_past_by_rows()
+    ensures own { PartsHaveOwnPast }
+    ensures first { FirstPastByRows }
 {}
