@@ -1,25 +1,23 @@
 -- Where what the modes of a contract require is within 128 bits, their resolutions have no operation outside.
-use Rattle.std.proofs.Common.{◌≡◌, ℕ, zero, suc, pred, ◌+◌, ◌<◌, Bool, true, false, cond, ◌||◌, List, [], ◌∷◌, ◌++◌, map, flat_map, slice_index_or, refl, ap, ◌∙◌, sym, subst, arith, Option, Some, None, option_to_list, unwrap_or}
+use Rattle.std.proofs.Common.{◌≡◌, ℕ, zero, suc, pred, ◌+◌, ◌<◌, Bool, true, false, cond, ◌||◌, List, [], ◌∷◌, ◌++◌, map, slice_index_or, refl, ap, ◌∙◌, sym, subst, arith, Some, None, option_to_list, unwrap_or}
 use Rattle.std.specs.List.{AllByRecursion, list_any}
 use Rattle.std.specs.Map.{lookup}
 use Rattle.std.proofs.lemmas.Bool.{false≢true}
 use Rattle.lus_tree.specs.declared.expression.Operator.TheVariants.{And}
 use Rattle.lus_tree.specs.Tree.{Component, Name, Expression, Expressions, Labelled, ContractStatement, assume, guarantee, ghost_variable, constant, mode, «import»}
-use Rattle.kind_num.specs.declared.Past.{Past}
 use Rattle.lus_meaning.specs.Value.{Value, absent, flag, whole}
 use Rattle.lus_meaning.specs.Frame.{Frame}
-use Rattle.lus_meaning.specs.Scene.{Clock, base, Instance, Instances, instance, no_instances, with_instance, component_of, calls_of, call_instance, instance_at, contract_statements, Scene, is_on}
+use Rattle.lus_meaning.specs.Scene.{Clock, base, Instance, Instances, instance, no_instances, with_instance, call_instance, instance_at, contract_statements, Scene}
 use Rattle.lus_meaning.specs.Occurrences.{own}
 use Rattle.lus_meaning.specs.Meaning.{mode_key}
 use Rattle.lus_meaning.specs.Contract.{ModeTerms, terms}
 use Rattle.lus_meaning.specs.Cycle.{Place as NeededPlace}
 use Rattle.lus_meaning.specs.Verdict.{throughout}
 use Rattle.lus_meaning.proofs.Lists.{append_none, map_append}
-use Rattle.sys_meaning.specs.Slot.{Place}
 use Rattle.sys_meaning.specs.Items.{Key, Known}
 use Rattle.sys_meaning.specs.Defaults.{site_of}
-use Rattle.sys_meaning.specs.System.{number_of, below_call}
-use Rattle.sys_meaning.specs.WellTyped.{IsKnown, IsAmong, IsCall, IsPlainCall, IsHeldCall, IsImport, FlagFits, StatementsFit, own_keys, count_of, TreeFits, CallsFit}
+use Rattle.sys_meaning.specs.System.{number_of}
+use Rattle.sys_meaning.specs.WellTyped.{IsKnown, IsAmong, IsCall, IsPlainCall, IsHeldCall, IsImport, FlagFits, StatementsFit, own_keys, count_of, CallsFit}
 use Rattle.sys_meaning.proofs.Forward.{own_fits}
 use Rattle.sys_meaning.proofs.Whole.{import_beat}
 use Rattle.lus_evaluation.specs.Part.{Part, ModeParts, Setting, part}
@@ -27,16 +25,15 @@ use Rattle.lus_evaluation.specs.Past.{past_of_values, part_past, NonePast}
 use Rattle.slot_values.specs.Resolution.{Resolution, known}
 use Rattle.slot_values.specs.Evaluated.{SlotValues, told, outside}
 use Rattle.slot_values.specs.Resolved.{resolution}
-use Rattle.slot_values.specs.Clocked.{Passes}
 use Rattle.slot_values.specs.FrameRow.{Shows}
-use Rattle.slot_values.specs.Parts.{operands, own_parts, Standpoint, scene_at, setting_at, PartsByRow, ModesWithin}
+use Rattle.slot_values.specs.Parts.{operands, own_parts, Standpoint, PartsByRow, ModesWithin}
 use Rattle.slot_values.proofs.Parts.{parts_by_rows}
 use Rattle.evaluation_laws.specs.Resolvings.{Resolving, at_numbers, nowhere, all_resolved, asked_resolving, imported_resolving, resolvings_after, resolvings, resolvings_each}
-use Rattle.evaluation_laws.specs.Rows.{AreCalls, numbers_on, knows, row_at, scene_there, numbers_there, modes_there, RowShows}
+use Rattle.evaluation_laws.specs.Rows.{AreCalls, row_at, scene_there, numbers_there, modes_there, RowShows}
 use Rattle.order_laws.specs.Own.{own_setting, own_asked, imported_own, own_modes_after, own_modes, own_modes_each}
 use Rattle.order_laws.proofs.Lists.{left_of, right_of}
 use Rattle.order_laws.proofs.ModeKeys.{keys, imported_keys, resolving_keys, resolvings_more, found_first, known_first}
-use Rattle.order_laws.proofs.Same.{same_resolution, own_among}
+use Rattle.order_laws.proofs.Same.{same_resolution}
 use Rattle.order_laws.proofs.Frames.{scene_further, numbers_further, StandsAt, stands_called, base_there}
 
 -- ---- conjunctions

@@ -1,5 +1,5 @@
 -- What is evaluated in a frame, each part behind its own operands.
-use Rattle.std.proofs.Common.{◌≡◌, ℕ, zero, suc, pred, ◌+◌, ◌<◌, Bool, true, false, cond, ◌&&◌, ◌||◌, eqb, List, [], ◌∷◌, ◌++◌, map, flat_map, length, slice_get, refl, ap, ◌∙◌, sym, subst, arith, Option, Some, option_map}
+use Rattle.std.proofs.Common.{◌≡◌, ℕ, zero, suc, pred, ◌+◌, ◌<◌, Bool, true, false, cond, ◌||◌, eqb, List, [], ◌∷◌, ◌++◌, map, flat_map, length, slice_get, refl, ap, ◌∙◌, sym, subst, arith, Option, Some, option_map}
 use Rattle.std.specs.Prelude.{Contains, option_to_list}
 use Rattle.std.specs.List.{AllByRecursion, list_any}
 use Rattle.std.proofs.Math.Logic.{◌⊎◌, inl, inr}
@@ -8,7 +8,7 @@ use Rattle.std.proofs.lemmas.List.Folds.{list_any-append}
 use Rattle.std.proofs.lemmas.Option.{none-some, same_Some}
 use Rattle.lus_tree.specs.Tree.{Name, Expression, truth, number, name, negation, minus, pre, arrow, binary, choice, sampled, merged, call, condact, mode_name, Labelled, Statement, equation, assertion, property, main_mark, ContractStatement, assume, guarantee, ghost_variable, constant, mode, «import», Component, Program, text_of}
 use Rattle.lus_meaning.specs.Frame.{Frame}
-use Rattle.lus_meaning.specs.Scene.{Clock, base, sampled_by, clock_of, Manner, plain, while_true, as_import, Site, Instance, Instances, no_instances, with_instance, instance, component_of, calls_of, call_instance, contract_statements, clock_of_names, is_on}
+use Rattle.lus_meaning.specs.Scene.{Clock, base, sampled_by, clock_of, Manner, plain, while_true, as_import, Site, Instance, Instances, no_instances, with_instance, component_of, calls_of, contract_statements, clock_of_names, is_on}
 use Rattle.lus_meaning.specs.Contract.{terms}
 use Rattle.lus_meaning.specs.Meaning.{mode_key}
 use Rattle.lus_meaning.specs.Occurrences.{Standing, on_clock, on_base, as_side, Occurrence, occurrences, Text, gathered, all_occurrences, contract_statement_texts}
@@ -23,16 +23,14 @@ use Rattle.lus_meaning.specs.ClockFaults.{components}
 use Rattle.lus_meaning.specs.Refusals.{IsChecked}
 use Rattle.lus_meaning.proofs.BooleanOrder.{IsIn, in_left, in_right}
 use Rattle.lus_meaning.proofs.InOrder.{in_order_all}
-use Rattle.lus_meaning.proofs.Lists.{append_none, all_from, all_from_both, all_from_three, both_parts, or_left, or_true}
+use Rattle.lus_meaning.proofs.Lists.{append_none, all_from, all_from_three, both_parts, or_left, or_true}
 use Rattle.rule_laws.specs.Laws.{IsUnfolded, AreUnfolded}
 use Rattle.rule_laws.proofs.Lists.{all_flat}
 use Rattle.sys_meaning.specs.Items.{Key}
 use Rattle.sys_meaning.specs.WellTyped.{IsKnown, IsAmong, IsImport, EquationFits, ClockFits, count_of, CallsFit}
-use Rattle.path_laws.proofs.Tree.{own_fits, tree_fits}
-use Rattle.sys_meaning.proofs.Forward.{calls_fit}
+use Rattle.path_laws.proofs.Tree.{own_fits}
 use Rattle.lus_evaluation.specs.Part.{Part, ModeParts, Setting, needs_of, key_of, asked_in, part, parts, argument_parts, operand_parts, whole_parts, wholes}
-use Rattle.lus_evaluation.specs.Frame.{ModeText, ContractText, FrameText, Calls, setting, conditions_of, mode_text, imported_mode, contract_after, import_parts, equation_parts, picked, body_parts, evaluated_clause, evaluated_statement, evaluated_texts, evaluated_calls, stands_in, is_evaluated, call_condition, call_parts, asserted_below, asserted_in_calls, text_over}
-use Rattle.lus_evaluation.specs.Evaluation.{gives_name}
+use Rattle.lus_evaluation.specs.Frame.{ModeText, ContractText, FrameText, Calls, setting, conditions_of, mode_text, imported_mode, contract_after, import_parts, equation_parts, picked, evaluated_clause, evaluated_statement, evaluated_texts, evaluated_calls, stands_in, is_evaluated, call_condition, asserted_below, asserted_in_calls, text_over}
 use Rattle.slot_values.specs.Clocked.{row_by, clock_on}
 use Rattle.evaluation_laws.specs.Rows.{AreCalls, row_at, scene_there, numbers_there, RowShows}
 use Rattle.evaluation_laws.proofs.Waiting.{in_any, both}
@@ -44,7 +42,7 @@ use Rattle.order_laws.proofs.Placed.{Settled, OwnIn, EachPlaced, placed_both, al
 use Rattle.order_laws.proofs.Laying.{Has, has_more}
 use Rattle.order_laws.proofs.Laid.{each_laid}
 use Rattle.order_laws.proofs.Items.{TextFits, SideFits, items_fit, sides_fit, assertions_fit}
-use Rattle.order_laws.proofs.Sites.{SitesHeld, TextHeld, text_held, CallKnown, SiteKnown, all_sites_known}
+use Rattle.order_laws.proofs.Sites.{TextHeld, text_held, CallKnown, SiteKnown, all_sites_known}
 use Rattle.order_laws.proofs.Contracts.{Holds, import_numbers, AreLaid, laid_when, laid_found, ImportLaid, Below, AfterLaid, after}
 
 -- ---- lists

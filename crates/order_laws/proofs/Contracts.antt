@@ -1,11 +1,11 @@
 -- The parts of a contract, each behind its own operands.
-use Rattle.std.proofs.Common.{◌≡◌, ℕ, zero, suc, pred, Bool, true, false, cond, ◌||◌, eqb, List, [], ◌∷◌, ◌++◌, map, flat_map, refl, ap, ◌∙◌, sym, subst, Option, Some, unwrap_or}
+use Rattle.std.proofs.Common.{◌≡◌, ℕ, Bool, true, false, cond, ◌||◌, eqb, List, [], ◌∷◌, ◌++◌, map, flat_map, refl, ap, ◌∙◌, sym, subst, Option, Some, unwrap_or}
 use Rattle.std.specs.Prelude.{Contains}
 use Rattle.std.specs.List.{AllByRecursion, list_any}
 use Rattle.std.specs.Map.{lookup}
 use Rattle.std.proofs.Math.Logic.{◌⊎◌, inl, inr}
 use Rattle.std.proofs.lemmas.Bool.{false≢true, eqb-true}
-use Rattle.lus_tree.specs.Tree.{Name, Spelled, Expression, Labelled, ContractStatement, assume, guarantee, ghost_variable, constant, mode, «import», Component, Program}
+use Rattle.lus_tree.specs.Tree.{Name, Spelled, Expression, Labelled, ContractStatement, assume, guarantee, ghost_variable, constant, mode, «import», Program}
 use Rattle.lus_meaning.specs.Frame.{Frame}
 use Rattle.lus_meaning.specs.Scene.{base, Instance, component_of, call_instance}
 use Rattle.lus_meaning.specs.Meaning.{mode_key}
@@ -14,12 +14,12 @@ use Rattle.lus_meaning.specs.Occurrences.{on_clock}
 use Rattle.lus_meaning.specs.Cycle.{Place as NeededPlace}
 use Rattle.lus_meaning.specs.ClockFaults.{components}
 use Rattle.lus_meaning.specs.Refusals.{IsChecked}
-use Rattle.lus_meaning.proofs.BooleanOrder.{IsIn, in_left, in_right}
+use Rattle.lus_meaning.proofs.BooleanOrder.{IsIn, in_right}
 use Rattle.lus_meaning.proofs.Lists.{append_none, map_append, all_from, both_parts}
 use Rattle.rule_laws.specs.Laws.{IsUnfolded}
 use Rattle.sys_meaning.specs.Items.{Key}
-use Rattle.sys_meaning.specs.WellTyped.{IsKnown, IsAmong, IsImport, own_keys}
-use Rattle.lus_evaluation.specs.Part.{Part, ModeParts, asked_in, parts, whole_parts, wholes}
+use Rattle.sys_meaning.specs.WellTyped.{IsAmong, IsImport, own_keys}
+use Rattle.lus_evaluation.specs.Part.{Part, ModeParts, parts, wholes}
 use Rattle.lus_evaluation.specs.Frame.{ModeText, ContractText, FrameText, Calls, setting, conditions_of, mode_text, imported_mode, contract_after, import_parts}
 use Rattle.lus_evaluation.specs.Evaluation.{is_above}
 use Rattle.slot_values.specs.Parts.{own_parts}
@@ -28,10 +28,10 @@ use Rattle.evaluation_laws.proofs.Waiting.{both_true}
 use Rattle.order_laws.specs.Own.{own_setting, own_asked, imported_own, own_modes_after, own_modes}
 use Rattle.order_laws.specs.Rows.{place_there}
 use Rattle.order_laws.proofs.Lists.{grouped}
-use Rattle.order_laws.proofs.Placed.{Settled, Within, OwnIn, EachPlaced, placed_both, own_wider, own_two, all_in_self}
+use Rattle.order_laws.proofs.Placed.{Settled, Within, OwnIn, EachPlaced, placed_both, own_two, all_in_self}
 use Rattle.order_laws.proofs.Laying.{Has, has_more, own_in}
 use Rattle.order_laws.proofs.Laid.{wholes_laid, asked_laid}
-use Rattle.order_laws.proofs.Items.{LabelFits, ItemFits, ItemsFit}
+use Rattle.order_laws.proofs.Items.{LabelFits, ItemsFit}
 
 -- ---- frames on the way
 
@@ -357,9 +357,11 @@ module _ (i : Instance) (f : Frame) (t : ℕ) where
           has_now : (b : List Part) → Has sub ins b → Has sub (ins ++ n ∷ []) (b ++ (given ++ (sub n).body))
           has_now b q =
               both_parts (λ k. Holds (sub k).body (b ++ (given ++ (sub n).body))) ins (n ∷ [])
-              (has_more sub ins b (given ++ (sub n).body) q)
-              (all_from (λ y. IsIn y (sub n).body) (λ y. IsIn y (b ++ (given ++ (sub n).body)))
-              (λ y m. in_right y b (given ++ (sub n).body) (in_right y given (sub n).body m)) (sub n).body (all_in_self (sub n).body), tt)
+              (has_more sub ins b (given ++ (sub n).body) q) (
+                all_from (λ y. IsIn y (sub n).body) (λ y. IsIn y (b ++ (given ++ (sub n).body)))
+                    (λ y m. in_right y b (given ++ (sub n).body) (in_right y given (sub n).body m)) (sub n).body (all_in_self (sub n).body),
+                tt,
+              )
 
       pub after : (ks : List Key) (ms : List ModeText) (qs : ModeParts) (ins : List ℕ) (cs : List ContractStatement) → ItemsFit j ks cs →
           AreLaid w (Has sub ins) ms qs → keys qs ≡ ks → own_modes w j ≡ own_modes_after j w subo qs cs →
@@ -406,12 +408,24 @@ module _ (i : Instance) (f : Frame) (t : ℕ) where
       after ks ms qs ins (ghost_variable x y ∷ cs) h a k e =
           let r = after (ks ++ []) ms qs ins cs h.1 a (k ∙ sym (append_none ks)) e in
           record {
-            modes = r.modes; assumed = r.assumed; guaranteed = r.guaranteed; more = r.more; all = r.all; imports = r.imports; has = r.has;
+            modes = r.modes;
+            assumed = r.assumed;
+            guaranteed = r.guaranteed;
+            more = r.more;
+            all = r.all;
+            imports = r.imports;
+            has = r.has;
           }
       after ks ms qs ins (constant x ∷ cs) h a k e =
           let r = after (ks ++ []) ms qs ins cs h.1 a (k ∙ sym (append_none ks)) e in
           record {
-            modes = r.modes; assumed = r.assumed; guaranteed = r.guaranteed; more = r.more; all = r.all; imports = r.imports; has = r.has;
+            modes = r.modes;
+            assumed = r.assumed;
+            guaranteed = r.guaranteed;
+            more = r.more;
+            all = r.all;
+            imports = r.imports;
+            has = r.has;
           }
       after ks ms qs ins (mode m rs es ∷ cs) h a k e =
           let more = own_more qs (mode m rs es ∷ cs) in

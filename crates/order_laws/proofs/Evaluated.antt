@@ -1,11 +1,11 @@
 -- In the evaluation of an instant a part's own operands come before it.
-use Rattle.std.proofs.Common.{◌≡◌, ℕ, zero, suc, pred, ◌<◌, ◌≤◌, Bool, true, false, ◌&&◌, eqb, List, [], ◌∷◌, ◌++◌, map, length, get_or, Some, slice_get, refl, ap, ◌∙◌, sym, subst, arith}
+use Rattle.std.proofs.Common.{◌≡◌, ℕ, zero, suc, pred, ◌<◌, ◌≤◌, Bool, true, false, eqb, List, [], ◌∷◌, ◌++◌, map, length, get_or, Some, slice_get, refl, ap, ◌∙◌, sym, subst, arith}
 use Rattle.std.specs.Prelude.{position}
 use Rattle.std.specs.List.{AllByRecursion}
 use Rattle.std.proofs.Math.Logic.{◌⊎◌, inl, inr}
 use Rattle.std.proofs.lemmas.Bool.{false≢true, true≢false, cases_order, eqb-true, eq-eqb}
 use Rattle.std.proofs.lemmas.List.Quantifiers.{position-Some}
-use Rattle.std.proofs.lemmas.Option.{none-some, same_Some, slice_get-get_or}
+use Rattle.std.proofs.lemmas.Option.{none-some, same_Some}
 use Rattle.lus_tree.specs.Tree.{Name}
 use Rattle.lus_meaning.specs.Frame.{Frame}
 use Rattle.lus_meaning.specs.Scene.{Instance, component_of}
@@ -19,10 +19,9 @@ use Rattle.clock_laws.proofs.Reaching.{at_in}
 use Rattle.sys_meaning.proofs.Shows.{same_ways}
 use Rattle.lus_evaluation.specs.Part.{Part}
 use Rattle.lus_evaluation.specs.Evaluation.{is_above, gives_name, NeedsPlace, place_named, Waits}
-use Rattle.slot_values.specs.Parts.{operands, setting_at}
 use Rattle.evaluation_laws.proofs.Wholes.{NeedsItsWhole}
 use Rattle.evaluation_laws.proofs.Waiting.{both_true, both, Passing, first_passes}
-use Rattle.order_laws.specs.Rows.{place_there, standpoint_there}
+use Rattle.order_laws.specs.Rows.{place_there}
 use Rattle.order_laws.proofs.Lists.{grouped}
 use Rattle.order_laws.proofs.Earlier.{listed_first}
 use Rattle.order_laws.proofs.Placed.{Giver, Settled, Within, OwnIn, Placed, EachPlaced}

@@ -1,8 +1,7 @@
 -- In the rows of a run the first part with an operation outside 128 bits is the first value outside.
-use Rattle.std.proofs.Common.{◌≡◌, ℕ, zero, suc, ◌<◌, ◌≤◌, true, List, [], ◌∷◌, ◌++◌, length, slice_get, refl, ap, ◌∙◌, sym, subst, arith, Option, Some, None}
+use Rattle.std.proofs.Common.{◌≡◌, ℕ, zero, suc, ◌<◌, true, List, [], ◌∷◌, ◌++◌, length, slice_get, refl, ap, ◌∙◌, sym, subst, arith, Option, Some, None}
 use Rattle.std.specs.Prelude.{Contains, option_to_list}
 use Rattle.std.specs.List.{AllByRecursion}
-use Rattle.std.proofs.lemmas.Option.{none-some, same_Some}
 use Rattle.lus_tree.specs.declared.place.Pos.{Pos}
 use Rattle.lus_tree.specs.Tree.{Component, Program}
 use Rattle.kind_num.specs.declared.Past.{Past}
@@ -27,7 +26,7 @@ use Rattle.path_laws.proofs.Main.{each_is_well_typed}
 use Rattle.lus_evaluation.specs.Part.{Part}
 use Rattle.lus_evaluation.specs.Frame.{picked}
 use Rattle.lus_evaluation.specs.Turn.{in_turn}
-use Rattle.lus_evaluation.specs.Evaluation.{Waits, IsEvaluation}
+use Rattle.lus_evaluation.specs.Evaluation.{IsEvaluation}
 use Rattle.lus_evaluation.specs.Past.{part_past, NonePast, IsFirstPast}
 use Rattle.slot_values.specs.declared.resolved.PastAt.{PastAt}
 use Rattle.slot_values.specs.Evaluated.{told}
@@ -43,7 +42,7 @@ use Rattle.order_laws.proofs.Lists.{grouped}
 use Rattle.order_laws.proofs.Frames.{stands_there}
 use Rattle.order_laws.proofs.OwnPast.{modes_within}
 use Rattle.order_laws.proofs.Placed.{OwnIn, Placed, EachPlaced}
-use Rattle.order_laws.proofs.Bodies.{in_all, slice_below, picked_in}
+use Rattle.order_laws.proofs.Bodies.{in_all, picked_in}
 use Rattle.order_laws.proofs.Top.{instant_laid}
 use Rattle.order_laws.proofs.Evaluated.{firsts, placed_at, operand_listed}
 
@@ -195,9 +194,10 @@ module _ (i : Instance) (f : Frame) (t : ℕ) (qs : List Part) (own_one : OwnPas
 
   none_from : (done todo rest : List Part) → qs ≡ done ++ (todo ++ rest) → All Fine done → All Fine todo → All NoOperation todo
   none_from done [] rest e a h = tt
-  none_from done (y ∷ todo) rest e a h =
-      (own_one done y (todo ++ rest) e a ∙ ap (told (own y.expression)) h.0,
-      none_from (done ++ y ∷ []) todo rest (e ∙ sym (grouped done (y ∷ []) (todo ++ rest))) (joined Fine done y a h.0) h.1)
+  none_from done (y ∷ todo) rest e a h = (
+    own_one done y (todo ++ rest) e a ∙ ap (told (own y.expression)) h.0,
+    none_from (done ++ y ∷ []) todo rest (e ∙ sym (grouped done (y ∷ []) (todo ++ rest))) (joined Fine done y a h.0) h.1,
+  )
 
   pub all_fine : All NoOperation qs → All Fine qs
   all_fine h = fine_from [] qs [] (sym (append_none qs)) tt h

@@ -1,15 +1,13 @@
 -- The frame at the end of a way of calls, and that of a call in it.
-use Rattle.std.proofs.Common.{◌≡◌, ℕ, zero, suc, pred, ◌<◌, Bool, true, false, List, [], ◌∷◌, ◌++◌, refl, ap, ◌∙◌, sym, subst, arith, append_assoc}
+use Rattle.std.proofs.Common.{◌≡◌, ℕ, zero, suc, pred, ◌<◌, true, List, [], ◌∷◌, ◌++◌, refl, ap, ◌∙◌, sym, subst, append_assoc}
 use Rattle.std.proofs.Math.Path.{fun_ext}
-use Rattle.lus_tree.specs.Tree.{Name}
-use Rattle.lus_meaning.specs.Value.{Instants, is, flag}
+use Rattle.lus_meaning.specs.Value.{Instants, is}
 use Rattle.lus_meaning.specs.Frame.{Frame, call_frame}
-use Rattle.lus_meaning.specs.Scene.{Clock, base, sampled_by, Instance, component_of, calls_of, call_instance, Scene, is_on, variables}
+use Rattle.lus_meaning.specs.Scene.{Clock, base, sampled_by, Instance, calls_of, call_instance, Scene, is_on}
 use Rattle.lus_meaning.specs.Contract.{scene}
 use Rattle.lus_meaning.specs.Run.{active}
 use Rattle.lus_meaning.specs.Verdict.{throughout}
-use Rattle.sys_meaning.specs.Slot.{Place, own, beat}
-use Rattle.sys_meaning.specs.Items.{Key}
+use Rattle.sys_meaning.specs.Slot.{Place}
 use Rattle.sys_meaning.specs.Defaults.{site_of}
 use Rattle.sys_meaning.specs.System.{below_call}
 use Rattle.sys_meaning.specs.WellTyped.{count_of, IsKnown, ClockEnds, ClockFits, TreeFits}
@@ -17,8 +15,7 @@ use Rattle.sys_meaning.proofs.Forward.{calls_fit}
 use Rattle.sys_meaning.proofs.Whole.{fits_called}
 use Rattle.lus_evaluation.specs.Past.{scene_on}
 use Rattle.slot_values.specs.Clocked.{row_by, clock_on}
-use Rattle.slot_values.specs.FrameRow.{Shows}
-use Rattle.evaluation_laws.specs.Rows.{AreCalls, numbers_on, knows, row_at, scene_there, numbers_there, modes_there, RowShows}
+use Rattle.evaluation_laws.specs.Rows.{AreCalls, numbers_on, row_at, scene_there, numbers_there, RowShows}
 use Rattle.evaluation_laws.proofs.FrameShown.{true_flag}
 
 -- the scene of a call

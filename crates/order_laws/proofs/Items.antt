@@ -5,13 +5,13 @@ use Rattle.std.specs.Prelude.{Contains, is_none}
 use Rattle.std.specs.List.{AllByRecursion}
 use Rattle.lus_tree.specs.declared.place.Sort.TheVariants.{Bool as Flags}
 use Rattle.lus_tree.specs.Tree.{Expression, truth, number, name, negation, minus, pre, arrow, binary, choice, sampled, merged, call, condact, mode_name, Variable, Labelled, Statement, equation, assertion, property, main_mark, ContractStatement, assume, guarantee, ghost_variable, constant, mode, «import», Constant, Component, Program}
-use Rattle.lus_meaning.specs.Scene.{Clock, base, Site, Instance, component_of, clock_from, clock_of, clock_of_names, contract_statements, ghosts, variables}
+use Rattle.lus_meaning.specs.Scene.{base, Site, Instance, component_of, clock_from, clock_of, clock_of_names, contract_statements, ghosts}
 use Rattle.lus_meaning.specs.Program.{site_in, import_site}
 use Rattle.lus_tree.specs.Reason.{not_constant}
 use Rattle.lus_meaning.specs.Faults.{fault}
 use Rattle.lus_meaning.specs.Property.{assertions}
 use Rattle.lus_meaning.specs.Run.{Equation, equations, ghost_equations, body_equations}
-use Rattle.lus_meaning.specs.Occurrences.{Standing, Occurrence, occurrences, on_clock, on_base, as_side, Text, contract_statement_texts, statement_texts, constant_texts, texts}
+use Rattle.lus_meaning.specs.Occurrences.{Standing, Occurrence, occurrences, on_clock, on_base, as_side, Text, contract_statement_texts, statement_texts, constant_texts}
 use Rattle.lus_meaning.specs.ClockFaults.{components}
 use Rattle.lus_meaning.specs.Scope.{Home, Scope, contract_statement_scope, constant_scope}
 use Rattle.lus_meaning.specs.ExpressionFaults.{needs_sort, flag_faults, hinders_constant, not_allowed, definition_faults, expression_faults}
@@ -34,7 +34,7 @@ use Rattle.rule_laws.proofs.Unfolded.{typed_tree}
 use Rattle.clock_laws.proofs.Texts.{all_grammatical}
 use Rattle.run_laws.proofs.Texts.{declaration}
 use Rattle.sys_meaning.specs.Items.{Key}
-use Rattle.sys_meaning.specs.WellTyped.{IsKnown, IsAmong, IsImport, StatementsFit, own_keys, Stands}
+use Rattle.sys_meaning.specs.WellTyped.{IsKnown, IsAmong, IsImport, StatementsFit, own_keys}
 use Rattle.path_laws.proofs.Chains.{clock_is}
 use Rattle.path_laws.proofs.Places.{imports_known, known_texts, KnownText, stand}
 use Rattle.path_laws.proofs.Among.{IsImported, NamesAmong, keys_of, all_among}
@@ -130,7 +130,7 @@ module _ (p : Program) (c : IsChecked p) (i : Instance) (u : IsUnfolded p i) (j 
   label_fits bs q e f a = (
     a,
     let all = all_among p at_place.0 at_place.1 i bs q e f in
-    each_of_both (λ o. NamesAmong (keys_of i bs) o.expression) (λ o. NamesAmong (keys_of i bs) o.expression) (Named (IsAmong (keys_of i bs)))
+        each_of_both (λ o. NamesAmong (keys_of i bs) o.expression) (λ o. NamesAmong (keys_of i bs) o.expression) (Named (IsAmong (keys_of i bs)))
         (λ o x y. names_in (keys_of i bs) o.expression x) (component_of i) (on_clock base) e all all,
   )
 
@@ -243,9 +243,11 @@ module _ (p : Program) (c : IsChecked p) (i : Instance) (u : IsUnfolded p i) (j 
   ghost_sides [] a g = tt
   ghost_sides (assume l ∷ xs) a g = ghost_sides xs a.1 g
   ghost_sides (guarantee l ∷ xs) a g = ghost_sides xs a.1 g
-  ghost_sides (ghost_variable x e ∷ xs) a g =
-      (text_fits (as_side (clock_of_names (component_of i) (x.name.text ∷ []))) e
-      (subst (λ z. Each (Known i) (component_of i) (as_side z) e) (sym g.0) a.0), ghost_sides xs a.1 g.1)
+  ghost_sides (ghost_variable x e ∷ xs) a g = (
+    text_fits (as_side (clock_of_names (component_of i) (x.name.text ∷ []))) e
+        (subst (λ z. Each (Known i) (component_of i) (as_side z) e) (sym g.0) a.0),
+    ghost_sides xs a.1 g.1,
+  )
   ghost_sides (constant x ∷ xs) a g = ghost_sides xs a.1 g
   ghost_sides (mode m rs es ∷ xs) a g =
       ghost_sides xs (right_part Text_known (on_base rs ++ on_base es) (flat_map contract_statement_texts xs) a) g

@@ -1,5 +1,5 @@
 -- Each part of an expression stands behind its own operands.
-use Rattle.std.proofs.Common.{◌≡◌, ℕ, true, false, Bool, List, [], ◌∷◌, ◌++◌, map, flat_map, option_map, refl, ap, sym, subst}
+use Rattle.std.proofs.Common.{◌≡◌, ℕ, true, false, Bool, List, [], ◌∷◌, ◌++◌, flat_map, option_map, ap}
 use Rattle.std.specs.Prelude.{Contains}
 use Rattle.std.specs.List.{AllByRecursion}
 use Rattle.std.proofs.lemmas.Bool.{false≢true}
@@ -19,15 +19,15 @@ use Rattle.sys_meaning.specs.Items.{Key}
 use Rattle.sys_meaning.specs.WellTyped.{IsKnown, IsNameOn, clock_here, Stands}
 use Rattle.path_laws.proofs.Standing.{Known}
 use Rattle.path_laws.proofs.Places.{stand}
-use Rattle.lus_evaluation.specs.Part.{Part, ModeParts, Setting, needs_of, key_of, asked_in, part, parts, argument_parts, operand_parts, whole_parts, wholes}
-use Rattle.lus_evaluation.specs.Frame.{ModeText, Calls, setting, conditions_of}
+use Rattle.lus_evaluation.specs.Part.{Part, Setting, needs_of, key_of, asked_in, part, parts, argument_parts, operand_parts, whole_parts, wholes}
+use Rattle.lus_evaluation.specs.Frame.{ModeText, Calls, setting}
 use Rattle.slot_values.specs.Clocked.{row_by, clock_on}
 use Rattle.slot_values.specs.Parts.{own_parts, operands}
 use Rattle.evaluation_laws.specs.Rows.{AreCalls, row_at, scene_there, numbers_there, RowShows}
 use Rattle.order_laws.specs.Own.{own_setting, own_modes}
 use Rattle.order_laws.specs.Rows.{place_there}
 use Rattle.order_laws.proofs.Frames.{base_there}
-use Rattle.order_laws.proofs.Placed.{OwnIn, Placed, EachPlaced, placed_both, own_wider, own_later, own_two}
+use Rattle.order_laws.proofs.Placed.{OwnIn, EachPlaced, placed_both, own_wider, own_later, own_two}
 use Rattle.order_laws.proofs.Laying.{Named, Has, has_more, own_in}
 
 module _ (p : Program) (c : IsChecked p) (i : Instance) (f : Frame) (t : ℕ) (w : List ℕ) (calls : AreCalls i w) (sh : RowShows i f t w)
@@ -74,15 +74,17 @@ module _ (p : Program) (c : IsChecked p) (i : Instance) (f : Frame) (t : ℕ) (w
     last : (b : List Part) (ns : List NeededPlace) (xs : List Name) (s : Standing) (e : Expression) → Knows s e → Shown s.clock → Gives xs →
         (front : List Part) → Laid b front → Own b ns front (operands h ns s.clock e) → Laid b (front ++ part g ns xs s.clock e ∷ [])
     last b ns xs s e k o v front a q =
-        placed_both i f t b front (part g ns xs s.clock e ∷ []) a
-        (record {
-          calls = calls;
-          stands = stand p c j u d s e k;
-          clock = o;
-          gives = v;
-          operands = own_later i f t w b front (b ++ front) (operands h ns s.clock e) ns
-              (own_wider i f t w b front (b ++ front) (operands h ns s.clock e) ns (λ r m. in_right r b front m) q);
-        }, tt)
+        placed_both i f t b front (part g ns xs s.clock e ∷ []) a (
+          record {
+            calls = calls;
+            stands = stand p c j u d s e k;
+            clock = o;
+            gives = v;
+            operands = own_later i f t w b front (b ++ front) (operands h ns s.clock e) ns
+                (own_wider i f t w b front (b ++ front) (operands h ns s.clock e) ns (λ r m. in_right r b front m) q);
+          },
+          tt,
+        )
 
     ours : (b : List Part) → Has sub ins b → (ns : List NeededPlace) (s : Standing) (e : Expression) → Names s e →
         Own b ns (parts g ns [] s.clock e) (own_parts h ns [] s.clock e)

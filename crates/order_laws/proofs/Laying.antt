@@ -1,32 +1,20 @@
 -- The parts of an expression, each behind its own operands.
-use Rattle.std.proofs.Common.{◌≡◌, ℕ, true, false, Bool, List, [], ◌∷◌, ◌++◌, Option, option_map, option_to_list, refl, ap, sym, subst}
-use Rattle.std.specs.Prelude.{Contains}
+use Rattle.std.proofs.Common.{◌≡◌, ℕ, true, false, List, [], ◌∷◌, ◌++◌, option_map, option_to_list, refl}
 use Rattle.std.specs.List.{AllByRecursion}
-use Rattle.lus_tree.specs.Tree.{Name, text_of, Expression, Expressions, truth, number, name, negation, minus, pre, arrow, binary, choice, sampled, merged, call, condact, mode_name, no_more, more, Program}
-use Rattle.lus_meaning.specs.Value.{is}
+use Rattle.lus_tree.specs.Tree.{Name, text_of, Expression, truth, number, name, negation, minus, pre, arrow, binary, choice, sampled, merged, call, condact, mode_name}
 use Rattle.lus_meaning.specs.Frame.{Frame}
-use Rattle.lus_meaning.specs.Scene.{Clock, sampled_by, Instance, component_of, clock_of, Scene, is_on}
-use Rattle.lus_meaning.specs.Occurrences.{Standing, within, before, moved, Occurrence}
-use Rattle.lus_meaning.specs.Depends.{named_in, left_names}
+use Rattle.lus_meaning.specs.Scene.{Clock, sampled_by, Instance, component_of, clock_of}
+use Rattle.lus_meaning.specs.Occurrences.{Standing, within, moved, Occurrence}
 use Rattle.lus_meaning.specs.Cycle.{Place as NeededPlace}
-use Rattle.lus_meaning.specs.ClockFaults.{components}
-use Rattle.lus_meaning.specs.Refusals.{IsChecked}
-use Rattle.lus_meaning.proofs.BooleanOrder.{IsIn, in_left, in_right}
-use Rattle.lus_meaning.proofs.EachPart.{Each, EachAmong}
+use Rattle.lus_meaning.proofs.BooleanOrder.{IsIn, in_left}
+use Rattle.lus_meaning.proofs.EachPart.{Each}
 use Rattle.lus_meaning.proofs.Lists.{all_from}
-use Rattle.rule_laws.specs.Laws.{IsUnfolded}
 use Rattle.sys_meaning.specs.Items.{Key}
-use Rattle.sys_meaning.specs.WellTyped.{IsKnown, IsNameOn, Stands}
-use Rattle.path_laws.proofs.Standing.{Known}
-use Rattle.path_laws.proofs.Places.{stand}
 use Rattle.lus_evaluation.specs.Part.{Part, ModeParts, Setting, needs_of, key_of, asked_in, part, parts, argument_parts, operand_parts}
 use Rattle.lus_evaluation.specs.Frame.{ModeText, Calls, setting}
-use Rattle.slot_values.specs.Clocked.{row_by, clock_on}
-use Rattle.slot_values.specs.Parts.{own_parts, operands}
-use Rattle.evaluation_laws.specs.Rows.{AreCalls, row_at, scene_there, numbers_there, RowShows}
-use Rattle.order_laws.specs.Own.{own_setting, own_modes}
-use Rattle.order_laws.specs.Rows.{place_there}
-use Rattle.order_laws.proofs.Placed.{OwnIn, Placed, EachPlaced, placed_both, within_more, own_wider, own_later, own_two, own_end}
+use Rattle.slot_values.specs.Parts.{own_parts}
+use Rattle.order_laws.specs.Own.{own_setting}
+use Rattle.order_laws.proofs.Placed.{OwnIn, own_wider, own_two, own_end}
 
 -- a mode that is named is one of these
 abbrev pub NamesIn : (Key → Type 0) → Expression → Type 0

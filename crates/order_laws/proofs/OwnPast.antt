@@ -1,25 +1,22 @@
 -- In the row of a run the operations outside of a part are its own, where its operands are within.
-use Rattle.std.proofs.Common.{◌≡◌, ℕ, true, Bool, cond, ◌||◌, List, [], ◌∷◌, ap, ◌∙◌, sym, subst}
+use Rattle.std.proofs.Common.{ℕ, List, ap, ◌∙◌}
 use Rattle.std.specs.List.{list_any}
-use Rattle.lus_tree.specs.Tree.{Expression}
 use Rattle.lus_meaning.specs.Frame.{Frame}
-use Rattle.lus_meaning.specs.Scene.{Instance, instance, component_of, calls_of, Scene}
+use Rattle.lus_meaning.specs.Scene.{Instance}
 use Rattle.lus_meaning.specs.Meaning.{mode_key}
-use Rattle.lus_meaning.specs.Contract.{ModeTerms, terms}
+use Rattle.lus_meaning.specs.Contract.{terms}
 use Rattle.lus_meaning.specs.Program.{instance_of}
-use Rattle.lus_meaning.specs.Cycle.{Place as NeededPlace}
 use Rattle.sys_meaning.specs.Items.{Key}
 use Rattle.sys_meaning.specs.WellTyped.{IsKnown, IsAmong, TreeFits}
 use Rattle.path_laws.proofs.Main.{each_is_well_typed}
-use Rattle.lus_evaluation.specs.Part.{asked_in}
-use Rattle.slot_values.specs.Parts.{ModesWithin, setting_at}
+use Rattle.slot_values.specs.Parts.{ModesWithin}
 use Rattle.slot_values.proofs.Parts.{parts_by_rows}
 use Rattle.evaluation_laws.specs.Resolvings.{resolvings}
-use Rattle.evaluation_laws.specs.Rows.{AreCalls, knows, scene_there, RowShows}
+use Rattle.evaluation_laws.specs.Rows.{AreCalls, RowShows}
 use Rattle.evaluation_laws.proofs.RowFrames.{rows_show}
 use Rattle.order_laws.specs.Rows.{place_there, standpoint_there, OwnPast, RowsHaveOwnPast}
 use Rattle.order_laws.proofs.ModeKeys.{keys, resolving_keys, keys_any}
-use Rattle.order_laws.proofs.Frames.{StandsAt, stands_there, clock_there}
+use Rattle.order_laws.proofs.Frames.{stands_there, clock_there}
 use Rattle.order_laws.proofs.Asked.{fine_found, frame_fine}
 
 module _ (i : Instance) (f : Frame) (t : ℕ) (shown : (w : List ℕ) → AreCalls i w → RowShows i f t w) (fits : TreeFits IsKnown i) where

@@ -1,10 +1,10 @@
 -- The calls of a text: what they are given is known, and what is evaluated in their frames is among the parts of the text.
-use Rattle.std.proofs.Common.{◌≡◌, ℕ, true, false, Bool, List, [], ◌∷◌, ◌++◌, map, flat_map, refl, ap, sym, subst}
+use Rattle.std.proofs.Common.{◌≡◌, ℕ, true, false, List, [], ◌∷◌, ◌++◌, flat_map, refl}
 use Rattle.std.specs.Prelude.{Contains}
 use Rattle.std.specs.List.{AllByRecursion}
 use Rattle.std.proofs.Math.Logic.{◌⊎◌, inl, inr}
 use Rattle.lus_tree.specs.Tree.{Name, Expression, Expressions, truth, number, name, negation, minus, pre, arrow, binary, choice, sampled, merged, call, condact, mode_name, no_more, more, ContractStatement, assume, guarantee, ghost_variable, constant, mode, «import», Component, Program}
-use Rattle.lus_meaning.specs.Scene.{Clock, base, sampled_by, Manner, plain, while_true, as_import, Site, Instance, component_of, clock_of, contract_statements}
+use Rattle.lus_meaning.specs.Scene.{Clock, sampled_by, as_import, Site, Instance, component_of, clock_of, contract_statements}
 use Rattle.lus_meaning.specs.Program.{listed, site_in, import_site, all_sites}
 use Rattle.lus_meaning.specs.Occurrences.{Standing, within, before, moved, Occurrence, occurrences, Text, texts, gathered, all_occurrences}
 use Rattle.lus_meaning.specs.ClockFaults.{components}
@@ -20,7 +20,7 @@ use Rattle.rule_laws.proofs.Parts.{Whole, nested, all_parts}
 use Rattle.sys_meaning.specs.WellTyped.{IsKnown}
 use Rattle.path_laws.proofs.Places.{known_texts, KnownText}
 use Rattle.path_laws.proofs.Standing.{Known}
-use Rattle.lus_evaluation.specs.Part.{Part, Setting, needs_of, key_of, asked_in, part, parts, argument_parts, operand_parts}
+use Rattle.lus_evaluation.specs.Part.{Part, Setting, needs_of, parts, argument_parts, operand_parts}
 use Rattle.lus_evaluation.specs.Frame.{call_condition}
 use Rattle.order_laws.proofs.Placed.{all_in_self}
 use Rattle.order_laws.proofs.Laying.{Named}
@@ -92,8 +92,11 @@ module _ (g : Setting) (n : Component) where
         let asked : List Part = parts g ns [] c a in
         let given : List Part = argument_parts g c as_ in
         let kept : List Part = operand_parts g ns c ds in (
-          (body_held k rs (λ r m. h r (in_left r (asked ++ given ++ g.body k ++ kept) _
-              (in_left r (asked ++ given ++ g.body k) kept (in_right r (asked ++ given) (g.body k) m)))), tt),
+          (
+            body_held k rs (λ r m. h r (in_left r (asked ++ given ++ g.body k ++ kept) _
+                (in_left r (asked ++ given ++ g.body k) kept (in_right r (asked ++ given) (g.body k) m)))),
+            tt,
+          ),
           held_in ns [] c (within s) a rs (λ r m. h r (in_left r (asked ++ given ++ g.body k ++ kept) _
               (in_left r (asked ++ given ++ g.body k) kept (in_left r (asked ++ given) (g.body k) (in_left r asked given m))))),
           held_arguments c (within s) as_ rs (λ r m. h r (in_left r (asked ++ given ++ g.body k ++ kept) _

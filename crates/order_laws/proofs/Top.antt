@@ -1,21 +1,19 @@
 -- All that is evaluated at an instant, each part behind its own operands.
-use Rattle.std.proofs.Common.{◌≡◌, ℕ, zero, suc, pred, ◌+◌, ◌<◌, true, List, [], ◌∷◌, ◌++◌, map, flat_map, length, slice_get, slice_index_or, refl, ap, ◌∙◌, sym, subst, arith}
-use Rattle.std.specs.Prelude.{Contains}
+use Rattle.std.proofs.Common.{◌≡◌, ℕ, suc, ◌+◌, ◌<◌, List, [], ◌∷◌, ◌++◌, map, flat_map, slice_get, slice_index_or, refl, ◌∙◌, sym, subst, arith}
 use Rattle.std.specs.List.{AllByRecursion}
-use Rattle.lus_tree.specs.Tree.{Name, Expression, truth, number, name, negation, minus, pre, arrow, binary, choice, sampled, merged, call, condact, mode_name, text_of, Constant, Statement, equation, assertion, property, main_mark, ContractStatement, assume, guarantee, ghost_variable, constant, mode, «import», Component, Program}
+use Rattle.lus_tree.specs.Tree.{Name, Expression, text_of, Constant, Statement, equation, assertion, property, main_mark, ContractStatement, assume, guarantee, ghost_variable, constant, mode, «import», Component, Program}
 use Rattle.lus_meaning.specs.Frame.{Frame}
-use Rattle.lus_meaning.specs.Scene.{base, Manner, plain, while_true, as_import, Site, Instance, Instances, instance, no_instances, with_instance, component_of, calls_of, instance_at, contract_statements, clock_of_names}
+use Rattle.lus_meaning.specs.Scene.{base, Manner, plain, while_true, as_import, Site, Instance, Instances, instance, no_instances, with_instance, component_of, calls_of, contract_statements, clock_of_names}
 use Rattle.lus_meaning.specs.Occurrences.{Standing, on_clock, as_side, Occurrence, occurrences, Text, contract_statement_texts, statement_texts, constant_texts, texts, gathered, all_occurrences}
 use Rattle.lus_meaning.specs.Program.{site_in, import_site, all_sites}
 use Rattle.lus_meaning.specs.Property.{assertions}
 use Rattle.lus_meaning.specs.Run.{Equation, equations, ghost_equations, body_equations}
-use Rattle.lus_meaning.specs.Order.{is_listed, IsLeastEquationOrder}
-use Rattle.lus_meaning.specs.ClockFaults.{components}
+use Rattle.lus_meaning.specs.Order.{IsLeastEquationOrder}
 use Rattle.lus_meaning.specs.Refusals.{IsChecked}
 use Rattle.lus_meaning.proofs.BooleanOrder.{IsIn, in_left, in_right}
 use Rattle.lus_meaning.proofs.InOrder.{in_order_all}
 use Rattle.lus_meaning.proofs.Lists.{all_from, both_parts}
-use Rattle.std.proofs.Math.Logic.{◌⊎◌, inl, inr}
+use Rattle.std.proofs.Math.Logic.{inl, inr}
 use Rattle.rule_laws.specs.Laws.{AreUnfolded}
 use Rattle.rule_laws.proofs.Callees.{each_site}
 use Rattle.rule_laws.proofs.Lists.{all_flat}
@@ -28,12 +26,12 @@ use Rattle.lus_evaluation.specs.Turn.{property_texts, owed, owed_in_calls, condi
 use Rattle.lus_evaluation.specs.Evaluation.{instance_on}
 use Rattle.evaluation_laws.specs.Rows.{AreCalls, RowShows}
 use Rattle.order_laws.specs.Own.{own_modes, own_modes_each}
-use Rattle.order_laws.proofs.Frames.{StandsAt, stands_called}
+use Rattle.order_laws.proofs.Frames.{stands_called}
 use Rattle.order_laws.proofs.Placed.{EachPlaced, placed_both, all_in_self}
 use Rattle.order_laws.proofs.Items.{ItemFree, IsFree, items_free, constants_free, properties_fit}
 use Rattle.order_laws.proofs.Sites.{TextHeld, text_held}
 use Rattle.order_laws.proofs.Contracts.{Holds, AreLaid}
-use Rattle.order_laws.proofs.Bodies.{in_all, in_flat, at_slice, slice_below, picked_in, holds_within, holds_more, holds_left, FrameLaid, contract_side, free_held, contract_held}
+use Rattle.order_laws.proofs.Bodies.{in_all, in_flat, at_slice, slice_below, picked_in, holds_within, holds_more, FrameLaid, contract_side, free_held, contract_held}
 use Rattle.order_laws.proofs.Trees.{FrameAt, Texts, unfolded_calls, frame_tree, calls_tree, texts_tree}
 
 text_same : (o : Orders) (i : Instance) → frame_text o [] i ≡ text_over (text_at (call_texts o [] (calls_of i))) (o []) [] i
@@ -207,12 +205,16 @@ module _ (p : Program) (c : IsChecked p) (i : Instance) (f : Frame) (t : ℕ) (s
   side_held e h z = text_held g n (needs_of g (clock_of_names n e.names) e.right) e.names (clock_of_names n e.names) z e.right rs (side_in e h)
 
   contract_sides : (y : ContractStatement) → IsIn y cs → AllByRecursion (TextHeld g n rs) (contract_side y)
-  contract_sides (ghost_variable v e) h =
-      (side_held record { names = v.name.text ∷ []; right = e } (in_left _ (ghost_equations cs) (body_equations n.body)
-      (ghost_in cs (ghost_variable v e) h record { names = v.name.text ∷ []; right = e } (inl refl))) (as_side base), tt)
-  contract_sides (constant v) h =
-      (free_held i [] sub n rs (on_clock base) v.value (in_all (ItemFree p c i s.unfolded s.declared) cs (constant v)
-      (items_free p c i s.unfolded s.declared) h), tt)
+  contract_sides (ghost_variable v e) h = (
+    side_held record { names = v.name.text ∷ []; right = e } (in_left _ (ghost_equations cs) (body_equations n.body)
+        (ghost_in cs (ghost_variable v e) h record { names = v.name.text ∷ []; right = e } (inl refl))) (as_side base),
+    tt,
+  )
+  contract_sides (constant v) h = (
+    free_held i [] sub n rs (on_clock base) v.value (in_all (ItemFree p c i s.unfolded s.declared) cs (constant v)
+        (items_free p c i s.unfolded s.declared) h),
+    tt,
+  )
   contract_sides (assume l) h = tt
   contract_sides (guarantee l) h = tt
   contract_sides (mode m qs ds) h = tt

@@ -17,9 +17,9 @@ use Rattle.lus_meaning.specs.Refusals.{IsChecked}
 use Rattle.rule_laws.specs.Laws.{IsUnfolded, AreUnfolded}
 use Rattle.rule_laws.proofs.Callees.{GoesDown, each_site}
 use Rattle.clock_laws.proofs.Clocks.{declared_at}
-use Rattle.sys_meaning.specs.Items.{Key, Known}
+use Rattle.sys_meaning.specs.Items.{Known}
 use Rattle.sys_meaning.specs.Defaults.{site_of}
-use Rattle.sys_meaning.specs.WellTyped.{IsKnown, IsImport, count_of, CallsFit}
+use Rattle.sys_meaning.specs.WellTyped.{IsKnown, count_of, CallsFit}
 use Rattle.sys_meaning.proofs.Forward.{calls_fit}
 use Rattle.path_laws.proofs.Tree.{tree_fits}
 use Rattle.lus_evaluation.specs.Part.{Part, ModeParts, wholes}
@@ -35,7 +35,7 @@ use Rattle.order_laws.proofs.Frames.{StandsAt, stands_called}
 use Rattle.order_laws.proofs.Asked.{AreFine, frame_fine}
 use Rattle.order_laws.proofs.Placed.{EachPlaced}
 use Rattle.order_laws.proofs.Items.{TextFits}
-use Rattle.order_laws.proofs.Contracts.{Below, Holds}
+use Rattle.order_laws.proofs.Contracts.{Holds}
 use Rattle.order_laws.proofs.Bodies.{FrameLaid, frame_here, base_texts}
 
 -- the instance at the end of a way of calls is that of the scene there
@@ -85,21 +85,21 @@ module _ (p : Program) (c : IsChecked p) (i : Instance) (f : Frame) (t : ℕ) (s
   goal_here : (w : List ℕ) → AreCalls i w → FrameGoal w (place_there i f w)
   goal_here w a s sub subo body child mine = (
     frame_here i f t p c w a (shown w a) s.unfolded s.declared sub subo body
-      (λ k im. let r : ChildLaid w (place_there i f w) sub subo k = child k im.call.counted im.call.listed in
-      record { laid = r.0.own; keyed = r.1 })
-      (keyed_at w (place_there i f w) s.stands) mine (o w)
-      (subst (λ z. (k : ℕ) → k < length (equations (component_of z)) → is_listed (o w) k ≡ true) (sym (same_place w i throughout f)) (least w).order.all)
-      (λ k x y. (child k x y).0)
-      (calls_fit IsKnown (place_there i f w) (tree_fits p c (place_there i f w) s.unfolded s.declared))
-      (unfolded_calls p (place_there i f w) s.unfolded),
+        (λ k im. let r : ChildLaid w (place_there i f w) sub subo k = child k im.call.counted im.call.listed in
+        record { laid = r.0.own; keyed = r.1 })
+        (keyed_at w (place_there i f w) s.stands) mine (o w)
+        (subst (λ z. (k : ℕ) → k < length (equations (component_of z)) → is_listed (o w) k ≡ true) (sym (same_place w i throughout f)) (least w).order.all)
+        (λ k x y. (child k x y).0)
+        (calls_fit IsKnown (place_there i f w) (tree_fits p c (place_there i f w) s.unfolded s.declared))
+        (unfolded_calls p (place_there i f w) s.unfolded),
     base_texts i f t p c w a (shown w a) s.unfolded s.declared sub subo body
-      (λ k im. let r : ChildLaid w (place_there i f w) sub subo k = child k im.call.counted im.call.listed in
-      record { laid = r.0.own; keyed = r.1 })
-      (keyed_at w (place_there i f w) s.stands) mine (o w)
-      (subst (λ z. (k : ℕ) → k < length (equations (component_of z)) → is_listed (o w) k ≡ true) (sym (same_place w i throughout f)) (least w).order.all)
-      (λ k x y. (child k x y).0)
-      (calls_fit IsKnown (place_there i f w) (tree_fits p c (place_there i f w) s.unfolded s.declared))
-      (unfolded_calls p (place_there i f w) s.unfolded),
+        (λ k im. let r : ChildLaid w (place_there i f w) sub subo k = child k im.call.counted im.call.listed in
+        record { laid = r.0.own; keyed = r.1 })
+        (keyed_at w (place_there i f w) s.stands) mine (o w)
+        (subst (λ z. (k : ℕ) → k < length (equations (component_of z)) → is_listed (o w) k ≡ true) (sym (same_place w i throughout f)) (least w).order.all)
+        (λ k x y. (child k x y).0)
+        (calls_fit IsKnown (place_there i f w) (tree_fits p c (place_there i f w) s.unfolded s.declared))
+        (unfolded_calls p (place_there i f w) s.unfolded),
   )
 
   goal_at : (w : List ℕ) (z : Instance) → StandsAt i f w z → FrameGoal w z
