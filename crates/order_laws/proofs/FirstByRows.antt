@@ -2,6 +2,7 @@
 use Rattle.std.proofs.Common.{◌≡◌, ℕ, zero, suc, ◌<◌, true, List, [], ◌∷◌, ◌++◌, length, slice_get, refl, ap, ◌∙◌, sym, subst, arith, Option, Some, None}
 use Rattle.std.specs.Prelude.{Contains, option_to_list}
 use Rattle.std.specs.List.{AllByRecursion}
+use Rattle.std.proofs.Math.Logic.{inl, inr}
 use Rattle.lus_tree.specs.declared.place.Pos.{Pos}
 use Rattle.lus_tree.specs.Tree.{Component, Program}
 use Rattle.kind_num.specs.declared.Past.{Past}
@@ -36,7 +37,7 @@ use Rattle.evaluation_laws.specs.Rows.{AreCalls, RowShows}
 use Rattle.evaluation_laws.proofs.EachPart.{each_part}
 use Rattle.evaluation_laws.proofs.Wholes.{NeedsItsWhole, gives_nothing, right_sides}
 use Rattle.evaluation_laws.proofs.RowFrames.{rows_show}
-use Rattle.order_laws.specs.Laws.{operations_there, OwnPastInOrder, IsFirstByRows, PartsHaveOwnPast, FirstPastByRows}
+use Rattle.order_laws.specs.Laws.{operations_there, OwnPastInOrder, IsOneOf, OperandsComeBefore, IsFirstByRows, PartsHaveOwnPast, FirstPastByRows}
 use Rattle.order_laws.specs.Rows.{standpoint_there}
 use Rattle.order_laws.proofs.Lists.{grouped}
 use Rattle.order_laws.proofs.Frames.{stands_there}
@@ -89,6 +90,13 @@ numbered ps (k ∷ ks) a (y ∷ front) q rest e =
       fronts = ap (λ z. option_to_list z ++ picked m.before ps) r.1 ∙ ap (λ l. r.0 ∷ l) m.fronts ∙ ap (λ z. z ∷ front) (heads r.0 y (picked ks ps) (front ++ q ∷ rest) s);
     }
 
+one_of : (qs : List Part) (r : Part) → IsIn r qs → IsOneOf qs r
+one_of [] r h = absurd h
+one_of (y ∷ qs) r (inl e) = record { before = []; after = qs; split = ap (λ z. z ∷ qs) (sym e) }
+one_of (y ∷ qs) r (inr h) =
+    let o : IsOneOf qs r = one_of qs r h in
+    record { before = y ∷ o.before; after = o.after; split = ap (λ l. y ∷ l) o.split }
+
 -- ---- a run of a declaration
 
 module _ (p : Program) (c : IsChecked p) (n : Component) (j : Contains (components p) n) (qs : List Part) (ev : IsEvaluation (instance_of p n) qs)
@@ -118,33 +126,45 @@ module _ (p : Program) (c : IsChecked p) (n : Component) (j : Contains (componen
         instant_laid p c i f t shown ev.orders ev.least
         record { stands = stands_there i f [] tt (each_is_well_typed p c n j).0.tree; unfolded = unfolded; declared = declared }
 
+    module _ (front : List Part) (q : Part) (rest : List Part) (e : qs ≡ front ++ q ∷ rest) where
+      at : Numbered ps ev.numbers front q
+      at = numbered ps ev.numbers ev.turn.order.below front q rest (sym ev.parts ∙ e)
+
+      here : Placed i f t (firsts at.number ps) q
+      here = placed_at i (rank_here i) (rank_lowers i (no_circle p c i unfolded declared)) f t ps laid whole ev.numbers ev.turn at.number q at.there
+
+      in_front : (r : Part) → OwnIn i f t q.way (firsts at.number ps) (firsts at.number ps) q.needs r → IsIn r front
+      in_front r a =
+          let k : (m : ℕ) × (slice_get ps m ≡ Some r) × (is_listed at.before m ≡ true) =
+          operand_listed i (rank_here i) (rank_lowers i (no_circle p c i unfolded declared)) f t ps laid whole ev.numbers ev.turn at.number q at.there
+          at.before at.after at.split (suc (suc (length (all_places i)))) (rank_bound i) r a in
+          subst (λ l. IsIn r l) at.fronts (picked_in at.before ps k.0 r k.1 k.2)
+
+      abbrev own_operands : List Part
+      own_operands = operands (setting_at (standpoint_there i f t q.way)) q.needs q.clock q.expression
+
+      operands_in : AllByRecursion (λ r. IsIn r front) own_operands
+      operands_in =
+          all_from (OwnIn i f t q.way (firsts at.number ps) (firsts at.number ps) q.needs) (λ r. IsIn r front) in_front own_operands here.operands
+
+      parts : PartsByRow (standpoint_there i f t q.way) q.needs q.gives q.clock q.expression
+      parts =
+          parts_by_rows (standpoint_there i f t q.way) (shown q.way here.calls)
+          (modes_within i f t shown (each_is_well_typed p c n j).0.tree q.way here.calls) q.needs q.gives q.clock q.expression here.stands here.clock
+
+      pub own_here : NonePast i f front t → operations_there i f t q ≡ told (own q.expression) (part_past i f q t)
+      own_here none =
+          parts.own_past (all_from (λ r. IsIn r front) (λ y. part_past i f y t ≡ None)
+          (λ r a. in_all (λ y. part_past i f y t ≡ None) front r none a) own_operands operands_in)
+
+      pub operands_before : AllByRecursion (IsOneOf front) own_operands
+      operands_before = all_from (λ r. IsIn r front) (IsOneOf front) (λ r a. one_of front r a) own_operands operands_in
+
     pub own_in_order : OwnPastInOrder i f t qs
-    own_in_order front q rest e none =
-        parts.own_past operands_fine
-      where
-        at : Numbered ps ev.numbers front q
-        at = numbered ps ev.numbers ev.turn.order.below front q rest (sym ev.parts ∙ e)
+    own_in_order front q rest e none = own_here front q rest e none
 
-        here : Placed i f t (firsts at.number ps) q
-        here = placed_at i (rank_here i) (rank_lowers i (no_circle p c i unfolded declared)) f t ps laid whole ev.numbers ev.turn at.number q at.there
-
-        fine : (r : Part) → OwnIn i f t q.way (firsts at.number ps) (firsts at.number ps) q.needs r → part_past i f r t ≡ None
-        fine r a =
-            let k : (m : ℕ) × (slice_get ps m ≡ Some r) × (is_listed at.before m ≡ true) =
-            operand_listed i (rank_here i) (rank_lowers i (no_circle p c i unfolded declared)) f t ps laid whole ev.numbers ev.turn at.number q at.there
-            at.before at.after at.split (suc (suc (length (all_places i)))) (rank_bound i) r a in
-            in_all (λ y. part_past i f y t ≡ None) front r none
-            (subst (λ l. IsIn r l) at.fronts (picked_in at.before ps k.0 r k.1 k.2))
-
-        operands_fine : NonePast i f (operands (setting_at (standpoint_there i f t q.way)) q.needs q.clock q.expression) t
-        operands_fine =
-            all_from (OwnIn i f t q.way (firsts at.number ps) (firsts at.number ps) q.needs) (λ y. part_past i f y t ≡ None) fine
-            (operands (setting_at (standpoint_there i f t q.way)) q.needs q.clock q.expression) here.operands
-
-        parts : PartsByRow (standpoint_there i f t q.way) q.needs q.gives q.clock q.expression
-        parts =
-            parts_by_rows (standpoint_there i f t q.way) (shown q.way here.calls)
-            (modes_within i f t shown (each_is_well_typed p c n j).0.tree q.way here.calls) q.needs q.gives q.clock q.expression here.stands here.clock
+pub operands_come_before : OperandsComeBefore
+operands_come_before p c n j qs ev m f run t l front q rest e = operands_before p c n j qs ev m f run t l front q rest e
 
 pub parts_have_own_past : PartsHaveOwnPast
 parts_have_own_past p c n j qs ev m f run t l = own_in_order p c n j qs ev m f run t l

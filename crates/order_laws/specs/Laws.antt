@@ -16,7 +16,9 @@ use Rattle.lus_evaluation.specs.Evaluation.{Waits, IsEvaluation}
 use Rattle.lus_evaluation.specs.Past.{part_past, NonePast, IsFirstPast}
 use Rattle.slot_values.specs.declared.resolved.PastAt.{PastAt}
 use Rattle.slot_values.specs.Evaluated.{told, outside}
+use Rattle.slot_values.specs.Parts.{operands, setting_at}
 use Rattle.evaluation_laws.specs.Rows.{row_at, scene_there, resolution_there}
+use Rattle.order_laws.specs.Rows.{standpoint_there}
 
 -- Of two parts the one that stands first in turn is evaluated first, if all that it waits for the other one waits for too, or comes before that anyway.
 abbrev pub ComesFirst : Type 0
@@ -45,6 +47,18 @@ OfEachEvaluation P =
 
 abbrev pub PartsHaveOwnPast : Type 0
 PartsHaveOwnPast = OfEachEvaluation (λ i m f qs. (t : ℕ) → t < m → OwnPastInOrder i f t qs)
+
+-- one of these parts
+pub record IsOneOf (qs : List Part) (r : Part) : Type 0 where
+  pub before : List Part
+  pub after : List Part
+  pub split : qs ≡ before ++ r ∷ after
+
+-- a part's own operands are evaluated before it, and those of the modes that it names
+abbrev pub OperandsComeBefore : Type 0
+OperandsComeBefore =
+    OfEachEvaluation (λ i m f qs. (t : ℕ) → t < m → (front : List Part) (q : Part) (rest : List Part) → qs ≡ front ++ q ∷ rest →
+    AllByRecursion (IsOneOf front) (operands (setting_at (standpoint_there i f t q.way)) q.needs q.clock q.expression))
 
 -- In the rows of a run the first part with an operation outside 128 bits: its first one.
 pub record IsFirstByRows (i : Instance) (f : Frame) (qs : List Part) (n : ℕ) (at : Pos) (t : ℕ) (past : Past) : Type 0 where

@@ -1,6 +1,6 @@
 //! The laws of what comes before a part.
 
-ghost use Rattle.order_laws.specs.Laws.{ComesFirst, PartsHaveOwnPast, FirstPastByRows};
+ghost use Rattle.order_laws.specs.Laws.{ComesFirst, OperandsComeBefore, PartsHaveOwnPast, FirstPastByRows};
 ghost use Rattle.order_laws.specs.Rows.{RowsHaveOwnPast};
 
 /// In a least order what stands before another part in turn comes before it, where all that it waits for the other one
@@ -21,4 +21,10 @@ pub fn own_past_by_rows()
 pub fn first_past_by_rows()
     ensures own { PartsHaveOwnPast }
     ensures first { FirstPastByRows }
+{}
+
+/// In the evaluation of an instant of a run of such a declaration a part's own operands come before it, and so do the own
+/// parts of what the modes require that it names, those of imports too.
+pub fn operands_come_before()
+    ensures { OperandsComeBefore }
 {}
