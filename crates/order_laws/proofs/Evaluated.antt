@@ -1,0 +1,233 @@
+-- In the evaluation of an instant a part's own operands come before it.
+use Rattle.std.proofs.Common.{◌≡◌, ℕ, zero, suc, pred, ◌<◌, ◌≤◌, Bool, true, false, eqb, List, [], ◌∷◌, ◌++◌, map, length, get_or, Some, slice_get, refl, ap, ◌∙◌, sym, subst, arith}
+use Rattle.std.specs.Prelude.{position}
+use Rattle.std.specs.List.{AllByRecursion}
+use Rattle.std.proofs.Math.Logic.{◌⊎◌, inl, inr}
+use Rattle.std.proofs.lemmas.Bool.{false≢true, true≢false, cases_order, eqb-true, eq-eqb}
+use Rattle.std.proofs.lemmas.List.Quantifiers.{position-Some}
+use Rattle.std.proofs.lemmas.Option.{none-some, same_Some}
+use Rattle.lus_tree.specs.Tree.{Name}
+use Rattle.lus_meaning.specs.Frame.{Frame}
+use Rattle.lus_meaning.specs.Scene.{Instance, component_of}
+use Rattle.lus_meaning.specs.Depends.{named_in, left_names}
+use Rattle.lus_meaning.specs.Trace.{same_numbers}
+use Rattle.lus_meaning.specs.Cycle.{Place, next_places, IsAt, IsWay, last_place, Lowers}
+use Rattle.lus_meaning.specs.Order.{is_listed, IsLeastOrder}
+use Rattle.lus_meaning.proofs.BooleanOrder.{IsIn, at_some}
+use Rattle.lus_meaning.proofs.Lists.{append_none}
+use Rattle.clock_laws.proofs.Reaching.{at_in}
+use Rattle.sys_meaning.proofs.Shows.{same_ways}
+use Rattle.lus_evaluation.specs.Part.{Part}
+use Rattle.lus_evaluation.specs.Evaluation.{is_above, gives_name, NeedsPlace, place_named, Waits}
+use Rattle.evaluation_laws.proofs.Wholes.{NeedsItsWhole}
+use Rattle.evaluation_laws.proofs.Waiting.{both_true, both, Passing, first_passes}
+use Rattle.order_laws.specs.Rows.{place_there}
+use Rattle.order_laws.proofs.Lists.{grouped}
+use Rattle.order_laws.proofs.Earlier.{listed_first}
+use Rattle.order_laws.proofs.Placed.{Giver, Settled, Within, OwnIn, Placed, EachPlaced}
+use Rattle.order_laws.proofs.Bodies.{in_all, slice_in}
+
+-- ---- those before a number
+
+abbrev pub firsts : {A : Type 0} → ℕ → List A → List A
+firsts zero xs = []
+firsts (suc k) [] = []
+firsts (suc k) (x ∷ xs) = x ∷ firsts k xs
+
+first_at : {A : Type 0} (k : ℕ) (xs : List A) (x : A) → IsIn x (firsts k xs) → (j : ℕ) × (j < k) × (slice_get xs j ≡ Some x)
+first_at zero xs x h = absurd h
+first_at (suc k) [] x h = absurd h
+first_at (suc k) (y ∷ xs) x (inl e) = (zero, omega arith, ap Some (sym e))
+first_at (suc k) (y ∷ xs) x (inr h) = let r = first_at k xs x h in let l : r.0 < k = r.1 in (suc r.0, omega (arith, l), r.2)
+
+-- the first that passes stands no later than another that does
+not_later : (test : Part → Bool) (xs : List Part) (j k : ℕ) (x : Part) → position test xs ≡ Some j → slice_get xs k ≡ Some x → test x ≡ true → j ≤ k
+not_later test [] j k x e h p = absurd (none-some x h)
+not_later test (y ∷ xs) j k x e h p = go (cases_order j k)
+  where
+    r : (j < length (y ∷ xs)) × (test (get_or (y ∷ xs) j y) ≡ true) × ((k : ℕ) → k < j → test (get_or (y ∷ xs) k y) ≡ false)
+    r = position-Some test (y ∷ xs) j y e
+
+    got : (zs : List Part) (k : ℕ) → slice_get zs k ≡ Some x → get_or zs k y ≡ x
+    got [] k h = absurd (none-some x h)
+    got (z ∷ zs) zero h = same_Some z x h
+    got (z ∷ zs) (suc k) h = got zs k h
+
+    go : (j ≡ k) ⊎ ((j < k) ⊎ (k < j)) → j ≤ k
+    go (inl q) = omega arith
+    go (inr (inl q)) = omega arith
+    go (inr (inr q)) = absurd (true≢false (sym p ∙ ap test (sym (got (y ∷ xs) k h)) ∙ r.2 k q))
+
+above_both : (v w u : List ℕ) → is_above v w ≡ true → is_above w u ≡ true → is_above v u ≡ true
+above_both [] w u a b = refl
+above_both (k ∷ v) [] u a b = absurd (false≢true a)
+above_both (k ∷ v) (j ∷ w) [] a b = absurd (false≢true b)
+above_both (k ∷ v) (j ∷ w) (m ∷ u) a b =
+    let q : (eqb k j ≡ true) × (is_above v w ≡ true) = both_true (eqb k j) (is_above v w) a in
+    let r : (eqb j m ≡ true) × (is_above w u ≡ true) = both_true (eqb j m) (is_above w u) b in
+    both (eqb k m) (is_above v u) (eq-eqb k m (eqb-true k j q.0 ∙ eqb-true j m r.0)) (above_both v w u q.1 r.1)
+
+-- ---- ways of needs
+
+module _ (i : Instance) where
+  way_both : (s : Place) (xs ys : List (ℕ × Place)) → IsWay i s xs → IsWay i (last_place s xs) ys → IsWay i s (xs ++ ys)
+  way_both s [] ys a b = b
+  way_both s (x ∷ xs) ys a b = (a.0, way_both x.1 xs ys a.1 b)
+
+  last_both : (s : Place) (xs ys : List (ℕ × Place)) → last_place s (xs ++ ys) ≡ last_place (last_place s xs) ys
+  last_both s [] ys = refl
+  last_both s (x ∷ xs) ys = last_both x.1 xs ys
+
+  further : (ps : List Place) (s z : Place) → NeedsPlace i ps s → (rest : List (ℕ × Place)) → IsWay i s rest → last_place s rest ≡ z → NeedsPlace i ps z
+  further ps s z a rest w e = record {
+    number = a.number;
+    start = a.start;
+    starts = a.starts;
+    rest = a.rest ++ rest;
+    way = way_both a.start a.rest rest a.way (subst (λ q. IsWay i q rest) (sym a.last) w);
+    last = last_both a.start a.rest rest ∙ ap (λ q. last_place q rest) a.last ∙ e;
+  }
+
+  module _ (rank : Place → ℕ) (lowers : Lowers i rank) where
+    way_lowers : (s : Place) (rest : List (ℕ × Place)) → IsWay i s rest → rank (last_place s rest) ≤ rank s
+    way_lowers s [] w = omega arith
+    way_lowers s (q ∷ rest) w =
+        let l : rank q.1 < rank s = lowers s q.1 q.0 w.0 in let m : rank (last_place q.1 rest) ≤ rank q.1 = way_lowers q.1 rest w.1 in omega (arith, l, m)
+
+    module _ (f : Frame) (t : ℕ) (ps : List Part) (laid : EachPlaced i f t [] ps) (whole : AllByRecursion (NeedsItsWhole i) ps) (ks : List ℕ)
+        (o : IsLeastOrder (length ps) (Waits i ps) ks) where
+      placed_from : (b xs : List Part) (m : ℕ) (q : Part) → EachPlaced i f t b xs → slice_get xs m ≡ Some q → Placed i f t (b ++ firsts m xs) q
+      placed_from b [] m q a e = absurd (none-some q e)
+      placed_from b (x ∷ xs) zero q a e = subst (λ z. Placed i f t z q) (sym (append_none b)) (subst (Placed i f t b) (same_Some x q e) a.0)
+      placed_from b (x ∷ xs) (suc m) q a e =
+          subst (λ z. Placed i f t z q) (grouped b (x ∷ []) (firsts m xs)) (placed_from (b ++ x ∷ []) xs m q a.1 e)
+
+      pub placed_at : (m : ℕ) (q : Part) → slice_get ps m ≡ Some q → Placed i f t (firsts m ps) q
+      placed_at m q e = placed_from [] ps m q laid e
+
+      -- ---- before one part
+
+      module _ (n : ℕ) (q : Part) (at : slice_get ps n ≡ Some q) (before after : List ℕ) (d : ks ≡ before ++ n ∷ after) where
+        abbrev b : List Part
+        b = firsts n ps
+
+        abbrev Early : ℕ → Part → Type 0
+        Early fuel r =
+            ((z : Place) → IsIn z r.needs → NeedsPlace i q.needs z) × Within i f t q.way b r.way × ((z : Place) → IsIn z r.needs → rank z < fuel)
+
+        -- what a settled frame's equation waits for comes first
+        giver_early : (j : ℕ) (v : List ℕ) (x : Name) → position (gives_name v x) ps ≡ Some j → Settled i f t v b → NeedsPlace i q.needs (place_named v x) →
+            ((y : List ℕ) → is_above y v ≡ true → (is_above y q.way ≡ true) ⊎ Settled i f t y b) → (fuel : ℕ) → rank (place_named v x) ≤ fuel →
+            (y : Part) × (j < n) × (slice_get ps j ≡ Some y) × Early fuel y
+        giver_early j v x e s needed inside fuel l = (y, early, g.is_there, (reached, inner, lower))
+          where
+            g : Passing (gives_name v x) ps j
+            g = first_passes (gives_name v x) ps j e
+
+            y : Part
+            y = g.item
+
+            named : (same_numbers v y.way ≡ true) × (named_in x y.gives ≡ true)
+            named = both_true (same_numbers v y.way) (named_in x y.gives) g.passes
+
+            same : v ≡ y.way
+            same = same_ways v y.way named.0
+
+            given : named_in x (left_names (component_of (place_there i f v))) ≡ true
+            given = subst (λ z. named_in x (left_names (component_of (place_there i f z))) ≡ true) (sym same) ((placed_at j y g.is_there).gives x named.1)
+
+            giver : Giver i f t v x b
+            giver = s x given
+
+            early : j < n
+            early =
+                let r = first_at n ps giver.part giver.listed in
+                let below : r.0 < n = r.1 in
+                let h : j ≤ r.0 = not_later (gives_name v x) ps j r.0 giver.part e r.2 giver.gives in omega (arith, below, h)
+
+            next : (z : Place) → IsIn z y.needs → IsIn z (next_places i (map pred v) (Some x))
+            next z h =
+                subst (λ u. IsIn z (next_places i (map pred u) (Some x))) (sym same)
+                (in_all (NeedsItsWhole i) ps y whole (slice_in ps j y g.is_there) x named.1 z h)
+
+            reached : (z : Place) → IsIn z y.needs → NeedsPlace i q.needs z
+            reached z h =
+                let a : (k : ℕ) × IsAt k z (next_places i (map pred v) (Some x)) = at_some z (next_places i (map pred v) (Some x)) (next z h) in
+                further q.needs (place_named v x) z needed ((a.0, z) ∷ []) (a.1, tt) refl
+
+            inner : Within i f t q.way b y.way
+            inner = subst (Within i f t q.way b) same inside
+
+            lower : (z : Place) → IsIn z y.needs → rank z < fuel
+            lower z h =
+                let a : (k : ℕ) × IsAt k z (next_places i (map pred v) (Some x)) = at_some z (next_places i (map pred v) (Some x)) (next z h) in
+                let r : rank z < rank (place_named v x) = lowers (place_named v x) z a.0 a.1 in omega (arith, r, l)
+
+        comes_early : (fuel : ℕ) (m : ℕ) (r : Part) → m < n → slice_get ps m ≡ Some r → Early fuel r → is_listed before m ≡ true
+        comes_early zero m r l e a =
+            listed_first (length ps) (Waits i ps) ks o m n l before after d (λ j bj w. absurd (none j w))
+          where
+            none : (j : ℕ) → Waits i ps m j → ⊥
+            none j w =
+                let same : w.waiting ≡ r = same_Some w.waiting r (sym w.is_there ∙ e) in
+                let need : NeedsPlace i r.needs (place_named w.way w.name) =
+                subst (λ y. NeedsPlace i y.needs (place_named w.way w.name)) same w.needed in
+                let h : rank need.start < zero = a.2 need.start (at_in need.number need.start r.needs need.starts) in omega (arith, h)
+        comes_early (suc fuel) m r l e a =
+            listed_first (length ps) (Waits i ps) ks o m n l before after d
+            (λ j bj w. by j w (comes_early fuel))
+          where
+            by : (j : ℕ) → Waits i ps m j →
+                ((m : ℕ) (r : Part) → m < n → slice_get ps m ≡ Some r → Early fuel r → is_listed before m ≡ true) →
+                Waits i ps n j ⊎ (is_listed before j ≡ true)
+            by j w again = go (a.1 w.way above)
+              where
+                same : w.waiting ≡ r
+                same = same_Some w.waiting r (sym w.is_there ∙ e)
+
+                above : is_above w.way r.way ≡ true
+                above = subst (λ y. is_above w.way y.way ≡ true) same w.above
+
+                need : NeedsPlace i r.needs (place_named w.way w.name)
+                need = subst (λ y. NeedsPlace i y.needs (place_named w.way w.name)) same w.needed
+
+                here : IsIn need.start r.needs
+                here = at_in need.number need.start r.needs need.starts
+
+                needed : NeedsPlace i q.needs (place_named w.way w.name)
+                needed = further q.needs need.start (place_named w.way w.name) (a.0 need.start here) need.rest need.way need.last
+
+                low : rank (place_named w.way w.name) ≤ fuel
+                low =
+                    let h : rank need.start < suc fuel = a.2 need.start here in
+                    let k : rank (last_place need.start need.rest) ≤ rank need.start = way_lowers need.start need.rest need.way in
+                    let g : rank (place_named w.way w.name) ≤ rank need.start = subst (λ z. rank z ≤ rank need.start) need.last k in omega (arith, h, g)
+
+                go : (is_above w.way q.way ≡ true) ⊎ Settled i f t w.way b → Waits i ps n j ⊎ (is_listed before j ≡ true)
+                go (inl u) = inl record {
+                  waiting = q;
+                  is_there = at;
+                  way = w.way;
+                  name = w.name;
+                  above = u;
+                  given = w.given;
+                  needed = needed;
+                }
+                go (inr u) =
+                    let y = giver_early j w.way w.name w.given u needed (λ v h. a.1 v (above_both v w.way r.way h above)) fuel low in
+                    inr (again j y.0 y.1 y.2 y.3)
+
+        module _ (bound : ℕ) (bounded : (z : Place) → rank z < bound) where
+          -- own operands are listed before
+          pub operand_listed : (r : Part) → OwnIn i f t q.way b b q.needs r → (m : ℕ) × (slice_get ps m ≡ Some r) × (is_listed before m ≡ true)
+          operand_listed r a =
+              let h = first_at n ps r a.there in
+              (h.0, h.2, comes_early bound h.0 r h.1 h.2 (ready r a))
+            where
+              ready : (r : Part) → OwnIn i f t q.way b b q.needs r → Early bound r
+              ready r a = (
+                (λ z h. let k : (m : ℕ) × IsAt m z q.needs = at_some z q.needs (subst (λ ns. IsIn z ns) a.needs h) in
+                    record { number = k.0; start = z; starts = k.1; rest = []; way = tt; last = refl }),
+                a.within,
+                (λ z h. bounded z),
+              )

@@ -1,0 +1,219 @@
+-- Each part of an expression stands behind its own operands.
+use Rattle.std.proofs.Common.{◌≡◌, ℕ, true, false, Bool, List, [], ◌∷◌, ◌++◌, flat_map, option_map, ap}
+use Rattle.std.specs.Prelude.{Contains}
+use Rattle.std.specs.List.{AllByRecursion}
+use Rattle.std.proofs.lemmas.Bool.{false≢true}
+use Rattle.lus_tree.specs.Tree.{Name, text_of, Expression, Expressions, truth, number, name, negation, minus, pre, arrow, binary, choice, sampled, merged, call, condact, mode_name, no_more, more, Labelled, Program}
+use Rattle.lus_meaning.specs.Value.{is}
+use Rattle.lus_meaning.specs.Frame.{Frame}
+use Rattle.lus_meaning.specs.Scene.{Clock, base, sampled_by, Instance, component_of, clock_of, Scene, is_on}
+use Rattle.lus_meaning.specs.Occurrences.{Standing, on_clock, within, before, moved}
+use Rattle.lus_meaning.specs.Depends.{named_in, left_names}
+use Rattle.lus_meaning.specs.Cycle.{Place as NeededPlace}
+use Rattle.lus_meaning.specs.ClockFaults.{components}
+use Rattle.lus_meaning.specs.Refusals.{IsChecked}
+use Rattle.lus_meaning.proofs.BooleanOrder.{in_left, in_right}
+use Rattle.lus_meaning.proofs.EachPart.{Each, EachAmong}
+use Rattle.rule_laws.specs.Laws.{IsUnfolded}
+use Rattle.sys_meaning.specs.Items.{Key}
+use Rattle.sys_meaning.specs.WellTyped.{IsKnown, IsNameOn, clock_here, Stands}
+use Rattle.path_laws.proofs.Standing.{Known}
+use Rattle.path_laws.proofs.Places.{stand}
+use Rattle.lus_evaluation.specs.Part.{Part, Setting, needs_of, key_of, asked_in, part, parts, argument_parts, operand_parts, whole_parts, wholes}
+use Rattle.lus_evaluation.specs.Frame.{ModeText, Calls, setting}
+use Rattle.slot_values.specs.Clocked.{row_by, clock_on}
+use Rattle.slot_values.specs.Parts.{own_parts, operands}
+use Rattle.evaluation_laws.specs.Rows.{AreCalls, row_at, scene_there, numbers_there, RowShows}
+use Rattle.order_laws.specs.Own.{own_setting, own_modes}
+use Rattle.order_laws.specs.Rows.{place_there}
+use Rattle.order_laws.proofs.Frames.{base_there}
+use Rattle.order_laws.proofs.Placed.{OwnIn, EachPlaced, placed_both, own_wider, own_later, own_two}
+use Rattle.order_laws.proofs.Laying.{Named, Has, has_more, own_in}
+
+module _ (p : Program) (c : IsChecked p) (i : Instance) (f : Frame) (t : ℕ) (w : List ℕ) (calls : AreCalls i w) (sh : RowShows i f t w)
+    (u : IsUnfolded p (place_there i f w)) (d : Contains (components p) (component_of (place_there i f w))) where
+  abbrev j : Instance
+  j = place_there i f w
+
+  abbrev sc : Scene
+  sc = scene_there i f w
+
+  abbrev Shown : Clock → Type 0
+  Shown k = clock_on (row_by (numbers_there i w) (row_at i f t)) k ≡ is_on sc k t
+
+  abbrev Gives : List Name → Type 0
+  Gives xs = (x : Name) → named_in x xs ≡ true → named_in x (left_names (component_of j)) ≡ true
+
+  gives_none : Gives []
+  gives_none x h = absurd (false≢true h)
+
+  abbrev Knows : Standing → Expression → Type 0
+  Knows s e = Each (Known j) (component_of j) s e
+
+  module _ (sub : Calls) (ms : List ModeText) (M : Key → Type 0) (ins : List ℕ) (body : (k : ℕ) (b : List Part) → EachPlaced i f t b (sub k).body)
+      (modes : (key : Key) → M key → (ns : List NeededPlace) (b : List Part) → Has sub ins b →
+      EachPlaced i f t b (asked_in (setting j w sub ms) ns key))
+      (asks : (key : Key) → M key → (ns : List NeededPlace) (b : List Part) → Has sub ins b →
+      AllByRecursion (OwnIn i f t w b (asked_in (setting j w sub ms) ns key) ns) (asked_in (own_setting j w (own_modes w j)) ns key)) where
+    abbrev g : Setting
+    g = setting j w sub ms
+
+    abbrev h : Setting
+    h = own_setting j w (own_modes w j)
+
+    abbrev Laid : List Part → List Part → Type 0
+    Laid b qs = EachPlaced i f t b qs
+
+    abbrev Names : Standing → Expression → Type 0
+    Names s e = Each (Named M) (component_of j) s e
+
+    abbrev Own : List Part → List NeededPlace → List Part → List Part → Type 0
+    Own b ns qs os = AllByRecursion (OwnIn i f t w b qs ns) os
+
+    -- a part behind these parts, which has its own operands among them
+    last : (b : List Part) (ns : List NeededPlace) (xs : List Name) (s : Standing) (e : Expression) → Knows s e → Shown s.clock → Gives xs →
+        (front : List Part) → Laid b front → Own b ns front (operands h ns s.clock e) → Laid b (front ++ part g ns xs s.clock e ∷ [])
+    last b ns xs s e k o v front a q =
+        placed_both i f t b front (part g ns xs s.clock e ∷ []) a (
+          record {
+            calls = calls;
+            stands = stand p c j u d s e k;
+            clock = o;
+            gives = v;
+            operands = own_later i f t w b front (b ++ front) (operands h ns s.clock e) ns
+                (own_wider i f t w b front (b ++ front) (operands h ns s.clock e) ns (λ r m. in_right r b front m) q);
+          },
+          tt,
+        )
+
+    ours : (b : List Part) → Has sub ins b → (ns : List NeededPlace) (s : Standing) (e : Expression) → Names s e →
+        Own b ns (parts g ns [] s.clock e) (own_parts h ns [] s.clock e)
+    ours b r ns s e n = own_in i f t j w sub ms (own_modes w j) M b (λ key k ns. asks key k ns b r) ns [] s e n
+
+    twice : (b : List Part) (ns : List NeededPlace) (qs rs os us : List Part) → Own b ns qs os → Own b ns rs us → Own b ns (qs ++ rs) (os ++ us)
+    twice b ns qs rs os us a e = own_two i f t w b qs rs os us ns a e
+
+    both : (b qs rs : List Part) → Laid b qs → Laid (b ++ qs) rs → Laid b (qs ++ rs)
+    both b qs rs a e = placed_both i f t b qs rs a e
+
+    on_name : (x : Name) (k : Clock) → IsNameOn j (IsKnown j) k x → Shown (clock_here j (IsKnown j) x)
+    on_name x k n = sh.clocks x n.stream n.declared
+
+    on_truth : (q : Bool) (x : Name) (k : Clock) → IsNameOn j (IsKnown j) k x → Shown (sampled_by q x)
+    on_truth q x k n = ap (is q) (sh.names x n.stream n.declared)
+
+    mutual
+      pub each_laid : (b : List Part) → Has sub ins b → (ns : List NeededPlace) (xs : List Name) (s : Standing) (e : Expression) → Knows s e → Names s e →
+          Shown s.clock → Gives xs → Laid b (parts g ns xs s.clock e)
+      each_laid b r ns xs s (truth q a) k n o v = last b ns xs s (truth q a) k o v [] tt tt
+      each_laid b r ns xs s (number q a) k n o v = last b ns xs s (number q a) k o v [] tt tt
+      each_laid b r ns xs s (name q a) k n o v = last b ns xs s (name q a) k o v [] tt tt
+      each_laid b r ns xs s (negation q a) k n o v =
+          last b ns xs s (negation q a) k o v (parts g ns [] s.clock a) (each_laid b r ns [] (within s) a k.1 n.1 o gives_none)
+          (ours b r ns (within s) a n.1)
+      each_laid b r ns xs s (minus q a) k n o v =
+          last b ns xs s (minus q a) k o v (parts g ns [] s.clock a) (each_laid b r ns [] (within s) a k.1 n.1 o gives_none)
+          (ours b r ns (within s) a n.1)
+      each_laid b r ns xs s (pre q l a) k n o v =
+          last b ns xs s (pre q l a) k o v (parts g (needs_of g s.clock a) [] s.clock a)
+          (each_laid b r (needs_of g s.clock a) [] (before s) a k.1 n.1 o gives_none) tt
+      each_laid b r ns xs s (arrow q l a e) k n o v =
+          let one : List Part = parts g ns [] s.clock a in
+          let other : List Part = parts g ns [] s.clock e in
+          last b ns xs s (arrow q l a e) k o v (one ++ other)
+          (both b one other (each_laid b r ns [] (within s) a k.1 n.1 o gives_none)
+          (each_laid (b ++ one) (has_more sub ins b one r) ns [] (within s) e k.2 n.2 o gives_none))
+          (twice b ns one other (own_parts h ns [] s.clock a) (own_parts h ns [] s.clock e) (ours b r ns (within s) a n.1) (ours b r ns (within s) e n.2))
+      each_laid b r ns xs s (binary q l a e) k n o v =
+          let one : List Part = parts g ns [] s.clock a in
+          let other : List Part = parts g ns [] s.clock e in
+          last b ns xs s (binary q l a e) k o v (one ++ other)
+          (both b one other (each_laid b r ns [] (within s) a k.1 n.1 o gives_none)
+          (each_laid (b ++ one) (has_more sub ins b one r) ns [] (within s) e k.2 n.2 o gives_none))
+          (twice b ns one other (own_parts h ns [] s.clock a) (own_parts h ns [] s.clock e) (ours b r ns (within s) a n.1) (ours b r ns (within s) e n.2))
+      each_laid b r ns xs s (choice q a e z) k n o v =
+          let one : List Part = parts g ns [] s.clock a in
+          let other : List Part = parts g ns [] s.clock e in
+          let third : List Part = parts g ns [] s.clock z in
+          last b ns xs s (choice q a e z) k o v (one ++ other ++ third)
+          (both b (one ++ other) third
+          (both b one other (each_laid b r ns [] (within s) a k.1 n.1 o gives_none)
+          (each_laid (b ++ one) (has_more sub ins b one r) ns [] (within s) e k.2 n.2 o gives_none))
+          (each_laid (b ++ (one ++ other)) (has_more sub ins b (one ++ other) r) ns [] (within s) z k.3 n.3 o gives_none))
+          (twice b ns (one ++ other) third (own_parts h ns [] s.clock a ++ own_parts h ns [] s.clock e) (own_parts h ns [] s.clock z)
+          (twice b ns one other (own_parts h ns [] s.clock a) (own_parts h ns [] s.clock e) (ours b r ns (within s) a n.1) (ours b r ns (within s) e n.2))
+          (ours b r ns (within s) z n.3))
+      each_laid b r ns xs s (sampled q a l x) k n o v =
+          let here : Clock = clock_of (component_of j) x.text in
+          let st : Stands j (IsKnown j) s.clock (sampled q a l x) = stand p c j u d s (sampled q a l x) k in
+          last b ns xs s (sampled q a l x) k o v (parts g ns [] here a)
+          (each_laid b r ns [] (moved here s) a k.1 n.1 (on_name x.text here st.1) gives_none) (ours b r ns (moved here s) a n.1)
+      each_laid b r ns xs s (merged q x a e) k n o v =
+          let yes : Clock = sampled_by true x.text in
+          let no : Clock = sampled_by false x.text in
+          let one : List Part = parts g ns [] yes a in
+          let other : List Part = parts g ns [] no e in
+          let st : Stands j (IsKnown j) s.clock (merged q x a e) = stand p c j u d s (merged q x a e) k in
+          last b ns xs s (merged q x a e) k o v (one ++ other)
+          (both b one other (each_laid b r ns [] (moved yes s) a k.1 n.1 (on_truth true x.text s.clock st.0) gives_none)
+          (each_laid (b ++ one) (has_more sub ins b one r) ns [] (moved no s) e k.2 n.2 (on_truth false x.text s.clock st.0) gives_none))
+          (twice b ns one other (own_parts h ns [] yes a) (own_parts h ns [] no e) (ours b r ns (moved yes s) a n.1) (ours b r ns (moved no s) e n.2))
+      each_laid b r ns xs s (call q l z as_) k n o v =
+          let given : List Part = argument_parts g s.clock as_ in
+          last b ns xs s (call q l z as_) k o v (given ++ g.body l)
+          (both b given (g.body l) (each_argument b r (within s) as_ k.1 n.1 o) (body l (b ++ given))) tt
+      each_laid b r ns xs s (condact q l a z as_ ds) k n o v =
+          let asked : List Part = parts g ns [] s.clock a in
+          let given : List Part = argument_parts g s.clock as_ in
+          let kept : List Part = operand_parts g ns s.clock ds in
+          last b ns xs s (condact q l a z as_ ds) k o v (asked ++ given ++ g.body l ++ kept)
+          (both b (asked ++ given ++ g.body l) kept
+          (both b (asked ++ given) (g.body l)
+          (both b asked given (each_laid b r ns [] (within s) a k.1 n.1 o gives_none)
+          (each_argument (b ++ asked) (has_more sub ins b asked r) (within s) as_ k.2 n.2 o)) (body l (b ++ (asked ++ given))))
+          (each_operand (b ++ (asked ++ given ++ g.body l)) (has_more sub ins b (asked ++ given ++ g.body l) r) ns (within s) ds k.3 n.3 o))
+          (own_wider i f t w b asked (asked ++ given ++ g.body l ++ kept) (own_parts h ns [] s.clock a) ns
+          (λ x m. in_left x (asked ++ given ++ g.body l) kept (in_left x (asked ++ given) (g.body l) (in_left x asked given m)))
+          (ours b r ns (within s) a n.1))
+      each_laid b r ns xs s (mode_name q x m) k n o v =
+          last b ns xs s (mode_name q x m) k o v (asked_in g ns (key_of (option_map text_of x) m.text))
+          (modes (key_of (option_map text_of x) m.text) n ns b r) (asks (key_of (option_map text_of x) m.text) n ns b r)
+
+      each_argument : (b : List Part) → Has sub ins b → (s : Standing) (as_ : Expressions) → EachAmong (Known j) (component_of j) s as_ →
+          EachAmong (Named M) (component_of j) s as_ → Shown s.clock → Laid b (argument_parts g s.clock as_)
+      each_argument b r s no_more k n o = tt
+      each_argument b r s (more a as_) k n o =
+          let one : List Part = parts g (needs_of g s.clock a) [] s.clock a in
+          both b one (argument_parts g s.clock as_) (each_laid b r (needs_of g s.clock a) [] s a k.0 n.0 o gives_none)
+          (each_argument (b ++ one) (has_more sub ins b one r) s as_ k.1 n.1 o)
+
+      each_operand : (b : List Part) → Has sub ins b → (ns : List NeededPlace) (s : Standing) (as_ : Expressions) →
+          EachAmong (Known j) (component_of j) s as_ →
+          EachAmong (Named M) (component_of j) s as_ → Shown s.clock → Laid b (operand_parts g ns s.clock as_)
+      each_operand b r ns s no_more k n o = tt
+      each_operand b r ns s (more a as_) k n o =
+          let one : List Part = parts g ns [] s.clock a in
+          both b one (operand_parts g ns s.clock as_) (each_laid b r ns [] s a k.0 n.0 o gives_none)
+          (each_operand (b ++ one) (has_more sub ins b one r) ns s as_ k.1 n.1 o)
+
+    -- ---- texts on the base clock
+
+    abbrev IsLabel : Expression → Type 0
+    IsLabel e = Knows (on_clock base) e × Names (on_clock base) e
+
+    pub wholes_laid : (es : List Expression) → AllByRecursion IsLabel es → (b : List Part) → Has sub ins b → Laid b (wholes g base es)
+    wholes_laid [] a b r = tt
+    wholes_laid (e ∷ es) a b r =
+        let one : List Part = whole_parts g [] base e in
+        both b one (wholes g base es)
+        (each_laid b r (needs_of g base e) [] (on_clock base) e a.0.0 a.0.1 (base_there i f t w sh) gives_none)
+        (wholes_laid es a.1 (b ++ one) (has_more sub ins b one r))
+
+    pub asked_laid : (ns : List NeededPlace) (rs : List Labelled) → AllByRecursion (λ l. IsLabel l.value) rs → (b : List Part) → Has sub ins b →
+        Laid b (flat_map (λ r. parts g ns [] base r.value) rs)
+    asked_laid ns [] a b r = tt
+    asked_laid ns (l ∷ rs) a b r =
+        let one : List Part = parts g ns [] base l.value in
+        both b one (flat_map (λ r. parts g ns [] base r.value) rs)
+        (each_laid b r ns [] (on_clock base) l.value a.0.0 a.0.1 (base_there i f t w sh) gives_none)
+        (asked_laid ns rs a.1 (b ++ one) (has_more sub ins b one r))

@@ -1,0 +1,30 @@
+//! The laws of what comes before a part.
+
+ghost use Rattle.order_laws.specs.Laws.{ComesFirst, OperandsComeBefore, PartsHaveOwnPast, FirstPastByRows};
+ghost use Rattle.order_laws.specs.Rows.{RowsHaveOwnPast};
+
+/// In a least order what stands before another part in turn comes before it, where all that it waits for the other one
+/// waits for too, or comes before that anyway.
+pub fn comes_first()
+    ensures { ComesFirst }
+{}
+
+/// Of a checked program, in the row of a run of a declaration: of an expression of the frame at the end of a way of
+/// calls whose own operands are within 128 bits, the operations that are outside are its own one, exactly if that is.
+pub fn own_past_by_rows()
+    ensures { RowsHaveOwnPast }
+{}
+
+/// In the evaluation of an instant of a run of such a declaration, where no part that comes before is outside 128 bits,
+/// the operations of a part that are outside in the row of the instant are its own one, exactly if that part is. So the
+/// first part with an operation outside, at the first instant that has one, is the first value outside.
+pub fn first_past_by_rows()
+    ensures own { PartsHaveOwnPast }
+    ensures first { FirstPastByRows }
+{}
+
+/// In the evaluation of an instant of a run of such a declaration a part's own operands come before it, and so do the own
+/// parts of what the modes require that it names, those of imports too.
+pub fn operands_come_before()
+    ensures { OperandsComeBefore }
+{}
