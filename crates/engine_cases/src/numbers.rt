@@ -167,17 +167,24 @@ fn odd(alloc: Global) -> Result<Num, AllocError> {
     plus(alloc, multiple(alloc, 2, number(1))?, constant(1))
 }
 
-/// Twice the first number is that.
-fn is_odd_twice(alloc: Global) -> Result<Term, AllocError> {
-    let odd = odd(alloc)?;
-    equal(alloc, multiple(alloc, 2, number(0))?, odd)
+/// The first number and the third.
+fn first_and_third(alloc: Global) -> Result<Num, AllocError> {
+    plus(alloc, number(0), number(2))
 }
 
-/// Twice the first number is one more than twice the second, which no state meets. The numbers have no
-/// ranges, so that no number of splits shows that.
+/// Their sum is that.
+fn is_odd_sum(alloc: Global) -> Result<Term, AllocError> {
+    let odd = odd(alloc)?;
+    equal(alloc, first_and_third(alloc)?, odd)
+}
+
+/// Two equal numbers have a sum that is one more than twice another, which no state meets. The numbers have
+/// no ranges, so that no number of splits shows that.
 pub fn halves(alloc: Global) -> Result<System, AllocError> {
     let mut system = free(alloc, Term::Truth(false))?;
     system.shapes.push(Shape::Number)?;
-    system.here.push(is_odd_twice(alloc)?)?;
+    system.shapes.push(Shape::Number)?;
+    system.here.push(equal(alloc, number(0), number(2))?)?;
+    system.here.push(is_odd_sum(alloc)?)?;
     Ok(system)
 }

@@ -9,6 +9,7 @@ pub mod Turns
 pub mod Valued
 pub mod Split
 pub mod Used
+pub mod Ordering
 pub mod Growing
 pub mod Adding
 pub mod Splitting

@@ -10,6 +10,7 @@ pub mod Looking
 pub mod Near
 pub mod NeedRoom
 pub mod NumberStates
+pub mod Ordering
 pub mod Room
 pub mod Run
 pub mod Shares

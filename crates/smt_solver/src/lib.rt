@@ -1,7 +1,7 @@
 //! Answers to obligations: a proof that no states answer one with no, states that do, or why the
 //! solver stopped.
 //!
-//! Numbers are not searched yet, so the query must have no atom.
+//! Numbers are searched by a simplex over whole numbers and by splits.
 
 #![tactic(auto)]
 

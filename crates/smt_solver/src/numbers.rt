@@ -3,6 +3,7 @@
 pub mod asserting;
 pub mod looking;
 pub mod meanings;
+pub mod order;
 pub mod rows;
 pub mod steps;
 pub mod sums;

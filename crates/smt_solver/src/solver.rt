@@ -8,6 +8,7 @@ ghost use Rattle.smt_solver.specs.Run.{AreFit};
 
 use crate::fault::SolveFault;
 use crate::numbers::meanings::{Meaning, meanings};
+use crate::numbers::order::take_orders;
 use crate::numbers::rows::tableau;
 use crate::work::{Work, begun};
 use cnf_maker::Cnf;
@@ -43,4 +44,19 @@ pub fn prepared(alloc: Global, cnf: Cnf) -> Result<Solver, SolveFault>
         meanings,
         pairs: Vec::new(alloc),
     })
+}
+
+/// The same with steps that say how the limits of one sum are ordered.
+pub fn ordered(alloc: Global, cnf: Cnf) -> Result<Solver, SolveFault>
+    requires few { AreFew (form_view cnf) }
+    requires fit { AreFit (form_view cnf) (form_view cnf).clauses }
+    requires plain { IsPlain (form_view cnf) }
+    requires small { IsSmall (form_view cnf) }
+    ensures kept { IfOk result (λ s. IsKept (form_view cnf) (solver_view s)) }
+    ensures none { IfOk result (λ s. (solver_view s).work.listed ≡ []) }
+    ensures pairs { IfOk result (λ s. (solver_view s).pairs ≡ []) }
+{
+    let mut solver = prepared(alloc, cnf)?;
+    take_orders(alloc, &mut solver.work)?;
+    Ok(solver)
 }

@@ -19,7 +19,7 @@ use crate::fault::SolveFault;
 use crate::laws::{clauses_fit_their_form, stops_need_atoms, whole_values_meet};
 use crate::numbers::turns::split_atom;
 use crate::run::{End, run};
-use crate::solver::{Solver, prepared};
+use crate::solver::{Solver, ordered};
 use crate::states::{entries, states};
 use crate::work::Work;
 use cnf_maker::laws::mild_queries_have_small_forms;
@@ -130,7 +130,7 @@ fn answered(
 {
     clauses_fit_their_form();
     let cnf = made(alloc, query)?;
-    let mut solver = prepared(alloc, cnf)?;
+    let mut solver = ordered(alloc, cnf)?;
     let end = run(alloc, &mut solver, budgets)?;
     ended(alloc, query, size, count, budgets, solver, end)
 }

@@ -137,10 +137,32 @@ fn is_odd_twice(alloc: Global) -> Result<Term, AllocError> {
 }
 
 /// Twice one number from 0 to 3 is one more than twice another: no state, since one is even and the
-/// other odd. Fractions meet it, so that it takes splits to see that.
+/// other odd. Divided by 2 and rounded, the one limit of their difference is past the other.
 pub fn halves(alloc: Global) -> Result<System, AllocError> {
     let mut system = in_ranges(alloc, Term::Truth(false))?;
     system.here.push(is_odd_twice(alloc)?)?;
+    Ok(system)
+}
+
+/// The first number and the third.
+fn first_and_third(alloc: Global) -> Result<Num, AllocError> {
+    plus(alloc, number(0), number(2))
+}
+
+/// Their sum is twice the second number and 1.
+fn is_odd_sum(alloc: Global) -> Result<Term, AllocError> {
+    let odd = odd(alloc)?;
+    equal(alloc, first_and_third(alloc)?, odd)
+}
+
+/// Two equal numbers from 0 to 3 have a sum that is one more than twice another: no state. Fractions meet it,
+/// and nothing has a divisor, so that it takes splits to see that.
+pub fn twins(alloc: Global) -> Result<System, AllocError> {
+    let mut system = in_ranges(alloc, Term::Truth(false))?;
+    system.shapes.push(Shape::Number)?;
+    push_range(alloc, &mut system.here, 2)?;
+    system.here.push(equal(alloc, number(0), number(2))?)?;
+    system.here.push(is_odd_sum(alloc)?)?;
     Ok(system)
 }
 

@@ -2,7 +2,7 @@
 
 use crate::asked::{bases, step};
 use crate::latches::ring;
-use crate::numbers::{counting, division, halves, lagging, limited, thirds, total};
+use crate::numbers::{counting, division, halves, lagging, limited, thirds, total, twins};
 use crate::pigeons::pigeons;
 use crate::small::{crossing, latched, loose, three_way, turning, without_paths};
 use anyhow::Result;
@@ -31,6 +31,7 @@ enum Which {
     Limited,
     Lagging,
     Halves,
+    Twins,
     Thirds,
     Division,
     Total,
@@ -131,11 +132,10 @@ fn rows(alloc: Global) -> Result<Vec<Case>, AllocError> {
             0,
             row("halves, 0 splits", Which::Halves, Question::Bases(0))
         ),
-        within_splits(1, row("halves, 1 split", Which::Halves, Question::Bases(0))),
-        within_pivots(
-            0,
-            row("halves, 0 pivots", Which::Halves, Question::Bases(0))
-        ),
+        row("twins", Which::Twins, Question::Bases(0)),
+        within_splits(0, row("twins, 0 splits", Which::Twins, Question::Bases(0))),
+        within_splits(1, row("twins, 1 split", Which::Twins, Question::Bases(0))),
+        within_pivots(0, row("twins, 0 pivots", Which::Twins, Question::Bases(0))),
         row("thirds", Which::Thirds, Question::Bases(0)),
         within_splits(
             0,
@@ -161,6 +161,7 @@ fn system_of(alloc: Global, which: Which) -> Result<System, AllocError> {
         Which::Limited => limited(alloc),
         Which::Lagging => lagging(alloc),
         Which::Halves => halves(alloc),
+        Which::Twins => twins(alloc),
         Which::Thirds => thirds(alloc),
         Which::Division => division(alloc),
         Which::Total => total(alloc),

@@ -10,16 +10,16 @@ use Rattle.smt_solver.proofs.solving.answered.Goals as goal
 pub made-requires : goal.made-requires
 made-requires c = λ past. never-err (query_view c.args.query.now) c.requires.small past
 
-pub prepared-requires-clause-fit : goal.prepared-requires-clause-fit
-prepared-requires-clause-fit c =
+pub ordered-requires-clause-fit : goal.ordered-requires-clause-fit
+ordered-requires-clause-fit c =
     c.clauses_fit_their_form.ensures (query_view c.args.query.now) c.requires.fit (form_view c.in_ok-cnf.cnf) c.in_ok-cnf.ensures.exact
 
-pub prepared-requires-clause-plain : goal.prepared-requires-clause-plain
-prepared-requires-clause-plain c =
+pub ordered-requires-clause-plain : goal.ordered-requires-clause-plain
+ordered-requires-clause-plain c =
     (small-form (query_view c.args.query.now) c.requires.small (form_view c.in_ok-cnf.cnf) c.in_ok-cnf.ensures.exact).0
 
-pub prepared-requires-clause-small : goal.prepared-requires-clause-small
-prepared-requires-clause-small c =
+pub ordered-requires-clause-small : goal.ordered-requires-clause-small
+ordered-requires-clause-small c =
     (small-form (query_view c.args.query.now) c.requires.small (form_view c.in_ok-cnf.cnf) c.in_ok-cnf.ensures.exact).1
 
 pub run-requires-clause-kept : goal.run-requires-clause-kept
