@@ -1,0 +1,4 @@
+pub mod Needed
+pub mod PartViews
+pub mod Unfolded
+pub mod Views

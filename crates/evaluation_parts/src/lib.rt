@@ -1,0 +1,10 @@
+//! What is evaluated at an instant of a declaration, part by part, in the order in which it would come if nothing had to
+//! wait.
+#![tactic(auto)]
+
+pub mod frame;
+pub mod mode_need;
+pub mod mode_needs;
+pub mod need;
+pub mod needs;
+pub mod part;
