@@ -1,4 +1,5 @@
 pub mod Needed
 pub mod PartViews
+pub mod Texts
 pub mod Unfolded
 pub mod Views

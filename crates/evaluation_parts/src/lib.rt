@@ -8,3 +8,6 @@ pub mod mode_needs;
 pub mod need;
 pub mod needs;
 pub mod part;
+mod placing;
+pub mod setting;
+pub mod text;

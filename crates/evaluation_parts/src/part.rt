@@ -125,5 +125,6 @@ pub(crate) fn push_closed<'a>(
         ≡ filled_each ns parts.old.items ++ parts_view more.now) }
 {
     let whole = of_nothing(alloc)?;
-    push_copies(alloc, parts, &whole, more)
+    push_copies(alloc, parts, &whole, more)?;
+    Ok(())
 }
