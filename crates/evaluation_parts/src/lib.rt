@@ -8,6 +8,7 @@ pub mod mode_needs;
 pub mod need;
 pub mod needs;
 pub mod part;
+mod parts;
 mod placing;
 pub mod setting;
 pub mod text;
