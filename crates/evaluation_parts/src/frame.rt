@@ -91,7 +91,7 @@ impl<'a, 't> Frame<'a, 't> {
     }
 
     /// The declaration of that place.
-    fn declared_at(self, place: usize) -> Option<&'t Declared<'a, 't>>
+    pub(crate) fn declared_at(self, place: usize) -> Option<&'t Declared<'a, 't>>
         ensures { option_map (λ d. declared_view d.now) result
             ≡ slice_get (all_view self.entry.all.now) place }
     {

@@ -2,7 +2,11 @@
 //! wait.
 #![tactic(auto)]
 
+mod bodies;
+mod call_numbers;
+mod contracts;
 pub mod frame;
+pub mod laws;
 pub mod mode_need;
 pub mod mode_needs;
 pub mod need;
