@@ -1,6 +1,5 @@
 -- The numbers of the calls of a text, from its occurrences.
-use Rattle.std.proofs.Common.{◌≡◌, refl, ap, sym, ◌∙◌, ℕ, Bool, true, false, ◌||◌, List, [], ◌∷◌, ◌++◌, map, flat_map, ◌==◌}
-use Rattle.std.specs.List.{list_any}
+use Rattle.std.proofs.Common.{◌≡◌, refl, ap, sym, ◌∙◌, ℕ, true, false, ◌||◌, List, [], ◌∷◌, ◌++◌, map, flat_map, ◌==◌}
 use Rattle.std.proofs.lemmas.List.{append_assoc, append-nil}
 use Rattle.lus_tree.specs.Tree.{Expression, Expressions, truth, number, name, negation, minus, pre, arrow, binary, choice, sampled, merged, call, condact, mode_name, no_more, more, Statement, equation, assertion, property, main_mark, ContractStatement, assume, guarantee, ghost_variable, constant, mode, «import», Component}
 use Rattle.lus_meaning.specs.Scene.{Site, Manner, plain, while_true, as_import, base, sampled_by, clock_of, contract_statements}

@@ -1,8 +1,8 @@
 -- The calls of an instance that is unfolded.
 use Rattle.std.proofs.Common.{rules, ◌≡◌, refl, ap, sym, ◌∙◌, Bool, true, false, cond, nat_le, ℕ, zero, suc, List, [], ◌∷◌, Option, Some, None, slice_get}
-use Rattle.lus_tree.specs.Tree.{Name, Program}
-use Rattle.lus_meaning.specs.Scene.{Instance, component_of, outputs_of, call_instance, instance_at, no_instance}
-use Rattle.evaluation_parts.specs.Unfolded.{Linked, Declared, nothing, if_there, calls_with, unfolded, called_instance, calls_at, counted_from_one, declared_outputs, linked_outputs}
+use Rattle.lus_tree.specs.Tree.{Program}
+use Rattle.lus_meaning.specs.Scene.{component_of, outputs_of, call_instance, instance_at}
+use Rattle.evaluation_parts.specs.Unfolded.{Linked, Declared, if_there, calls_with, unfolded, called_instance, calls_at, counted_from_one, declared_outputs, linked_outputs}
 
 pub component_there : (p : Program) (ts : List Declared) (d : ℕ) (t : Declared) → component_of (unfolded p ts d t) ≡ t.component
 component_there p ts zero t = refl

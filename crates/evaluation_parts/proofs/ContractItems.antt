@@ -2,12 +2,12 @@
 use Rattle.std.proofs.Common.{◌≡◌, refl, ap, sym, ◌∙◌, ℕ, ◌<◌, ◌+◌, List, [], ◌∷◌, ◌++◌, map, flat_map, length, drop, get_or}
 use Rattle.std.proofs.lemmas.List.{append_assoc, drop_more}
 use Rattle.std.proofs.Math.Path.{fun_ext}
-use Rattle.lus_tree.specs.Tree.{Name, Labelled, ContractStatement, assume, guarantee, ghost_variable, constant, mode, «import»}
+use Rattle.lus_tree.specs.Tree.{ContractStatement, assume, guarantee, ghost_variable, constant, mode, «import»}
 use Rattle.lus_meaning.specs.Cycle.{Place}
 use Rattle.lus_meaning.specs.Scene.{Instance}
-use Rattle.lus_evaluation.specs.Part.{Part, Key, Setting}
-use Rattle.lus_evaluation.specs.Frame.{ModeText, ContractText, Calls, conditions_of, mode_text, contract_after, setting, imported_mode}
-use Rattle.evaluation_parts.specs.Conditions.{asked_of, ensured_of, after_item, after_items}
+use Rattle.lus_evaluation.specs.Part.{Part, Key}
+use Rattle.lus_evaluation.specs.Frame.{ModeText, ContractText, Calls, conditions_of, contract_after, setting}
+use Rattle.evaluation_parts.specs.Conditions.{after_item, after_items}
 
 abbrev joint : List Part → List Part → List ModeText → ContractText
 joint as_ gs ms = record { assumed = as_; guaranteed = gs; modes = ms }
@@ -26,9 +26,9 @@ after_one i w sub t (mode m rs es) cs = refl
 after_one i w sub t («import» k c as_ xs) cs =
     let r : ContractText = contract_after i w sub (after_item i w sub t («import» k c as_ xs)).modes cs in
     ap (λ z. joint z (t.guaranteed ++ (sub k).contract.guaranteed ++ r.guaranteed) r.modes)
-        (append_assoc t.assumed (sub k).contract.assumed r.assumed)
+    (append_assoc t.assumed (sub k).contract.assumed r.assumed)
     ∙ ap (λ z. joint (t.assumed ++ ((sub k).contract.assumed ++ r.assumed)) z r.modes)
-        (append_assoc t.guaranteed (sub k).contract.guaranteed r.guaranteed)
+    (append_assoc t.guaranteed (sub k).contract.guaranteed r.guaranteed)
 
 -- ---- modes
 

@@ -1,12 +1,12 @@
 -- The declarations of a program with the places of those that they call unfold to its instances.
-use Rattle.std.proofs.Common.{◌≡◌, refl, ap, sym, ◌∙◌, ℕ, zero, suc, Bool, true, false, cond, List, [], ◌∷◌, map, Option, Some, None, option_map, unwrap_or, slice_get}
+use Rattle.std.proofs.Common.{◌≡◌, refl, ap, ◌∙◌, ℕ, zero, suc, Bool, true, false, cond, List, [], ◌∷◌, map, Option, Some, None, option_map, unwrap_or, slice_get}
 use Rattle.std.specs.Str.{bytes_eq}
 use Rattle.lus_tree.specs.Tree.{Name, Component, Program, declared_constant, declared_node, declared_contract}
 use Rattle.lus_meaning.specs.ClockFaults.{components}
 use Rattle.lus_meaning.specs.Program.{all_sites, component_named, constants_in, first_of_two, instance_within, instances_with}
-use Rattle.lus_meaning.specs.Scene.{Site, Instance, Instances, instance, no_component, with_instance}
+use Rattle.lus_meaning.specs.Scene.{Site, Instance, instance, no_component, with_instance}
 use Rattle.name_table.specs.Names.{number_of}
-use Rattle.evaluation_parts.specs.Unfolded.{Linked, Declared, nothing, if_there, calls_with, unfolded, called_instance}
+use Rattle.evaluation_parts.specs.Unfolded.{nothing, if_there, calls_with, unfolded, called_instance}
 use Rattle.evaluation_parts.specs.Declares.{names_in, linked_in, declared_in, all_declared}
 
 found_one : (p : Program) (n : Component) (ns : List Component) (k : ℕ) (o : Option Component) (b : Bool)

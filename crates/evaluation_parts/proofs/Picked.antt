@@ -1,5 +1,5 @@
 -- The parts of equations that are picked, one after the other.
-use Rattle.std.proofs.Common.{◌≡◌, refl, ap, sym, ◌∙◌, ℕ, List, [], ◌∷◌, ◌++◌, flat_map, Option, Some, None, option_to_list, slice_get}
+use Rattle.std.proofs.Common.{◌≡◌, refl, ap, sym, ℕ, List, ◌∷◌, ◌++◌, flat_map, Option, Some, None, option_to_list, slice_get}
 use Rattle.std.proofs.lemmas.List.{append-nil}
 use Rattle.lus_evaluation.specs.Frame.{picked}
 

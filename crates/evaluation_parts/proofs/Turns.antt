@@ -1,11 +1,10 @@
 -- What is evaluated at an instant, by orders of frames and by orders of declarations.
-use Rattle.std.proofs.Common.{◌≡◌, refl, ap, sym, ◌∙◌, ℕ, zero, suc, List, [], ◌∷◌, ◌++◌, flat_map, option_to_list, Option, Some, None, slice_get}
+use Rattle.std.proofs.Common.{◌≡◌, refl, ap, sym, ◌∙◌, ℕ, zero, suc, List, [], ◌∷◌, ◌++◌, flat_map, Option, Some, None, slice_get}
 use Rattle.std.specs.List.{AllByRecursion}
 use Rattle.lus_tree.specs.Tree.{Program}
-use Rattle.lus_meaning.specs.Scene.{Instance, Instances, calls_of}
-use Rattle.lus_meaning.specs.Run.{Equation}
-use Rattle.lus_evaluation.specs.Part.{Part, Setting}
-use Rattle.lus_evaluation.specs.Frame.{FrameText, ContractText, Calls, Orders, no_text, no_contract, equation_parts, picked, setting, text_at, text_over, frame_text, call_texts}
+use Rattle.lus_meaning.specs.Scene.{Instance, calls_of}
+use Rattle.lus_evaluation.specs.Part.{Setting}
+use Rattle.lus_evaluation.specs.Frame.{FrameText, Calls, Orders, no_text, no_contract, equation_parts, picked, setting, text_at, text_over, frame_text, call_texts}
 use Rattle.lus_evaluation.specs.Turn.{condition_parts, in_turn, owed, owed_in_calls}
 use Rattle.evaluation_parts.specs.Unfolded.{Linked, Declared, nothing, if_there, calls_with, unfolded, called_instance, calls_at}
 use Rattle.evaluation_parts.specs.Framed.{order_at, text_if, called_texts, text_called, text_within, texts_below, turn_within}
@@ -65,4 +64,4 @@ pub turn_is : (o : Orders) (p : Program) (ts : List Declared) (os : List (List �
 turn_is o p ts os d k t a =
     ap (λ z. z.body ++ condition_parts (text_at (texts_below p ts os d [] t)) z (unfolded p ts d t)) (frame_is o p ts os d [] k t a)
     ∙ ap (λ z. (frame_text o [] (unfolded p ts d t)).body ++ condition_parts (text_at z) (frame_text o [] (unfolded p ts d t)) (unfolded p ts d t))
-        (texts_are o p ts os d [] k t a)
+    (texts_are o p ts os d [] k t a)

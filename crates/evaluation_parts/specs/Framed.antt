@@ -2,7 +2,7 @@
 use Rattle.std.specs.Prelude.{ℕ, zero, suc, List, [], ◌∷◌, ◌++◌, map, cond, Option, Some, None, slice_get, slice_index_or}
 use Rattle.std.specs.Borrow.{Bor}
 use Rattle.lus_tree.specs.Tree.{Program}
-use Rattle.lus_meaning.specs.Scene.{Site, Instance, component_of, calls_of}
+use Rattle.lus_meaning.specs.Scene.{Site, component_of}
 use Rattle.lus_evaluation.specs.Part.{Part, Setting}
 use Rattle.lus_evaluation.specs.Frame.{FrameText, no_text, text_at, text_over, asserted_below, call_parts, is_evaluated, Calls}
 use Rattle.lus_evaluation.specs.Turn.{condition_parts}

@@ -60,10 +60,7 @@ fn push_equation<'a>(sides: &mut Vec<Side<'a>>, item: &'a Item) -> Result<(), Al
 }
 
 /// The equations, and behind them those of the ghost variables of a contract.
-fn push_ghosts<'a>(
-    sides: &mut Vec<Side<'a>>,
-    items: &'a [ContractItem],
-) -> Result<(), AllocError>
+fn push_ghosts<'a>(sides: &mut Vec<Side<'a>>, items: &'a [ContractItem]) -> Result<(), AllocError>
     ensures { OnOk result (sides_view sides.new.items
         ≡ sides_view sides.old.items ++ ghost_equations (map contract_item_view items.now)) }
 {

@@ -46,7 +46,14 @@ pub(crate) fn push_conditions<'a>(
         ++ conditions_of (setting_view setting.entry) (map named_view conditions.now)) }
 {
     for condition in conditions {
-        push_whole(alloc, all, setting, Gives::Nothing, Clock::Base, &condition.value)?;
+        push_whole(
+            alloc,
+            all,
+            setting,
+            Gives::Nothing,
+            Clock::Base,
+            &condition.value,
+        )?;
     }
     Ok(())
 }
@@ -61,7 +68,14 @@ fn push_condition<'a>(
     ensures { OnOk result (parts_view all.new.items ≡ parts_view all.old.items
         ++ conditions_of (setting_view setting.entry) (named_view condition.now ∷ [])) }
 {
-    push_whole(alloc, all, setting, Gives::Nothing, Clock::Base, &condition.value)?;
+    push_whole(
+        alloc,
+        all,
+        setting,
+        Gives::Nothing,
+        Clock::Base,
+        &condition.value,
+    )?;
     Ok(())
 }
 
@@ -77,7 +91,15 @@ fn asked_by<'a>(
     let mut all = Vec::new(alloc);
     let whole = Whole { needs: None };
     for one in asked {
-        push_parts(alloc, &mut all, setting, &whole, Gives::Nothing, Clock::Base, &one.value)?;
+        push_parts(
+            alloc,
+            &mut all,
+            setting,
+            &whole,
+            Gives::Nothing,
+            Clock::Base,
+            &one.value,
+        )?;
     }
     Ok(all)
 }
@@ -240,7 +262,10 @@ fn push_import<'a>(
 }
 
 /// The text of the frame of the call of that place.
-pub(crate) fn text_there<'a, 's>(texts: &'s [FrameText<'a>], place: usize) -> Option<&'s FrameText<'a>>
+pub(crate) fn text_there<'a, 's>(
+    texts: &'s [FrameText<'a>],
+    place: usize,
+) -> Option<&'s FrameText<'a>>
     ensures { text_or_none result ≡ slice_index_or (frame_texts_view texts.now) place no_text }
 {
     if place < texts.len() {
@@ -300,7 +325,14 @@ pub(crate) fn contract_text<'a>(
     let mut guaranteed = Vec::new(alloc);
     let mut modes = Vec::new(alloc);
     for item in items {
-        push_item(alloc, &mut assumed, &mut guaranteed, &mut modes, setting, item)?;
+        push_item(
+            alloc,
+            &mut assumed,
+            &mut guaranteed,
+            &mut modes,
+            setting,
+            item,
+        )?;
     }
     Ok(ContractText {
         assumed,

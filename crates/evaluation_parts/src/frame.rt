@@ -132,7 +132,7 @@ impl<'a, 't> Frame<'a, 't> {
     }
 
     /// The outputs of the call with that number.
-    
+
     pub(crate) fn outputs(self, number: u32) -> &'a [Param]
         ensures { names_of (map param_view result.now) ≡ outputs_of (call_instance (frame_instance self.entry) number) }
     {

@@ -41,8 +41,10 @@ fn own_mode<'a>(
     name: &'a PlacedName,
     asked: &'a [Named],
 ) -> Result<ModeNeeds<'a>, AllocError>
-    ensures { IfOk result (λ m. mode_needs_view m ≡ (([], (word_view name.now).text),
-        asked_needs (frame_instance frame.entry) (modes_needs_view modes.now) (map named_view asked.now))) }
+    ensures { IfOk result (λ m. mode_needs_view m ≡ (
+      ([], (word_view name.now).text),
+      asked_needs (frame_instance frame.entry) (modes_needs_view modes.now) (map named_view asked.now),
+    )) }
 {
     let mut needs = Vec::new(alloc);
     needs.push(Need::Beat)?;
@@ -96,7 +98,11 @@ fn push_imported<'a>(
 fn modes_at<'a, 'm>(called: &'m [Vec<ModeNeeds<'a>>], place: usize) -> &'m [ModeNeeds<'a>]
     ensures { modes_needs_view result.now ≡ slice_index_or (all_modes_view called.now) place [] }
 {
-    if place < called.len() { &called[place] } else { &[] }
+    if place < called.len() {
+        &called[place]
+    } else {
+        &[]
+    }
 }
 
 /// The modes, and behind them those of an item, by those before it and those of the calls.
@@ -153,10 +159,7 @@ fn after<'a>(
 ///
 /// Want of memory.
 #[cycle(modes)]
-pub fn modes_need<'a>(
-    alloc: Global,
-    frame: Frame<'a, '_>,
-) -> Result<Vec<ModeNeeds<'a>>, AllocError>
+pub fn modes_need<'a>(alloc: Global, frame: Frame<'a, '_>) -> Result<Vec<ModeNeeds<'a>>, AllocError>
     ensures { IfOk result (λ v. modes_needs_view v.items ≡ modes_need (frame_instance frame.entry)) }
 {
     let called = called_modes(alloc, frame)?;

@@ -70,11 +70,7 @@ fn push_called<'a>(
 }
 
 /// The needs, and behind them a name of the frame itself.
-fn push_name<'a>(
-    alloc: Global,
-    needs: &mut Vec<Need<'a>>,
-    name: &'a str,
-) -> Result<(), AllocError>
+fn push_name<'a>(alloc: Global, needs: &mut Vec<Need<'a>>, name: &'a str) -> Result<(), AllocError>
     ensures { OnOk result (needs_view needs.new.items ≡ needs_view needs.old.items ++ a_name [] name.now ∷ []) }
 {
     needs.push(own_name(alloc, name))?;

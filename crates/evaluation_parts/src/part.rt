@@ -80,11 +80,7 @@ pub(crate) fn of_nothing<'a>(alloc: Global) -> Result<Whole<'a>, AllocError>
 
 impl<'a> Part<'a> {
     /// The same, where what is not said is what that whole needs.
-    pub(crate) fn copied_in(
-        &self,
-        alloc: Global,
-        whole: &Whole<'a>,
-    ) -> Result<Part<'a>, AllocError>
+    pub(crate) fn copied_in(&self, alloc: Global, whole: &Whole<'a>) -> Result<Part<'a>, AllocError>
         ensures { IfOk result (λ p. (ns : List Place) → filled ns p ≡ filled (needed_in ns whole.now) self.now) }
     {
         let way = Vec::from_slice(alloc, &self.way)?;

@@ -1,4 +1,4 @@
-use Rattle.std.proofs.Common.{◌≡◌, ◌++◌, ◌+◌, ◌*◌, zero, pred, Option, Some, None, drop}
+use Rattle.std.proofs.Common.{◌≡◌, ◌++◌, ◌+◌, ◌*◌, pred, drop}
 use Rattle.lus_tree.specs.View.{program_view}
 use Rattle.lus_meaning.specs.Depends.{modes_need_each}
 use Rattle.evaluation_parts.specs.Needed.{all_modes_view}

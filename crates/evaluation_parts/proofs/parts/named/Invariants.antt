@@ -10,6 +10,6 @@ use Rattle.evaluation_parts.proofs.parts.named.Given as goal
 abbrev pub invariant-loop-text : goal.invariant-loop-text
 invariant-loop-text l =
     lookup (mode_key (key_of (option_map text_of (option_map word_view l.contract)) (word_view l.mode).text))
-        (map (λ m. (m.key, m.asked)) (mode_texts_view (drop l.text-index l.modes)))
+    (map (λ m. (m.key, m.asked)) (mode_texts_view (drop l.text-index l.modes)))
     ≡ lookup (mode_key (key_of (option_map text_of (option_map word_view l.contract)) (word_view l.mode).text))
-        (map (λ m. (m.key, m.asked)) (mode_texts_view l.modes))
+    (map (λ m. (m.key, m.asked)) (mode_texts_view l.modes))
