@@ -1,0 +1,11 @@
+pub mod Bodies
+pub mod CallNumbers
+pub mod Conditions
+pub mod Declares
+pub mod Framed
+pub mod Needed
+pub mod PartViews
+pub mod Texts
+pub mod Turns
+pub mod Unfolded
+pub mod Views
