@@ -1,0 +1,4 @@
+pub mod ContractItems
+pub mod Counted
+pub mod Frames
+pub mod Runs

@@ -1,0 +1,23 @@
+//! The laws of conditions.
+
+ghost use Rattle.condition_laws.specs.Laws.{BreaksByRows, EachPropertyHasAResolution, LawfulByRows, LegalByRows, PropertiesByRows};
+
+/// Of a checked program, in the row of a run of a declaration at an instant: the assumptions, with those of imports, and
+/// the assertions of all frames are true exactly where all their resolutions are worth that.
+pub fn legal_by_rows()
+    ensures { LegalByRows }
+{}
+
+/// The resolution with a property's number is worth the property's truth: of the properties of the body, the guarantees,
+/// the ensures under what their mode asks, that one mode is active, and what is owed to callees.
+pub fn properties_by_rows()
+    ensures counted { EachPropertyHasAResolution }
+    ensures values { PropertiesByRows }
+{}
+
+/// So what the rows of a run say of its instants is so of the run: the first lawful instant at which the resolution of a
+/// property is not true is where the frame breaks the property, and as many first instants are lawful.
+pub fn breaks_by_rows()
+    ensures breaks { BreaksByRows }
+    ensures lawful { LawfulByRows }
+{}
