@@ -36,10 +36,10 @@ grouped : {A : Type 0} (xs ys zs : List A) → xs ++ (ys ++ zs) ≡ (xs ++ ys) +
 grouped [] ys zs = refl
 grouped (x ∷ xs) ys zs = ap (λ l. x ∷ l) (grouped xs ys zs)
 
-abbrev keys : List ModeTerms → List Key
+abbrev pub keys : List ModeTerms → List Key
 keys ms = map (λ m. m.key) ms
 
-imported_keys : (k : ℕ) (x : Name) (ms : List ModeTerms) → keys (map (imported_mode k x) ms) ≡ map (λ (m : ModeTerms). (x ∷ m.key.0, m.key.1)) ms
+pub imported_keys : (k : ℕ) (x : Name) (ms : List ModeTerms) → keys (map (imported_mode k x) ms) ≡ map (λ (m : ModeTerms). (x ∷ m.key.0, m.key.1)) ms
 imported_keys k x [] = refl
 imported_keys k x (m ∷ ms) = ap (λ l. (x ∷ m.key.0, m.key.1) ∷ l) (imported_keys k x ms)
 
@@ -57,7 +57,7 @@ found_first b f key (m ∷ ms) ns h = go (mode_key key m.key) h (found_first b f
     go false q r = r q
 
 -- the modes that stand first in a contract are first of all
-terms_more : (i : Instance) (sub : ℕ → Terms) (ms : List ModeTerms) (cs : List ContractStatement) →
+pub terms_more : (i : Instance) (sub : ℕ → Terms) (ms : List ModeTerms) (cs : List ContractStatement) →
     (more : List ModeTerms) × ((terms_after i sub ms cs).modes ≡ ms ++ more)
 terms_more i sub ms [] = ([], sym (append_none ms))
 terms_more i sub ms (assume l ∷ cs) = terms_more i sub ms cs
@@ -110,7 +110,7 @@ module _ (at : Place → ℕ) (b : Instants) (f : Frame) (row : SlotValues) (t :
   all_more (p ∷ ps) ps' [] qs' a e = absurd a
   all_more (p ∷ ps) ps' (q ∷ qs) qs' a e = (a.0, all_more ps ps' qs qs' a.1 e)
 
-  modes_more : (ms ns : List ModeTerms) (qs rs : List (ModeItem Resolving)) → SameModes ms qs → SameModes ns rs → SameModes (ms ++ ns) (qs ++ rs)
+  pub modes_more : (ms ns : List ModeTerms) (qs rs : List (ModeItem Resolving)) → SameModes ms qs → SameModes ns rs → SameModes (ms ++ ns) (qs ++ rs)
   modes_more [] ns [] rs a e = e
   modes_more [] ns (q ∷ qs) rs a e = absurd a
   modes_more (m ∷ ms) ns [] rs a e = absurd a
@@ -154,10 +154,10 @@ both_values z e h = rw (e, h) refl
 -- ---- a frame
 
 module _ (i : Instance) (v : Standing i) where
-  abbrev s : Scene
+  abbrev pub s : Scene
   s = scene i v.b v.f
 
-  abbrev Modes : List ModeTerms → List (ModeItem Resolving) → Type 0
+  abbrev pub Modes : List ModeTerms → List (ModeItem Resolving) → Type 0
   Modes = SameModes v.at v.b v.f v.row v.t
 
   abbrev Listed : List Property → List Resolving → Type 0
@@ -170,14 +170,14 @@ module _ (i : Instance) (v : Standing i) where
   IsSaid = SameTest v.at v.b v.f v.row v.t
 
   -- modes of these keys, which are the first of all
-  record First (ks : List Key) (ms : List ModeTerms) (qs : List (ModeItem Resolving)) : Type 0 where
-    same : Modes ms qs
-    named : keys ms ≡ ks
-    more : List ModeTerms
-    all : (terms i).modes ≡ ms ++ more
+  pub record First (ks : List Key) (ms : List ModeTerms) (qs : List (ModeItem Resolving)) : Type 0 where
+    pub same : Modes ms qs
+    pub named : keys ms ≡ ks
+    pub more : List ModeTerms
+    pub all : (terms i).modes ≡ ms ++ more
 
   module _ (ks : List Key) (ms : List ModeTerms) (qs : List (ModeItem Resolving)) (h : First ks ms qs) where
-    abbrev among : Key → Bool
+    abbrev pub among : Key → Bool
     among key = list_any (mode_key key) ks
 
     among_terms : (key : Key) → IsAmong ks key → IsAmong (keys ms) key
@@ -188,7 +188,7 @@ module _ (i : Instance) (v : Standing i) where
     streams_found key k =
         sym (ap (λ ns. lookup (mode_key key) (mode_streams ns v.b v.f)) h.all ∙ found_first v.b v.f key ms h.more (among_terms key k))
 
-    shown : Shows s among v.at (at_numbers v.at (known qs)) v.row v.t
+    pub shown : Shows s among v.at (at_numbers v.at (known qs)) v.row v.t
     shown =
         shows_with i v among (at_numbers v.at (known qs))
         (λ d m k o. asked_found v.at v.b v.f v.row v.t (option_to_list d, m) ms qs h.same (among_terms (option_to_list d, m) k) o
@@ -209,7 +209,7 @@ module _ (i : Instance) (v : Standing i) where
         ap (λ k. worth v.row k (here l)) (sym o)
         ∙ absent_by_row s among v.at (at_numbers v.at (known qs)) v.row v.t shown base l.value w.0 (beat_clock i v) o
 
-    abbrev requires : List Labelled → List Resolution
+    abbrev pub requires : List Labelled → List Resolution
     requires rs = map (λ r. r v.at) (map (λ r. resolved.says i (known qs) r.value) rs)
 
     all_on : (rs : List Labelled) → AllByRecursion (FlagFits i ks) rs → v.b v.t ≡ true →
@@ -235,7 +235,7 @@ module _ (i : Instance) (v : Standing i) where
     ensures_same m rs (x ∷ es) fs a e =
         (λ o. both_values Implies (asks_on m rs fs a o) (says_on x e.0 o), ensures_same m rs es fs a e.1)
 
-    mode_same : (m : Name) (rs es : List Labelled) → AllByRecursion (FlagFits i ks) rs → AllByRecursion (FlagFits i ks) es →
+    pub mode_same : (m : Name) (rs es : List Labelled) → AllByRecursion (FlagFits i ks) rs → AllByRecursion (FlagFits i ks) es →
         SameMode v.at v.b v.f v.row v.t (mode_terms i ms m rs es) (mode_item resolved i (known qs) m rs es)
     mode_same m rs es a e = record {
       key = refl;
@@ -259,7 +259,7 @@ module _ (i : Instance) (v : Standing i) where
     through_all k (p ∷ ps) [] a = absurd a
     through_all k (p ∷ ps) (q ∷ qs) a = (a.0, through_all k ps qs a.1)
 
-    through_modes : (k : ℕ) (x : Name) (ms : List ModeTerms) (qs : List (ModeItem Resolving)) →
+    pub through_modes : (k : ℕ) (x : Name) (ms : List ModeTerms) (qs : List (ModeItem Resolving)) →
         SameModes (below_call k v.at) v.b (call_frame v.f k) v.row v.t ms qs → Modes (map (imported_mode k x) ms) (map (imported_item resolved k x) qs)
     through_modes k x [] [] a = tt
     through_modes k x [] (q ∷ qs) a = absurd a
@@ -328,12 +328,12 @@ items_at no_instances p h = absurd (omega (arith, h))
 items_at (with_instance c k is) zero h = refl
 items_at (with_instance c k is) (suc p) h = items_at is p (omega (arith, h))
 
-items_called : (i : Instance) (k : ℕ) → 0 < k → pred k < count_of (calls_of i) →
+pub items_called : (i : Instance) (k : ℕ) → 0 < k → pred k < count_of (calls_of i) →
     slice_index_or (items_each resolved (calls_of i)) (pred k) no_items ≡ conditions_of (call_instance i k)
 items_called i zero c h = absurd (omega (arith, c))
 items_called i (suc p) c h = items_at (calls_of i) p h
 
-by_number : (P : Instance → Type 0) (i : Instance) → ((p : ℕ) → p < count_of (calls_of i) → P (instance_at (calls_of i) p)) → (k : ℕ) → 0 < k →
+pub by_number : (P : Instance → Type 0) (i : Instance) → ((p : ℕ) → p < count_of (calls_of i) → P (instance_at (calls_of i) p)) → (k : ℕ) → 0 < k →
     pred k < count_of (calls_of i) → P (call_instance i k)
 by_number P i h zero c l = absurd (omega (arith, c))
 by_number P i h (suc p) c l = h p l
@@ -345,23 +345,24 @@ imported_alike i h v k im =
     subst (λ z. SameTerms (below_call k v.at) z (call_frame v.f k) v.row v.t (terms (call_instance i k)) (conditions_of (call_instance i k)))
     (import_beat (scene i v.b v.f) (site_of i k) im.outputs im.clock im.manner) (h k im.call.counted im.call.listed (called i v k im.call))
 
+alike_below : (i : Instance) → ((k : ℕ) → 0 < k → pred k < count_of (calls_of i) → AllAlike (call_instance i k)) → (v : Standing i) → (k : ℕ) →
+    IsImport i k → Below i v (λ k. slice_index_or (terms_each (calls_of i)) (pred k) no_terms)
+    (λ k. slice_index_or (items_each resolved (calls_of i)) (pred k) no_items) k
+alike_below i h v k im =
+    let same = terms_called i k im.call.counted im.call.listed in
+    let items = items_called i k im.call.counted im.call.listed in
+    record {
+      same = same;
+      alike = subst (λ r. SameTerms (below_call k v.at) v.b (call_frame v.f k) v.row v.t r
+          (slice_index_or (items_each resolved (calls_of i)) (pred k) no_items)) (sym same)
+          (subst (λ q. SameTerms (below_call k v.at) v.b (call_frame v.f k) v.row v.t (terms (call_instance i k)) q) (sym items)
+          (imported_alike i h v k im));
+    }
+
 alike_from : (i : Instance) → ((k : ℕ) → 0 < k → pred k < count_of (calls_of i) → AllAlike (call_instance i k)) → AllAlike i
 alike_from (instance d cs is) h v =
     after (instance d cs is) v (λ k. slice_index_or (terms_each is) (pred k) no_terms) (λ k. slice_index_or (items_each resolved is) (pred k) no_items)
-    below [] [] [] (contract_statements d) (own_fits IsKnown (instance d cs is) v.fits).contract tt refl refl
-  where
-    below : (k : ℕ) → IsImport (instance d cs is) k → Below (instance d cs is) v (λ k. slice_index_or (terms_each is) (pred k) no_terms)
-        (λ k. slice_index_or (items_each resolved is) (pred k) no_items) k
-    below k im =
-        let same = terms_called (instance d cs is) k im.call.counted im.call.listed in
-        let items = items_called (instance d cs is) k im.call.counted im.call.listed in
-        record {
-          same = same;
-          alike = subst (λ r. SameTerms (below_call k v.at) v.b (call_frame v.f k) v.row v.t r (slice_index_or (items_each resolved is) (pred k) no_items))
-              (sym same)
-              (subst (λ q. SameTerms (below_call k v.at) v.b (call_frame v.f k) v.row v.t (terms (call_instance (instance d cs is) k)) q)
-              (sym items) (imported_alike (instance d cs is) h v k im));
-        }
+    (alike_below (instance d cs is) h v) [] [] [] (contract_statements d) (own_fits IsKnown (instance d cs is) v.fits).contract tt refl refl
 
 mutual
   -- what a frame's items are worth is what they say
@@ -372,6 +373,11 @@ mutual
   each_alike no_instances p l = absurd (omega (arith, l))
   each_alike (with_instance c k is) zero l = all_alike k
   each_alike (with_instance c k is) (suc p) l = each_alike is p (omega (arith, l))
+
+-- so what is imported is known
+pub known_below : (i : Instance) (v : Standing i) (k : ℕ) → IsImport i k →
+    Below i v (λ k. slice_index_or (terms_each (calls_of i)) (pred k) no_terms) (λ k. slice_index_or (items_each resolved (calls_of i)) (pred k) no_items) k
+known_below i v k im = alike_below i (λ j c l. all_alike (call_instance i j)) v k im
 
 -- that a mode is active
 pub some_on : (at : Place → ℕ) (b : Instants) (f : Frame) (row : SlotValues) (t : ℕ) (ms : List ModeTerms) (qs : List (ModeItem Resolving)) →

@@ -97,19 +97,19 @@ module _ (i : Instance) (v : Standing i) where
 
   module _ (c : Site) (k : Instance) (is : Instances) (h : Frame) (fs : Frames) (q : ℕ) (fit : CallFits IsKnown i c k q)
       (e : drop_calls q (calls_of i) ≡ with_instance c k is) (d : drop_frames q (calls_in v.f) ≡ with_frame h fs) where
-    site_here : site_of i (suc q) ≡ c
+    pub site_here : site_of i (suc q) ≡ c
     site_here = site_dropped (calls_of i) q c ∙ ap (λ z. first_site z (site_at no_instances 0)) e
 
-    instance_here : call_instance i (suc q) ≡ k
+    pub instance_here : call_instance i (suc q) ≡ k
     instance_here = instance_dropped (calls_of i) q ∙ ap (λ z. first_instance z no_instance) e
 
-    frame_here : call_frame v.f (suc q) ≡ h
+    pub frame_here : call_frame v.f (suc q) ≡ h
     frame_here = frame_dropped (calls_in v.f) q ∙ ap (λ z. first_frame z (frame_at no_frames 0)) d
 
-    frame_called : call_frame v.f c.number ≡ h
+    pub frame_called : call_frame v.f c.number ≡ h
     frame_called = ap (λ z. call_frame v.f z) fit.number ∙ frame_here
 
-    has_call : RowHas k (below_call c.number v.at) (active s c) h v.row v.t
+    pub has_call : RowHas k (below_call c.number v.at) (active s c) h v.row v.t
     has_call =
         subst (λ z. RowHas k (below_call z v.at) (active s c) h v.row v.t) (sym fit.number)
         (subst (λ z. RowHas k (below_call (suc q) v.at) (active s c) z v.row v.t) frame_here
@@ -117,7 +117,7 @@ module _ (i : Instance) (v : Standing i) where
         (subst (λ z. RowHas z (below_call (suc q) v.at) (active s (site_of i (suc q))) (call_frame v.f (suc q)) v.row v.t) instance_here
         (call_has i v.at v.b v.f v.row v.t v.has (suc q) fit.call))))
 
-    abbrev below : IsRun k v.n (active s c) h → TreeFits IsKnown k → Standing k
+    abbrev pub below : IsRun k v.n (active s c) h → TreeFits IsKnown k → Standing k
     below run w = record {
       at = below_call c.number v.at;
       b = active s c;

@@ -42,7 +42,7 @@ some_inner {A} x y e = ap back e
     back None = x
     back (Some z) = z
 
-value_there : (w : Place → Value) (qs : List Slot) (p : Place) (z : Sort) → slot_sort IsKnown qs p ≡ Some z →
+pub value_there : (w : Place → Value) (qs : List Slot) (p : Place) (z : Sort) → slot_sort IsKnown qs p ≡ Some z →
     unwrap_or (slice_get (map (λ q. w (place_of q)) qs) (number_in qs p)) absent ≡ w p
 value_there w [] p z e = absurd (none-some z e)
 value_there w (q ∷ qs) p z e = go (same_place p (place_of q)) refl e (value_there w qs p z)
@@ -88,7 +88,7 @@ flag_at f t s (p ∷ ps) (x ∷ qs) a (suc k) q d = flag_at f t s ps qs a.1 k q 
 -- ---- a run
 
 module _ (i : Instance) (w : WellTyped IsKnown i) (m : ℕ) (f : Frame) (run : IsRun i m throughout f) where
-  abbrev standing : (t : ℕ) → t < m → Standing i
+  abbrev pub standing : (t : ℕ) → t < m → Standing i
   standing t l = record {
     at = number_of i;
     b = throughout;

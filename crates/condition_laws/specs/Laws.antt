@@ -9,15 +9,21 @@ use Rattle.lus_meaning.specs.FirstBreak.{AreBreaks, AreLawful}
 use Rattle.lus_meaning.specs.Run.{IsRun}
 use Rattle.lus_meaning.specs.Program.{instance_of}
 use Rattle.lus_meaning.specs.RuleLaws.{OfEach}
+use Rattle.sys_meaning.specs.Items.{known}
 use Rattle.slot_values.specs.Resolution.{Resolution}
 use Rattle.slot_values.specs.Evaluated.{worth}
+use Rattle.evaluation_laws.specs.Resolvings.{resolvings}
 use Rattle.evaluation_laws.specs.Rows.{row_at}
-use Rattle.condition_laws.specs.Conditions.{legal_resolutions, property_resolutions}
+use Rattle.condition_laws.specs.Conditions.{conditions_of, legal_resolutions, property_resolutions}
 use Rattle.condition_laws.specs.Breaks.{all_true, AreRowBreaks, AreLawfulRows}
 
 -- what is so of each run of each declaration of a checked program
 abbrev pub OfEachRun : (Instance → ℕ → Frame → Type 0) → Type 0
 OfEachRun P = OfEach (λ p n. (m : ℕ) (f : Frame) → IsRun (instance_of p n) m throughout f → P (instance_of p n) m f)
+
+-- what the modes of a contract ask by its items is what they ask where its frame is resolved
+abbrev pub ItemsAskResolvings : Type 0
+ItemsAskResolvings = (i : Instance) → known (conditions_of i).modes ≡ resolvings i
 
 -- ---- at an instant
 

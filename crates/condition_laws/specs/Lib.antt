@@ -1,3 +1,4 @@
 pub mod Conditions
 pub mod Breaks
 pub mod Laws
+pub mod Within

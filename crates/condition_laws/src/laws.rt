@@ -1,6 +1,7 @@
 //! The laws of conditions.
 
-ghost use Rattle.condition_laws.specs.Laws.{BreaksByRows, EachPropertyHasAResolution, LawfulByRows, LegalByRows, PropertiesByRows};
+ghost use Rattle.condition_laws.specs.Laws.{BreaksByRows, EachPropertyHasAResolution, ItemsAskResolvings, LawfulByRows, LegalByRows, PropertiesByRows};
+ghost use Rattle.condition_laws.specs.Within.{ConditionsStayWithin};
 
 /// Of a checked program, in the row of a run of a declaration at an instant: the assumptions, with those of imports, and
 /// the assertions of all frames are true exactly where all their resolutions are worth that.
@@ -20,4 +21,15 @@ pub fn properties_by_rows()
 pub fn breaks_by_rows()
     ensures breaks { BreaksByRows }
     ensures lawful { LawfulByRows }
+{}
+
+/// What the modes of a contract ask by its items is what they ask in the resolutions of the frame's text.
+pub fn items_ask_resolvings()
+    ensures { ItemsAskResolvings }
+{}
+
+/// Where all parts that are evaluated for the conditions are within 128 bits, no resolution of a condition has an
+/// operation outside.
+pub fn conditions_stay_within()
+    ensures { ConditionsStayWithin }
 {}
