@@ -6,3 +6,5 @@ pub mod Known
 pub mod Operations
 pub mod ItemsWithin
 pub mod ConditionsWithin
+pub mod Read
+pub mod Following

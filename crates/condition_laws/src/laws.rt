@@ -1,5 +1,6 @@
 //! The laws of conditions.
 
+ghost use Rattle.condition_laws.specs.Following.{ConditionsReadSlots, FollowingRowsAreLawful, FollowingRowsBreak, FollowingRowsTellConditions};
 ghost use Rattle.condition_laws.specs.Laws.{BreaksByRows, EachPropertyHasAResolution, ItemsAskResolvings, LawfulByRows, LegalByRows, PropertiesByRows};
 ghost use Rattle.condition_laws.specs.Within.{ConditionsStayWithin};
 
@@ -32,4 +33,14 @@ pub fn items_ask_resolvings()
 /// operation outside.
 pub fn conditions_stay_within()
     ensures { ConditionsStayWithin }
+{}
+
+/// The resolutions of conditions read no slot that none is to read. So rows that follow from the sources of a declaration
+/// and from what lines of a trace list have its conditions as the row of the frame has them, and what these rows break,
+/// and how many first ones are lawful, is so of the frame.
+pub fn following_rows_break()
+    ensures read { ConditionsReadSlots }
+    ensures conditions { FollowingRowsTellConditions }
+    ensures breaks { FollowingRowsBreak }
+    ensures lawful { FollowingRowsAreLawful }
 {}
