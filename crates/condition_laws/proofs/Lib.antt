@@ -1,0 +1,10 @@
+pub mod ContractItems
+pub mod Counted
+pub mod Frames
+pub mod Runs
+pub mod Known
+pub mod Operations
+pub mod ItemsWithin
+pub mod ConditionsWithin
+pub mod Read
+pub mod Following
