@@ -5,17 +5,36 @@ ghost use Rattle.std.specs.List.{AllByRecursion};
 ghost use Rattle.sys_frames.specs.Walked.{CallsHaveRoom, HasRoomWithin, IfThere, OfCall};
 ghost use Rattle.sys_tables.specs.Numbers.{CallHasRoom};
 ghost use Rattle.sys_tables.specs.Views.{linked_view, table_view, tables_view};
+ghost use Rattle.sys_texts.specs.Views.{sight_view};
+ghost use Rattle.frame_sources.specs.Views.{all_asked_view};
+ghost use Rattle.frame_conditions.specs.Conditioned.{asserts_by};
 ghost use Rattle.frame_conditions.specs.Views.{resolutions_view};
 ghost use Rattle.frame_conditions.specs.Walked.{asserts_below, asserts_or_none, asserts_within, call_asserts, calls_asserts, own_asserts};
 
 use crate::bodies::push_assertions;
 use frame_sources::imports::{Tables, modes_seen, table_at};
+use frame_sources::modes::Asked;
 use lus_limits::Way;
 use slot_values::Resolved;
-use std::alloc::AllocError;
+use std::alloc::{AllocError, Global};
 use sys_tables::numbers::{behind_own, frame_base, way_of};
 use sys_tables::sight::sight;
 use sys_tables::table::{Linked, Table};
+use sys_texts::sight::Sight;
+
+/// The expressions, and behind them what a frame asserts that is seen so, where these modes are known.
+fn push_seen(
+    alloc: Global,
+    resolutions: &mut Vec<Resolved>,
+    table: &Table<'_>,
+    sight: &Sight<'_>,
+    modes: &[Asked<'_>],
+) -> Result<(), AllocError>
+    ensures { OnOk result (resolutions_view resolutions.new.items ≡ resolutions_view resolutions.old.items
+        ++ asserts_by (sight_view sight.now) (all_asked_view modes.now) (table_view table.now).component.body) }
+{
+    push_assertions(alloc, resolutions, sight, modes, table.owner.body())
+}
 
 /// The expressions, and behind them what a frame asserts of a declaration that runs so and has its slots from there on.
 fn push_own(
@@ -30,10 +49,9 @@ fn push_own(
     ensures { OnOk result (resolutions_view resolutions.new.items ≡ resolutions_view resolutions.old.items
         ++ own_asserts depth (tables_view tables.entry.all.now) tables.entry.missing (table_view table.now) way base) }
 {
-    let alloc = tables.alloc;
-    let sight = sight(alloc, table, way, base, tables.missing)?;
+    let sight = sight(tables.alloc, table, way, base, tables.missing)?;
     let modes = modes_seen(tables, depth, table, &sight, behind_own(table, way, base))?;
-    push_assertions(alloc, resolutions, &sight, &modes, table.owner.body())
+    push_seen(tables.alloc, resolutions, table, &sight, &modes)
 }
 
 /// The expressions, and behind them what the frames assert of calls that stand from there on, with others nested in them
