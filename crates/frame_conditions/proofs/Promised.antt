@@ -49,6 +49,10 @@ one_mode_so : (at : Place → ℕ) (ms : List (ModeItem Resolving)) → one_mode
 one_mode_so at [] = refl
 one_mode_so at (m ∷ ms) = ap (λ l. some_resolved l ∷ []) (twice (λ (n : Asked). n.asked) (mode_at at) (m ∷ ms))
 
+regrouped : (a b d e f : List Resolution) → a ++ (b ++ (d ++ (e ++ f))) ≡ a ++ b ++ d ++ e ++ f
+regrouped a b d e f =
+    sym (append_assoc a b (d ++ (e ++ f))) ∙ (sym (append_assoc (a ++ b) d (e ++ f)) ∙ sym (append_assoc (a ++ b ++ d) e f))
+
 -- ---- what calls owe
 
 module _ (missing : ℕ) (ts : List Tabled) where
@@ -111,7 +115,10 @@ module _ (missing : ℕ) (ts : List Tabled) where
       ∙ (ap (λ z. z ++ (promises r ++ owes)) (body_so s i at h.0.sight n.body)
       ∙ (ap (λ z. c.body_properties (numbering_of i at) n.body ++ (promises r ++ z))
       (owed_within_so d t i at s (behind_own Plain t 0) is h.1)
-      ∙ ap (λ z. c.body_properties (numbering_of i at) n.body ++ z) (promised i is)))))
+      ∙ (ap (λ z. c.body_properties (numbering_of i at) n.body ++ z) (promised i is)
+      ∙ regrouped (c.body_properties (numbering_of i at) n.body) (map (λ f. f at) (conditions_of i).guarantees)
+      (flat_map (λ m. map (λ f. f at) m.ensures_each) (conditions_of i).modes) (c.one_mode (conditions_of i).modes at)
+      (c.owed_by_calls (numbering_of i at) is))))))
     where
       promised : (i : Instance) (is : Instances) → promises (conditions_at at (conditions_of i)) ++ c.owed_by_calls (numbering_of i at) is
           ≡ map (λ f. f at) (conditions_of i).guarantees
