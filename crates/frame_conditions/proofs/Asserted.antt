@@ -1,5 +1,5 @@
 -- What frames assert by tables is what the instances assert.
-use Rattle.std.proofs.Common.{◌≡◌, ℕ, zero, suc, List, [], ◌∷◌, ◌++◌, map, Some, refl, ap, ◌∙◌}
+use Rattle.std.proofs.Common.{◌≡◌, ℕ, zero, suc, List, [], ◌∷◌, ◌++◌, Some, refl, ap, ◌∙◌}
 use Rattle.std.specs.Prelude.{slice_get}
 use Rattle.lus_tree.specs.Tree.{Expression}
 use Rattle.lus_meaning.specs.Property.{assertions}

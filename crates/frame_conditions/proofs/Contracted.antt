@@ -1,5 +1,5 @@
 -- The conditions of a contract by the sight of a frame are those of the instance.
-use Rattle.std.proofs.Common.{◌≡◌, ℕ, zero, suc, pred, ◌+◌, ◌≤◌, cond, List, [], ◌∷◌, ◌++◌, map, flat_map, append_assoc, None, unwrap_or, refl, sym, ap, ◌∙◌, subst, arith, slice_index_or}
+use Rattle.std.proofs.Common.{◌≡◌, ℕ, zero, suc, pred, ◌+◌, ◌≤◌, cond, List, [], ◌∷◌, ◌++◌, map, append_assoc, None, unwrap_or, refl, sym, ap, ◌∙◌, subst, arith, slice_index_or}
 use Rattle.std.specs.Prelude.{slice_get}
 use Rattle.std.specs.List.{AllByRecursion}
 use Rattle.std.proofs.lemmas.Bool.{le-leb}

@@ -2,7 +2,7 @@
 use Rattle.std.proofs.Common.{◌≡◌, ℕ, zero, suc, List, [], ◌∷◌, ◌++◌, map, flat_map, append_assoc, Option, Some, refl, sym, ap, ◌∙◌, subst}
 use Rattle.std.specs.Prelude.{slice_get}
 use Rattle.lus_tree.specs.Tree.{Statement, property, equation, assertion, main_mark}
-use Rattle.lus_meaning.specs.Scene.{Manner, plain, while_true, as_import, Site, Instance, Instances, instance, no_instances, with_instance, component_of}
+use Rattle.lus_meaning.specs.Scene.{Manner, plain, while_true, as_import, Site, Instance, Instances, instance, no_instances, with_instance}
 use Rattle.lus_limits.specs.Calls.{way_of}
 use Rattle.lus_limits.specs.declared.calls.Way.{Way}
 use Rattle.lus_limits.specs.declared.calls.Way.TheVariants.{Plain}
@@ -22,13 +22,13 @@ use Rattle.slot_sources.specs.Sources.{numbering_of}
 use Rattle.condition_laws.specs.Conditions.{assumed, conditions_of, properties_in, some_resolved}
 use Rattle.condition_laws.specs.Conditions as c
 use Rattle.frame_sources.specs.Laws.{modes_at}
-use Rattle.frame_sources.specs.Resolved.{Asked, resolved_by}
+use Rattle.frame_sources.specs.Resolved.{Asked}
 use Rattle.frame_sources.proofs.Contracted.{twice}
 use Rattle.frame_sources.proofs.FrameModes.{modes_so}
 use Rattle.frame_sources.proofs.Sights.{resolved_as}
 use Rattle.frame_conditions.specs.Conditioned.{Conditions, one_mode, owed, promises, properties_by}
 use Rattle.frame_conditions.specs.Laws.{conditions_at, mode_at}
-use Rattle.frame_conditions.specs.Walked.{ConditionsOf, conditions_or_none, conditions_within, owed_by, owed_by_calls, owed_within, properties_over, properties_within}
+use Rattle.frame_conditions.specs.Walked.{conditions_or_none, conditions_within, owed_by, owed_by_calls, owed_within, properties_over, properties_within}
 use Rattle.frame_conditions.proofs.FrameConditions.{conditions_so}
 
 -- ---- the body

@@ -1,6 +1,6 @@
 //! The conditions of a contract, statement by statement.
 
-ghost use Rattle.std.specs.Prelude.{◌≡◌, ◌++◌, ◌∷◌, [], IfOk, OnOk, map};
+ghost use Rattle.std.specs.Prelude.{◌≡◌, ◌++◌, IfOk, OnOk, map};
 ghost use Rattle.lus_tree.specs.View.{contract_item_view, named_view, word_view};
 ghost use Rattle.slot_values.specs.Resolution.{resolved_view};
 ghost use Rattle.sys_texts.specs.Views.{sight_view};
