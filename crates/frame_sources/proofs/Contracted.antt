@@ -21,15 +21,15 @@ use Rattle.frame_sources.specs.Modes.{contract_modes, imported_at, imported_mode
 use Rattle.frame_sources.specs.Laws.{IsNumbered, asked_at, called_from, modes_at}
 use Rattle.frame_sources.proofs.Sights.{resolved_as}
 
-twice : {A B C : Type 0} (f : B → C) (h : A → B) (xs : List A) → map f (map h xs) ≡ map (λ x. f (h x)) xs
+pub twice : {A B C : Type 0} (f : B → C) (h : A → B) (xs : List A) → map f (map h xs) ≡ map (λ x. f (h x)) xs
 twice f h [] = refl
 twice f h (x ∷ xs) = ap (λ l. f (h x) ∷ l) (twice f h xs)
 
-each_same : {A B : Type 0} (f h : A → B) → ((x : A) → f x ≡ h x) → (xs : List A) → map f xs ≡ map h xs
+pub each_same : {A B : Type 0} (f h : A → B) → ((x : A) → f x ≡ h x) → (xs : List A) → map f xs ≡ map h xs
 each_same f h e [] = refl
 each_same f h e (x ∷ xs) = ap (λ y. y ∷ map f xs) (e x) ∙ ap (λ l. h x ∷ l) (each_same f h e xs)
 
-longer_way : (c : Name) (ks : List Name) → way_through c (way_of ks) ≡ way_of (c ∷ ks)
+pub longer_way : (c : Name) (ks : List Name) → way_through c (way_of ks) ≡ way_of (c ∷ ks)
 longer_way c [] = refl
 longer_way c (d ∷ []) = refl
 longer_way c (d ∷ e ∷ ks) = refl

@@ -50,7 +50,11 @@ fn all_of(
 }
 
 /// A mode of the contract itself.
-fn own_mode<'a>(
+///
+/// # Errors
+///
+/// Want of memory.
+pub fn own_mode<'a>(
     alloc: Global,
     sight: &Sight<'_>,
     modes: &[Asked<'_>],
@@ -93,7 +97,11 @@ fn imported_mode<'a>(
 }
 
 /// The modes, and behind them those of an import.
-fn push_modes<'a>(
+///
+/// # Errors
+///
+/// Want of memory.
+pub fn push_modes<'a>(
     alloc: Global,
     modes: &mut Vec<Asked<'a>>,
     contract: &'a str,

@@ -7,8 +7,12 @@ use slot_values::Resolved;
 use std::alloc::{AllocError, Global};
 
 /// An equal expression.
+///
+/// # Errors
+///
+/// Want of memory.
 #[cycle(copied)]
-pub(crate) fn copied(alloc: Global, e: &Resolved) -> Result<Resolved, AllocError>
+pub fn copied(alloc: Global, e: &Resolved) -> Result<Resolved, AllocError>
     ensures { IfOk result (λ r. resolved_view r ≡ resolved_view e.now) }
 {
     match e {

@@ -21,23 +21,27 @@ use sys_texts::sight::Sight;
 
 /// The tables of a program's declarations, and the number that stands for what isn't there.
 #[derive(Clone, Copy)]
-pub(crate) struct Tables<'a, 's> {
-    pub(crate) alloc: Global,
-    pub(crate) all: &'s [Table<'a>],
-    pub(crate) missing: u32,
+pub struct Tables<'a, 's> {
+    pub alloc: Global,
+    pub all: &'s [Table<'a>],
+    pub missing: u32,
 }
 
 /// The table of that place.
 #[tactic(auto, using(sys_texts::proofs::Gotten::seen_at))]
-pub(crate) fn table_at<'a, 's>(all: &'s [Table<'a>], place: usize) -> Option<&'s Table<'a>>
+pub fn table_at<'a, 's>(all: &'s [Table<'a>], place: usize) -> Option<&'s Table<'a>>
     ensures { option_map (λ t. table_view t.now) result ≡ slice_get (tables_view all.now) place }
 {
     all.get(place)
 }
 
 /// The modes of a frame that is seen so, whose calls stand from there on, with calls nested no deeper than `depth`.
+///
+/// # Errors
+///
+/// Want of memory.
 #[cycle(modes)]
-pub(crate) fn modes_seen<'a>(
+pub fn modes_seen<'a>(
     tables: Tables<'a, '_>,
     depth: usize,
     table: &Table<'a>,

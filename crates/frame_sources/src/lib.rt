@@ -2,10 +2,10 @@
 #![tactic(auto)]
 
 pub mod contracts;
-mod copies;
+pub mod copies;
 pub mod frame;
 mod held;
-mod imports;
+pub mod imports;
 mod kept;
 pub mod laws;
 pub mod modes;
@@ -15,4 +15,4 @@ mod switches;
 mod walk;
 mod whole;
 
-pub use whole::sources;
+pub use whole::{missing_at, place_named, sources};

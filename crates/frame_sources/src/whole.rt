@@ -31,7 +31,7 @@ use sys_tables::table::Table;
 use sys_tables::tables::tables;
 
 /// The place of the first declaration of that name.
-fn place_named(all: &[Table<'_>], name: &str) -> usize
+pub fn place_named(all: &[Table<'_>], name: &str) -> usize
     ensures { result ≡ number_of (names_in (tables_view all.now)) name.now }
 {
     let mut place = 0;
@@ -45,7 +45,7 @@ fn place_named(all: &[Table<'_>], name: &str) -> usize
 }
 
 /// The number that stands for what isn't there: that behind the last slot.
-fn missing_at(sizes: &[SystemSize], place: usize) -> u32
+pub fn missing_at(sizes: &[SystemSize], place: usize) -> u32
     ensures { result ≡ missing_in (slice_get sizes.now place) }
 {
     match sizes.get(place) {

@@ -1,0 +1,5 @@
+pub mod Contracted
+pub mod FrameConditions
+pub mod Asserted
+pub mod Promised
+pub mod Exact

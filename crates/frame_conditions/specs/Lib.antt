@@ -1,0 +1,4 @@
+pub mod Conditioned
+pub mod Views
+pub mod Laws
+pub mod Walked
