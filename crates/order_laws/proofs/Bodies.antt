@@ -38,12 +38,12 @@ use Rattle.order_laws.specs.Own.{own_setting, own_modes_after, own_modes}
 use Rattle.order_laws.specs.Rows.{place_there}
 use Rattle.order_laws.proofs.ModeKeys.{keys_any}
 use Rattle.order_laws.proofs.Frames.{clock_there, base_there}
-use Rattle.order_laws.proofs.Placed.{Settled, OwnIn, EachPlaced, placed_both, all_in_self}
+use Rattle.order_laws.proofs.Placed.{Settled, OwnIn, EachLaid, Bodied, laid_both, body_below, all_in_self}
 use Rattle.order_laws.proofs.Laying.{Has, has_more}
 use Rattle.order_laws.proofs.Laid.{each_laid}
 use Rattle.order_laws.proofs.Items.{TextFits, SideFits, items_fit, sides_fit, assertions_fit}
 use Rattle.order_laws.proofs.Sites.{TextHeld, text_held, CallKnown, SiteKnown, all_sites_known}
-use Rattle.order_laws.proofs.Contracts.{Holds, import_numbers, AreLaid, laid_when, laid_found, ImportLaid, Below, AfterLaid, after}
+use Rattle.order_laws.proofs.Contracts.{Holds, import_numbers, AreLaid, laid_when, laid_found, ImportLaid, lowered, Below, AfterLaid, after}
 
 -- ---- lists
 
@@ -163,16 +163,16 @@ left_found x (e ∷ es) h = go (cases_Bool (named_in x e.names)) (left_found x e
 
 -- ---- a frame
 
-module _ (i : Instance) (f : Frame) (t : ℕ) where
+module _ (i : Instance) (f : Frame) (t : ℕ) (every : List Part) where
   -- what comes of the text of a frame
   pub record FrameLaid (w : List ℕ) (x : FrameText) (qs : ModeParts) : Type 0 where
-    pub own : ImportLaid i f t w x qs
-    pub asserted : (b : List Part) → Holds x.body b → EachPlaced i f t b x.asserted
+    pub own : ImportLaid i f t every w x qs
+    pub asserted : (b : List Part) → Holds x.body b → EachLaid i f t every w b x.asserted
 
   module _ (p : Program) (c : IsChecked p) (w : List ℕ) (calls : AreCalls i w) (sh : RowShows i f t w) (u : IsUnfolded p (place_there i f w))
       (d : Contains (components p) (component_of (place_there i f w))) (sub : Calls) (subo : ℕ → ModeParts)
-      (body : (k : ℕ) (b : List Part) → EachPlaced i f t b (sub k).body)
-      (below : (k : ℕ) → IsImport (place_there i f w) k → Below i f t p c w calls sh u d sub subo body k)
+      (bodies : (k : ℕ) → 0 < k → pred k < count_of (calls_of (place_there i f w)) → Bodied i f t every (w ++ k ∷ []) (sub k).body)
+      (below : (k : ℕ) → IsImport (place_there i f w) k → Below i f t every p c w calls sh u d sub subo bodies k)
       (keyed : map (λ q. q.0) (own_modes w (place_there i f w)) ≡ map (λ m. m.key) (terms (place_there i f w)).modes)
       (mine : own_modes w (place_there i f w)
       ≡ own_modes_after (place_there i f w) w subo [] (contract_statements (component_of (place_there i f w))))
@@ -200,23 +200,23 @@ module _ (i : Instance) (f : Frame) (t : ℕ) where
     g = setting j w sub k.modes
 
     abbrev Laid : List Part → List Part → Type 0
-    Laid b qs = EachPlaced i f t b qs
+    Laid b qs = EachLaid i f t every w b qs
 
     both_laid : (b qs rs : List Part) → Laid b qs → Laid (b ++ qs) rs → Laid b (qs ++ rs)
-    both_laid b qs rs a e = placed_both i f t b qs rs a e
+    both_laid b qs rs a e = laid_both i f t every w b qs rs a e
 
-    whole : AfterLaid i f t p c w calls sh u d sub subo body [] k (own_modes_after j w subo [] cs) cs []
-    whole = after i f t p c w calls sh u d sub subo body below [] [] [] [] cs (items_fit p c j u d) tt refl mine
+    whole : AfterLaid i f t every p c w calls sh u d sub subo bodies [] k (own_modes_after j w subo [] cs) cs []
+    whole = after i f t every p c w calls sh u d sub subo bodies below [] [] [] [] cs (items_fit p c j u d) tt refl mine
 
-    modes : AreLaid i f t w (Has sub ins) k.modes (own_modes w j)
-    modes = subst (AreLaid i f t w (Has sub ins) k.modes) (sym mine) whole.modes
+    modes : AreLaid i f t every w (Has sub ins) k.modes (own_modes w j)
+    modes = subst (AreLaid i f t every w (Has sub ins) k.modes) (sym mine) whole.modes
 
     known_key : (key : Key) → IsKnown j key → IsAmong (map (λ q. q.0) (own_modes w j)) key
     known_key key h = ap (λ l. list_any (mode_key key) l) keyed ∙ keys_any key (terms j).modes ∙ h
 
     abbrev FoundHere : Key → List NeededPlace → List Part → List ModeText → ModeParts → Type 0
     FoundHere key ns b ms qs =
-        EachPlaced i f t b (asked_in (setting j w sub ms) ns key)
+        EachLaid i f t every w b (asked_in (setting j w sub ms) ns key)
         × AllByRecursion (OwnIn i f t w b (asked_in (setting j w sub ms) ns key) ns)
         (asked_in (own_setting j w qs) ns key)
 
@@ -224,7 +224,7 @@ module _ (i : Instance) (f : Frame) (t : ℕ) where
     found key h ns b r =
         subst (λ ms. FoundHere key ns b ms (own_modes w j)) (append_none k.modes)
         (subst (λ qs. FoundHere key ns b (k.modes ++ []) qs) (append_none (own_modes w j))
-        (laid_found i f t w (Has sub ins) k.modes [] (own_modes w j) [] modes key (known_key key h) ns b r))
+        (laid_found i f t every w (Has sub ins) k.modes [] (own_modes w j) [] modes key (known_key key h) ns b r))
 
     abbrev ready : List Part → Type 0
     ready b = Has sub ins b
@@ -238,7 +238,7 @@ module _ (i : Instance) (f : Frame) (t : ℕ) where
     text_laid : (b : List Part) → ready b → (ns : List NeededPlace) (xs : List Name) (s : Standing) (e : Expression) → TextFits j s e → Shown s.clock →
         Gives xs → Laid b (parts g ns xs s.clock e)
     text_laid b r ns xs s e a o v =
-        each_laid p c i f t w calls sh u d sub k.modes (IsKnown j) ins body (λ key h ns z q. (found key h ns z q).0)
+        each_laid p c i f t every w calls sh u d sub k.modes (IsKnown j) ins bodies (λ key h ns z q. (found key h ns z q).0)
         (λ key h ns z q. (found key h ns z q).1) b r ns xs s e a.0 a.1 o v
 
     gives_none : Gives []
@@ -246,7 +246,7 @@ module _ (i : Instance) (f : Frame) (t : ℕ) where
 
     pub wholes_on : (s : Standing) → Shown s.clock → (ls : List Expression) → AllByRecursion (TextFits j s) ls → (b : List Part) → ready b →
         Laid b (wholes g s.clock ls)
-    wholes_on s o [] a b r = tt
+    wholes_on s o [] a b r = λ g hb hq. tt
     wholes_on s o (e ∷ ls) a b r =
         let one : List Part = whole_parts g [] s.clock e in
         both_laid b one (wholes g s.clock ls) (text_laid b r (needs_of g s.clock e) [] s e a.0 o gives_none)
@@ -270,7 +270,7 @@ module _ (i : Instance) (f : Frame) (t : ℕ) where
         text_laid b r (needs_of g (clock_of_side e) e.right) e.names (as_side (clock_of_side e)) e.right a.0 (clock_there i f t w sh (clock_of_side e) a.1) a.2
 
     each_side : (qs : List Equation) → AllByRecursion SideOk qs → (b : List Part) → ready b → Laid b (flat_map (equation_parts g) qs)
-    each_side [] a b r = tt
+    each_side [] a b r = λ g hb hq. tt
     each_side (e ∷ qs) a b r =
         let one : List Part = equation_parts g e in
         both_laid b one (flat_map (equation_parts g) qs) (one_side e a.0 b r) (each_side qs a.1 (b ++ one) (has_more sub ins b one r))
@@ -459,7 +459,7 @@ module _ (i : Instance) (f : Frame) (t : ℕ) where
       where
         go : (bd : List Part) (ct : ContractText) (qs : List Part) → ((b : List Part) → Laid b bd) → ((b : List Part) → Holds bd b → Laid b qs) →
             (is_evaluated n z z.manner ≡ true → Holds bd done) → Laid b (asserted_below g z record { body = bd; contract = ct; asserted = qs })
-        go bd ct [] l m e = tt
+        go bd ct [] l m e = λ g hb hq. tt
         go bd ct (q ∷ qs) l m e = by (is_evaluated n z z.manner) refl
           where
             before : List Part
@@ -476,7 +476,7 @@ module _ (i : Instance) (f : Frame) (t : ℕ) where
     module _ (child : (k : ℕ) → 0 < k → pred k < count_of (calls_of j) → FrameLaid (w ++ k ∷ []) (sub k) (subo k)) where
       pub each_asserted : (is : Instances) (ss : List Site) (q : ℕ) → CallsFit IsKnown j is q → AreUnfolded p ss is → AllByRecursion (SiteKnown j) ss →
           AllByRecursion ImportHeld ss → q + count_of is ≡ count_of (calls_of j) → (b : List Part) → Holds done b → Laid b (asserted_in_calls g sub is)
-      each_asserted no_instances ss q h v a m e b r = tt
+      each_asserted no_instances ss q h v a m e b r = λ g hb hq. tt
       each_asserted (with_instance z x is) [] q h v a m e b r = absurd v
       each_asserted (with_instance z x is) (s ∷ ss) q h v a m e b r =
           let known : SiteKnown j z = subst (SiteKnown j) (sym v.0) a.0 in
@@ -485,7 +485,9 @@ module _ (i : Instance) (f : Frame) (t : ℕ) where
           let laid : FrameLaid (w ++ z.number ∷ []) (sub z.number) (subo z.number) =
           subst (λ y. FrameLaid (w ++ y ∷ []) (sub y) (subo y)) counted (child (suc q) (omega arith) (omega (arith, e))) in
           both_laid b (asserted_below g z (sub z.number)) (asserted_in_calls g sub is)
-          (asserted_one z known h.0.clock held (sub z.number) laid.own.body laid.asserted (is_held z held z.manner refl) b r)
+          (asserted_one z known h.0.clock held (sub z.number)
+          (λ b. body_below i f t every w z.number b (sub z.number).body record { laid = laid.own.body; settled = laid.own.settled })
+          (λ b y. lowered i f t every w z.number b (sub z.number).asserted (laid.own.settled b y) (laid.asserted b y)) (is_held z held z.manner refl) b r)
           (each_asserted is ss (suc q) h.2 v.3 a.1 m.1 (omega (arith, e)) (b ++ asserted_below g z (sub z.number))
           (holds_more done b (asserted_below g z (sub z.number)) r))
 
@@ -495,7 +497,7 @@ module _ (i : Instance) (f : Frame) (t : ℕ) where
           own = record {
             body = first_laid;
             settled = settled;
-            modes = laid_when i f t w ready (Holds first) ready_after k.modes (own_modes w j) modes;
+            modes = laid_when i f t every w ready (Holds first) ready_after k.modes (own_modes w j) modes;
             assumed = λ b h. whole.assumed b (ready_after b h);
             guaranteed = λ b h. whole.guaranteed b (ready_after b h);
           };

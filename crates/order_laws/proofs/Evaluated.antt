@@ -94,15 +94,15 @@ module _ (i : Instance) where
     way_lowers s (q ∷ rest) w =
         let l : rank q.1 < rank s = lowers s q.1 q.0 w.0 in let m : rank (last_place q.1 rest) ≤ rank q.1 = way_lowers q.1 rest w.1 in omega (arith, l, m)
 
-    module _ (f : Frame) (t : ℕ) (ps : List Part) (laid : EachPlaced i f t [] ps) (whole : AllByRecursion (NeedsItsWhole i) ps) (ks : List ℕ)
+    module _ (f : Frame) (t : ℕ) (ps : List Part) (laid : EachPlaced i f t ps [] ps) (whole : AllByRecursion (NeedsItsWhole i) ps) (ks : List ℕ)
         (o : IsLeastOrder (length ps) (Waits i ps) ks) where
-      placed_from : (b xs : List Part) (m : ℕ) (q : Part) → EachPlaced i f t b xs → slice_get xs m ≡ Some q → Placed i f t (b ++ firsts m xs) q
+      placed_from : (b xs : List Part) (m : ℕ) (q : Part) → EachPlaced i f t ps b xs → slice_get xs m ≡ Some q → Placed i f t ps (b ++ firsts m xs) q
       placed_from b [] m q a e = absurd (none-some q e)
-      placed_from b (x ∷ xs) zero q a e = subst (λ z. Placed i f t z q) (sym (append_none b)) (subst (Placed i f t b) (same_Some x q e) a.0)
+      placed_from b (x ∷ xs) zero q a e = subst (λ z. Placed i f t ps z q) (sym (append_none b)) (subst (Placed i f t ps b) (same_Some x q e) a.0)
       placed_from b (x ∷ xs) (suc m) q a e =
-          subst (λ z. Placed i f t z q) (grouped b (x ∷ []) (firsts m xs)) (placed_from (b ++ x ∷ []) xs m q a.1 e)
+          subst (λ z. Placed i f t ps z q) (grouped b (x ∷ []) (firsts m xs)) (placed_from (b ++ x ∷ []) xs m q a.1 e)
 
-      pub placed_at : (m : ℕ) (q : Part) → slice_get ps m ≡ Some q → Placed i f t (firsts m ps) q
+      pub placed_at : (m : ℕ) (q : Part) → slice_get ps m ≡ Some q → Placed i f t ps (firsts m ps) q
       placed_at m q e = placed_from [] ps m q laid e
 
       -- ---- before one part

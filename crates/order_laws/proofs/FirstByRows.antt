@@ -42,7 +42,7 @@ use Rattle.order_laws.specs.Rows.{standpoint_there}
 use Rattle.order_laws.proofs.Lists.{grouped}
 use Rattle.order_laws.proofs.Frames.{stands_there}
 use Rattle.order_laws.proofs.OwnPast.{modes_within}
-use Rattle.order_laws.proofs.Placed.{OwnIn, Placed, EachPlaced}
+use Rattle.order_laws.proofs.Placed.{OwnIn, Placed, EachPlaced, within_itself}
 use Rattle.order_laws.proofs.Bodies.{in_all, picked_in}
 use Rattle.order_laws.proofs.Top.{instant_laid}
 use Rattle.order_laws.proofs.Evaluated.{firsts, placed_at, operand_listed}
@@ -121,16 +121,17 @@ module _ (p : Program) (c : IsChecked p) (n : Component) (j : Contains (componen
     shown : (w : List ℕ) → AreCalls i w → RowShows i f t w
     shown w a = rows_show p c n j m f run t l w a
 
-    laid : EachPlaced i f t [] ps
+    laid : EachPlaced i f t ps [] ps
     laid =
-        instant_laid p c i f t shown ev.orders ev.least
+        instant_laid p c i f t ps shown ev.orders ev.least
         record { stands = stands_there i f [] tt (each_is_well_typed p c n j).0.tree; unfolded = unfolded; declared = declared }
+        (within_itself i f t [] ps) (λ r m. absurd m) (λ r m. m)
 
     module _ (front : List Part) (q : Part) (rest : List Part) (e : qs ≡ front ++ q ∷ rest) where
       at : Numbered ps ev.numbers front q
       at = numbered ps ev.numbers ev.turn.order.below front q rest (sym ev.parts ∙ e)
 
-      here : Placed i f t (firsts at.number ps) q
+      here : Placed i f t ps (firsts at.number ps) q
       here = placed_at i (rank_here i) (rank_lowers i (no_circle p c i unfolded declared)) f t ps laid whole ev.numbers ev.turn at.number q at.there
 
       in_front : (r : Part) → OwnIn i f t q.way (firsts at.number ps) (firsts at.number ps) q.needs r → IsIn r front
