@@ -36,6 +36,7 @@ use Rattle.evaluation_laws.specs.Rows.{AreCalls, row_at, scene_there, numbers_th
 use Rattle.evaluation_laws.proofs.Waiting.{in_any, both}
 use Rattle.order_laws.specs.Own.{own_setting, own_modes_after, own_modes}
 use Rattle.order_laws.specs.Rows.{place_there}
+use Rattle.order_laws.specs.Needed.{IsSide}
 use Rattle.order_laws.proofs.ModeKeys.{keys_any}
 use Rattle.order_laws.proofs.Frames.{clock_there, base_there}
 use Rattle.order_laws.proofs.Placed.{Settled, OwnIn, EachLaid, Bodied, laid_both, body_below, all_in_self}
@@ -139,7 +140,7 @@ root_in g ns xs c (mode_name p d m) = at_end (asked_in g ns (key_of (option_map 
 abbrev names_of : List Equation → List Name
 names_of es = flat_map (λ e. e.names) es
 
-each_given : (es : List Equation) → AllByRecursion (λ e. (x : Name) → named_in x e.names ≡ true → named_in x (names_of es) ≡ true) es
+pub each_given : (es : List Equation) → AllByRecursion (λ e. (x : Name) → named_in x e.names ≡ true → named_in x (names_of es) ≡ true) es
 each_given [] = tt
 each_given (e ∷ es) = (
   (λ x h. list_any-append _ e.names (names_of es) ∙ or_left (named_in x e.names) (named_in x (names_of es)) h),
@@ -232,16 +233,16 @@ module _ (i : Instance) (f : Frame) (t : ℕ) (every : List Part) where
     abbrev Shown : Clock → Type 0
     Shown z = clock_on (row_by (numbers_there i w) (row_at i f t)) z ≡ is_on (scene_there i f w) z t
 
-    abbrev Gives : List Name → Type 0
-    Gives xs = (x : Name) → named_in x xs ≡ true → named_in x (left_names n) ≡ true
+    abbrev Gives : List Name → Clock → Expression → Type 0
+    Gives xs z e = (x : Name) → named_in x xs ≡ true → IsSide j xs z e
 
     text_laid : (b : List Part) → ready b → (ns : List NeededPlace) (xs : List Name) (s : Standing) (e : Expression) → TextFits j s e → Shown s.clock →
-        Gives xs → Laid b (parts g ns xs s.clock e)
+        Gives xs s.clock e → Laid b (parts g ns xs s.clock e)
     text_laid b r ns xs s e a o v =
         each_laid p c i f t every w calls sh u d sub k.modes (IsKnown j) ins bodies (λ key h ns z q. (found key h ns z q).0)
         (λ key h ns z q. (found key h ns z q).1) b r ns xs s e a.0 a.1 o v
 
-    gives_none : Gives []
+    gives_none : {z : Clock} {e : Expression} → Gives [] z e
     gives_none x h = absurd (false≢true h)
 
     pub wholes_on : (s : Standing) → Shown s.clock → (ls : List Expression) → AllByRecursion (TextFits j s) ls → (b : List Part) → ready b →
@@ -258,12 +259,14 @@ module _ (i : Instance) (f : Frame) (t : ℕ) (every : List Part) where
     clock_of_side e = clock_of_names n e.names
 
     abbrev SideOk : Equation → Type 0
-    SideOk e = SideFits j e × ClockFits j (IsKnown j) (clock_of_side e) × Gives e.names
+    SideOk e = SideFits j e × ClockFits j (IsKnown j) (clock_of_side e) × Gives e.names (clock_of_side e) e.right
 
     sides_ok : AllByRecursion SideOk es
     sides_ok =
-        all_from_three (SideFits j) (EquationFits j (IsKnown j)) (λ e. Gives e.names) SideOk (λ e a q v. (a, q.clock, v)) es (sides_fit p c j u d)
-        (own_fits p c j u d).equations (each_given es)
+        all_from_three (SideFits j) (EquationFits j (IsKnown j)) (λ e. Gives e.names (clock_of_side e) e.right) SideOk (λ e a q v. (a, q.clock, v)) es (sides_fit p c j u d)
+        (own_fits p c j u d).equations
+        (all_from (λ e. IsIn e es) (λ e. Gives e.names (clock_of_side e) e.right)
+        (λ e m x h. record { equation = e; there = at_slice es e m; names = refl; right = refl; clock = refl }) es (all_in_self es))
 
     one_side : (e : Equation) → SideOk e → (b : List Part) → ready b → Laid b (equation_parts g e)
     one_side e a b r =

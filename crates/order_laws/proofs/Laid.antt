@@ -8,7 +8,7 @@ use Rattle.lus_meaning.specs.Value.{is}
 use Rattle.lus_meaning.specs.Frame.{Frame}
 use Rattle.lus_meaning.specs.Scene.{Clock, base, sampled_by, Instance, component_of, calls_of, clock_of, Scene, is_on}
 use Rattle.lus_meaning.specs.Occurrences.{Standing, on_clock, within, before, moved}
-use Rattle.lus_meaning.specs.Depends.{named_in, left_names}
+use Rattle.lus_meaning.specs.Depends.{named_in}
 use Rattle.lus_meaning.specs.Cycle.{Place as NeededPlace}
 use Rattle.lus_meaning.specs.ClockFaults.{components}
 use Rattle.lus_meaning.specs.Refusals.{IsChecked}
@@ -27,6 +27,7 @@ use Rattle.slot_values.specs.Parts.{own_parts, operands}
 use Rattle.evaluation_laws.specs.Rows.{AreCalls, row_at, scene_there, numbers_there, RowShows}
 use Rattle.order_laws.specs.Own.{own_setting, own_modes}
 use Rattle.order_laws.specs.Rows.{place_there}
+use Rattle.order_laws.specs.Needed.{IsSide}
 use Rattle.order_laws.proofs.Frames.{base_there}
 use Rattle.order_laws.proofs.Placed.{Among, Settled, OwnIn, CalledIn, EachLaid, Bodied, laid_both, body_below, all_in_self, own_wider, own_later, own_two}
 use Rattle.order_laws.proofs.Laying.{Named, Has, has_more, own_in}
@@ -42,10 +43,10 @@ module _ (p : Program) (c : IsChecked p) (i : Instance) (f : Frame) (t : ℕ) (e
   abbrev Shown : Clock → Type 0
   Shown k = clock_on (row_by (numbers_there i w) (row_at i f t)) k ≡ is_on sc k t
 
-  abbrev Gives : List Name → Type 0
-  Gives xs = (x : Name) → named_in x xs ≡ true → named_in x (left_names (component_of j)) ≡ true
+  abbrev Gives : List Name → Clock → Expression → Type 0
+  Gives xs k e = (x : Name) → named_in x xs ≡ true → IsSide j xs k e
 
-  gives_none : Gives []
+  gives_none : {k : Clock} {e : Expression} → Gives [] k e
   gives_none x h = absurd (false≢true h)
 
   abbrev Knows : Standing → Expression → Type 0
@@ -73,7 +74,7 @@ module _ (p : Program) (c : IsChecked p) (i : Instance) (f : Frame) (t : ℕ) (e
     Own b ns qs os = AllByRecursion (OwnIn i f t w b qs ns) os
 
     -- a part behind these parts, which has its own operands among them
-    last : (b : List Part) (ns : List NeededPlace) (xs : List Name) (s : Standing) (e : Expression) → Knows s e → Shown s.clock → Gives xs →
+    last : (b : List Part) (ns : List NeededPlace) (xs : List Name) (s : Standing) (e : Expression) → Knows s e → Shown s.clock → Gives xs s.clock e →
         (front : List Part) → Laid b front → Own b ns front (operands h ns s.clock e) → CalledIn i f t w (b ++ front) e →
         Laid b (front ++ part g ns xs s.clock e ∷ [])
     last b ns xs s e k o v front a q z =
@@ -121,7 +122,7 @@ module _ (p : Program) (c : IsChecked p) (i : Instance) (f : Frame) (t : ℕ) (e
 
     mutual
       pub each_laid : (b : List Part) → Has sub ins b → (ns : List NeededPlace) (xs : List Name) (s : Standing) (e : Expression) → Knows s e → Names s e →
-          Shown s.clock → Gives xs → Laid b (parts g ns xs s.clock e)
+          Shown s.clock → Gives xs s.clock e → Laid b (parts g ns xs s.clock e)
       each_laid b r ns xs s (truth q a) k n o v = last b ns xs s (truth q a) k o v [] (nothing b) tt tt
       each_laid b r ns xs s (number q a) k n o v = last b ns xs s (number q a) k o v [] (nothing b) tt tt
       each_laid b r ns xs s (name q a) k n o v = last b ns xs s (name q a) k o v [] (nothing b) tt tt

@@ -16,3 +16,4 @@ pub mod Trees
 pub mod Top
 pub mod Evaluated
 pub mod FirstByRows
+pub mod Needed

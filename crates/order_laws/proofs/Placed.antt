@@ -18,6 +18,7 @@ use Rattle.slot_values.specs.Parts.{operands, setting_at}
 use Rattle.evaluation_laws.specs.Rows.{AreCalls, row_at, scene_there, numbers_there}
 use Rattle.evaluation_laws.proofs.Waiting.{both_true}
 use Rattle.order_laws.specs.Rows.{place_there, standpoint_there}
+use Rattle.order_laws.specs.Needed.{IsSide}
 use Rattle.order_laws.proofs.Lists.{grouped}
 
 pub all_in_self : {A : Type 0} (xs : List A) → AllByRecursion (λ x. IsIn x xs) xs
@@ -146,7 +147,7 @@ module _ (i : Instance) (f : Frame) (t : ℕ) where
       pub calls : AreCalls i q.way
       pub stands : Stands (place_there i f q.way) (IsKnown (place_there i f q.way)) q.clock q.expression
       pub clock : clock_on (row_by (numbers_there i q.way) (row_at i f t)) q.clock ≡ is_on (scene_there i f q.way) q.clock t
-      pub gives : (x : Name) → named_in x q.gives ≡ true → named_in x (left_names (component_of (place_there i f q.way))) ≡ true
+      pub gives : (x : Name) → named_in x q.gives ≡ true → IsSide (place_there i f q.way) q.gives q.clock q.expression
       pub operands : AllByRecursion (OwnIn q.way b b q.needs)
           (operands (setting_at (standpoint_there i f t q.way)) q.needs q.clock q.expression)
       pub called : CalledIn q.way b q.expression

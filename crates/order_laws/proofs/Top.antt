@@ -27,7 +27,7 @@ use Rattle.lus_evaluation.specs.Evaluation.{instance_on}
 use Rattle.evaluation_laws.specs.Rows.{AreCalls, RowShows}
 use Rattle.order_laws.specs.Own.{own_modes, own_modes_each}
 use Rattle.order_laws.proofs.Frames.{stands_called}
-use Rattle.order_laws.proofs.Placed.{EachLaid, laid_both, all_in_self}
+use Rattle.order_laws.proofs.Placed.{Settled, EachLaid, laid_both, all_in_self}
 use Rattle.order_laws.proofs.Items.{ItemFree, IsFree, items_free, constants_free, properties_fit}
 use Rattle.order_laws.proofs.Sites.{TextHeld, text_held}
 use Rattle.order_laws.proofs.Contracts.{Holds, AreLaid, lowered}
@@ -317,3 +317,9 @@ module _ (p : Program) (c : IsChecked p) (i : Instance) (f : Frame) (t : ℕ) (e
       (laid_both i f t every [] [] x.body (front ++ owed_in_calls sub (calls_of i)) (laid.own.body [])
       (laid_both i f t every [] x.body front (owed_in_calls sub (calls_of i)) front_laid
       (each_owed (calls_of i) (all_sites n) 0 fits (unfolded_calls p i s.unfolded) sites_held (omega arith) (x.body ++ front) (all_in_self rs))))
+
+  -- the equations of the declaration are among all
+  pub top_settled : Settled i f t [] (in_turn o i)
+  top_settled =
+      subst (λ y. Settled i f t [] (y.body ++ condition_parts sub y i)) (sym (text_same o i))
+      (laid.own.settled (x.body ++ condition_parts sub x i) (kept (condition_parts sub x i)))

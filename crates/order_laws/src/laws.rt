@@ -1,6 +1,7 @@
 //! The laws of what comes before a part.
 
 ghost use Rattle.order_laws.specs.Laws.{ComesFirst, OperandsComeBefore, PartsHaveOwnPast, FirstPastByRows};
+ghost use Rattle.order_laws.specs.Needed.{NeededNamesComeBefore};
 ghost use Rattle.order_laws.specs.Rows.{RowsHaveOwnPast};
 
 /// In a least order what stands before another part in turn comes before it, where all that it waits for the other one
@@ -27,4 +28,11 @@ pub fn first_past_by_rows()
 /// parts of what the modes require that it names, those of imports too.
 pub fn operands_come_before()
     ensures { OperandsComeBefore }
+{}
+
+/// In the evaluation of an instant of a run of such a declaration a name that a part needs at its instant, and that an
+/// equation gives, of the part's frame, of one on the way there or of the one that it calls: the right side of that
+/// equation comes before the part, with all its own parts.
+pub fn needed_names_come_before()
+    ensures { NeededNamesComeBefore }
 {}
