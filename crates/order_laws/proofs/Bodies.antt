@@ -40,7 +40,7 @@ use Rattle.order_laws.specs.Needed.{IsSide}
 use Rattle.order_laws.proofs.ModeKeys.{keys_any}
 use Rattle.order_laws.proofs.Frames.{clock_there, base_there}
 use Rattle.order_laws.proofs.Placed.{Settled, OwnIn, EachLaid, Bodied, laid_both, body_below, all_in_self}
-use Rattle.order_laws.proofs.Laying.{Has, has_more}
+use Rattle.order_laws.proofs.Laying.{Has, has_more, root_in}
 use Rattle.order_laws.proofs.Laid.{each_laid}
 use Rattle.order_laws.proofs.Items.{TextFits, SideFits, items_fit, sides_fit, assertions_fit}
 use Rattle.order_laws.proofs.Sites.{TextHeld, text_held, CallKnown, SiteKnown, all_sites_known}
@@ -114,28 +114,6 @@ pub has_within : (sub : Calls) (ins : List ℕ) (qs b : List Part) → Has sub i
 has_within sub ins qs b a h = all_from (λ k. Holds (sub k).body qs) (λ k. Holds (sub k).body b) (λ k m. holds_within (sub k).body qs b m h) ins a
 
 -- ---- equations
-
--- a part that is a whole gives the names
-at_end : (qs : List Part) (q : Part) → IsIn q (qs ++ q ∷ [])
-at_end qs q = in_right q qs (q ∷ []) (inl refl)
-
-root_in : (g : Setting) (ns : List NeededPlace) (xs : List Name) (c : Clock) (e : Expression) → IsIn (part g ns xs c e) (parts g ns xs c e)
-root_in g ns xs c (truth p b) = inl refl
-root_in g ns xs c (number p n) = inl refl
-root_in g ns xs c (name p x) = inl refl
-root_in g ns xs c (negation p a) = at_end (parts g ns [] c a) (part g ns xs c (negation p a))
-root_in g ns xs c (minus p a) = at_end (parts g ns [] c a) (part g ns xs c (minus p a))
-root_in g ns xs c (pre p k a) = at_end (parts g (needs_of g c a) [] c a) (part g ns xs c (pre p k a))
-root_in g ns xs c (arrow p k a b) = at_end (parts g ns [] c a ++ parts g ns [] c b) (part g ns xs c (arrow p k a b))
-root_in g ns xs c (binary p o a b) = at_end (parts g ns [] c a ++ parts g ns [] c b) (part g ns xs c (binary p o a b))
-root_in g ns xs c (choice p a b d) = at_end (parts g ns [] c a ++ parts g ns [] c b ++ parts g ns [] c d) (part g ns xs c (choice p a b d))
-root_in g ns xs c (sampled p a q x) = at_end (parts g ns [] (clock_of (component_of g.place) x.text) a) (part g ns xs c (sampled p a q x))
-root_in g ns xs c (merged p x a b) =
-    at_end (parts g ns [] (sampled_by true x.text) a ++ parts g ns [] (sampled_by false x.text) b) (part g ns xs c (merged p x a b))
-root_in g ns xs c (call p k f as_) = at_end (argument_parts g c as_ ++ g.body k) (part g ns xs c (call p k f as_))
-root_in g ns xs c (condact p k a f as_ ds) =
-    at_end (parts g ns [] c a ++ argument_parts g c as_ ++ g.body k ++ operand_parts g ns c ds) (part g ns xs c (condact p k a f as_ ds))
-root_in g ns xs c (mode_name p d m) = at_end (asked_in g ns (key_of (option_map text_of d) m.text)) (part g ns xs c (mode_name p d m))
 
 abbrev names_of : List Equation → List Name
 names_of es = flat_map (λ e. e.names) es

@@ -38,7 +38,7 @@ firsts zero xs = []
 firsts (suc k) [] = []
 firsts (suc k) (x ∷ xs) = x ∷ firsts k xs
 
-first_at : {A : Type 0} (k : ℕ) (xs : List A) (x : A) → IsIn x (firsts k xs) → (j : ℕ) × (j < k) × (slice_get xs j ≡ Some x)
+pub first_at : {A : Type 0} (k : ℕ) (xs : List A) (x : A) → IsIn x (firsts k xs) → (j : ℕ) × (j < k) × (slice_get xs j ≡ Some x)
 first_at zero xs x h = absurd h
 first_at (suc k) [] x h = absurd h
 first_at (suc k) (y ∷ xs) x (inl e) = (zero, omega arith, ap Some (sym e))

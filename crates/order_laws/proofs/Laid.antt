@@ -1,5 +1,5 @@
 -- Each part of an expression stands behind its own operands.
-use Rattle.std.proofs.Common.{◌≡◌, ℕ, pred, ◌<◌, true, false, Bool, List, [], ◌∷◌, ◌++◌, flat_map, option_map, ap}
+use Rattle.std.proofs.Common.{◌≡◌, ℕ, pred, ◌<◌, true, false, Bool, List, [], ◌∷◌, ◌++◌, flat_map, option_map, refl, ap}
 use Rattle.std.specs.Prelude.{Contains}
 use Rattle.std.specs.List.{AllByRecursion}
 use Rattle.std.proofs.lemmas.Bool.{false≢true}
@@ -30,7 +30,7 @@ use Rattle.order_laws.specs.Rows.{place_there}
 use Rattle.order_laws.specs.Needed.{IsSide}
 use Rattle.order_laws.proofs.Frames.{base_there}
 use Rattle.order_laws.proofs.Placed.{Among, Settled, OwnIn, CalledIn, EachLaid, Bodied, laid_both, body_below, all_in_self, own_wider, own_later, own_two}
-use Rattle.order_laws.proofs.Laying.{Named, Has, has_more, own_in}
+use Rattle.order_laws.proofs.Laying.{Named, Has, has_more, root_in, own_in}
 
 module _ (p : Program) (c : IsChecked p) (i : Instance) (f : Frame) (t : ℕ) (every : List Part) (w : List ℕ) (calls : AreCalls i w) (sh : RowShows i f t w)
     (u : IsUnfolded p (place_there i f w)) (d : Contains (components p) (component_of (place_there i f w))) where
@@ -75,7 +75,7 @@ module _ (p : Program) (c : IsChecked p) (i : Instance) (f : Frame) (t : ℕ) (e
 
     -- a part behind these parts, which has its own operands among them
     last : (b : List Part) (ns : List NeededPlace) (xs : List Name) (s : Standing) (e : Expression) → Knows s e → Shown s.clock → Gives xs s.clock e →
-        (front : List Part) → Laid b front → Own b ns front (operands h ns s.clock e) → CalledIn i f t w (b ++ front) e →
+        (front : List Part) → Laid b front → Own b ns front (operands h ns s.clock e) → CalledIn i f t w (b ++ front) s.clock e →
         Laid b (front ++ part g ns xs s.clock e ∷ [])
     last b ns xs s e k o v front a q z =
         laid_both i f t every w b front (part g ns xs s.clock e ∷ []) a (λ inside hb hq. (
@@ -134,7 +134,14 @@ module _ (p : Program) (c : IsChecked p) (i : Instance) (f : Frame) (t : ℕ) (e
           (ours b r ns (within s) a n.1) tt
       each_laid b r ns xs s (pre q l a) k n o v =
           last b ns xs s (pre q l a) k o v (parts g (needs_of g s.clock a) [] s.clock a)
-          (each_laid b r (needs_of g s.clock a) [] (before s) a k.1 n.1 o gives_none) tt tt
+          (each_laid b r (needs_of g s.clock a) [] (before s) a k.1 n.1 o gives_none) tt record {
+            part = part g (needs_of g s.clock a) [] s.clock a;
+            there = in_right (part g (needs_of g s.clock a) [] s.clock a) b (parts g (needs_of g s.clock a) [] s.clock a)
+                (root_in g (needs_of g s.clock a) [] s.clock a);
+            way = refl;
+            clock = refl;
+            expression = refl;
+          }
       each_laid b r ns xs s (arrow q l a e) k n o v =
           let one : List Part = parts g ns [] s.clock a in
           let other : List Part = parts g ns [] s.clock e in

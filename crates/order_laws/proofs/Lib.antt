@@ -17,3 +17,4 @@ pub mod Top
 pub mod Evaluated
 pub mod FirstByRows
 pub mod Needed
+pub mod NoneOutside

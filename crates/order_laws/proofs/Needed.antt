@@ -6,7 +6,7 @@ use Rattle.std.proofs.Math.Logic.{◌⊎◌, inl, inr}
 use Rattle.std.proofs.lemmas.Bool.{false≢true}
 use Rattle.lus_tree.specs.Tree.{Name, Expression, truth, number, name, negation, minus, pre, arrow, binary, choice, sampled, merged, call, condact, mode_name, Component, Program}
 use Rattle.lus_meaning.specs.Frame.{Frame}
-use Rattle.lus_meaning.specs.Scene.{Instance, component_of}
+use Rattle.lus_meaning.specs.Scene.{Clock, Instance, component_of}
 use Rattle.lus_meaning.specs.Depends.{named_in, left_names}
 use Rattle.lus_meaning.specs.Order.{is_listed}
 use Rattle.lus_meaning.specs.Program.{instance_of}
@@ -46,13 +46,13 @@ one_further qs rs r o = record {
 
 -- ---- the frame that is called
 
-module _ (i : Instance) (f : Frame) (t : ℕ) (w : List ℕ) (b : List Part) (v : List ℕ) where
+module _ (i : Instance) (f : Frame) (t : ℕ) (w : List ℕ) (b : List Part) (k : Clock) (v : List ℕ) where
   abbrev Number : Type 0
-  Number = (k : ℕ) × (v ≡ w ++ k ∷ []) × Settled i f t (w ++ k ∷ []) b
+  Number = (l : ℕ) × (v ≡ w ++ l ∷ []) × Settled i f t (w ++ l ∷ []) b
 
-  number_called : (e : Expression) → IsCalled w e v → CalledIn i f t w b e → Number
-  number_called (call p k n as_) h s = (k, h, s)
-  number_called (condact p k a n as_ ds) h s = (k, h, s)
+  number_called : (e : Expression) → IsCalled w e v → CalledIn i f t w b k e → Number
+  number_called (call p l n as_) h s = (l, h, s)
+  number_called (condact p l a n as_ ds) h s = (l, h, s)
   number_called (truth p a) h s = absurd h
   number_called (number p a) h s = absurd h
   number_called (name p a) h s = absurd h
@@ -104,7 +104,7 @@ module _ (p : Program) (c : IsChecked p) (n : Component) (j : Contains (componen
       (b.laid p c n j qs ev m f run t l) (b.whole p c n j qs ev m f run) ev.numbers ev.turn at.number q at.there at.before at.after at.split
       (suc (suc (length (all_places i)))) (rank_bound i) v x a (settled_here v a) h needed
   listed v x (inr a) h needed =
-      let k : Number i f t q.way (firsts at.number ps) v = number_called i f t q.way (firsts at.number ps) v q.expression a here.called in
+      let k : Number i f t q.way (firsts at.number ps) q.clock v = number_called i f t q.way (firsts at.number ps) q.clock v q.expression a here.called in
       subst (λ z. Listed z x) (sym k.1)
       (called_listed i (rank_here i) (rank_lowers i (no_circle p c i (b.unfolded p c n j qs ev m f run) (b.declared p c n j qs ev m f run))) f t ps
       (b.laid p c n j qs ev m f run t l) (b.whole p c n j qs ev m f run) ev.numbers ev.turn at.number q at.there at.before at.after at.split

@@ -3,9 +3,9 @@ use Rattle.std.proofs.Common.{◌≡◌, ℕ, true, eqb, List, [], ◌∷◌, �
 use Rattle.std.specs.List.{AllByRecursion}
 use Rattle.std.proofs.Math.Logic.{◌⊎◌, inl, inr}
 use Rattle.std.proofs.lemmas.Bool.{false≢true, eqb-true}
-use Rattle.lus_tree.specs.Tree.{Name, Expression, call, condact}
+use Rattle.lus_tree.specs.Tree.{Name, Expression, pre, call, condact}
 use Rattle.lus_meaning.specs.Frame.{Frame}
-use Rattle.lus_meaning.specs.Scene.{Instance, component_of, is_on}
+use Rattle.lus_meaning.specs.Scene.{Clock, Instance, component_of, is_on}
 use Rattle.lus_meaning.specs.Depends.{named_in, left_names}
 use Rattle.lus_meaning.specs.Cycle.{Place as NeededPlace}
 use Rattle.lus_meaning.proofs.BooleanOrder.{IsIn, in_left, in_right}
@@ -125,11 +125,20 @@ module _ (i : Instance) (f : Frame) (t : ℕ) where
       own_two w b qs (q ∷ []) os (q ∷ []) q.needs a
       (record { there = inl refl; needs = refl; within = subst (λ v. Within w b v) (sym e) (within_itself w b) }, tt)
 
-  -- where a part is a call, the frame that is called is settled
-  abbrev pub CalledIn : List ℕ → List Part → Expression → Type 0
-  CalledIn w b (call p k n as_) = Settled (w ++ k ∷ []) b
-  CalledIn w b (condact p k a n as_ ds) = Settled (w ++ k ∷ []) b
-  CalledIn w b _ = Unit {0}
+  -- an expression, at its place, is one of these parts
+  pub record PartIn (w : List ℕ) (b : List Part) (c : Clock) (a : Expression) : Type 0 where
+    pub part : Part
+    pub there : IsIn part b
+    pub way : part.way ≡ w
+    pub clock : part.clock ≡ c
+    pub expression : part.expression ≡ a
+
+  -- where a part is a call, the frame that is called is settled; where it is a `pre`, the operand is one of these parts
+  abbrev pub CalledIn : List ℕ → List Part → Clock → Expression → Type 0
+  CalledIn w b c (call p k n as_) = Settled (w ++ k ∷ []) b
+  CalledIn w b c (condact p k a n as_ ds) = Settled (w ++ k ∷ []) b
+  CalledIn w b c (pre p k a) = PartIn w b c a
+  CalledIn w b c _ = Unit {0}
 
   within_below : (w : List ℕ) (k : ℕ) (b : List Part) → Within [] b w → Settled (w ++ k ∷ []) b → Within [] b (w ++ k ∷ [])
   within_below w k b g s v a = go (above_further v w k a)
@@ -142,7 +151,7 @@ module _ (i : Instance) (f : Frame) (t : ℕ) where
 
   module _ (every : List Part) where
     -- A part that stands behind these ones: it has its types and its clock, and its own operands are among them; so are those of the frame that it calls,
-    -- if it is a call. The equations of each frame on its way are among all.
+    -- if it is a call, and the operand of a `pre`. The equations of each frame on its way are among all.
     pub record Placed (b : List Part) (q : Part) : Type 0 where
       pub calls : AreCalls i q.way
       pub stands : Stands (place_there i f q.way) (IsKnown (place_there i f q.way)) q.clock q.expression
@@ -150,7 +159,7 @@ module _ (i : Instance) (f : Frame) (t : ℕ) where
       pub gives : (x : Name) → named_in x q.gives ≡ true → IsSide (place_there i f q.way) q.gives q.clock q.expression
       pub operands : AllByRecursion (OwnIn q.way b b q.needs)
           (operands (setting_at (standpoint_there i f t q.way)) q.needs q.clock q.expression)
-      pub called : CalledIn q.way b q.expression
+      pub called : CalledIn q.way b q.clock q.expression
       pub inside : Within [] every q.way
 
     abbrev pub EachPlaced : List Part → List Part → Type 0

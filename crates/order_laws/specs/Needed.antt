@@ -1,13 +1,20 @@
 -- That what a part needs at its instant comes before it: the equations of the frames that it sees.
 use Rattle.std.specs.Prelude.{◌≡◌, ℕ, ◌<◌, true, List, [], ◌∷◌, ◌++◌, Some, slice_get, ◌⊎◌}
 use Rattle.std.specs.List.{AllByRecursion}
-use Rattle.lus_tree.specs.Tree.{Name, Expression, call, condact}
+use Rattle.lus_tree.specs.Tree.{Name, Expression, pre, call, condact}
 use Rattle.lus_meaning.specs.Frame.{Frame}
 use Rattle.lus_meaning.specs.Scene.{Clock, Instance, component_of, clock_of_names}
 use Rattle.lus_meaning.specs.Run.{Equation, equations}
 use Rattle.lus_meaning.specs.Depends.{named_in, left_names}
 use Rattle.lus_evaluation.specs.Part.{Part}
 use Rattle.lus_evaluation.specs.Evaluation.{is_above, gives_name, NeedsPlace, place_named}
+use Rattle.lus_evaluation.specs.Past.{NonePast}
+use Rattle.slot_values.specs.Resolution.{Resolution}
+use Rattle.slot_values.specs.Evaluated.{outside}
+use Rattle.slot_values.specs.Resolved.{right_resolutions}
+use Rattle.slot_values.specs.Clocked.{row_by, clock_on}
+use Rattle.slot_values.specs.FrameRow.{numbering}
+use Rattle.evaluation_laws.specs.Rows.{row_at, scene_there, numbers_there, modes_there, resolution_there}
 use Rattle.slot_values.specs.Parts.{operands, setting_at}
 use Rattle.order_laws.specs.Rows.{place_there, standpoint_there}
 use Rattle.order_laws.specs.Laws.{IsOneOf, OfEachEvaluation}
@@ -44,3 +51,30 @@ NeededNamesComeBefore =
     OfEachEvaluation (λ i m f qs. (t : ℕ) → t < m → (front : List Part) (q : Part) (rest : List Part) → qs ≡ front ++ q ∷ rest →
     (v : List ℕ) (x : Name) → Sees q v → named_in x (left_names (component_of (place_there i f v))) ≡ true →
     NeedsPlace i q.needs (place_named v x) → IsGiven i f t front v x)
+
+-- ---- what is outside in the row of the run
+
+-- no operation of a resolution is outside 128 bits, evaluated where a clock is on by the row
+abbrev pub NoneOutside : Instance → Frame → ℕ → List ℕ → Clock → Resolution → Type 0
+NoneOutside i f t w c r = outside (row_at i f t) (clock_on (row_by (numbers_there i w) (row_at i f t)) c) r ≡ []
+
+-- the resolutions of a right side in the frame at the end of a way of calls, one for each output of a call
+abbrev pub right_there : Instance → Frame → List ℕ → Expression → List Resolution
+right_there i f w e = right_resolutions (numbering (scene_there i f w) (numbers_there i w) (modes_there i f w)) e
+
+-- Where no part of a front of the evaluation is outside, the right sides that stand there have no operation outside in the row.
+abbrev pub GivenNamesAreWithin : Type 0
+GivenNamesAreWithin =
+    OfEachEvaluation (λ i m f qs. (t : ℕ) → t < m → (front rest : List Part) → qs ≡ front ++ rest → NonePast i f front t → (v : List ℕ) (x : Name) →
+    (g : IsGiven i f t front v x) → AllByRecursion (NoneOutside i f t v g.part.clock) (right_there i f v g.part.expression))
+
+-- of the operand of a `pre`
+abbrev pub OfOperand : (Expression → Type 0) → Expression → Type 0
+OfOperand P (pre p k a) = P a
+OfOperand P _ = Unit {0}
+
+-- Where no part is outside, what is remembered at each `pre` that is evaluated has no operation outside in the row.
+abbrev pub RememberedOperandsAreWithin : Type 0
+RememberedOperandsAreWithin =
+    OfEachEvaluation (λ i m f qs. (t : ℕ) → t < m → NonePast i f qs t → (front : List Part) (q : Part) (rest : List Part) → qs ≡ front ++ q ∷ rest →
+    OfOperand (λ a. NoneOutside i f t q.way q.clock (resolution_there i f q.way a)) q.expression)

@@ -1,7 +1,7 @@
 //! The laws of what comes before a part.
 
 ghost use Rattle.order_laws.specs.Laws.{ComesFirst, OperandsComeBefore, PartsHaveOwnPast, FirstPastByRows};
-ghost use Rattle.order_laws.specs.Needed.{NeededNamesComeBefore};
+ghost use Rattle.order_laws.specs.Needed.{NeededNamesComeBefore, GivenNamesAreWithin, RememberedOperandsAreWithin};
 ghost use Rattle.order_laws.specs.Rows.{RowsHaveOwnPast};
 
 /// In a least order what stands before another part in turn comes before it, where all that it waits for the other one
@@ -35,4 +35,11 @@ pub fn operands_come_before()
 /// equation comes before the part, with all its own parts.
 pub fn needed_names_come_before()
     ensures { NeededNamesComeBefore }
+{}
+
+/// In the row of such a run: where no part of a front of the evaluation is outside 128 bits, the right sides that stand
+/// in it have no operation outside; and where none of all parts is, the operand of each `pre` among them has none.
+pub fn evaluated_is_within()
+    ensures given { GivenNamesAreWithin }
+    ensures remembered { RememberedOperandsAreWithin }
 {}
