@@ -19,16 +19,17 @@ use Rattle.lus_meaning.proofs.BooleanOrder.{IsIn, at_some}
 use Rattle.lus_meaning.proofs.Lists.{append_none}
 use Rattle.clock_laws.proofs.Reaching.{at_in}
 use Rattle.sys_meaning.proofs.Shows.{same_ways}
-use Rattle.lus_evaluation.specs.Part.{Part}
+use Rattle.lus_evaluation.specs.Part.{Part, needs_of}
 use Rattle.lus_evaluation.proofs.Turns.{next_at}
 use Rattle.lus_evaluation.specs.Evaluation.{is_above, gives_name, NeedsPlace, place_named, Waits}
 use Rattle.evaluation_laws.proofs.Wholes.{NeedsItsWhole}
 use Rattle.evaluation_laws.proofs.Waiting.{both_true, both, Passing, first_passes}
+use Rattle.order_laws.specs.Own.{own_setting}
 use Rattle.order_laws.specs.Rows.{place_there}
 use Rattle.order_laws.specs.Needed.{IsSide, IsCalled, Sees}
 use Rattle.order_laws.proofs.Lists.{grouped}
 use Rattle.order_laws.proofs.Earlier.{listed_first}
-use Rattle.order_laws.proofs.Placed.{above_further, Giver, Settled, Within, OwnIn, Placed, EachPlaced}
+use Rattle.order_laws.proofs.Placed.{above_further, Giver, Settled, Within, within_itself, WholeIn, OwnIn, Placed, EachPlaced}
 use Rattle.order_laws.proofs.Bodies.{in_all, slice_in, slice_below, each_given}
 
 -- ---- those before a number
@@ -258,6 +259,22 @@ module _ (i : Instance) where
                     record { number = k.0; start = z; starts = k.1; rest = []; way = tt; last = refl }),
                 a.within,
                 (λ z h. bounded z),
+              )
+
+          -- so are wholes that stand before it in turn and need no more
+          pub whole_listed : (c : Clock) (a : Expression) → (r : WholeIn i f t q.way b c a) →
+              AllByRecursion (λ z. NeedsPlace i q.needs z) (needs_of (own_setting (place_there i f q.way) q.way []) c a) →
+              (m : ℕ) × (slice_get ps m ≡ Some r.part) × (is_listed before m ≡ true)
+          whole_listed c a r needed =
+              let h = first_at n ps r.part r.there in (
+                h.0,
+                h.2,
+                comes_early bound h.0 r.part h.1 h.2 (
+                  (λ z y. in_all (λ z. NeedsPlace i q.needs z) (needs_of (own_setting (place_there i f q.way) q.way []) c a) z needed
+                      (subst (λ ns. IsIn z ns) r.needs y)),
+                  subst (λ v. Within i f t q.way b v) (sym r.way) (within_itself i f t q.way b),
+                  (λ z y. bounded z),
+                ),
               )
 
           -- what this part waits for is listed before it

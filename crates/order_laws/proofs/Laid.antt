@@ -12,6 +12,7 @@ use Rattle.lus_meaning.specs.Depends.{named_in}
 use Rattle.lus_meaning.specs.Cycle.{Place as NeededPlace}
 use Rattle.lus_meaning.specs.ClockFaults.{components}
 use Rattle.lus_meaning.specs.Refusals.{IsChecked}
+use Rattle.lus_meaning.specs.Program.{listed}
 use Rattle.lus_meaning.proofs.BooleanOrder.{IsIn, in_left, in_right}
 use Rattle.lus_meaning.proofs.EachPart.{Each, EachAmong}
 use Rattle.lus_meaning.proofs.Lists.{all_from}
@@ -29,7 +30,7 @@ use Rattle.order_laws.specs.Own.{own_setting, own_modes}
 use Rattle.order_laws.specs.Rows.{place_there}
 use Rattle.order_laws.specs.Needed.{IsSide}
 use Rattle.order_laws.proofs.Frames.{base_there}
-use Rattle.order_laws.proofs.Placed.{Among, Settled, OwnIn, CalledIn, EachLaid, Bodied, laid_both, body_below, all_in_self, own_wider, own_later, own_two}
+use Rattle.order_laws.proofs.Placed.{Among, Settled, OwnIn, CalledIn, WholesIn, EachLaid, Bodied, laid_both, body_below, all_in_self, own_wider, own_later, own_two}
 use Rattle.order_laws.proofs.Laying.{Named, Has, has_more, root_in, own_in}
 
 module _ (p : Program) (c : IsChecked p) (i : Instance) (f : Frame) (t : ℕ) (every : List Part) (w : List ℕ) (calls : AreCalls i w) (sh : RowShows i f t w)
@@ -97,6 +98,23 @@ module _ (p : Program) (c : IsChecked p) (i : Instance) (f : Frame) (t : ℕ) (e
 
     abbrev Called : ℕ → Type 0
     Called k = Bodied i f t every (w ++ k ∷ []) (sub k).body
+
+    -- arguments are wholes
+    wholes_in : (k : Clock) (as_ : Expressions) (qs : List Part) → Among (argument_parts g k as_) qs → WholesIn i f t w qs k (listed as_)
+    wholes_in k no_more qs m = tt
+    wholes_in k (more a as_) qs m =
+        let one : List Part = parts g (needs_of g k a) [] k a in (
+          record {
+            part = part g (needs_of g k a) [] k a;
+            there = m (part g (needs_of g k a) [] k a) (in_left (part g (needs_of g k a) [] k a) one (argument_parts g k as_)
+                (root_in g (needs_of g k a) [] k a));
+            way = refl;
+            clock = refl;
+            expression = refl;
+            needs = refl;
+          },
+          wholes_in k as_ qs (λ y z. m y (in_right y one (argument_parts g k as_) z)),
+        )
 
     -- the frame that is called, where its parts stand among these
     settled_in : (k : ℕ) → Called k → (b qs : List Part) → Among (g.body k) qs → Settled i f t (w ++ k ∷ []) (b ++ qs)
@@ -188,8 +206,10 @@ module _ (p : Program) (c : IsChecked p) (i : Instance) (f : Frame) (t : ℕ) (e
           let st : Stands j (IsKnown j) s.clock (call q l z as_) = stand p c j u d s (call q l z as_) k in
           let bd : Called l = bodies l st.0.call.counted st.0.call.listed in
           last b ns xs s (call q l z as_) k o v (given ++ g.body l)
-          (both b given (g.body l) (each_argument b r (within s) as_ k.1 n.1 o) (body_below i f t every w l (b ++ given) (g.body l) bd)) tt
-          (settled_in l bd b (given ++ g.body l) (λ y m. in_right y given (g.body l) m))
+          (both b given (g.body l) (each_argument b r (within s) as_ k.1 n.1 o) (body_below i f t every w l (b ++ given) (g.body l) bd)) tt (
+            settled_in l bd b (given ++ g.body l) (λ y m. in_right y given (g.body l) m),
+            wholes_in s.clock as_ (b ++ (given ++ g.body l)) (λ y m. in_right y b (given ++ g.body l) (in_left y given (g.body l) m)),
+          )
       each_laid b r ns xs s (condact q l a z as_ ds) k n o v =
           let asked : List Part = parts g ns [] s.clock a in
           let given : List Part = argument_parts g s.clock as_ in
@@ -204,9 +224,12 @@ module _ (p : Program) (c : IsChecked p) (i : Instance) (f : Frame) (t : ℕ) (e
           (each_operand (b ++ (asked ++ given ++ g.body l)) (has_more sub ins b (asked ++ given ++ g.body l) r) ns (within s) ds k.3 n.3 o))
           (own_wider i f t w b asked (asked ++ given ++ g.body l ++ kept) (own_parts h ns [] s.clock a) ns
           (λ x m. in_left x (asked ++ given ++ g.body l) kept (in_left x (asked ++ given) (g.body l) (in_left x asked given m)))
-          (ours b r ns (within s) a n.1))
-          (settled_in l bd b (asked ++ given ++ g.body l ++ kept)
-          (λ y m. in_left y (asked ++ given ++ g.body l) kept (in_right y (asked ++ given) (g.body l) m)))
+          (ours b r ns (within s) a n.1)) (
+            settled_in l bd b (asked ++ given ++ g.body l ++ kept)
+                (λ y m. in_left y (asked ++ given ++ g.body l) kept (in_right y (asked ++ given) (g.body l) m)),
+            wholes_in s.clock as_ (b ++ (asked ++ given ++ g.body l ++ kept)) (λ y m. in_right y b (asked ++ given ++ g.body l ++ kept)
+                (in_left y (asked ++ given ++ g.body l) kept (in_left y (asked ++ given) (g.body l) (in_right y asked given m)))),
+          )
       each_laid b r ns xs s (mode_name q x m) k n o v =
           last b ns xs s (mode_name q x m) k o v (asked_in g ns (key_of (option_map text_of x) m.text))
           (modes (key_of (option_map text_of x) m.text) n ns b r) (asks (key_of (option_map text_of x) m.text) n ns b r) tt

@@ -9,7 +9,7 @@ use Rattle.lus_meaning.specs.Frame.{Frame}
 use Rattle.lus_meaning.specs.Scene.{Clock, Instance, component_of}
 use Rattle.lus_meaning.specs.Depends.{named_in, left_names}
 use Rattle.lus_meaning.specs.Order.{is_listed}
-use Rattle.lus_meaning.specs.Program.{instance_of}
+use Rattle.lus_meaning.specs.Program.{listed as listed_expressions, instance_of}
 use Rattle.lus_meaning.specs.Run.{IsRun}
 use Rattle.lus_meaning.specs.Trace.{same_numbers}
 use Rattle.lus_meaning.specs.Verdict.{throughout}
@@ -21,18 +21,19 @@ use Rattle.clock_laws.proofs.AllPlaces.{all_places}
 use Rattle.clock_laws.proofs.Circles.{no_circle}
 use Rattle.clock_laws.proofs.Ranks.{rank_here, rank_lowers, rank_bound}
 use Rattle.sys_meaning.proofs.Shows.{same_ways}
-use Rattle.lus_evaluation.specs.Part.{Part}
+use Rattle.lus_evaluation.specs.Part.{Part, needs_of}
 use Rattle.lus_evaluation.specs.Evaluation.{is_above, gives_name, NeedsPlace, place_named, IsEvaluation}
 use Rattle.lus_evaluation.specs.Turn.{in_turn}
 use Rattle.slot_values.specs.Parts.{operands, setting_at}
 use Rattle.evaluation_laws.proofs.Waiting.{both_true}
 use Rattle.order_laws.specs.Laws.{IsOneOf}
-use Rattle.order_laws.specs.Needed.{IsSide, IsCalled, Sees, IsGiven, NeededNamesComeBefore}
+use Rattle.order_laws.specs.Own.{own_setting}
+use Rattle.order_laws.specs.Needed.{IsSide, IsCalled, Sees, IsGiven, arguments_of, IsEvaluatedIn, NeededNamesComeBefore, NeededArgumentsComeBefore}
 use Rattle.order_laws.specs.Rows.{place_there, standpoint_there}
 use Rattle.order_laws.proofs.Lists.{grouped}
-use Rattle.order_laws.proofs.Placed.{Settled, CalledIn, Placed}
+use Rattle.order_laws.proofs.Placed.{Settled, CalledIn, WholeIn, WholesIn, Placed}
 use Rattle.order_laws.proofs.Bodies.{picked_in}
-use Rattle.order_laws.proofs.Evaluated.{firsts, above_listed, called_listed}
+use Rattle.order_laws.proofs.Evaluated.{firsts, whole_listed, above_listed, called_listed}
 use Rattle.order_laws.proofs.FirstByRows as b
 
 -- ---- lists
@@ -51,8 +52,8 @@ module _ (i : Instance) (f : Frame) (t : ℕ) (w : List ℕ) (b : List Part) (k 
   Number = (l : ℕ) × (v ≡ w ++ l ∷ []) × Settled i f t (w ++ l ∷ []) b
 
   number_called : (e : Expression) → IsCalled w e v → CalledIn i f t w b k e → Number
-  number_called (call p l n as_) h s = (l, h, s)
-  number_called (condact p l a n as_ ds) h s = (l, h, s)
+  number_called (call p l n as_) h s = (l, h, s.0)
+  number_called (condact p l a n as_ ds) h s = (l, h, s.0)
   number_called (truth p a) h s = absurd h
   number_called (number p a) h s = absurd h
   number_called (name p a) h s = absurd h
@@ -112,8 +113,17 @@ module _ (p : Program) (c : IsChecked p) (n : Component) (j : Contains (componen
       (subst (λ z. named_in x (left_names (component_of (place_there i f z))) ≡ true) k.1 h)
       (subst (λ z. NeedsPlace i q.needs (place_named z x)) k.1 needed))
 
+  own_there : (y : Part) → IsOneOf front y →
+      AllByRecursion (IsOneOf front) (operands (setting_at (standpoint_there i f t y.way)) y.needs y.clock y.expression)
+  own_there y o =
+      all_from (IsOneOf o.before) (IsOneOf front)
+      (λ r z. subst (λ zs. IsOneOf zs r) (sym o.split) (one_further o.before (y ∷ o.after) r z))
+      (operands (setting_at (standpoint_there i f t y.way)) y.needs y.clock y.expression)
+      (b.operands_before p c n j qs ev m f run t l o.before y (o.after ++ q ∷ rest)
+      (e ∙ ap (λ z. z ++ q ∷ rest) o.split ∙ grouped o.before (y ∷ o.after) (q ∷ rest)))
+
   given_by : (v : List ℕ) (x : Name) (y : Part) → gives_name v x y ≡ true → IsOneOf front y → IsGiven i f t front v x
-  given_by v x y g o = record { part = y; there = o; gives = g; side = side; own = own }
+  given_by v x y g o = record { part = y; there = o; gives = g; side = side; own = own_there y o }
     where
       behind : qs ≡ o.before ++ y ∷ (o.after ++ q ∷ rest)
       behind = e ∙ ap (λ z. z ++ q ∷ rest) o.split ∙ grouped o.before (y ∷ o.after) (q ∷ rest)
@@ -126,12 +136,44 @@ module _ (p : Program) (c : IsChecked p) (n : Component) (j : Contains (componen
           subst (λ z. IsSide (place_there i f z) y.gives y.clock y.expression) (sym (same_ways v y.way named.0))
           ((b.here p c n j qs ev m f run t l o.before y (o.after ++ q ∷ rest) behind).gives x named.1)
 
-      own : AllByRecursion (IsOneOf front) (operands (setting_at (standpoint_there i f t y.way)) y.needs y.clock y.expression)
-      own =
-          all_from (IsOneOf o.before) (IsOneOf front)
-          (λ r z. subst (λ zs. IsOneOf zs r) (sym o.split) (one_further o.before (y ∷ o.after) r z))
-          (operands (setting_at (standpoint_there i f t y.way)) y.needs y.clock y.expression)
-          (b.operands_before p c n j qs ev m f run t l o.before y (o.after ++ q ∷ rest) behind)
+  -- ---- arguments
+
+  argument_in : (a : Expression) → WholeIn i f t q.way (firsts at.number ps) q.clock a →
+      AllByRecursion (λ z. NeedsPlace i q.needs z) (needs_of (own_setting (place_there i f q.way) q.way []) q.clock a) →
+      IsEvaluatedIn i f t front q.way q.clock a
+  argument_in a r needed =
+      let y = whole_listed i (rank_here i) (rank_lowers i (no_circle p c i (b.unfolded p c n j qs ev m f run) (b.declared p c n j qs ev m f run))) f t ps
+      (b.laid p c n j qs ev m f run t l) (b.whole p c n j qs ev m f run) ev.numbers ev.turn at.number q at.there at.before at.after at.split
+      (suc (suc (length (all_places i)))) (rank_bound i) q.clock a r needed in
+      let o : IsOneOf front r.part = b.one_of front r.part (subst (λ z. IsIn r.part z) at.fronts (picked_in at.before ps y.0 r.part y.1 y.2)) in
+      record { part = r.part; there = o; way = r.way; clock = r.clock; expression = r.expression; own = own_there r.part o }
+
+  abbrev Comes : Expression → Type 0
+  Comes a =
+      AllByRecursion (λ z. NeedsPlace i q.needs z) (needs_of (own_setting (place_there i f q.way) q.way []) q.clock a) →
+      IsEvaluatedIn i f t front q.way q.clock a
+
+  all_in : (as_ : List Expression) → WholesIn i f t q.way (firsts at.number ps) q.clock as_ → AllByRecursion Comes as_
+  all_in as_ h = all_from (WholeIn i f t q.way (firsts at.number ps) q.clock) Comes (λ a r needed. argument_in a r needed) as_ h
+
+  by_form : (x : Expression) → CalledIn i f t q.way (firsts at.number ps) q.clock x → AllByRecursion Comes (arguments_of x)
+  by_form (call g k z as_) h = all_in (listed_expressions as_) h.1
+  by_form (condact g k a z as_ ds) h = all_in (listed_expressions as_) h.1
+  by_form (truth g a) h = tt
+  by_form (number g a) h = tt
+  by_form (name g a) h = tt
+  by_form (negation g a) h = tt
+  by_form (minus g a) h = tt
+  by_form (pre g k a) h = tt
+  by_form (arrow g k a d) h = tt
+  by_form (binary g o a d) h = tt
+  by_form (choice g a d z) h = tt
+  by_form (sampled g a k x) h = tt
+  by_form (merged g x a d) h = tt
+  by_form (mode_name g d x) h = tt
+
+  pub arguments_in : AllByRecursion Comes (arguments_of q.expression)
+  arguments_in = by_form q.expression here.called
 
   pub given : (v : List ℕ) (x : Name) → Sees q v → named_in x (left_names (component_of (place_there i f v))) ≡ true →
       NeedsPlace i q.needs (place_named v x) → IsGiven i f t front v x
@@ -141,3 +183,6 @@ module _ (p : Program) (c : IsChecked p) (n : Component) (j : Contains (componen
 
 pub needed_names_come_before : NeededNamesComeBefore
 needed_names_come_before p c n j qs ev m f run t l front q rest e v x s h needed = given p c n j qs ev m f run t l front q rest e v x s h needed
+
+pub needed_arguments_come_before : NeededArgumentsComeBefore
+needed_arguments_come_before p c n j qs ev m f run t l front q rest e = arguments_in p c n j qs ev m f run t l front q rest e

@@ -11,12 +11,14 @@ use Rattle.lus_meaning.specs.Cycle.{Place as NeededPlace}
 use Rattle.lus_meaning.proofs.BooleanOrder.{IsIn, in_left, in_right}
 use Rattle.lus_meaning.proofs.Lists.{append_none, all_from, both_parts}
 use Rattle.sys_meaning.specs.WellTyped.{IsKnown, Stands}
-use Rattle.lus_evaluation.specs.Part.{Part}
+use Rattle.lus_meaning.specs.Program.{listed}
+use Rattle.lus_evaluation.specs.Part.{Part, needs_of}
 use Rattle.lus_evaluation.specs.Evaluation.{is_above, gives_name}
 use Rattle.slot_values.specs.Clocked.{row_by, clock_on}
 use Rattle.slot_values.specs.Parts.{operands, setting_at}
 use Rattle.evaluation_laws.specs.Rows.{AreCalls, row_at, scene_there, numbers_there}
 use Rattle.evaluation_laws.proofs.Waiting.{both_true}
+use Rattle.order_laws.specs.Own.{own_setting}
 use Rattle.order_laws.specs.Rows.{place_there, standpoint_there}
 use Rattle.order_laws.specs.Needed.{IsSide}
 use Rattle.order_laws.proofs.Lists.{grouped}
@@ -133,10 +135,22 @@ module _ (i : Instance) (f : Frame) (t : ℕ) where
     pub clock : part.clock ≡ c
     pub expression : part.expression ≡ a
 
-  -- where a part is a call, the frame that is called is settled; where it is a `pre`, the operand is one of these parts
+  -- an expression that is a whole, at its place, is one of these parts
+  pub record WholeIn (w : List ℕ) (b : List Part) (c : Clock) (a : Expression) : Type 0 where
+    pub part : Part
+    pub there : IsIn part b
+    pub way : part.way ≡ w
+    pub clock : part.clock ≡ c
+    pub expression : part.expression ≡ a
+    pub needs : part.needs ≡ needs_of (own_setting (place_there i f w) w []) c a
+
+  abbrev pub WholesIn : List ℕ → List Part → Clock → List Expression → Type 0
+  WholesIn w b c as_ = AllByRecursion (WholeIn w b c) as_
+
+  -- where a part is a call, the arguments are wholes among these parts, and the frame that is called is settled; where it is a `pre`, the operand is one of these parts
   abbrev pub CalledIn : List ℕ → List Part → Clock → Expression → Type 0
-  CalledIn w b c (call p k n as_) = Settled (w ++ k ∷ []) b
-  CalledIn w b c (condact p k a n as_ ds) = Settled (w ++ k ∷ []) b
+  CalledIn w b c (call p k n as_) = Settled (w ++ k ∷ []) b × WholesIn w b c (listed as_)
+  CalledIn w b c (condact p k a n as_ ds) = Settled (w ++ k ∷ []) b × WholesIn w b c (listed as_)
   CalledIn w b c (pre p k a) = PartIn w b c a
   CalledIn w b c _ = Unit {0}
 

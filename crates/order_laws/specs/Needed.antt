@@ -6,7 +6,8 @@ use Rattle.lus_meaning.specs.Frame.{Frame}
 use Rattle.lus_meaning.specs.Scene.{Clock, Instance, component_of, clock_of_names}
 use Rattle.lus_meaning.specs.Run.{Equation, equations}
 use Rattle.lus_meaning.specs.Depends.{named_in, left_names}
-use Rattle.lus_evaluation.specs.Part.{Part}
+use Rattle.lus_meaning.specs.Program.{listed}
+use Rattle.lus_evaluation.specs.Part.{Part, needs_of}
 use Rattle.lus_evaluation.specs.Evaluation.{is_above, gives_name, NeedsPlace, place_named}
 use Rattle.lus_evaluation.specs.Past.{NonePast}
 use Rattle.slot_values.specs.Resolution.{Resolution}
@@ -16,6 +17,7 @@ use Rattle.slot_values.specs.Clocked.{row_by, clock_on}
 use Rattle.slot_values.specs.FrameRow.{numbering}
 use Rattle.evaluation_laws.specs.Rows.{row_at, scene_there, numbers_there, modes_there, resolution_there}
 use Rattle.slot_values.specs.Parts.{operands, setting_at}
+use Rattle.order_laws.specs.Own.{own_setting}
 use Rattle.order_laws.specs.Rows.{place_there, standpoint_there}
 use Rattle.order_laws.specs.Laws.{IsOneOf, OfEachEvaluation}
 
@@ -51,6 +53,28 @@ NeededNamesComeBefore =
     OfEachEvaluation (λ i m f qs. (t : ℕ) → t < m → (front : List Part) (q : Part) (rest : List Part) → qs ≡ front ++ q ∷ rest →
     (v : List ℕ) (x : Name) → Sees q v → named_in x (left_names (component_of (place_there i f v))) ≡ true →
     NeedsPlace i q.needs (place_named v x) → IsGiven i f t front v x)
+
+-- the arguments of a call
+abbrev pub arguments_of : Expression → List Expression
+arguments_of (call p k n as_) = listed as_
+arguments_of (condact p k a n as_ ds) = listed as_
+arguments_of _ = []
+
+-- One of these parts is an expression at its place, and all its own parts are among them.
+pub record IsEvaluatedIn (i : Instance) (f : Frame) (t : ℕ) (front : List Part) (w : List ℕ) (c : Clock) (a : Expression) : Type 0 where
+  pub part : Part
+  pub there : IsOneOf front part
+  pub way : part.way ≡ w
+  pub clock : part.clock ≡ c
+  pub expression : part.expression ≡ a
+  pub own : AllByRecursion (IsOneOf front) (operands (setting_at (standpoint_there i f t part.way)) part.needs part.clock part.expression)
+
+-- An argument is there when its call is evaluated, if the call's whole needs all that the argument needs.
+abbrev pub NeededArgumentsComeBefore : Type 0
+NeededArgumentsComeBefore =
+    OfEachEvaluation (λ i m f qs. (t : ℕ) → t < m → (front : List Part) (q : Part) (rest : List Part) → qs ≡ front ++ q ∷ rest →
+    AllByRecursion (λ a. AllByRecursion (λ z. NeedsPlace i q.needs z) (needs_of (own_setting (place_there i f q.way) q.way []) q.clock a) →
+    IsEvaluatedIn i f t front q.way q.clock a) (arguments_of q.expression))
 
 -- ---- what is outside in the row of the run
 
