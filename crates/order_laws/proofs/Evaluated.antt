@@ -106,7 +106,7 @@ module _ (i : Instance) where
   last_both s [] ys = refl
   last_both s (x ∷ xs) ys = last_both x.1 xs ys
 
-  further : (ps : List Place) (s z : Place) → NeedsPlace i ps s → (rest : List (ℕ × Place)) → IsWay i s rest → last_place s rest ≡ z → NeedsPlace i ps z
+  pub further : (ps : List Place) (s z : Place) → NeedsPlace i ps s → (rest : List (ℕ × Place)) → IsWay i s rest → last_place s rest ≡ z → NeedsPlace i ps z
   further ps s z a rest w e = record {
     number = a.number;
     start = a.start;

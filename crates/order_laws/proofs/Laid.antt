@@ -1,12 +1,12 @@
 -- Each part of an expression stands behind its own operands.
-use Rattle.std.proofs.Common.{◌≡◌, ℕ, pred, ◌<◌, true, false, Bool, List, [], ◌∷◌, ◌++◌, flat_map, option_map, refl, ap}
+use Rattle.std.proofs.Common.{◌≡◌, ℕ, zero, suc, pred, ◌<◌, ◌≤◌, arith, true, false, Bool, List, [], ◌∷◌, ◌++◌, flat_map, option_map, refl, ap}
 use Rattle.std.specs.Prelude.{Contains}
 use Rattle.std.specs.List.{AllByRecursion}
 use Rattle.std.proofs.lemmas.Bool.{false≢true}
 use Rattle.lus_tree.specs.Tree.{Name, text_of, Expression, Expressions, truth, number, name, negation, minus, pre, arrow, binary, choice, sampled, merged, call, condact, mode_name, no_more, more, Labelled, Program}
 use Rattle.lus_meaning.specs.Value.{is}
 use Rattle.lus_meaning.specs.Frame.{Frame}
-use Rattle.lus_meaning.specs.Scene.{Clock, base, sampled_by, Instance, component_of, calls_of, clock_of, Scene, is_on}
+use Rattle.lus_meaning.specs.Scene.{Clock, base, sampled_by, plain, while_true, Site, Instance, component_of, calls_of, clock_of, Scene, is_on}
 use Rattle.lus_meaning.specs.Occurrences.{Standing, on_clock, within, before, moved}
 use Rattle.lus_meaning.specs.Depends.{named_in}
 use Rattle.lus_meaning.specs.Cycle.{Place as NeededPlace}
@@ -17,9 +17,11 @@ use Rattle.lus_meaning.proofs.BooleanOrder.{IsIn, in_left, in_right}
 use Rattle.lus_meaning.proofs.EachPart.{Each, EachAmong}
 use Rattle.lus_meaning.proofs.Lists.{all_from}
 use Rattle.rule_laws.specs.Laws.{IsUnfolded}
+use Rattle.rule_laws.specs.Fitting.{CallFits}
 use Rattle.sys_meaning.specs.Items.{Key}
+use Rattle.sys_meaning.specs.Defaults.{site_at, site_of}
 use Rattle.sys_meaning.specs.WellTyped.{IsKnown, count_of, IsNameOn, clock_here, Stands}
-use Rattle.path_laws.proofs.Standing.{Known}
+use Rattle.path_laws.proofs.Standing.{Known, site_there}
 use Rattle.path_laws.proofs.Places.{stand}
 use Rattle.lus_evaluation.specs.Part.{Part, Setting, needs_of, key_of, asked_in, part, parts, argument_parts, operand_parts, whole_parts, wholes}
 use Rattle.lus_evaluation.specs.Frame.{ModeText, Calls, setting}
@@ -30,7 +32,7 @@ use Rattle.order_laws.specs.Own.{own_setting, own_modes}
 use Rattle.order_laws.specs.Rows.{place_there}
 use Rattle.order_laws.specs.Needed.{IsSide}
 use Rattle.order_laws.proofs.Frames.{base_there}
-use Rattle.order_laws.proofs.Placed.{Among, Settled, OwnIn, CalledIn, WholesIn, EachLaid, Bodied, laid_both, body_below, all_in_self, own_wider, own_later, own_two}
+use Rattle.order_laws.proofs.Placed.{Among, Settled, OwnIn, CalledIn, WholesIn, IsSiteOf, EachLaid, Bodied, laid_both, body_below, all_in_self, own_wider, own_later, own_two}
 use Rattle.order_laws.proofs.Laying.{Named, Has, has_more, root_in, own_in}
 
 module _ (p : Program) (c : IsChecked p) (i : Instance) (f : Frame) (t : ℕ) (every : List Part) (w : List ℕ) (calls : AreCalls i w) (sh : RowShows i f t w)
@@ -98,6 +100,16 @@ module _ (p : Program) (c : IsChecked p) (i : Instance) (f : Frame) (t : ℕ) (e
 
     abbrev Called : ℕ → Type 0
     Called k = Bodied i f t every (w ++ k ∷ []) (sub k).body
+
+    -- the site of a call
+    site_numbered : (m : ℕ) → 1 ≤ m → (z : Site) → site_at (calls_of j) (pred m) ≡ z → site_of j m ≡ z
+    site_numbered zero l z e = absurd (omega (arith, l))
+    site_numbered (suc m) l z e = e
+
+    sited : (z : Site) → CallFits j z → IsSiteOf i f t w z.number z.clock z.arguments
+    sited z a =
+        let e : site_of j z.number ≡ z = site_numbered z.number a.number z (site_there (calls_of j) (pred z.number) z a.site).0 in
+        (ap (λ y. y.clock) e, ap (λ y. y.arguments) e, (let l : 1 ≤ z.number = a.number in omega (arith, l)))
 
     -- arguments are wholes
     wholes_in : (k : Clock) (as_ : Expressions) (qs : List Part) → Among (argument_parts g k as_) qs → WholesIn i f t w qs k (listed as_)
@@ -209,6 +221,7 @@ module _ (p : Program) (c : IsChecked p) (i : Instance) (f : Frame) (t : ℕ) (e
           (both b given (g.body l) (each_argument b r (within s) as_ k.1 n.1 o) (body_below i f t every w l (b ++ given) (g.body l) bd)) tt (
             settled_in l bd b (given ++ g.body l) (λ y m. in_right y given (g.body l) m),
             wholes_in s.clock as_ (b ++ (given ++ g.body l)) (λ y m. in_right y b (given ++ g.body l) (in_left y given (g.body l) m)),
+            sited record { number = l; callee = z.text; clock = s.clock; arguments = listed as_; defaults = []; manner = plain } k.0.fits,
           )
       each_laid b r ns xs s (condact q l a z as_ ds) k n o v =
           let asked : List Part = parts g ns [] s.clock a in
@@ -229,6 +242,7 @@ module _ (p : Program) (c : IsChecked p) (i : Instance) (f : Frame) (t : ℕ) (e
                 (λ y m. in_left y (asked ++ given ++ g.body l) kept (in_right y (asked ++ given) (g.body l) m)),
             wholes_in s.clock as_ (b ++ (asked ++ given ++ g.body l ++ kept)) (λ y m. in_right y b (asked ++ given ++ g.body l ++ kept)
                 (in_left y (asked ++ given ++ g.body l) kept (in_left y (asked ++ given) (g.body l) (in_right y asked given m)))),
+            sited record { number = l; callee = z.text; clock = s.clock; arguments = listed as_; defaults = listed ds; manner = while_true a } k.0.fits.0,
           )
       each_laid b r ns xs s (mode_name q x m) k n o v =
           last b ns xs s (mode_name q x m) k o v (asked_in g ns (key_of (option_map text_of x) m.text))

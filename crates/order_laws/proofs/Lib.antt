@@ -18,3 +18,4 @@ pub mod Evaluated
 pub mod FirstByRows
 pub mod Needed
 pub mod NoneOutside
+pub mod Inputs

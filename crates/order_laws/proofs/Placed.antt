@@ -1,5 +1,5 @@
 -- Parts with all that comes before them in turn.
-use Rattle.std.proofs.Common.{◌≡◌, ℕ, true, eqb, List, [], ◌∷◌, ◌++◌, refl, sym, subst}
+use Rattle.std.proofs.Common.{◌≡◌, ℕ, ◌<◌, true, eqb, List, [], ◌∷◌, ◌++◌, refl, sym, subst}
 use Rattle.std.specs.List.{AllByRecursion}
 use Rattle.std.proofs.Math.Logic.{◌⊎◌, inl, inr}
 use Rattle.std.proofs.lemmas.Bool.{false≢true, eqb-true}
@@ -10,6 +10,7 @@ use Rattle.lus_meaning.specs.Depends.{named_in, left_names}
 use Rattle.lus_meaning.specs.Cycle.{Place as NeededPlace}
 use Rattle.lus_meaning.proofs.BooleanOrder.{IsIn, in_left, in_right}
 use Rattle.lus_meaning.proofs.Lists.{append_none, all_from, both_parts}
+use Rattle.sys_meaning.specs.Defaults.{site_of}
 use Rattle.sys_meaning.specs.WellTyped.{IsKnown, Stands}
 use Rattle.lus_meaning.specs.Program.{listed}
 use Rattle.lus_evaluation.specs.Part.{Part, needs_of}
@@ -147,10 +148,14 @@ module _ (i : Instance) (f : Frame) (t : ℕ) where
   abbrev pub WholesIn : List ℕ → List Part → Clock → List Expression → Type 0
   WholesIn w b c as_ = AllByRecursion (WholeIn w b c) as_
 
+  -- the clock and the arguments of a call, by its number
+  abbrev pub IsSiteOf : List ℕ → ℕ → Clock → List Expression → Type 0
+  IsSiteOf w k c as_ = ((site_of (place_there i f w) k).clock ≡ c) × ((site_of (place_there i f w) k).arguments ≡ as_) × (0 < k)
+
   -- where a part is a call, the arguments are wholes among these parts, and the frame that is called is settled; where it is a `pre`, the operand is one of these parts
   abbrev pub CalledIn : List ℕ → List Part → Clock → Expression → Type 0
-  CalledIn w b c (call p k n as_) = Settled (w ++ k ∷ []) b × WholesIn w b c (listed as_)
-  CalledIn w b c (condact p k a n as_ ds) = Settled (w ++ k ∷ []) b × WholesIn w b c (listed as_)
+  CalledIn w b c (call p k n as_) = Settled (w ++ k ∷ []) b × WholesIn w b c (listed as_) × IsSiteOf w k c (listed as_)
+  CalledIn w b c (condact p k a n as_ ds) = Settled (w ++ k ∷ []) b × WholesIn w b c (listed as_) × IsSiteOf w k c (listed as_)
   CalledIn w b c (pre p k a) = PartIn w b c a
   CalledIn w b c _ = Unit {0}
 

@@ -4,7 +4,7 @@ use Rattle.std.specs.List.{AllByRecursion}
 use Rattle.lus_tree.specs.Tree.{Name, Expression, pre, call, condact}
 use Rattle.lus_meaning.specs.Frame.{Frame}
 use Rattle.lus_meaning.specs.Scene.{Clock, Instance, component_of, clock_of_names}
-use Rattle.lus_meaning.specs.Run.{Equation, equations}
+use Rattle.lus_meaning.specs.Run.{Equation, equations, inputs_of}
 use Rattle.lus_meaning.specs.Depends.{named_in, left_names}
 use Rattle.lus_meaning.specs.Program.{listed}
 use Rattle.lus_evaluation.specs.Part.{Part, needs_of}
@@ -75,6 +75,13 @@ NeededArgumentsComeBefore =
     OfEachEvaluation (λ i m f qs. (t : ℕ) → t < m → (front : List Part) (q : Part) (rest : List Part) → qs ≡ front ++ q ∷ rest →
     AllByRecursion (λ a. AllByRecursion (λ z. NeedsPlace i q.needs z) (needs_of (own_setting (place_there i f q.way) q.way []) q.clock a) →
     IsEvaluatedIn i f t front q.way q.clock a) (arguments_of q.expression))
+
+-- So it is with the argument for an input of the callee that the call's whole needs.
+abbrev pub NeededInputsComeBefore : Type 0
+NeededInputsComeBefore =
+    OfEachEvaluation (λ i m f qs. (t : ℕ) → t < m → (front : List Part) (q : Part) (rest : List Part) → qs ≡ front ++ q ∷ rest →
+    (v : List ℕ) → IsCalled q.way q.expression v → (k : ℕ) (x : Name) (a : Expression) → slice_get (inputs_of (place_there i f v)) k ≡ Some x →
+    slice_get (arguments_of q.expression) k ≡ Some a → NeedsPlace i q.needs (place_named v x) → IsEvaluatedIn i f t front q.way q.clock a)
 
 -- ---- what is outside in the row of the run
 
