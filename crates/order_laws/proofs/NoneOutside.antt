@@ -1,10 +1,10 @@
 -- What has been evaluated has no operation outside 128 bits in the row of the run.
-use Rattle.std.proofs.Common.{◌≡◌, ℕ, ◌<◌, Bool, List, [], ◌∷◌, ◌++◌, map, length, Some, None, slice_get, refl, ◌∙◌, sym, subst, ap}
+use Rattle.std.proofs.Common.{◌≡◌, ℕ, ◌<◌, Bool, true, false, cond, Option, arith, List, [], ◌∷◌, ◌++◌, map, length, Some, None, slice_get, refl, ◌∙◌, sym, subst, ap}
 use Rattle.std.specs.Prelude.{Contains}
 use Rattle.std.specs.List.{AllByRecursion}
-use Rattle.lus_tree.specs.Tree.{Name, Expression, truth, number, name, negation, minus, pre, arrow, binary, choice, sampled, merged, call, condact, mode_name, Component, Program}
+use Rattle.lus_tree.specs.Tree.{Name, Variable, Expression, truth, number, name, negation, minus, pre, arrow, binary, choice, sampled, merged, call, condact, mode_name, Component, Program}
 use Rattle.lus_meaning.specs.Frame.{Frame}
-use Rattle.lus_meaning.specs.Scene.{Clock, Instance, is_on}
+use Rattle.lus_meaning.specs.Scene.{Clock, Instance, component_of, call_instance, is_on}
 use Rattle.lus_meaning.specs.Occurrences.{own}
 use Rattle.lus_meaning.specs.Program.{instance_of}
 use Rattle.lus_meaning.specs.Run.{IsRun}
@@ -13,10 +13,12 @@ use Rattle.lus_meaning.specs.Verdict.{throughout}
 use Rattle.lus_meaning.specs.ClockFaults.{components}
 use Rattle.lus_meaning.specs.Refusals.{IsChecked}
 use Rattle.lus_meaning.proofs.BooleanOrder.{IsIn}
+use Rattle.sys_meaning.specs.Items.{Key}
+use Rattle.sys_meaning.specs.WellTyped.{IsKnown, Stands}
 use Rattle.sys_meaning.proofs.Shows.{same_ways}
 use Rattle.lus_evaluation.specs.Part.{Part}
 use Rattle.lus_evaluation.specs.Evaluation.{IsEvaluation}
-use Rattle.lus_evaluation.specs.Past.{part_past, NonePast}
+use Rattle.lus_evaluation.specs.Past.{past_in, part_past, NonePast}
 use Rattle.lus_evaluation.specs.Turn.{in_turn}
 use Rattle.slot_values.specs.Evaluated.{SlotValues, told, outside}
 use Rattle.slot_values.specs.Resolution.{Resolution}
@@ -26,7 +28,7 @@ use Rattle.slot_values.specs.FrameRow.{numbering}
 use Rattle.evaluation_laws.specs.Rows.{row_at, scene_there, numbers_there, modes_there, resolution_there}
 use Rattle.evaluation_laws.proofs.Waiting.{both_true}
 use Rattle.order_laws.specs.Laws.{operations_there, IsOneOf}
-use Rattle.order_laws.specs.Needed.{IsGiven, NoneOutside, right_there, GivenNamesAreWithin, OfOperand, RememberedOperandsAreWithin}
+use Rattle.order_laws.specs.Needed.{IsGiven, IsEvaluatedIn, NoneOutside, right_there, GivenNamesAreWithin, ArgumentsAreWithin, OfCondition, ConditionsAreWithin, OfOperand, RememberedOperandsAreWithin}
 use Rattle.order_laws.proofs.Lists.{grouped, left_of, right_of}
 use Rattle.order_laws.proofs.Placed.{CalledIn, PartIn, Placed}
 use Rattle.order_laws.proofs.Bodies.{picked_in, slice_below}
@@ -68,6 +70,35 @@ module _ (s : SlotValues) (on : Bool) (g : Numbering) where
   rights_none (merged p x a d) h = (h, tt)
   rights_none (mode_name p d m) h = (h, tt)
 
+-- ---- conditions
+
+cond_none : {X : Type 0} (c : Bool) → cond c None None ≡ (let o : Option X = None in o)
+cond_none true = refl
+cond_none false = refl
+
+module _ (s : SlotValues) (on : Bool) (g : Numbering) (M : Key → Type 0) where
+  first_held : (k : ℕ) (a : Resolution) (vs : List Variable) → 0 < length vs →
+      outside s on (first_resolution (map (latest_resolution g k a) (map (λ v. v.name.text) vs))) ≡ [] → outside s on a ≡ []
+  first_held k a [] l h = absurd (omega (arith, l))
+  first_held k a (v ∷ vs) l h = h
+
+  condition_none : (c : Clock) (e : Expression) → Stands g.place M c e → outside s on (resolution g e) ≡ [] →
+      OfCondition (λ a. outside s on (resolution g a) ≡ []) e
+  condition_none c (condact p k a n as_ ds) st h = first_held k (resolution g a) (component_of (call_instance g.place k)).outputs st.0.outputs h
+  condition_none c (call p k n as_) st h = tt
+  condition_none c (truth p a) st h = tt
+  condition_none c (number p a) st h = tt
+  condition_none c (name p a) st h = tt
+  condition_none c (negation p a) st h = tt
+  condition_none c (minus p a) st h = tt
+  condition_none c (pre p l a) st h = tt
+  condition_none c (arrow p l a d) st h = tt
+  condition_none c (binary p o a d) st h = tt
+  condition_none c (choice p a d e) st h = tt
+  condition_none c (sampled p a q x) st h = tt
+  condition_none c (merged p x a d) st h = tt
+  condition_none c (mode_name p d m) st h = tt
+
 module _ (p : Program) (c : IsChecked p) (n : Component) (j : Contains (components p) n) (qs : List Part) (ev : IsEvaluation (instance_of p n) qs)
     (m : ℕ) (f : Frame) (run : IsRun (instance_of p n) m throughout f) (t : ℕ) (l : t < m) where
   abbrev i : Instance
@@ -102,6 +133,43 @@ module _ (p : Program) (c : IsChecked p) (n : Component) (j : Contains (componen
       (numbering (scene_there i f v) (numbers_there i v) (modes_there i f v)) g.part.expression
       (subst (λ z. NoneOutside i f t z g.part.clock (resolution_there i f z g.part.expression)) (sym same)
       (part_within front g.part rest e none g.there))
+
+  pub argument_within : (front rest : List Part) → qs ≡ front ++ rest → NonePast i f front t → (w : List ℕ) (d : Clock) (a : Expression) →
+      IsEvaluatedIn i f t front w d a → NoneOutside i f t w d (resolution_there i f w a)
+  argument_within front rest e none w d a h =
+      subst (λ z. NoneOutside i f t z d (resolution_there i f z a)) h.way
+      (subst (λ z. NoneOutside i f t h.part.way z (resolution_there i f h.part.way a)) h.clock
+      (subst (λ z. NoneOutside i f t h.part.way h.part.clock (resolution_there i f h.part.way z)) h.expression
+      (part_within front h.part rest e none h.there)))
+
+  module _ (front : List Part) (q : Part) (rest : List Part) (e : qs ≡ front ++ q ∷ rest) (none : NonePast i f front t) where
+    abbrev Condition : Expression → Type 0
+    Condition x = OfCondition (λ a. NoneOutside i f t q.way q.clock (resolution_there i f q.way a)) x
+
+    by_condition : (x : Expression) → q.expression ≡ x → Condition x
+    by_condition (condact h k a z as_ ds) r =
+        condition_none (row_at i f t) (clock_on (row_by (numbers_there i q.way) (row_at i f t)) q.clock)
+        (numbering (scene_there i f q.way) (numbers_there i q.way) (modes_there i f q.way)) (IsKnown (scene_there i f q.way).place) q.clock
+        (condact h k a z as_ ds)
+        (subst (Stands (scene_there i f q.way).place (IsKnown (scene_there i f q.way).place) q.clock) r (b.here p c n j qs ev m f run t l front q rest e).stands)
+        (subst (λ y. NoneOutside i f t q.way q.clock (resolution_there i f q.way y)) r (part_none front q rest e none
+        (subst (λ y. past_in (scene_there i f q.way) q.clock y t ≡ None) (sym r) (cond_none (is_on (scene_there i f q.way) q.clock t)))))
+    by_condition (call h k z as_) r = tt
+    by_condition (truth h a) r = tt
+    by_condition (number h a) r = tt
+    by_condition (name h a) r = tt
+    by_condition (negation h a) r = tt
+    by_condition (minus h a) r = tt
+    by_condition (pre h k a) r = tt
+    by_condition (arrow h k a d) r = tt
+    by_condition (binary h o a d) r = tt
+    by_condition (choice h a d z) r = tt
+    by_condition (sampled h a k x) r = tt
+    by_condition (merged h x a d) r = tt
+    by_condition (mode_name h d x) r = tt
+
+    pub condition_within : Condition q.expression
+    condition_within = by_condition q.expression refl
 
   -- ---- memories
 
@@ -147,3 +215,9 @@ pub remembered_operands_are_within : RememberedOperandsAreWithin
 remembered_operands_are_within p c n j qs ev m f run t l none front q rest e =
     remembered_within p c n j qs ev m f run t l none q.way (b.at p c n j qs ev m f run t l front q rest e).number q.clock q.expression
     (b.here p c n j qs ev m f run t l front q rest e).called
+
+pub arguments_are_within : ArgumentsAreWithin
+arguments_are_within p c n j qs ev m f run t l front rest e none w d a h = argument_within p c n j qs ev m f run t l front rest e none w d a h
+
+pub conditions_are_within : ConditionsAreWithin
+conditions_are_within p c n j qs ev m f run t l front q rest e none = condition_within p c n j qs ev m f run t l front q rest e none

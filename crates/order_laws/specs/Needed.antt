@@ -99,6 +99,23 @@ GivenNamesAreWithin =
     OfEachEvaluation (λ i m f qs. (t : ℕ) → t < m → (front rest : List Part) → qs ≡ front ++ rest → NonePast i f front t → (v : List ℕ) (x : Name) →
     (g : IsGiven i f t front v x) → AllByRecursion (NoneOutside i f t v g.part.clock) (right_there i f v g.part.expression))
 
+-- and so it is with arguments.
+abbrev pub ArgumentsAreWithin : Type 0
+ArgumentsAreWithin =
+    OfEachEvaluation (λ i m f qs. (t : ℕ) → t < m → (front rest : List Part) → qs ≡ front ++ rest → NonePast i f front t → (w : List ℕ) (c : Clock)
+    (a : Expression) → IsEvaluatedIn i f t front w c a → NoneOutside i f t w c (resolution_there i f w a))
+
+-- of the condition of a call
+abbrev pub OfCondition : (Expression → Type 0) → Expression → Type 0
+OfCondition P (condact p k a n as_ ds) = P a
+OfCondition P _ = Unit {0}
+
+-- Where no part before a call is outside, the condition while which it runs has no operation outside.
+abbrev pub ConditionsAreWithin : Type 0
+ConditionsAreWithin =
+    OfEachEvaluation (λ i m f qs. (t : ℕ) → t < m → (front : List Part) (q : Part) (rest : List Part) → qs ≡ front ++ q ∷ rest → NonePast i f front t →
+    OfCondition (λ a. NoneOutside i f t q.way q.clock (resolution_there i f q.way a)) q.expression)
+
 -- of the operand of a `pre`
 abbrev pub OfOperand : (Expression → Type 0) → Expression → Type 0
 OfOperand P (pre p k a) = P a

@@ -1,7 +1,8 @@
 //! The laws of what comes before a part.
 
 ghost use Rattle.order_laws.specs.Laws.{ComesFirst, OperandsComeBefore, PartsHaveOwnPast, FirstPastByRows};
-ghost use Rattle.order_laws.specs.Needed.{NeededNamesComeBefore, NeededArgumentsComeBefore, NeededInputsComeBefore, GivenNamesAreWithin, RememberedOperandsAreWithin};
+ghost use Rattle.order_laws.specs.Needed.{NeededNamesComeBefore, NeededArgumentsComeBefore, NeededInputsComeBefore, RememberedOperandsAreWithin};
+ghost use Rattle.order_laws.specs.Needed.{GivenNamesAreWithin, ArgumentsAreWithin, ConditionsAreWithin};
 ghost use Rattle.order_laws.specs.Rows.{RowsHaveOwnPast};
 
 /// In a least order what stands before another part in turn comes before it, where all that it waits for the other one
@@ -41,8 +42,10 @@ pub fn needed_names_come_before()
 {}
 
 /// In the row of such a run: where no part of a front of the evaluation is outside 128 bits, the right sides that stand
-/// in it have no operation outside; and where none of all parts is, the operand of each `pre` among them has none.
+/// in it have no operation outside, nor have the arguments that do, nor the condition of the call that comes next; and where none of all parts is, the operand of each `pre` among them has none.
 pub fn evaluated_is_within()
     ensures given { GivenNamesAreWithin }
+    ensures arguments { ArgumentsAreWithin }
+    ensures conditions { ConditionsAreWithin }
     ensures remembered { RememberedOperandsAreWithin }
 {}
