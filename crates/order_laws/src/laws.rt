@@ -42,7 +42,8 @@ pub fn needed_names_come_before()
 {}
 
 /// In the row of such a run: where no part of a front of the evaluation is outside 128 bits, the right sides that stand
-/// in it have no operation outside, nor have the arguments that do, nor the condition of the call that comes next; and where none of all parts is, the operand of each `pre` among them has none.
+/// in it have no operation outside, nor have the arguments that do, nor the condition of the call that comes next. Where
+/// none of all parts is, the operand of each `pre` among them has none.
 pub fn evaluated_is_within()
     ensures given { GivenNamesAreWithin }
     ensures arguments { ArgumentsAreWithin }
