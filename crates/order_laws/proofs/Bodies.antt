@@ -36,14 +36,15 @@ use Rattle.evaluation_laws.specs.Rows.{AreCalls, row_at, scene_there, numbers_th
 use Rattle.evaluation_laws.proofs.Waiting.{in_any, both}
 use Rattle.order_laws.specs.Own.{own_setting, own_modes_after, own_modes}
 use Rattle.order_laws.specs.Rows.{place_there}
+use Rattle.order_laws.specs.Needed.{IsSide}
 use Rattle.order_laws.proofs.ModeKeys.{keys_any}
 use Rattle.order_laws.proofs.Frames.{clock_there, base_there}
-use Rattle.order_laws.proofs.Placed.{Settled, OwnIn, EachPlaced, placed_both, all_in_self}
-use Rattle.order_laws.proofs.Laying.{Has, has_more}
+use Rattle.order_laws.proofs.Placed.{Settled, OwnIn, EachLaid, Bodied, laid_both, body_below, all_in_self}
+use Rattle.order_laws.proofs.Laying.{Has, has_more, root_in}
 use Rattle.order_laws.proofs.Laid.{each_laid}
 use Rattle.order_laws.proofs.Items.{TextFits, SideFits, items_fit, sides_fit, assertions_fit}
 use Rattle.order_laws.proofs.Sites.{TextHeld, text_held, CallKnown, SiteKnown, all_sites_known}
-use Rattle.order_laws.proofs.Contracts.{Holds, import_numbers, AreLaid, laid_when, laid_found, ImportLaid, Below, AfterLaid, after}
+use Rattle.order_laws.proofs.Contracts.{Holds, import_numbers, AreLaid, laid_when, laid_found, ImportLaid, lowered, Below, AfterLaid, after}
 
 -- ---- lists
 
@@ -114,32 +115,10 @@ has_within sub ins qs b a h = all_from (λ k. Holds (sub k).body qs) (λ k. Hold
 
 -- ---- equations
 
--- a part that is a whole gives the names
-at_end : (qs : List Part) (q : Part) → IsIn q (qs ++ q ∷ [])
-at_end qs q = in_right q qs (q ∷ []) (inl refl)
-
-root_in : (g : Setting) (ns : List NeededPlace) (xs : List Name) (c : Clock) (e : Expression) → IsIn (part g ns xs c e) (parts g ns xs c e)
-root_in g ns xs c (truth p b) = inl refl
-root_in g ns xs c (number p n) = inl refl
-root_in g ns xs c (name p x) = inl refl
-root_in g ns xs c (negation p a) = at_end (parts g ns [] c a) (part g ns xs c (negation p a))
-root_in g ns xs c (minus p a) = at_end (parts g ns [] c a) (part g ns xs c (minus p a))
-root_in g ns xs c (pre p k a) = at_end (parts g (needs_of g c a) [] c a) (part g ns xs c (pre p k a))
-root_in g ns xs c (arrow p k a b) = at_end (parts g ns [] c a ++ parts g ns [] c b) (part g ns xs c (arrow p k a b))
-root_in g ns xs c (binary p o a b) = at_end (parts g ns [] c a ++ parts g ns [] c b) (part g ns xs c (binary p o a b))
-root_in g ns xs c (choice p a b d) = at_end (parts g ns [] c a ++ parts g ns [] c b ++ parts g ns [] c d) (part g ns xs c (choice p a b d))
-root_in g ns xs c (sampled p a q x) = at_end (parts g ns [] (clock_of (component_of g.place) x.text) a) (part g ns xs c (sampled p a q x))
-root_in g ns xs c (merged p x a b) =
-    at_end (parts g ns [] (sampled_by true x.text) a ++ parts g ns [] (sampled_by false x.text) b) (part g ns xs c (merged p x a b))
-root_in g ns xs c (call p k f as_) = at_end (argument_parts g c as_ ++ g.body k) (part g ns xs c (call p k f as_))
-root_in g ns xs c (condact p k a f as_ ds) =
-    at_end (parts g ns [] c a ++ argument_parts g c as_ ++ g.body k ++ operand_parts g ns c ds) (part g ns xs c (condact p k a f as_ ds))
-root_in g ns xs c (mode_name p d m) = at_end (asked_in g ns (key_of (option_map text_of d) m.text)) (part g ns xs c (mode_name p d m))
-
 abbrev names_of : List Equation → List Name
 names_of es = flat_map (λ e. e.names) es
 
-each_given : (es : List Equation) → AllByRecursion (λ e. (x : Name) → named_in x e.names ≡ true → named_in x (names_of es) ≡ true) es
+pub each_given : (es : List Equation) → AllByRecursion (λ e. (x : Name) → named_in x e.names ≡ true → named_in x (names_of es) ≡ true) es
 each_given [] = tt
 each_given (e ∷ es) = (
   (λ x h. list_any-append _ e.names (names_of es) ∙ or_left (named_in x e.names) (named_in x (names_of es)) h),
@@ -163,16 +142,16 @@ left_found x (e ∷ es) h = go (cases_Bool (named_in x e.names)) (left_found x e
 
 -- ---- a frame
 
-module _ (i : Instance) (f : Frame) (t : ℕ) where
+module _ (i : Instance) (f : Frame) (t : ℕ) (every : List Part) where
   -- what comes of the text of a frame
   pub record FrameLaid (w : List ℕ) (x : FrameText) (qs : ModeParts) : Type 0 where
-    pub own : ImportLaid i f t w x qs
-    pub asserted : (b : List Part) → Holds x.body b → EachPlaced i f t b x.asserted
+    pub own : ImportLaid i f t every w x qs
+    pub asserted : (b : List Part) → Holds x.body b → EachLaid i f t every w b x.asserted
 
   module _ (p : Program) (c : IsChecked p) (w : List ℕ) (calls : AreCalls i w) (sh : RowShows i f t w) (u : IsUnfolded p (place_there i f w))
       (d : Contains (components p) (component_of (place_there i f w))) (sub : Calls) (subo : ℕ → ModeParts)
-      (body : (k : ℕ) (b : List Part) → EachPlaced i f t b (sub k).body)
-      (below : (k : ℕ) → IsImport (place_there i f w) k → Below i f t p c w calls sh u d sub subo body k)
+      (bodies : (k : ℕ) → 0 < k → pred k < count_of (calls_of (place_there i f w)) → Bodied i f t every (w ++ k ∷ []) (sub k).body)
+      (below : (k : ℕ) → IsImport (place_there i f w) k → Below i f t every p c w calls sh u d sub subo bodies k)
       (keyed : map (λ q. q.0) (own_modes w (place_there i f w)) ≡ map (λ m. m.key) (terms (place_there i f w)).modes)
       (mine : own_modes w (place_there i f w)
       ≡ own_modes_after (place_there i f w) w subo [] (contract_statements (component_of (place_there i f w))))
@@ -200,23 +179,23 @@ module _ (i : Instance) (f : Frame) (t : ℕ) where
     g = setting j w sub k.modes
 
     abbrev Laid : List Part → List Part → Type 0
-    Laid b qs = EachPlaced i f t b qs
+    Laid b qs = EachLaid i f t every w b qs
 
     both_laid : (b qs rs : List Part) → Laid b qs → Laid (b ++ qs) rs → Laid b (qs ++ rs)
-    both_laid b qs rs a e = placed_both i f t b qs rs a e
+    both_laid b qs rs a e = laid_both i f t every w b qs rs a e
 
-    whole : AfterLaid i f t p c w calls sh u d sub subo body [] k (own_modes_after j w subo [] cs) cs []
-    whole = after i f t p c w calls sh u d sub subo body below [] [] [] [] cs (items_fit p c j u d) tt refl mine
+    whole : AfterLaid i f t every p c w calls sh u d sub subo bodies [] k (own_modes_after j w subo [] cs) cs []
+    whole = after i f t every p c w calls sh u d sub subo bodies below [] [] [] [] cs (items_fit p c j u d) tt refl mine
 
-    modes : AreLaid i f t w (Has sub ins) k.modes (own_modes w j)
-    modes = subst (AreLaid i f t w (Has sub ins) k.modes) (sym mine) whole.modes
+    modes : AreLaid i f t every w (Has sub ins) k.modes (own_modes w j)
+    modes = subst (AreLaid i f t every w (Has sub ins) k.modes) (sym mine) whole.modes
 
     known_key : (key : Key) → IsKnown j key → IsAmong (map (λ q. q.0) (own_modes w j)) key
     known_key key h = ap (λ l. list_any (mode_key key) l) keyed ∙ keys_any key (terms j).modes ∙ h
 
     abbrev FoundHere : Key → List NeededPlace → List Part → List ModeText → ModeParts → Type 0
     FoundHere key ns b ms qs =
-        EachPlaced i f t b (asked_in (setting j w sub ms) ns key)
+        EachLaid i f t every w b (asked_in (setting j w sub ms) ns key)
         × AllByRecursion (OwnIn i f t w b (asked_in (setting j w sub ms) ns key) ns)
         (asked_in (own_setting j w qs) ns key)
 
@@ -224,7 +203,7 @@ module _ (i : Instance) (f : Frame) (t : ℕ) where
     found key h ns b r =
         subst (λ ms. FoundHere key ns b ms (own_modes w j)) (append_none k.modes)
         (subst (λ qs. FoundHere key ns b (k.modes ++ []) qs) (append_none (own_modes w j))
-        (laid_found i f t w (Has sub ins) k.modes [] (own_modes w j) [] modes key (known_key key h) ns b r))
+        (laid_found i f t every w (Has sub ins) k.modes [] (own_modes w j) [] modes key (known_key key h) ns b r))
 
     abbrev ready : List Part → Type 0
     ready b = Has sub ins b
@@ -232,21 +211,21 @@ module _ (i : Instance) (f : Frame) (t : ℕ) where
     abbrev Shown : Clock → Type 0
     Shown z = clock_on (row_by (numbers_there i w) (row_at i f t)) z ≡ is_on (scene_there i f w) z t
 
-    abbrev Gives : List Name → Type 0
-    Gives xs = (x : Name) → named_in x xs ≡ true → named_in x (left_names n) ≡ true
+    abbrev Gives : List Name → Clock → Expression → Type 0
+    Gives xs z e = (x : Name) → named_in x xs ≡ true → IsSide j xs z e
 
     text_laid : (b : List Part) → ready b → (ns : List NeededPlace) (xs : List Name) (s : Standing) (e : Expression) → TextFits j s e → Shown s.clock →
-        Gives xs → Laid b (parts g ns xs s.clock e)
+        Gives xs s.clock e → Laid b (parts g ns xs s.clock e)
     text_laid b r ns xs s e a o v =
-        each_laid p c i f t w calls sh u d sub k.modes (IsKnown j) ins body (λ key h ns z q. (found key h ns z q).0)
+        each_laid p c i f t every w calls sh u d sub k.modes (IsKnown j) ins bodies (λ key h ns z q. (found key h ns z q).0)
         (λ key h ns z q. (found key h ns z q).1) b r ns xs s e a.0 a.1 o v
 
-    gives_none : Gives []
+    gives_none : {z : Clock} {e : Expression} → Gives [] z e
     gives_none x h = absurd (false≢true h)
 
     pub wholes_on : (s : Standing) → Shown s.clock → (ls : List Expression) → AllByRecursion (TextFits j s) ls → (b : List Part) → ready b →
         Laid b (wholes g s.clock ls)
-    wholes_on s o [] a b r = tt
+    wholes_on s o [] a b r = λ g hb hq. tt
     wholes_on s o (e ∷ ls) a b r =
         let one : List Part = whole_parts g [] s.clock e in
         both_laid b one (wholes g s.clock ls) (text_laid b r (needs_of g s.clock e) [] s e a.0 o gives_none)
@@ -258,19 +237,21 @@ module _ (i : Instance) (f : Frame) (t : ℕ) where
     clock_of_side e = clock_of_names n e.names
 
     abbrev SideOk : Equation → Type 0
-    SideOk e = SideFits j e × ClockFits j (IsKnown j) (clock_of_side e) × Gives e.names
+    SideOk e = SideFits j e × ClockFits j (IsKnown j) (clock_of_side e) × Gives e.names (clock_of_side e) e.right
 
     sides_ok : AllByRecursion SideOk es
     sides_ok =
-        all_from_three (SideFits j) (EquationFits j (IsKnown j)) (λ e. Gives e.names) SideOk (λ e a q v. (a, q.clock, v)) es (sides_fit p c j u d)
-        (own_fits p c j u d).equations (each_given es)
+        all_from_three (SideFits j) (EquationFits j (IsKnown j)) (λ e. Gives e.names (clock_of_side e) e.right) SideOk (λ e a q v. (a, q.clock, v)) es (sides_fit p c j u d)
+        (own_fits p c j u d).equations
+        (all_from (λ e. IsIn e es) (λ e. Gives e.names (clock_of_side e) e.right)
+        (λ e m x h. record { equation = e; there = at_slice es e m; names = refl; right = refl; clock = refl }) es (all_in_self es))
 
     one_side : (e : Equation) → SideOk e → (b : List Part) → ready b → Laid b (equation_parts g e)
     one_side e a b r =
         text_laid b r (needs_of g (clock_of_side e) e.right) e.names (as_side (clock_of_side e)) e.right a.0 (clock_there i f t w sh (clock_of_side e) a.1) a.2
 
     each_side : (qs : List Equation) → AllByRecursion SideOk qs → (b : List Part) → ready b → Laid b (flat_map (equation_parts g) qs)
-    each_side [] a b r = tt
+    each_side [] a b r = λ g hb hq. tt
     each_side (e ∷ qs) a b r =
         let one : List Part = equation_parts g e in
         both_laid b one (flat_map (equation_parts g) qs) (one_side e a.0 b r) (each_side qs a.1 (b ++ one) (has_more sub ins b one r))
@@ -459,7 +440,7 @@ module _ (i : Instance) (f : Frame) (t : ℕ) where
       where
         go : (bd : List Part) (ct : ContractText) (qs : List Part) → ((b : List Part) → Laid b bd) → ((b : List Part) → Holds bd b → Laid b qs) →
             (is_evaluated n z z.manner ≡ true → Holds bd done) → Laid b (asserted_below g z record { body = bd; contract = ct; asserted = qs })
-        go bd ct [] l m e = tt
+        go bd ct [] l m e = λ g hb hq. tt
         go bd ct (q ∷ qs) l m e = by (is_evaluated n z z.manner) refl
           where
             before : List Part
@@ -476,7 +457,7 @@ module _ (i : Instance) (f : Frame) (t : ℕ) where
     module _ (child : (k : ℕ) → 0 < k → pred k < count_of (calls_of j) → FrameLaid (w ++ k ∷ []) (sub k) (subo k)) where
       pub each_asserted : (is : Instances) (ss : List Site) (q : ℕ) → CallsFit IsKnown j is q → AreUnfolded p ss is → AllByRecursion (SiteKnown j) ss →
           AllByRecursion ImportHeld ss → q + count_of is ≡ count_of (calls_of j) → (b : List Part) → Holds done b → Laid b (asserted_in_calls g sub is)
-      each_asserted no_instances ss q h v a m e b r = tt
+      each_asserted no_instances ss q h v a m e b r = λ g hb hq. tt
       each_asserted (with_instance z x is) [] q h v a m e b r = absurd v
       each_asserted (with_instance z x is) (s ∷ ss) q h v a m e b r =
           let known : SiteKnown j z = subst (SiteKnown j) (sym v.0) a.0 in
@@ -485,7 +466,9 @@ module _ (i : Instance) (f : Frame) (t : ℕ) where
           let laid : FrameLaid (w ++ z.number ∷ []) (sub z.number) (subo z.number) =
           subst (λ y. FrameLaid (w ++ y ∷ []) (sub y) (subo y)) counted (child (suc q) (omega arith) (omega (arith, e))) in
           both_laid b (asserted_below g z (sub z.number)) (asserted_in_calls g sub is)
-          (asserted_one z known h.0.clock held (sub z.number) laid.own.body laid.asserted (is_held z held z.manner refl) b r)
+          (asserted_one z known h.0.clock held (sub z.number)
+          (λ b. body_below i f t every w z.number b (sub z.number).body record { laid = laid.own.body; settled = laid.own.settled })
+          (λ b y. lowered i f t every w z.number b (sub z.number).asserted (laid.own.settled b y) (laid.asserted b y)) (is_held z held z.manner refl) b r)
           (each_asserted is ss (suc q) h.2 v.3 a.1 m.1 (omega (arith, e)) (b ++ asserted_below g z (sub z.number))
           (holds_more done b (asserted_below g z (sub z.number)) r))
 
@@ -495,7 +478,7 @@ module _ (i : Instance) (f : Frame) (t : ℕ) where
           own = record {
             body = first_laid;
             settled = settled;
-            modes = laid_when i f t w ready (Holds first) ready_after k.modes (own_modes w j) modes;
+            modes = laid_when i f t every w ready (Holds first) ready_after k.modes (own_modes w j) modes;
             assumed = λ b h. whole.assumed b (ready_after b h);
             guaranteed = λ b h. whole.guaranteed b (ready_after b h);
           };

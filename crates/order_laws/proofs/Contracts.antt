@@ -1,5 +1,5 @@
 -- The parts of a contract, each behind its own operands.
-use Rattle.std.proofs.Common.{◌≡◌, ℕ, Bool, true, false, cond, ◌||◌, eqb, List, [], ◌∷◌, ◌++◌, map, flat_map, refl, ap, ◌∙◌, sym, subst, Option, Some, unwrap_or}
+use Rattle.std.proofs.Common.{◌≡◌, ℕ, pred, ◌<◌, Bool, true, false, cond, ◌||◌, eqb, List, [], ◌∷◌, ◌++◌, map, flat_map, refl, ap, ◌∙◌, sym, subst, Option, Some, unwrap_or}
 use Rattle.std.specs.Prelude.{Contains}
 use Rattle.std.specs.List.{AllByRecursion, list_any}
 use Rattle.std.specs.Map.{lookup}
@@ -7,7 +7,7 @@ use Rattle.std.proofs.Math.Logic.{◌⊎◌, inl, inr}
 use Rattle.std.proofs.lemmas.Bool.{false≢true, eqb-true}
 use Rattle.lus_tree.specs.Tree.{Name, Spelled, Expression, Labelled, ContractStatement, assume, guarantee, ghost_variable, constant, mode, «import», Program}
 use Rattle.lus_meaning.specs.Frame.{Frame}
-use Rattle.lus_meaning.specs.Scene.{base, Instance, component_of, call_instance}
+use Rattle.lus_meaning.specs.Scene.{base, Instance, component_of, calls_of, call_instance}
 use Rattle.lus_meaning.specs.Meaning.{mode_key}
 use Rattle.lus_meaning.specs.Contract.{ModeTerms, terms}
 use Rattle.lus_meaning.specs.Occurrences.{on_clock}
@@ -18,7 +18,7 @@ use Rattle.lus_meaning.proofs.BooleanOrder.{IsIn, in_right}
 use Rattle.lus_meaning.proofs.Lists.{append_none, map_append, all_from, both_parts}
 use Rattle.rule_laws.specs.Laws.{IsUnfolded}
 use Rattle.sys_meaning.specs.Items.{Key}
-use Rattle.sys_meaning.specs.WellTyped.{IsAmong, IsImport, own_keys}
+use Rattle.sys_meaning.specs.WellTyped.{IsAmong, IsImport, count_of, own_keys}
 use Rattle.lus_evaluation.specs.Part.{Part, ModeParts, parts, wholes}
 use Rattle.lus_evaluation.specs.Frame.{ModeText, ContractText, FrameText, Calls, setting, conditions_of, mode_text, imported_mode, contract_after, import_parts}
 use Rattle.lus_evaluation.specs.Evaluation.{is_above}
@@ -28,27 +28,10 @@ use Rattle.evaluation_laws.proofs.Waiting.{both_true}
 use Rattle.order_laws.specs.Own.{own_setting, own_asked, imported_own, own_modes_after, own_modes}
 use Rattle.order_laws.specs.Rows.{place_there}
 use Rattle.order_laws.proofs.Lists.{grouped}
-use Rattle.order_laws.proofs.Placed.{Settled, Within, OwnIn, EachPlaced, placed_both, own_two, all_in_self}
+use Rattle.order_laws.proofs.Placed.{Settled, Within, OwnIn, EachLaid, Bodied, laid_both, laid_below, body_below, settled_among, above_further, own_two, all_in_self}
 use Rattle.order_laws.proofs.Laying.{Has, has_more, own_in}
 use Rattle.order_laws.proofs.Laid.{wholes_laid, asked_laid}
 use Rattle.order_laws.proofs.Items.{LabelFits, ItemsFit}
-
--- ---- frames on the way
-
-above_further : (v w : List ℕ) (k : ℕ) → is_above v (w ++ k ∷ []) ≡ true → (is_above v w ≡ true) ⊎ (v ≡ w ++ k ∷ [])
-above_further [] w k h = inl refl
-above_further (n ∷ v) [] k h = inr (rw (eqb-true n k (both_true (eqb n k) (is_above v []) h).0, empty v (both_true (eqb n k) (is_above v []) h).1) refl)
-  where
-    empty : (v : List ℕ) → is_above v [] ≡ true → v ≡ []
-    empty [] h = refl
-    empty (m ∷ v) h = absurd (false≢true h)
-above_further (n ∷ v) (m ∷ w) k h =
-    let q : (eqb n m ≡ true) × (is_above v (w ++ k ∷ []) ≡ true) = both_true (eqb n m) (is_above v (w ++ k ∷ [])) h in
-    go q.0 (above_further v w k q.1)
-  where
-    go : eqb n m ≡ true → (is_above v w ≡ true) ⊎ (v ≡ w ++ k ∷ []) → (is_above (n ∷ v) (m ∷ w) ≡ true) ⊎ (n ∷ v ≡ m ∷ w ++ k ∷ [])
-    go e (inl l) = inl (rw (e, l) refl)
-    go e (inr l) = inr (rw (eqb-true n m e, l) refl)
 
 -- ---- the numbers of imports
 
@@ -64,16 +47,16 @@ has_left : (sub : Calls) (ins more : List ℕ) (b : List Part) → Has sub (ins 
 has_left sub [] more b a = tt
 has_left sub (k ∷ ins) more b a = (a.0, has_left sub ins more b a.1)
 
-module _ (i : Instance) (f : Frame) (t : ℕ) where
+module _ (i : Instance) (f : Frame) (t : ℕ) (every : List Part) where
   -- ---- modes
 
   -- the parts of a mode, behind what makes them ready
   pub record ModeLaid (w : List ℕ) (ready : List Part → Type 0) (m : ModeText) (q : Key × (List NeededPlace → List Part)) : Type 0 where
     pub key : q.0 ≡ m.key
-    pub asked : (ns : List NeededPlace) (b : List Part) → ready b → EachPlaced i f t b (m.asked ns)
+    pub asked : (ns : List NeededPlace) (b : List Part) → ready b → EachLaid i f t every w b (m.asked ns)
     pub own : (ns : List NeededPlace) (b : List Part) → ready b → AllByRecursion (OwnIn i f t w b (m.asked ns) ns) (q.1 ns)
-    pub required : (b : List Part) → ready b → EachPlaced i f t b m.required
-    pub ensured : (b : List Part) → ready b → EachPlaced i f t b m.ensured
+    pub required : (b : List Part) → ready b → EachLaid i f t every w b m.required
+    pub ensured : (b : List Part) → ready b → EachLaid i f t every w b m.ensured
 
   abbrev pub AreLaid : List ℕ → (List Part → Type 0) → List ModeText → ModeParts → Type 0
   AreLaid w ready [] [] = Unit {0}
@@ -115,7 +98,7 @@ module _ (i : Instance) (f : Frame) (t : ℕ) where
 
   abbrev Found : List ℕ → List ModeText → ModeParts → Key → List NeededPlace → List Part → Type 0
   Found w ms qs key ns b =
-      EachPlaced i f t b (asked_of ms key ns) × AllByRecursion (OwnIn i f t w b (asked_of ms key ns) ns) (own_of qs key ns)
+      EachLaid i f t every w b (asked_of ms key ns) × AllByRecursion (OwnIn i f t w b (asked_of ms key ns) ns) (own_of qs key ns)
 
   pub laid_found : (w : List ℕ) (ready : List Part → Type 0) (ms moret : List ModeText) (qs more : ModeParts) → AreLaid w ready ms qs → (key : Key) →
       IsAmong (keys qs) key → (ns : List NeededPlace) (b : List Part) → ready b → Found w (ms ++ moret) (qs ++ more) key ns b
@@ -123,7 +106,7 @@ module _ (i : Instance) (f : Frame) (t : ℕ) where
   laid_found w ready [] moret (q ∷ qs) more a key h ns b r = absurd a
   laid_found w ready (m ∷ ms) moret [] more a key h ns b r = absurd a
   laid_found w ready (m ∷ ms) moret (q ∷ qs) more a key h ns b r =
-      subst (λ z. EachPlaced i f t b ((unwrap_or (cond (mode_key key m.key) (Some m.asked) rest) (λ ns. [])) ns)
+      subst (λ z. EachLaid i f t every w b ((unwrap_or (cond (mode_key key m.key) (Some m.asked) rest) (λ ns. [])) ns)
       × AllByRecursion (OwnIn i f t w b ((unwrap_or (cond (mode_key key m.key) (Some m.asked) rest) (λ ns. [])) ns) ns)
       ((unwrap_or (cond (mode_key key z) (Some q.1) others) (λ ns. [])) ns)) (sym a.0.key)
       (go (mode_key key m.key) (subst (λ z. (mode_key key z || list_any (mode_key key) (keys qs)) ≡ true) a.0.key h)
@@ -137,7 +120,7 @@ module _ (i : Instance) (f : Frame) (t : ℕ) where
 
       go : (c : Bool) → (c || list_any (mode_key key) (keys qs)) ≡ true →
           (IsAmong (keys qs) key → Found w (ms ++ moret) (qs ++ more) key ns b) →
-          EachPlaced i f t b ((unwrap_or (cond c (Some m.asked) rest) (λ ns. [])) ns)
+          EachLaid i f t every w b ((unwrap_or (cond c (Some m.asked) rest) (λ ns. [])) ns)
           × AllByRecursion (OwnIn i f t w b ((unwrap_or (cond c (Some m.asked) rest) (λ ns. [])) ns) ns)
           ((unwrap_or (cond c (Some q.1) others) (λ ns. [])) ns)
       go true k s = (a.0.asked ns b r, a.0.own ns b r)
@@ -147,11 +130,11 @@ module _ (i : Instance) (f : Frame) (t : ℕ) where
 
   -- a frame whose equations are settled where its parts are there
   pub record ImportLaid (w : List ℕ) (x : FrameText) (qs : ModeParts) : Type 0 where
-    pub body : (b : List Part) → EachPlaced i f t b x.body
+    pub body : (b : List Part) → EachLaid i f t every w b x.body
     pub settled : (b : List Part) → Holds x.body b → Settled i f t w b
     pub modes : AreLaid w (Holds x.body) x.contract.modes qs
-    pub assumed : (b : List Part) → Holds x.body b → EachPlaced i f t b x.contract.assumed
-    pub guaranteed : (b : List Part) → Holds x.body b → EachPlaced i f t b x.contract.guaranteed
+    pub assumed : (b : List Part) → Holds x.body b → EachLaid i f t every w b x.contract.assumed
+    pub guaranteed : (b : List Part) → Holds x.body b → EachLaid i f t every w b x.contract.guaranteed
 
   within_import : (w : List ℕ) (k : ℕ) (b : List Part) (v : List ℕ) → Settled i f t (w ++ k ∷ []) b → Within i f t (w ++ k ∷ []) b v → Within i f t w b v
   within_import w k b v s h y a = go (h y a)
@@ -164,6 +147,10 @@ module _ (i : Instance) (f : Frame) (t : ℕ) where
           by (inl m) = inl m
           by (inr e) = inr (subst (λ z. Settled i f t z b) (sym e) s)
 
+  -- what stands in a frame that is called, where that is settled
+  pub lowered : (w : List ℕ) (k : ℕ) (b qs : List Part) → Settled i f t (w ++ k ∷ []) b → EachLaid i f t every (w ++ k ∷ []) b qs → EachLaid i f t every w b qs
+  lowered w k b qs v e = laid_below i f t every w k b qs (λ hb hq. settled_among i f t (w ++ k ∷ []) b every v hb) e
+
   imported_laid : (w : List ℕ) (k : ℕ) (c : Name) (ready : List Part → Type 0) → ((b : List Part) → ready b → Settled i f t (w ++ k ∷ []) b) →
       (ms : List ModeText) (qs : ModeParts) → AreLaid (w ++ k ∷ []) ready ms qs → AreLaid w ready (map (imported_mode c) ms) (map (imported_own c) qs)
   imported_laid w k c ready s [] [] a = tt
@@ -172,14 +159,17 @@ module _ (i : Instance) (f : Frame) (t : ℕ) where
   imported_laid w k c ready s (m ∷ ms) (q ∷ qs) a = (
     record {
       key = ap (λ (z : Key). let r : Key = (c ∷ z.0, z.1) in r) a.0.key;
-      asked = a.0.asked;
+      asked = λ ns b r. lower b (m.asked ns) (s b r) (a.0.asked ns b r);
       own = λ ns b r. all_from (OwnIn i f t (w ++ k ∷ []) b (m.asked ns) ns) (OwnIn i f t w b (m.asked ns) ns)
           (λ x o. record { there = o.there; needs = o.needs; within = within_import w k b x.way (s b r) o.within }) (q.1 ns) (a.0.own ns b r);
-      required = a.0.required;
-      ensured = a.0.ensured;
+      required = λ b r. lower b m.required (s b r) (a.0.required b r);
+      ensured = λ b r. lower b m.ensured (s b r) (a.0.ensured b r);
     },
     imported_laid w k c ready s ms qs a.1,
   )
+    where
+      lower : (b qs : List Part) → Settled i f t (w ++ k ∷ []) b → EachLaid i f t every (w ++ k ∷ []) b qs → EachLaid i f t every w b qs
+      lower b qs v e = lowered w k b qs v e
 
   imported_keys : (c : Name) (qs : ModeParts) → keys (map (imported_own c) qs) ≡ map (λ (z : Key). let r : Key = (c ∷ z.0, z.1) in r) (keys qs)
   imported_keys c [] = refl
@@ -189,15 +179,15 @@ module _ (i : Instance) (f : Frame) (t : ℕ) where
 
   module _ (p : Program) (c : IsChecked p) (w : List ℕ) (calls : AreCalls i w) (sh : RowShows i f t w) (u : IsUnfolded p (place_there i f w))
       (d : Contains (components p) (component_of (place_there i f w))) (sub : Calls) (subo : ℕ → ModeParts)
-      (body : (k : ℕ) (b : List Part) → EachPlaced i f t b (sub k).body) where
+      (bodies : (k : ℕ) → 0 < k → pred k < count_of (calls_of (place_there i f w)) → Bodied i f t every (w ++ k ∷ []) (sub k).body) where
     abbrev j : Instance
     j = place_there i f w
 
     abbrev Laid : List Part → List Part → Type 0
-    Laid b qs = EachPlaced i f t b qs
+    Laid b qs = EachLaid i f t every w b qs
 
     both : (b qs rs : List Part) → Laid b qs → Laid (b ++ qs) rs → Laid b (qs ++ rs)
-    both b qs rs a e = placed_both i f t b qs rs a e
+    both b qs rs a e = laid_both i f t every w b qs rs a e
 
     pub record Below (k : ℕ) : Type 0 where
       pub laid : ImportLaid (w ++ k ∷ []) (sub k) (subo k)
@@ -224,7 +214,7 @@ module _ (i : Instance) (f : Frame) (t : ℕ) where
       labels_laid : (moret : List ModeText) (es : List Expression) → AllByRecursion (LabelFits j ks) es → (b : List Part) → Has sub ins b →
           Laid b (wholes (setting j w sub (ms ++ moret)) base es)
       labels_laid moret es a b r =
-          wholes_laid p c i f t w calls sh u d sub (ms ++ moret) (IsAmong ks) ins body (λ key k ns z q. (found moret key k ns z q).0)
+          wholes_laid p c i f t every w calls sh u d sub (ms ++ moret) (IsAmong ks) ins bodies (λ key k ns z q. (found moret key k ns z q).0)
           (λ key k ns z q. (found moret key k ns z q).1) es a b r
 
       values_fit : (ls : List Labelled) → AllByRecursion (λ l. LabelFits j ks l.value) ls → AllByRecursion (LabelFits j ks) (map (λ l. l.value) ls)
@@ -257,7 +247,7 @@ module _ (i : Instance) (f : Frame) (t : ℕ) where
       ensured_laid : (rs es : List Labelled) → AllByRecursion (λ l. LabelFits j ks l.value) rs → AllByRecursion (λ l. LabelFits j ks l.value) es →
           (b : List Part) → Has sub ins b →
           Laid b (flat_map (λ e. conditions_of (setting j w sub ms) rs ++ conditions_of (setting j w sub ms) (e ∷ [])) es)
-      ensured_laid rs [] a e b r = tt
+      ensured_laid rs [] a e b r = λ g hb hq. tt
       ensured_laid rs (l ∷ es) a e b r =
           let asked : List Part = conditions_of (setting j w sub ms) rs in
           let own : List Part = conditions_of (setting j w sub ms) (l ∷ []) in
@@ -269,7 +259,7 @@ module _ (i : Instance) (f : Frame) (t : ℕ) where
           ModeLaid w (Has sub ins) (mode_text (setting j w sub ms) m rs es) (([], m), own_asked j w qs rs)
       one_mode m rs es a e = record {
         key = refl;
-        asked = λ ns b r. asked_laid p c i f t w calls sh u d sub ms (IsAmong ks) ins body (λ key k ns z q. (found_here key k ns z q).0)
+        asked = λ ns b r. asked_laid p c i f t every w calls sh u d sub ms (IsAmong ks) ins bodies (λ key k ns z q. (found_here key k ns z q).0)
             (λ key k ns z q. (found_here key k ns z q).1) ns rs a b r;
         own = λ ns b r. own_laid ns rs a b r;
         required = λ b r. here_laid rs a b r;
@@ -323,15 +313,17 @@ module _ (i : Instance) (f : Frame) (t : ℕ) where
           own («import» n x as_ xs ∷ cs) ms
       import_laid ks ms qs ins here n x as_ xs cs h there k own some r g = record {
         modes = subst (λ l. AreLaid w (Has sub l) k.modes own) g r.modes;
-        assumed = λ b q. both b (sub n).contract.assumed k.assumed (there.laid.assumed b (has_at ins n (import_numbers cs) b q))
+        assumed = λ b q. both b (sub n).contract.assumed k.assumed (lowered w n b (sub n).contract.assumed (there.laid.settled b (has_at ins n (import_numbers cs) b q))
+            (there.laid.assumed b (has_at ins n (import_numbers cs) b q)))
             (r.assumed (b ++ (sub n).contract.assumed) (back (b ++ (sub n).contract.assumed)
             (has_more sub (ins ++ (n ∷ import_numbers cs)) b (sub n).contract.assumed q)));
-        guaranteed = λ b q. both b (sub n).contract.guaranteed k.guaranteed (there.laid.guaranteed b (has_at ins n (import_numbers cs) b q))
+        guaranteed = λ b q. both b (sub n).contract.guaranteed k.guaranteed (lowered w n b (sub n).contract.guaranteed (there.laid.settled b (has_at ins n (import_numbers cs) b q))
+            (there.laid.guaranteed b (has_at ins n (import_numbers cs) b q)))
             (r.guaranteed (b ++ (sub n).contract.guaranteed) (back (b ++ (sub n).contract.guaranteed)
             (has_more sub (ins ++ (n ∷ import_numbers cs)) b (sub n).contract.guaranteed q)));
         more = some ++ r.more;
         all = all;
-        imports = λ b q. both b (given ++ (sub n).body) rest (both b given (sub n).body (given_laid b q) (body n (b ++ given)))
+        imports = λ b q. both b (given ++ (sub n).body) rest (both b given (sub n).body (given_laid b q) (body_below i f t every w n (b ++ given) (sub n).body record { laid = there.laid.body; settled = there.laid.settled }))
             (r.imports (b ++ (given ++ (sub n).body)) (has_now b q));
         has = λ b q. subst (λ l. Has sub l (b ++ ((given ++ (sub n).body) ++ rest))) g
             (subst (Has sub ((ins ++ n ∷ []) ++ import_numbers cs)) (grouped b (given ++ (sub n).body) rest)
@@ -368,11 +360,11 @@ module _ (i : Instance) (f : Frame) (t : ℕ) where
           AfterLaid ins (contract_after j w sub ms cs) (own_modes_after j w subo qs cs) cs ms
       after ks ms qs ins [] h a k e = record {
         modes = subst (λ l. AreLaid w (Has sub l) ms qs) (sym (append_none ins)) a;
-        assumed = λ b r. tt;
-        guaranteed = λ b r. tt;
+        assumed = λ b r g hb hq. tt;
+        guaranteed = λ b r g hb hq. tt;
         more = [];
         all = sym (append_none ms);
-        imports = λ b r. tt;
+        imports = λ b r g hb hq. tt;
         has = λ b r. subst (λ l. Has sub l (b ++ [])) (sym (append_none ins)) (has_more sub ins b [] r);
       }
       after ks ms qs ins (assume l ∷ cs) h a k e =

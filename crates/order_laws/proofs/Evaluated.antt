@@ -1,31 +1,36 @@
 -- In the evaluation of an instant a part's own operands come before it.
 use Rattle.std.proofs.Common.{◌≡◌, ℕ, zero, suc, pred, ◌<◌, ◌≤◌, Bool, true, false, eqb, List, [], ◌∷◌, ◌++◌, map, length, get_or, Some, slice_get, refl, ap, ◌∙◌, sym, subst, arith}
 use Rattle.std.specs.Prelude.{position}
-use Rattle.std.specs.List.{AllByRecursion}
+use Rattle.std.proofs.lemmas.Grind.{common_steps}
+use Rattle.std.specs.List.{AllByRecursion, position_or_len}
 use Rattle.std.proofs.Math.Logic.{◌⊎◌, inl, inr}
-use Rattle.std.proofs.lemmas.Bool.{false≢true, true≢false, cases_order, eqb-true, eq-eqb}
+use Rattle.std.proofs.lemmas.Bool.{false≢true, true≢false, cases_Bool, cases_order, eqb-true, eq-eqb}
 use Rattle.std.proofs.lemmas.List.Quantifiers.{position-Some}
 use Rattle.std.proofs.lemmas.Option.{none-some, same_Some}
-use Rattle.lus_tree.specs.Tree.{Name}
+use Rattle.lus_tree.specs.Tree.{Name, Expression}
 use Rattle.lus_meaning.specs.Frame.{Frame}
-use Rattle.lus_meaning.specs.Scene.{Instance, component_of}
+use Rattle.lus_meaning.specs.Scene.{Clock, Instance, component_of}
+use Rattle.lus_meaning.specs.Run.{equations}
 use Rattle.lus_meaning.specs.Depends.{named_in, left_names}
 use Rattle.lus_meaning.specs.Trace.{same_numbers}
 use Rattle.lus_meaning.specs.Cycle.{Place, next_places, IsAt, IsWay, last_place, Lowers}
-use Rattle.lus_meaning.specs.Order.{is_listed, IsLeastOrder}
+use Rattle.lus_meaning.specs.Order.{is_listed, IsLeastOrder, IsNext, AreNext}
 use Rattle.lus_meaning.proofs.BooleanOrder.{IsIn, at_some}
 use Rattle.lus_meaning.proofs.Lists.{append_none}
 use Rattle.clock_laws.proofs.Reaching.{at_in}
 use Rattle.sys_meaning.proofs.Shows.{same_ways}
-use Rattle.lus_evaluation.specs.Part.{Part}
+use Rattle.lus_evaluation.specs.Part.{Part, needs_of}
+use Rattle.lus_evaluation.proofs.Turns.{next_at}
 use Rattle.lus_evaluation.specs.Evaluation.{is_above, gives_name, NeedsPlace, place_named, Waits}
 use Rattle.evaluation_laws.proofs.Wholes.{NeedsItsWhole}
 use Rattle.evaluation_laws.proofs.Waiting.{both_true, both, Passing, first_passes}
+use Rattle.order_laws.specs.Own.{own_setting}
 use Rattle.order_laws.specs.Rows.{place_there}
+use Rattle.order_laws.specs.Needed.{IsSide, IsCalled, Sees}
 use Rattle.order_laws.proofs.Lists.{grouped}
 use Rattle.order_laws.proofs.Earlier.{listed_first}
-use Rattle.order_laws.proofs.Placed.{Giver, Settled, Within, OwnIn, Placed, EachPlaced}
-use Rattle.order_laws.proofs.Bodies.{in_all, slice_in}
+use Rattle.order_laws.proofs.Placed.{above_further, Giver, Settled, Within, within_itself, WholeIn, OwnIn, Placed, EachPlaced}
+use Rattle.order_laws.proofs.Bodies.{in_all, slice_in, slice_below, each_given}
 
 -- ---- those before a number
 
@@ -34,7 +39,7 @@ firsts zero xs = []
 firsts (suc k) [] = []
 firsts (suc k) (x ∷ xs) = x ∷ firsts k xs
 
-first_at : {A : Type 0} (k : ℕ) (xs : List A) (x : A) → IsIn x (firsts k xs) → (j : ℕ) × (j < k) × (slice_get xs j ≡ Some x)
+pub first_at : {A : Type 0} (k : ℕ) (xs : List A) (x : A) → IsIn x (firsts k xs) → (j : ℕ) × (j < k) × (slice_get xs j ≡ Some x)
 first_at zero xs x h = absurd h
 first_at (suc k) [] x h = absurd h
 first_at (suc k) (y ∷ xs) x (inl e) = (zero, omega arith, ap Some (sym e))
@@ -67,6 +72,29 @@ above_both (k ∷ v) (j ∷ w) (m ∷ u) a b =
     let r : (eqb j m ≡ true) × (is_above w u ≡ true) = both_true (eqb j m) (is_above w u) b in
     both (eqb k m) (is_above v u) (eq-eqb k m (eqb-true k j q.0 ∙ eqb-true j m r.0)) (above_both v w u q.1 r.1)
 
+-- a right side gives left names
+pub side_left : (j : Instance) (xs : List Name) (c : Clock) (e : Expression) → IsSide j xs c e → (x : Name) → named_in x xs ≡ true →
+    named_in x (left_names (component_of j)) ≡ true
+side_left j xs c e s x h =
+    in_all (λ q. (x : Name) → named_in x q.names ≡ true → named_in x (left_names (component_of j)) ≡ true) (equations (component_of j)) s.equation
+    (each_given (equations (component_of j))) (slice_in (equations (component_of j)) s.there.0 s.equation s.there.1) x
+    (subst (λ l. named_in x l ≡ true) s.names h)
+
+-- one that passes is the first or stands behind it
+passes_below : (test : Part → Bool) (xs : List Part) (x : Part) → IsIn x xs → test x ≡ true → position_or_len test xs < length xs
+passes_below test [] x h p = absurd h
+passes_below test (y ∷ xs) x h p = go (cases_Bool (test y)) h (λ k. passes_below test xs x k p)
+  where
+    go : (test y ≡ true) ⊎ (test y ≡ false) → IsIn x (y ∷ xs) → (IsIn x xs → position_or_len test xs < length xs) →
+        position_or_len test (y ∷ xs) < length (y ∷ xs)
+    go (inl e) h again = rw e (omega arith)
+    go (inr e) (inl k) again = absurd (true≢false (sym p ∙ ap test k ∙ e))
+    go (inr e) (inr k) again = let l : position_or_len test xs < length xs = again k in rw e (omega (arith, l))
+
+some_passes : (test : Part → Bool) (xs : List Part) (x : Part) → IsIn x xs → test x ≡ true → (j : ℕ) × (position test xs ≡ Some j)
+some_passes test xs x h p =
+    let l : position_or_len test xs < length xs = passes_below test xs x h p in (position_or_len test xs, grind (arith, common_steps))
+
 -- ---- ways of needs
 
 module _ (i : Instance) where
@@ -78,7 +106,7 @@ module _ (i : Instance) where
   last_both s [] ys = refl
   last_both s (x ∷ xs) ys = last_both x.1 xs ys
 
-  further : (ps : List Place) (s z : Place) → NeedsPlace i ps s → (rest : List (ℕ × Place)) → IsWay i s rest → last_place s rest ≡ z → NeedsPlace i ps z
+  pub further : (ps : List Place) (s z : Place) → NeedsPlace i ps s → (rest : List (ℕ × Place)) → IsWay i s rest → last_place s rest ≡ z → NeedsPlace i ps z
   further ps s z a rest w e = record {
     number = a.number;
     start = a.start;
@@ -94,15 +122,15 @@ module _ (i : Instance) where
     way_lowers s (q ∷ rest) w =
         let l : rank q.1 < rank s = lowers s q.1 q.0 w.0 in let m : rank (last_place q.1 rest) ≤ rank q.1 = way_lowers q.1 rest w.1 in omega (arith, l, m)
 
-    module _ (f : Frame) (t : ℕ) (ps : List Part) (laid : EachPlaced i f t [] ps) (whole : AllByRecursion (NeedsItsWhole i) ps) (ks : List ℕ)
+    module _ (f : Frame) (t : ℕ) (ps : List Part) (laid : EachPlaced i f t ps [] ps) (whole : AllByRecursion (NeedsItsWhole i) ps) (ks : List ℕ)
         (o : IsLeastOrder (length ps) (Waits i ps) ks) where
-      placed_from : (b xs : List Part) (m : ℕ) (q : Part) → EachPlaced i f t b xs → slice_get xs m ≡ Some q → Placed i f t (b ++ firsts m xs) q
+      placed_from : (b xs : List Part) (m : ℕ) (q : Part) → EachPlaced i f t ps b xs → slice_get xs m ≡ Some q → Placed i f t ps (b ++ firsts m xs) q
       placed_from b [] m q a e = absurd (none-some q e)
-      placed_from b (x ∷ xs) zero q a e = subst (λ z. Placed i f t z q) (sym (append_none b)) (subst (Placed i f t b) (same_Some x q e) a.0)
+      placed_from b (x ∷ xs) zero q a e = subst (λ z. Placed i f t ps z q) (sym (append_none b)) (subst (Placed i f t ps b) (same_Some x q e) a.0)
       placed_from b (x ∷ xs) (suc m) q a e =
-          subst (λ z. Placed i f t z q) (grouped b (x ∷ []) (firsts m xs)) (placed_from (b ++ x ∷ []) xs m q a.1 e)
+          subst (λ z. Placed i f t ps z q) (grouped b (x ∷ []) (firsts m xs)) (placed_from (b ++ x ∷ []) xs m q a.1 e)
 
-      pub placed_at : (m : ℕ) (q : Part) → slice_get ps m ≡ Some q → Placed i f t (firsts m ps) q
+      pub placed_at : (m : ℕ) (q : Part) → slice_get ps m ≡ Some q → Placed i f t ps (firsts m ps) q
       placed_at m q e = placed_from [] ps m q laid e
 
       -- ---- before one part
@@ -134,7 +162,8 @@ module _ (i : Instance) where
             same = same_ways v y.way named.0
 
             given : named_in x (left_names (component_of (place_there i f v))) ≡ true
-            given = subst (λ z. named_in x (left_names (component_of (place_there i f z))) ≡ true) (sym same) ((placed_at j y g.is_there).gives x named.1)
+            given = subst (λ z. named_in x (left_names (component_of (place_there i f z))) ≡ true) (sym same)
+                (side_left (place_there i f y.way) y.gives y.clock y.expression ((placed_at j y g.is_there).gives x named.1) x named.1)
 
             giver : Giver i f t v x b
             giver = s x given
@@ -231,3 +260,69 @@ module _ (i : Instance) where
                 a.within,
                 (λ z h. bounded z),
               )
+
+          -- so are wholes that stand before it in turn and need no more
+          pub whole_listed : (c : Clock) (a : Expression) → (r : WholeIn i f t q.way b c a) →
+              AllByRecursion (λ z. NeedsPlace i q.needs z) (needs_of (own_setting (place_there i f q.way) q.way []) c a) →
+              (m : ℕ) × (slice_get ps m ≡ Some r.part) × (is_listed before m ≡ true)
+          whole_listed c a r needed =
+              let h = first_at n ps r.part r.there in (
+                h.0,
+                h.2,
+                comes_early bound h.0 r.part h.1 h.2 (
+                  (λ z y. in_all (λ z. NeedsPlace i q.needs z) (needs_of (own_setting (place_there i f q.way) q.way []) c a) z needed
+                      (subst (λ ns. IsIn z ns) r.needs y)),
+                  subst (λ v. Within i f t q.way b v) (sym r.way) (within_itself i f t q.way b),
+                  (λ z y. bounded z),
+                ),
+              )
+
+          -- what this part waits for is listed before it
+          waited : (j : ℕ) → j < length ps → Waits i ps n j → is_listed before j ≡ true
+          waited j l w = (next_at (length ps) (Waits i ps) [] before n after (subst (AreNext (length ps) (Waits i ps) []) d o.next)).ready j l w
+
+          abbrev pub Listed : List ℕ → Name → Type 0
+          Listed v x = (m : ℕ) × (y : Part) × (slice_get ps m ≡ Some y) × (is_listed before m ≡ true) × (gives_name v x y ≡ true)
+
+          listed_at : (v : List ℕ) (x : Name) (j : ℕ) → position (gives_name v x) ps ≡ Some j → is_listed before j ≡ true → Listed v x
+          listed_at v x j e h =
+              let g : Passing (gives_name v x) ps j = first_passes (gives_name v x) ps j e in (j, g.item, g.is_there, h, g.passes)
+
+          -- of a frame on the way
+          pub above_listed : (v : List ℕ) (x : Name) → is_above v q.way ≡ true → Settled i f t v ps →
+              named_in x (left_names (component_of (place_there i f v))) ≡ true → NeedsPlace i q.needs (place_named v x) → Listed v x
+          above_listed v x a s h needed =
+              let g : Giver i f t v x ps = s x h in
+              let k : (j : ℕ) × (position (gives_name v x) ps ≡ Some j) = some_passes (gives_name v x) ps g.part g.listed g.gives in
+              let r : Passing (gives_name v x) ps k.0 = first_passes (gives_name v x) ps k.0 k.1 in
+              listed_at v x k.0 k.1 (waited k.0 (slice_below ps k.0 r.item r.is_there) record {
+                waiting = q;
+                is_there = at;
+                way = v;
+                name = x;
+                above = a;
+                given = k.1;
+                needed = needed;
+              })
+
+          -- of the frame that is called
+          pub called_listed : (k : ℕ) (x : Name) → Settled i f t (q.way ++ k ∷ []) b →
+              named_in x (left_names (component_of (place_there i f (q.way ++ k ∷ [])))) ≡ true →
+              NeedsPlace i q.needs (place_named (q.way ++ k ∷ []) x) → Listed (q.way ++ k ∷ []) x
+          called_listed k x s h needed =
+              let v : List ℕ = q.way ++ k ∷ [] in
+              let g : Giver i f t v x b = s x h in
+              let z = first_at n ps g.part g.listed in
+              let y : (j : ℕ) × (position (gives_name v x) ps ≡ Some j) =
+              some_passes (gives_name v x) ps g.part (slice_in ps z.0 g.part z.2) g.gives in
+              let l : rank (place_named v x) < bound = bounded (place_named v x) in
+              let e = giver_early y.0 v x y.1 s needed (inside s) bound (omega (arith, l)) in
+              listed_at v x y.0 y.1 (comes_early bound y.0 e.0 e.1 e.2 e.3)
+            where
+              inside : Settled i f t (q.way ++ k ∷ []) b → (y : List ℕ) → is_above y (q.way ++ k ∷ []) ≡ true →
+                  (is_above y q.way ≡ true) ⊎ Settled i f t y b
+              inside s y a = go (above_further y q.way k a)
+                where
+                  go : (is_above y q.way ≡ true) ⊎ (y ≡ q.way ++ k ∷ []) → (is_above y q.way ≡ true) ⊎ Settled i f t y b
+                  go (inl m) = inl m
+                  go (inr m) = inr (subst (λ z. Settled i f t z b) (sym m) s)

@@ -42,9 +42,10 @@ use Rattle.order_laws.specs.Rows.{standpoint_there}
 use Rattle.order_laws.proofs.Lists.{grouped}
 use Rattle.order_laws.proofs.Frames.{stands_there}
 use Rattle.order_laws.proofs.OwnPast.{modes_within}
-use Rattle.order_laws.proofs.Placed.{OwnIn, Placed, EachPlaced}
+use Rattle.order_laws.proofs.Placed.{Settled, OwnIn, Placed, EachPlaced, within_itself}
 use Rattle.order_laws.proofs.Bodies.{in_all, picked_in}
-use Rattle.order_laws.proofs.Top.{instant_laid}
+use Rattle.order_laws.proofs.Trees.{FrameAt}
+use Rattle.order_laws.proofs.Top.{instant_laid, top_settled}
 use Rattle.order_laws.proofs.Evaluated.{firsts, placed_at, operand_listed}
 
 -- ---- a part of the order
@@ -90,7 +91,7 @@ numbered ps (k ∷ ks) a (y ∷ front) q rest e =
       fronts = ap (λ z. option_to_list z ++ picked m.before ps) r.1 ∙ ap (λ l. r.0 ∷ l) m.fronts ∙ ap (λ z. z ∷ front) (heads r.0 y (picked ks ps) (front ++ q ∷ rest) s);
     }
 
-one_of : (qs : List Part) (r : Part) → IsIn r qs → IsOneOf qs r
+pub one_of : (qs : List Part) (r : Part) → IsIn r qs → IsOneOf qs r
 one_of [] r h = absurd h
 one_of (y ∷ qs) r (inl e) = record { before = []; after = qs; split = ap (λ z. z ∷ qs) (sym e) }
 one_of (y ∷ qs) r (inr h) =
@@ -104,33 +105,40 @@ module _ (p : Program) (c : IsChecked p) (n : Component) (j : Contains (componen
   abbrev i : Instance
   i = instance_of p n
 
-  unfolded : IsUnfolded p i
+  pub unfolded : IsUnfolded p i
   unfolded = each_unfolded p c n j
 
-  declared : Contains (components p) (component_of i)
+  pub declared : Contains (components p) (component_of i)
   declared = subst (Contains (components p)) (sym (component_within _ p n)) j
 
   abbrev ps : List Part
   ps = in_turn ev.orders i
 
-  whole : AllByRecursion (NeedsItsWhole i) ps
+  pub whole : AllByRecursion (NeedsItsWhole i) ps
   whole =
       each_part (NeedsItsWhole i) (gives_nothing i) ev.orders i (right_sides i [] i (tree_along p c i [] i refl unfolded declared))
 
   module _ (t : ℕ) (l : t < m) where
-    shown : (w : List ℕ) → AreCalls i w → RowShows i f t w
+    pub shown : (w : List ℕ) → AreCalls i w → RowShows i f t w
     shown w a = rows_show p c n j m f run t l w a
 
-    laid : EachPlaced i f t [] ps
+    top_frame : FrameAt p c i f t ps shown ev.orders ev.least [] i
+    top_frame = record { stands = stands_there i f [] tt (each_is_well_typed p c n j).0.tree; unfolded = unfolded; declared = declared }
+
+    pub top_there : Settled i f t [] ps
+    top_there = top_settled p c i f t ps shown ev.orders ev.least top_frame
+
+    pub laid : EachPlaced i f t ps [] ps
     laid =
-        instant_laid p c i f t shown ev.orders ev.least
-        record { stands = stands_there i f [] tt (each_is_well_typed p c n j).0.tree; unfolded = unfolded; declared = declared }
+        instant_laid p c i f t ps shown ev.orders ev.least
+        top_frame
+        (within_itself i f t [] ps) (λ r m. absurd m) (λ r m. m)
 
     module _ (front : List Part) (q : Part) (rest : List Part) (e : qs ≡ front ++ q ∷ rest) where
-      at : Numbered ps ev.numbers front q
+      pub at : Numbered ps ev.numbers front q
       at = numbered ps ev.numbers ev.turn.order.below front q rest (sym ev.parts ∙ e)
 
-      here : Placed i f t (firsts at.number ps) q
+      pub here : Placed i f t ps (firsts at.number ps) q
       here = placed_at i (rank_here i) (rank_lowers i (no_circle p c i unfolded declared)) f t ps laid whole ev.numbers ev.turn at.number q at.there
 
       in_front : (r : Part) → OwnIn i f t q.way (firsts at.number ps) (firsts at.number ps) q.needs r → IsIn r front

@@ -1,23 +1,27 @@
 -- Each part of an expression stands behind its own operands.
-use Rattle.std.proofs.Common.{◌≡◌, ℕ, true, false, Bool, List, [], ◌∷◌, ◌++◌, flat_map, option_map, ap}
+use Rattle.std.proofs.Common.{◌≡◌, ℕ, zero, suc, pred, ◌<◌, ◌≤◌, arith, true, false, Bool, List, [], ◌∷◌, ◌++◌, flat_map, option_map, refl, ap}
 use Rattle.std.specs.Prelude.{Contains}
 use Rattle.std.specs.List.{AllByRecursion}
 use Rattle.std.proofs.lemmas.Bool.{false≢true}
 use Rattle.lus_tree.specs.Tree.{Name, text_of, Expression, Expressions, truth, number, name, negation, minus, pre, arrow, binary, choice, sampled, merged, call, condact, mode_name, no_more, more, Labelled, Program}
 use Rattle.lus_meaning.specs.Value.{is}
 use Rattle.lus_meaning.specs.Frame.{Frame}
-use Rattle.lus_meaning.specs.Scene.{Clock, base, sampled_by, Instance, component_of, clock_of, Scene, is_on}
+use Rattle.lus_meaning.specs.Scene.{Clock, base, sampled_by, plain, while_true, Site, Instance, component_of, calls_of, clock_of, Scene, is_on}
 use Rattle.lus_meaning.specs.Occurrences.{Standing, on_clock, within, before, moved}
-use Rattle.lus_meaning.specs.Depends.{named_in, left_names}
+use Rattle.lus_meaning.specs.Depends.{named_in}
 use Rattle.lus_meaning.specs.Cycle.{Place as NeededPlace}
 use Rattle.lus_meaning.specs.ClockFaults.{components}
 use Rattle.lus_meaning.specs.Refusals.{IsChecked}
-use Rattle.lus_meaning.proofs.BooleanOrder.{in_left, in_right}
+use Rattle.lus_meaning.specs.Program.{listed}
+use Rattle.lus_meaning.proofs.BooleanOrder.{IsIn, in_left, in_right}
 use Rattle.lus_meaning.proofs.EachPart.{Each, EachAmong}
+use Rattle.lus_meaning.proofs.Lists.{all_from}
 use Rattle.rule_laws.specs.Laws.{IsUnfolded}
+use Rattle.rule_laws.specs.Fitting.{CallFits}
 use Rattle.sys_meaning.specs.Items.{Key}
-use Rattle.sys_meaning.specs.WellTyped.{IsKnown, IsNameOn, clock_here, Stands}
-use Rattle.path_laws.proofs.Standing.{Known}
+use Rattle.sys_meaning.specs.Defaults.{site_at, site_of}
+use Rattle.sys_meaning.specs.WellTyped.{IsKnown, count_of, IsNameOn, clock_here, Stands}
+use Rattle.path_laws.proofs.Standing.{Known, site_there}
 use Rattle.path_laws.proofs.Places.{stand}
 use Rattle.lus_evaluation.specs.Part.{Part, Setting, needs_of, key_of, asked_in, part, parts, argument_parts, operand_parts, whole_parts, wholes}
 use Rattle.lus_evaluation.specs.Frame.{ModeText, Calls, setting}
@@ -26,11 +30,12 @@ use Rattle.slot_values.specs.Parts.{own_parts, operands}
 use Rattle.evaluation_laws.specs.Rows.{AreCalls, row_at, scene_there, numbers_there, RowShows}
 use Rattle.order_laws.specs.Own.{own_setting, own_modes}
 use Rattle.order_laws.specs.Rows.{place_there}
+use Rattle.order_laws.specs.Needed.{IsSide}
 use Rattle.order_laws.proofs.Frames.{base_there}
-use Rattle.order_laws.proofs.Placed.{OwnIn, EachPlaced, placed_both, own_wider, own_later, own_two}
-use Rattle.order_laws.proofs.Laying.{Named, Has, has_more, own_in}
+use Rattle.order_laws.proofs.Placed.{Among, Settled, OwnIn, CalledIn, WholesIn, IsSiteOf, EachLaid, Bodied, laid_both, body_below, all_in_self, own_wider, own_later, own_two}
+use Rattle.order_laws.proofs.Laying.{Named, Has, has_more, root_in, own_in}
 
-module _ (p : Program) (c : IsChecked p) (i : Instance) (f : Frame) (t : ℕ) (w : List ℕ) (calls : AreCalls i w) (sh : RowShows i f t w)
+module _ (p : Program) (c : IsChecked p) (i : Instance) (f : Frame) (t : ℕ) (every : List Part) (w : List ℕ) (calls : AreCalls i w) (sh : RowShows i f t w)
     (u : IsUnfolded p (place_there i f w)) (d : Contains (components p) (component_of (place_there i f w))) where
   abbrev j : Instance
   j = place_there i f w
@@ -41,18 +46,19 @@ module _ (p : Program) (c : IsChecked p) (i : Instance) (f : Frame) (t : ℕ) (w
   abbrev Shown : Clock → Type 0
   Shown k = clock_on (row_by (numbers_there i w) (row_at i f t)) k ≡ is_on sc k t
 
-  abbrev Gives : List Name → Type 0
-  Gives xs = (x : Name) → named_in x xs ≡ true → named_in x (left_names (component_of j)) ≡ true
+  abbrev Gives : List Name → Clock → Expression → Type 0
+  Gives xs k e = (x : Name) → named_in x xs ≡ true → IsSide j xs k e
 
-  gives_none : Gives []
+  gives_none : {k : Clock} {e : Expression} → Gives [] k e
   gives_none x h = absurd (false≢true h)
 
   abbrev Knows : Standing → Expression → Type 0
   Knows s e = Each (Known j) (component_of j) s e
 
-  module _ (sub : Calls) (ms : List ModeText) (M : Key → Type 0) (ins : List ℕ) (body : (k : ℕ) (b : List Part) → EachPlaced i f t b (sub k).body)
+  module _ (sub : Calls) (ms : List ModeText) (M : Key → Type 0) (ins : List ℕ)
+      (bodies : (k : ℕ) → 0 < k → pred k < count_of (calls_of j) → Bodied i f t every (w ++ k ∷ []) (sub k).body)
       (modes : (key : Key) → M key → (ns : List NeededPlace) (b : List Part) → Has sub ins b →
-      EachPlaced i f t b (asked_in (setting j w sub ms) ns key))
+      EachLaid i f t every w b (asked_in (setting j w sub ms) ns key))
       (asks : (key : Key) → M key → (ns : List NeededPlace) (b : List Part) → Has sub ins b →
       AllByRecursion (OwnIn i f t w b (asked_in (setting j w sub ms) ns key) ns) (asked_in (own_setting j w (own_modes w j)) ns key)) where
     abbrev g : Setting
@@ -62,7 +68,7 @@ module _ (p : Program) (c : IsChecked p) (i : Instance) (f : Frame) (t : ℕ) (w
     h = own_setting j w (own_modes w j)
 
     abbrev Laid : List Part → List Part → Type 0
-    Laid b qs = EachPlaced i f t b qs
+    Laid b qs = EachLaid i f t every w b qs
 
     abbrev Names : Standing → Expression → Type 0
     Names s e = Each (Named M) (component_of j) s e
@@ -71,10 +77,11 @@ module _ (p : Program) (c : IsChecked p) (i : Instance) (f : Frame) (t : ℕ) (w
     Own b ns qs os = AllByRecursion (OwnIn i f t w b qs ns) os
 
     -- a part behind these parts, which has its own operands among them
-    last : (b : List Part) (ns : List NeededPlace) (xs : List Name) (s : Standing) (e : Expression) → Knows s e → Shown s.clock → Gives xs →
-        (front : List Part) → Laid b front → Own b ns front (operands h ns s.clock e) → Laid b (front ++ part g ns xs s.clock e ∷ [])
-    last b ns xs s e k o v front a q =
-        placed_both i f t b front (part g ns xs s.clock e ∷ []) a (
+    last : (b : List Part) (ns : List NeededPlace) (xs : List Name) (s : Standing) (e : Expression) → Knows s e → Shown s.clock → Gives xs s.clock e →
+        (front : List Part) → Laid b front → Own b ns front (operands h ns s.clock e) → CalledIn i f t w (b ++ front) s.clock e →
+        Laid b (front ++ part g ns xs s.clock e ∷ [])
+    last b ns xs s e k o v front a q z =
+        laid_both i f t every w b front (part g ns xs s.clock e ∷ []) a (λ inside hb hq. (
           record {
             calls = calls;
             stands = stand p c j u d s e k;
@@ -82,9 +89,50 @@ module _ (p : Program) (c : IsChecked p) (i : Instance) (f : Frame) (t : ℕ) (w
             gives = v;
             operands = own_later i f t w b front (b ++ front) (operands h ns s.clock e) ns
                 (own_wider i f t w b front (b ++ front) (operands h ns s.clock e) ns (λ r m. in_right r b front m) q);
+            called = z;
+            inside = inside;
           },
           tt,
+        ))
+
+    nothing : (b : List Part) → Laid b []
+    nothing b g hb hq = tt
+
+    abbrev Called : ℕ → Type 0
+    Called k = Bodied i f t every (w ++ k ∷ []) (sub k).body
+
+    -- the site of a call
+    site_numbered : (m : ℕ) → 1 ≤ m → (z : Site) → site_at (calls_of j) (pred m) ≡ z → site_of j m ≡ z
+    site_numbered zero l z e = absurd (omega (arith, l))
+    site_numbered (suc m) l z e = e
+
+    sited : (z : Site) → CallFits j z → IsSiteOf i f t w z.number z.clock z.arguments
+    sited z a =
+        let e : site_of j z.number ≡ z = site_numbered z.number a.number z (site_there (calls_of j) (pred z.number) z a.site).0 in
+        (ap (λ y. y.clock) e, ap (λ y. y.arguments) e, (let l : 1 ≤ z.number = a.number in omega (arith, l)))
+
+    -- arguments are wholes
+    wholes_in : (k : Clock) (as_ : Expressions) (qs : List Part) → Among (argument_parts g k as_) qs → WholesIn i f t w qs k (listed as_)
+    wholes_in k no_more qs m = tt
+    wholes_in k (more a as_) qs m =
+        let one : List Part = parts g (needs_of g k a) [] k a in (
+          record {
+            part = part g (needs_of g k a) [] k a;
+            there = m (part g (needs_of g k a) [] k a) (in_left (part g (needs_of g k a) [] k a) one (argument_parts g k as_)
+                (root_in g (needs_of g k a) [] k a));
+            way = refl;
+            clock = refl;
+            expression = refl;
+            needs = refl;
+          },
+          wholes_in k as_ qs (λ y z. m y (in_right y one (argument_parts g k as_) z)),
         )
+
+    -- the frame that is called, where its parts stand among these
+    settled_in : (k : ℕ) → Called k → (b qs : List Part) → Among (g.body k) qs → Settled i f t (w ++ k ∷ []) (b ++ qs)
+    settled_in k a b qs m =
+        a.settled (b ++ qs) (all_from (λ r. IsIn r (g.body k)) (λ r. IsIn r (b ++ qs)) (λ r y. in_right r b qs (m r y)) (g.body k)
+        (all_in_self (g.body k)))
 
     ours : (b : List Part) → Has sub ins b → (ns : List NeededPlace) (s : Standing) (e : Expression) → Names s e →
         Own b ns (parts g ns [] s.clock e) (own_parts h ns [] s.clock e)
@@ -94,7 +142,7 @@ module _ (p : Program) (c : IsChecked p) (i : Instance) (f : Frame) (t : ℕ) (w
     twice b ns qs rs os us a e = own_two i f t w b qs rs os us ns a e
 
     both : (b qs rs : List Part) → Laid b qs → Laid (b ++ qs) rs → Laid b (qs ++ rs)
-    both b qs rs a e = placed_both i f t b qs rs a e
+    both b qs rs a e = laid_both i f t every w b qs rs a e
 
     on_name : (x : Name) (k : Clock) → IsNameOn j (IsKnown j) k x → Shown (clock_here j (IsKnown j) x)
     on_name x k n = sh.clocks x n.stream n.declared
@@ -104,33 +152,40 @@ module _ (p : Program) (c : IsChecked p) (i : Instance) (f : Frame) (t : ℕ) (w
 
     mutual
       pub each_laid : (b : List Part) → Has sub ins b → (ns : List NeededPlace) (xs : List Name) (s : Standing) (e : Expression) → Knows s e → Names s e →
-          Shown s.clock → Gives xs → Laid b (parts g ns xs s.clock e)
-      each_laid b r ns xs s (truth q a) k n o v = last b ns xs s (truth q a) k o v [] tt tt
-      each_laid b r ns xs s (number q a) k n o v = last b ns xs s (number q a) k o v [] tt tt
-      each_laid b r ns xs s (name q a) k n o v = last b ns xs s (name q a) k o v [] tt tt
+          Shown s.clock → Gives xs s.clock e → Laid b (parts g ns xs s.clock e)
+      each_laid b r ns xs s (truth q a) k n o v = last b ns xs s (truth q a) k o v [] (nothing b) tt tt
+      each_laid b r ns xs s (number q a) k n o v = last b ns xs s (number q a) k o v [] (nothing b) tt tt
+      each_laid b r ns xs s (name q a) k n o v = last b ns xs s (name q a) k o v [] (nothing b) tt tt
       each_laid b r ns xs s (negation q a) k n o v =
           last b ns xs s (negation q a) k o v (parts g ns [] s.clock a) (each_laid b r ns [] (within s) a k.1 n.1 o gives_none)
-          (ours b r ns (within s) a n.1)
+          (ours b r ns (within s) a n.1) tt
       each_laid b r ns xs s (minus q a) k n o v =
           last b ns xs s (minus q a) k o v (parts g ns [] s.clock a) (each_laid b r ns [] (within s) a k.1 n.1 o gives_none)
-          (ours b r ns (within s) a n.1)
+          (ours b r ns (within s) a n.1) tt
       each_laid b r ns xs s (pre q l a) k n o v =
           last b ns xs s (pre q l a) k o v (parts g (needs_of g s.clock a) [] s.clock a)
-          (each_laid b r (needs_of g s.clock a) [] (before s) a k.1 n.1 o gives_none) tt
+          (each_laid b r (needs_of g s.clock a) [] (before s) a k.1 n.1 o gives_none) tt record {
+            part = part g (needs_of g s.clock a) [] s.clock a;
+            there = in_right (part g (needs_of g s.clock a) [] s.clock a) b (parts g (needs_of g s.clock a) [] s.clock a)
+                (root_in g (needs_of g s.clock a) [] s.clock a);
+            way = refl;
+            clock = refl;
+            expression = refl;
+          }
       each_laid b r ns xs s (arrow q l a e) k n o v =
           let one : List Part = parts g ns [] s.clock a in
           let other : List Part = parts g ns [] s.clock e in
           last b ns xs s (arrow q l a e) k o v (one ++ other)
           (both b one other (each_laid b r ns [] (within s) a k.1 n.1 o gives_none)
           (each_laid (b ++ one) (has_more sub ins b one r) ns [] (within s) e k.2 n.2 o gives_none))
-          (twice b ns one other (own_parts h ns [] s.clock a) (own_parts h ns [] s.clock e) (ours b r ns (within s) a n.1) (ours b r ns (within s) e n.2))
+          (twice b ns one other (own_parts h ns [] s.clock a) (own_parts h ns [] s.clock e) (ours b r ns (within s) a n.1) (ours b r ns (within s) e n.2)) tt
       each_laid b r ns xs s (binary q l a e) k n o v =
           let one : List Part = parts g ns [] s.clock a in
           let other : List Part = parts g ns [] s.clock e in
           last b ns xs s (binary q l a e) k o v (one ++ other)
           (both b one other (each_laid b r ns [] (within s) a k.1 n.1 o gives_none)
           (each_laid (b ++ one) (has_more sub ins b one r) ns [] (within s) e k.2 n.2 o gives_none))
-          (twice b ns one other (own_parts h ns [] s.clock a) (own_parts h ns [] s.clock e) (ours b r ns (within s) a n.1) (ours b r ns (within s) e n.2))
+          (twice b ns one other (own_parts h ns [] s.clock a) (own_parts h ns [] s.clock e) (ours b r ns (within s) a n.1) (ours b r ns (within s) e n.2)) tt
       each_laid b r ns xs s (choice q a e z) k n o v =
           let one : List Part = parts g ns [] s.clock a in
           let other : List Part = parts g ns [] s.clock e in
@@ -142,12 +197,12 @@ module _ (p : Program) (c : IsChecked p) (i : Instance) (f : Frame) (t : ℕ) (w
           (each_laid (b ++ (one ++ other)) (has_more sub ins b (one ++ other) r) ns [] (within s) z k.3 n.3 o gives_none))
           (twice b ns (one ++ other) third (own_parts h ns [] s.clock a ++ own_parts h ns [] s.clock e) (own_parts h ns [] s.clock z)
           (twice b ns one other (own_parts h ns [] s.clock a) (own_parts h ns [] s.clock e) (ours b r ns (within s) a n.1) (ours b r ns (within s) e n.2))
-          (ours b r ns (within s) z n.3))
+          (ours b r ns (within s) z n.3)) tt
       each_laid b r ns xs s (sampled q a l x) k n o v =
           let here : Clock = clock_of (component_of j) x.text in
           let st : Stands j (IsKnown j) s.clock (sampled q a l x) = stand p c j u d s (sampled q a l x) k in
           last b ns xs s (sampled q a l x) k o v (parts g ns [] here a)
-          (each_laid b r ns [] (moved here s) a k.1 n.1 (on_name x.text here st.1) gives_none) (ours b r ns (moved here s) a n.1)
+          (each_laid b r ns [] (moved here s) a k.1 n.1 (on_name x.text here st.1) gives_none) (ours b r ns (moved here s) a n.1) tt
       each_laid b r ns xs s (merged q x a e) k n o v =
           let yes : Clock = sampled_by true x.text in
           let no : Clock = sampled_by false x.text in
@@ -157,31 +212,45 @@ module _ (p : Program) (c : IsChecked p) (i : Instance) (f : Frame) (t : ℕ) (w
           last b ns xs s (merged q x a e) k o v (one ++ other)
           (both b one other (each_laid b r ns [] (moved yes s) a k.1 n.1 (on_truth true x.text s.clock st.0) gives_none)
           (each_laid (b ++ one) (has_more sub ins b one r) ns [] (moved no s) e k.2 n.2 (on_truth false x.text s.clock st.0) gives_none))
-          (twice b ns one other (own_parts h ns [] yes a) (own_parts h ns [] no e) (ours b r ns (moved yes s) a n.1) (ours b r ns (moved no s) e n.2))
+          (twice b ns one other (own_parts h ns [] yes a) (own_parts h ns [] no e) (ours b r ns (moved yes s) a n.1) (ours b r ns (moved no s) e n.2)) tt
       each_laid b r ns xs s (call q l z as_) k n o v =
           let given : List Part = argument_parts g s.clock as_ in
+          let st : Stands j (IsKnown j) s.clock (call q l z as_) = stand p c j u d s (call q l z as_) k in
+          let bd : Called l = bodies l st.0.call.counted st.0.call.listed in
           last b ns xs s (call q l z as_) k o v (given ++ g.body l)
-          (both b given (g.body l) (each_argument b r (within s) as_ k.1 n.1 o) (body l (b ++ given))) tt
+          (both b given (g.body l) (each_argument b r (within s) as_ k.1 n.1 o) (body_below i f t every w l (b ++ given) (g.body l) bd)) tt (
+            settled_in l bd b (given ++ g.body l) (λ y m. in_right y given (g.body l) m),
+            wholes_in s.clock as_ (b ++ (given ++ g.body l)) (λ y m. in_right y b (given ++ g.body l) (in_left y given (g.body l) m)),
+            sited record { number = l; callee = z.text; clock = s.clock; arguments = listed as_; defaults = []; manner = plain } k.0.fits,
+          )
       each_laid b r ns xs s (condact q l a z as_ ds) k n o v =
           let asked : List Part = parts g ns [] s.clock a in
           let given : List Part = argument_parts g s.clock as_ in
           let kept : List Part = operand_parts g ns s.clock ds in
+          let st : Stands j (IsKnown j) s.clock (condact q l a z as_ ds) = stand p c j u d s (condact q l a z as_ ds) k in
+          let bd : Called l = bodies l st.0.call.counted st.0.call.listed in
           last b ns xs s (condact q l a z as_ ds) k o v (asked ++ given ++ g.body l ++ kept)
           (both b (asked ++ given ++ g.body l) kept
           (both b (asked ++ given) (g.body l)
           (both b asked given (each_laid b r ns [] (within s) a k.1 n.1 o gives_none)
-          (each_argument (b ++ asked) (has_more sub ins b asked r) (within s) as_ k.2 n.2 o)) (body l (b ++ (asked ++ given))))
+          (each_argument (b ++ asked) (has_more sub ins b asked r) (within s) as_ k.2 n.2 o)) (body_below i f t every w l (b ++ (asked ++ given)) (g.body l) bd))
           (each_operand (b ++ (asked ++ given ++ g.body l)) (has_more sub ins b (asked ++ given ++ g.body l) r) ns (within s) ds k.3 n.3 o))
           (own_wider i f t w b asked (asked ++ given ++ g.body l ++ kept) (own_parts h ns [] s.clock a) ns
           (λ x m. in_left x (asked ++ given ++ g.body l) kept (in_left x (asked ++ given) (g.body l) (in_left x asked given m)))
-          (ours b r ns (within s) a n.1))
+          (ours b r ns (within s) a n.1)) (
+            settled_in l bd b (asked ++ given ++ g.body l ++ kept)
+                (λ y m. in_left y (asked ++ given ++ g.body l) kept (in_right y (asked ++ given) (g.body l) m)),
+            wholes_in s.clock as_ (b ++ (asked ++ given ++ g.body l ++ kept)) (λ y m. in_right y b (asked ++ given ++ g.body l ++ kept)
+                (in_left y (asked ++ given ++ g.body l) kept (in_left y (asked ++ given) (g.body l) (in_right y asked given m)))),
+            sited record { number = l; callee = z.text; clock = s.clock; arguments = listed as_; defaults = listed ds; manner = while_true a } k.0.fits.0,
+          )
       each_laid b r ns xs s (mode_name q x m) k n o v =
           last b ns xs s (mode_name q x m) k o v (asked_in g ns (key_of (option_map text_of x) m.text))
-          (modes (key_of (option_map text_of x) m.text) n ns b r) (asks (key_of (option_map text_of x) m.text) n ns b r)
+          (modes (key_of (option_map text_of x) m.text) n ns b r) (asks (key_of (option_map text_of x) m.text) n ns b r) tt
 
       each_argument : (b : List Part) → Has sub ins b → (s : Standing) (as_ : Expressions) → EachAmong (Known j) (component_of j) s as_ →
           EachAmong (Named M) (component_of j) s as_ → Shown s.clock → Laid b (argument_parts g s.clock as_)
-      each_argument b r s no_more k n o = tt
+      each_argument b r s no_more k n o = nothing b
       each_argument b r s (more a as_) k n o =
           let one : List Part = parts g (needs_of g s.clock a) [] s.clock a in
           both b one (argument_parts g s.clock as_) (each_laid b r (needs_of g s.clock a) [] s a k.0 n.0 o gives_none)
@@ -190,7 +259,7 @@ module _ (p : Program) (c : IsChecked p) (i : Instance) (f : Frame) (t : ℕ) (w
       each_operand : (b : List Part) → Has sub ins b → (ns : List NeededPlace) (s : Standing) (as_ : Expressions) →
           EachAmong (Known j) (component_of j) s as_ →
           EachAmong (Named M) (component_of j) s as_ → Shown s.clock → Laid b (operand_parts g ns s.clock as_)
-      each_operand b r ns s no_more k n o = tt
+      each_operand b r ns s no_more k n o = nothing b
       each_operand b r ns s (more a as_) k n o =
           let one : List Part = parts g ns [] s.clock a in
           both b one (operand_parts g ns s.clock as_) (each_laid b r ns [] s a k.0 n.0 o gives_none)
@@ -202,7 +271,7 @@ module _ (p : Program) (c : IsChecked p) (i : Instance) (f : Frame) (t : ℕ) (w
     IsLabel e = Knows (on_clock base) e × Names (on_clock base) e
 
     pub wholes_laid : (es : List Expression) → AllByRecursion IsLabel es → (b : List Part) → Has sub ins b → Laid b (wholes g base es)
-    wholes_laid [] a b r = tt
+    wholes_laid [] a b r = nothing b
     wholes_laid (e ∷ es) a b r =
         let one : List Part = whole_parts g [] base e in
         both b one (wholes g base es)
@@ -211,7 +280,7 @@ module _ (p : Program) (c : IsChecked p) (i : Instance) (f : Frame) (t : ℕ) (w
 
     pub asked_laid : (ns : List NeededPlace) (rs : List Labelled) → AllByRecursion (λ l. IsLabel l.value) rs → (b : List Part) → Has sub ins b →
         Laid b (flat_map (λ r. parts g ns [] base r.value) rs)
-    asked_laid ns [] a b r = tt
+    asked_laid ns [] a b r = nothing b
     asked_laid ns (l ∷ rs) a b r =
         let one : List Part = parts g ns [] base l.value in
         both b one (flat_map (λ r. parts g ns [] base r.value) rs)

@@ -1,12 +1,13 @@
 -- The parts of an expression, each behind its own operands.
 use Rattle.std.proofs.Common.{◌≡◌, ℕ, true, false, List, [], ◌∷◌, ◌++◌, option_map, option_to_list, refl}
+use Rattle.std.proofs.Math.Logic.{inl}
 use Rattle.std.specs.List.{AllByRecursion}
 use Rattle.lus_tree.specs.Tree.{Name, text_of, Expression, truth, number, name, negation, minus, pre, arrow, binary, choice, sampled, merged, call, condact, mode_name}
 use Rattle.lus_meaning.specs.Frame.{Frame}
 use Rattle.lus_meaning.specs.Scene.{Clock, sampled_by, Instance, component_of, clock_of}
 use Rattle.lus_meaning.specs.Occurrences.{Standing, within, moved, Occurrence}
 use Rattle.lus_meaning.specs.Cycle.{Place as NeededPlace}
-use Rattle.lus_meaning.proofs.BooleanOrder.{IsIn, in_left}
+use Rattle.lus_meaning.proofs.BooleanOrder.{IsIn, in_left, in_right}
 use Rattle.lus_meaning.proofs.EachPart.{Each}
 use Rattle.lus_meaning.proofs.Lists.{all_from}
 use Rattle.sys_meaning.specs.Items.{Key}
@@ -32,6 +33,28 @@ pub has_more : (sub : Calls) (ins : List ℕ) (b xs : List Part) → Has sub ins
 has_more sub ins b xs a =
     all_from (λ k. AllByRecursion (λ r. IsIn r b) (sub k).body) (λ k. AllByRecursion (λ r. IsIn r (b ++ xs)) (sub k).body)
     (λ k h. all_from (λ r. IsIn r b) (λ r. IsIn r (b ++ xs)) (λ r m. in_left r b xs m) (sub k).body h) ins a
+
+-- an expression is one of its parts
+at_end : (qs : List Part) (q : Part) → IsIn q (qs ++ q ∷ [])
+at_end qs q = in_right q qs (q ∷ []) (inl refl)
+
+pub root_in : (g : Setting) (ns : List NeededPlace) (xs : List Name) (c : Clock) (e : Expression) → IsIn (part g ns xs c e) (parts g ns xs c e)
+root_in g ns xs c (truth p b) = inl refl
+root_in g ns xs c (number p n) = inl refl
+root_in g ns xs c (name p x) = inl refl
+root_in g ns xs c (negation p a) = at_end (parts g ns [] c a) (part g ns xs c (negation p a))
+root_in g ns xs c (minus p a) = at_end (parts g ns [] c a) (part g ns xs c (minus p a))
+root_in g ns xs c (pre p k a) = at_end (parts g (needs_of g c a) [] c a) (part g ns xs c (pre p k a))
+root_in g ns xs c (arrow p k a b) = at_end (parts g ns [] c a ++ parts g ns [] c b) (part g ns xs c (arrow p k a b))
+root_in g ns xs c (binary p o a b) = at_end (parts g ns [] c a ++ parts g ns [] c b) (part g ns xs c (binary p o a b))
+root_in g ns xs c (choice p a b d) = at_end (parts g ns [] c a ++ parts g ns [] c b ++ parts g ns [] c d) (part g ns xs c (choice p a b d))
+root_in g ns xs c (sampled p a q x) = at_end (parts g ns [] (clock_of (component_of g.place) x.text) a) (part g ns xs c (sampled p a q x))
+root_in g ns xs c (merged p x a b) =
+    at_end (parts g ns [] (sampled_by true x.text) a ++ parts g ns [] (sampled_by false x.text) b) (part g ns xs c (merged p x a b))
+root_in g ns xs c (call p k f as_) = at_end (argument_parts g c as_ ++ g.body k) (part g ns xs c (call p k f as_))
+root_in g ns xs c (condact p k a f as_ ds) =
+    at_end (parts g ns [] c a ++ argument_parts g c as_ ++ g.body k ++ operand_parts g ns c ds) (part g ns xs c (condact p k a f as_ ds))
+root_in g ns xs c (mode_name p d m) = at_end (asked_in g ns (key_of (option_map text_of d) m.text)) (part g ns xs c (mode_name p d m))
 
 module _ (i : Instance) (f : Frame) (t : ℕ) where
   -- ---- own parts are parts

@@ -16,3 +16,6 @@ pub mod Trees
 pub mod Top
 pub mod Evaluated
 pub mod FirstByRows
+pub mod Needed
+pub mod NoneOutside
+pub mod Inputs

@@ -1,26 +1,69 @@
 -- Parts with all that comes before them in turn.
-use Rattle.std.proofs.Common.{◌≡◌, ℕ, true, List, [], ◌∷◌, ◌++◌, refl, sym, subst}
+use Rattle.std.proofs.Common.{◌≡◌, ℕ, ◌<◌, true, eqb, List, [], ◌∷◌, ◌++◌, refl, sym, subst}
 use Rattle.std.specs.List.{AllByRecursion}
 use Rattle.std.proofs.Math.Logic.{◌⊎◌, inl, inr}
-use Rattle.lus_tree.specs.Tree.{Name}
+use Rattle.std.proofs.lemmas.Bool.{false≢true, eqb-true}
+use Rattle.lus_tree.specs.Tree.{Name, Expression, pre, call, condact}
 use Rattle.lus_meaning.specs.Frame.{Frame}
-use Rattle.lus_meaning.specs.Scene.{Instance, component_of, is_on}
+use Rattle.lus_meaning.specs.Scene.{Clock, Instance, component_of, is_on}
 use Rattle.lus_meaning.specs.Depends.{named_in, left_names}
 use Rattle.lus_meaning.specs.Cycle.{Place as NeededPlace}
 use Rattle.lus_meaning.proofs.BooleanOrder.{IsIn, in_left, in_right}
 use Rattle.lus_meaning.proofs.Lists.{append_none, all_from, both_parts}
+use Rattle.sys_meaning.specs.Defaults.{site_of}
 use Rattle.sys_meaning.specs.WellTyped.{IsKnown, Stands}
-use Rattle.lus_evaluation.specs.Part.{Part}
+use Rattle.lus_meaning.specs.Program.{listed}
+use Rattle.lus_evaluation.specs.Part.{Part, needs_of}
 use Rattle.lus_evaluation.specs.Evaluation.{is_above, gives_name}
 use Rattle.slot_values.specs.Clocked.{row_by, clock_on}
 use Rattle.slot_values.specs.Parts.{operands, setting_at}
 use Rattle.evaluation_laws.specs.Rows.{AreCalls, row_at, scene_there, numbers_there}
+use Rattle.evaluation_laws.proofs.Waiting.{both_true}
+use Rattle.order_laws.specs.Own.{own_setting}
 use Rattle.order_laws.specs.Rows.{place_there, standpoint_there}
+use Rattle.order_laws.specs.Needed.{IsSide}
 use Rattle.order_laws.proofs.Lists.{grouped}
 
 pub all_in_self : {A : Type 0} (xs : List A) → AllByRecursion (λ x. IsIn x xs) xs
 all_in_self [] = tt
 all_in_self {A} (x ∷ xs) = (inl refl, all_from (λ y. IsIn y xs) (λ y. IsIn y (x ∷ xs)) (λ y h. inr h) xs (all_in_self xs))
+
+-- these parts are among those
+abbrev pub Among : List Part → List Part → Type 0
+Among qs rs = (r : Part) → IsIn r qs → IsIn r rs
+
+in_either : (qs rs : List Part) (r : Part) → IsIn r (qs ++ rs) → IsIn r qs ⊎ IsIn r rs
+in_either [] rs r h = inr h
+in_either (q ∷ qs) rs r (inl e) = inl (inl e)
+in_either (q ∷ qs) rs r (inr h) = go (in_either qs rs r h)
+  where
+    go : IsIn r qs ⊎ IsIn r rs → IsIn r (q ∷ qs) ⊎ IsIn r rs
+    go (inl m) = inl (inr m)
+    go (inr m) = inr m
+
+among_both : (qs rs zs : List Part) → Among qs zs → Among rs zs → Among (qs ++ rs) zs
+among_both qs rs zs a e r h = go (in_either qs rs r h)
+  where
+    go : IsIn r qs ⊎ IsIn r rs → IsIn r zs
+    go (inl m) = a r m
+    go (inr m) = e r m
+
+-- ---- frames on the way
+
+pub above_further : (v w : List ℕ) (k : ℕ) → is_above v (w ++ k ∷ []) ≡ true → (is_above v w ≡ true) ⊎ (v ≡ w ++ k ∷ [])
+above_further [] w k h = inl refl
+above_further (n ∷ v) [] k h = inr (rw (eqb-true n k (both_true (eqb n k) (is_above v []) h).0, empty v (both_true (eqb n k) (is_above v []) h).1) refl)
+  where
+    empty : (v : List ℕ) → is_above v [] ≡ true → v ≡ []
+    empty [] h = refl
+    empty (m ∷ v) h = absurd (false≢true h)
+above_further (n ∷ v) (m ∷ w) k h =
+    let q : (eqb n m ≡ true) × (is_above v (w ++ k ∷ []) ≡ true) = both_true (eqb n m) (is_above v (w ++ k ∷ [])) h in
+    go q.0 (above_further v w k q.1)
+  where
+    go : eqb n m ≡ true → (is_above v w ≡ true) ⊎ (v ≡ w ++ k ∷ []) → (is_above (n ∷ v) (m ∷ w) ≡ true) ⊎ (n ∷ v ≡ m ∷ w ++ k ∷ [])
+    go e (inl l) = inl (rw (e, l) refl)
+    go e (inr l) = inr (rw (eqb-true n m e, l) refl)
 
 module _ (i : Instance) (f : Frame) (t : ℕ) where
   -- each name that an equation of that frame gives is given by one of these parts
@@ -35,6 +78,10 @@ module _ (i : Instance) (f : Frame) (t : ℕ) where
   -- each frame on the way to the second one is on the way to the first, or its equations are there
   abbrev pub Within : List ℕ → List Part → List ℕ → Type 0
   Within w b u = (v : List ℕ) → is_above v u ≡ true → (is_above v w ≡ true) ⊎ Settled v b
+
+  pub settled_among : (v : List ℕ) (b qs : List Part) → Settled v b → Among b qs → Settled v qs
+  settled_among v b qs s m x h =
+      let g : Giver v x b = s x h in record { part = g.part; listed = m g.part g.listed; gives = g.gives }
 
   settled_more : (v : List ℕ) (b xs : List Part) → Settled v b → Settled v (b ++ xs)
   settled_more v b xs s x h =
@@ -55,24 +102,6 @@ module _ (i : Instance) (f : Frame) (t : ℕ) where
     pub there : IsIn r qs
     pub needs : r.needs ≡ ns
     pub within : Within w b r.way
-
-  -- A part that stands behind these ones: it has its types and its clock, and its own operands are among them.
-  pub record Placed (b : List Part) (q : Part) : Type 0 where
-    pub calls : AreCalls i q.way
-    pub stands : Stands (place_there i f q.way) (IsKnown (place_there i f q.way)) q.clock q.expression
-    pub clock : clock_on (row_by (numbers_there i q.way) (row_at i f t)) q.clock ≡ is_on (scene_there i f q.way) q.clock t
-    pub gives : (x : Name) → named_in x q.gives ≡ true → named_in x (left_names (component_of (place_there i f q.way))) ≡ true
-    pub operands : AllByRecursion (OwnIn q.way b b q.needs)
-        (operands (setting_at (standpoint_there i f t q.way)) q.needs q.clock q.expression)
-
-  abbrev pub EachPlaced : List Part → List Part → Type 0
-  EachPlaced b [] = Unit {0}
-  EachPlaced b (q ∷ qs) = Placed b q × EachPlaced (b ++ q ∷ []) qs
-
-  pub placed_both : (b xs ys : List Part) → EachPlaced b xs → EachPlaced (b ++ xs) ys → EachPlaced b (xs ++ ys)
-  placed_both b [] ys a h = subst (λ z. EachPlaced z ys) (append_none b) h
-  placed_both b (x ∷ xs) ys a h =
-      (a.0, placed_both (b ++ x ∷ []) xs ys a.1 (subst (λ z. EachPlaced z ys) (sym (grouped b (x ∷ []) xs)) h))
 
   -- ---- own parts
 
@@ -98,3 +127,87 @@ module _ (i : Instance) (f : Frame) (t : ℕ) where
   own_end w b qs os q e a =
       own_two w b qs (q ∷ []) os (q ∷ []) q.needs a
       (record { there = inl refl; needs = refl; within = subst (λ v. Within w b v) (sym e) (within_itself w b) }, tt)
+
+  -- an expression, at its place, is one of these parts
+  pub record PartIn (w : List ℕ) (b : List Part) (c : Clock) (a : Expression) : Type 0 where
+    pub part : Part
+    pub there : IsIn part b
+    pub way : part.way ≡ w
+    pub clock : part.clock ≡ c
+    pub expression : part.expression ≡ a
+
+  -- an expression that is a whole, at its place, is one of these parts
+  pub record WholeIn (w : List ℕ) (b : List Part) (c : Clock) (a : Expression) : Type 0 where
+    pub part : Part
+    pub there : IsIn part b
+    pub way : part.way ≡ w
+    pub clock : part.clock ≡ c
+    pub expression : part.expression ≡ a
+    pub needs : part.needs ≡ needs_of (own_setting (place_there i f w) w []) c a
+
+  abbrev pub WholesIn : List ℕ → List Part → Clock → List Expression → Type 0
+  WholesIn w b c as_ = AllByRecursion (WholeIn w b c) as_
+
+  -- the clock and the arguments of a call, by its number
+  abbrev pub IsSiteOf : List ℕ → ℕ → Clock → List Expression → Type 0
+  IsSiteOf w k c as_ = ((site_of (place_there i f w) k).clock ≡ c) × ((site_of (place_there i f w) k).arguments ≡ as_) × (0 < k)
+
+  -- where a part is a call, the arguments are wholes among these parts, and the frame that is called is settled; where it is a `pre`, the operand is one of these parts
+  abbrev pub CalledIn : List ℕ → List Part → Clock → Expression → Type 0
+  CalledIn w b c (call p k n as_) = Settled (w ++ k ∷ []) b × WholesIn w b c (listed as_) × IsSiteOf w k c (listed as_)
+  CalledIn w b c (condact p k a n as_ ds) = Settled (w ++ k ∷ []) b × WholesIn w b c (listed as_) × IsSiteOf w k c (listed as_)
+  CalledIn w b c (pre p k a) = PartIn w b c a
+  CalledIn w b c _ = Unit {0}
+
+  within_below : (w : List ℕ) (k : ℕ) (b : List Part) → Within [] b w → Settled (w ++ k ∷ []) b → Within [] b (w ++ k ∷ [])
+  within_below w k b g s v a = go (above_further v w k a)
+    where
+      go : (is_above v w ≡ true) ⊎ (v ≡ w ++ k ∷ []) → (is_above v [] ≡ true) ⊎ Settled v b
+      go (inl h) = g v h
+      go (inr e) = inr (subst (λ z. Settled z b) (sym e) s)
+
+  -- ---- among all parts
+
+  module _ (every : List Part) where
+    -- A part that stands behind these ones: it has its types and its clock, and its own operands are among them; so are those of the frame that it calls,
+    -- if it is a call, and the operand of a `pre`. The equations of each frame on its way are among all.
+    pub record Placed (b : List Part) (q : Part) : Type 0 where
+      pub calls : AreCalls i q.way
+      pub stands : Stands (place_there i f q.way) (IsKnown (place_there i f q.way)) q.clock q.expression
+      pub clock : clock_on (row_by (numbers_there i q.way) (row_at i f t)) q.clock ≡ is_on (scene_there i f q.way) q.clock t
+      pub gives : (x : Name) → named_in x q.gives ≡ true → IsSide (place_there i f q.way) q.gives q.clock q.expression
+      pub operands : AllByRecursion (OwnIn q.way b b q.needs)
+          (operands (setting_at (standpoint_there i f t q.way)) q.needs q.clock q.expression)
+      pub called : CalledIn q.way b q.clock q.expression
+      pub inside : Within [] every q.way
+
+    abbrev pub EachPlaced : List Part → List Part → Type 0
+    EachPlaced b [] = Unit {0}
+    EachPlaced b (q ∷ qs) = Placed b q × EachPlaced (b ++ q ∷ []) qs
+
+    placed_both : (b xs ys : List Part) → EachPlaced b xs → EachPlaced (b ++ xs) ys → EachPlaced b (xs ++ ys)
+    placed_both b [] ys a h = subst (λ z. EachPlaced z ys) (append_none b) h
+    placed_both b (x ∷ xs) ys a h =
+        (a.0, placed_both (b ++ x ∷ []) xs ys a.1 (subst (λ z. EachPlaced z ys) (sym (grouped b (x ∷ []) xs)) h))
+
+    -- parts of a frame, behind these ones, if both are among all and each frame on the way is settled there
+    abbrev pub EachLaid : List ℕ → List Part → List Part → Type 0
+    EachLaid w b qs = Within [] every w → Among b every → Among qs every → EachPlaced b qs
+
+    pub laid_both : (w : List ℕ) (b xs ys : List Part) → EachLaid w b xs → EachLaid w (b ++ xs) ys → EachLaid w b (xs ++ ys)
+    laid_both w b xs ys a e g hb hq =
+        placed_both b xs ys (a g hb (λ r m. hq r (in_left r xs ys m))) (e g (among_both b xs every hb (λ r m. hq r (in_left r xs ys m)))
+        (λ r m. hq r (in_right r xs ys m)))
+
+    pub laid_below : (w : List ℕ) (k : ℕ) (b qs : List Part) → (Among b every → Among qs every → Settled (w ++ k ∷ []) every) →
+        EachLaid (w ++ k ∷ []) b qs → EachLaid w b qs
+    laid_below w k b qs s a g hb hq = a (within_below w k every g (s hb hq)) hb hq
+
+    -- what is evaluated in a frame that is called
+    pub record Bodied (w : List ℕ) (qs : List Part) : Type 0 where
+      pub laid : (b : List Part) → EachLaid w b qs
+      pub settled : (b : List Part) → AllByRecursion (λ r. IsIn r b) qs → Settled w b
+
+    pub body_below : (w : List ℕ) (k : ℕ) (b qs : List Part) → Bodied (w ++ k ∷ []) qs → EachLaid w b qs
+    body_below w k b qs a =
+        laid_below w k b qs (λ hb hq. a.settled every (all_from (λ r. IsIn r qs) (λ r. IsIn r every) (λ r m. hq r m) qs (all_in_self qs))) (a.laid b)

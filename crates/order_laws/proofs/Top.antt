@@ -27,10 +27,10 @@ use Rattle.lus_evaluation.specs.Evaluation.{instance_on}
 use Rattle.evaluation_laws.specs.Rows.{AreCalls, RowShows}
 use Rattle.order_laws.specs.Own.{own_modes, own_modes_each}
 use Rattle.order_laws.proofs.Frames.{stands_called}
-use Rattle.order_laws.proofs.Placed.{EachPlaced, placed_both, all_in_self}
+use Rattle.order_laws.proofs.Placed.{Settled, EachLaid, laid_both, all_in_self}
 use Rattle.order_laws.proofs.Items.{ItemFree, IsFree, items_free, constants_free, properties_fit}
 use Rattle.order_laws.proofs.Sites.{TextHeld, text_held}
-use Rattle.order_laws.proofs.Contracts.{Holds, AreLaid}
+use Rattle.order_laws.proofs.Contracts.{Holds, AreLaid, lowered}
 use Rattle.order_laws.proofs.Bodies.{in_all, in_flat, at_slice, slice_below, picked_in, holds_within, holds_more, FrameLaid, contract_side, free_held, contract_held}
 use Rattle.order_laws.proofs.Trees.{FrameAt, Texts, unfolded_calls, frame_tree, calls_tree, texts_tree}
 
@@ -59,9 +59,9 @@ ghost_in (y ∷ cs) x (inr h) e k = further y (ghost_in cs x h e k)
     further (mode m rs es) h = h
     further («import» n z as_ xs) h = h
 
-module _ (p : Program) (c : IsChecked p) (i : Instance) (f : Frame) (t : ℕ) (shown : (w : List ℕ) → AreCalls i w → RowShows i f t w) (o : Orders)
+module _ (p : Program) (c : IsChecked p) (i : Instance) (f : Frame) (t : ℕ) (every : List Part) (shown : (w : List ℕ) → AreCalls i w → RowShows i f t w) (o : Orders)
     (least : (w : List ℕ) → IsLeastEquationOrder (instance_on i w) (equations (component_of (instance_on i w))) (o w))
-    (s : FrameAt p c i f t shown o least [] i) where
+    (s : FrameAt p c i f t every shown o least [] i) where
   abbrev n : Component
   n = component_of i
 
@@ -78,21 +78,21 @@ module _ (p : Program) (c : IsChecked p) (i : Instance) (f : Frame) (t : ℕ) (s
   g = setting i [] sub k.modes
 
   abbrev Laid : List Part → List Part → Type 0
-  Laid b qs = EachPlaced i f t b qs
+  Laid b qs = EachLaid i f t every [] b qs
 
-  laid : FrameLaid i f t [] x (own_modes [] i)
-  laid = subst (λ y. FrameLaid i f t [] y (own_modes [] i)) (text_same o i) (frame_tree p c i f t shown o least [] i s)
+  laid : FrameLaid i f t every [] x (own_modes [] i)
+  laid = subst (λ y. FrameLaid i f t every [] y (own_modes [] i)) (text_same o i) (frame_tree p c i f t every shown o least [] i s)
 
-  texts_laid : Texts p c i f t shown o least [] i sub
-  texts_laid = texts_tree p c i f t shown o least [] i s
+  texts_laid : Texts p c i f t every shown o least [] i sub
+  texts_laid = texts_tree p c i f t every shown o least [] i s
 
   fits : CallsFit IsKnown i (calls_of i) 0
   fits = calls_fit IsKnown i (tree_fits p c i s.unfolded s.declared)
 
   child : (q : ℕ) → q < count_of (calls_of i) →
-      FrameLaid i f t (suc q ∷ []) (sub (suc q)) (slice_index_or (own_modes_each [] (calls_of i)) q [])
+      FrameLaid i f t every (suc q ∷ []) (sub (suc q)) (slice_index_or (own_modes_each [] (calls_of i)) q [])
   child q l =
-      (calls_tree p c i f t shown o least [] i (calls_of i) 0 fits (all_sites n) (unfolded_calls p i s.unfolded)
+      (calls_tree p c i f t every shown o least [] i (calls_of i) 0 fits (all_sites n) (unfolded_calls p i s.unfolded)
       (each_site p c.rules.clocked.typed n s.declared) q (suc q) (omega arith) l (stands_called i f [] i s.stands (suc q) (omega arith) l)).0
 
   -- ---- the conditions
@@ -112,21 +112,21 @@ module _ (p : Program) (c : IsChecked p) (i : Instance) (f : Frame) (t : ℕ) (s
   kept : (qs : List Part) → Holds x.body (x.body ++ qs)
   kept qs = holds_more x.body x.body qs (all_in_self x.body)
 
-  ensured_laid : (ms : List ModeText) (qs : ModeParts) → AreLaid i f t [] (Holds x.body) ms qs → (b : List Part) → Holds x.body b →
+  ensured_laid : (ms : List ModeText) (qs : ModeParts) → AreLaid i f t every [] (Holds x.body) ms qs → (b : List Part) → Holds x.body b →
       Laid b (flat_map (λ m. m.ensured) ms)
-  ensured_laid [] [] a b h = tt
+  ensured_laid [] [] a b h = λ g hb hq. tt
   ensured_laid [] (q ∷ qs) a b h = absurd a
   ensured_laid (m ∷ ms) [] a b h = absurd a
   ensured_laid (m ∷ ms) (q ∷ qs) a b h =
-      placed_both i f t b m.ensured (flat_map (λ m. m.ensured) ms) (a.0.ensured b h) (ensured_laid ms qs a.1 (b ++ m.ensured) (holds_more x.body b m.ensured h))
+      laid_both i f t every [] b m.ensured (flat_map (λ m. m.ensured) ms) (a.0.ensured b h) (ensured_laid ms qs a.1 (b ++ m.ensured) (holds_more x.body b m.ensured h))
 
-  required_laid : (ms : List ModeText) (qs : ModeParts) → AreLaid i f t [] (Holds x.body) ms qs → (b : List Part) → Holds x.body b →
+  required_laid : (ms : List ModeText) (qs : ModeParts) → AreLaid i f t every [] (Holds x.body) ms qs → (b : List Part) → Holds x.body b →
       Laid b (flat_map (λ m. m.required) ms)
-  required_laid [] [] a b h = tt
+  required_laid [] [] a b h = λ g hb hq. tt
   required_laid [] (q ∷ qs) a b h = absurd a
   required_laid (m ∷ ms) [] a b h = absurd a
   required_laid (m ∷ ms) (q ∷ qs) a b h =
-      placed_both i f t b m.required (flat_map (λ m. m.required) ms) (a.0.required b h)
+      laid_both i f t every [] b m.required (flat_map (λ m. m.required) ms) (a.0.required b h)
       (required_laid ms qs a.1 (b ++ m.required) (holds_more x.body b m.required h))
 
   front_laid : Laid x.body front
@@ -137,13 +137,13 @@ module _ (p : Program) (c : IsChecked p) (i : Instance) (f : Frame) (t : ℕ) (s
       let four : List Part = three ++ k.guaranteed in
       let five : List Part = four ++ ensures in
       let a : Laid x.body one = laid.own.assumed x.body (all_in_self x.body) in
-      let b : Laid x.body two = placed_both i f t x.body one x.asserted a (laid.asserted (x.body ++ one) (kept one)) in
+      let b : Laid x.body two = laid_both i f t every [] x.body one x.asserted a (laid.asserted (x.body ++ one) (kept one)) in
       let d : Laid x.body three =
-      placed_both i f t x.body two checks b (texts_laid (property_texts n.body) (properties_fit p c i s.unfolded s.declared) (x.body ++ two) (kept two)) in
-      let e : Laid x.body four = placed_both i f t x.body three k.guaranteed d (laid.own.guaranteed (x.body ++ three) (kept three)) in
+      laid_both i f t every [] x.body two checks b (texts_laid (property_texts n.body) (properties_fit p c i s.unfolded s.declared) (x.body ++ two) (kept two)) in
+      let e : Laid x.body four = laid_both i f t every [] x.body three k.guaranteed d (laid.own.guaranteed (x.body ++ three) (kept three)) in
       let h : Laid x.body five =
-      placed_both i f t x.body four ensures e (ensured_laid k.modes (own_modes [] i) laid.own.modes (x.body ++ four) (kept four)) in
-      placed_both i f t x.body five requires_ h (required_laid k.modes (own_modes [] i) laid.own.modes (x.body ++ five) (kept five))
+      laid_both i f t every [] x.body four ensures e (ensured_laid k.modes (own_modes [] i) laid.own.modes (x.body ++ four) (kept four)) in
+      laid_both i f t every [] x.body five requires_ h (required_laid k.modes (own_modes [] i) laid.own.modes (x.body ++ five) (kept five))
 
   -- ---- calls
 
@@ -282,34 +282,44 @@ module _ (p : Program) (c : IsChecked p) (i : Instance) (f : Frame) (t : ℕ) (s
 
   -- ---- what is owed
 
-  owed_one : (z : Site) (m : Manner) → z.manner ≡ m → SiteHeld z → (qs : ModeParts) (v : List ℕ) → FrameLaid i f t v (sub z.number) qs → (b : List Part) →
+  owed_there : (z : Site) (qs : ModeParts) → FrameLaid i f t every (z.number ∷ []) (sub z.number) qs → (b : List Part) → Holds (sub z.number).body b →
+      Laid b (sub z.number).contract.assumed
+  owed_there z qs a b h = lowered i f t every [] z.number b (sub z.number).contract.assumed (a.own.settled b h) (a.own.assumed b h)
+
+  owed_one : (z : Site) (m : Manner) → z.manner ≡ m → SiteHeld z → (qs : ModeParts) → FrameLaid i f t every (z.number ∷ []) (sub z.number) qs → (b : List Part) →
       Holds rs b → Laid b (owed z m (sub z.number).contract)
-  owed_one z (as_import xs) e h qs v a b r = tt
-  owed_one z plain e h qs v a b r = a.own.assumed b (holds_within (sub z.number).body rs b (h (λ xs q. no_plain xs (sym e ∙ q))) r)
+  owed_one z (as_import xs) e h qs a b r = λ g hb hq. tt
+  owed_one z plain e h qs a b r = owed_there z qs a b (holds_within (sub z.number).body rs b (h (λ xs q. no_plain xs (sym e ∙ q))) r)
     where
       no_plain : (xs : List Name) → plain ≡ as_import xs → ⊥
       no_plain xs q = cc
-  owed_one z (while_true y) e h qs v a b r = a.own.assumed b (holds_within (sub z.number).body rs b (h (λ xs q. no_while xs (sym e ∙ q))) r)
+  owed_one z (while_true y) e h qs a b r = owed_there z qs a b (holds_within (sub z.number).body rs b (h (λ xs q. no_while xs (sym e ∙ q))) r)
     where
       no_while : (xs : List Name) → while_true y ≡ as_import xs → ⊥
       no_while xs q = cc
 
   each_owed : (is : Instances) (ss : List Site) (q : ℕ) → CallsFit IsKnown i is q → AreUnfolded p ss is → AllByRecursion SiteHeld ss →
       q + count_of is ≡ count_of (calls_of i) → (b : List Part) → Holds rs b → Laid b (owed_in_calls sub is)
-  each_owed no_instances ss q h v a e b r = tt
+  each_owed no_instances ss q h v a e b r = λ g hb hq. tt
   each_owed (with_instance z y is) [] q h v a e b r = absurd v
   each_owed (with_instance z y is) (s ∷ ss) q h v a e b r =
       let held : SiteHeld z = subst SiteHeld (sym v.0) a.0 in
       let one : List Part = owed z z.manner (sub z.number).contract in
       let counted : suc q ≡ z.number = sym h.0.number in
-      placed_both i f t b one (owed_in_calls sub is)
-      (owed_one z z.manner refl held (slice_index_or (own_modes_each [] (calls_of i)) q []) (suc q ∷ [])
-      (subst (λ m. FrameLaid i f t (suc q ∷ []) (sub m) (slice_index_or (own_modes_each [] (calls_of i)) q [])) counted (child q (omega (arith, e)))) b r)
+      laid_both i f t every [] b one (owed_in_calls sub is)
+      (owed_one z z.manner refl held (slice_index_or (own_modes_each [] (calls_of i)) q [])
+      (subst (λ m. FrameLaid i f t every (m ∷ []) (sub m) (slice_index_or (own_modes_each [] (calls_of i)) q [])) counted (child q (omega (arith, e)))) b r)
       (each_owed is ss (suc q) h.2 v.3 a.1 (omega (arith, e)) (b ++ one) (holds_more rs b one r))
 
   pub instant_laid : Laid [] (in_turn o i)
   instant_laid =
       subst (λ y. Laid [] (y.body ++ condition_parts sub y i)) (sym (text_same o i))
-      (placed_both i f t [] x.body (front ++ owed_in_calls sub (calls_of i)) (laid.own.body [])
-      (placed_both i f t x.body front (owed_in_calls sub (calls_of i)) front_laid
+      (laid_both i f t every [] [] x.body (front ++ owed_in_calls sub (calls_of i)) (laid.own.body [])
+      (laid_both i f t every [] x.body front (owed_in_calls sub (calls_of i)) front_laid
       (each_owed (calls_of i) (all_sites n) 0 fits (unfolded_calls p i s.unfolded) sites_held (omega arith) (x.body ++ front) (all_in_self rs))))
+
+  -- the equations of the declaration are among all
+  pub top_settled : Settled i f t [] (in_turn o i)
+  top_settled =
+      subst (λ y. Settled i f t [] (y.body ++ condition_parts sub y i)) (sym (text_same o i))
+      (laid.own.settled (x.body ++ condition_parts sub x i) (kept (condition_parts sub x i)))

@@ -33,7 +33,7 @@ use Rattle.order_laws.specs.Rows.{place_there}
 use Rattle.order_laws.proofs.ModeKeys.{resolving_keys}
 use Rattle.order_laws.proofs.Frames.{StandsAt, stands_called}
 use Rattle.order_laws.proofs.Asked.{AreFine, frame_fine}
-use Rattle.order_laws.proofs.Placed.{EachPlaced}
+use Rattle.order_laws.proofs.Placed.{EachLaid}
 use Rattle.order_laws.proofs.Items.{TextFits}
 use Rattle.order_laws.proofs.Contracts.{Holds}
 use Rattle.order_laws.proofs.Bodies.{FrameLaid, frame_here, base_texts}
@@ -46,7 +46,7 @@ same_place (k ∷ w) i b f = same_place w (call_instance i k) (active (scene i b
 pub unfolded_calls : (p : Program) (i : Instance) → IsUnfolded p i → AreUnfolded p (all_sites (component_of i)) (calls_of i)
 unfolded_calls p (instance d cs is) u = u.1
 
-module _ (p : Program) (c : IsChecked p) (i : Instance) (f : Frame) (t : ℕ) (shown : (w : List ℕ) → AreCalls i w → RowShows i f t w) (o : Orders)
+module _ (p : Program) (c : IsChecked p) (i : Instance) (f : Frame) (t : ℕ) (every : List Part) (shown : (w : List ℕ) → AreCalls i w → RowShows i f t w) (o : Orders)
     (least : (w : List ℕ) → IsLeastEquationOrder (instance_on i w) (equations (component_of (instance_on i w))) (o w)) where
   -- an unfolded declaration at the end of a way of calls
   pub record FrameAt (w : List ℕ) (z : Instance) : Type 0 where
@@ -67,24 +67,25 @@ module _ (p : Program) (c : IsChecked p) (i : Instance) (f : Frame) (t : ℕ) (s
   keyed_at w z s = same_keys w (own_modes w z) (resolvings z) (frame_fine i f t shown w z s) ∙ resolving_keys z
 
   abbrev ChildLaid : List ℕ → Instance → Calls → (ℕ → ModeParts) → ℕ → Type 0
-  ChildLaid w z sub subo k = FrameLaid i f t (w ++ k ∷ []) (sub k) (subo k) × Keyed (subo k) (call_instance z k)
+  ChildLaid w z sub subo k = FrameLaid i f t every (w ++ k ∷ []) (sub k) (subo k) × Keyed (subo k) (call_instance z k)
 
   -- texts on the base clock, behind the frame's own parts
   abbrev pub Texts : List ℕ → Instance → Calls → Type 0
   Texts w z sub =
       (ls : List Expression) → AllByRecursion (TextFits z (on_clock base)) ls → (b : List Part) → Holds (text_over sub (o w) w z).body b →
-      EachPlaced i f t b (wholes (setting z w sub (text_over sub (o w) w z).contract.modes) base ls)
+      EachLaid i f t every w b (wholes (setting z w sub (text_over sub (o w) w z).contract.modes) base ls)
 
   abbrev FrameGoal : List ℕ → Instance → Type 0
   FrameGoal w z =
-      FrameAt w z → (sub : Calls) (subo : ℕ → ModeParts) → ((k : ℕ) (b : List Part) → EachPlaced i f t b (sub k).body) →
+      FrameAt w z → (sub : Calls) (subo : ℕ → ModeParts) →
       ((k : ℕ) → 0 < k → pred k < count_of (calls_of z) → ChildLaid w z sub subo k) →
       own_modes w z ≡ own_modes_after z w subo [] (contract_statements (component_of z)) →
-      FrameLaid i f t w (text_over sub (o w) w z) (own_modes w z) × Texts w z sub
+      FrameLaid i f t every w (text_over sub (o w) w z) (own_modes w z) × Texts w z sub
 
   goal_here : (w : List ℕ) → AreCalls i w → FrameGoal w (place_there i f w)
-  goal_here w a s sub subo body child mine = (
-    frame_here i f t p c w a (shown w a) s.unfolded s.declared sub subo body
+  goal_here w a s sub subo child mine = (
+    frame_here i f t every p c w a (shown w a) s.unfolded s.declared sub subo
+        (λ k x l. record { laid = (child k x l).0.own.body; settled = (child k x l).0.own.settled })
         (λ k im. let r : ChildLaid w (place_there i f w) sub subo k = child k im.call.counted im.call.listed in
         record { laid = r.0.own; keyed = r.1 })
         (keyed_at w (place_there i f w) s.stands) mine (o w)
@@ -92,7 +93,8 @@ module _ (p : Program) (c : IsChecked p) (i : Instance) (f : Frame) (t : ℕ) (s
         (λ k x y. (child k x y).0)
         (calls_fit IsKnown (place_there i f w) (tree_fits p c (place_there i f w) s.unfolded s.declared))
         (unfolded_calls p (place_there i f w) s.unfolded),
-    base_texts i f t p c w a (shown w a) s.unfolded s.declared sub subo body
+    base_texts i f t every p c w a (shown w a) s.unfolded s.declared sub subo
+        (λ k x l. record { laid = (child k x l).0.own.body; settled = (child k x l).0.own.settled })
         (λ k im. let r : ChildLaid w (place_there i f w) sub subo k = child k im.call.counted im.call.listed in
         record { laid = r.0.own; keyed = r.1 })
         (keyed_at w (place_there i f w) s.stands) mine (o w)
@@ -107,29 +109,21 @@ module _ (p : Program) (c : IsChecked p) (i : Instance) (f : Frame) (t : ℕ) (s
 
   -- ---- all calls
 
-  abbrev Bodied : FrameText → Type 0
-  Bodied x = (b : List Part) → EachPlaced i f t b x.body
-
-  body_any : (xs : List FrameText) → ((q : ℕ) → q < length xs → Bodied (slice_index_or xs q no_text)) → (q : ℕ) → Bodied (slice_index_or xs q no_text)
-  body_any [] h q b = tt
-  body_any (x ∷ xs) h zero b = h zero (omega arith) b
-  body_any (x ∷ xs) h (suc q) b = body_any xs (λ q l. h (suc q) (omega arith)) q b
-
   many_texts : (w : List ℕ) (is : Instances) → length (call_texts o w is) ≡ count_of is
   many_texts w no_instances = refl
   many_texts w (with_instance z x is) = ap suc (many_texts w is)
 
   abbrev CallLaid : List ℕ → Instances → ℕ → ℕ → Type 0
   CallLaid w is n q =
-      FrameLaid i f t (w ++ n ∷ []) (slice_index_or (call_texts o w is) q no_text) (slice_index_or (own_modes_each w is) q [])
+      FrameLaid i f t every (w ++ n ∷ []) (slice_index_or (call_texts o w is) q no_text) (slice_index_or (own_modes_each w is) q [])
       × Keyed (slice_index_or (own_modes_each w is) q []) (instance_at is q)
 
   from_calls : (w : List ℕ) (d : Component) (cs : List (Name × Value)) (is : Instances) → FrameAt w (instance d cs is) →
       ((q : ℕ) → q < count_of is → StandsAt i f (w ++ suc q ∷ []) (instance_at is q) → CallLaid w is (suc q) q) →
-      FrameLaid i f t w (frame_text o w (instance d cs is)) (own_modes w (instance d cs is)) × Texts w (instance d cs is) (text_at (call_texts o w is))
+      FrameLaid i f t every w (frame_text o w (instance d cs is)) (own_modes w (instance d cs is)) × Texts w (instance d cs is) (text_at (call_texts o w is))
   from_calls w d cs is s each =
       goal_at w (instance d cs is) s.stands s (text_at (call_texts o w is)) (λ k. slice_index_or (own_modes_each w is) (pred k) [])
-      (λ k b. body_any (call_texts o w is) (λ q l b. (there q (subst (λ m. q < m) (many_texts w is) l)).0.own.body b) (pred k) b) child refl
+      child refl
     where
       there : (q : ℕ) → q < count_of is → CallLaid w is (suc q) q
       there q l = each q l (stands_called i f w (instance d cs is) s.stands (suc q) (omega arith) l)
@@ -140,7 +134,7 @@ module _ (p : Program) (c : IsChecked p) (i : Instance) (f : Frame) (t : ℕ) (s
       child (suc q) x l = there q l
 
   mutual
-    pub frame_tree : (w : List ℕ) (z : Instance) → FrameAt w z → FrameLaid i f t w (frame_text o w z) (own_modes w z)
+    pub frame_tree : (w : List ℕ) (z : Instance) → FrameAt w z → FrameLaid i f t every w (frame_text o w z) (own_modes w z)
     frame_tree w (instance d cs is) s =
         (from_calls w d cs is s (λ q l a. calls_tree w (instance d cs is) is 0
         (calls_fit IsKnown (instance d cs is) (tree_fits p c (instance d cs is) s.unfolded s.declared)) (all_sites d) s.unfolded.1
@@ -155,7 +149,7 @@ module _ (p : Program) (c : IsChecked p) (i : Instance) (f : Frame) (t : ℕ) (s
         let same : n ≡ y.number = (let v : n ≡ suc q = omega arith in v ∙ sym h.0.number) in
         let there : FrameAt (w ++ n ∷ []) x =
         record { stands = a; unfolded = u.2; declared = declared_at p c (component_of z) s x g.0 u.1 } in (
-          subst (λ k. FrameLaid i f t (w ++ n ∷ []) (frame_text o (w ++ k ∷ []) x) (own_modes (w ++ k ∷ []) x)) same
+          subst (λ k. FrameLaid i f t every (w ++ n ∷ []) (frame_text o (w ++ k ∷ []) x) (own_modes (w ++ k ∷ []) x)) same
               (frame_tree (w ++ n ∷ []) x there),
           subst (λ k. Keyed (own_modes (w ++ k ∷ []) x) x) same (keyed_at (w ++ n ∷ []) x a),
         )

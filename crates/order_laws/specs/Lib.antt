@@ -1,3 +1,4 @@
 pub mod Own
 pub mod Rows
 pub mod Laws
+pub mod Needed

@@ -1,6 +1,8 @@
 //! The laws of what comes before a part.
 
 ghost use Rattle.order_laws.specs.Laws.{ComesFirst, OperandsComeBefore, PartsHaveOwnPast, FirstPastByRows};
+ghost use Rattle.order_laws.specs.Needed.{NeededNamesComeBefore, NeededArgumentsComeBefore, NeededInputsComeBefore, RememberedOperandsAreWithin};
+ghost use Rattle.order_laws.specs.Needed.{GivenNamesAreWithin, ArgumentsAreWithin, ConditionsAreWithin};
 ghost use Rattle.order_laws.specs.Rows.{RowsHaveOwnPast};
 
 /// In a least order what stands before another part in turn comes before it, where all that it waits for the other one
@@ -27,4 +29,24 @@ pub fn first_past_by_rows()
 /// parts of what the modes require that it names, those of imports too.
 pub fn operands_come_before()
     ensures { OperandsComeBefore }
+{}
+
+/// In the evaluation of an instant of a run of such a declaration a name that a part needs at its instant, and that an
+/// equation gives, of the part's frame, of one on the way there or of the one that it calls: the right side of that
+/// equation comes before the part, with all its own parts. So does an argument, if the whole of its call needs all that
+/// the argument needs, as it does if it needs the input for which the argument stands.
+pub fn needed_names_come_before()
+    ensures names { NeededNamesComeBefore }
+    ensures arguments { NeededArgumentsComeBefore }
+    ensures inputs { NeededInputsComeBefore }
+{}
+
+/// In the row of such a run: where no part of a front of the evaluation is outside 128 bits, the right sides that stand
+/// in it have no operation outside, nor have the arguments that do, nor the condition of the call that comes next. Where
+/// none of all parts is, the operand of each `pre` among them has none.
+pub fn evaluated_is_within()
+    ensures given { GivenNamesAreWithin }
+    ensures arguments { ArgumentsAreWithin }
+    ensures conditions { ConditionsAreWithin }
+    ensures remembered { RememberedOperandsAreWithin }
 {}
