@@ -6,6 +6,7 @@ mod bodies;
 mod call_numbers;
 mod contracts;
 pub mod frame;
+mod frames;
 pub mod laws;
 pub mod mode_need;
 pub mod mode_needs;
