@@ -1,5 +1,5 @@
 -- The assertions of a frame and of the frames of its calls.
-use Rattle.std.proofs.Common.{◌≡◌, refl, ap, sym, ◌∙◌, ℕ, zero, suc, ◌<◌, cond, arith, List, [], ◌∷◌, ◌++◌, length, flat_map, Option, Some, None, slice_get}
+use Rattle.std.proofs.Common.{◌≡◌, refl, ap, sym, ◌∙◌, ℕ, zero, suc, ◌<◌, cond, arith, List, [], ◌∷◌, ◌++◌, length}
 use Rattle.std.proofs.lemmas.List.{append_assoc}
 use Rattle.lus_tree.specs.Tree.{Expression, Program}
 use Rattle.lus_meaning.specs.Scene.{Clock, Site, Instance, calls_of, component_of}

@@ -17,3 +17,4 @@ mod parts;
 mod placing;
 pub mod setting;
 pub mod text;
+pub mod turn;
