@@ -1,3 +1,4 @@
+pub mod Asserted
 pub mod CallNumbers
 pub mod Called
 pub mod ContractItems

@@ -1,14 +1,15 @@
 -- What is evaluated at an instant, by orders of frames and by orders of declarations.
 use Rattle.std.proofs.Common.{◌≡◌, refl, ap, sym, ◌∙◌, ℕ, zero, suc, List, [], ◌∷◌, ◌++◌, flat_map, Option, Some, None, slice_get}
 use Rattle.std.specs.List.{AllByRecursion}
+use Rattle.std.proofs.lemmas.List.{append_assoc}
 use Rattle.lus_tree.specs.Tree.{Program}
-use Rattle.lus_meaning.specs.Scene.{Instance, calls_of}
-use Rattle.lus_evaluation.specs.Part.{Setting}
-use Rattle.lus_evaluation.specs.Frame.{FrameText, Calls, Orders, no_text, no_contract, equation_parts, picked, setting, text_at, text_over, frame_text, call_texts}
-use Rattle.lus_evaluation.specs.Turn.{condition_parts, in_turn, owed, owed_in_calls}
+use Rattle.lus_meaning.specs.Scene.{base, Instance, component_of, calls_of}
+use Rattle.lus_evaluation.specs.Part.{Part, Setting, wholes}
+use Rattle.lus_evaluation.specs.Frame.{ContractText, FrameText, Calls, Orders, no_text, no_contract, equation_parts, picked, setting, text_at, text_over, frame_text, call_texts}
+use Rattle.lus_evaluation.specs.Turn.{condition_parts, in_turn, owed, owed_in_calls, property_texts}
 use Rattle.evaluation_parts.specs.Unfolded.{Linked, Declared, nothing, if_there, calls_with, unfolded, called_instance, calls_at}
 use Rattle.evaluation_parts.specs.Framed.{order_at, text_if, called_texts, text_called, text_within, texts_below, turn_within}
-use Rattle.evaluation_parts.specs.Turns.{owed_each, IfThere, Agrees}
+use Rattle.evaluation_parts.specs.Turns.{ensured_each, required_each, owed_each, IfThere, Agrees}
 
 -- ---- what is owed
 
@@ -20,6 +21,29 @@ pub owed_is : (sub : Calls) (p : Program) (ts : List Declared) (d : ℕ) (t : De
     → owed_in_calls sub (calls_of (unfolded p ts d t)) ≡ owed_each sub (calls_at d t)
 owed_is sub p ts zero t = refl
 owed_is sub p ts (suc d) t = owed_with sub _ t.calls
+
+-- ---- conditions
+
+grown : (x a b y z : List Part) → y ≡ x ++ a → z ≡ y ++ b → z ≡ x ++ (a ++ b)
+grown x a b y z e h = h ∙ ap (λ q. q ++ b) e ∙ append_assoc x a b
+
+-- the conditions, one kind behind the other
+pub conditions_by : (sub : Calls) (t : FrameText) (i : Instance) (x a b c d e f v : List Part)
+    → a ≡ x ++ t.contract.assumed → b ≡ a ++ t.asserted
+    → c ≡ b ++ wholes (setting i [] sub t.contract.modes) base (property_texts (component_of i).body)
+    → d ≡ c ++ t.contract.guaranteed → e ≡ d ++ ensured_each t.contract.modes → f ≡ e ++ required_each t.contract.modes
+    → v ≡ f ++ owed_in_calls sub (calls_of i) → v ≡ x ++ condition_parts sub t i
+conditions_by sub t i x a b c d e f v h1 h2 h3 h4 h5 h6 h7 =
+    let k : ContractText = t.contract in
+    let says : List Part = wholes (setting i [] sub k.modes) base (property_texts (component_of i).body) in
+    let to_properties : List Part = k.assumed ++ t.asserted ++ says in
+    let to_ensures : List Part = to_properties ++ k.guaranteed ++ ensured_each k.modes in
+    let e2 : b ≡ x ++ (k.assumed ++ t.asserted) = grown x k.assumed t.asserted a b h1 h2 in
+    let e3 : c ≡ x ++ to_properties = grown x (k.assumed ++ t.asserted) says b c e2 h3 in
+    let e4 : d ≡ x ++ (to_properties ++ k.guaranteed) = grown x to_properties k.guaranteed c d e3 h4 in
+    let e5 : e ≡ x ++ to_ensures = grown x (to_properties ++ k.guaranteed) (ensured_each k.modes) d e e4 h5 in
+    let e6 : f ≡ x ++ (to_ensures ++ required_each k.modes) = grown x to_ensures (required_each k.modes) e f e5 h6 in
+    grown x (to_ensures ++ required_each k.modes) (owed_in_calls sub (calls_of i)) f v e6 h7
 
 -- ---- a frame of nothing
 

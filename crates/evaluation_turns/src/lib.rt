@@ -1,0 +1,8 @@
+//! All that is evaluated at an instant of a declaration of a checked program, in the order in which it would come if
+//! nothing had to wait.
+#![tactic(auto)]
+
+mod links;
+mod named;
+mod sources;
+pub mod turns;
