@@ -1,10 +1,18 @@
 //! The laws of evaluations that stay within 128 bits.
 
 ghost use Rattle.within_laws.specs.Laws.{QuietPartsAreWithin, PartsWithinAreQuiet};
+ghost use Rattle.within_laws.specs.Texts.{TextsAreQuiet};
 
 /// Of a checked program, in the evaluation of an instant of a run of a declaration: all parts are within 128 bits
 /// exactly where no part's resolution has an operation outside in the row of that instant.
 pub fn quiet_parts_are_within()
     ensures within { QuietPartsAreWithin }
     ensures quiet { PartsWithinAreQuiet }
+{}
+
+/// Of a checked program, in the row of a run at an instant and in the frame at the end of each way of calls: where the
+/// resolution of a text has no operation outside 128 bits, and what its parts leave to others has none (the operands of
+/// `pre`, arguments and defaults of calls, what is evaluated in their frames, and what modes require), no part has one.
+pub fn texts_are_quiet()
+    ensures { TextsAreQuiet }
 {}
