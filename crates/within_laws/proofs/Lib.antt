@@ -1,2 +1,5 @@
 pub mod Quiet
 pub mod Texts
+pub mod Made
+pub mod Given
+pub mod Facts

@@ -1,6 +1,7 @@
 //! The laws of evaluations that stay within 128 bits.
 
 ghost use Rattle.within_laws.specs.Laws.{QuietPartsAreWithin, PartsWithinAreQuiet};
+ghost use Rattle.within_laws.specs.Sources.{FramesAreQuiet};
 ghost use Rattle.within_laws.specs.Texts.{TextsAreQuiet};
 
 /// Of a checked program, in the evaluation of an instant of a run of a declaration: all parts are within 128 bits
@@ -15,4 +16,11 @@ pub fn quiet_parts_are_within()
 /// `pre`, arguments and defaults of calls, what is evaluated in their frames, and what modes require), no part has one.
 pub fn texts_are_quiet()
     ensures { TextsAreQuiet }
+{}
+
+/// Where no source of a slot that is read has an operation outside 128 bits in the row of an instant, the right sides,
+/// the operands of `pre`, and the conditions and arguments of calls and imports have none, in the frame at the end of
+/// each way of calls.
+pub fn frames_are_quiet()
+    ensures { FramesAreQuiet }
 {}
