@@ -3,3 +3,4 @@ pub mod Texts
 pub mod Made
 pub mod Given
 pub mod Facts
+pub mod Frames

@@ -1,6 +1,7 @@
 //! The laws of evaluations that stay within 128 bits.
 
 ghost use Rattle.within_laws.specs.Laws.{QuietPartsAreWithin, PartsWithinAreQuiet};
+ghost use Rattle.within_laws.specs.Frames.{AllTextsAreQuiet};
 ghost use Rattle.within_laws.specs.Sources.{FramesAreQuiet};
 ghost use Rattle.within_laws.specs.Texts.{TextsAreQuiet};
 
@@ -23,4 +24,10 @@ pub fn texts_are_quiet()
 /// each way of calls.
 pub fn frames_are_quiet()
     ensures { FramesAreQuiet }
+{}
+
+/// So in each of these frames no part of a text has an operation outside where the text has none: what its parts leave to
+/// others are sources. It is taken that the frames of calls, the defaults and what modes require have none.
+pub fn all_texts_are_quiet()
+    ensures { AllTextsAreQuiet }
 {}
