@@ -1,31 +1,30 @@
 -- Where no source of a declaration has an operation outside 128 bits, no text has that a source evaluates.
-use Rattle.std.proofs.Common.{◌≡◌, ℕ, zero, suc, pred, ◌+◌, ◌<◌, ◌≤◌, Bool, true, false, List, [], ◌∷◌, ◌++◌, map, flat_map, length, refl, ap, ◌∙◌, sym, subst, arith, Some, slice_get}
+use Rattle.std.proofs.Common.{◌≡◌, ℕ, zero, suc, pred, ◌+◌, ◌<◌, ◌≤◌, Bool, true, false, List, [], ◌∷◌, ◌++◌, map, flat_map, length, refl, ap, ◌∙◌, sym, subst, arith}
 use Rattle.std.specs.List.{AllByRecursion}
 use Rattle.std.proofs.lemmas.Bool.{true≢false}
-use Rattle.lus_tree.specs.Tree.{Name, Variable, Expression, truth, number, name, negation, minus, pre, arrow, binary, choice, sampled, merged, call, condact, mode_name}
+use Rattle.lus_tree.specs.Tree.{Name, Expression, truth, number, name, negation, minus, pre, arrow, binary, choice, sampled, merged, call, condact, mode_name}
 use Rattle.lus_meaning.specs.Value.{Instants}
 use Rattle.lus_meaning.specs.Frame.{Frame, call_frame}
 use Rattle.lus_meaning.specs.Scene.{Clock, base, sampled_by, Manner, plain, while_true, as_import, Site, Instance, Instances, instance, no_instances, with_instance, instance_at, component_of, calls_of, call_instance, outputs_of, clock_of_names, variables, is_on}
 use Rattle.lus_meaning.specs.Contract.{scene}
 use Rattle.lus_meaning.specs.Occurrences.{Memory, memories, starts}
 use Rattle.lus_meaning.specs.Program.{in_order, instance_of}
-use Rattle.lus_meaning.specs.Run.{Equation, equations, inputs_of, sort_of, sort_of_name, active}
+use Rattle.lus_meaning.specs.Run.{Equation, equations, inputs_of, sort_of_name, active}
 use Rattle.lus_meaning.specs.Depends.{named_in, from_caller, outputs_given, left_names}
 use Rattle.lus_meaning.specs.WellMade.{AreDistinct, SharesArity, IsWellMade, CallsWellMade}
 use Rattle.lus_meaning.specs.Verdict.{throughout}
 use Rattle.lus_meaning.proofs.Lists.{both_parts, map_append, all_from, all_from_both}
 use Rattle.lus_meaning.proofs.Now.{left_part, right_part}
-use Rattle.sys_meaning.specs.Slot.{Place, beat, named, own}
+use Rattle.sys_meaning.specs.Slot.{Place, named, own}
 use Rattle.sys_meaning.specs.Defaults.{site_at, site_of}
 use Rattle.sys_meaning.specs.System.{number_of, below_call}
-use Rattle.sys_meaning.specs.WellTyped.{IsKnown, IsMemory, IsCall, EquationFits, MemoryFits, ClockFits, CallFits, CallsFit, TreeFits, OwnFits, count_of, right_sorts}
+use Rattle.sys_meaning.specs.WellTyped.{IsKnown, IsMemory, IsCall, EquationFits, MemoryFits, ClockFits, CallsFit, TreeFits, OwnFits, count_of}
 use Rattle.sys_meaning.proofs.Forward.{own_fits, calls_fit}
 use Rattle.sys_meaning.proofs.Found.{found_in_order}
 use Rattle.sys_meaning.proofs.Whole.{fits_called}
 use Rattle.path_laws.proofs.Main.{each_is_well_typed}
 use Rattle.lus_evaluation.specs.Frame.{call_condition}
 use Rattle.lus_evaluation.specs.Past.{scene_on}
-use Rattle.slot_values.specs.declared.resolved.PastAt.{PastAt}
 use Rattle.slot_values.specs.Resolution.{Resolution}
 use Rattle.slot_values.specs.Evaluated.{SlotValues, outside}
 use Rattle.slot_values.specs.Resolved.{Numbering, resolution, right_resolutions, first_resolution, output_resolution, latest_resolution, outputs_at}
@@ -121,12 +120,13 @@ module _ (row : SlotValues) where
         let c : Clock = clock_of_names (component_of i) e.names in
         let first : NameSources = paired e.names (map (given (switch_of g c)) (right_resolutions g e.right)) in
         let many : length (right_resolutions g e.right) ≡ length e.names =
-        rights_many i g refl e.right ∙ ap (λ l. length l) (sym w.0.sorts) ∙ mapped_many (sort_of_name i) e.names in
-        (all_from (λ z. SourceQuiet (given (switch_of g c) z)) (λ z. outside row (r.is_on row (switch_of g c)) z ≡ []) (λ z q. q.0)
-        (right_resolutions g e.right)
-        (unpaired SourceQuiet (given (switch_of g c)) e.names (right_resolutions g e.right) many
-        (left_part (λ (q : Name × Source). SourceQuiet q.1) first (equation_sources g es) a)),
-        sides es w.1 (right_part (λ (q : Name × Source). SourceQuiet q.1) first (equation_sources g es) a))
+        rights_many i g refl e.right ∙ ap (λ l. length l) (sym w.0.sorts) ∙ mapped_many (sort_of_name i) e.names in (
+          all_from (λ z. SourceQuiet (given (switch_of g c) z)) (λ z. outside row (r.is_on row (switch_of g c)) z ≡ []) (λ z q. q.0)
+              (right_resolutions g e.right)
+              (unpaired SourceQuiet (given (switch_of g c)) e.names (right_resolutions g e.right) many
+              (left_part (λ (q : Name × Source). SourceQuiet q.1) first (equation_sources g es) a)),
+          sides es w.1 (right_part (λ (q : Name × Source). SourceQuiet q.1) first (equation_sources g es) a),
+        )
 
     condition_quiet : (c : Site) (m : Manner) → SourceQuiet (beat_source g c m) → AllByRecursion (QuietBySlot c.clock) (call_condition c m)
     condition_quiet c plain a = tt

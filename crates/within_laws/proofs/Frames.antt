@@ -1,11 +1,11 @@
 -- Each occurrence in a text of a frame leaves to others what a source evaluates.
-use Rattle.std.proofs.Common.{◌≡◌, ℕ, zero, suc, pred, ◌<◌, true, List, [], ◌∷◌, ◌++◌, option_map, option_to_list, ap, sym, subst, arith}
+use Rattle.std.proofs.Common.{ℕ, zero, suc, pred, ◌<◌, List, [], ◌∷◌, ◌++◌, sym, subst, arith}
 use Rattle.std.specs.Prelude.{Contains}
 use Rattle.std.specs.List.{AllByRecursion}
-use Rattle.lus_tree.specs.Tree.{Name, text_of, Expression, truth, number, name, negation, minus, pre, arrow, binary, choice, sampled, merged, call, condact, mode_name, Component, Program}
+use Rattle.lus_tree.specs.Tree.{Name, Expression, truth, number, name, negation, minus, pre, arrow, binary, choice, sampled, merged, call, condact, mode_name, Component, Program}
 use Rattle.lus_meaning.specs.Value.{Instants}
 use Rattle.lus_meaning.specs.Frame.{Frame, call_frame}
-use Rattle.lus_meaning.specs.Scene.{Clock, base, plain, while_true, Site, Instance, Instances, instance, no_instances, with_instance, instance_at, component_of, calls_of, call_instance}
+use Rattle.lus_meaning.specs.Scene.{plain, while_true, Site, Instance, Instances, instance, no_instances, with_instance, instance_at, component_of, calls_of, call_instance}
 use Rattle.lus_meaning.specs.Contract.{scene}
 use Rattle.lus_meaning.specs.Cycle.{Place as NeededPlace}
 use Rattle.lus_meaning.specs.ClockFaults.{components}
@@ -22,7 +22,7 @@ use Rattle.rule_laws.proofs.Parts.{Whole, nested, all_parts}
 use Rattle.rule_laws.proofs.Unfolded.{component_within, each_unfolded}
 use Rattle.clock_laws.proofs.Clocks.{declared_at}
 use Rattle.sys_meaning.specs.Defaults.{site_of}
-use Rattle.sys_meaning.specs.WellTyped.{IsKnown, count_of}
+use Rattle.sys_meaning.specs.WellTyped.{count_of}
 use Rattle.path_laws.proofs.Standing.{Known, site_there}
 use Rattle.path_laws.proofs.Places.{KnownText, known_texts, stand}
 use Rattle.lus_evaluation.specs.Frame.{call_condition}

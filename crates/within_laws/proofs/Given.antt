@@ -1,12 +1,12 @@
 -- What gives a name its value is among the sources of a frame.
-use Rattle.std.proofs.Common.{◌≡◌, ℕ, ◌<◌, Bool, true, false, ◌||◌, cond, List, [], ◌∷◌, ◌++◌, map, flat_map, length, refl, ap, ◌∙◌, sym, subst, arith, Option, Some, None, unwrap_or}
+use Rattle.std.proofs.Common.{◌≡◌, Bool, true, false, ◌||◌, cond, List, [], ◌∷◌, map, length, refl, ap, ◌∙◌, sym, subst, arith, Option, Some, None, unwrap_or}
 use Rattle.std.specs.Prelude.{find}
 use Rattle.std.specs.List.{AllByRecursion}
 use Rattle.std.specs.Map.{lookup}
 use Rattle.std.specs.Str.{bytes_eq}
 use Rattle.std.proofs.lemmas.Bool.{true≢false, false≢true}
 use Rattle.std.proofs.lemmas.Option.{none-some}
-use Rattle.lus_tree.specs.Tree.{Name, Variable, Expression}
+use Rattle.lus_tree.specs.Tree.{Name, Variable}
 use Rattle.lus_meaning.specs.Scene.{clock_from}
 use Rattle.lus_meaning.specs.Depends.{named_in}
 use Rattle.lus_meaning.specs.WellMade.{AreDistinct}

@@ -1,16 +1,15 @@
 -- Where no part's resolution has an operation outside 128 bits, all parts are within.
-use Rattle.std.proofs.Common.{◌≡◌, ℕ, List, [], ◌∷◌, ◌++◌, refl, ap, ◌∙◌, sym, subst, Option, Some, None}
-use Rattle.std.specs.List.{AllByRecursion}
+use Rattle.std.proofs.Common.{◌≡◌, ℕ, List, [], ◌∷◌, ◌++◌, refl, ap, ◌∙◌, sym, Option, Some, None}
 use Rattle.lus_tree.specs.declared.place.Pos.{Pos}
 use Rattle.kind_num.specs.declared.Past.{Past}
 use Rattle.lus_meaning.specs.Frame.{Frame}
 use Rattle.lus_meaning.specs.Scene.{Instance}
 use Rattle.lus_meaning.specs.Occurrences.{own}
-use Rattle.lus_meaning.proofs.Lists.{both_parts, append_none}
+use Rattle.lus_meaning.proofs.Lists.{both_parts}
 use Rattle.lus_evaluation.specs.Part.{Part}
 use Rattle.lus_evaluation.specs.Past.{part_past, NonePast}
 use Rattle.slot_values.specs.Evaluated.{told}
-use Rattle.order_laws.specs.Laws.{operations_there, OwnPastInOrder}
+use Rattle.order_laws.specs.Laws.{OwnPastInOrder}
 use Rattle.order_laws.proofs.Lists.{grouped}
 use Rattle.order_laws.proofs.FirstByRows.{parts_have_own_past}
 use Rattle.within_laws.specs.Laws.{AreQuiet, QuietPartsAreWithin, PartsWithinAreQuiet}

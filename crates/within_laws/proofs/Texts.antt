@@ -1,18 +1,17 @@
 -- Where a text has no operation outside 128 bits, none of its parts has.
-use Rattle.std.proofs.Common.{◌≡◌, ℕ, ◌<◌, Bool, true, false, List, [], ◌∷◌, ◌++◌, map, length, refl, ap, ◌∙◌, sym, subst, arith, option_map}
-use Rattle.std.specs.List.{AllByRecursion}
+use Rattle.std.proofs.Common.{◌≡◌, ℕ, ◌<◌, Bool, true, false, List, [], ◌∷◌, ◌++◌, map, length, refl, ap, ◌∙◌, sym, arith, option_map}
 use Rattle.lus_tree.specs.Tree.{Name, text_of, Variable, Expression, Expressions, truth, number, name, negation, minus, pre, arrow, binary, choice, sampled, merged, call, condact, mode_name, no_more, more}
 use Rattle.lus_meaning.specs.Value.{is}
 use Rattle.lus_meaning.specs.Frame.{Frame, entry}
 use Rattle.lus_meaning.specs.Scene.{Clock, sampled_by, Instance, component_of, call_instance, clock_of, Scene, is_on}
 use Rattle.lus_meaning.specs.Cycle.{Place as NeededPlace}
-use Rattle.lus_meaning.specs.Occurrences.{Standing, within, before, moved, Occurrence, occurrences}
+use Rattle.lus_meaning.specs.Occurrences.{Standing, within, before, moved}
 use Rattle.lus_meaning.specs.Program.{instance_of, listed}
 use Rattle.lus_meaning.specs.Run.{sort_of_name}
 use Rattle.lus_meaning.proofs.EachPart.{Each, EachAmong, each_part}
 use Rattle.lus_meaning.proofs.Lists.{both_parts}
 use Rattle.sys_meaning.specs.Slot.{named, own}
-use Rattle.sys_meaning.specs.WellTyped.{IsKnown, IsNameOn, Stands, clock_here}
+use Rattle.sys_meaning.specs.WellTyped.{IsKnown, IsNameOn, clock_here}
 use Rattle.lus_evaluation.specs.Part.{Part, ModeParts, Setting, needs_of, key_of, asked_in, part, parts, argument_parts, operand_parts}
 use Rattle.slot_values.specs.declared.resolved.PastAt.{PastAt}
 use Rattle.slot_values.specs.Resolution.{Resolution}
@@ -27,7 +26,7 @@ use Rattle.evaluation_laws.proofs.RowFrames.{rows_show}
 use Rattle.order_laws.specs.Laws.{operations_there}
 use Rattle.order_laws.specs.Rows.{place_there}
 use Rattle.within_laws.specs.Laws.{AreQuiet}
-use Rattle.within_laws.specs.Texts.{IsQuiet, EachQuiet, LeavesQuiet, IsGood, TextIsQuiet, TextsAreQuiet}
+use Rattle.within_laws.specs.Texts.{IsQuiet, EachQuiet, IsGood, TextsAreQuiet}
 
 none_in : {X : Type 0} (xs ys : List X) → xs ++ ys ≡ [] → (xs ≡ []) × (ys ≡ [])
 none_in [] ys e = (refl, e)
