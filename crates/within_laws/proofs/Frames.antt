@@ -5,17 +5,17 @@ use Rattle.std.specs.List.{AllByRecursion}
 use Rattle.lus_tree.specs.Tree.{Name, Expression, truth, number, name, negation, minus, pre, arrow, binary, choice, sampled, merged, call, condact, mode_name, Component, Program}
 use Rattle.lus_meaning.specs.Value.{Instants}
 use Rattle.lus_meaning.specs.Frame.{Frame, call_frame}
-use Rattle.lus_meaning.specs.Scene.{plain, while_true, Site, Instance, Instances, instance, no_instances, with_instance, instance_at, component_of, calls_of, call_instance}
+use Rattle.lus_meaning.specs.Scene.{plain, while_true, Site, Instance, Instances, instance, no_instances, with_instance, instance_at, component_of, calls_of, call_instance, clock_of_names, Clock}
 use Rattle.lus_meaning.specs.Contract.{scene}
 use Rattle.lus_meaning.specs.Cycle.{Place as NeededPlace}
 use Rattle.lus_meaning.specs.ClockFaults.{components}
 use Rattle.lus_meaning.specs.Refusals.{IsChecked}
-use Rattle.lus_meaning.specs.Run.{active}
+use Rattle.lus_meaning.specs.Run.{active, Equation, equations}
 use Rattle.lus_meaning.specs.Verdict.{throughout}
-use Rattle.lus_meaning.specs.Occurrences.{Standing, Text, occurrences, texts}
+use Rattle.lus_meaning.specs.Occurrences.{Standing, Text, occurrences, texts, as_side}
 use Rattle.lus_meaning.specs.Program.{instance_of, listed, all_sites}
 use Rattle.lus_meaning.proofs.EachPart.{Each, each_part}
-use Rattle.lus_meaning.proofs.Lists.{all_from}
+use Rattle.lus_meaning.proofs.Lists.{all_from, all_from_both}
 use Rattle.rule_laws.specs.Laws.{IsUnfolded, AreUnfolded}
 use Rattle.rule_laws.proofs.Callees.{GoesDown, each_site}
 use Rattle.rule_laws.proofs.Parts.{Whole, nested, all_parts}
@@ -25,17 +25,18 @@ use Rattle.sys_meaning.specs.Defaults.{site_of}
 use Rattle.sys_meaning.specs.WellTyped.{count_of}
 use Rattle.path_laws.proofs.Standing.{Known, site_there}
 use Rattle.path_laws.proofs.Places.{KnownText, known_texts, stand}
-use Rattle.lus_evaluation.specs.Frame.{call_condition}
-use Rattle.lus_evaluation.specs.Part.{Part, ModeParts, parts}
+use Rattle.lus_evaluation.specs.Frame.{call_condition, equation_parts}
+use Rattle.lus_evaluation.specs.Part.{Part, ModeParts, parts, needs_of}
 use Rattle.lus_evaluation.specs.Past.{scene_on}
 use Rattle.slot_values.specs.Parts.{setting_on}
 use Rattle.evaluation_laws.specs.Rows.{AreCalls, RowShows}
 use Rattle.evaluation_laws.proofs.RowFrames.{rows_show}
 use Rattle.order_laws.specs.Rows.{place_there}
+use Rattle.order_laws.proofs.Items.{SideFits, sides_fit}
 use Rattle.within_laws.specs.Laws.{AreQuiet}
 use Rattle.within_laws.specs.Texts.{IsQuiet, EachQuiet, LeavesQuiet, IsGood}
 use Rattle.within_laws.specs.Sources.{IsFrameQuiet}
-use Rattle.within_laws.specs.Frames.{OthersQuiet, AllTextsAreQuiet}
+use Rattle.within_laws.specs.Frames.{OthersQuiet, AllTextsAreQuiet, AllSidesAreQuiet}
 use Rattle.within_laws.proofs.Texts.{quiet_parts}
 use Rattle.within_laws.proofs.Facts.{frames_are_quiet}
 
@@ -113,9 +114,27 @@ module _ (p : Program) (c : IsChecked p) where
         (λ x a h ns xs. quiet_parts i f t w sh body asked ns xs x.0 x.1
         (each_part (IsGood i f t w body asked) (component_of j) x.0 x.1 (all_good x.0 x.1 a)) h) (texts (component_of j)) (known_texts p c j u d)
 
+    abbrev SideQuiet : Equation → Type 0
+    SideQuiet e = AreQuiet i f t (equation_parts (setting_on i f w body asked) e)
+
+    pub sides_quiet : AllByRecursion SideQuiet (equations (component_of j))
+    sides_quiet =
+        all_from_both (SideFits j) (λ e. IsQuiet i f t w (clock_of_names (component_of j) e.names) e.right) SideQuiet
+        (λ e a h. let k : Clock = clock_of_names (component_of j) e.names in
+        quiet_parts i f t w sh body asked (needs_of (setting_on i f w body asked) k e.right) e.names (as_side k) e.right
+        (each_part (IsGood i f t w body asked) (component_of j) (as_side k) e.right (all_good (as_side k) e.right a.0)) h)
+        (equations (component_of j)) (sides_fit p c j u d) mine.rights
+
 pub all_texts_are_quiet : AllTextsAreQuiet
 all_texts_are_quiet p c n k m f run t l w a h body asked others =
     let i : Instance = instance_of p n in
     let there : IsThere p c i = (each_unfolded p c n k, subst (Contains (components p)) (sym (component_within _ p n)) k) in
     let here : IsThere p c (place_there i f w) = along p c w i throughout f a there in
     texts_quiet p c i f t w (rows_show p c n k m f run t l w a) here.0 here.1 body asked (frames_are_quiet p c n k m f run t l w a h) others
+
+pub all_sides_are_quiet : AllSidesAreQuiet
+all_sides_are_quiet p c n k m f run t l w a h body asked others =
+    let i : Instance = instance_of p n in
+    let there : IsThere p c i = (each_unfolded p c n k, subst (Contains (components p)) (sym (component_within _ p n)) k) in
+    let here : IsThere p c (place_there i f w) = along p c w i throughout f a there in
+    sides_quiet p c i f t w (rows_show p c n k m f run t l w a) here.0 here.1 body asked (frames_are_quiet p c n k m f run t l w a h) others

@@ -6,9 +6,11 @@ use Rattle.lus_meaning.specs.Frame.{Frame}
 use Rattle.lus_meaning.specs.Scene.{base, Instance, component_of, calls_of}
 use Rattle.lus_meaning.specs.Cycle.{Place as NeededPlace}
 use Rattle.lus_meaning.specs.Occurrences.{texts}
+use Rattle.lus_meaning.specs.Run.{equations}
 use Rattle.sys_meaning.specs.Defaults.{site_of}
 use Rattle.sys_meaning.specs.WellTyped.{count_of, IsKnown}
 use Rattle.lus_evaluation.specs.Part.{Part, ModeParts, key_of, asked_in, parts}
+use Rattle.lus_evaluation.specs.Frame.{equation_parts}
 use Rattle.slot_values.specs.Parts.{setting_on}
 use Rattle.slot_sources.specs.Sources.{sources_of}
 use Rattle.evaluation_laws.specs.Rows.{row_at, OfEachFrame}
@@ -36,3 +38,12 @@ TextsOfFrame i f t w =
 
 abbrev pub AllTextsAreQuiet : Type 0
 AllTextsAreQuiet = OfEachFrame TextsOfFrame
+
+-- and no part of an equation's right side has one
+abbrev pub SidesOfFrame : Instance → Frame → ℕ → List ℕ → Type 0
+SidesOfFrame i f t w =
+    AreSourcesQuiet (row_at i f t) (sources_of i) → (body : ℕ → List Part) (asked : ModeParts) → OthersQuiet i f t w body asked →
+    AllByRecursion (λ e. AreQuiet i f t (equation_parts (setting_on i f w body asked) e)) (equations (component_of (place_there i f w)))
+
+abbrev pub AllSidesAreQuiet : Type 0
+AllSidesAreQuiet = OfEachFrame SidesOfFrame

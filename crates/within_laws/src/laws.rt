@@ -1,7 +1,7 @@
 //! The laws of evaluations that stay within 128 bits.
 
 ghost use Rattle.within_laws.specs.Laws.{QuietPartsAreWithin, PartsWithinAreQuiet};
-ghost use Rattle.within_laws.specs.Frames.{AllTextsAreQuiet};
+ghost use Rattle.within_laws.specs.Frames.{AllSidesAreQuiet, AllTextsAreQuiet};
 ghost use Rattle.within_laws.specs.Sources.{FramesAreQuiet};
 ghost use Rattle.within_laws.specs.Texts.{TextsAreQuiet};
 
@@ -27,7 +27,9 @@ pub fn frames_are_quiet()
 {}
 
 /// So in each of these frames no part of a text has an operation outside where the text has none: what its parts leave to
-/// others are sources. It is taken that the frames of calls, the defaults and what modes require have none.
+/// others are sources. It is taken that the frames of calls, the defaults and what modes require have none. So no part of
+/// an equation's right side has one.
 pub fn all_texts_are_quiet()
-    ensures { AllTextsAreQuiet }
+    ensures texts { AllTextsAreQuiet }
+    ensures equations { AllSidesAreQuiet }
 {}
