@@ -1,0 +1,6 @@
+pub mod Quiet
+pub mod Texts
+pub mod Made
+pub mod Given
+pub mod Facts
+pub mod Frames

@@ -1,0 +1,4 @@
+pub mod Laws
+pub mod Texts
+pub mod Sources
+pub mod Frames

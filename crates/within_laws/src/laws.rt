@@ -1,0 +1,35 @@
+//! The laws of evaluations that stay within 128 bits.
+
+ghost use Rattle.within_laws.specs.Laws.{QuietPartsAreWithin, PartsWithinAreQuiet};
+ghost use Rattle.within_laws.specs.Frames.{AllSidesAreQuiet, AllTextsAreQuiet};
+ghost use Rattle.within_laws.specs.Sources.{FramesAreQuiet};
+ghost use Rattle.within_laws.specs.Texts.{TextsAreQuiet};
+
+/// Of a checked program, in the evaluation of an instant of a run of a declaration: all parts are within 128 bits
+/// exactly where no part's resolution has an operation outside in the row of that instant.
+pub fn quiet_parts_are_within()
+    ensures within { QuietPartsAreWithin }
+    ensures quiet { PartsWithinAreQuiet }
+{}
+
+/// Of a checked program, in the row of a run at an instant and in the frame at the end of each way of calls: where the
+/// resolution of a text has no operation outside 128 bits, and what its parts leave to others has none (the operands of
+/// `pre`, arguments and defaults of calls, what is evaluated in their frames, and what modes require), no part has one.
+pub fn texts_are_quiet()
+    ensures { TextsAreQuiet }
+{}
+
+/// Where no source of a slot that is read has an operation outside 128 bits in the row of an instant, the right sides,
+/// the operands of `pre`, and the conditions and arguments of calls and imports have none, in the frame at the end of
+/// each way of calls.
+pub fn frames_are_quiet()
+    ensures { FramesAreQuiet }
+{}
+
+/// So in each of these frames no part of a text has an operation outside where the text has none: what its parts leave to
+/// others are sources. It is taken that the frames of calls, the defaults and what modes require have none. So no part of
+/// an equation's right side has one.
+pub fn all_texts_are_quiet()
+    ensures texts { AllTextsAreQuiet }
+    ensures equations { AllSidesAreQuiet }
+{}
