@@ -95,8 +95,8 @@ module _ (P : Part → Type 0) (own : (q : Part) → q.gives ≡ [] → P q) whe
       all_parts ns xs c (call p k f as_) h =
           two_ended (argument_parts g c as_) (g.body k) (part g ns xs c (call p k f as_)) (all_arguments c as_) (s.body k) h
       all_parts ns xs c (condact p k a f as_ ds) h =
-          three_ended (parts g ns [] c a ++ argument_parts g c as_) (g.body k) (operand_parts g ns c ds) (part g ns xs c (condact p k a f as_ ds))
-          (joined (parts g ns [] c a) (argument_parts g c as_) (all_parts ns [] c a (bare ns c a)) (all_arguments c as_)) (s.body k)
+          three_ended (parts g (needs_of g c a) [] c a ++ argument_parts g c as_) (g.body k) (operand_parts g ns c ds) (part g ns xs c (condact p k a f as_ ds))
+          (joined (parts g (needs_of g c a) [] c a) (argument_parts g c as_) (all_parts (needs_of g c a) [] c a (bare (needs_of g c a) c a)) (all_arguments c as_)) (s.body k)
           (all_operands ns c ds) h
       all_parts ns xs c (mode_name p d m) h =
           ended (asked_in g ns (key_of (option_map text_of d) m.text)) (part g ns xs c (mode_name p d m))

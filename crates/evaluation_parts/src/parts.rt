@@ -205,7 +205,7 @@ pub(crate) fn push_parts<'a>(
             Ok(())
         }
         Form::Condact(number, a, _, arguments, defaults) => {
-            push_parts(alloc, all, setting, whole, Gives::Nothing, clock, a)?;
+            push_own(alloc, all, setting, clock, a)?;
             push_call(alloc, all, setting, clock, *number, arguments)?;
             push_operands(alloc, all, setting, whole, clock, defaults)?;
             push_itself(alloc, all, setting, whole, gives, clock, e)?;

@@ -9,8 +9,9 @@ use Rattle.lus_meaning.specs.Depends.{Need, the_beat, a_name, needs, modes_need}
 use Rattle.lus_meaning.specs.Cycle.{Place}
 
 -- A part that is evaluated: the calls on the way to its frame, each by its number; the clock on which it stands there, and the expression.
--- It stands in a whole, which is the right side of an equation, an argument of a `pre`, a call or an import, or a condition: `needs` is what that
--- whole needs of its own instant, and `gives` has the names whose values are there once the part is evaluated, where it is itself a right side.
+-- It stands in a whole, which is the right side of an equation, an argument of a `pre`, a call or an import, the condition of a condact, or a condition of a
+-- contract, an assertion or a property: `needs` is what that whole needs of its own instant, and `gives` has the names whose values are there once the part is
+-- evaluated, where it is itself a right side.
 pub record Part : Type 0 where
   pub way : List ℕ
   pub clock : Clock
@@ -52,8 +53,8 @@ abbrev pub part : Setting → List Place → List Name → Clock → Expression 
 part g ns xs c e = record { way = g.way; clock = c; expression = e; needs = ns; gives = xs }
 
 -- The parts of an expression that stands on a clock in a whole of these needs, itself the last one. It gives these names.
--- The operand of a `pre` and the arguments of a call are wholes of their own. A condact has its condition before its arguments. Of `::m` the operands are what
--- the mode requires.
+-- The operand of a `pre` and the arguments of a call are wholes of their own, and so is the condition of a condact, which comes before the arguments. Of `::m`
+-- the operands are what the mode requires.
 abbrev mutual
   pub parts : Setting → List Place → List Name → Clock → Expression → List Part
   parts g ns xs c (truth p b) = part g ns xs c (truth p b) ∷ []
@@ -73,7 +74,7 @@ abbrev mutual
       ++ part g ns xs c (merged p x a b) ∷ []
   parts g ns xs c (call p k f as_) = argument_parts g c as_ ++ g.body k ++ part g ns xs c (call p k f as_) ∷ []
   parts g ns xs c (condact p k a f as_ ds) =
-      parts g ns [] c a ++ argument_parts g c as_ ++ g.body k ++ operand_parts g ns c ds
+      parts g (needs_of g c a) [] c a ++ argument_parts g c as_ ++ g.body k ++ operand_parts g ns c ds
       ++ part g ns xs c (condact p k a f as_ ds) ∷ []
   parts g ns xs c (mode_name p d m) =
       asked_in g ns (key_of (option_map text_of d) m.text) ++ part g ns xs c (mode_name p d m) ∷ []

@@ -1,3 +1,4 @@
 pub mod Source
 pub mod Rows
 pub mod Sources
+pub mod Parts

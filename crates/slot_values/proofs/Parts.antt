@@ -223,7 +223,8 @@ module _ (v : Standpoint) (shows : Shows (scene_at v) v.test v.numbers v.modes v
     own_past ns c (call p k h as_) e o l =
         output_outside k (outputs_at n k) (is_on s c t) ∙ sym (no_own (own (call p k h as_)) (is_on s c t))
     own_past ns c (condact p k a h as_ ds) e o l =
-        latest_outside k (resolution n a) (outputs_at n k) (is_on s c t) (within_from ns c a (own_past ns c a e.2 o) l)
+        latest_outside k (resolution n a) (outputs_at n k) (is_on s c t)
+        (within_from (needs_of g c a) c a (own_past (needs_of g c a) c a e.2 o) l)
         ∙ sym (no_own (own (condact p k a h as_ ds)) (is_on s c t))
     own_past ns c (mode_name p d m) h o l =
         ap (λ k. outside row (is_on s k t) (resolution n (mode_name p d m))) h.0
@@ -304,19 +305,20 @@ module _ (v : Standpoint) (shows : Shows (scene_at v) v.test v.numbers v.modes v
       (sym (ap (λ y. outside row y (resolution n b)) (shown_truth false x.text c h.0)) ∙ q.1) (right_of IsFine (nested g ns ct a) (nested g ns cf b) l)))
   all_within ns xs c (call p k h as_) e o r l = fine_end (argument_parts g c as_ ++ g.body k) (part g ns xs c (call p k h as_)) (plain_end c) l
   all_within ns xs c (condact p k a h as_ ds) e o r l =
-      let front : List Part = nested g ns c a ++ argument_parts g c as_ ++ g.body k in
+      let ms : List NeededPlace = needs_of g c a in
+      let front : List Part = nested g ms c a ++ argument_parts g c as_ ++ g.body k in
       let rest : NonePast i f (operand_parts g ns c ds) t = right_of IsFine front (operand_parts g ns c ds) l in
       let abc : NonePast i f front t = left_of IsFine front (operand_parts g ns c ds) l in
-      let called : NonePast i f (g.body k) t = right_of IsFine (nested g ns c a ++ argument_parts g c as_) (g.body k) abc in
-      let ab : NonePast i f (nested g ns c a ++ argument_parts g c as_) t = left_of IsFine (nested g ns c a ++ argument_parts g c as_) (g.body k) abc in
-      let given : NonePast i f (argument_parts g c as_) t = right_of IsFine (nested g ns c a) (argument_parts g c as_) ab in
-      let condition : NonePast i f (parts g ns [] c a) t =
-      all_within ns [] c a e.2 o (no_operation k (resolution n a) (component_of (call_instance s.place k)).outputs (is_on s c t) e.0.outputs r)
-      (left_of IsFine (nested g ns c a) (argument_parts g c as_) ab) in
-      fine_end (parts g ns [] c a ++ argument_parts g c as_ ++ g.body k ++ operand_parts g ns c ds) (part g ns xs c (condact p k a h as_ ds)) (plain_end c)
-      (both_parts IsFine (parts g ns [] c a ++ argument_parts g c as_ ++ g.body k) (operand_parts g ns c ds)
-      (both_parts IsFine (parts g ns [] c a ++ argument_parts g c as_) (g.body k)
-      (both_parts IsFine (parts g ns [] c a) (argument_parts g c as_) condition given) called) rest)
+      let called : NonePast i f (g.body k) t = right_of IsFine (nested g ms c a ++ argument_parts g c as_) (g.body k) abc in
+      let ab : NonePast i f (nested g ms c a ++ argument_parts g c as_) t = left_of IsFine (nested g ms c a ++ argument_parts g c as_) (g.body k) abc in
+      let given : NonePast i f (argument_parts g c as_) t = right_of IsFine (nested g ms c a) (argument_parts g c as_) ab in
+      let condition : NonePast i f (parts g ms [] c a) t =
+      all_within ms [] c a e.2 o (no_operation k (resolution n a) (component_of (call_instance s.place k)).outputs (is_on s c t) e.0.outputs r)
+      (left_of IsFine (nested g ms c a) (argument_parts g c as_) ab) in
+      fine_end (parts g ms [] c a ++ argument_parts g c as_ ++ g.body k ++ operand_parts g ns c ds) (part g ns xs c (condact p k a h as_ ds)) (plain_end c)
+      (both_parts IsFine (parts g ms [] c a ++ argument_parts g c as_ ++ g.body k) (operand_parts g ns c ds)
+      (both_parts IsFine (parts g ms [] c a ++ argument_parts g c as_) (g.body k)
+      (both_parts IsFine (parts g ms [] c a) (argument_parts g c as_) condition given) called) rest)
   all_within ns xs c (mode_name p d m) h o r l =
       fine_end (asked_in g ns (key_of (option_map text_of d) m.text)) (part g ns xs c (mode_name p d m)) (plain_end c) l
 

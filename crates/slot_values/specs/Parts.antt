@@ -18,7 +18,8 @@ use Rattle.slot_values.specs.Resolved.{mode_resolution, resolution}
 use Rattle.slot_values.specs.Clocked.{row_by, clock_on, Passes}
 use Rattle.slot_values.specs.FrameRow.{numbering, Shows}
 
--- the parts of an expression that belong to its own whole, itself the last one; what a mode requires is among them
+-- the parts of an expression on which its own operations rest, itself the last one: those of its own whole, and of the conditions of condacts, which are wholes
+-- of their own; what a mode requires is among them
 abbrev pub own_parts : Setting → List NeededPlace → List Name → Clock → Expression → List Part
 own_parts g ns xs c (truth p b) = part g ns xs c (truth p b) ∷ []
 own_parts g ns xs c (number p n) = part g ns xs c (number p n) ∷ []
@@ -35,7 +36,7 @@ own_parts g ns xs c (sampled p a q x) =
 own_parts g ns xs c (merged p x a b) =
     own_parts g ns [] (sampled_by true x.text) a ++ own_parts g ns [] (sampled_by false x.text) b ++ part g ns xs c (merged p x a b) ∷ []
 own_parts g ns xs c (call p k f as_) = part g ns xs c (call p k f as_) ∷ []
-own_parts g ns xs c (condact p k a f as_ ds) = own_parts g ns [] c a ++ part g ns xs c (condact p k a f as_ ds) ∷ []
+own_parts g ns xs c (condact p k a f as_ ds) = own_parts g (needs_of g c a) [] c a ++ part g ns xs c (condact p k a f as_ ds) ∷ []
 own_parts g ns xs c (mode_name p d m) = asked_in g ns (key_of (option_map text_of d) m.text) ++ part g ns xs c (mode_name p d m) ∷ []
 
 -- those before itself
@@ -52,7 +53,7 @@ operands g ns c (choice p a b d) = own_parts g ns [] c a ++ own_parts g ns [] c 
 operands g ns c (sampled p a q x) = own_parts g ns [] (clock_of (component_of g.place) x.text) a
 operands g ns c (merged p x a b) = own_parts g ns [] (sampled_by true x.text) a ++ own_parts g ns [] (sampled_by false x.text) b
 operands g ns c (call p k f as_) = []
-operands g ns c (condact p k a f as_ ds) = own_parts g ns [] c a
+operands g ns c (condact p k a f as_ ds) = own_parts g (needs_of g c a) [] c a
 operands g ns c (mode_name p d m) = asked_in g ns (key_of (option_map text_of d) m.text)
 
 -- what else is among the parts of an expression: the parts of wholes that are nested in it, those of defaults, and what modes require
@@ -69,7 +70,7 @@ nested g ns c (choice p a b d) = nested g ns c a ++ nested g ns c b ++ nested g 
 nested g ns c (sampled p a q x) = nested g ns (clock_of (component_of g.place) x.text) a
 nested g ns c (merged p x a b) = nested g ns (sampled_by true x.text) a ++ nested g ns (sampled_by false x.text) b
 nested g ns c (call p k f as_) = argument_parts g c as_ ++ g.body k
-nested g ns c (condact p k a f as_ ds) = nested g ns c a ++ argument_parts g c as_ ++ g.body k ++ operand_parts g ns c ds
+nested g ns c (condact p k a f as_ ds) = nested g (needs_of g c a) c a ++ argument_parts g c as_ ++ g.body k ++ operand_parts g ns c ds
 nested g ns c (mode_name p d m) = asked_in g ns (key_of (option_map text_of d) m.text)
 
 -- a text in the frame at the end of a way of calls
