@@ -1,30 +1,28 @@
 -- How a replay ends, put together from what each step knows.
-use Rattle.std.proofs.Common.{◌≡◌, ◌≢◌, ◌⊎◌, inl, inr, ℕ, ◌≤◌, List, length, refl, sym, ap, ◌∙◌, subst, Result, Ok, Err, IsErrAnd}
+use Rattle.std.proofs.Common.{◌≡◌, ◌≢◌, ◌⊎◌, inl, inr, ℕ, ◌≤◌, List, length, refl, sym, ap, ◌∙◌, subst, Result, Ok, Err, IsErrAnd, Some}
 use Rattle.std.proofs.lemmas.Result.{err_from_is_err_and}
 use Rattle.kind_io.specs.Told.{Told, MayHold, MayExceed}
 use Rattle.lus_tree.specs.Tree.{Program}
 use Rattle.lus_meaning.specs.TraceView.{Listing}
-use Rattle.lus_meaning.specs.Fits.{FitsProgram}
+use Rattle.lus_tree.specs.declared.place.Pos.{Pos}
+use Rattle.lus_meaning.specs.Fits.{misfit, FitsProgram}
 use Rattle.lus_tree.specs.Reason.{Refused as Reasoned, memory}
-use Rattle.lus_meaning.specs.BooleanRules.{BreaksNoBooleanRule}
-use Rattle.shape_laws.specs.Shapes.{IsOfTheShape}
 use Rattle.lus_grammar.specs.Source.{IsSource, IsRefused as IsMisread}
-use Rattle.trace_replay.specs.declared.fault.TraceFault.{TraceFault}
-use Rattle.trace_replay.specs.declared.fault.TraceFault.TheVariants as M
-use Rattle.trace_replay.specs.declared.fault.TraceFault.TheVariants.{Form}
-use Rattle.trace_replay.specs.Refused.{IsMisfit}
-use Rattle.trace_replay.specs.Traces.{IsTraceText, Refuses}
-use Rattle.kind_main.specs.Lines.{Line, refused_line, not_built_line}
-use Rattle.kind_main.specs.Report.{IsReplay}
+use Rattle.trace_text.specs.declared.fault.TraceFault.{TraceFault}
+use Rattle.trace_text.specs.declared.fault.TraceFault.TheVariants as M
+use Rattle.trace_text.specs.declared.fault.TraceFault.TheVariants.{Form}
+use Rattle.trace_text.specs.Traces.{IsTraceText, Refuses}
+use Rattle.kind_main.specs.Lines.{Line, formless_line, refused_line}
+use Rattle.kind_main.specs.Report.{IsReplayReport}
 use Rattle.kind_main.specs.declared.ending.Report.{Report}
 use Rattle.kind_main.specs.declared.ending.Stopped.{Stopped}
 use Rattle.kind_main.specs.declared.ending.Stopped.TheVariants.{Usage, Unread, Refused, Memory}
 use Rattle.kind_main.specs.Ending.{Ending, usage, unread, refused, done, IfStopped, IfEnded}
 use Rattle.kind_main.specs.Fetched.{Tells, limit, IsUnfetched}
 use Rattle.kind_main.specs.Source as S
-use Rattle.kind_main.specs.Source.{EndsAtSource, EndsReplayAtSource, HoldsSource, HoldsBuilt, FollowsAll, IsRuling}
+use Rattle.kind_main.specs.Source.{EndsAtSource, HoldsSource, FollowsAll, IsRuling}
 use Rattle.kind_main.specs.Traced as R
-use Rattle.kind_main.specs.Traced.{EndsAt, EndsAtTrace, IsReplayed, EndsReplay}
+use Rattle.kind_main.specs.Traced.{EndsAt, EndsAtForm, EndsAtMisfit, IsReplayed, EndsReplay}
 use Rattle.kind_main.proofs.Printing.{rose-later}
 
 -- a stop keeps what follows of its ending
@@ -51,28 +49,14 @@ ruled_out_ends bytes p r s (inl m) e h = absurd (h.1 m)
 ruled_out_ends bytes p r s (inr m) e h =
     subst (EndsAtSource bytes) (sym h.0) (S.ruled_out r record { tree = p; source = s; broken = m } refl)
 
--- what is no source is none for a replay
-pub source_ends : (bytes : List ℕ) (e : Ending) → EndsAtSource bytes e → EndsReplayAtSource bytes e
-source_ends bytes usage h = absurd h
-source_ends bytes (unread name) h = absurd h
-source_ends bytes (refused line) h = S.no_source h
-source_ends bytes (done lines code) h = absurd h
+-- a trace is not read for its fault
+pub formless_ends : (bytes : List ℕ) (f : TraceFault) → Refuses bytes f → (e : Ending) → EndsAt f e → EndsAtForm bytes e
+formless_ends bytes (Form at) h e d = subst (EndsAtForm bytes) (sym d) (at, h, refl)
+formless_ends bytes M.Memory h e d = absurd d
 
--- what follows all rules and is not of the shape is not built
-pub unbuilt_ends : (bytes : List ℕ) (p : Program) → IsSource bytes p → FollowsAll p → (IsOfTheShape p → ⊥) → (e : Ending) →
-    e ≡ refused not_built_line → EndsReplayAtSource bytes e
-unbuilt_ends bytes p s k m e h =
-    subst (EndsReplayAtSource bytes) (sym h) (S.unbuilt record { tree = p; source = s; right = k; because = m } refl)
-
--- a trace is refused for its fault
-pub formless_ends : (bytes : List ℕ) (p : Program) (f : TraceFault) → Refuses bytes f → (e : Ending) → EndsAt f e → EndsAtTrace bytes p e
-formless_ends bytes p (Form at) h e d = subst (EndsAtTrace bytes p) (sym d) (at, R.formless h, refl)
-formless_ends bytes p M.Memory h e d = absurd d
-
-pub misfit_ends : (bytes : List ℕ) (p : Program) (t : Listing) (f : TraceFault) → IsTraceText bytes t → IsMisfit p t f → (e : Ending)
-    → EndsAt f e → EndsAtTrace bytes p e
-misfit_ends bytes p t (Form at) text h e d = subst (EndsAtTrace bytes p) (sym d) (at, R.unfit t text h, refl)
-misfit_ends bytes p t M.Memory text h e d = absurd d
+-- a trace doesn't fit
+pub unfit_ends : (p : Program) (t : Listing) (at : Pos) → misfit p t ≡ Some at → (e : Ending) → e ≡ refused (formless_line at) → EndsAtMisfit p t e
+unfit_ends p t at h e d = subst (EndsAtMisfit p t) (sym d) (at, h, refl)
 
 -- a stop that is handed on
 pub handed_on : (P : Ending → Type 0) (r : Result Report Stopped) (s : Stopped) → IsErrAnd r (λ e. e ≡ s) → IfStopped P s → IfEnded P r
@@ -85,17 +69,12 @@ pub held_source : (told : Told) (p : Program) (bytes : List ℕ) → MayHold tol
     → FollowsAll p → HoldsSource told p
 held_source told p bytes m le s k = record { bytes = bytes; held = m; short = le; source = s; right = k }
 
--- and is of the shape that replays are built for
-pub held_built : (told : Told) (p : Program) (bytes : List ℕ) → MayHold told bytes → length bytes ≤ limit → IsSource bytes p
-    → FollowsAll p → BreaksNoBooleanRule p → HoldsBuilt told p
-held_built told p bytes m le s k f = record { holds = held_source told p bytes m le s k; follows = f }
-
 module _ (told : Tells) (before now : ℕ) (file trace : List ℕ) where
   -- the source gives no bytes
   pub no_source : (e : Ending) → IsUnfetched (told file) before now file e → EndsReplay told before now file trace e
   no_source usage h = absurd h
   no_source (unread name) h = (h.0, R.unread_source h.1)
-  no_source (refused line) h = R.refused_source (S.no_source_file (S.too_long h.0 h.1))
+  no_source (refused line) h = R.refused_source (S.too_long h.0 h.1)
   no_source (done lines code) h = absurd h
 
   -- its bytes are refused
@@ -103,11 +82,10 @@ module _ (told : Tells) (before now : ℕ) (file trace : List ℕ) where
       → EndsReplay told before now file trace e
   bad_source bytes m le usage h = absurd h
   bad_source bytes m le (unread name) h = absurd h
-  bad_source bytes m le (refused line) (S.no_source h) = R.refused_source (S.no_source_file (S.refused_bytes bytes m le h))
-  bad_source bytes m le (refused line) (S.unbuilt h e) = R.refused_source (S.unbuilt_bytes bytes m le h e)
+  bad_source bytes m le (refused line) h = R.refused_source (S.refused_bytes bytes m le h)
   bad_source bytes m le (done lines code) h = absurd h
 
-  module _ (p : Program) (source : HoldsBuilt (told file) p) where
+  module _ (p : Program) (source : HoldsSource (told file) p) where
     -- the trace gives no bytes
     pub no_trace : (mid : ℕ) → before ≤ mid → (tells : Told) → tells ≡ told trace → (e : Ending) → IsUnfetched tells mid now trace e
         → EndsReplay told before now file trace e
@@ -116,18 +94,28 @@ module _ (told : Tells) (before now : ℕ) (file trace : List ℕ) where
     no_trace mid le tells same (refused line) h = R.refused_trace p source (R.too_long (subst (λ w. MayExceed w limit) same h.0) h.1)
     no_trace mid le tells same (done lines code) h = absurd h
 
-    -- its bytes are refused
+    -- its bytes are no trace
     pub bad_trace : (tells : Told) → tells ≡ told trace → (bytes : List ℕ) → MayHold tells bytes → length bytes ≤ limit → (e : Ending)
-        → EndsAtTrace bytes p e → EndsReplay told before now file trace e
+        → EndsAtForm bytes e → EndsReplay told before now file trace e
     bad_trace tells same bytes m le usage h = absurd h
     bad_trace tells same bytes m le (unread name) h = absurd h
-    bad_trace tells same bytes m le (refused line) h = R.refused_trace p source (R.misfit_at bytes h.0 (subst (λ w. MayHold w bytes) same m) le h.1 h.2)
+    bad_trace tells same bytes m le (refused line) h =
+        R.refused_trace p source (R.misfit_at bytes h.0 (subst (λ w. MayHold w bytes) same m) le (R.formless h.1) h.2)
     bad_trace tells same bytes m le (done lines code) h = absurd h
+
+    -- the trace does not fit
+    pub unfit_trace : (tells : Told) → tells ≡ told trace → (bytes : List ℕ) → MayHold tells bytes → length bytes ≤ limit → (t : Listing)
+        → IsTraceText bytes t → (e : Ending) → EndsAtMisfit p t e → EndsReplay told before now file trace e
+    unfit_trace tells same bytes m le t text usage h = absurd h
+    unfit_trace tells same bytes m le t text (unread name) h = absurd h
+    unfit_trace tells same bytes m le t text (refused line) h =
+        R.refused_trace p source (R.misfit_at bytes h.0 (subst (λ w. MayHold w bytes) same m) le (R.unfit t text h.1) h.2)
+    unfit_trace tells same bytes m le t text (done lines code) h = absurd h
 
     -- the trace is replayed
     pub traced : (tells : Told) → tells ≡ told trace → (bytes : List ℕ) → MayHold tells bytes → length bytes ≤ limit → (t : Listing)
         → IsTraceText bytes t → FitsProgram p t
-        → (lines : List Line) (code : ℕ) → IsReplay p t lines code → IsReplayed told file trace lines code
+        → (lines : List Line) (code : ℕ) → IsReplayReport p t lines code → IsReplayed told file trace lines code
     traced tells same bytes m le t text fits lines code r = record {
       program = p;
       source = source;

@@ -13,8 +13,8 @@ use Rattle.lus_meaning.specs.Fits.{FitsProgram, FitsNode, first_named}
 use Rattle.lus_meaning.specs.Replay.{Shown, Replays, ReplaysTrace}
 use Rattle.lus_meaning.specs.ClockFaults.{components}
 use Rattle.lus_meaning.specs.Refusals.{IsChecked}
-use Rattle.trace_replay.specs.Traces.{IsTraceText, trace_text}
-use Rattle.trace_replay.specs.Laws.{SameButPlaces}
+use Rattle.trace_text.specs.Traces.{IsTraceText, trace_text}
+use Rattle.trace_text.specs.Laws.{SameButPlaces}
 use Rattle.sys_terms.specs.declared.term.Entry.{Entry}
 use Rattle.sys_terms.specs.Paths as paths
 use Rattle.sys_meaning.specs.System.{system_of}

@@ -4,7 +4,7 @@ use Rattle.std.specs.List.{AllByRecursion}
 use Rattle.std.proofs.Math.Seq.{take-suc}
 use Rattle.std.proofs.lemmas.List.{take_all}
 use Rattle.kind_main.specs.Lines.{Line, text_of}
-use Rattle.trace_replay.specs.Traces.{trace_text}
+use Rattle.trace_text.specs.Traces.{trace_text}
 use Rattle.lus_meaning.specs.TraceView.{Listing}
 use Rattle.kind_main.specs.Verdicts.{IsOneLine, IsEnded, Cuts, ends, goes_on}
 use Rattle.kind_main.proofs.Printing.{text-append}

@@ -1,13 +1,16 @@
 -- What a call leaves, from its answer and its printing.
 use Rattle.std.proofs.Common.{◌≡◌, ◌==◌, ℕ, Bool, true, false, cond, ◌⊎◌, inl, inr, List, [], ◌∷◌, ◌++◌, codes, refl, sym, ap, ◌∙◌, subst, arith, append-nil}
 use Rattle.std.specs.Io.KnownBytes.{Appends}
+use Rattle.lus_tree.specs.Tree.{Program}
+use Rattle.lus_meaning.specs.TraceView.{Listing}
 use Rattle.kind_main.specs.declared.options.Options.{Options}
 use Rattle.kind_main.specs.Given.{Given, AreGiven}
 use Rattle.kind_main.proofs.Givens.{one_given}
 use Rattle.kind_main.specs.Words as W
 use Rattle.kind_main.specs.Words.{AreProve, AreReplay, AreNoCommand}
 use Rattle.kind_main.specs.Lines.{Line, text_of, usage_line, memory_line, read_fault_line}
-use Rattle.kind_main.specs.Report.{code_of}
+use Rattle.kind_main.specs.Report as R
+use Rattle.kind_main.specs.Report.{code_of, IsReplayReport}
 use Rattle.kind_main.specs.Verdicts.{Tally, tally_code, tally_of}
 use Rattle.kind_main.specs.Proved.{IsProved}
 use Rattle.kind_main.specs.Printing as P
@@ -61,9 +64,13 @@ proof_code t = by (t.falsifiable == 0) (t.unknown == 0)
     by true false = inr (inr refl)
     by false b = inr (inl refl)
 
-replay_code : (lines : List Line) → IsReplayCode (code_of lines)
-replay_code [] = inr refl
-replay_code (l ∷ ls) = inl refl
+broken_code : (lines : List Line) → IsReplayCode (code_of lines)
+broken_code [] = inr (inr refl)
+broken_code (l ∷ ls) = inl refl
+
+replay_code : (p : Program) (t : Listing) (lines : List Line) (code : ℕ) → IsReplayReport p t lines code → IsReplayCode code
+replay_code p t lines code (R.stays r) = subst IsReplayCode (sym r.status) (broken_code r.broken)
+replay_code p t lines code (R.passes r) = inr (inl r.status)
 
 -- a command that was carried out
 abbrev IsDoneCode : ℕ → Type 0
@@ -73,7 +80,7 @@ IsDoneCode code = IsProofCode code ⊎ IsReplayCode code
 not_other : (code k : ℕ) → IsDoneCode code → code ≡ k → (k ≡ 2) ⊎ ((k ≡ 3) ⊎ ((k ≡ 5) ⊎ ((k ≡ 6) ⊎ (k ≡ 7)))) → ⊥
 not_other code k d e o = elim d [
   | inl p ↦ elim p [ inl x ↦ omega arith | inr q ↦ elim q [ inl x ↦ omega arith | inr x ↦ omega arith ] ]
-  | inr p ↦ elim p [ inl x ↦ omega arith | inr x ↦ omega arith ]
+  | inr p ↦ elim p [ inl x ↦ omega arith | inr q ↦ elim q [ inl x ↦ omega arith | inr x ↦ omega arith ] ]
 ]
 
 module _ (told : Tells) (before now : ℕ) (words : List (List ℕ)) (puts_before puts_now : ℕ) (old new : Written) where
@@ -101,7 +108,7 @@ module _ (told : Tells) (before now : ℕ) (words : List (List ℕ)) (puts_befor
   done_code : (lines : List Line) (k : ℕ) → EndsSo told before now words (done lines k) → IsDoneCode k
   done_code lines k (A.no_command o e) = cc
   done_code lines k (A.prove file o m r) = inl (subst IsProofCode (sym r.proof.proof.status) (proof_code (tally_of r.proof.proof.verdicts)))
-  done_code lines k (A.replay file trace m r) = inr (subst IsReplayCode (sym r.replay.status) (replay_code r.replay.broken))
+  done_code lines k (A.replay file trace m r) = inr (replay_code r.program r.listing lines k r.replay)
 
   line_alone : (lines : List Line) (line : Line) → lines ≡ line ∷ [] → Appends old new (text_of lines) → Appends old new line
   line_alone lines line e w = subst (Appends old new) (ap text_of e ∙ append-nil line) w
@@ -175,7 +182,7 @@ module _ (told : Tells) (before now : ℕ) (words : List (List ℕ)) (puts_befor
   known_by lines code (done ls j) (A.prove file o m r) h =
       L.of_proof file o m (subst IsProofCode (sym (h.status ∙ r.proof.proof.status)) (proof_code (tally_of r.proof.proof.verdicts)))
   known_by lines code (done ls j) (A.replay file trace m r) h =
-      L.of_replay file trace m (subst IsReplayCode (sym (h.status ∙ r.replay.status)) (replay_code r.replay.broken))
+      L.of_replay file trace m (subst IsReplayCode (sym h.status) (replay_code r.program r.listing ls j r.replay))
 
   -- no answer has the status of a put that failed, or of want of memory
   not_by : (lines : List Line) (code k : ℕ) (e : Ending) → EndsSo told before now words e → Shows lines code e → code ≡ k → (k ≡ 6) ⊎ (k ≡ 7) → ⊥

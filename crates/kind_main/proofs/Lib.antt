@@ -3,7 +3,6 @@ pub mod Lists
 pub mod Counting
 pub mod Lining
 pub mod Proofs
-pub mod FirstToken
 pub mod Reporting
 pub mod Printing
 pub mod Answering

@@ -43,7 +43,7 @@ abbrev pub IsProofCode : ℕ → Type 0
 IsProofCode code = (code ≡ 0) ⊎ ((code ≡ 1) ⊎ (code ≡ 4))
 
 abbrev pub IsReplayCode : ℕ → Type 0
-IsReplayCode code = (code ≡ 1) ⊎ (code ≡ 10)
+IsReplayCode code = (code ≡ 1) ⊎ ((code ≡ 9) ⊎ (code ≡ 10))
 
 -- The file holds a source that follows the rules, and what was written grew by the lines of its proof.
 pub record IsProofDone (o : Options) (told : Told) (old new : Written) (code : ℕ) : Type 0 where
@@ -52,7 +52,7 @@ pub record IsProofDone (o : Options) (told : Told) (old new : Written) (code : �
   pub printed : Appends old new (text_of lines)
 
 -- The files hold a source that follows the rules and a trace that fits it, and what was written grew by the lines of
--- the trace's one frame.
+-- the trace's one frame, or by the line of the first value outside 128 bits.
 pub record IsReplayDone (told : Tells) (file trace : List ℕ) (old new : Written) (code : ℕ) : Type 0 where
   pub lines : List Line
   pub replayed : IsReplayed told file trace lines code

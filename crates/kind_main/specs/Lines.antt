@@ -1,10 +1,11 @@
 -- The lines that the program prints. Each ends with a line feed.
-use Rattle.std.specs.Prelude.{ℕ, List, [], ◌∷◌, ◌++◌, codes, decimal, Option, Some, None}
-use Rattle.lus_tree.specs.Tree.{Name}
+use Rattle.std.specs.Prelude.{ℕ, List, [], ◌∷◌, ◌++◌, codes, decimal}
+use Rattle.std.specs.Fmt.{signed_decimal}
+use Rattle.kind_num.specs.declared.Past.{Past}
+use Rattle.kind_num.specs.declared.Op.{Op}
+use Rattle.kind_num.specs.declared.Op.TheVariants.{Add, Sub, Mul, Div}
 use Rattle.lus_tree.specs.declared.place.Pos.{Pos}
 use Rattle.lus_tree.specs.Reason.{Reason, too_long, bad_byte, unclosed_comment, wide_literal, unexpected, too_large, left_out, name_twice, name_unknown, type_clash, arity_clash, not_linear, zero_divisor, not_constant, heavy, clock_clash, equation_twice, input_defined, cycle, node_recursion, not_stateless, assume_reads_output, no_node, main_unknown, mode_unknown, too_many, not_built, memory, Refused}
-use Rattle.lus_meaning.specs.Contract.{Property}
-use Rattle.lus_meaning.specs.Label.{label_of}
 
 abbrev pub Line : Type 0
 Line = List ℕ
@@ -64,10 +65,6 @@ abbrev pub refused_line : Refused → Line
 refused_line r = codes "refused " ++ (decimal r.at.line ++ (codes ":" ++
     (decimal r.at.column ++ (codes " " ++ (rule_name r.reason ++ (rule_more r.reason ++ codes "\n"))))))
 
--- what is read and not built is refused at the start
-abbrev pub not_built_line : Line
-not_built_line = refused_line (record { at = record { line = 1; column = 1 }; reason = not_built })
-
 -- `refused trace L:C Form`
 abbrev pub formless_line : Pos → Line
 formless_line at = codes "refused trace " ++ (decimal at.line ++ (codes ":" ++ (decimal at.column ++ codes " Form\n")))
@@ -80,13 +77,24 @@ shown_name (b ∷ bs) = b ∷ bs
 abbrev pub read_fault_line : List ℕ → Line
 read_fault_line name = codes "read fault " ++ (shown_name name ++ codes "\n")
 
-abbrev pub breaks_line : Property → ℕ → Line
-breaks_line p t = codes "breaks " ++ (label_of p ++ (codes " at " ++ (decimal t ++ codes "\n")))
+-- of the property with this label
+abbrev pub breaks_line : List ℕ → ℕ → Line
+breaks_line label t = codes "breaks " ++ (label ++ (codes " at " ++ (decimal t ++ codes "\n")))
 
 abbrev pub lawful_line : ℕ → ℕ → Line
 lawful_line a n = codes "lawful " ++ (decimal a ++ (codes " of " ++ (decimal n ++ codes "\n")))
 
--- the label of a property in quotes, or its place, and the instant at which it breaks
-abbrev pub property_breaks : Option Name → Pos → ℕ → Line
-property_breaks None at t = codes "breaks property @" ++ (decimal at.line ++ (codes ":" ++ (decimal at.column ++ (codes " at " ++ (decimal t ++ codes "\n")))))
-property_breaks (Some x) at t = codes "breaks property \"" ++ (x ++ (codes "\" at " ++ (decimal t ++ codes "\n")))
+abbrev pub operation_text : Op → List ℕ
+operation_text Add = codes "+"
+operation_text Sub = codes "-"
+operation_text Mul = codes "*"
+operation_text Div = codes "div"
+
+-- an operation and its operands
+abbrev pub past_text : Past → List ℕ
+past_text p = operation_text p.op ++ (codes " " ++ (signed_decimal p.left ++ (codes " " ++ signed_decimal p.right)))
+
+-- the operator's place, the instant, and the operation whose result is outside 128 bits
+abbrev pub past_line : Pos → ℕ → Past → Line
+past_line at t p = codes "past 128 bits at " ++ (decimal at.line ++ (codes ":" ++ (decimal at.column
+    ++ (codes " instant " ++ (decimal t ++ (codes ": " ++ (past_text p ++ codes "\n")))))))

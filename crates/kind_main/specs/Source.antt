@@ -3,11 +3,9 @@ use Rattle.std.specs.Prelude.{◌≡◌, ◌⊎◌, ◌≤◌, ℕ, List, length
 use Rattle.kind_io.specs.Told.{Told, MayHold, MayExceed}
 use Rattle.lus_tree.specs.Tree.{Program}
 use Rattle.lus_tree.specs.Reason.{Refused, memory}
-use Rattle.lus_meaning.specs.BooleanRules.{BreaksNoBooleanRule}
 use Rattle.lus_meaning.specs.Refusals.{IsChecked, IsWithinLimits, IsRefusedFor}
-use Rattle.shape_laws.specs.Shapes.{IsOfTheShape}
 use Rattle.lus_grammar.specs.Source.{IsSource, IsRefused as IsMisread}
-use Rattle.kind_main.specs.Lines.{Line, too_long_line, not_built_line, refused_line}
+use Rattle.kind_main.specs.Lines.{Line, too_long_line, refused_line}
 use Rattle.kind_main.specs.Fetched.{limit}
 use Rattle.kind_main.specs.Ending.{Ending, usage, unread, refused, done}
 
@@ -51,35 +49,3 @@ pub record HoldsSource (told : Told) (p : Program) : Type 0 where
 pub data IsRefusedFile (told : Told) (line : Line) : Type 0 where
   too_long : MayExceed told limit → line ≡ too_long_line → IsRefusedFile told line
   refused_bytes : (bytes : List ℕ) → MayHold told bytes → length bytes ≤ limit → IsRefusedSource bytes line → IsRefusedFile told line
-
--- ---- replays
-
--- the bytes are a source, whose tree breaks no rule and passes no limit, and is not of the shape that replays are built for
-pub record IsNotBuilt (bytes : List ℕ) : Type 0 where
-  pub tree : Program
-  pub source : IsSource bytes tree
-  pub right : FollowsAll tree
-  pub because : IsOfTheShape tree → ⊥
-
--- why the bytes of a source are refused for a replay, and the line that says so
-pub data IsRefusedForReplay (bytes : List ℕ) (line : Line) : Type 0 where
-  no_source : IsRefusedSource bytes line → IsRefusedForReplay bytes line
-  unbuilt : IsNotBuilt bytes → line ≡ not_built_line → IsRefusedForReplay bytes line
-
--- how a replay ends whose source is refused
-abbrev pub EndsReplayAtSource : List ℕ → Ending → Type 0
-EndsReplayAtSource bytes (refused line) = IsRefusedForReplay bytes line
-EndsReplayAtSource bytes usage = ⊥
-EndsReplayAtSource bytes (unread name) = ⊥
-EndsReplayAtSource bytes (done lines code) = ⊥
-
--- the file holds a source that follows all rules and limits, of the shape that replays are built for
-pub record HoldsBuilt (told : Told) (p : Program) : Type 0 where
-  pub holds : HoldsSource told p
-  pub follows : BreaksNoBooleanRule p
-
--- why a file is refused as the source of a replay, and the line that says so
-pub data IsRefusedReplayFile (told : Told) (line : Line) : Type 0 where
-  no_source_file : IsRefusedFile told line → IsRefusedReplayFile told line
-  unbuilt_bytes : (bytes : List ℕ) → MayHold told bytes → length bytes ≤ limit → IsNotBuilt bytes → line ≡ not_built_line
-      → IsRefusedReplayFile told line

@@ -3,9 +3,6 @@ use Rattle.std.specs.Prelude.{◌≡◌, ◌≢◌, ℕ, suc, zero, ◌++◌, �
 use Rattle.std.specs.List.{AllByRecursion}
 use Rattle.std.specs.Fmt.{signed_decimal}
 use Rattle.proof_steps.specs.StopView.{Halt, conflicts, splits, pivots, past}
-use Rattle.kind_num.specs.declared.Past.{Past}
-use Rattle.kind_num.specs.declared.Op.{Op}
-use Rattle.kind_num.specs.declared.Op.TheVariants.{Add, Sub, Mul, Div}
 use Rattle.lus_tree.specs.Tree.{Program, Component, declared_node}
 use Rattle.lus_meaning.specs.Frame.{Frame}
 use Rattle.lus_meaning.specs.Program.{instance_of}
@@ -20,8 +17,8 @@ use Rattle.lus_meaning.specs.Fits.{FitsProgram}
 use Rattle.lus_meaning.specs.Replay.{Shown, ReplaysTrace}
 use Rattle.source_laws.specs.Laws.{AreIdentified}
 use Rattle.path_traces.specs.Printed.{PrintedPlace, printed_place}
-use Rattle.trace_replay.specs.Traces.{IsTraceText}
-use Rattle.trace_replay.specs.Words.{subject_text}
+use Rattle.trace_text.specs.Traces.{IsTraceText}
+use Rattle.trace_text.specs.Words.{subject_text}
 use Rattle.sys_terms.specs.View.{Machine}
 use Rattle.sys_meaning.specs.System.{system_of}
 use Rattle.board_core.specs.Entries.{Why, depth, frames, blocked, done, stopped, wide}
@@ -33,7 +30,7 @@ use Rattle.kind_main.specs.declared.outcome.Outcome.{Outcome}
 use Rattle.kind_main.specs.declared.outcome.Outcome.TheVariants.{Valid, Falsifiable, Unknown}
 use Rattle.kind_main.specs.declared.tally.Tally.{Tally as Counted}
 use Rattle.kind_main.specs.Ending.{lines_view}
-use Rattle.kind_main.specs.Lines.{Line, text_of}
+use Rattle.kind_main.specs.Lines.{Line, text_of, past_text}
 
 -- what is said of a property: it holds; a trace breaks it first at this instant, whose lines are these; or neither,
 -- for these causes of the engines
@@ -92,15 +89,6 @@ AreTrueVerdicts o p d k [] (s ∷ ss) = ⊥
 AreTrueVerdicts o p d k (q ∷ qs) [] = ⊥
 
 -- ---- the lines
-
-abbrev pub operation_text : Op → List ℕ
-operation_text Add = codes "+"
-operation_text Sub = codes "-"
-operation_text Mul = codes "*"
-operation_text Div = codes "div"
-
-abbrev pub past_text : Past → List ℕ
-past_text p = operation_text p.op ++ (codes " " ++ (signed_decimal p.left ++ (codes " " ++ signed_decimal p.right)))
 
 -- a budget that was spent, or the operation whose result has more than 128 bits
 abbrev pub halt_text : Halt → List ℕ

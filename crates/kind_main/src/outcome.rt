@@ -31,7 +31,7 @@ use std::alloc::{AllocError, Global};
 use sys_terms::{State, System};
 use term_laws::laws::{as_many_formulas, small_systems};
 use trace_laws::laws::{each_read_back, each_replays, narrow_are_small};
-use trace_replay::write_trace;
+use trace_text::write_trace;
 
 /// What is said of a property.
 #[derive(Drop)]

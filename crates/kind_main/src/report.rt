@@ -1,67 +1,64 @@
 //! The lines of the properties that break.
-ghost use Rattle.std.specs.Prelude.{◌≡◌, ◌≤◌, ◌++◌, ◌∷◌, [], length, map, IfOk, OnOk};
-ghost use Rattle.lus_tree.specs.View.{item_view, named_view};
-ghost use Rattle.trace_replay.specs.Answer.{replay_view};
+ghost use Rattle.std.specs.Prelude.{◌≡◌, ◌≤◌, ◌<◌, ◌+◌, ◌++◌, length, map, IfOk, OnOk};
+ghost use Rattle.lus_properties.specs.Texts.{mark_text};
+ghost use Rattle.lus_properties.specs.Views.{property_view};
+ghost use Rattle.program_replay.specs.Answer.{replay_view};
 ghost use Rattle.kind_main.specs.Ending.{lines_view};
-ghost use Rattle.kind_main.specs.Report.{property_line, labelled_in, body_report, GoesOn};
+ghost use Rattle.kind_main.specs.Report.{report_from, said};
 
 use crate::text::breaks_text;
-use lus_tree::{Item, Named};
+use lus_properties::{Property, label_text};
+use program_replay::Replay;
 use std::alloc::{AllocError, Global};
-use trace_replay::Replay;
 
-/// Adds the line of a property, where it breaks.
-#[tactic(auto, using(crate::proofs::FirstToken::expr_token))]
+/// Adds the line of a property with this label, where it breaks.
 fn push_break(
     alloc: Global,
-    property: &Named,
+    label: &str,
     instant: Option<u32>,
     lines: &mut Vec<Vec<u8>>,
 ) -> Result<(), AllocError>
-    ensures { OnOk result (lines_view lines.new.items ≡ lines_view lines.old.items ++ property_line
-        (named_view property.now) instant) }
+    ensures { OnOk result (lines_view lines.new.items ≡ lines_view lines.old.items ++ said label.now instant) }
 {
     if let Some(t) = instant {
-        let line = breaks_text(alloc, property, t)?;
+        let line = breaks_text(alloc, label, t)?;
         lines.push(line.into_bytes())?;
     }
     Ok(())
 }
 
-/// Adds the line of an item, where it is a property that breaks, and answers how many properties
-/// there are up to it.
-fn push_item(
+/// Adds the line of the property of that number, where it breaks, and answers the next number.
+fn push_property(
     alloc: Global,
-    item: &Item,
+    property: &Property<'_>,
     replay: &Replay,
-    count: u32,
+    number: u32,
     lines: &mut Vec<Vec<u8>>,
 ) -> Result<u32, AllocError>
-    requires { count ≤ 500 }
-    ensures { IfOk result (λ after. GoesOn (item_view item.now) (replay_view replay.now).breaks count after
-        (lines_view lines.old.items) (lines_view lines.new.items)) }
+    requires { number < 500 }
+    ensures next { IfOk result (λ n. n ≡ number + 1) }
+    ensures added { OnOk result (lines_view lines.new.items ≡ lines_view lines.old.items
+        ++ said (mark_text (property_view property.now)) ((replay_view replay.now).breaks number)) }
 {
-    let Item::Property(property) = item else {
-        return Ok(count);
-    };
-    push_break(alloc, property, replay.breaks(count), lines)?;
-    Ok(count + 1)
+    let label = label_text(alloc, property)?;
+    push_break(alloc, &label, replay.breaks(number), lines)?;
+    Ok(number + 1)
 }
 
-/// The lines of a body's properties that a replay shows to break.
+/// The lines of the properties that a replay shows to break.
 pub fn break_lines(
     alloc: Global,
-    items: &[Item],
+    properties: &[Property<'_>],
     replay: &Replay,
 ) -> Result<Vec<Vec<u8>>, AllocError>
-    requires { length (labelled_in (map item_view items.now)) ≤ 500 }
-    ensures { IfOk result (λ lines. lines_view lines.items ≡ body_report 0
-        (labelled_in (map item_view items.now)) (replay_view replay.now).breaks) }
+    requires { length properties.now ≤ 500 }
+    ensures { IfOk result (λ v. lines_view v.items ≡ report_from 0
+        (map (λ q. mark_text (property_view q)) properties.now) (replay_view replay.now).breaks) }
 {
     let mut lines = Vec::new(alloc);
-    let mut count = 0;
-    for item in items {
-        count = push_item(alloc, item, replay, count, &mut lines)?;
+    let mut number = 0;
+    for property in properties {
+        number = push_property(alloc, property, replay, number, &mut lines)?;
     }
     Ok(lines)
 }

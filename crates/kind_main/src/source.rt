@@ -2,22 +2,20 @@
 ghost use Rattle.std.specs.Prelude.{◌≡◌, ◌≢◌, ◌≤◌, length, IfErr, IfOk, MatchResult, None, Some};
 ghost use Rattle.lus_tree.specs.View.{program_view};
 ghost use Rattle.lus_tree.specs.Reason.{refusal_view, memory};
-ghost use Rattle.lus_meaning.specs.BooleanRules.{BreaksNoBooleanRule};
 ghost use Rattle.lus_meaning.specs.Grammatical.{IsGrammatical};
 ghost use Rattle.lus_grammar.specs.Source.{IsSource};
 ghost use Rattle.lus_checked.specs.Main.{main_node};
 ghost use Rattle.lus_checked.specs.Program.{main_of, tree_of};
-ghost use Rattle.kind_main.specs.Lines.{not_built_line, refused_line};
+ghost use Rattle.kind_main.specs.Lines.{refused_line};
 ghost use Rattle.kind_main.specs.Ending.{IfStopped, refused as ends_refused};
-ghost use Rattle.kind_main.specs.Source.{EndsAtSource, EndsReplayAtSource, FollowsAll, IsRuling};
+ghost use Rattle.kind_main.specs.Source.{EndsAtSource, FollowsAll, IsRuling};
 
 use crate::ending::Stopped;
 use crate::text::refused_text;
 use contract_reader::read_program;
-use lus_built::{Built, built};
 use lus_checked::{Checked, checked};
 use lus_clocks::clocks;
-use lus_tree::{Pos, Program, Refusal, What};
+use lus_tree::{Program, Refusal, What};
 use lus_types::types;
 use source_laws::laws::grammatical_sources;
 use std::alloc::Global;
@@ -34,19 +32,6 @@ fn refused(alloc: Global, refusal: &Refusal) -> Stopped
             Err(_) => Stopped::Memory,
         },
     }
-}
-
-/// The end of a replay whose source follows all rules and is not built.
-fn not_built(alloc: Global) -> Stopped
-    ensures { IfStopped (λ e. e ≡ ends_refused not_built_line) result }
-{
-    refused(
-        alloc,
-        &Refusal {
-            at: Pos { line: 1, column: 1 },
-            what: What::NotBuilt,
-        },
-    )
 }
 
 /// The program with what its checks know of it: it breaks no rule, and passes no limit, and its main node is the first
@@ -79,23 +64,5 @@ pub fn read_source(alloc: Global, bytes: &[u8]) -> Result<Checked, Stopped>
     match ruled(alloc, program) {
         Ok(checked) => Ok(checked),
         Err(refusal) => Err(refused(alloc, &refusal)),
-    }
-}
-
-/// The program of a source, which follows all rules and limits and is of the shape that replays are built for.
-pub fn read_built(alloc: Global, bytes: &[u8]) -> Result<Built, Stopped>
-    requires { length bytes.now ≤ 1048576 }
-    ensures { MatchResult result (λ c. IsSource bytes.now (program_view c)
-        × FollowsAll (program_view c) × BreaksNoBooleanRule (program_view c))
-        (IfStopped (EndsReplayAtSource bytes.now)) }
-{
-    let checked = match read_source(alloc, bytes) {
-        Ok(checked) => checked,
-        Err(stopped) => return Err(stopped),
-    };
-    match built(alloc, checked) {
-        Ok(Some(built)) => Ok(built),
-        Ok(None) => Err(not_built(alloc)),
-        Err(_) => Err(Stopped::Memory),
     }
 }

@@ -1,26 +1,47 @@
 //! The texts of printed lines.
 ghost use Rattle.std.specs.Prelude.{◌≡◌, ◌++◌, ℕ, List, [], ◌∷◌, codes, decimal, IfOk};
 ghost use Rattle.std.specs.String.{string_bytes};
-ghost use Rattle.lus_tree.specs.View.{named_view};
 ghost use Rattle.lus_tree.specs.Reason.{refusal_view, what_view};
-ghost use Rattle.kind_main.specs.Lines.{lawful_line, read_fault_line, property_breaks, formless_line, refused_line, rule_name, rule_more};
+ghost use Rattle.kind_main.specs.Lines.{breaks_line, formless_line, lawful_line, operation_text, past_line, read_fault_line, refused_line, rule_more, rule_name};
 
-use lus_tree::{Named, Pos, Refusal, What};
+use kind_num::{Op, Past};
+use lus_tree::{Pos, Refusal, What};
 use std::alloc::{AllocError, Global};
 
-/// `breaks property "LABEL" at T`, or `breaks property @L:C at T` where the property has no text.
-pub fn breaks_text(alloc: Global, property: &Named, t: u32) -> Result<String, AllocError>
-    ensures { IfOk result (λ text. string_bytes text ≡ property_breaks
-        (named_view property.now).label property.now.value.from t) }
+/// `breaks LABEL at T`
+pub fn breaks_text(alloc: Global, label: &str, t: u32) -> Result<String, AllocError>
+    ensures { IfOk result (λ text. string_bytes text ≡ breaks_line label.now t) }
 {
-    match &property.label {
-        Some(label) => format!(in alloc; "breaks property \"{label}\" at {t}\n"),
-        None => {
-            let line = property.value.from.line;
-            let column = property.value.from.column;
-            format!(in alloc; "breaks property @{line}:{column} at {t}\n")
-        }
+    format!(in alloc; "breaks {label} at {t}\n")
+}
+
+/// The word of an operation.
+pub fn operation(op: Op) -> &'static str
+    ensures { result.now ≡ operation_text op }
+{
+    match op {
+        Op::Add => "+",
+        Op::Sub => "-",
+        Op::Mul => "*",
+        Op::Div => "div",
     }
+}
+
+/// `past 128 bits at L:C instant T: OP A B`
+pub fn past_line_text(
+    alloc: Global,
+    at: Pos,
+    instant: u32,
+    past: Past,
+) -> Result<String, AllocError>
+    ensures { IfOk result (λ text. string_bytes text ≡ past_line at instant past) }
+{
+    let line = at.line;
+    let column = at.column;
+    let op = operation(past.op);
+    let left = past.left;
+    let right = past.right;
+    format!(in alloc; "past 128 bits at {line}:{column} instant {instant}: {op} {left} {right}\n")
 }
 
 /// `lawful A of N`

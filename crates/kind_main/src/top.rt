@@ -27,8 +27,8 @@ fn run<H: Shelf, K: Sink>(alloc: Global, words: &[String], shelf: &mut H, out: &
 /// No words, and `prove` with at most a file, `--depth K` and `--engines LIST`, decide each property of
 /// a source: the status is 0 where all are valid, 1 where some is falsifiable, and 4 where none is and
 /// some is unknown. The words
-/// `replay FILE TRACE` replay a trace on a source: the status is 1 where some property breaks and 10
-/// where none does. It is 2 for all other words, 3 where the source or the trace is refused, 5 where
+/// `replay FILE TRACE` replay a trace on a source: the status is 1 where some property breaks, 10
+/// where none does, and 9 where a value is outside 128 bits. It is 2 for all other words, 3 where the source or the trace is refused, 5 where
 /// a file could not be read, 6 where a line could not be written, and 7 for want of memory. The shelf
 /// and the sink are left as the calls on them left them.
 pub fn kind_top<H: Shelf, K: Sink>(
@@ -43,7 +43,8 @@ pub fn kind_top<H: Shelf, K: Sink>(
     ensures proved { (file : List ℕ) (options : Choices) → AreProve (map string_bytes words.now) file options
         → IsProofCode result.code
         → IsProofDone options (H.told shelf.old file) (K.written out.old) (K.written out.new) result.code }
-    // A replay, 1 and 10: the files hold a source and a trace, and the lines say what the trace's one frame breaks.
+    // A replay, 1, 9 and 10: the files hold a source and a trace, and the lines say what the trace's one frame breaks,
+    // or at 9 which value is the first outside 128 bits.
     ensures replayed { (file trace : List ℕ) → AreReplay (map string_bytes words.now) file trace
         → IsReplayCode result.code → IsReplayDone (H.told shelf.old) file trace (K.written out.old)
         (K.written out.new) result.code }

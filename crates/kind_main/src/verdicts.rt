@@ -10,18 +10,20 @@ ghost use Rattle.lus_meaning.specs.TraceView.{spot_view};
 ghost use Rattle.lus_properties.specs.Texts.{mark_text};
 ghost use Rattle.lus_properties.specs.Views.{property_view};
 ghost use Rattle.path_traces.specs.Printed.{place_view, printed_place};
-ghost use Rattle.trace_replay.specs.Words.{subject_text};
+ghost use Rattle.trace_text.specs.Words.{subject_text};
 ghost use Rattle.board_core.specs.View.{cause_view};
 ghost use Rattle.kind_main.specs.Causes.{because_view};
 ghost use Rattle.kind_main.specs.Options.{number_of};
 ghost use Rattle.kind_main.specs.Ending.{lines_view};
-ghost use Rattle.kind_main.specs.Verdicts.{because_text, engine_text, falsifiable_lines, IsAnalysed, more_text, unknown, halt_text, operation_text, outcome_view, outcomes_view, past_text, place_text, verdict_lines, verdict_report as report_of_verdicts, why_text};
+ghost use Rattle.kind_main.specs.Lines.{past_text};
+ghost use Rattle.kind_main.specs.Verdicts.{because_text, engine_text, falsifiable_lines, IsAnalysed, more_text, unknown, halt_text, outcome_view, outcomes_view, place_text, verdict_lines, verdict_report as report_of_verdicts, why_text};
 
 use crate::cause::Because;
 use crate::options::EngineName;
 use crate::outcome::Outcome;
+use crate::text::operation;
 use board_core::Cause;
-use kind_num::{Op, Past};
+use kind_num::Past;
 use lus_meaning::Spot;
 use lus_properties::{Property, label_text};
 use lus_streams::owner::Owner;
@@ -29,17 +31,6 @@ use lus_tree::{Node, Program};
 use path_traces::{Place, place_of};
 use proof_steps::Stop;
 use std::alloc::{AllocError, Global};
-
-fn operation(op: Op) -> &'static str
-    ensures { result.now ≡ operation_text op }
-{
-    match op {
-        Op::Add => "+",
-        Op::Sub => "-",
-        Op::Mul => "*",
-        Op::Div => "div",
-    }
-}
 
 fn past(alloc: Global, past: Past) -> Result<String, AllocError>
     ensures { IfOk result (λ text. string_bytes text ≡ codes "past 128 bits " ++ past_text past) }

@@ -1,9 +1,7 @@
 //! The laws of traces and of their fit.
 
 use lus_meaning::fit_or_misfit;
-use trace_replay::laws::{
-    fit_read_back, never_both, one_misfit, one_trace, read_back, trace_or_misfit,
-};
+use trace_text::laws::{never_both, one_misfit, one_trace, read_back, trace_or_misfit};
 
 /// Calls each law once.
 pub fn all() {
@@ -12,6 +10,5 @@ pub fn all() {
     never_both();
     one_misfit();
     read_back();
-    fit_read_back();
     fit_or_misfit();
 }

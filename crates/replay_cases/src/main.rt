@@ -9,7 +9,7 @@ mod replays;
 mod texts;
 
 use escape::unescaped;
-use lus_built::Built;
+use lus_checked::Checked;
 use program::source;
 use replays::{fits, shown};
 use std::alloc::{AllocError, Global};
@@ -71,7 +71,7 @@ fn text_answer(alloc: Global, ask: Ask, case: &str) -> Result<String, AllocError
 
 fn replay_answer(
     alloc: Global,
-    checked: &Built,
+    checked: &Checked,
     ask: Replayed,
     case: &str,
 ) -> Result<String, AllocError> {

@@ -1,15 +1,14 @@
 //! The program of a file.
 
 use contract_reader::read_program;
-use lus_built::{Built, built};
-use lus_checked::checked;
+use lus_checked::{Checked, checked};
 use lus_clocks::clocks;
 use lus_types::types;
 use source_laws::laws::grammatical_sources;
 use std::alloc::{AllocError, Global};
 
-/// The program of a source that follows the rules, where it is of the shape that is built.
-pub fn source(alloc: Global, bytes: &[u8]) -> Result<Option<Built>, AllocError> {
+/// The program of a source that follows the rules.
+pub fn source(alloc: Global, bytes: &[u8]) -> Result<Option<Checked>, AllocError> {
     if bytes.len() > 1_048_576 {
         return Ok(None);
     }
@@ -23,8 +22,5 @@ pub fn source(alloc: Global, bytes: &[u8]) -> Result<Option<Built>, AllocError> 
     let Ok(clocked) = clocks(alloc, typed) else {
         return Ok(None);
     };
-    match checked(alloc, clocked, None) {
-        Ok(checked) => built(alloc, checked),
-        Err(_) => Ok(None),
-    }
+    Ok(checked(alloc, clocked, None).ok())
 }

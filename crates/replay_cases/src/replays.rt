@@ -3,15 +3,16 @@
 ghost use Rattle.std.specs.Prelude.{◌≤◌, length};
 
 use crate::texts::fault;
-use lus_built::Built;
+use lus_checked::Checked;
 use lus_meaning::Value;
 use lus_tree::Param;
+use program_replay::{Replay, ReplayFault, replay};
 use std::alloc::{AllocError, Global};
-use trace_replay::{Replay, TraceFault, read_trace, replay};
+use trace_text::read_trace;
 
 fn replayed<'a>(
     alloc: Global,
-    checked: &'a Built,
+    checked: &'a Checked,
     bytes: &[u8],
 ) -> Result<(Replay<'a>, u32), TraceFault>
     requires { length bytes.now ≤ 1048576 }
@@ -22,7 +23,7 @@ fn replayed<'a>(
 }
 
 /// Whether the trace fits the program, or where it doesn't.
-pub fn fits(alloc: Global, checked: &Built, bytes: &[u8]) -> Result<String, AllocError>
+pub fn fits(alloc: Global, checked: &Checked, bytes: &[u8]) -> Result<String, AllocError>
     requires { length bytes.now ≤ 1048576 }
 {
     match replayed(alloc, checked, bytes) {
@@ -80,7 +81,7 @@ fn show_breaks(out: &mut String, replay: &Replay) -> Result<(), AllocError> {
 
 fn show(
     alloc: Global,
-    checked: &Built,
+    checked: &Checked,
     replay: &Replay,
     instants: u32,
 ) -> Result<String, AllocError> {
@@ -99,7 +100,7 @@ fn show(
 
 /// The values of each name, the breaks of the properties, and how many instants are lawful, or
 /// where the trace doesn't fit.
-pub fn shown(alloc: Global, checked: &Built, bytes: &[u8]) -> Result<String, AllocError>
+pub fn shown(alloc: Global, checked: &Checked, bytes: &[u8]) -> Result<String, AllocError>
     requires { length bytes.now ≤ 1048576 }
 {
     match replayed(alloc, checked, bytes) {

@@ -5,7 +5,7 @@ ghost use Rattle.std.specs.Prelude.{◌≤◌, length};
 use lus_meaning::{Spot, Trace, TraceLine, Value};
 use lus_tree::Pos;
 use std::alloc::{AllocError, Global};
-use trace_replay::{TraceFault, read_trace, write_trace};
+use trace_text::{TraceFault, read_trace, write_trace};
 
 /// Where a trace goes wrong.
 pub fn fault(alloc: Global, fault: TraceFault) -> Result<String, AllocError> {

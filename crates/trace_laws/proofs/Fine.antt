@@ -19,7 +19,7 @@ use Rattle.rule_laws.specs.Laws.{IsUnfolded, AreUnfolded, NamedIsDeclared}
 use Rattle.rule_laws.proofs.Places.{numbered, sites_counted}
 use Rattle.path_laws.proofs.Numbers.{CountedFrom, in_order_counted}
 use Rattle.source_laws.specs.Laws.{IsIdentified, AreIdentified}
-use Rattle.trace_replay.specs.Words.{FitsSubject}
+use Rattle.trace_text.specs.Words.{FitsSubject}
 use Rattle.trace_laws.proofs.Named.{identified}
 
 -- ---- lists

@@ -24,9 +24,9 @@ use Rattle.source_laws.specs.Laws.{AreIdentified}
 use Rattle.sys_meaning.specs.System.{shape_of, system_of}
 use Rattle.sys_meaning.proofs.Shows.{numbers_same, same_both, same_ways}
 use Rattle.term_laws.specs.Laws.{SmallSystems}
-use Rattle.trace_replay.specs.Laws.{ReadBack}
-use Rattle.trace_replay.specs.Words.{FitsSubject, FitsValue}
-use Rattle.trace_replay.specs.Traces.{HasValues, FitsLine, FitsTrace}
+use Rattle.trace_text.specs.Laws.{ReadBack}
+use Rattle.trace_text.specs.Words.{FitsSubject, FitsValue}
+use Rattle.trace_text.specs.Traces.{HasValues, FitsLine, FitsTrace}
 use Rattle.trace_laws.specs.Laws.{EachReadBack}
 use Rattle.trace_laws.proofs.Fine.{IsFine, all_fine}
 use Rattle.trace_laws.proofs.Named.{identified, named_node, node_component}

@@ -7,8 +7,8 @@ use Rattle.lus_meaning.specs.Refusals.{IsChecked, IsWithinLimits}
 use Rattle.lus_meaning.specs.Replay.{Shown, ReplaysTrace}
 use Rattle.lus_meaning.specs.TraceView.{Listing}
 use Rattle.source_laws.specs.Laws.{AreIdentified}
-use Rattle.trace_replay.specs.Laws.{SameButPlaces}
-use Rattle.trace_replay.specs.Traces.{IsTraceText, trace_text}
+use Rattle.trace_text.specs.Laws.{SameButPlaces}
+use Rattle.trace_text.specs.Traces.{IsTraceText, trace_text}
 use Rattle.sys_terms.specs.declared.term.Entry.{Entry}
 use Rattle.sys_terms.specs.Fits.{is_narrow}
 use Rattle.sys_terms.specs.Paths as paths

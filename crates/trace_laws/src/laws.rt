@@ -20,7 +20,7 @@ pub fn each_read_back()
     rule_laws::laws::unfolded_instances();
     rule_laws::laws::one_instance();
     term_laws::laws::small_systems();
-    trace_replay::laws::read_back();
+    trace_text::laws::read_back();
 }
 
 /// Numbers below 2^63 in size are of sizes of at most 2^63 - 1.

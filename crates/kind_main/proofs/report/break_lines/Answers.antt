@@ -1,16 +1,25 @@
 use Rattle.std.proofs.Common.{arith}
-use Rattle.kind_main.proofs.Reporting.{report-start, report-few, report-next, report-end}
+use Rattle.lus_properties.specs.Texts.{mark_text}
+use Rattle.lus_properties.specs.Views.{property_view}
+use Rattle.program_replay.specs.Answer.{replay_view}
+use Rattle.kind_main.proofs.Reporting.{report-start, report-next, report-end}
 use Rattle.kind_main.proofs.report.break_lines.Goals as goal
 
-pub push_item-requires : goal.push_item-requires
-push_item-requires c = report-few _ _ _ _ _ c.loop-item.invariant
+pub push_property-requires : goal.push_property-requires
+push_property-requires c =
+    let same = c.loop-property.invariant.counted in
+    let few = c.requires in
+    omega (arith, same, few)
 
-pub loop-item-preserved : goal.loop-item-preserved
-loop-item-preserved c = report-next _ _ _ _ _ _ c.args.items.now c.loop-item.item-index _
-    (omega arith) c.item-item.is c.in_ok-count.ensures c.loop-item.invariant
+pub loop-property-preserved : goal.loop-property-preserved
+loop-property-preserved c =
+    report-next (λ q. mark_text (property_view q)) c.args.properties.now (replay_view c.args.replay.now).breaks _ _ _ _ c.loop-property.property-index _
+    (omega arith) c.item-property.is c.in_ok-number.ensures.next c.in_ok-number.ensures.added c.loop-property.invariant
 
-pub loop-item-init : goal.loop-item-init
-loop-item-init c = rw c.new-lines.ensures.items (report-start _ _ c.requires)
+pub loop-property-init : goal.loop-property-init
+loop-property-init c = rw c.new-lines.ensures.items (report-start (λ q. mark_text (property_view q)) c.args.properties.now (replay_view c.args.replay.now).breaks)
 
 pub returns : goal.returns
-returns c = report-end _ _ _ _ c.args.items.now c.loop-item.item-index (omega arith) c.loop-item.invariant
+returns c =
+    report-end (λ q. mark_text (property_view q)) c.args.properties.now (replay_view c.args.replay.now).breaks _ _ c.loop-property.property-index
+    (omega arith) c.loop-property.invariant

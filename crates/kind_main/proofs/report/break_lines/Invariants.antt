@@ -1,10 +1,10 @@
-use Rattle.std.proofs.Common.{map, drop}
-use Rattle.lus_tree.specs.View.{item_view}
-use Rattle.trace_replay.specs.Answer.{replay_view}
+use Rattle.lus_properties.specs.Texts.{mark_text}
+use Rattle.lus_properties.specs.Views.{property_view}
+use Rattle.program_replay.specs.Answer.{replay_view}
 use Rattle.kind_main.specs.Ending.{lines_view}
 use Rattle.kind_main.proofs.Reporting.{Reporting}
 use Rattle.kind_main.proofs.report.break_lines.Given as goal
 
-abbrev pub invariant-loop-item : goal.invariant-loop-item
-invariant-loop-item l = Reporting (map item_view l.items) (replay_view l.replay).breaks (lines_view l.lines.items) l.count
-    (map item_view (drop l.item-index l.items))
+abbrev pub invariant-loop-property : goal.invariant-loop-property
+invariant-loop-property l =
+    Reporting (λ q. mark_text (property_view q)) l.properties (replay_view l.replay).breaks (lines_view l.lines.items) l.number l.property-index

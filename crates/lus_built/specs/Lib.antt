@@ -1,5 +1,0 @@
-pub mod Found
-pub mod Ordered
-pub mod Shaped
-pub mod Tables
-pub mod Texts

@@ -1,9 +1,0 @@
-use Rattle.std.proofs.Common.{◌≡◌, ◌+◌, ◌≤◌, ◌-◌, length}
-use Rattle.trace_replay.specs.Reading.{blank_length}
-use Rattle.trace_replay.proofs.cursor.blank_length.Given as goal
-
-abbrev pub invariant-loop-rest : goal.invariant-loop-rest
-invariant-loop-rest l = record { shorter : length l.rest ≤ length l.bytes; same : length l.bytes - length l.rest + blank_length l.rest ≡ blank_length l.bytes }
-
-abbrev pub decreases-loop-rest : goal.decreases-loop-rest
-decreases-loop-rest l = length l.rest

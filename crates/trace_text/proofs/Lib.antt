@@ -1,0 +1,9 @@
+pub mod Cuts
+pub mod AsciiNames
+pub mod Addresses
+pub mod Texts
+pub mod Lines
+pub mod Numbers
+pub mod Told
+pub mod Unique
+pub mod Written

@@ -1,0 +1,5 @@
+pub mod Cutting
+pub mod Words
+pub mod Traces
+pub mod Reading
+pub mod Laws
