@@ -27,10 +27,9 @@ use Rattle.evaluation_laws.specs.Rows.{AreCalls, scene_there}
 use Rattle.order_laws.specs.Own.{own_setting}
 use Rattle.order_laws.specs.Rows.{place_there}
 use Rattle.order_laws.specs.Needed.{IsCalled, arguments_of, IsEvaluatedIn, NeededInputsComeBefore}
-use Rattle.order_laws.proofs.Frames.{scene_further}
+use Rattle.order_laws.proofs.Frames.{scene_further, same_place}
 use Rattle.order_laws.proofs.Placed.{all_in_self, CalledIn, IsSiteOf}
 use Rattle.order_laws.proofs.Bodies.{in_all, slice_in}
-use Rattle.order_laws.proofs.Trees.{same_place}
 use Rattle.order_laws.proofs.Evaluated.{firsts, further}
 use Rattle.order_laws.proofs.FirstByRows as b
 use Rattle.order_laws.proofs.Needed.{needed_arguments_come_before}
