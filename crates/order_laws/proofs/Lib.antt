@@ -22,3 +22,4 @@ pub mod FirstByRows
 pub mod Needed
 pub mod NoneOutside
 pub mod Inputs
+pub mod Callers

@@ -82,7 +82,7 @@ no_end : (w : List ℕ) (k : ℕ) → [] ≡ w ++ k ∷ [] → ⊥
 no_end [] k e = cc
 no_end (m ∷ w) k e = cc
 
-same_end : (u w : List ℕ) (l k : ℕ) → u ++ l ∷ [] ≡ w ++ k ∷ [] → (u ≡ w) × (l ≡ k)
+pub same_end : (u w : List ℕ) (l k : ℕ) → u ++ l ∷ [] ≡ w ++ k ∷ [] → (u ≡ w) × (l ≡ k)
 same_end [] [] l k e = (refl, (cc))
 same_end [] (m ∷ w) l k e = absurd (no_end w k (cc))
 same_end (n ∷ u) [] l k e = absurd (no_end u l (cc))
