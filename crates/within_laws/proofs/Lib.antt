@@ -4,3 +4,5 @@ pub mod Made
 pub mod Given
 pub mod Facts
 pub mod Frames
+pub mod SomeRun
+pub mod Slots
