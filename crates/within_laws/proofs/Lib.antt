@@ -1,3 +1,4 @@
+pub mod Lists
 pub mod Quiet
 pub mod Texts
 pub mod Made
@@ -6,3 +7,9 @@ pub mod Facts
 pub mod Frames
 pub mod SomeRun
 pub mod Slots
+pub mod Constants
+pub mod Defaults
+pub mod Contracts
+pub mod Bodies
+pub mod Trees
+pub mod Instants

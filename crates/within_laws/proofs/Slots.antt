@@ -1,14 +1,11 @@
 -- The parts of an instant in the row of a run, by their resolutions over slots.
-use Rattle.std.proofs.Common.{◌≡◌, ℕ, zero, suc, ◌<◌, List, [], ◌∷◌, ◌++◌, refl, ap, ◌∙◌, sym, subst, arith}
-use Rattle.std.specs.Prelude.{slice_get, option_to_list}
+use Rattle.std.proofs.Common.{◌≡◌, ℕ, ◌<◌, List, [], ◌∷◌, ◌++◌, refl, ap, ◌∙◌, sym, subst, arith}
 use Rattle.std.specs.List.{AllByRecursion}
 use Rattle.lus_tree.specs.Tree.{Expression}
 use Rattle.lus_meaning.specs.Frame.{Frame}
 use Rattle.lus_meaning.specs.Scene.{Clock, base, sampled_by, Instance}
 use Rattle.lus_meaning.specs.Program.{instance_of}
 use Rattle.lus_meaning.specs.Verdict.{throughout}
-use Rattle.lus_meaning.proofs.Lists.{both_parts}
-use Rattle.lus_evaluation.specs.Frame.{picked}
 use Rattle.lus_evaluation.specs.Turn.{in_turn}
 use Rattle.lus_evaluation.specs.Part.{Part}
 use Rattle.slot_values.specs.Evaluated.{SlotValues, outside}
@@ -22,20 +19,12 @@ use Rattle.order_laws.proofs.FirstByRows.{laid}
 use Rattle.order_laws.proofs.Placed.{Placed, EachPlaced}
 use Rattle.order_laws.proofs.Trees.{same_place}
 use Rattle.within_laws.specs.Instants.{IsOverSlots, PartsStandAtCalls, PartsAreOverSlots}
+use Rattle.within_laws.proofs.Lists.{each_picked}
 use Rattle.within_laws.proofs.SomeRun.{some_run}
 
 pub switch_is : (row : SlotValues) (g : Numbering) (c : Clock) → is_on row (switch_of g c) ≡ clock_on (row_by g.number row) c
 switch_is row g base = refl
 switch_is row g (sampled_by b x) = refl
-
-at_number : {A : Type 0} (P : A → Type 0) (xs : List A) (k : ℕ) → AllByRecursion P xs → AllByRecursion P (option_to_list (slice_get xs k))
-at_number P [] k a = tt
-at_number P (x ∷ xs) zero a = (a.0, tt)
-at_number P (x ∷ xs) (suc k) a = at_number P xs k a.1
-
-pub each_picked : {A : Type 0} (P : A → Type 0) (ks : List ℕ) (xs : List A) → AllByRecursion P xs → AllByRecursion P (picked ks xs)
-each_picked P [] xs a = tt
-each_picked P (k ∷ ks) xs a = both_parts P (option_to_list (slice_get xs k)) (picked ks xs) (at_number P xs k a) (each_picked P ks xs a)
 
 module _ (i : Instance) (f : Frame) (t : ℕ) (every : List Part) where
   same_resolution : (w : List ℕ) (e : Expression) → resolution_there i f w e ≡ resolution (numbering_there i w) e

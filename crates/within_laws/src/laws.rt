@@ -2,7 +2,7 @@
 
 ghost use Rattle.within_laws.specs.Laws.{QuietPartsAreWithin, PartsWithinAreQuiet};
 ghost use Rattle.within_laws.specs.Frames.{AllSidesAreQuiet, AllTextsAreQuiet};
-ghost use Rattle.within_laws.specs.Instants.{PartsStandAtCalls, PartsAreOverSlots};
+ghost use Rattle.within_laws.specs.Instants.{InstantsAreWithin, PartsStandAtCalls, PartsAreOverSlots};
 ghost use Rattle.within_laws.specs.Sources.{FramesAreQuiet};
 ghost use Rattle.within_laws.specs.Texts.{TextsAreQuiet};
 
@@ -40,4 +40,10 @@ pub fn all_texts_are_quiet()
 pub fn parts_over_slots()
     ensures ways { PartsStandAtCalls }
     ensures operations { PartsAreOverSlots }
+{}
+
+/// Of a checked program, in the evaluation of an instant of a run of a declaration: where no source of a slot that is
+/// read has an operation outside 128 bits in the row of that instant, and no condition has one, all parts are within.
+pub fn instants_are_within()
+    ensures within { InstantsAreWithin }
 {}
