@@ -51,7 +51,6 @@ use Rattle.within_laws.specs.Laws.{AreQuiet}
 use Rattle.within_laws.specs.Texts.{IsQuiet, EachQuiet}
 use Rattle.within_laws.specs.Sources.{IsFrameQuiet}
 use Rattle.within_laws.proofs.Contracts.{QuietModes, QuietItems, wholes_quiet, others, after}
-use Rattle.within_laws.proofs.Defaults.{defaults_quiet}
 use Rattle.within_laws.proofs.Frames.{sides_quiet}
 use Rattle.within_laws.proofs.Lists.{each_picked}
 use Rattle.within_laws.proofs.Texts.{none_in}
@@ -101,9 +100,6 @@ module _ (i : Instance) (f : Frame) (t : ℕ) where
     bodies : (k : ℕ) → 0 < k → pred k < count_of (calls_of j) → Quiet (sub k).body
     bodies k x l = (child k x l).body
 
-    defaults : (k : ℕ) → 0 < k → pred k < count_of (calls_of j) → EachQuiet i f t w (site_of j k).clock (site_of j k).defaults
-    defaults k x l = defaults_quiet p c i f t w u d k l
-
     -- ---- the contract
 
     abbrev subr : ℕ → Items Resolving
@@ -131,7 +127,7 @@ module _ (i : Instance) (f : Frame) (t : ℕ) where
     contract : QuietItems i f t at on text (conditions.conditions_of j)
     contract =
         subst (λ q. QuietItems i f t at on text q) (sym (items_are j))
-        (after i f t p c w sh u d sub mine bodies defaults subr same below [] [] [] (contract_statements n) (own_fits p c j u d).contract
+        (after i f t p c w sh u d sub mine bodies subr same below [] [] [] (contract_statements n) (own_fits p c j u d).contract
         (items_fit p c j u d) refl tt (ap (λ q. q.modes) (items_are j)))
 
     -- ---- texts, with all modes
@@ -147,7 +143,7 @@ module _ (i : Instance) (f : Frame) (t : ℕ) where
 
     pub here_quiet : (z : Standing) (es : List Expression) → AllByRecursion (KnownAt z) es → EachQuiet i f t w z.clock es → Quiet (wholes g z.clock es)
     here_quiet z es a h =
-        wholes_quiet i f t p c w sh u d sub mine bodies defaults text.modes (conditions.conditions_of j).modes [] contract.modes all_modes z es a h
+        wholes_quiet i f t p c w sh u d sub mine bodies text.modes (conditions.conditions_of j).modes [] contract.modes all_modes z es a h
 
     pub fit_quiet : (es : List Expression) → AllByRecursion (TextFits j (on_clock base)) es → EachQuiet i f t w base es → Quiet (wholes g base es)
     fit_quiet es a h = here_quiet (on_clock base) es (all_from (TextFits j (on_clock base)) (KnownAt (on_clock base)) (λ e y. y.0) es a) h
@@ -183,7 +179,7 @@ module _ (i : Instance) (f : Frame) (t : ℕ) where
         (all_flat _ (equation_parts g) (picked order (equations n))
         (each_picked (λ e. Quiet (equation_parts g e)) order (equations n)
         (sides_quiet p c i f t w sh u d (λ k. (sub k).body) (map (λ m. (m.key, m.asked)) text.modes) mine
-        (others i f t p c w sh u d sub mine bodies defaults text.modes (conditions.conditions_of j).modes [] contract.modes all_modes))))
+        (others i f t p c w sh u d sub mine bodies text.modes (conditions.conditions_of j).modes [] contract.modes all_modes))))
 
     -- ---- assertions
 

@@ -119,9 +119,7 @@ module _ (i : Instance) (f : Frame) (t : ℕ) where
 
   module _ (p : Program) (c : IsChecked p) (w : List ℕ) (sh : RowShows i f t w) (u : IsUnfolded p (place_there i f w))
       (d : Contains (components p) (component_of (place_there i f w))) (sub : Calls) (mine : IsFrameQuiet i f t w)
-      (bodies : (k : ℕ) → 0 < k → pred k < count_of (calls_of (place_there i f w)) → Quiet (sub k).body)
-      (defaults : (k : ℕ) → 0 < k → pred k < count_of (calls_of (place_there i f w)) →
-      EachQuiet i f t w (site_of (place_there i f w) k).clock (site_of (place_there i f w) k).defaults) where
+      (bodies : (k : ℕ) → 0 < k → pred k < count_of (calls_of (place_there i f w)) → Quiet (sub k).body) where
     abbrev j : Instance
     j = place_there i f w
 
@@ -158,7 +156,7 @@ module _ (i : Instance) (f : Frame) (t : ℕ) where
           (sym (items_ask_resolvings j) ∙ ap (λ l. known l) all) h)
 
       pub others : OthersQuiet i f t w (λ k. (sub k).body) (map (λ m. (m.key, m.asked)) ts)
-      others = record { bodies = bodies; defaults = defaults; modes = λ q x m k h ns. modes_quiet q x m h ns }
+      others = record { bodies = bodies; modes = λ q x m k h ns. modes_quiet q x m h ns }
 
       -- a text that is known
       pub known_quiet : (z : Standing) (e : Expression) → Each (standing.Known j) (component_of j) z e → IsQuiet i f t w z.clock e → (ns : List NeededPlace)

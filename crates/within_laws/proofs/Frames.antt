@@ -38,6 +38,7 @@ use Rattle.within_laws.specs.Texts.{IsQuiet, EachQuiet, LeavesQuiet, IsGood}
 use Rattle.within_laws.specs.Sources.{IsFrameQuiet}
 use Rattle.within_laws.specs.Frames.{OthersQuiet, AllTextsAreQuiet, AllSidesAreQuiet}
 use Rattle.within_laws.proofs.Texts.{quiet_parts}
+use Rattle.within_laws.proofs.Defaults.{defaults_quiet}
 use Rattle.within_laws.proofs.Facts.{frames_are_quiet}
 
 module _ (p : Program) (c : IsChecked p) where
@@ -83,7 +84,7 @@ module _ (p : Program) (c : IsChecked p) where
         let given = subst (λ y. EachQuiet i f t w y.clock (call_condition y y.manner ++ y.arguments)) r.0 (mine.calls k a.0.fits.0.number r.1) in (
           given.1,
           others.bodies k a.0.fits.0.number r.1,
-          subst (λ y. EachQuiet i f t w y.clock y.defaults) r.0 (others.defaults k a.0.fits.0.number r.1),
+          subst (λ y. EachQuiet i f t w y.clock y.defaults) r.0 (defaults_quiet p c i f t w u d k r.1),
         )
     leaves z (mode_name q x m) a = λ h ns.
         others.modes q x m a.fits.1 (subst (λ y. IsQuiet i f t w y (mode_name q x m)) a.fits.0 h) ns

@@ -4,11 +4,11 @@ pub mod Texts
 pub mod Made
 pub mod Given
 pub mod Facts
-pub mod Frames
 pub mod SomeRun
 pub mod Slots
 pub mod Constants
 pub mod Defaults
+pub mod Frames
 pub mod Contracts
 pub mod Bodies
 pub mod Trees
