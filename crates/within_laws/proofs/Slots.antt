@@ -16,8 +16,8 @@ use Rattle.slot_sources.specs.Sources.{numbering_of, switch_of}
 use Rattle.slot_sources.specs.Parts.{numbering_there, part_switch}
 use Rattle.evaluation_laws.specs.Rows.{row_at, AreCalls, numbers_there, resolution_there}
 use Rattle.order_laws.proofs.FirstByRows.{laid}
+use Rattle.order_laws.proofs.Frames.{same_place}
 use Rattle.order_laws.proofs.Placed.{Placed, EachPlaced}
-use Rattle.order_laws.proofs.Trees.{same_place}
 use Rattle.within_laws.specs.Instants.{IsOverSlots, PartsStandAtCalls, PartsAreOverSlots}
 use Rattle.within_laws.proofs.Lists.{each_picked}
 use Rattle.within_laws.proofs.SomeRun.{some_run}

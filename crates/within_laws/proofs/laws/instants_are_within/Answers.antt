@@ -2,4 +2,4 @@ use Rattle.within_laws.proofs.Instants.{instants_are_within}
 use Rattle.within_laws.proofs.laws.instants_are_within.Goals as goal
 
 pub returns : goal.returns
-returns c = instants_are_within
+returns c = record { within = instants_are_within }
