@@ -6,7 +6,7 @@ use Rattle.std.proofs.lemmas.Bool.{false≢true, eqb-true}
 use Rattle.lus_tree.specs.Tree.{Name, Expression, truth, number, name, negation, minus, pre, arrow, binary, choice, sampled, merged, call, condact, mode_name}
 use Rattle.lus_meaning.specs.Frame.{Frame}
 use Rattle.lus_meaning.specs.Scene.{Clock, while_true, Instance, component_of, is_on}
-use Rattle.lus_meaning.specs.Depends.{needs, modes_need, named_in, left_names}
+use Rattle.lus_meaning.specs.Depends.{named_in, left_names, needs, modes_need}
 use Rattle.lus_meaning.specs.Cycle.{Place as NeededPlace}
 use Rattle.lus_meaning.proofs.BooleanOrder.{IsIn, in_left, in_right}
 use Rattle.lus_meaning.proofs.Lists.{append_none, all_from, both_parts}
@@ -248,8 +248,8 @@ module _ (i : Instance) (f : Frame) (t : ℕ) where
 
   module _ (every : List Part) where
     -- A part that stands behind these ones: it has its types and its clock, and its own operands are among them; so are those of the frame that it calls,
-    -- if it is a call, and the operand of a `pre`. The equations of each frame on its way are among all, and what the calls on its way are given is among them. Its whole needs
-    -- what it needs itself.
+    -- if it is a call, and the operand of a `pre`. The equations of each frame on its way are among all, and what the calls on its way are given is among them.
+    -- Its whole needs each name that it needs itself.
     pub record Placed (b : List Part) (q : Part) : Type 0 where
       pub calls : AreCalls i q.way
       pub stands : Stands (place_there i f q.way) (IsKnown (place_there i f q.way)) q.clock q.expression
