@@ -3,13 +3,13 @@ use Rattle.std.proofs.Common.{◌≡◌, ℕ, zero, suc, pred, ◌<◌, List, []
 use Rattle.std.proofs.Math.Logic.{◌⊎◌, inl, inr}
 use Rattle.std.proofs.lemmas.Option.{none-some}
 use Rattle.lus_tree.specs.Tree.{Name}
-use Rattle.lus_meaning.specs.Scene.{Clock, base, Manner, as_import, Site, Instance, Instances, instance, no_instances, with_instance, calls_of, call_instance, instance_at}
+use Rattle.lus_meaning.specs.Scene.{base, Manner, as_import, Site, Instance, Instances, instance, no_instances, with_instance, instance_at}
 use Rattle.lus_meaning.specs.Depends.{Need, the_beat, a_name, inside, clock_needs, site_needs, modes_need}
-use Rattle.lus_meaning.specs.Cycle.{Place, place_of, deeper, caller_needs, at_top, next_places, next_in_call, IsAt, IsWay, last_place}
+use Rattle.lus_meaning.specs.Cycle.{Place, place_of, deeper, caller_needs, at_top, next_places, next_in_call, IsWay, last_place}
 use Rattle.lus_meaning.proofs.BooleanOrder.{IsIn, in_mapped}
 use Rattle.lus_meaning.proofs.Lists.{append_none, map_append}
 use Rattle.clock_laws.proofs.Reaching.{at_in, in_either, in_image}
-use Rattle.sys_meaning.specs.Defaults.{site_at, site_of}
+use Rattle.sys_meaning.specs.Defaults.{site_at}
 use Rattle.sys_meaning.specs.WellTyped.{IsImport}
 use Rattle.lus_evaluation.specs.Part.{from_top}
 use Rattle.lus_evaluation.specs.Evaluation.{NeedsPlace, place_named, instance_on}
@@ -80,42 +80,42 @@ import_beat (instance d cs is) k im z h =
 -- ---- seen from the frame that imports
 
 module _ (i : Instance) (w : List ℕ) (k : ℕ) (a : AreCalls i w) (j : Instance) (same : instance_on i w ≡ j) (im : IsImport j k) (ns : List Place) (qs : List Need)
-    where
-  abbrev above : List Place
-  above = map (from_top w) (map (inside (pred k)) qs)
+  where
+    abbrev above : List Place
+    above = map (from_top w) (map (inside (pred k)) qs)
 
-  at_import : map pred (w ++ k ∷ []) ≡ map pred w ++ pred k ∷ []
-  at_import = map_append pred w (k ∷ [])
+    at_import : map pred (w ++ k ∷ []) ≡ map pred w ++ pred k ∷ []
+    at_import = map_append pred w (k ∷ [])
 
-  beat_above : (z : Place) → IsIn z (next_places i (map pred (w ++ k ∷ [])) None) → z ≡ from_top w the_beat
-  beat_above z h =
-      let r : (y : Place) × IsIn y (next_places (instance_on i w) (pred k ∷ []) None) × (z ≡ from_end w y) =
-      at_end_back i w (pred k) None z a (subst (λ l. IsIn z (next_places i l None)) at_import h) in
-      r.2 ∙ ap (from_end w) (import_beat j k im r.0 (subst (λ q. IsIn r.0 (next_places q (pred k ∷ []) None)) same r.1))
-      ∙ ap (λ (ks : List ℕ). let z : Place = (ks, None) in z) (append_none (map pred w))
+    beat_above : (z : Place) → IsIn z (next_places i (map pred (w ++ k ∷ [])) None) → z ≡ from_top w the_beat
+    beat_above z h =
+        let r : (y : Place) × IsIn y (next_places (instance_on i w) (pred k ∷ []) None) × (z ≡ from_end w y) =
+        at_end_back i w (pred k) None z a (subst (λ l. IsIn z (next_places i l None)) at_import h) in
+        r.2 ∙ ap (from_end w) (import_beat j k im r.0 (subst (λ q. IsIn r.0 (next_places q (pred k ∷ []) None)) same r.1))
+        ∙ ap (λ (ks : List ℕ). let z : Place = (ks, None) in z) (append_none (map pred w))
 
-  name_above : (ks : List ℕ) (x : Name) → from_top w (inside (pred k) (a_name ks x)) ≡ from_top (w ++ k ∷ []) (a_name ks x)
-  name_above ks x =
-      ap (λ (l : List ℕ). let z : Place = (l, Some x) in z) (sym (ap (λ l. l ++ ks) at_import ∙ grouped (map pred w) (pred k ∷ []) ks))
+    name_above : (ks : List ℕ) (x : Name) → from_top w (inside (pred k) (a_name ks x)) ≡ from_top (w ++ k ∷ []) (a_name ks x)
+    name_above ks x =
+        ap (λ (l : List ℕ). let z : Place = (l, Some x) in z) (sym (ap (λ l. l ++ ks) at_import ∙ grouped (map pred w) (pred k ∷ []) ks))
 
-  needed_above : (n : Need) → IsIn n qs → IsIn (from_top w (inside (pred k) n)) above
-  needed_above n m = in_mapped (from_top w) (inside (pred k) n) (map (inside (pred k)) qs) (in_mapped (inside (pred k)) n qs m)
+    needed_above : (n : Need) → IsIn n qs → IsIn (from_top w (inside (pred k) n)) above
+    needed_above n m = in_mapped (from_top w) (inside (pred k) n) (map (inside (pred k)) qs) (in_mapped (inside (pred k)) n qs m)
 
-  from_need : (v : List ℕ) (x : Name) (n : Need) → IsIn n qs → (rest : List (ℕ × Place)) → IsWay i (from_top (w ++ k ∷ []) n) rest →
-      last_place (from_top (w ++ k ∷ []) n) rest ≡ place_named v x → NeedsPlace i above (place_named v x)
-  from_need v x (a_name ks y) m rest way e =
-      further i above (from_top (w ++ k ∷ []) (a_name ks y)) (place_named v x)
-      (needs_itself i above (from_top (w ++ k ∷ []) (a_name ks y))
-      (subst (λ z. IsIn z above) (name_above ks y) (needed_above (a_name ks y) m))) rest way e
-  from_need v x the_beat m [] way e = absurd (none-some x (ap (λ (z : Place). z.1) e))
-  from_need v x the_beat m (q ∷ rest) way e =
-      further i above q.1 (place_named v x)
-      (needs_itself i above q.1 (subst (λ z. IsIn z above)
-      (sym (beat_above q.1 (at_in q.0 q.1 (next_places i (map pred (w ++ k ∷ [])) None) way.0))) (needed_above the_beat m)))
-      rest way.1 e
+    from_need : (v : List ℕ) (x : Name) (n : Need) → IsIn n qs → (rest : List (ℕ × Place)) → IsWay i (from_top (w ++ k ∷ []) n) rest →
+        last_place (from_top (w ++ k ∷ []) n) rest ≡ place_named v x → NeedsPlace i above (place_named v x)
+    from_need v x (a_name ks y) m rest way e =
+        further i above (from_top (w ++ k ∷ []) (a_name ks y)) (place_named v x)
+        (needs_itself i above (from_top (w ++ k ∷ []) (a_name ks y))
+        (subst (λ z. IsIn z above) (name_above ks y) (needed_above (a_name ks y) m))) rest way e
+    from_need v x the_beat m [] way e = absurd (none-some x (ap (λ (z : Place). z.1) e))
+    from_need v x the_beat m (q ∷ rest) way e =
+        further i above q.1 (place_named v x)
+        (needs_itself i above q.1 (subst (λ z. IsIn z above)
+        (sym (beat_above q.1 (at_in q.0 q.1 (next_places i (map pred (w ++ k ∷ [])) None) way.0))) (needed_above the_beat m)))
+        rest way.1 e
 
-  pub inside_covers : CoversNeeds i w ns (map (inside (pred k)) qs) → CoversNeeds i (w ++ k ∷ []) ns qs
-  inside_covers y v x h =
-      let r : (n : Need) × IsIn n qs × (h.start ≡ from_top (w ++ k ∷ []) n) =
-      in_image (from_top (w ++ k ∷ [])) h.start qs (at_in h.number h.start (map (from_top (w ++ k ∷ [])) qs) h.starts) in
-      y v x (from_need v x r.0 r.1 h.rest (subst (λ z. IsWay i z h.rest) r.2 h.way) (ap (λ z. last_place z h.rest) (sym r.2) ∙ h.last))
+    pub inside_covers : CoversNeeds i w ns (map (inside (pred k)) qs) → CoversNeeds i (w ++ k ∷ []) ns qs
+    inside_covers y v x h =
+        let r : (n : Need) × IsIn n qs × (h.start ≡ from_top (w ++ k ∷ []) n) =
+        in_image (from_top (w ++ k ∷ [])) h.start qs (at_in h.number h.start (map (from_top (w ++ k ∷ [])) qs) h.starts) in
+        y v x (from_need v x r.0 r.1 h.rest (subst (λ z. IsWay i z h.rest) r.2 h.way) (ap (λ z. last_place z h.rest) (sym r.2) ∙ h.last))

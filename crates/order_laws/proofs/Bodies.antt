@@ -1,5 +1,5 @@
 -- What is evaluated in a frame, each part behind its own operands.
-use Rattle.std.proofs.Common.{◌≡◌, ℕ, zero, suc, pred, ◌+◌, ◌<◌, Bool, true, false, cond, ◌||◌, eqb, List, [], ◌∷◌, ◌++◌, map, flat_map, length, slice_get, refl, ap, ◌∙◌, sym, subst, arith, Option, Some, option_map}
+use Rattle.std.proofs.Common.{◌≡◌, ℕ, zero, suc, pred, ◌+◌, ◌<◌, Bool, true, false, cond, ◌||◌, eqb, List, [], ◌∷◌, ◌++◌, map, flat_map, length, slice_get, refl, ap, ◌∙◌, sym, subst, arith, Option, Some}
 use Rattle.std.specs.Prelude.{Contains, option_to_list}
 use Rattle.std.specs.List.{AllByRecursion, list_any}
 use Rattle.std.proofs.Math.Logic.{◌⊎◌, inl, inr}
@@ -8,14 +8,14 @@ use Rattle.std.proofs.lemmas.List.Folds.{list_any-append}
 use Rattle.std.proofs.lemmas.Option.{none-some, same_Some}
 use Rattle.lus_tree.specs.Tree.{Name, Expression, truth, number, name, negation, minus, pre, arrow, binary, choice, sampled, merged, call, condact, mode_name, Labelled, Statement, equation, assertion, property, main_mark, ContractStatement, assume, guarantee, ghost_variable, constant, mode, «import», Component, Program, text_of}
 use Rattle.lus_meaning.specs.Frame.{Frame}
-use Rattle.lus_meaning.specs.Scene.{Clock, base, sampled_by, clock_of, Manner, plain, while_true, as_import, Site, Instance, Instances, no_instances, with_instance, component_of, calls_of, contract_statements, clock_of_names, is_on}
+use Rattle.lus_meaning.specs.Scene.{Clock, base, Manner, plain, while_true, as_import, Site, Instance, Instances, no_instances, with_instance, component_of, calls_of, contract_statements, clock_of_names, is_on}
 use Rattle.lus_meaning.specs.Contract.{terms}
 use Rattle.lus_meaning.specs.Meaning.{mode_key}
 use Rattle.lus_meaning.specs.Occurrences.{Standing, on_clock, on_base, as_side, Occurrence, occurrences, Text, gathered, all_occurrences, contract_statement_texts}
 use Rattle.lus_meaning.specs.Program.{site_in, import_site, all_sites}
 use Rattle.lus_meaning.specs.Property.{assertions}
 use Rattle.lus_meaning.specs.Run.{Equation, equations, ghost_equations, body_equations}
-use Rattle.lus_meaning.specs.Depends.{ModeNeeds, known_needs, needs, modes_after, modes_need, named_in, left_names}
+use Rattle.lus_meaning.specs.Depends.{ModeNeeds, known_needs, needs, modes_after, modes_need, named_in}
 use Rattle.lus_meaning.specs.Cycle.{Place as NeededPlace}
 use Rattle.lus_meaning.specs.Order.{is_listed}
 use Rattle.lus_meaning.specs.Trace.{same_numbers}
@@ -29,7 +29,7 @@ use Rattle.rule_laws.proofs.Lists.{all_flat}
 use Rattle.sys_meaning.specs.Items.{Key}
 use Rattle.sys_meaning.specs.WellTyped.{IsKnown, IsAmong, IsImport, EquationFits, ClockFits, count_of, CallsFit}
 use Rattle.path_laws.proofs.Tree.{own_fits}
-use Rattle.lus_evaluation.specs.Part.{Part, ModeParts, Setting, needs_of, key_of, asked_in, part, parts, argument_parts, operand_parts, whole_parts, wholes}
+use Rattle.lus_evaluation.specs.Part.{Part, ModeParts, Setting, needs_of, asked_in, part, parts, whole_parts, wholes}
 use Rattle.lus_evaluation.specs.Frame.{ModeText, ContractText, FrameText, Calls, setting, conditions_of, mode_text, imported_mode, contract_after, import_parts, equation_parts, picked, evaluated_clause, evaluated_statement, evaluated_texts, evaluated_calls, stands_in, is_evaluated, call_condition, asserted_below, asserted_in_calls, text_over}
 use Rattle.slot_values.specs.Clocked.{row_by, clock_on}
 use Rattle.evaluation_laws.specs.Rows.{AreCalls, row_at, scene_there, numbers_there, RowShows}

@@ -1,5 +1,5 @@
 -- What a frame is given comes before a part that sees it and needs it.
-use Rattle.std.proofs.Common.{◌≡◌, ℕ, zero, suc, pred, ◌<◌, Bool, true, false, eqb, List, [], ◌∷◌, ◌++◌, map, Option, Some, None, slice_get, refl, ap, ◌∙◌, sym, subst, arith}
+use Rattle.std.proofs.Common.{◌≡◌, ℕ, zero, suc, pred, ◌<◌, true, eqb, List, [], ◌∷◌, ◌++◌, map, Option, Some, None, slice_get, refl, ap, sym, subst}
 use Rattle.std.specs.Prelude.{Contains}
 use Rattle.std.specs.List.{AllByRecursion}
 use Rattle.std.proofs.Math.Logic.{inl, inr}
@@ -7,10 +7,10 @@ use Rattle.std.proofs.lemmas.Bool.{false≢true, eqb-true}
 use Rattle.std.proofs.lemmas.Option.{none-some, same_Some}
 use Rattle.lus_tree.specs.Tree.{Name, Expression, Component, Program}
 use Rattle.lus_meaning.specs.Frame.{Frame}
-use Rattle.lus_meaning.specs.Scene.{Clock, while_true, Site, Instance, calls_of, call_instance}
+use Rattle.lus_meaning.specs.Scene.{while_true, Site, Instance, calls_of, call_instance}
 use Rattle.lus_meaning.specs.Run.{IsRun, inputs_of}
 use Rattle.lus_meaning.specs.Depends.{Need, the_beat, needs, modes_need}
-use Rattle.lus_meaning.specs.Cycle.{Place, caller_needs, next_places, IsAt}
+use Rattle.lus_meaning.specs.Cycle.{caller_needs, next_places, IsAt}
 use Rattle.lus_meaning.specs.Program.{instance_of}
 use Rattle.lus_meaning.specs.Verdict.{throughout}
 use Rattle.lus_meaning.specs.ClockFaults.{components}
@@ -19,17 +19,16 @@ use Rattle.lus_meaning.proofs.BooleanOrder.{IsIn, at_some}
 use Rattle.lus_meaning.proofs.Lists.{all_from}
 use Rattle.sys_meaning.specs.Defaults.{site_of}
 use Rattle.sys_meaning.specs.WellTyped.{count_of}
-use Rattle.lus_evaluation.specs.Part.{Part, from_top, needs_of}
+use Rattle.lus_evaluation.specs.Part.{Part, from_top}
 use Rattle.lus_evaluation.specs.Evaluation.{is_above, NeedsPlace, place_named, instance_on, IsEvaluation}
 use Rattle.lus_evaluation.specs.Turn.{in_turn}
 use Rattle.evaluation_laws.specs.Rows.{AreCalls}
 use Rattle.evaluation_laws.proofs.Waiting.{both_true}
-use Rattle.order_laws.specs.Own.{own_setting}
 use Rattle.order_laws.specs.Rows.{place_there}
 use Rattle.order_laws.specs.Needed.{Sees, IsEvaluatedIn, FrameInputsComeBefore, FrameConditionsComeBefore}
 use Rattle.order_laws.proofs.Frames.{scene_further, same_place}
 use Rattle.order_laws.proofs.Covers.{further}
-use Rattle.order_laws.proofs.Placed.{all_in_self, same_end, WholeIn, WholesIn, GivenTo, Placed}
+use Rattle.order_laws.proofs.Placed.{all_in_self, same_end, WholeIn, GivenTo, Placed}
 use Rattle.order_laws.proofs.Evaluated.{firsts, above_itself}
 use Rattle.order_laws.proofs.FirstByRows as b
 use Rattle.order_laws.proofs.Needed.{whole_in}

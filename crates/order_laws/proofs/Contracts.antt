@@ -1,10 +1,10 @@
 -- The parts of a contract, each behind its own operands.
-use Rattle.std.proofs.Common.{◌≡◌, ℕ, pred, ◌<◌, Bool, true, false, cond, ◌||◌, eqb, List, [], ◌∷◌, ◌++◌, map, flat_map, refl, ap, ◌∙◌, sym, subst, Option, Some, unwrap_or}
+use Rattle.std.proofs.Common.{◌≡◌, ℕ, pred, ◌<◌, Bool, true, false, cond, ◌||◌, List, [], ◌∷◌, ◌++◌, map, flat_map, refl, ap, ◌∙◌, sym, subst, Option, Some, unwrap_or}
 use Rattle.std.specs.Prelude.{Contains}
 use Rattle.std.specs.List.{AllByRecursion, list_any}
 use Rattle.std.specs.Map.{lookup}
 use Rattle.std.proofs.Math.Logic.{◌⊎◌, inl, inr}
-use Rattle.std.proofs.lemmas.Bool.{false≢true, eqb-true}
+use Rattle.std.proofs.lemmas.Bool.{false≢true}
 use Rattle.lus_tree.specs.Tree.{Name, Spelled, Expression, Labelled, ContractStatement, assume, guarantee, ghost_variable, constant, mode, «import», Program}
 use Rattle.lus_meaning.specs.Frame.{Frame}
 use Rattle.lus_meaning.specs.Scene.{base, while_true, as_import, Instance, component_of, calls_of, call_instance}
@@ -28,7 +28,6 @@ use Rattle.lus_evaluation.specs.Frame.{ModeText, ContractText, FrameText, Calls,
 use Rattle.lus_evaluation.specs.Evaluation.{is_above}
 use Rattle.slot_values.specs.Parts.{own_parts}
 use Rattle.evaluation_laws.specs.Rows.{AreCalls, RowShows}
-use Rattle.evaluation_laws.proofs.Waiting.{both_true}
 use Rattle.order_laws.specs.Own.{own_setting, own_asked, imported_own, own_modes_after, own_modes}
 use Rattle.order_laws.specs.Rows.{place_there}
 use Rattle.order_laws.proofs.Lists.{grouped, left_of}

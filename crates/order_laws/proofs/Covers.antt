@@ -1,13 +1,13 @@
 -- What one whole needs covers what another one needs, where it needs each name that the other one needs.
-use Rattle.std.proofs.Common.{◌≡◌, ℕ, Bool, true, false, cond, ◌||◌, List, [], ◌∷◌, ◌++◌, map, flat_map, Option, Some, None, option_map, option_to_list, unwrap_or, refl, ap, ◌∙◌, sym, subst}
+use Rattle.std.proofs.Common.{◌≡◌, ℕ, Bool, true, false, cond, ◌||◌, List, [], ◌∷◌, ◌++◌, map, flat_map, Some, option_map, option_to_list, unwrap_or, refl, ap, ◌∙◌, sym, subst}
 use Rattle.std.specs.List.{AllByRecursion, list_any}
 use Rattle.std.specs.Map.{lookup}
 use Rattle.std.proofs.lemmas.Bool.{false≢true}
 use Rattle.lus_tree.specs.Tree.{Name, text_of, Expression, Expressions, truth, number, name, negation, minus, pre, arrow, binary, choice, sampled, merged, call, condact, mode_name, no_more, more, Labelled}
-use Rattle.lus_meaning.specs.Scene.{Clock, base, sampled_by, Instance, component_of, clock_of}
+use Rattle.lus_meaning.specs.Scene.{base, sampled_by, Instance, component_of, clock_of}
 use Rattle.lus_meaning.specs.Meaning.{mode_key}
 use Rattle.lus_meaning.specs.Occurrences.{Standing, on_clock, within, moved}
-use Rattle.lus_meaning.specs.Depends.{Need, the_beat, a_name, ModeNeeds, known_needs, clock_needs, output_needs, needs, needs_each, modes_need, asked_needs}
+use Rattle.lus_meaning.specs.Depends.{Need, a_name, ModeNeeds, known_needs, clock_needs, needs, needs_each}
 use Rattle.lus_meaning.specs.Cycle.{Place, IsWay, last_place}
 use Rattle.lus_meaning.proofs.BooleanOrder.{IsIn, in_left, in_right, in_mapped, at_some}
 use Rattle.lus_meaning.proofs.EachPart.{Each, EachAmong}

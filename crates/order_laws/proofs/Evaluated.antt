@@ -14,7 +14,7 @@ use Rattle.lus_meaning.specs.Run.{equations}
 use Rattle.lus_meaning.specs.Depends.{named_in, left_names}
 use Rattle.lus_meaning.specs.Trace.{same_numbers}
 use Rattle.lus_meaning.specs.Cycle.{Place, next_places, IsAt, IsWay, last_place, Lowers}
-use Rattle.lus_meaning.specs.Order.{is_listed, IsLeastOrder, IsNext, AreNext}
+use Rattle.lus_meaning.specs.Order.{is_listed, IsLeastOrder, AreNext}
 use Rattle.lus_meaning.proofs.BooleanOrder.{IsIn, at_some}
 use Rattle.lus_meaning.proofs.Lists.{append_none}
 use Rattle.clock_laws.proofs.Reaching.{at_in}
@@ -26,7 +26,7 @@ use Rattle.evaluation_laws.proofs.Wholes.{NeedsItsWhole}
 use Rattle.evaluation_laws.proofs.Waiting.{both_true, both, Passing, first_passes}
 use Rattle.order_laws.specs.Own.{own_setting}
 use Rattle.order_laws.specs.Rows.{place_there}
-use Rattle.order_laws.specs.Needed.{IsSide, IsCalled, Sees}
+use Rattle.order_laws.specs.Needed.{IsSide}
 use Rattle.order_laws.proofs.Lists.{grouped}
 use Rattle.order_laws.proofs.Earlier.{listed_first}
 use Rattle.order_laws.proofs.Covers.{further, Covers, covers_all}

@@ -1,9 +1,8 @@
 -- The argument for an input that a call needs comes before it.
-use Rattle.std.proofs.Common.{◌≡◌, ℕ, zero, suc, pred, ◌<◌, Bool, true, false, cond, List, [], ◌∷◌, ◌++◌, map, flat_map, Option, Some, None, slice_get, refl, ◌∙◌, sym, subst, ap, arith}
+use Rattle.std.proofs.Common.{◌≡◌, ℕ, zero, suc, pred, ◌<◌, true, cond, List, [], ◌∷◌, ◌++◌, map, Option, Some, None, slice_get, refl, ◌∙◌, sym, subst, ap, arith}
 use Rattle.std.specs.Prelude.{Contains}
 use Rattle.std.specs.List.{AllByRecursion}
 use Rattle.std.specs.Str.{bytes_eq}
-use Rattle.std.proofs.Math.Logic.{inl, inr}
 use Rattle.std.proofs.lemmas.Option.{none-some, same_Some}
 use Rattle.lus_tree.specs.Tree.{Name, Expression, truth, number, name, negation, minus, pre, arrow, binary, choice, sampled, merged, call, condact, mode_name, Component, Program}
 use Rattle.lus_meaning.specs.Frame.{Frame}
@@ -11,7 +10,7 @@ use Rattle.lus_meaning.specs.Scene.{Clock, while_true, Site, Instance, Instances
 use Rattle.lus_meaning.specs.Run.{IsRun, inputs_of}
 use Rattle.lus_meaning.specs.Depends.{Need, the_beat, a_name, clock_needs, needs, modes_need, site_needs}
 use Rattle.lus_meaning.specs.Cycle.{Place, place_of, deeper, matching, shared_needs, caller_needs, next_places, next_in_call, IsAt}
-use Rattle.lus_meaning.specs.Program.{instance_of, listed}
+use Rattle.lus_meaning.specs.Program.{instance_of}
 use Rattle.lus_meaning.specs.Verdict.{throughout}
 use Rattle.lus_meaning.specs.ClockFaults.{components}
 use Rattle.lus_meaning.specs.Refusals.{IsChecked}
@@ -23,7 +22,7 @@ use Rattle.sys_meaning.specs.WellTyped.{count_of, IsKnown, Stands}
 use Rattle.lus_evaluation.specs.Part.{Part, from_top, needs_of}
 use Rattle.lus_evaluation.specs.Evaluation.{NeedsPlace, place_named, instance_on, IsEvaluation}
 use Rattle.lus_evaluation.specs.Turn.{in_turn}
-use Rattle.evaluation_laws.specs.Rows.{AreCalls, scene_there}
+use Rattle.evaluation_laws.specs.Rows.{AreCalls}
 use Rattle.order_laws.specs.Own.{own_setting}
 use Rattle.order_laws.specs.Rows.{place_there}
 use Rattle.order_laws.specs.Needed.{IsCalled, arguments_of, IsEvaluatedIn, NeededInputsComeBefore}

@@ -175,9 +175,11 @@ module _ (p : Program) (c : IsChecked p) (i : Instance) (u : IsUnfolded p i) (j 
         flags_fit bs q rs r.0 (left_part Text_known (on_base rs) (on_base es) a),
         flags_fit bs q es r.1 (right_part Text_known (on_base rs) (on_base es) a),
       )
-  item_fits bs q («import» m x as_ ys) f a s z =
-      (s.0, arguments_fit bs q as_ (no_parts (flat_map (expression_faults (contract_statement_scope place bs) (on_clock base)) as_) _ f).0 a,
-      ap (λ r. r.arguments) z.0)
+  item_fits bs q («import» m x as_ ys) f a s z = (
+    s.0,
+    arguments_fit bs q as_ (no_parts (flat_map (expression_faults (contract_statement_scope place bs) (on_clock base)) as_) _ f).0 a,
+    ap (λ r. r.arguments) z.0,
+  )
 
   imported_both : (bs : List ContractStatement) (x : ContractStatement) → AllByRecursion Imported (flat_map import_site bs) →
       AllByRecursion Imported (import_site x) → AllByRecursion Imported (flat_map import_site (bs ++ x ∷ []))

@@ -18,7 +18,7 @@ use Rattle.slot_values.specs.Parts.{own_parts}
 use Rattle.order_laws.specs.Own.{own_setting}
 use Rattle.order_laws.specs.Rows.{place_there}
 use Rattle.order_laws.proofs.Names.{Named}
-use Rattle.order_laws.proofs.Covers.{Covers, CoversNeeds, covers_itself, covers_left, covers_right}
+use Rattle.order_laws.proofs.Covers.{CoversNeeds, covers_itself, covers_left, covers_right}
 use Rattle.order_laws.proofs.Placed.{Among, WholesIn, GivenTo, given_among, OwnIn, own_wider, own_covered, own_two, own_end}
 
 module _ (i : Instance) (f : Frame) (t : ℕ) (w : List ℕ) (sub : Calls) where

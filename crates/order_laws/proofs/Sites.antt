@@ -189,16 +189,15 @@ module _ (i : Instance) where
 
   sites_known : (s : Standing) (e : Expression) → Each Both (component_of i) s e → AllByRecursion SiteKnown (site_in s e)
   sites_known s (call p k f as_) a = (inl record { site = sited _ a.0.0.fits; standing = within s; clock = refl; given = all_listed (within s) as_ a.1 }, tt)
-  sites_known s (condact p k b f as_ ds) a =
-      (
-        inl record {
-          site = sited _ a.0.0.fits.0;
-          standing = within s;
-          clock = refl;
-          given = (both_texts (within s) b a.1, all_listed (within s) as_ a.2);
-        },
-        tt,
-      )
+  sites_known s (condact p k b f as_ ds) a = (
+    inl record {
+      site = sited _ a.0.0.fits.0;
+      standing = within s;
+      clock = refl;
+      given = (both_texts (within s) b a.1, all_listed (within s) as_ a.2);
+    },
+    tt,
+  )
   sites_known s (truth p b) a = tt
   sites_known s (number p b) a = tt
   sites_known s (name p b) a = tt

@@ -3,14 +3,14 @@ use Rattle.std.proofs.Common.{◌≡◌, ℕ, zero, suc, pred, ◌+◌, ◌<◌,
 use Rattle.std.specs.Prelude.{Contains}
 use Rattle.std.specs.List.{AllByRecursion}
 use Rattle.lus_tree.specs.Tree.{Name, Expression, Component, Program}
-use Rattle.lus_meaning.specs.Value.{Value, Instants}
-use Rattle.lus_meaning.specs.Frame.{Frame, call_frame}
+use Rattle.lus_meaning.specs.Value.{Value}
+use Rattle.lus_meaning.specs.Frame.{Frame}
 use Rattle.lus_meaning.specs.Scene.{base, Site, Instance, Instances, instance, no_instances, with_instance, component_of, calls_of, call_instance, instance_at, contract_statements}
-use Rattle.lus_meaning.specs.Contract.{scene, terms}
+use Rattle.lus_meaning.specs.Contract.{terms}
 use Rattle.lus_meaning.specs.Depends.{ModeNeeds, modes_after, modes_need, modes_need_each}
 use Rattle.lus_meaning.specs.Occurrences.{on_clock}
 use Rattle.lus_meaning.specs.Program.{all_sites}
-use Rattle.lus_meaning.specs.Run.{equations, active}
+use Rattle.lus_meaning.specs.Run.{equations}
 use Rattle.lus_meaning.specs.Order.{is_listed, IsLeastEquationOrder}
 use Rattle.lus_meaning.specs.Verdict.{throughout}
 use Rattle.lus_meaning.specs.ClockFaults.{components}
@@ -19,14 +19,12 @@ use Rattle.rule_laws.specs.Laws.{IsUnfolded, AreUnfolded}
 use Rattle.rule_laws.proofs.Callees.{GoesDown, each_site}
 use Rattle.clock_laws.proofs.Clocks.{declared_at}
 use Rattle.sys_meaning.specs.Items.{Known}
-use Rattle.sys_meaning.specs.Defaults.{site_of}
 use Rattle.sys_meaning.specs.WellTyped.{IsKnown, count_of, CallsFit}
 use Rattle.sys_meaning.proofs.Forward.{calls_fit}
 use Rattle.path_laws.proofs.Tree.{tree_fits}
 use Rattle.lus_evaluation.specs.Part.{Part, ModeParts, wholes}
-use Rattle.lus_evaluation.specs.Frame.{FrameText, no_text, Calls, setting, Orders, text_over, text_at, frame_text, call_texts}
+use Rattle.lus_evaluation.specs.Frame.{no_text, Calls, setting, Orders, text_over, text_at, frame_text, call_texts}
 use Rattle.lus_evaluation.specs.Evaluation.{instance_on}
-use Rattle.lus_evaluation.specs.Past.{scene_on}
 use Rattle.evaluation_laws.specs.Resolvings.{Resolving, resolvings}
 use Rattle.evaluation_laws.specs.Rows.{AreCalls, RowShows}
 use Rattle.order_laws.specs.Own.{own_modes_after, own_modes, own_modes_each}
