@@ -1,5 +1,5 @@
 -- What is evaluated in a frame, each part behind its own operands.
-use Rattle.std.proofs.Common.{◌≡◌, ℕ, zero, suc, pred, ◌+◌, ◌<◌, Bool, true, false, cond, ◌||◌, eqb, List, [], ◌∷◌, ◌++◌, map, flat_map, length, slice_get, refl, ap, ◌∙◌, sym, subst, arith, Option, Some, option_map}
+use Rattle.std.proofs.Common.{◌≡◌, ℕ, zero, suc, pred, ◌+◌, ◌<◌, Bool, true, false, cond, ◌||◌, eqb, List, [], ◌∷◌, ◌++◌, map, flat_map, length, slice_get, refl, ap, ◌∙◌, sym, subst, arith, Option, Some}
 use Rattle.std.specs.Prelude.{Contains, option_to_list}
 use Rattle.std.specs.List.{AllByRecursion, list_any}
 use Rattle.std.proofs.Math.Logic.{◌⊎◌, inl, inr}
@@ -8,14 +8,14 @@ use Rattle.std.proofs.lemmas.List.Folds.{list_any-append}
 use Rattle.std.proofs.lemmas.Option.{none-some, same_Some}
 use Rattle.lus_tree.specs.Tree.{Name, Expression, truth, number, name, negation, minus, pre, arrow, binary, choice, sampled, merged, call, condact, mode_name, Labelled, Statement, equation, assertion, property, main_mark, ContractStatement, assume, guarantee, ghost_variable, constant, mode, «import», Component, Program, text_of}
 use Rattle.lus_meaning.specs.Frame.{Frame}
-use Rattle.lus_meaning.specs.Scene.{Clock, base, sampled_by, clock_of, Manner, plain, while_true, as_import, Site, Instance, Instances, no_instances, with_instance, component_of, calls_of, contract_statements, clock_of_names, is_on}
+use Rattle.lus_meaning.specs.Scene.{Clock, base, Manner, plain, while_true, as_import, Site, Instance, Instances, no_instances, with_instance, component_of, calls_of, contract_statements, clock_of_names, is_on}
 use Rattle.lus_meaning.specs.Contract.{terms}
 use Rattle.lus_meaning.specs.Meaning.{mode_key}
 use Rattle.lus_meaning.specs.Occurrences.{Standing, on_clock, on_base, as_side, Occurrence, occurrences, Text, gathered, all_occurrences, contract_statement_texts}
 use Rattle.lus_meaning.specs.Program.{site_in, import_site, all_sites}
 use Rattle.lus_meaning.specs.Property.{assertions}
 use Rattle.lus_meaning.specs.Run.{Equation, equations, ghost_equations, body_equations}
-use Rattle.lus_meaning.specs.Depends.{named_in, left_names}
+use Rattle.lus_meaning.specs.Depends.{ModeNeeds, known_needs, needs, modes_after, modes_need, named_in}
 use Rattle.lus_meaning.specs.Cycle.{Place as NeededPlace}
 use Rattle.lus_meaning.specs.Order.{is_listed}
 use Rattle.lus_meaning.specs.Trace.{same_numbers}
@@ -29,7 +29,7 @@ use Rattle.rule_laws.proofs.Lists.{all_flat}
 use Rattle.sys_meaning.specs.Items.{Key}
 use Rattle.sys_meaning.specs.WellTyped.{IsKnown, IsAmong, IsImport, EquationFits, ClockFits, count_of, CallsFit}
 use Rattle.path_laws.proofs.Tree.{own_fits}
-use Rattle.lus_evaluation.specs.Part.{Part, ModeParts, Setting, needs_of, key_of, asked_in, part, parts, argument_parts, operand_parts, whole_parts, wholes}
+use Rattle.lus_evaluation.specs.Part.{Part, ModeParts, Setting, needs_of, asked_in, part, parts, whole_parts, wholes}
 use Rattle.lus_evaluation.specs.Frame.{ModeText, ContractText, FrameText, Calls, setting, conditions_of, mode_text, imported_mode, contract_after, import_parts, equation_parts, picked, evaluated_clause, evaluated_statement, evaluated_texts, evaluated_calls, stands_in, is_evaluated, call_condition, asserted_below, asserted_in_calls, text_over}
 use Rattle.slot_values.specs.Clocked.{row_by, clock_on}
 use Rattle.evaluation_laws.specs.Rows.{AreCalls, row_at, scene_there, numbers_there, RowShows}
@@ -39,11 +39,13 @@ use Rattle.order_laws.specs.Rows.{place_there}
 use Rattle.order_laws.specs.Needed.{IsSide}
 use Rattle.order_laws.proofs.ModeKeys.{keys_any}
 use Rattle.order_laws.proofs.Frames.{clock_there, base_there}
-use Rattle.order_laws.proofs.Placed.{Settled, OwnIn, EachLaid, Bodied, laid_both, body_below, all_in_self}
-use Rattle.order_laws.proofs.Laying.{Has, has_more, root_in}
+use Rattle.order_laws.proofs.Lists.{left_of, right_of}
+use Rattle.order_laws.proofs.Covers.{CoversNeeds, covers_itself}
+use Rattle.order_laws.proofs.Placed.{Among, CallIn, Settled, OwnIn, WholeIn, WholesIn, GivenTo, given_among, call_given, Behind, EachLaid, Bodied, laid_both, body_below, all_in_self, among_both}
+use Rattle.order_laws.proofs.Laying.{Has, has_among, has_more, root_in, wholes_given}
 use Rattle.order_laws.proofs.Laid.{each_laid}
 use Rattle.order_laws.proofs.Items.{TextFits, SideFits, items_fit, sides_fit, assertions_fit}
-use Rattle.order_laws.proofs.Sites.{TextHeld, text_held, CallKnown, SiteKnown, all_sites_known}
+use Rattle.order_laws.proofs.Sites.{SiteHeld, TextHeld, text_held, CallKnown, SiteKnown, all_sites_known}
 use Rattle.order_laws.proofs.Contracts.{Holds, import_numbers, AreLaid, laid_when, laid_found, ImportLaid, lowered, Below, AfterLaid, after}
 
 -- ---- lists
@@ -110,8 +112,8 @@ pub holds_left : (qs rs b : List Part) → Holds (qs ++ rs) b → Holds qs b
 holds_left [] rs b a = tt
 holds_left (q ∷ qs) rs b a = (a.0, holds_left qs rs b a.1)
 
-pub has_within : (sub : Calls) (ins : List ℕ) (qs b : List Part) → Has sub ins qs → Holds qs b → Has sub ins b
-has_within sub ins qs b a h = all_from (λ k. Holds (sub k).body qs) (λ k. Holds (sub k).body b) (λ k m. holds_within (sub k).body qs b m h) ins a
+pub held_among : (qs b : List Part) → Holds qs b → Among qs b
+held_among qs b h r m = in_all (λ y. IsIn y b) qs r h m
 
 -- ---- equations
 
@@ -144,17 +146,19 @@ left_found x (e ∷ es) h = go (cases_Bool (named_in x e.names)) (left_found x e
 
 module _ (i : Instance) (f : Frame) (t : ℕ) (every : List Part) where
   -- what comes of the text of a frame
-  pub record FrameLaid (w : List ℕ) (x : FrameText) (qs : ModeParts) : Type 0 where
-    pub own : ImportLaid i f t every w x qs
+  pub record FrameLaid (w : List ℕ) (x : FrameText) (qs : ModeParts) (ds : ModeNeeds) : Type 0 where
+    pub own : ImportLaid i f t every w x qs ds
     pub asserted : (b : List Part) → Holds x.body b → EachLaid i f t every w b x.asserted
 
   module _ (p : Program) (c : IsChecked p) (w : List ℕ) (calls : AreCalls i w) (sh : RowShows i f t w) (u : IsUnfolded p (place_there i f w))
-      (d : Contains (components p) (component_of (place_there i f w))) (sub : Calls) (subo : ℕ → ModeParts)
+      (d : Contains (components p) (component_of (place_there i f w))) (sub : Calls) (subo : ℕ → ModeParts) (subd : ℕ → ModeNeeds)
       (bodies : (k : ℕ) → 0 < k → pred k < count_of (calls_of (place_there i f w)) → Bodied i f t every (w ++ k ∷ []) (sub k).body)
-      (below : (k : ℕ) → IsImport (place_there i f w) k → Below i f t every p c w calls sh u d sub subo bodies k)
+      (below : (k : ℕ) → IsImport (place_there i f w) k → Below i f t every p c w calls sh u d sub subo subd bodies k)
       (keyed : map (λ q. q.0) (own_modes w (place_there i f w)) ≡ map (λ m. m.key) (terms (place_there i f w)).modes)
       (mine : own_modes w (place_there i f w)
       ≡ own_modes_after (place_there i f w) w subo [] (contract_statements (component_of (place_there i f w))))
+      (needed : modes_need (place_there i f w)
+      ≡ modes_after (place_there i f w) subd [] (contract_statements (component_of (place_there i f w))))
       (order : List ℕ)
       (all : (k : ℕ) → k < length (equations (component_of (place_there i f w))) → is_listed order k ≡ true) where
     abbrev j : Instance
@@ -184,11 +188,19 @@ module _ (i : Instance) (f : Frame) (t : ℕ) (every : List Part) where
     both_laid : (b qs rs : List Part) → Laid b qs → Laid (b ++ qs) rs → Laid b (qs ++ rs)
     both_laid b qs rs a e = laid_both i f t every w b qs rs a e
 
-    whole : AfterLaid i f t every p c w calls sh u d sub subo bodies [] k (own_modes_after j w subo [] cs) cs []
-    whole = after i f t every p c w calls sh u d sub subo bodies below [] [] [] [] cs (items_fit p c j u d) tt refl mine
+    whole : AfterLaid i f t every p c w calls sh u d sub subo subd bodies [] k (own_modes_after j w subo [] cs) (modes_after j subd [] cs) cs []
+    whole = after i f t every p c w calls sh u d sub subo subd bodies below [] [] [] [] [] cs (items_fit p c j u d) tt refl mine needed
 
-    modes : AreLaid i f t every w (Has sub ins) k.modes (own_modes w j)
-    modes = subst (AreLaid i f t every w (Has sub ins) k.modes) (sym mine) whole.modes
+    abbrev ready : List Part → Type 0
+    ready b = Has i f t w sub ins b
+
+    still : (b xs : List Part) → ready b → ready (b ++ xs)
+    still b xs r = has_more i f t w sub ins b xs r
+
+    modes : AreLaid i f t every w ready k.modes (own_modes w j) (modes_need j)
+    modes =
+        subst (AreLaid i f t every w ready k.modes (own_modes w j)) (sym needed)
+        (subst (λ qs. AreLaid i f t every w ready k.modes qs (modes_after j subd [] cs)) (sym mine) whole.modes)
 
     known_key : (key : Key) → IsKnown j key → IsAmong (map (λ q. q.0) (own_modes w j)) key
     known_key key h = ap (λ l. list_any (mode_key key) l) keyed ∙ keys_any key (terms j).modes ∙ h
@@ -199,14 +211,12 @@ module _ (i : Instance) (f : Frame) (t : ℕ) (every : List Part) where
         × AllByRecursion (OwnIn i f t w b (asked_in (setting j w sub ms) ns key) ns)
         (asked_in (own_setting j w qs) ns key)
 
-    found : (key : Key) → IsKnown j key → (ns : List NeededPlace) (b : List Part) → Has sub ins b → FoundHere key ns b k.modes (own_modes w j)
-    found key h ns b r =
+    found : (key : Key) → IsKnown j key → (ns : List NeededPlace) (b : List Part) → ready b → CoversNeeds i w ns (known_needs (modes_need j) key) →
+        FoundHere key ns b k.modes (own_modes w j)
+    found key h ns b r y =
         subst (λ ms. FoundHere key ns b ms (own_modes w j)) (append_none k.modes)
         (subst (λ qs. FoundHere key ns b (k.modes ++ []) qs) (append_none (own_modes w j))
-        (laid_found i f t every w (Has sub ins) k.modes [] (own_modes w j) [] modes key (known_key key h) ns b r))
-
-    abbrev ready : List Part → Type 0
-    ready b = Has sub ins b
+        (laid_found i f t every w ready k.modes [] (own_modes w j) [] (modes_need j) modes key (known_key key h) ns b r y))
 
     abbrev Shown : Clock → Type 0
     Shown z = clock_on (row_by (numbers_there i w) (row_at i f t)) z ≡ is_on (scene_there i f w) z t
@@ -215,21 +225,21 @@ module _ (i : Instance) (f : Frame) (t : ℕ) (every : List Part) where
     Gives xs z e = (x : Name) → named_in x xs ≡ true → IsSide j xs z e
 
     text_laid : (b : List Part) → ready b → (ns : List NeededPlace) (xs : List Name) (s : Standing) (e : Expression) → TextFits j s e → Shown s.clock →
-        Gives xs s.clock e → Laid b (parts g ns xs s.clock e)
-    text_laid b r ns xs s e a o v =
-        each_laid p c i f t every w calls sh u d sub k.modes (IsKnown j) ins bodies (λ key h ns z q. (found key h ns z q).0)
-        (λ key h ns z q. (found key h ns z q).1) b r ns xs s e a.0 a.1 o v
+        Gives xs s.clock e → CoversNeeds i w ns (needs j (modes_need j) s.clock e) → Laid b (parts g ns xs s.clock e)
+    text_laid b r ns xs s e a o v y =
+        each_laid p c i f t every w calls sh u d sub k.modes (IsKnown j) ins bodies (λ key h ns z q x. (found key h ns z q x).0)
+        (λ key h ns z q x. (found key h ns z q x).1) b r ns xs s e a.0 a.1 o v y
 
     gives_none : {z : Clock} {e : Expression} → Gives [] z e
     gives_none x h = absurd (false≢true h)
 
     pub wholes_on : (s : Standing) → Shown s.clock → (ls : List Expression) → AllByRecursion (TextFits j s) ls → (b : List Part) → ready b →
         Laid b (wholes g s.clock ls)
-    wholes_on s o [] a b r = λ g hb hq. tt
+    wholes_on s o [] a b r = λ g v hb hq. tt
     wholes_on s o (e ∷ ls) a b r =
         let one : List Part = whole_parts g [] s.clock e in
-        both_laid b one (wholes g s.clock ls) (text_laid b r (needs_of g s.clock e) [] s e a.0 o gives_none)
-        (wholes_on s o ls a.1 (b ++ one) (has_more sub ins b one r))
+        both_laid b one (wholes g s.clock ls) (text_laid b r (needs_of g s.clock e) [] s e a.0 o gives_none (covers_itself i (needs_of g s.clock e)))
+        (wholes_on s o ls a.1 (b ++ one) (still b one r))
 
     -- ---- equations
 
@@ -249,12 +259,13 @@ module _ (i : Instance) (f : Frame) (t : ℕ) (every : List Part) where
     one_side : (e : Equation) → SideOk e → (b : List Part) → ready b → Laid b (equation_parts g e)
     one_side e a b r =
         text_laid b r (needs_of g (clock_of_side e) e.right) e.names (as_side (clock_of_side e)) e.right a.0 (clock_there i f t w sh (clock_of_side e) a.1) a.2
+        (covers_itself i (needs_of g (clock_of_side e) e.right))
 
     each_side : (qs : List Equation) → AllByRecursion SideOk qs → (b : List Part) → ready b → Laid b (flat_map (equation_parts g) qs)
-    each_side [] a b r = λ g hb hq. tt
+    each_side [] a b r = λ g v hb hq. tt
     each_side (e ∷ qs) a b r =
         let one : List Part = equation_parts g e in
-        both_laid b one (flat_map (equation_parts g) qs) (one_side e a.0 b r) (each_side qs a.1 (b ++ one) (has_more sub ins b one r))
+        both_laid b one (flat_map (equation_parts g) qs) (one_side e a.0 b r) (each_side qs a.1 (b ++ one) (still b one r))
 
     abbrev imported : List Part
     imported = flat_map (import_parts g) cs
@@ -271,7 +282,7 @@ module _ (i : Instance) (f : Frame) (t : ℕ) (every : List Part) where
         (each_side (picked order es) (all_picked SideOk order es sides_ok) (b ++ imported) (whole.has b tt))
 
     ready_after : (b : List Part) → Holds first b → ready b
-    ready_after b h = has_within sub ins imported b (whole.has [] tt) (holds_left imported sides b h)
+    ready_after b h = has_among i f t w sub ins imported b (held_among imported b (holds_left imported sides b h)) (whole.has [] tt)
 
     side_in : (e : Equation) → IsIn e es → (r : Part) → IsIn r (equation_parts g e) → IsIn r first
     side_in e m r q =
@@ -359,25 +370,29 @@ module _ (i : Instance) (f : Frame) (t : ℕ) (every : List Part) where
         (λ r m. first_done r (in_left r imported sides m)))
         (statements_held n.body (λ e m. in_right e (ghost_equations cs) (body_equations n.body) m) (λ e m. m))
 
-    calls_held : AllByRecursion (λ z. Holds (sub z.number).body done) (evaluated_calls n)
+    calls_held : AllByRecursion (SiteHeld g n done) (evaluated_calls n)
     calls_held =
-        all_flat (λ (z : Site). Holds (sub z.number).body done) (λ (x : Text). flat_map (λ o. site_in o.standing o.expression) (occurrences n x.0 x.1))
+        all_flat (SiteHeld g n done) (λ (x : Text). flat_map (λ o. site_in o.standing o.expression) (occurrences n x.0 x.1))
         (evaluated_texts n)
         (all_from (TextHeld g n done)
-        (λ x. AllByRecursion (λ (z : Site). Holds (sub z.number).body done) (flat_map (λ o. site_in o.standing o.expression) (occurrences n x.0 x.1)))
-        (λ x a. all_flat (λ (z : Site). Holds (sub z.number).body done) (λ (o : Occurrence). site_in o.standing o.expression) (occurrences n x.0 x.1) a)
+        (λ x. AllByRecursion (SiteHeld g n done) (flat_map (λ o. site_in o.standing o.expression) (occurrences n x.0 x.1)))
+        (λ x a. all_flat (SiteHeld g n done) (λ (o : Occurrence). site_in o.standing o.expression) (occurrences n x.0 x.1) a)
         (evaluated_texts n) texts_held)
 
-    evaluated_held : (m : ℕ) → stands_in (evaluated_calls n) m ≡ true → Holds (sub m).body done
+    -- what a call evaluates is there, and the call, or what it is given
+    abbrev Done : ℕ → Type 0
+    Done m = Holds (sub m).body done × (CallIn w m done ⊎ GivenTo i f t w m done)
+
+    evaluated_held : (m : ℕ) → stands_in (evaluated_calls n) m ≡ true → Done m
     evaluated_held m h =
         let q : (z : Site) × IsIn z (evaluated_calls n) × (eqb z.number m ≡ true) = in_any (λ s. eqb s.number m) (evaluated_calls n) h in
-        subst (λ y. Holds (sub y).body done) (eqb-true q.0.number m q.2)
-        (in_all (λ (z : Site). Holds (sub z.number).body done) (evaluated_calls n) q.0 calls_held q.1)
+        let held : SiteHeld g n done q.0 = in_all (SiteHeld g n done) (evaluated_calls n) q.0 calls_held q.1 in
+        subst Done (eqb-true q.0.number m q.2) (held.0, inl held.1)
 
     -- ---- calls by themselves, and the assertions of their frames
 
     abbrev ImportHeld : Site → Type 0
-    ImportHeld z = (xs : List Name) → z.manner ≡ as_import xs → Holds (sub z.number).body done
+    ImportHeld z = (xs : List Name) → z.manner ≡ as_import xs → Done z.number
 
     no_import : (s : Standing) (e : Expression) → AllByRecursion ImportHeld (site_in s e)
     no_import s (call q l x as_) = ((λ xs e. cc), tt)
@@ -395,17 +410,17 @@ module _ (i : Instance) (f : Frame) (t : ℕ) (every : List Part) where
     no_import s (merged q x a e) = tt
     no_import s (mode_name q x m) = tt
 
-    imports_held : (xs : List ContractStatement) → Has sub (import_numbers xs) done → AllByRecursion ImportHeld (flat_map import_site xs)
+    imports_held : (xs : List ContractStatement) → Has i f t w sub (import_numbers xs) done → AllByRecursion ImportHeld (flat_map import_site xs)
     imports_held [] a = tt
     imports_held (assume l ∷ xs) a = imports_held xs a
     imports_held (guarantee l ∷ xs) a = imports_held xs a
     imports_held (ghost_variable x e ∷ xs) a = imports_held xs a
     imports_held (constant x ∷ xs) a = imports_held xs a
     imports_held (mode m rs qs ∷ xs) a = imports_held xs a
-    imports_held («import» l x as_ ys ∷ xs) a = ((λ zs e. a.0), imports_held xs a.1)
+    imports_held («import» l x as_ ys ∷ xs) a = ((λ zs e. (a.0.0, inr a.0.1)), imports_held xs a.1)
 
     ready_done : ready done
-    ready_done = has_more sub ins first said (ready_after first (all_in_self first))
+    ready_done = still first said (ready_after first (all_in_self first))
 
     sites_held : AllByRecursion ImportHeld (all_sites n)
     sites_held =
@@ -424,7 +439,7 @@ module _ (i : Instance) (f : Frame) (t : ℕ) (every : List Part) where
         subst (λ q. Laid b (wholes g q (call_condition z z.manner ++ z.arguments))) a.clock
         (wholes_on a.standing (subst Shown (sym a.clock) (clock_there i f t w sh z.clock h)) (call_condition z z.manner ++ z.arguments) a.given b r)
 
-    is_held : (z : Site) → ImportHeld z → (m : Manner) → z.manner ≡ m → is_evaluated n z m ≡ true → Holds (sub z.number).body done
+    is_held : (z : Site) → ImportHeld z → (m : Manner) → z.manner ≡ m → is_evaluated n z m ≡ true → Done z.number
     is_held z h (as_import xs) e k = h xs e
     is_held z h plain e k = evaluated_held z.number k
     is_held z h (while_true a) e k = evaluated_held z.number k
@@ -433,52 +448,94 @@ module _ (i : Instance) (f : Frame) (t : ℕ) (every : List Part) where
     no_site z (inl a) e = a
     no_site z (inr a) e = absurd (false≢true (sym e ∙ ap (is_evaluated n z) a.1))
 
-    asserted_one : (z : Site) → SiteKnown j z → ClockFits j (IsKnown j) z.clock → ImportHeld z → (x : FrameText) → ((b : List Part) → Laid b x.body) →
-        ((b : List Part) → Holds x.body b → Laid b x.asserted) → (is_evaluated n z z.manner ≡ true → Holds x.body done) →
-        (b : List Part) → Holds done b → Laid b (asserted_below g z x)
-    asserted_one z s h v x laid told held b a = go x.body x.contract x.asserted laid told held
+    -- the frame's parts are laid again behind those that have them
+    done_laid : (b : List Part) → Holds done b → Laid b done
+    done_laid b a = both_laid b first said (first_laid b) (said_laid (b ++ first) (still b first (ready_after b (holds_left first said b a))))
+
+    given_done : (m : ℕ) → Done m → (b : List Part) → Holds done b → Behind i f t every w b (GivenTo i f t w m b)
+    given_done m x b a inside gv hb = go x.1
       where
-        go : (bd : List Part) (ct : ContractText) (qs : List Part) → ((b : List Part) → Laid b bd) → ((b : List Part) → Holds bd b → Laid b qs) →
-            (is_evaluated n z z.manner ≡ true → Holds bd done) → Laid b (asserted_below g z record { body = bd; contract = ct; asserted = qs })
-        go bd ct [] l m e = λ g hb hq. tt
-        go bd ct (q ∷ qs) l m e = by (is_evaluated n z z.manner) refl
+        back : Among (b ++ done) b
+        back = among_both b done b (λ r y. y) (held_among done b a)
+
+        go : CallIn w m done ⊎ GivenTo i f t w m done → GivenTo i f t w m b
+        go (inl y) =
+            given_among i f t w m (b ++ done) b back (call_given i f t every w m b done
+            (done_laid b a inside gv hb (λ r z. hb r (held_among done b a r z))) y)
+        go (inr y) = given_among i f t w m done b (held_among done b a) y
+
+    -- a call by itself has been given what it is given
+    given_alone : (z : Site) → CallKnown j z → (b : List Part) → Among (wholes g z.clock (call_condition z z.manner ++ z.arguments)) b →
+        GivenTo i f t w z.number b
+    given_alone z a b m = record {
+      arguments = subst (λ y. WholesIn i f t w b y.clock y.arguments) (sym a.site)
+          (right_of (WholeIn i f t w b z.clock) (call_condition z z.manner) z.arguments all_given);
+      condition = subst (λ y. (e : Expression) → y.manner ≡ while_true e → WholeIn i f t w b y.clock e) (sym a.site)
+          (λ e q. (subst (λ y. WholesIn i f t w b z.clock (call_condition z y)) q
+          (left_of (WholeIn i f t w b z.clock) (call_condition z z.manner) z.arguments all_given)).0);
+    }
+      where
+        all_given : WholesIn i f t w b z.clock (call_condition z z.manner ++ z.arguments)
+        all_given = wholes_given i f t w sub k.modes z.clock (call_condition z z.manner ++ z.arguments) b m
+
+    asserted_one : (z : Site) → SiteKnown j z → ClockFits j (IsKnown j) z.clock → ImportHeld z → (x : FrameText) →
+        ((b : List Part) → Behind i f t every w b (GivenTo i f t w z.number b) → Laid b x.body) →
+        ((b : List Part) → Holds x.body b → Behind i f t every w b (GivenTo i f t w z.number b) → Laid b x.asserted) →
+        (is_evaluated n z z.manner ≡ true → Holds x.body done × (CallIn w z.number done ⊎ GivenTo i f t w z.number done)) →
+        ((b : List Part) → Holds x.body done × (CallIn w z.number done ⊎ GivenTo i f t w z.number done) → Holds done b →
+        Behind i f t every w b (GivenTo i f t w z.number b)) →
+        (b : List Part) → Holds done b → Laid b (asserted_below g z x)
+    asserted_one z s h v x laid told held given b a = go x.body x.contract x.asserted laid told held given
+      where
+        go : (bd : List Part) (ct : ContractText) (qs : List Part) →
+            ((b : List Part) → Behind i f t every w b (GivenTo i f t w z.number b) → Laid b bd) →
+            ((b : List Part) → Holds bd b → Behind i f t every w b (GivenTo i f t w z.number b) → Laid b qs) →
+            (is_evaluated n z z.manner ≡ true → Holds bd done × (CallIn w z.number done ⊎ GivenTo i f t w z.number done)) →
+            ((b : List Part) → Holds bd done × (CallIn w z.number done ⊎ GivenTo i f t w z.number done) → Holds done b →
+            Behind i f t every w b (GivenTo i f t w z.number b)) → Laid b (asserted_below g z record { body = bd; contract = ct; asserted = qs })
+        go bd ct [] l m e y = λ g v hb hq. tt
+        go bd ct (q ∷ qs) l m e given_when = by (is_evaluated n z z.manner) refl
           where
             before : List Part
             before = wholes g z.clock (call_condition z z.manner ++ z.arguments)
 
             by : (y : Bool) → is_evaluated n z z.manner ≡ y → Laid b (cond y [] (before ++ bd) ++ q ∷ qs)
-            by true o = m b (holds_within bd done b (e o) a)
+            by true o = m b (holds_within bd done b (e o).0 a) (given_when b (e o) a)
             by false o =
+                let known : CallKnown j z = no_site z s o in
                 both_laid b (before ++ bd) (q ∷ qs)
-                (both_laid b before bd (call_laid z (no_site z s o) h b (ready_after b (holds_left first said b a))) (l (b ++ before)))
+                (both_laid b before bd (call_laid z known h b (ready_after b (holds_left first said b a)))
+                (l (b ++ before) (λ inside gv hb. given_alone z known (b ++ before) (λ r y. in_right r b before y))))
                 (m (b ++ (before ++ bd)) (all_from (λ r. IsIn r bd) (λ r. IsIn r (b ++ (before ++ bd)))
-                (λ r y. in_right r b (before ++ bd) (in_right r before bd y)) bd (all_in_self bd)))
+                (λ r y. in_right r b (before ++ bd) (in_right r before bd y)) bd (all_in_self bd))
+                (λ inside gv hb. given_alone z known (b ++ (before ++ bd)) (λ r y. in_right r b (before ++ bd) (in_left r before bd y))))
 
-    module _ (child : (k : ℕ) → 0 < k → pred k < count_of (calls_of j) → FrameLaid (w ++ k ∷ []) (sub k) (subo k)) where
+    module _ (child : (k : ℕ) → 0 < k → pred k < count_of (calls_of j) → FrameLaid (w ++ k ∷ []) (sub k) (subo k) (subd k)) where
       pub each_asserted : (is : Instances) (ss : List Site) (q : ℕ) → CallsFit IsKnown j is q → AreUnfolded p ss is → AllByRecursion (SiteKnown j) ss →
           AllByRecursion ImportHeld ss → q + count_of is ≡ count_of (calls_of j) → (b : List Part) → Holds done b → Laid b (asserted_in_calls g sub is)
-      each_asserted no_instances ss q h v a m e b r = λ g hb hq. tt
+      each_asserted no_instances ss q h v a m e b r = λ g v hb hq. tt
       each_asserted (with_instance z x is) [] q h v a m e b r = absurd v
       each_asserted (with_instance z x is) (s ∷ ss) q h v a m e b r =
           let known : SiteKnown j z = subst (SiteKnown j) (sym v.0) a.0 in
           let held : ImportHeld z = subst ImportHeld (sym v.0) m.0 in
           let counted : suc q ≡ z.number = sym h.0.number in
-          let laid : FrameLaid (w ++ z.number ∷ []) (sub z.number) (subo z.number) =
-          subst (λ y. FrameLaid (w ++ y ∷ []) (sub y) (subo y)) counted (child (suc q) (omega arith) (omega (arith, e))) in
+          let laid : FrameLaid (w ++ z.number ∷ []) (sub z.number) (subo z.number) (subd z.number) =
+          subst (λ y. FrameLaid (w ++ y ∷ []) (sub y) (subo y) (subd y)) counted (child (suc q) (omega arith) (omega (arith, e))) in
           both_laid b (asserted_below g z (sub z.number)) (asserted_in_calls g sub is)
           (asserted_one z known h.0.clock held (sub z.number)
-          (λ b. body_below i f t every w z.number b (sub z.number).body record { laid = laid.own.body; settled = laid.own.settled })
-          (λ b y. lowered i f t every w z.number b (sub z.number).asserted (laid.own.settled b y) (laid.asserted b y)) (is_held z held z.manner refl) b r)
+          (λ b y. body_below i f t every w z.number b (sub z.number).body record { laid = laid.own.body; settled = laid.own.settled } y)
+          (λ b y v. lowered i f t every w z.number b (sub z.number).asserted (laid.own.settled b y) v (laid.asserted b y)) (is_held z held z.manner refl)
+          (λ b y v. given_done z.number y b v) b r)
           (each_asserted is ss (suc q) h.2 v.3 a.1 m.1 (omega (arith, e)) (b ++ asserted_below g z (sub z.number))
           (holds_more done b (asserted_below g z (sub z.number)) r))
 
       module _ (fits : CallsFit IsKnown j (calls_of j) 0) (unfolded : AreUnfolded p (all_sites n) (calls_of j)) where
-        pub frame_here : FrameLaid w (text_over sub order w j) (own_modes w j)
+        pub frame_here : FrameLaid w (text_over sub order w j) (own_modes w j) (modes_need j)
         frame_here = record {
           own = record {
             body = first_laid;
             settled = settled;
-            modes = laid_when i f t every w ready (Holds first) ready_after k.modes (own_modes w j) modes;
+            modes = laid_when i f t every w ready (Holds first) ready_after k.modes (own_modes w j) (modes_need j) modes;
             assumed = λ b h. whole.assumed b (ready_after b h);
             guaranteed = λ b h. whole.guaranteed b (ready_after b h);
           };
@@ -502,8 +559,12 @@ contract_side (constant c) = (on_clock base, c.value) ∷ []
 contract_side _ = []
 
 module _ (j : Instance) (w : List ℕ) (sub : Calls) (n : Component) (rs : List Part) where
+  -- what a call evaluates is there, and the call
+  abbrev pub SiteThere : Site → Type 0
+  SiteThere z = Holds (sub z.number).body rs × CallIn w z.number rs
+
   abbrev Held : Text → Type 0
-  Held x = AllByRecursion (λ o. AllByRecursion (λ (z : Site). Holds (sub z.number).body rs) (site_in o.standing o.expression)) (occurrences n x.0 x.1)
+  Held x = AllByRecursion (λ o. AllByRecursion SiteThere (site_in o.standing o.expression)) (occurrences n x.0 x.1)
 
   abbrev InRs : List Part → Type 0
   InRs qs = (r : Part) → IsIn r qs → IsIn r rs
@@ -522,8 +583,7 @@ module _ (j : Instance) (w : List ℕ) (sub : Calls) (n : Component) (rs : List 
   pub free_held : (s : Standing) (e : Expression) → AllByRecursion (λ o. site_in o.standing o.expression ≡ []) (occurrences n s e) → Held (s, e)
   free_held s e a =
       all_from (λ (o : Occurrence). site_in o.standing o.expression ≡ [])
-      (λ o. AllByRecursion (λ (z : Site). Holds (sub z.number).body rs) (site_in o.standing o.expression))
-      (λ o h. subst (AllByRecursion (λ (z : Site). Holds (sub z.number).body rs)) (sym h) tt) (occurrences n s e) a
+      (λ o. AllByRecursion SiteThere (site_in o.standing o.expression)) (λ o h. subst (AllByRecursion SiteThere) (sym h) tt) (occurrences n s e) a
 
   base_held : (ms : List ModeText) (e : Expression) → InRs (whole_parts (setting j w sub ms) [] base e) → Held (on_clock base, e)
   base_held ms e h = text_held (setting j w sub ms) n (needs_of (setting j w sub ms) base e) [] base (on_clock base) e rs h

@@ -14,7 +14,7 @@ use Rattle.lus_meaning.specs.Run.{equations}
 use Rattle.lus_meaning.specs.Depends.{named_in, left_names}
 use Rattle.lus_meaning.specs.Trace.{same_numbers}
 use Rattle.lus_meaning.specs.Cycle.{Place, next_places, IsAt, IsWay, last_place, Lowers}
-use Rattle.lus_meaning.specs.Order.{is_listed, IsLeastOrder, IsNext, AreNext}
+use Rattle.lus_meaning.specs.Order.{is_listed, IsLeastOrder, AreNext}
 use Rattle.lus_meaning.proofs.BooleanOrder.{IsIn, at_some}
 use Rattle.lus_meaning.proofs.Lists.{append_none}
 use Rattle.clock_laws.proofs.Reaching.{at_in}
@@ -26,10 +26,11 @@ use Rattle.evaluation_laws.proofs.Wholes.{NeedsItsWhole}
 use Rattle.evaluation_laws.proofs.Waiting.{both_true, both, Passing, first_passes}
 use Rattle.order_laws.specs.Own.{own_setting}
 use Rattle.order_laws.specs.Rows.{place_there}
-use Rattle.order_laws.specs.Needed.{IsSide, IsCalled, Sees}
+use Rattle.order_laws.specs.Needed.{IsSide}
 use Rattle.order_laws.proofs.Lists.{grouped}
 use Rattle.order_laws.proofs.Earlier.{listed_first}
-use Rattle.order_laws.proofs.Placed.{above_further, Giver, Settled, Within, within_itself, WholeIn, OwnIn, Placed, EachPlaced}
+use Rattle.order_laws.proofs.Covers.{further, Covers, covers_all}
+use Rattle.order_laws.proofs.Placed.{above_further, Giver, Settled, Within, WholeIn, OwnIn, Placed, EachPlaced}
 use Rattle.order_laws.proofs.Bodies.{in_all, slice_in, slice_below, each_given}
 
 -- ---- those before a number
@@ -63,7 +64,11 @@ not_later test (y ∷ xs) j k x e h p = go (cases_order j k)
     go (inr (inl q)) = omega arith
     go (inr (inr q)) = absurd (true≢false (sym p ∙ ap test (sym (got (y ∷ xs) k h)) ∙ r.2 k q))
 
-above_both : (v w u : List ℕ) → is_above v w ≡ true → is_above w u ≡ true → is_above v u ≡ true
+pub above_itself : (w : List ℕ) → is_above w w ≡ true
+above_itself [] = refl
+above_itself (k ∷ w) = both (eqb k k) (is_above w w) (eq-eqb k k refl) (above_itself w)
+
+pub above_both : (v w u : List ℕ) → is_above v w ≡ true → is_above w u ≡ true → is_above v u ≡ true
 above_both [] w u a b = refl
 above_both (k ∷ v) [] u a b = absurd (false≢true a)
 above_both (k ∷ v) (j ∷ w) [] a b = absurd (false≢true b)
@@ -98,24 +103,6 @@ some_passes test xs x h p =
 -- ---- ways of needs
 
 module _ (i : Instance) where
-  way_both : (s : Place) (xs ys : List (ℕ × Place)) → IsWay i s xs → IsWay i (last_place s xs) ys → IsWay i s (xs ++ ys)
-  way_both s [] ys a b = b
-  way_both s (x ∷ xs) ys a b = (a.0, way_both x.1 xs ys a.1 b)
-
-  last_both : (s : Place) (xs ys : List (ℕ × Place)) → last_place s (xs ++ ys) ≡ last_place (last_place s xs) ys
-  last_both s [] ys = refl
-  last_both s (x ∷ xs) ys = last_both x.1 xs ys
-
-  pub further : (ps : List Place) (s z : Place) → NeedsPlace i ps s → (rest : List (ℕ × Place)) → IsWay i s rest → last_place s rest ≡ z → NeedsPlace i ps z
-  further ps s z a rest w e = record {
-    number = a.number;
-    start = a.start;
-    starts = a.starts;
-    rest = a.rest ++ rest;
-    way = way_both a.start a.rest rest a.way (subst (λ q. IsWay i q rest) (sym a.last) w);
-    last = last_both a.start a.rest rest ∙ ap (λ q. last_place q rest) a.last ∙ e;
-  }
-
   module _ (rank : Place → ℕ) (lowers : Lowers i rank) where
     way_lowers : (s : Place) (rest : List (ℕ × Place)) → IsWay i s rest → rank (last_place s rest) ≤ rank s
     way_lowers s [] w = omega arith
@@ -140,8 +127,7 @@ module _ (i : Instance) where
         b = firsts n ps
 
         abbrev Early : ℕ → Part → Type 0
-        Early fuel r =
-            ((z : Place) → IsIn z r.needs → NeedsPlace i q.needs z) × Within i f t q.way b r.way × ((z : Place) → IsIn z r.needs → rank z < fuel)
+        Early fuel r = Covers i q.needs r.needs × Within i f t q.way b r.way × ((z : Place) → IsIn z r.needs → rank z < fuel)
 
         -- what a settled frame's equation waits for comes first
         giver_early : (j : ℕ) (v : List ℕ) (x : Name) → position (gives_name v x) ps ≡ Some j → Settled i f t v b → NeedsPlace i q.needs (place_named v x) →
@@ -179,10 +165,10 @@ module _ (i : Instance) where
                 subst (λ u. IsIn z (next_places i (map pred u) (Some x))) (sym same)
                 (in_all (NeedsItsWhole i) ps y whole (slice_in ps j y g.is_there) x named.1 z h)
 
-            reached : (z : Place) → IsIn z y.needs → NeedsPlace i q.needs z
-            reached z h =
+            reached : Covers i q.needs y.needs
+            reached = covers_all i q.needs y.needs (λ z h.
                 let a : (k : ℕ) × IsAt k z (next_places i (map pred v) (Some x)) = at_some z (next_places i (map pred v) (Some x)) (next z h) in
-                further q.needs (place_named v x) z needed ((a.0, z) ∷ []) (a.1, tt) refl
+                further i q.needs (place_named v x) z needed ((a.0, z) ∷ []) (a.1, tt) refl)
 
             inner : Within i f t q.way b y.way
             inner = subst (Within i f t q.way b) same inside
@@ -224,7 +210,7 @@ module _ (i : Instance) where
                 here = at_in need.number need.start r.needs need.starts
 
                 needed : NeedsPlace i q.needs (place_named w.way w.name)
-                needed = further q.needs need.start (place_named w.way w.name) (a.0 need.start here) need.rest need.way need.last
+                needed = a.0 w.way w.name need
 
                 low : rank (place_named w.way w.name) ≤ fuel
                 low =
@@ -254,25 +240,20 @@ module _ (i : Instance) where
               (h.0, h.2, comes_early bound h.0 r h.1 h.2 (ready r a))
             where
               ready : (r : Part) → OwnIn i f t q.way b b q.needs r → Early bound r
-              ready r a = (
-                (λ z h. let k : (m : ℕ) × IsAt m z q.needs = at_some z q.needs (subst (λ ns. IsIn z ns) a.needs h) in
-                    record { number = k.0; start = z; starts = k.1; rest = []; way = tt; last = refl }),
-                a.within,
-                (λ z h. bounded z),
-              )
+              ready r a = (a.needs, a.within, (λ z h. bounded z))
 
-          -- so are wholes that stand before it in turn and need no more
-          pub whole_listed : (c : Clock) (a : Expression) → (r : WholeIn i f t q.way b c a) →
-              AllByRecursion (λ z. NeedsPlace i q.needs z) (needs_of (own_setting (place_there i f q.way) q.way []) c a) →
+          -- so are wholes of its frame, or of one on the way there, that stand before it in turn and need no more
+          pub whole_listed : (w : List ℕ) → is_above w q.way ≡ true → (c : Clock) (a : Expression) → (r : WholeIn i f t w b c a) →
+              AllByRecursion (λ z. NeedsPlace i q.needs z) (needs_of (own_setting (place_there i f w) w []) c a) →
               (m : ℕ) × (slice_get ps m ≡ Some r.part) × (is_listed before m ≡ true)
-          whole_listed c a r needed =
+          whole_listed w u c a r needed =
               let h = first_at n ps r.part r.there in (
                 h.0,
                 h.2,
                 comes_early bound h.0 r.part h.1 h.2 (
-                  (λ z y. in_all (λ z. NeedsPlace i q.needs z) (needs_of (own_setting (place_there i f q.way) q.way []) c a) z needed
-                      (subst (λ ns. IsIn z ns) r.needs y)),
-                  subst (λ v. Within i f t q.way b v) (sym r.way) (within_itself i f t q.way b),
+                  covers_all i q.needs r.part.needs (λ z y. in_all (λ z. NeedsPlace i q.needs z)
+                      (needs_of (own_setting (place_there i f w) w []) c a) z needed (subst (λ ns. IsIn z ns) r.needs y)),
+                  subst (λ v. Within i f t q.way b v) (sym r.way) (λ v y. inl (above_both v w q.way y u)),
                   (λ z y. bounded z),
                 ),
               )

@@ -42,7 +42,7 @@ use Rattle.order_laws.specs.Rows.{standpoint_there}
 use Rattle.order_laws.proofs.Lists.{grouped}
 use Rattle.order_laws.proofs.Frames.{stands_there}
 use Rattle.order_laws.proofs.OwnPast.{modes_within}
-use Rattle.order_laws.proofs.Placed.{Settled, OwnIn, Placed, EachPlaced, within_itself}
+use Rattle.order_laws.proofs.Placed.{Settled, OwnIn, Placed, EachPlaced, within_itself, given_top}
 use Rattle.order_laws.proofs.Bodies.{in_all, picked_in}
 use Rattle.order_laws.proofs.Trees.{FrameAt}
 use Rattle.order_laws.proofs.Top.{instant_laid, top_settled}
@@ -132,7 +132,7 @@ module _ (p : Program) (c : IsChecked p) (n : Component) (j : Contains (componen
     laid =
         instant_laid p c i f t ps shown ev.orders ev.least
         top_frame
-        (within_itself i f t [] ps) (λ r m. absurd m) (λ r m. m)
+        (within_itself i f t [] ps) (given_top i f t []) (λ r m. absurd m) (λ r m. m)
 
     module _ (front : List Part) (q : Part) (rest : List Part) (e : qs ≡ front ++ q ∷ rest) where
       pub at : Numbered ps ev.numbers front q

@@ -13,6 +13,7 @@ use Rattle.sys_meaning.specs.System.{below_call}
 use Rattle.sys_meaning.specs.WellTyped.{count_of, IsKnown, ClockEnds, ClockFits, TreeFits}
 use Rattle.sys_meaning.proofs.Forward.{calls_fit}
 use Rattle.sys_meaning.proofs.Whole.{fits_called}
+use Rattle.lus_evaluation.specs.Evaluation.{instance_on}
 use Rattle.lus_evaluation.specs.Past.{scene_on}
 use Rattle.slot_values.specs.Clocked.{row_by, clock_on}
 use Rattle.evaluation_laws.specs.Rows.{AreCalls, numbers_on, row_at, scene_there, numbers_there, RowShows}
@@ -25,6 +26,11 @@ scene_below s k = scene (call_instance s.place k) (active s (site_of s.place k))
 pub scene_further : (w : List ℕ) (i : Instance) (b : Instants) (f : Frame) (k : ℕ) → scene_on (w ++ k ∷ []) i b f ≡ scene_below (scene_on w i b f) k
 scene_further [] i b f k = refl
 scene_further (j ∷ w) i b f k = scene_further w (call_instance i j) (active (scene i b f) (site_of i j)) (call_frame f j) k
+
+-- the instance at the end of a way of calls is that of the scene there
+pub same_place : (w : List ℕ) (i : Instance) (b : Instants) (f : Frame) → (scene_on w i b f).place ≡ instance_on i w
+same_place [] i b f = refl
+same_place (k ∷ w) i b f = same_place w (call_instance i k) (active (scene i b f) (site_of i k)) (call_frame f k)
 
 pub numbers_further : (w : List ℕ) (at : Place → ℕ) (k : ℕ) → numbers_on (w ++ k ∷ []) at ≡ below_call k (numbers_on w at)
 numbers_further w at k = fun_ext (λ p. ap (λ (v : List ℕ). at (v, p.1)) (append_assoc w (k ∷ []) p.0))

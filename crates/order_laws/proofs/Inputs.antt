@@ -1,21 +1,20 @@
 -- The argument for an input that a call needs comes before it.
-use Rattle.std.proofs.Common.{◌≡◌, ℕ, zero, suc, pred, ◌<◌, Bool, true, false, cond, List, [], ◌∷◌, ◌++◌, map, flat_map, Option, Some, None, slice_get, refl, ◌∙◌, sym, subst, ap, arith}
+use Rattle.std.proofs.Common.{◌≡◌, ℕ, zero, suc, pred, ◌<◌, true, cond, List, [], ◌∷◌, ◌++◌, map, Option, Some, None, slice_get, refl, ◌∙◌, sym, subst, ap, arith}
 use Rattle.std.specs.Prelude.{Contains}
 use Rattle.std.specs.List.{AllByRecursion}
 use Rattle.std.specs.Str.{bytes_eq}
-use Rattle.std.proofs.Math.Logic.{inl, inr}
 use Rattle.std.proofs.lemmas.Option.{none-some, same_Some}
 use Rattle.lus_tree.specs.Tree.{Name, Expression, truth, number, name, negation, minus, pre, arrow, binary, choice, sampled, merged, call, condact, mode_name, Component, Program}
 use Rattle.lus_meaning.specs.Frame.{Frame}
-use Rattle.lus_meaning.specs.Scene.{Clock, Site, Instance, Instances, instance, no_instances, with_instance, calls_of, call_instance, instance_at}
+use Rattle.lus_meaning.specs.Scene.{Clock, while_true, Site, Instance, Instances, instance, no_instances, with_instance, outputs_of, calls_of, call_instance, instance_at}
 use Rattle.lus_meaning.specs.Run.{IsRun, inputs_of}
-use Rattle.lus_meaning.specs.Depends.{Need, the_beat, a_name, needs, modes_need, site_needs}
+use Rattle.lus_meaning.specs.Depends.{Need, the_beat, a_name, clock_needs, needs, modes_need, site_needs}
 use Rattle.lus_meaning.specs.Cycle.{Place, place_of, deeper, matching, shared_needs, caller_needs, next_places, next_in_call, IsAt}
-use Rattle.lus_meaning.specs.Program.{instance_of, listed}
+use Rattle.lus_meaning.specs.Program.{instance_of}
 use Rattle.lus_meaning.specs.Verdict.{throughout}
 use Rattle.lus_meaning.specs.ClockFaults.{components}
 use Rattle.lus_meaning.specs.Refusals.{IsChecked}
-use Rattle.lus_meaning.proofs.BooleanOrder.{IsIn, in_left, in_right, at_some}
+use Rattle.lus_meaning.proofs.BooleanOrder.{IsIn, in_left, in_right, in_mapped, at_some}
 use Rattle.lus_meaning.proofs.Exists.{self_bytes}
 use Rattle.lus_meaning.proofs.Lists.{append_none, map_append, all_from}
 use Rattle.sys_meaning.specs.Defaults.{site_at, site_of}
@@ -23,26 +22,22 @@ use Rattle.sys_meaning.specs.WellTyped.{count_of, IsKnown, Stands}
 use Rattle.lus_evaluation.specs.Part.{Part, from_top, needs_of}
 use Rattle.lus_evaluation.specs.Evaluation.{NeedsPlace, place_named, instance_on, IsEvaluation}
 use Rattle.lus_evaluation.specs.Turn.{in_turn}
-use Rattle.evaluation_laws.specs.Rows.{AreCalls, scene_there}
+use Rattle.evaluation_laws.specs.Rows.{AreCalls}
 use Rattle.order_laws.specs.Own.{own_setting}
 use Rattle.order_laws.specs.Rows.{place_there}
 use Rattle.order_laws.specs.Needed.{IsCalled, arguments_of, IsEvaluatedIn, NeededInputsComeBefore}
-use Rattle.order_laws.proofs.Frames.{scene_further}
-use Rattle.order_laws.proofs.Placed.{all_in_self, CalledIn, IsSiteOf}
+use Rattle.order_laws.proofs.Frames.{scene_further, same_place}
+use Rattle.order_laws.proofs.Placed.{all_in_self, CalledIn, IsSiteOf, GivenTo}
+use Rattle.order_laws.proofs.Covers.{further}
+use Rattle.order_laws.proofs.Beats.{from_end}
 use Rattle.order_laws.proofs.Bodies.{in_all, slice_in}
-use Rattle.order_laws.proofs.Trees.{same_place}
-use Rattle.order_laws.proofs.Evaluated.{firsts, further}
+use Rattle.order_laws.proofs.Evaluated.{firsts}
 use Rattle.order_laws.proofs.FirstByRows as b
 use Rattle.order_laws.proofs.Needed.{needed_arguments_come_before}
 
 -- ---- lists
 
-in_map : {A B : Type 0} (f : A → B) (x : A) (xs : List A) → IsIn x xs → IsIn (f x) (map f xs)
-in_map f x [] h = absurd h
-in_map f x (y ∷ xs) (inl e) = inl (ap f e)
-in_map f x (y ∷ xs) (inr h) = inr (in_map f x xs h)
-
-all_mapped : {A B : Type 0} (P : B → Type 0) (f : A → B) (xs : List A) → AllByRecursion (λ x. P (f x)) xs → AllByRecursion P (map f xs)
+pub all_mapped : {A B : Type 0} (P : B → Type 0) (f : A → B) (xs : List A) → AllByRecursion (λ x. P (f x)) xs → AllByRecursion P (map f xs)
 all_mapped P f [] a = tt
 all_mapped P f (x ∷ xs) a = (a.0, all_mapped P f xs a.1)
 
@@ -59,10 +54,6 @@ in_matching N x (y ∷ ys) (d ∷ as_) (suc k) a e h n m =
 
 -- ---- what an input needs
 
--- a place of the frame at the end of a way of calls
-abbrev from_end : List ℕ → Place → Place
-from_end w z = (map pred w ++ z.0, z.1)
-
 seen_from_top : (w : List ℕ) (n : Need) → from_top w n ≡ from_end w (place_of n)
 seen_from_top w the_beat = ap (λ (ks : List ℕ). let q : Place = (ks, None) in q) (sym (append_none (map pred w)))
 seen_from_top w (a_name ks x) = refl
@@ -71,7 +62,7 @@ in_call : (i : Instance) (is : Instances) (j0 j : ℕ) (ks : List ℕ) (x : Opti
     IsIn z (next_places (instance_at is j) ks x) → IsIn (deeper j0 z) (next_in_call i is j0 j ks x)
 in_call i no_instances j0 j ks x z l h = absurd (omega (arith, l))
 in_call i (with_instance c k is) j0 zero ks x z l h =
-    in_right (deeper j0 z) _ (map (deeper j0) (next_places k ks x)) (in_map (deeper j0) z (next_places k ks x) h)
+    in_right (deeper j0 z) _ (map (deeper j0) (next_places k ks x)) (in_mapped (deeper j0) z (next_places k ks x) h)
 in_call i (with_instance c k is) j0 (suc j) ks x z l h = in_call i is j0 j ks x z (omega (arith, l)) h
 
 at_end : (i : Instance) (w ks : List ℕ) (x : Option Name) (z : Place) → AreCalls i w → IsIn z (next_places (instance_on i w) ks x) →
@@ -81,38 +72,57 @@ at_end i (zero ∷ w) ks x z a h = absurd (let l : 0 < 0 = a.0 in omega (arith, 
 at_end (instance d cs is) (suc k ∷ w) ks x z a h =
     in_call (instance d cs is) is k k (map pred w ++ ks) x (from_end w z) a.1 (at_end (instance_at is k) w ks x z a.2 h)
 
-from_caller : (i : Instance) (is : Instances) (j0 j : ℕ) (x : Name) (n : Need) → j < count_of is →
-    IsIn n (caller_needs i (site_at is j) (instance_at is j) (Some x)) → IsIn (place_of n) (next_in_call i is j0 j [] (Some x))
+from_caller : (i : Instance) (is : Instances) (j0 j : ℕ) (x : Option Name) (n : Need) → j < count_of is →
+    IsIn n (caller_needs i (site_at is j) (instance_at is j) x) → IsIn (place_of n) (next_in_call i is j0 j [] x)
 from_caller i no_instances j0 j x n l h = absurd (omega (arith, l))
 from_caller i (with_instance c k is) j0 zero x n l h =
-    in_left (place_of n) (map place_of (caller_needs i c k (Some x))) _ (in_map place_of n (caller_needs i c k (Some x)) h)
+    in_left (place_of n) (map place_of (caller_needs i c k x)) _ (in_mapped place_of n (caller_needs i c k x) h)
 from_caller i (with_instance c k is) j0 (suc j) x n l h = from_caller i is j0 j x n (omega (arith, l)) h
 
+caller_next : (j : Instance) (k : ℕ) → 0 < k → pred k < count_of (calls_of j) → (x : Option Name) (n : Need) →
+    IsIn n (caller_needs j (site_of j k) (call_instance j k) x) → IsIn (place_of n) (next_places j (pred k ∷ []) x)
+caller_next j zero c l x n h = absurd (omega (arith, c))
+caller_next (instance d cs is) (suc k) c l x n h = from_caller (instance d cs is) is k k x n l h
+
+-- what a place of a call's frame needs of the caller
+pub call_next : (i : Instance) (f : Frame) (w : List ℕ) (k : ℕ) → AreCalls i w → 0 < k → pred k < count_of (calls_of (place_there i f w)) →
+    (x : Option Name) (n : Need) → IsIn n (caller_needs (place_there i f w) (site_of (place_there i f w) k) (call_instance (place_there i f w) k) x) →
+    IsIn (from_top w n) (next_places i (map pred (w ++ k ∷ [])) x)
+call_next i f w k a c l x n h =
+    let one : IsIn (place_of n) (next_places (place_there i f w) (pred k ∷ []) x) = caller_next (place_there i f w) k c l x n h in
+    let two : IsIn (from_end w (place_of n)) (next_places i (map pred w ++ pred k ∷ []) x) =
+    at_end i w (pred k ∷ []) x (place_of n) a (subst (λ y. IsIn (place_of n) (next_places y (pred k ∷ []) x)) (same_place w i throughout f) one) in
+    subst (λ y. IsIn y (next_places i (map pred (w ++ k ∷ [])) x)) (sym (seen_from_top w n))
+    (subst (λ u. IsIn (from_end w (place_of n)) (next_places i u x)) (sym (map_append pred w (k ∷ []))) two)
+
 -- what an argument needs, the input needs for which it stands
-input_needs : (j : Instance) (k : ℕ) → 0 < k → pred k < count_of (calls_of j) → (x : Name) (m : ℕ) (a : Expression) →
-    slice_get (inputs_of (call_instance j k)) m ≡ Some x → slice_get (site_of j k).arguments m ≡ Some a → (n : Need) →
-    IsIn n (needs j (modes_need j) (site_of j k).clock a) → IsIn (place_of n) (next_places j (pred k ∷ []) (Some x))
-input_needs j zero c l x m a e h n r = absurd (omega (arith, c))
-input_needs (instance d cs is) (suc k) c l x m a e h n r =
-    let i : Instance = instance d cs is in
-    let z : Site = site_at is k in
-    from_caller i is k k x n l
-    (in_left n (matching (λ a. site_needs i (modes_need i) z z.manner ++ needs i (modes_need i) z.clock a) x (inputs_of (instance_at is k)) z.arguments) _
-    (in_matching (λ a. site_needs i (modes_need i) z z.manner ++ needs i (modes_need i) z.clock a) x (inputs_of (instance_at is k)) z.arguments m a e h n
-    (in_right n (site_needs i (modes_need i) z z.manner) (needs i (modes_need i) z.clock a) r)))
+pub input_needs : (z : Instance) (s : Site) (k : Instance) (x : Name) (m : ℕ) (a : Expression) → slice_get (inputs_of k) m ≡ Some x →
+    slice_get s.arguments m ≡ Some a → (n : Need) → IsIn n (needs z (modes_need z) s.clock a) → IsIn n (caller_needs z s k (Some x))
+input_needs z s k x m a e h n r =
+    in_left n (matching (λ a. site_needs z (modes_need z) s s.manner ++ needs z (modes_need z) s.clock a) x (inputs_of k) s.arguments)
+    (shared_needs s.manner x (outputs_of k))
+    (in_matching (λ a. site_needs z (modes_need z) s s.manner ++ needs z (modes_need z) s.clock a) x (inputs_of k) s.arguments m a e h n
+    (in_right n (site_needs z (modes_need z) s s.manner) (needs z (modes_need z) s.clock a) r))
+
+-- and what a condition needs, the beat needs of the frame of its call
+pub condition_needs : (z : Instance) (s : Site) (k : Instance) (a : Expression) → s.manner ≡ while_true a → (n : Need) →
+    IsIn n (needs z (modes_need z) s.clock a) → IsIn n (caller_needs z s k None)
+condition_needs z s k a e n r =
+    subst (λ y. IsIn n (site_needs z (modes_need z) s y)) (sym e) (in_right n (clock_needs s.clock) (needs z (modes_need z) s.clock a) r)
 
 -- ---- the call
 
 module _ (i : Instance) (f : Frame) (t : ℕ) (w : List ℕ) (b : List Part) (c : Clock) (v : List ℕ) where
-  record Sited (x : Expression) : Type 0 where
+  pub record Sited (x : Expression) : Type 0 where
     pub number : ℕ
     pub same : v ≡ w ++ number ∷ []
     pub site : IsSiteOf i f t w number c (arguments_of x)
     pub among : pred number < count_of (calls_of (place_there i f w))
+    pub given : GivenTo i f t w number b
 
-  sited : (x : Expression) → IsCalled w x v → CalledIn i f t w b c x → Stands (place_there i f w) (IsKnown (place_there i f w)) c x → Sited x
-  sited (call p k n as_) h s st = record { number = k; same = h; site = s.2; among = st.0.call.listed }
-  sited (condact p k a n as_ ds) h s st = record { number = k; same = h; site = s.2; among = st.0.call.listed }
+  pub sited : (x : Expression) → IsCalled w x v → CalledIn i f t w b c x → Stands (place_there i f w) (IsKnown (place_there i f w)) c x → Sited x
+  sited (call p k n as_) h s st = record { number = k; same = h; site = s.2; among = st.0.call.listed; given = s.3 }
+  sited (condact p k a n as_ ds) h s st = record { number = k; same = h; site = s.2; among = st.0.call.listed; given = s.3 }
   sited (truth p a) h s st = absurd h
   sited (number p a) h s st = absurd h
   sited (name p a) h s st = absurd h
@@ -158,15 +168,11 @@ module _ (p : Program) (c : IsChecked p) (n : Component) (j : Contains (componen
 
   next : (k : Need) → IsIn k ns → IsIn (from_top w k) (next_places i (map pred v) (Some x))
   next k h =
-      let one : IsIn (place_of k) (next_places z (pred site.number ∷ []) (Some x)) =
-      input_needs z site.number site.site.2 site.among x g a input_there
+      subst (λ u. IsIn (from_top w k) (next_places i (map pred u) (Some x))) (sym site.same)
+      (call_next i f w site.number (b.here p c n j qs ev m f run t l front q rest e).calls site.site.2 site.among (Some x) k
+      (input_needs z (site_of z site.number) (call_instance z site.number) x g a input_there
       (subst (λ as_. slice_get as_ g ≡ Some a) (sym site.site.1) argument) k
-      (subst (λ d. IsIn k (needs z (modes_need z) d a)) (sym site.site.0) h) in
-      let two : IsIn (from_end w (place_of k)) (next_places i (map pred w ++ pred site.number ∷ []) (Some x)) =
-      at_end i w (pred site.number ∷ []) (Some x) (place_of k) (b.here p c n j qs ev m f run t l front q rest e).calls
-      (subst (λ y. IsIn (place_of k) (next_places y (pred site.number ∷ []) (Some x))) (same_place w i throughout f) one) in
-      subst (λ y. IsIn y (next_places i (map pred v) (Some x))) (sym (seen_from_top w k))
-      (subst (λ u. IsIn (from_end w (place_of k)) (next_places i u (Some x))) (sym (ap (λ u. map pred u) site.same ∙ map_append pred w (site.number ∷ []))) two)
+      (subst (λ d. IsIn k (needs z (modes_need z) d a)) (sym site.site.0) h)))
 
   reached : (k : Need) → IsIn k ns → NeedsPlace i q.needs (from_top w k)
   reached k h =

@@ -1,11 +1,11 @@
 -- What the items of a contract say is known, and names modes that stand before it alone.
 use Rattle.std.proofs.lemmas.Grind.{flat_map-append}
-use Rattle.std.proofs.Common.{◌≡◌, ℕ, suc, true, List, [], ◌∷◌, ◌++◌, map, flat_map, refl, ap, ◌∙◌, sym, subst}
+use Rattle.std.proofs.Common.{◌≡◌, ℕ, suc, pred, true, List, [], ◌∷◌, ◌++◌, map, flat_map, refl, ap, ◌∙◌, sym, subst}
 use Rattle.std.specs.Prelude.{Contains, is_none}
 use Rattle.std.specs.List.{AllByRecursion}
 use Rattle.lus_tree.specs.declared.place.Sort.TheVariants.{Bool as Flags}
 use Rattle.lus_tree.specs.Tree.{Expression, truth, number, name, negation, minus, pre, arrow, binary, choice, sampled, merged, call, condact, mode_name, Variable, Labelled, Statement, equation, assertion, property, main_mark, ContractStatement, assume, guarantee, ghost_variable, constant, mode, «import», Constant, Component, Program}
-use Rattle.lus_meaning.specs.Scene.{base, Site, Instance, component_of, clock_from, clock_of, clock_of_names, contract_statements, ghosts}
+use Rattle.lus_meaning.specs.Scene.{base, Site, Instance, component_of, calls_of, clock_from, clock_of, clock_of_names, contract_statements, ghosts}
 use Rattle.lus_meaning.specs.Program.{site_in, import_site}
 use Rattle.lus_tree.specs.Reason.{not_constant}
 use Rattle.lus_meaning.specs.Faults.{fault}
@@ -33,14 +33,15 @@ use Rattle.rule_laws.proofs.Goods.{place_of, typed_declaration, each_passes, wit
 use Rattle.rule_laws.proofs.Unfolded.{typed_tree}
 use Rattle.clock_laws.proofs.Texts.{all_grammatical}
 use Rattle.run_laws.proofs.Texts.{declaration}
+use Rattle.sys_meaning.specs.Defaults.{site_of}
 use Rattle.sys_meaning.specs.Items.{Key}
 use Rattle.sys_meaning.specs.WellTyped.{IsKnown, IsAmong, IsImport, StatementsFit, own_keys}
 use Rattle.path_laws.proofs.Chains.{clock_is}
-use Rattle.path_laws.proofs.Places.{imports_known, known_texts, KnownText, stand}
+use Rattle.path_laws.proofs.Places.{ImportThere, imports_there, imports_known, known_texts, KnownText, stand}
 use Rattle.path_laws.proofs.Among.{IsImported, NamesAmong, keys_of, all_among}
-use Rattle.path_laws.proofs.Standing.{Known}
+use Rattle.path_laws.proofs.Standing.{Known, site_there}
 use Rattle.path_laws.proofs.Tree.{own_fits}
-use Rattle.order_laws.proofs.Laying.{NamesIn, Named}
+use Rattle.order_laws.proofs.Names.{NamesIn, Named}
 
 -- ---- names
 
@@ -96,7 +97,7 @@ module _ (i : Instance) where
   ItemFits ks (ghost_variable x e) = Unit {0}
   ItemFits ks (constant c) = Unit {0}
   ItemFits ks (mode m rs es) = AllByRecursion (λ l. LabelFits ks l.value) rs × AllByRecursion (λ l. LabelFits ks l.value) es
-  ItemFits ks («import» k c as_ xs) = IsImport i k × AllByRecursion (LabelFits ks) as_
+  ItemFits ks («import» k c as_ xs) = IsImport i k × AllByRecursion (LabelFits ks) as_ × ((site_of i k).arguments ≡ as_)
 
   abbrev pub ItemsFit : List Key → List ContractStatement → Type 0
   ItemsFit ks [] = Unit {0}
@@ -121,6 +122,10 @@ module _ (p : Program) (c : IsChecked p) (i : Instance) (u : IsUnfolded p i) (j 
 
   abbrev place : Home
   place = home p at_place.0 at_place.1
+
+  -- an import is the call of its number
+  abbrev IsSite : Site → Type 0
+  IsSite s = site_of i s.number ≡ s
 
   abbrev Imported : Site → Type 0
   Imported = IsImported p i
@@ -160,18 +165,21 @@ module _ (p : Program) (c : IsChecked p) (i : Instance) (u : IsUnfolded p i) (j 
 
   item_fits : (bs : List ContractStatement) → AllByRecursion Imported (flat_map import_site bs) → (x : ContractStatement) →
       contract_statement_faults (contract_statement_scope place bs) x ≡ [] → AllByRecursion Text_known (contract_statement_texts x) →
-      StatementsFit i (keys_of i bs) (x ∷ []) → ItemFits i (keys_of i bs) x
-  item_fits bs q (assume l) f a s = flag_fits bs q l f a.0
-  item_fits bs q (guarantee l) f a s = flag_fits bs q l f a.0
-  item_fits bs q (ghost_variable x e) f a s = tt
-  item_fits bs q (constant x) f a s = tt
-  item_fits bs q (mode m rs es) f a s =
+      StatementsFit i (keys_of i bs) (x ∷ []) → AllByRecursion IsSite (import_site x) → ItemFits i (keys_of i bs) x
+  item_fits bs q (assume l) f a s z = flag_fits bs q l f a.0
+  item_fits bs q (guarantee l) f a s z = flag_fits bs q l f a.0
+  item_fits bs q (ghost_variable x e) f a s z = tt
+  item_fits bs q (constant x) f a s z = tt
+  item_fits bs q (mode m rs es) f a s z =
       let r = no_parts (flags_of (contract_statement_scope place bs) rs) (flags_of (contract_statement_scope place bs) es) f in (
         flags_fit bs q rs r.0 (left_part Text_known (on_base rs) (on_base es) a),
         flags_fit bs q es r.1 (right_part Text_known (on_base rs) (on_base es) a),
       )
-  item_fits bs q («import» m x as_ ys) f a s =
-      (s.0, arguments_fit bs q as_ (no_parts (flat_map (expression_faults (contract_statement_scope place bs) (on_clock base)) as_) _ f).0 a)
+  item_fits bs q («import» m x as_ ys) f a s z = (
+    s.0,
+    arguments_fit bs q as_ (no_parts (flat_map (expression_faults (contract_statement_scope place bs) (on_clock base)) as_) _ f).0 a,
+    ap (λ r. r.arguments) z.0,
+  )
 
   imported_both : (bs : List ContractStatement) (x : ContractStatement) → AllByRecursion Imported (flat_map import_site bs) →
       AllByRecursion Imported (import_site x) → AllByRecursion Imported (flat_map import_site (bs ++ x ∷ []))
@@ -184,16 +192,19 @@ module _ (p : Program) (c : IsChecked p) (i : Instance) (u : IsUnfolded p i) (j 
 
   each_item : (bs : List ContractStatement) → AllByRecursion Imported (flat_map import_site bs) → (xs : List ContractStatement) →
       AllByRecursion Imported (flat_map import_site xs) → contract_faults place bs xs ≡ [] →
-      AllByRecursion Text_known (flat_map contract_statement_texts xs) → StatementsFit i (keys_of i bs) xs → ItemsFit i (keys_of i bs) xs
-  each_item bs q [] y f a s = tt
-  each_item bs q (x ∷ xs) y f a s =
+      AllByRecursion Text_known (flat_map contract_statement_texts xs) → StatementsFit i (keys_of i bs) xs →
+      AllByRecursion IsSite (flat_map import_site xs) → ItemsFit i (keys_of i bs) xs
+  each_item bs q [] y f a s z = tt
+  each_item bs q (x ∷ xs) y f a s z =
       let r = no_parts (contract_statement_faults (contract_statement_scope place bs) x) (contract_faults place (bs ++ x ∷ []) xs) f in (
-        item_fits bs q x r.0 (left_part Text_known (contract_statement_texts x) (flat_map contract_statement_texts xs) a) (s.0, tt),
+        item_fits bs q x r.0 (left_part Text_known (contract_statement_texts x) (flat_map contract_statement_texts xs) a) (s.0, tt)
+            (left_part IsSite (import_site x) (flat_map import_site xs) z),
         subst (λ ks. ItemsFit i ks xs) (keys_both bs x)
             (each_item (bs ++ x ∷ []) (imported_both bs x q (left_part Imported (import_site x) (flat_map import_site xs) y)) xs
             (right_part Imported (import_site x) (flat_map import_site xs) y) r.1
             (right_part Text_known (contract_statement_texts x) (flat_map contract_statement_texts xs) a)
-            (subst (λ ks. StatementsFit i ks xs) (sym (keys_both bs x)) s.1)),
+            (subst (λ ks. StatementsFit i ks xs) (sym (keys_both bs x)) s.1)
+            (right_part IsSite (import_site x) (flat_map import_site xs) z)),
       )
 
   -- ---- the texts
@@ -215,6 +226,8 @@ module _ (p : Program) (c : IsChecked p) (i : Instance) (u : IsUnfolded p i) (j 
   items_fit =
       each_item [] tt (contract_statements here) (imports_known p c i u j)
       (typed_declaration p (typed_tree p c) at_place (place_of 0 p (component_of i) j).is j).contract contract_known (own_fits p c i u j).contract
+      (all_from (ImportThere p c i u j) IsSite (λ s h. (site_there (calls_of i) (pred s.number) s h.site).0)
+      (flat_map import_site (contract_statements here)) (imports_there p c i u j))
 
   -- ---- what names no modes but known ones
 

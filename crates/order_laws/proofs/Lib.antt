@@ -1,5 +1,8 @@
 pub mod Lists
 pub mod Earlier
+pub mod Names
+pub mod Covers
+pub mod Beats
 pub mod ModeKeys
 pub mod Same
 pub mod Frames
@@ -19,3 +22,4 @@ pub mod FirstByRows
 pub mod Needed
 pub mod NoneOutside
 pub mod Inputs
+pub mod Callers

@@ -33,7 +33,7 @@ use Rattle.order_laws.specs.Rows.{place_there, standpoint_there}
 use Rattle.order_laws.proofs.Lists.{grouped}
 use Rattle.order_laws.proofs.Placed.{Settled, CalledIn, WholeIn, WholesIn, Placed}
 use Rattle.order_laws.proofs.Bodies.{picked_in}
-use Rattle.order_laws.proofs.Evaluated.{firsts, whole_listed, above_listed, called_listed}
+use Rattle.order_laws.proofs.Evaluated.{firsts, above_itself, whole_listed, above_listed, called_listed}
 use Rattle.order_laws.proofs.FirstByRows as b
 
 -- ---- lists
@@ -138,13 +138,13 @@ module _ (p : Program) (c : IsChecked p) (n : Component) (j : Contains (componen
 
   -- ---- arguments
 
-  argument_in : (a : Expression) → WholeIn i f t q.way (firsts at.number ps) q.clock a →
-      AllByRecursion (λ z. NeedsPlace i q.needs z) (needs_of (own_setting (place_there i f q.way) q.way []) q.clock a) →
-      IsEvaluatedIn i f t front q.way q.clock a
-  argument_in a r needed =
+  -- a whole of its frame, or of one on the way there, that stands before the part in turn and needs no more
+  pub whole_in : (w : List ℕ) → is_above w q.way ≡ true → (d : Clock) (a : Expression) → WholeIn i f t w (firsts at.number ps) d a →
+      AllByRecursion (λ z. NeedsPlace i q.needs z) (needs_of (own_setting (place_there i f w) w []) d a) → IsEvaluatedIn i f t front w d a
+  whole_in w u d a r needed =
       let y = whole_listed i (rank_here i) (rank_lowers i (no_circle p c i (b.unfolded p c n j qs ev m f run) (b.declared p c n j qs ev m f run))) f t ps
       (b.laid p c n j qs ev m f run t l) (b.whole p c n j qs ev m f run) ev.numbers ev.turn at.number q at.there at.before at.after at.split
-      (suc (suc (length (all_places i)))) (rank_bound i) q.clock a r needed in
+      (suc (suc (length (all_places i)))) (rank_bound i) w u d a r needed in
       let o : IsOneOf front r.part = b.one_of front r.part (subst (λ z. IsIn r.part z) at.fronts (picked_in at.before ps y.0 r.part y.1 y.2)) in
       record { part = r.part; there = o; way = r.way; clock = r.clock; expression = r.expression; own = own_there r.part o }
 
@@ -154,7 +154,7 @@ module _ (p : Program) (c : IsChecked p) (n : Component) (j : Contains (componen
       IsEvaluatedIn i f t front q.way q.clock a
 
   all_in : (as_ : List Expression) → WholesIn i f t q.way (firsts at.number ps) q.clock as_ → AllByRecursion Comes as_
-  all_in as_ h = all_from (WholeIn i f t q.way (firsts at.number ps) q.clock) Comes (λ a r needed. argument_in a r needed) as_ h
+  all_in as_ h = all_from (WholeIn i f t q.way (firsts at.number ps) q.clock) Comes (λ a r needed. whole_in q.way (above_itself q.way) q.clock a r needed) as_ h
 
   by_form : (x : Expression) → CalledIn i f t q.way (firsts at.number ps) q.clock x → AllByRecursion Comes (arguments_of x)
   by_form (call g k z as_) h = all_in (listed_expressions as_) h.1

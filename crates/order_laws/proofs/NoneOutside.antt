@@ -1,5 +1,5 @@
 -- What has been evaluated has no operation outside 128 bits in the row of the run.
-use Rattle.std.proofs.Common.{◌≡◌, ℕ, ◌<◌, Bool, true, false, cond, Option, arith, List, [], ◌∷◌, ◌++◌, map, length, Some, None, slice_get, refl, ◌∙◌, sym, subst, ap}
+use Rattle.std.proofs.Common.{◌≡◌, ℕ, ◌<◌, Bool, true, false, cond, Option, arith, List, [], ◌∷◌, ◌++◌, map, length, None, refl, ◌∙◌, sym, subst, ap}
 use Rattle.std.specs.Prelude.{Contains}
 use Rattle.std.specs.List.{AllByRecursion}
 use Rattle.lus_tree.specs.Tree.{Name, Variable, Expression, truth, number, name, negation, minus, pre, arrow, binary, choice, sampled, merged, call, condact, mode_name, Component, Program}
@@ -27,10 +27,10 @@ use Rattle.slot_values.specs.Clocked.{row_by, clock_on}
 use Rattle.slot_values.specs.FrameRow.{numbering}
 use Rattle.evaluation_laws.specs.Rows.{row_at, scene_there, numbers_there, modes_there, resolution_there}
 use Rattle.evaluation_laws.proofs.Waiting.{both_true}
-use Rattle.order_laws.specs.Laws.{operations_there, IsOneOf}
+use Rattle.order_laws.specs.Laws.{IsOneOf}
 use Rattle.order_laws.specs.Needed.{IsGiven, IsEvaluatedIn, NoneOutside, right_there, GivenNamesAreWithin, ArgumentsAreWithin, OfCondition, ConditionsAreWithin, OfOperand, RememberedOperandsAreWithin}
 use Rattle.order_laws.proofs.Lists.{grouped, left_of, right_of}
-use Rattle.order_laws.proofs.Placed.{CalledIn, PartIn, Placed}
+use Rattle.order_laws.proofs.Placed.{CalledIn, PartIn}
 use Rattle.order_laws.proofs.Bodies.{picked_in, slice_below}
 use Rattle.order_laws.proofs.Evaluated.{firsts, first_at}
 use Rattle.order_laws.proofs.FirstByRows as b

@@ -1,10 +1,10 @@
 -- The calls of a text: what they are given is known, and what is evaluated in their frames is among the parts of the text.
-use Rattle.std.proofs.Common.{◌≡◌, ℕ, true, false, List, [], ◌∷◌, ◌++◌, flat_map, refl}
+use Rattle.std.proofs.Common.{◌≡◌, ℕ, pred, true, false, List, [], ◌∷◌, ◌++◌, flat_map, refl}
 use Rattle.std.specs.Prelude.{Contains}
 use Rattle.std.specs.List.{AllByRecursion}
 use Rattle.std.proofs.Math.Logic.{◌⊎◌, inl, inr}
 use Rattle.lus_tree.specs.Tree.{Name, Expression, Expressions, truth, number, name, negation, minus, pre, arrow, binary, choice, sampled, merged, call, condact, mode_name, no_more, more, ContractStatement, assume, guarantee, ghost_variable, constant, mode, «import», Component, Program}
-use Rattle.lus_meaning.specs.Scene.{Clock, sampled_by, as_import, Site, Instance, component_of, clock_of, contract_statements}
+use Rattle.lus_meaning.specs.Scene.{Clock, sampled_by, as_import, Site, Instance, component_of, calls_of, clock_of, contract_statements}
 use Rattle.lus_meaning.specs.Program.{listed, site_in, import_site, all_sites}
 use Rattle.lus_meaning.specs.Occurrences.{Standing, within, before, moved, Occurrence, occurrences, Text, texts, gathered, all_occurrences}
 use Rattle.lus_meaning.specs.ClockFaults.{components}
@@ -17,22 +17,28 @@ use Rattle.lus_meaning.proofs.Lists.{all_from, both_parts}
 use Rattle.rule_laws.specs.Laws.{IsUnfolded}
 use Rattle.rule_laws.proofs.Lists.{all_flat}
 use Rattle.rule_laws.proofs.Parts.{Whole, nested, all_parts}
+use Rattle.rule_laws.specs.Fitting.{CallFits}
+use Rattle.sys_meaning.specs.Defaults.{site_of}
 use Rattle.sys_meaning.specs.WellTyped.{IsKnown}
 use Rattle.path_laws.proofs.Places.{known_texts, KnownText}
-use Rattle.path_laws.proofs.Standing.{Known}
-use Rattle.lus_evaluation.specs.Part.{Part, Setting, needs_of, parts, argument_parts, operand_parts}
+use Rattle.path_laws.proofs.Standing.{Known, site_there}
+use Rattle.lus_evaluation.specs.Part.{Part, Setting, needs_of, part, parts, argument_parts, operand_parts}
 use Rattle.lus_evaluation.specs.Frame.{call_condition}
-use Rattle.order_laws.proofs.Placed.{all_in_self}
-use Rattle.order_laws.proofs.Laying.{Named}
+use Rattle.order_laws.proofs.Names.{Named}
+use Rattle.order_laws.proofs.Placed.{all_in_self, CallIn}
+use Rattle.order_laws.proofs.Laying.{root_in}
 use Rattle.order_laws.proofs.Contracts.{Holds}
 use Rattle.order_laws.proofs.Items.{TextFits, text_fits}
 
 -- ---- what is evaluated in the frames of calls
 
 module _ (g : Setting) (n : Component) where
-  -- what each call evaluates is among these parts
+  -- what a call evaluates is among these parts, and so is the call
+  abbrev pub SiteHeld : List Part → Site → Type 0
+  SiteHeld rs z = Holds (g.body z.number) rs × CallIn g.way z.number rs
+
   abbrev pub SitesHeld : List Part → Occurrence → Type 0
-  SitesHeld rs o = AllByRecursion (λ z. Holds (g.body z.number) rs) (site_in o.standing o.expression)
+  SitesHeld rs o = AllByRecursion (SiteHeld rs) (site_in o.standing o.expression)
 
   abbrev Among : List Part → List Part → Type 0
   Among qs rs = (r : Part) → IsIn r qs → IsIn r rs
@@ -85,19 +91,39 @@ module _ (g : Setting) (n : Component) where
         )
     held_in ns xs c s (call p k f as_) rs h =
         let given : List Part = argument_parts g c as_ in (
-          (body_held k rs (λ r m. h r (in_left r (given ++ g.body k) _ (in_right r given (g.body k) m))), tt),
+          (
+            (
+              body_held k rs (λ r m. h r (in_left r (given ++ g.body k) _ (in_right r given (g.body k) m))),
+              record {
+                part = part g ns xs c (call p k f as_);
+                there = h (part g ns xs c (call p k f as_)) (root_in g ns xs c (call p k f as_));
+                way = refl;
+                call = refl;
+              },
+            ),
+            tt,
+          ),
           held_arguments c (within s) as_ rs (λ r m. h r (in_left r (given ++ g.body k) _ (in_left r given (g.body k) m))),
         )
     held_in ns xs c s (condact p k a f as_ ds) rs h =
-        let asked : List Part = parts g ns [] c a in
+        let ms : List NeededPlace = needs_of g c a in
+        let asked : List Part = parts g ms [] c a in
         let given : List Part = argument_parts g c as_ in
         let kept : List Part = operand_parts g ns c ds in (
           (
-            body_held k rs (λ r m. h r (in_left r (asked ++ given ++ g.body k ++ kept) _
-                (in_left r (asked ++ given ++ g.body k) kept (in_right r (asked ++ given) (g.body k) m)))),
+            (
+              body_held k rs (λ r m. h r (in_left r (asked ++ given ++ g.body k ++ kept) _
+                  (in_left r (asked ++ given ++ g.body k) kept (in_right r (asked ++ given) (g.body k) m)))),
+              record {
+                part = part g ns xs c (condact p k a f as_ ds);
+                there = h (part g ns xs c (condact p k a f as_ ds)) (root_in g ns xs c (condact p k a f as_ ds));
+                way = refl;
+                call = refl;
+              },
+            ),
             tt,
           ),
-          held_in ns [] c (within s) a rs (λ r m. h r (in_left r (asked ++ given ++ g.body k ++ kept) _
+          held_in ms [] c (within s) a rs (λ r m. h r (in_left r (asked ++ given ++ g.body k ++ kept) _
               (in_left r (asked ++ given ++ g.body k) kept (in_left r (asked ++ given) (g.body k) (in_left r asked given m))))),
           held_arguments c (within s) as_ rs (λ r m. h r (in_left r (asked ++ given ++ g.body k ++ kept) _
               (in_left r (asked ++ given ++ g.body k) kept (in_left r (asked ++ given) (g.body k) (in_right r asked given m))))),
@@ -137,6 +163,7 @@ module _ (g : Setting) (n : Component) where
 module _ (i : Instance) where
   -- the condition and the arguments of a call are known on the clock of its place
   pub record CallKnown (c : Site) : Type 0 where
+    pub site : site_of i c.number ≡ c
     pub standing : Standing
     pub clock : standing.clock ≡ c.clock
     pub given : AllByRecursion (TextFits i standing) (call_condition c c.manner ++ c.arguments)
@@ -157,10 +184,20 @@ module _ (i : Instance) where
   all_listed s no_more a = tt
   all_listed s (more e as_) a = (both_texts s e a.0, all_listed s as_ a.1)
 
+  sited : (z : Site) → CallFits i z → site_of i z.number ≡ z
+  sited z h = (site_there (calls_of i) (pred z.number) z h.site).0
+
   sites_known : (s : Standing) (e : Expression) → Each Both (component_of i) s e → AllByRecursion SiteKnown (site_in s e)
-  sites_known s (call p k f as_) a = (inl record { standing = within s; clock = refl; given = all_listed (within s) as_ a.1 }, tt)
-  sites_known s (condact p k b f as_ ds) a =
-      (inl record { standing = within s; clock = refl; given = (both_texts (within s) b a.1, all_listed (within s) as_ a.2) }, tt)
+  sites_known s (call p k f as_) a = (inl record { site = sited _ a.0.0.fits; standing = within s; clock = refl; given = all_listed (within s) as_ a.1 }, tt)
+  sites_known s (condact p k b f as_ ds) a = (
+    inl record {
+      site = sited _ a.0.0.fits.0;
+      standing = within s;
+      clock = refl;
+      given = (both_texts (within s) b a.1, all_listed (within s) as_ a.2);
+    },
+    tt,
+  )
   sites_known s (truth p b) a = tt
   sites_known s (number p b) a = tt
   sites_known s (name p b) a = tt

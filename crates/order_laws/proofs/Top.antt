@@ -8,6 +8,7 @@ use Rattle.lus_meaning.specs.Occurrences.{Standing, on_clock, as_side, Occurrenc
 use Rattle.lus_meaning.specs.Program.{site_in, import_site, all_sites}
 use Rattle.lus_meaning.specs.Property.{assertions}
 use Rattle.lus_meaning.specs.Run.{Equation, equations, ghost_equations, body_equations}
+use Rattle.lus_meaning.specs.Depends.{ModeNeeds, modes_need, modes_need_each}
 use Rattle.lus_meaning.specs.Order.{IsLeastEquationOrder}
 use Rattle.lus_meaning.specs.Refusals.{IsChecked}
 use Rattle.lus_meaning.proofs.BooleanOrder.{IsIn, in_left, in_right}
@@ -27,11 +28,11 @@ use Rattle.lus_evaluation.specs.Evaluation.{instance_on}
 use Rattle.evaluation_laws.specs.Rows.{AreCalls, RowShows}
 use Rattle.order_laws.specs.Own.{own_modes, own_modes_each}
 use Rattle.order_laws.proofs.Frames.{stands_called}
-use Rattle.order_laws.proofs.Placed.{Settled, EachLaid, laid_both, all_in_self}
+use Rattle.order_laws.proofs.Placed.{CallIn, Settled, GivenTo, given_among, given_top, call_given, Behind, EachLaid, laid_both, all_in_self}
 use Rattle.order_laws.proofs.Items.{ItemFree, IsFree, items_free, constants_free, properties_fit}
 use Rattle.order_laws.proofs.Sites.{TextHeld, text_held}
 use Rattle.order_laws.proofs.Contracts.{Holds, AreLaid, lowered}
-use Rattle.order_laws.proofs.Bodies.{in_all, in_flat, at_slice, slice_below, picked_in, holds_within, holds_more, FrameLaid, contract_side, free_held, contract_held}
+use Rattle.order_laws.proofs.Bodies.{in_all, in_flat, at_slice, slice_below, picked_in, holds_within, held_among, holds_more, FrameLaid, SiteThere, contract_side, free_held, contract_held}
 use Rattle.order_laws.proofs.Trees.{FrameAt, Texts, unfolded_calls, frame_tree, calls_tree, texts_tree}
 
 text_same : (o : Orders) (i : Instance) → frame_text o [] i ≡ text_over (text_at (call_texts o [] (calls_of i))) (o []) [] i
@@ -80,8 +81,8 @@ module _ (p : Program) (c : IsChecked p) (i : Instance) (f : Frame) (t : ℕ) (e
   abbrev Laid : List Part → List Part → Type 0
   Laid b qs = EachLaid i f t every [] b qs
 
-  laid : FrameLaid i f t every [] x (own_modes [] i)
-  laid = subst (λ y. FrameLaid i f t every [] y (own_modes [] i)) (text_same o i) (frame_tree p c i f t every shown o least [] i s)
+  laid : FrameLaid i f t every [] x (own_modes [] i) (modes_need i)
+  laid = subst (λ y. FrameLaid i f t every [] y (own_modes [] i) (modes_need i)) (text_same o i) (frame_tree p c i f t every shown o least [] i s)
 
   texts_laid : Texts p c i f t every shown o least [] i sub
   texts_laid = texts_tree p c i f t every shown o least [] i s
@@ -91,6 +92,7 @@ module _ (p : Program) (c : IsChecked p) (i : Instance) (f : Frame) (t : ℕ) (e
 
   child : (q : ℕ) → q < count_of (calls_of i) →
       FrameLaid i f t every (suc q ∷ []) (sub (suc q)) (slice_index_or (own_modes_each [] (calls_of i)) q [])
+      (slice_index_or (modes_need_each (calls_of i)) q [])
   child q l =
       (calls_tree p c i f t every shown o least [] i (calls_of i) 0 fits (all_sites n) (unfolded_calls p i s.unfolded)
       (each_site p c.rules.clocked.typed n s.declared) q (suc q) (omega arith) l (stands_called i f [] i s.stands (suc q) (omega arith) l)).0
@@ -112,22 +114,26 @@ module _ (p : Program) (c : IsChecked p) (i : Instance) (f : Frame) (t : ℕ) (e
   kept : (qs : List Part) → Holds x.body (x.body ++ qs)
   kept qs = holds_more x.body x.body qs (all_in_self x.body)
 
-  ensured_laid : (ms : List ModeText) (qs : ModeParts) → AreLaid i f t every [] (Holds x.body) ms qs → (b : List Part) → Holds x.body b →
+  ensured_laid : (ms : List ModeText) (qs : ModeParts) (ds : ModeNeeds) → AreLaid i f t every [] (Holds x.body) ms qs ds → (b : List Part) → Holds x.body b →
       Laid b (flat_map (λ m. m.ensured) ms)
-  ensured_laid [] [] a b h = λ g hb hq. tt
-  ensured_laid [] (q ∷ qs) a b h = absurd a
-  ensured_laid (m ∷ ms) [] a b h = absurd a
-  ensured_laid (m ∷ ms) (q ∷ qs) a b h =
-      laid_both i f t every [] b m.ensured (flat_map (λ m. m.ensured) ms) (a.0.ensured b h) (ensured_laid ms qs a.1 (b ++ m.ensured) (holds_more x.body b m.ensured h))
+  ensured_laid [] [] [] a b h = λ g v hb hq. tt
+  ensured_laid [] (q ∷ qs) ds a b h = absurd a
+  ensured_laid [] [] (d ∷ ds) a b h = absurd a
+  ensured_laid (m ∷ ms) [] ds a b h = absurd a
+  ensured_laid (m ∷ ms) (q ∷ qs) [] a b h = absurd a
+  ensured_laid (m ∷ ms) (q ∷ qs) (d ∷ ds) a b h =
+      laid_both i f t every [] b m.ensured (flat_map (λ m. m.ensured) ms) (a.0.ensured b h) (ensured_laid ms qs ds a.1 (b ++ m.ensured) (holds_more x.body b m.ensured h))
 
-  required_laid : (ms : List ModeText) (qs : ModeParts) → AreLaid i f t every [] (Holds x.body) ms qs → (b : List Part) → Holds x.body b →
+  required_laid : (ms : List ModeText) (qs : ModeParts) (ds : ModeNeeds) → AreLaid i f t every [] (Holds x.body) ms qs ds → (b : List Part) → Holds x.body b →
       Laid b (flat_map (λ m. m.required) ms)
-  required_laid [] [] a b h = λ g hb hq. tt
-  required_laid [] (q ∷ qs) a b h = absurd a
-  required_laid (m ∷ ms) [] a b h = absurd a
-  required_laid (m ∷ ms) (q ∷ qs) a b h =
+  required_laid [] [] [] a b h = λ g v hb hq. tt
+  required_laid [] (q ∷ qs) ds a b h = absurd a
+  required_laid [] [] (d ∷ ds) a b h = absurd a
+  required_laid (m ∷ ms) [] ds a b h = absurd a
+  required_laid (m ∷ ms) (q ∷ qs) [] a b h = absurd a
+  required_laid (m ∷ ms) (q ∷ qs) (d ∷ ds) a b h =
       laid_both i f t every [] b m.required (flat_map (λ m. m.required) ms) (a.0.required b h)
-      (required_laid ms qs a.1 (b ++ m.required) (holds_more x.body b m.required h))
+      (required_laid ms qs ds a.1 (b ++ m.required) (holds_more x.body b m.required h))
 
   front_laid : Laid x.body front
   front_laid =
@@ -142,8 +148,8 @@ module _ (p : Program) (c : IsChecked p) (i : Instance) (f : Frame) (t : ℕ) (e
       laid_both i f t every [] x.body two checks b (texts_laid (property_texts n.body) (properties_fit p c i s.unfolded s.declared) (x.body ++ two) (kept two)) in
       let e : Laid x.body four = laid_both i f t every [] x.body three k.guaranteed d (laid.own.guaranteed (x.body ++ three) (kept three)) in
       let h : Laid x.body five =
-      laid_both i f t every [] x.body four ensures e (ensured_laid k.modes (own_modes [] i) laid.own.modes (x.body ++ four) (kept four)) in
-      laid_both i f t every [] x.body five requires_ h (required_laid k.modes (own_modes [] i) laid.own.modes (x.body ++ five) (kept five))
+      laid_both i f t every [] x.body four ensures e (ensured_laid k.modes (own_modes [] i) (modes_need i) laid.own.modes (x.body ++ four) (kept four)) in
+      laid_both i f t every [] x.body five requires_ h (required_laid k.modes (own_modes [] i) (modes_need i) laid.own.modes (x.body ++ five) (kept five))
 
   -- ---- calls
 
@@ -257,7 +263,7 @@ module _ (p : Program) (c : IsChecked p) (i : Instance) (f : Frame) (t : ℕ) (e
 
   -- but for imports
   abbrev SiteHeld : Site → Type 0
-  SiteHeld z = ((xs : List Name) → z.manner ≡ as_import xs → ⊥) → Holds (sub z.number).body rs
+  SiteHeld z = ((xs : List Name) → z.manner ≡ as_import xs → ⊥) → SiteThere i [] sub n rs z
 
   import_sites : (ys : List ContractStatement) → AllByRecursion SiteHeld (flat_map import_site ys)
   import_sites [] = tt
@@ -275,40 +281,49 @@ module _ (p : Program) (c : IsChecked p) (i : Instance) (f : Frame) (t : ℕ) (e
       (all_flat SiteHeld (λ (q : Occurrence). site_in q.standing q.expression) (all_occurrences n)
       (all_flat (λ (q : Occurrence). AllByRecursion SiteHeld (site_in q.standing q.expression)) (λ (y : Text). occurrences n y.0 y.1) (texts n)
       (all_from (TextHeld g n rs) (λ (y : Text). AllByRecursion (λ (q : Occurrence). AllByRecursion SiteHeld (site_in q.standing q.expression)) (occurrences n y.0 y.1))
-      (λ y a. all_from (λ (q : Occurrence). AllByRecursion (λ (z : Site). Holds (sub z.number).body rs) (site_in q.standing q.expression))
+      (λ y a. all_from (λ (q : Occurrence). AllByRecursion (SiteThere i [] sub n rs) (site_in q.standing q.expression))
       (λ (q : Occurrence). AllByRecursion SiteHeld (site_in q.standing q.expression))
-      (λ q b. all_from (λ (z : Site). Holds (sub z.number).body rs) SiteHeld (λ z d h. d) (site_in q.standing q.expression) b) (occurrences n y.0 y.1) a)
+      (λ q b. all_from (SiteThere i [] sub n rs) SiteHeld (λ z d h. d) (site_in q.standing q.expression) b) (occurrences n y.0 y.1) a)
       (texts n) texts_held))) (import_sites cs))
 
   -- ---- what is owed
 
-  owed_there : (z : Site) (qs : ModeParts) → FrameLaid i f t every (z.number ∷ []) (sub z.number) qs → (b : List Part) → Holds (sub z.number).body b →
-      Laid b (sub z.number).contract.assumed
-  owed_there z qs a b h = lowered i f t every [] z.number b (sub z.number).contract.assumed (a.own.settled b h) (a.own.assumed b h)
+  given_there : (k : ℕ) → CallIn [] k rs → (b : List Part) → Holds rs b → Behind i f t every [] b (GivenTo i f t [] k b)
+  given_there k y b h inside above hb =
+      given_among i f t [] k rs b (held_among rs b h)
+      (call_given i f t every [] k [] rs (laid_both i f t every [] [] x.body front (laid.own.body []) front_laid inside (given_top i f t [])
+      (λ r m. absurd m) (λ r m. hb r (held_among rs b h r m))) y)
 
-  owed_one : (z : Site) (m : Manner) → z.manner ≡ m → SiteHeld z → (qs : ModeParts) → FrameLaid i f t every (z.number ∷ []) (sub z.number) qs → (b : List Part) →
-      Holds rs b → Laid b (owed z m (sub z.number).contract)
-  owed_one z (as_import xs) e h qs a b r = λ g hb hq. tt
-  owed_one z plain e h qs a b r = owed_there z qs a b (holds_within (sub z.number).body rs b (h (λ xs q. no_plain xs (sym e ∙ q))) r)
+  owed_there : (z : Site) (qs : ModeParts) (ds : ModeNeeds) → FrameLaid i f t every (z.number ∷ []) (sub z.number) qs ds → SiteThere i [] sub n rs z →
+      (b : List Part) → Holds rs b → Laid b (sub z.number).contract.assumed
+  owed_there z qs ds a y b h =
+      let held : Holds (sub z.number).body b = holds_within (sub z.number).body rs b y.0 h in
+      lowered i f t every [] z.number b (sub z.number).contract.assumed (a.own.settled b held) (given_there z.number y.1 b h) (a.own.assumed b held)
+
+  owed_one : (z : Site) (m : Manner) → z.manner ≡ m → SiteHeld z → (qs : ModeParts) (ds : ModeNeeds) →
+      FrameLaid i f t every (z.number ∷ []) (sub z.number) qs ds → (b : List Part) → Holds rs b → Laid b (owed z m (sub z.number).contract)
+  owed_one z (as_import xs) e h qs ds a b r = λ g v hb hq. tt
+  owed_one z plain e h qs ds a b r = owed_there z qs ds a (h (λ xs q. no_plain xs (sym e ∙ q))) b r
     where
       no_plain : (xs : List Name) → plain ≡ as_import xs → ⊥
       no_plain xs q = cc
-  owed_one z (while_true y) e h qs a b r = owed_there z qs a b (holds_within (sub z.number).body rs b (h (λ xs q. no_while xs (sym e ∙ q))) r)
+  owed_one z (while_true y) e h qs ds a b r = owed_there z qs ds a (h (λ xs q. no_while xs (sym e ∙ q))) b r
     where
       no_while : (xs : List Name) → while_true y ≡ as_import xs → ⊥
       no_while xs q = cc
 
   each_owed : (is : Instances) (ss : List Site) (q : ℕ) → CallsFit IsKnown i is q → AreUnfolded p ss is → AllByRecursion SiteHeld ss →
       q + count_of is ≡ count_of (calls_of i) → (b : List Part) → Holds rs b → Laid b (owed_in_calls sub is)
-  each_owed no_instances ss q h v a e b r = λ g hb hq. tt
+  each_owed no_instances ss q h v a e b r = λ g v hb hq. tt
   each_owed (with_instance z y is) [] q h v a e b r = absurd v
   each_owed (with_instance z y is) (s ∷ ss) q h v a e b r =
       let held : SiteHeld z = subst SiteHeld (sym v.0) a.0 in
       let one : List Part = owed z z.manner (sub z.number).contract in
       let counted : suc q ≡ z.number = sym h.0.number in
       laid_both i f t every [] b one (owed_in_calls sub is)
-      (owed_one z z.manner refl held (slice_index_or (own_modes_each [] (calls_of i)) q [])
-      (subst (λ m. FrameLaid i f t every (m ∷ []) (sub m) (slice_index_or (own_modes_each [] (calls_of i)) q [])) counted (child q (omega (arith, e)))) b r)
+      (owed_one z z.manner refl held (slice_index_or (own_modes_each [] (calls_of i)) q []) (slice_index_or (modes_need_each (calls_of i)) q [])
+      (subst (λ m. FrameLaid i f t every (m ∷ []) (sub m) (slice_index_or (own_modes_each [] (calls_of i)) q [])
+      (slice_index_or (modes_need_each (calls_of i)) q [])) counted (child q (omega (arith, e)))) b r)
       (each_owed is ss (suc q) h.2 v.3 a.1 (omega (arith, e)) (b ++ one) (holds_more rs b one r))
 
   pub instant_laid : Laid [] (in_turn o i)

@@ -1,13 +1,14 @@
--- That what a part needs at its instant comes before it: the equations of the frames that it sees.
+-- That what a part needs at its instant comes before it: the equations of the frames that it sees, and what callers give to these.
 use Rattle.std.specs.Prelude.{◌≡◌, ℕ, ◌<◌, true, List, [], ◌∷◌, ◌++◌, Some, slice_get, ◌⊎◌}
 use Rattle.std.specs.List.{AllByRecursion}
 use Rattle.lus_tree.specs.Tree.{Name, Expression, pre, call, condact}
 use Rattle.lus_meaning.specs.Frame.{Frame}
-use Rattle.lus_meaning.specs.Scene.{Clock, Instance, component_of, clock_of_names}
+use Rattle.lus_meaning.specs.Scene.{Clock, while_true, Instance, component_of, clock_of_names}
 use Rattle.lus_meaning.specs.Run.{Equation, equations, inputs_of}
-use Rattle.lus_meaning.specs.Depends.{named_in, left_names}
+use Rattle.lus_meaning.specs.Depends.{the_beat, named_in, left_names}
 use Rattle.lus_meaning.specs.Program.{listed}
-use Rattle.lus_evaluation.specs.Part.{Part, needs_of}
+use Rattle.sys_meaning.specs.Defaults.{site_of}
+use Rattle.lus_evaluation.specs.Part.{Part, from_top, needs_of}
 use Rattle.lus_evaluation.specs.Evaluation.{is_above, gives_name, NeedsPlace, place_named}
 use Rattle.lus_evaluation.specs.Past.{NonePast}
 use Rattle.slot_values.specs.Resolution.{Resolution}
@@ -82,6 +83,24 @@ NeededInputsComeBefore =
     OfEachEvaluation (λ i m f qs. (t : ℕ) → t < m → (front : List Part) (q : Part) (rest : List Part) → qs ≡ front ++ q ∷ rest →
     (v : List ℕ) → IsCalled q.way q.expression v → (k : ℕ) (x : Name) (a : Expression) → slice_get (inputs_of (place_there i f v)) k ≡ Some x →
     slice_get (arguments_of q.expression) k ≡ Some a → NeedsPlace i q.needs (place_named v x) → IsEvaluatedIn i f t front q.way q.clock a)
+
+-- ---- what callers give
+
+-- An argument of a call, be it an import, is there when a part that sees the call's frame is evaluated, if the part's whole needs the input for which the
+-- argument stands.
+abbrev pub FrameInputsComeBefore : Type 0
+FrameInputsComeBefore =
+    OfEachEvaluation (λ i m f qs. (t : ℕ) → t < m → (front : List Part) (q : Part) (rest : List Part) → qs ≡ front ++ q ∷ rest →
+    (w : List ℕ) (k : ℕ) → Sees q (w ++ k ∷ []) → (n : ℕ) (x : Name) (a : Expression) →
+    slice_get (inputs_of (place_there i f (w ++ k ∷ []))) n ≡ Some x → slice_get (site_of (place_there i f w) k).arguments n ≡ Some a →
+    NeedsPlace i q.needs (place_named (w ++ k ∷ []) x) → IsEvaluatedIn i f t front w (site_of (place_there i f w) k).clock a)
+
+-- So is the condition while which a call runs, if the part's whole needs the beat of the call's frame.
+abbrev pub FrameConditionsComeBefore : Type 0
+FrameConditionsComeBefore =
+    OfEachEvaluation (λ i m f qs. (t : ℕ) → t < m → (front : List Part) (q : Part) (rest : List Part) → qs ≡ front ++ q ∷ rest →
+    (w : List ℕ) (k : ℕ) → Sees q (w ++ k ∷ []) → (a : Expression) → (site_of (place_there i f w) k).manner ≡ while_true a →
+    NeedsPlace i q.needs (from_top (w ++ k ∷ []) the_beat) → IsEvaluatedIn i f t front w (site_of (place_there i f w) k).clock a)
 
 -- ---- what is outside in the row of the run
 

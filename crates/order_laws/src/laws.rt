@@ -2,6 +2,7 @@
 
 ghost use Rattle.order_laws.specs.Laws.{ComesFirst, OperandsComeBefore, PartsHaveOwnPast, FirstPastByRows};
 ghost use Rattle.order_laws.specs.Needed.{NeededNamesComeBefore, NeededArgumentsComeBefore, NeededInputsComeBefore, RememberedOperandsAreWithin};
+ghost use Rattle.order_laws.specs.Needed.{FrameInputsComeBefore, FrameConditionsComeBefore};
 ghost use Rattle.order_laws.specs.Needed.{GivenNamesAreWithin, ArgumentsAreWithin, ConditionsAreWithin};
 ghost use Rattle.order_laws.specs.Rows.{RowsHaveOwnPast};
 
@@ -34,11 +35,15 @@ pub fn operands_come_before()
 /// In the evaluation of an instant of a run of such a declaration a name that a part needs at its instant, and that an
 /// equation gives, of the part's frame, of one on the way there or of the one that it calls: the right side of that
 /// equation comes before the part, with all its own parts. So does an argument, if the whole of its call needs all that
-/// the argument needs, as it does if it needs the input for which the argument stands.
+/// the argument needs, as it does if it needs the input for which the argument stands. And so do an argument of a call on
+/// the way to the part's frame, be it an import, if the part's whole needs the input for which it stands, and the
+/// condition while which such a call runs, if the part's whole needs the beat of the call's frame.
 pub fn needed_names_come_before()
     ensures names { NeededNamesComeBefore }
     ensures arguments { NeededArgumentsComeBefore }
     ensures inputs { NeededInputsComeBefore }
+    ensures frame_inputs { FrameInputsComeBefore }
+    ensures frame_conditions { FrameConditionsComeBefore }
 {}
 
 /// In the row of such a run: where no part of a front of the evaluation is outside 128 bits, the right sides that stand

@@ -113,11 +113,12 @@ own_among P g ns xs c (merged p y x z) a =
 own_among P g ns xs c (call p k h as_) a = right_part P (argument_parts g c as_ ++ g.body k) (part g ns xs c (call p k h as_) ∷ []) a
 own_among P g ns xs c (condact p k x h as_ ds) a =
     let l : List Part = part g ns xs c (condact p k x h as_ ds) ∷ [] in
-    let b = left_part P (parts g ns [] c x ++ argument_parts g c as_ ++ g.body k ++ operand_parts g ns c ds) l a in
-    let d = left_part P (parts g ns [] c x ++ argument_parts g c as_ ++ g.body k) (operand_parts g ns c ds) b in
-    let f = left_part P (parts g ns [] c x ++ argument_parts g c as_) (g.body k) d in
-    both_parts P (own_parts g ns [] c x) l (own_among P g ns [] c x (left_part P (parts g ns [] c x) (argument_parts g c as_) f))
-    (right_part P (parts g ns [] c x ++ argument_parts g c as_ ++ g.body k ++ operand_parts g ns c ds) l a)
+    let ms : List NeededPlace = needs_of g c x in
+    let b = left_part P (parts g ms [] c x ++ argument_parts g c as_ ++ g.body k ++ operand_parts g ns c ds) l a in
+    let d = left_part P (parts g ms [] c x ++ argument_parts g c as_ ++ g.body k) (operand_parts g ns c ds) b in
+    let f = left_part P (parts g ms [] c x ++ argument_parts g c as_) (g.body k) d in
+    both_parts P (own_parts g ms [] c x) l (own_among P g ms [] c x (left_part P (parts g ms [] c x) (argument_parts g c as_) f))
+    (right_part P (parts g ms [] c x ++ argument_parts g c as_ ++ g.body k ++ operand_parts g ns c ds) l a)
 own_among P g ns xs c (mode_name p d m) a = a
 
 -- where all parts of an expression are within, its resolution has no operation outside

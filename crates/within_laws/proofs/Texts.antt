@@ -28,7 +28,7 @@ use Rattle.order_laws.specs.Rows.{place_there}
 use Rattle.within_laws.specs.Laws.{AreQuiet}
 use Rattle.within_laws.specs.Texts.{IsQuiet, EachQuiet, IsGood, TextsAreQuiet}
 
-none_in : {X : Type 0} (xs ys : List X) → xs ++ ys ≡ [] → (xs ≡ []) × (ys ≡ [])
+pub none_in : {X : Type 0} (xs ys : List X) → xs ++ ys ≡ [] → (xs ≡ []) × (ys ≡ [])
 none_in [] ys e = (refl, e)
 none_in (x ∷ xs) ys e = cc
 
@@ -133,14 +133,14 @@ module _ (i : Instance) (f : Frame) (t : ℕ) (w : List ℕ) (sh : RowShows i f 
         ended (argument_parts g z.clock as_ ++ g.body k) (part g ns xs z.clock (call p k l as_))
         (both (argument_parts g z.clock as_) (g.body k) (quiet_arguments (within z) as_ a.1 a.0.1.0) a.0.1.1) h
     quiet_parts ns xs z (condact p k x l as_ ds) a h =
-        let condition = parts g ns [] z.clock x in
+        let condition = parts g (needs_of g z.clock x) [] z.clock x in
         let given = argument_parts g z.clock as_ in
         let kept = operand_parts g ns z.clock ds in
         ended (condition ++ given ++ g.body k ++ kept) (part g ns xs z.clock (condact p k x l as_ ds))
         (both (condition ++ given ++ g.body k) kept
         (both (condition ++ given) (g.body k)
         (both condition given
-        (quiet_parts ns [] (within z) x a.1
+        (quiet_parts (needs_of g z.clock x) [] (within z) x a.1
         (condition_of k (resolution_there i f w x) (component_of (call_instance j k)).outputs (is_on s z.clock t) a.0.0.0.outputs h))
         (quiet_arguments (within z) as_ a.2 a.0.1.0)) a.0.1.1) (quiet_operands ns (within z) ds a.3 a.0.1.2)) h
     quiet_parts ns xs z (mode_name p d m) a h =
