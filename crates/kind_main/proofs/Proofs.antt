@@ -26,7 +26,7 @@ use Rattle.kind_main.specs.Proved.{EndsProof}
 use Rattle.kind_main.proofs.Lists.{map_map}
 
 -- each property's mark has its label
-labels_so : (ms : List Mark) (qs : List Property) → ms ≡ map mark_of qs → map mark_text ms ≡ map label_of qs
+pub labels_so : (ms : List Mark) (qs : List Property) → ms ≡ map mark_of qs → map mark_text ms ≡ map label_of qs
 labels_so ms qs e = ap (map mark_text) e ∙ map_map mark_of mark_text qs
 
 pub proof_made : (o : Options) (p : Program) (d : Component) (vs : List Verdict) → AreTrueVerdicts o p d 0 (properties (instance_of p d)) vs

@@ -1,5 +1,7 @@
 //! The command `replay`.
-ghost use Rattle.std.specs.Prelude.{◌≡◌, ◌≤◌, ◌∷◌, [], length, IfOk, MatchResult};
+ghost use Rattle.std.specs.Prelude.{◌≡◌, ◌≤◌, ◌<◌, ◌∷◌, [], Some, length, IfOk, MatchResult};
+ghost use Rattle.lus_tree.specs.Lookup.{node_at, nodes_of};
+ghost use Rattle.lus_tree.specs.View.{node_view};
 ghost use Rattle.lus_meaning.specs.Fits.{FitsProgram};
 ghost use Rattle.lus_meaning.specs.TraceView.{trace_view};
 ghost use Rattle.lus_checked.specs.Program.{tree_of};
@@ -22,7 +24,7 @@ use lus_checked::Checked;
 use lus_meaning::Trace;
 use lus_properties::properties;
 use lus_streams::owner::Owner;
-use lus_tree::Pos;
+use lus_tree::{Node, Pos};
 use program_replay::{Replay, ReplayFault, replay};
 use std::alloc::{AllocError, Global};
 use term_laws::laws::{as_many_formulas, small_systems};
@@ -69,6 +71,17 @@ fn break_status(lines: &[Vec<u8>]) -> Status
     }
 }
 
+/// The node of that number among nodes and functions.
+fn replayed_node(checked: &Checked, number: u32) -> &Node
+    requires { number < length (nodes_of (tree_of checked.now)) }
+    ensures { node_at number (tree_of checked.now) ≡ Some (node_view result.now) }
+{
+    match checked.program().node(number) {
+        Some(node) => node,
+        None => unreachable!(),
+    }
+}
+
 /// What a replay shows.
 fn shown(
     alloc: Global,
@@ -82,9 +95,7 @@ fn shown(
     small_systems();
     as_many_formulas();
     let program = checked.program();
-    let Some(node) = program.node(replay.node()) else {
-        unreachable!();
-    };
+    let node = replayed_node(checked, replay.node());
     let properties = properties(alloc, program, Owner::Node(node))?;
     let mut lines = break_lines(alloc, &properties, replay)?;
     let status = break_status(&lines);
