@@ -17,3 +17,4 @@ pub mod Causes
 pub mod Judging
 pub mod Completing
 pub mod Givens
+pub mod Few

@@ -14,6 +14,7 @@ use Rattle.kind_engine.specs.Ready.{IsReady}
 use Rattle.kind_main.specs.declared.options.Options.{Options}
 use Rattle.kind_main.specs.Options.{IsInRange, options_plan}
 use Rattle.kind_main.specs.Verdicts.{IsAnalysed}
+use Rattle.kind_main.proofs.Few.{few}
 
 less-than-all : (k n : ℕ) → n ≤ k → k ≤ 20000 → n < 2 ^ 32
 less-than-all k n le most = omega (arith, le, most)
@@ -35,10 +36,7 @@ module _ (p : Program) (d : Component) (a : IsAnalysed p d) where
   narrow_of_all small = less-than-all 20000 (width (instance_of p d)) (narrow small) (omega arith)
 
   pub few_properties : SmallSystems → EachFormulas → length (properties (instance_of p d)) ≤ 500
-  few_properties small formulas =
-      let few = (small p None a.follows.limits d a.declared).properties in
-      let many = formulas p a.follows.rules d component in
-      omega (arith, few, many)
+  few_properties = few p d a.follows a.declared
 
   pub ready_system : MildSystems → SmallSystems → (o : Options) → IsInRange o → IsReady (system_of (instance_of p d)) (options_plan o)
   ready_system mild small o range =
