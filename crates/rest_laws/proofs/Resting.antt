@@ -46,13 +46,12 @@ use Rattle.order_laws.specs.Laws.{IsOneOf}
 use Rattle.order_laws.specs.Needed.{IsCalled, Sees, IsGiven, IsEvaluatedIn, NoneOutside, OfOperand}
 use Rattle.order_laws.specs.Rows.{place_there}
 use Rattle.order_laws.proofs.Bodies.{in_all, slice_in}
-use Rattle.order_laws.proofs.Frames.{StandsAt, stands_there}
+use Rattle.order_laws.proofs.Frames.{StandsAt, stands_there, same_place}
 use Rattle.order_laws.proofs.Placed.{all_in_self}
 use Rattle.rest_laws.specs.Rests.{part_reads}
 use Rattle.rest_laws.proofs.Clocks.{IsClockNamed, fitting_named}
 use Rattle.rest_laws.proofs.Facts.{in_of, IsEntered, fitting_call, AreGiven, Facts, PartAtoms, numbering_at, own_operands, resolution_read, part_read, evaluated_read, given_read, switch_is, left_of_all, one_equation}
 use Rattle.rest_laws.proofs.Set.{rested, is_entered, entered_in, entered_out, entered_parent, seen_calls, slot_own, name_in, ClockIs, switch_in, AtomsAre, atoms_in, above_itself, same_itself, is_pre, is_pre_of}
-use Rattle.order_laws.proofs.Trees.{same_place}
 use Rattle.rest_laws.proofs.Slots.{place_at, place_of_slot, slot_there}
 use Rattle.rest_laws.proofs.Sources.{Gives, Obliged, GoodAt, all_good}
 
