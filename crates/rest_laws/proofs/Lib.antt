@@ -7,3 +7,4 @@ pub mod Set
 pub mod Resting
 pub mod Made
 pub mod Build
+pub mod Conditions
