@@ -14,9 +14,10 @@ use Rattle.lus_meaning.proofs.Lists.{append_none, both_parts, map_append}
 use Rattle.lus_meaning.proofs.Now.{left_part, right_part}
 use Rattle.sys_meaning.specs.Slot.{beat, Place, own}
 use Rattle.sys_meaning.specs.Items.{Key, Known, known, ModeItem, mode_item, imported_item, Items, no_items, items_after, items_each}
+use Rattle.sys_meaning.specs.Defaults.{site_at, site_of}
 use Rattle.sys_meaning.specs.System.{number_of, below_call}
 use Rattle.sys_meaning.specs.WellTyped.{IsKnown, IsImport, StatementsFit, own_keys, count_of, CallFits, CallsFit, TreeFits}
-use Rattle.sys_meaning.proofs.Forward.{own_fits, drop_calls, first_instance, instance_dropped, calls_later, later_calls}
+use Rattle.sys_meaning.proofs.Forward.{own_fits, calls_fit, drop_calls, first_site, first_instance, site_dropped, instance_dropped, calls_later, later_calls}
 use Rattle.lus_evaluation.specs.Part.{Part, Setting, part, parts, needs_of, whole_parts, wholes}
 use Rattle.lus_evaluation.specs.Frame.{ModeText, ContractText, FrameText, no_text, Calls, setting, mode_text, imported_mode, contract_after, is_evaluated, call_parts, asserted_below, asserted_in_calls, Orders, text_over, text_at, frame_text, call_texts}
 use Rattle.lus_evaluation.specs.Frame as frames
@@ -31,6 +32,7 @@ use Rattle.evaluation_laws.specs.Rows.{numbers_there}
 use Rattle.slot_sources.specs.Rows.{slots_read}
 use Rattle.slot_sources.specs.Sources.{numbering_of, call_beat}
 use Rattle.condition_laws.specs.Conditions.{resolved, conditions_of, assumed, some_resolved, where_active, asserts_of, asserts_in, calls_asserts, legal_in, body_properties, one_mode, owed_by_site, owed_by_calls, properties_in}
+use Rattle.condition_laws.proofs.ItemsWithin.{text_called}
 use Rattle.condition_laws.proofs.Known.{items_ask_resolvings}
 use Rattle.order_laws.proofs.Bodies.{in_all}
 use Rattle.order_laws.proofs.Frames.{StandsAt, stands_called, same_place, numbers_further}
@@ -337,3 +339,230 @@ module _ (R : ℕ → Type 0) where
             subst (λ z. ItemsFine (numbers_there i (w ++ n ∷ [])) (frame_text o (w ++ z ∷ []) k).contract (conditions_of k)) same (items_fine (w ++ n ∷ []) k s)
         calls_fine w j (with_instance c k is) q t (suc p) n e l s =
             calls_fine w j is (suc q) t.2 p n (omega (arith, e)) (omega (arith, l)) s
+
+      -- ---- frames
+
+      where_read : (k : ℕ) → R k → (e : Resolution) → Reads e → Reads (where_active k e)
+      where_read k h e a = (h, both_parts R (slots_read e) [] a tt)
+
+      where_all : (at : Place → ℕ) (ws : List Resolving) → AllByRecursion (Fine at) ws → AllRead (map (where_active (at (own beat))) (map (λ v. v at) ws))
+      where_all at [] a = tt
+      where_all at (v ∷ ws) a = (where_read (at (own beat)) a.0.1 (v at) a.0.0, where_all at ws a.1)
+
+      at_frame : (at : Place → ℕ) (ws : List Resolving) → AllByRecursion (Fine at) ws → AllRead (map (λ v. v at) ws)
+      at_frame at [] a = tt
+      at_frame at (v ∷ ws) a = (a.0.0, at_frame at ws a.1)
+
+      texts_read : (w : List ℕ) (j : Instance) → StandsAt i f w j → (sub : Calls) (ts : List ModeText) (es : List Expression) →
+          Read (wholes (setting j w sub ts) base es) →
+          AllByRecursion (λ e. Reads (resolution (numbering_of j (numbers_there i w)) e) × R (numbers_there i w (own beat))) es
+      texts_read w j s sub ts [] a = tt
+      texts_read w j s sub ts (e ∷ es) a =
+          let g : Setting = setting j w sub ts in (
+            root_read w j s sub ts (needs_of g base e) e (left_part IsRead (whole_parts g [] base e) (wholes g base es) a),
+            texts_read w j s sub ts es (right_part IsRead (whole_parts g [] base e) (wholes g base es) a),
+          )
+
+      asserts_read : (g : Numbering) (es : List Expression) → AllByRecursion (λ e. Reads (resolution g e) × R (g.number (own beat))) es →
+          AllRead (map (λ e. where_active (g.number (own beat)) (resolution g e)) es)
+      asserts_read g [] a = tt
+      asserts_read g (e ∷ es) a = (where_read (g.number (own beat)) a.0.1 (resolution g e) a.0.0, asserts_read g es a.1)
+
+      asserted_there : (g : Setting) (c : Site) (u : FrameText) → Read (asserted_below g c u) → Read u.asserted
+      asserted_there g c u a = go u.body u.contract u.asserted a
+        where
+          go : (b : List Part) (k : ContractText) (qs : List Part) → Read (asserted_below g c record { body = b; contract = k; asserted = qs }) → Read qs
+          go b k [] a = tt
+          go b k (q ∷ qs) a =
+              right_part IsRead (cond (is_evaluated (component_of g.place) c c.manner) [] (call_parts g c record { body = b; contract = k; asserted = q ∷ qs }))
+              (q ∷ qs) a
+
+      -- the frame of a call
+      module _ (w : List ℕ) (j : Instance) (s : StandsAt i f w j) (c : Site) (k : Instance) (is : Instances) (p : ℕ) (fit : CallFits IsKnown j c k p)
+          (e : drop_calls p (calls_of j) ≡ with_instance c k is) where
+        site_here : site_of j (suc p) ≡ c
+        site_here = site_dropped (calls_of j) p c ∙ ap (λ y. first_site y (site_at no_instances 0)) e
+
+        instance_here : call_instance j (suc p) ≡ k
+        instance_here = instance_dropped (calls_of j) p ∙ ap (λ y. first_instance y no_instance) e
+
+        text_here : text_at (call_texts o w (calls_of j)) c.number ≡ frame_text o (w ++ c.number ∷ []) k
+        text_here =
+            ap (text_at (call_texts o w (calls_of j))) fit.number ∙ text_called o w j (suc p) fit.call.counted fit.call.listed
+            ∙ ap (λ z. frame_text o (w ++ z.number ∷ []) (call_instance j (suc p))) site_here ∙ ap (λ z. frame_text o (w ++ c.number ∷ []) z) instance_here
+
+        stands_here : StandsAt i f (w ++ c.number ∷ []) k
+        stands_here =
+            subst (λ n. StandsAt i f (w ++ n ∷ []) k) (sym fit.number)
+            (subst (λ y. StandsAt i f (w ++ suc p ∷ []) y) instance_here (stands_called i f w j s (suc p) fit.call.counted fit.call.listed))
+
+      mutual
+        all_asserts : (w : List ℕ) (j : Instance) → StandsAt i f w j → TreeFits IsKnown j → (at : Place → ℕ) → numbers_there i w ≡ at →
+            Read (frame_text o w j).asserted → AllRead (asserts_in j at)
+        all_asserts w (instance d cs is) s t at k a =
+            let j : Instance = instance d cs is in
+            let sub : Calls = text_at (call_texts o w is) in
+            let ts : List ModeText = (frame_text o w j).contract.modes in
+            let own_ones : List Part = wholes (setting j w sub ts) base (assertions d.body) in
+            let calls : List Part = asserted_in_calls (setting j w sub ts) sub is in
+            both_parts Reads (asserts_of (numbering_of j at)) (calls_asserts (numbering_of j at) is)
+            (subst (λ y. AllRead (asserts_of (numbering_of j y))) k
+            (asserts_read (numbering_of j (numbers_there i w)) (assertions d.body)
+            (texts_read w j s sub ts (assertions d.body) (left_part IsRead own_ones calls a))))
+            (below_asserts w j s at k (setting j w sub ts) is 0 refl t.1 (right_part IsRead own_ones calls a))
+
+        below_asserts : (w : List ℕ) (j : Instance) → StandsAt i f w j → (at : Place → ℕ) → numbers_there i w ≡ at → (g : Setting) (is : Instances) (p : ℕ) →
+            drop_calls p (calls_of j) ≡ is → CallsFit IsKnown j is p → Read (asserted_in_calls g (text_at (call_texts o w (calls_of j))) is) →
+            AllRead (calls_asserts (numbering_of j at) is)
+        below_asserts w j s at k g no_instances p e t a = tt
+        below_asserts w j s at k g (with_instance c z is) p e t a =
+            let sub : Calls = text_at (call_texts o w (calls_of j)) in
+            let one : List Part = asserted_below g c (sub c.number) in
+            let rest : List Part = asserted_in_calls g sub is in
+            both_parts Reads (asserts_in z (below_call c.number at)) (calls_asserts (numbering_of j at) is)
+            (all_asserts (w ++ c.number ∷ []) z (stands_here w j s c z is p t.0 e) t.1 (below_call c.number at)
+            (numbers_further w (number_of i) c.number ∙ ap (below_call c.number) k)
+            (subst (λ (u : FrameText). Read u.asserted) (text_here w j s c z is p t.0 e) (asserted_there g c (sub c.number) (left_part IsRead one rest a))))
+            (below_asserts w j s at k g is (suc p) (calls_later p (calls_of j) ∙ ap later_calls e) t.2 (right_part IsRead one rest a))
+
+      -- ---- what callees are owed
+
+      owed_read : (g : Numbering) (c : Site) (z : Instance) (m : Manner) (text : ContractText) →
+          (Read text.assumed → AllByRecursion (Fine (below_call c.number g.number)) (conditions_of z).assumes) → Read (turn.owed c m text) →
+          AllRead (owed_by_site g c m z)
+      owed_read g c z (as_import xs) text h a = tt
+      owed_read g c z plain text h a = where_all (below_call c.number g.number) (conditions_of z).assumes (h a)
+      owed_read g c z (while_true e) text h a = where_all (below_call c.number g.number) (conditions_of z).assumes (h a)
+
+      all_owed : (w : List ℕ) (j : Instance) → StandsAt i f w j → (at : Place → ℕ) → numbers_there i w ≡ at → (is : Instances) (p : ℕ) →
+          drop_calls p (calls_of j) ≡ is → CallsFit IsKnown j is p → Read (owed_in_calls (text_at (call_texts o w (calls_of j))) is) →
+          AllRead (owed_by_calls (numbering_of j at) is)
+      all_owed w j s at k no_instances p e t a = tt
+      all_owed w j s at k (with_instance c z is) p e t a =
+          let sub : Calls = text_at (call_texts o w (calls_of j)) in
+          let one : List Part = turn.owed c c.manner (sub c.number).contract in
+          let rest : List Part = owed_in_calls sub is in
+          both_parts Reads (owed_by_site (numbering_of j at) c c.manner z) (owed_by_calls (numbering_of j at) is)
+          (owed_read (numbering_of j at) c z c.manner (frame_text o (w ++ c.number ∷ []) z).contract
+          (λ y. subst (λ u. AllByRecursion (Fine u) (conditions_of z).assumes) (numbers_further w (number_of i) c.number ∙ ap (below_call c.number) k)
+          ((items_fine (w ++ c.number ∷ []) z (stands_here w j s c z is p t.0 e)).assumes y))
+          (subst (λ (u : FrameText). Read (turn.owed c c.manner u.contract)) (text_here w j s c z is p t.0 e) (left_part IsRead one rest a)))
+          (all_owed w j s at k is (suc p) (calls_later p (calls_of j) ∙ ap later_calls e) t.2 (right_part IsRead one rest a))
+
+      -- ---- modes, and properties of the body
+
+      all_ensured : (at : Place → ℕ) (ms : List ModeText) (qs : List (ModeItem Resolving)) → ModesFine at ms qs → Read (flat_map (λ m. m.ensured) ms) →
+          AllRead (flat_map (λ m. map (λ f. f at) m.ensures_each) qs)
+      all_ensured at [] [] h a = tt
+      all_ensured at [] (q ∷ qs) h a = absurd h
+      all_ensured at (m ∷ ms) [] h a = absurd h
+      all_ensured at (m ∷ ms) (q ∷ qs) h a =
+          both_parts Reads (map (λ f. f at) q.ensures_each) (flat_map (λ m. map (λ f. f at) m.ensures_each) qs)
+          (at_frame at q.ensures_each (h.0.ensured (left_part IsRead m.ensured (flat_map (λ m. m.ensured) ms) a)))
+          (all_ensured at ms qs h.1 (right_part IsRead m.ensured (flat_map (λ m. m.ensured) ms) a))
+
+      some_read : (at : Place → ℕ) (ms : List ModeText) (qs : List (ModeItem Resolving)) → ModesFine at ms qs → Read (flat_map (λ m. m.required) ms) →
+          Reads (some_resolved (map (λ m. m.asked at) qs))
+      some_read at [] [] h a = tt
+      some_read at [] (q ∷ qs) h a = absurd h
+      some_read at (m ∷ ms) [] h a = absurd h
+      some_read at (m ∷ ms) (q ∷ []) h a = h.0.required (left_part IsRead m.required (flat_map (λ m. m.required) ms) a)
+      some_read at (m ∷ ms) (q ∷ u ∷ qs) h a =
+          both_parts R (slots_read (q.asked at)) _ (h.0.required (left_part IsRead m.required (flat_map (λ m. m.required) ms) a))
+          (some_read at ms (u ∷ qs) h.1 (right_part IsRead m.required (flat_map (λ m. m.required) ms) a))
+
+      one_read_mode : (at : Place → ℕ) (ms : List ModeText) (qs : List (ModeItem Resolving)) → ModesFine at ms qs → Read (flat_map (λ m. m.required) ms) →
+          AllRead (one_mode qs at)
+      one_read_mode at ms [] h a = tt
+      one_read_mode at ms (q ∷ qs) h a = (some_read at ms (q ∷ qs) h a, tt)
+
+      body_read : (g : Numbering) (ss : List Statement) → AllByRecursion (λ e. Reads (resolution g e) × R (g.number (own beat))) (property_texts ss) →
+          AllRead (body_properties g ss)
+      body_read g [] a = tt
+      body_read g (property l ∷ ss) a = (a.0.0, body_read g ss a.1)
+      body_read g (equation xs e ∷ ss) a = body_read g ss a
+      body_read g (assertion e ∷ ss) a = body_read g ss a
+      body_read g (main_mark q ∷ ss) a = body_read g ss a
+
+      -- ---- the analysed declaration
+
+      module _ (s : StandsAt i f [] i) (a : Read (condition_parts (text_at (call_texts o [] (calls_of i))) (frame_text o [] i) i)) where
+        abbrev sub_here : Calls
+        sub_here = text_at (call_texts o [] (calls_of i))
+
+        abbrev text : FrameText
+        text = frame_text o [] i
+
+        abbrev checked : List Part
+        checked = wholes (setting i [] sub_here text.contract.modes) base (property_texts (component_of i).body)
+
+        abbrev q2 : List Part
+        q2 = text.contract.assumed ++ text.asserted
+
+        abbrev q3 : List Part
+        q3 = q2 ++ checked
+
+        abbrev q4 : List Part
+        q4 = q3 ++ text.contract.guaranteed
+
+        abbrev q5 : List Part
+        q5 = q4 ++ flat_map (λ m. m.ensured) text.contract.modes
+
+        abbrev q6 : List Part
+        q6 = q5 ++ flat_map (λ m. m.required) text.contract.modes
+
+        a6 : Read q6
+        a6 = left_part IsRead q6 (owed_in_calls sub_here (calls_of i)) a
+
+        a5 : Read q5
+        a5 = left_part IsRead q5 (flat_map (λ m. m.required) text.contract.modes) a6
+
+        a4 : Read q4
+        a4 = left_part IsRead q4 (flat_map (λ m. m.ensured) text.contract.modes) a5
+
+        a3 : Read q3
+        a3 = left_part IsRead q3 text.contract.guaranteed a4
+
+        a2 : Read q2
+        a2 = left_part IsRead q2 checked a3
+
+        items : ItemsFine (numbers_there i []) text.contract (conditions_of i)
+        items = items_fine [] i s
+
+        pub legal_read : AllRead (legal_in i (number_of i))
+        legal_read =
+            both_parts Reads (assumed i (number_of i)) (asserts_in i (number_of i))
+            (at_frame (number_of i) (conditions_of i).assumes (items.assumes (left_part IsRead text.contract.assumed text.asserted a2)))
+            (all_asserts [] i s s.fits (number_of i) refl (right_part IsRead text.contract.assumed text.asserted a2))
+
+        abbrev Kinds : Instance → Type 0
+        Kinds j =
+            AllRead (body_properties (numbering_of j (number_of i)) (component_of j).body)
+            × AllRead (map (λ f. f (number_of i)) (conditions_of j).guarantees)
+            × AllRead (flat_map (λ m. map (λ f. f (number_of i)) m.ensures_each) (conditions_of j).modes)
+            × AllRead (one_mode (conditions_of j).modes (number_of i))
+            × AllRead (owed_by_calls (numbering_of j (number_of i)) (calls_of j))
+
+        together : (j : Instance) → Kinds j → AllRead (properties_in j (number_of i))
+        together (instance d cs is) k =
+            let j : Instance = instance d cs is in
+            let es1 : List Resolution = body_properties (numbering_of j (number_of i)) d.body in
+            let es2 : List Resolution = map (λ f. f (number_of i)) (conditions_of j).guarantees in
+            let es3 : List Resolution = flat_map (λ m. map (λ f. f (number_of i)) m.ensures_each) (conditions_of j).modes in
+            let es4 : List Resolution = one_mode (conditions_of j).modes (number_of i) in
+            both_parts Reads (es1 ++ es2 ++ es3 ++ es4) (owed_by_calls (numbering_of j (number_of i)) is)
+            (both_parts Reads (es1 ++ es2 ++ es3) es4 (both_parts Reads (es1 ++ es2) es3 (both_parts Reads es1 es2 k.0 k.1) k.2) k.3) k.4
+
+        pub properties_read : AllRead (properties_in i (number_of i))
+        properties_read =
+            together i (
+              body_read (numbering_of i (number_of i)) (component_of i).body
+                  (texts_read [] i s sub_here text.contract.modes (property_texts (component_of i).body) (right_part IsRead q2 checked a3)),
+              at_frame (number_of i) (conditions_of i).guarantees (items.guarantees (right_part IsRead q3 text.contract.guaranteed a4)),
+              all_ensured (number_of i) text.contract.modes (conditions_of i).modes items.modes
+                  (right_part IsRead q4 (flat_map (λ m. m.ensured) text.contract.modes) a5),
+              one_read_mode (number_of i) text.contract.modes (conditions_of i).modes items.modes
+                  (right_part IsRead q5 (flat_map (λ m. m.required) text.contract.modes) a6),
+              all_owed [] i s (number_of i) refl (calls_of i) 0 refl (calls_fit IsKnown i s.fits)
+                  (right_part IsRead q6 (owed_in_calls sub_here (calls_of i)) a),
+            )
