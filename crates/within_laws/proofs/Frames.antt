@@ -38,6 +38,7 @@ use Rattle.within_laws.specs.Texts.{IsQuiet, EachQuiet, LeavesQuiet, IsGood}
 use Rattle.within_laws.specs.Sources.{IsFrameQuiet}
 use Rattle.within_laws.specs.Frames.{OthersQuiet, AllTextsAreQuiet, AllSidesAreQuiet}
 use Rattle.within_laws.proofs.Texts.{quiet_parts}
+use Rattle.within_laws.proofs.Defaults.{defaults_quiet}
 use Rattle.within_laws.proofs.Facts.{frames_are_quiet}
 
 module _ (p : Program) (c : IsChecked p) where
@@ -83,7 +84,7 @@ module _ (p : Program) (c : IsChecked p) where
         let given = subst (λ y. EachQuiet i f t w y.clock (call_condition y y.manner ++ y.arguments)) r.0 (mine.calls k a.0.fits.0.number r.1) in (
           given.1,
           others.bodies k a.0.fits.0.number r.1,
-          subst (λ y. EachQuiet i f t w y.clock y.defaults) r.0 (others.defaults k a.0.fits.0.number r.1),
+          subst (λ y. EachQuiet i f t w y.clock y.defaults) r.0 (defaults_quiet p c i f t w u d k r.1),
         )
     leaves z (mode_name q x m) a = λ h ns.
         others.modes q x m a.fits.1 (subst (λ y. IsQuiet i f t w y (mode_name q x m)) a.fits.0 h) ns
@@ -104,6 +105,12 @@ module _ (p : Program) (c : IsChecked p) where
         (λ o y. (stand p c j u d o.standing o.expression y, leaves o.standing o.expression y)) (occurrences (component_of j) z e)
         (all_parts (Whole (Known j) (component_of j)) (component_of j) z e (nested (Known j) (component_of j) z e a))
 
+    -- a text that is known
+    pub text_quiet : (z : Standing) (e : Expression) → Knows z e → IsQuiet i f t w z.clock e → (ns : List NeededPlace) (xs : List Name) →
+        AreQuiet i f t (parts (setting_on i f w body asked) ns xs z.clock e)
+    text_quiet z e a h ns xs =
+        quiet_parts i f t w sh body asked ns xs z e (each_part (IsGood i f t w body asked) (component_of j) z e (all_good z e a)) h
+
     abbrev TextQuiet : Text → Type 0
     TextQuiet x = IsQuiet i f t w x.0.clock x.1 → (ns : List NeededPlace) (xs : List Name) →
         AreQuiet i f t (parts (setting_on i f w body asked) ns xs x.0.clock x.1)
@@ -111,8 +118,7 @@ module _ (p : Program) (c : IsChecked p) where
     pub texts_quiet : AllByRecursion TextQuiet (texts (component_of j))
     texts_quiet =
         all_from (KnownText p c j u d) TextQuiet
-        (λ x a h ns xs. quiet_parts i f t w sh body asked ns xs x.0 x.1
-        (each_part (IsGood i f t w body asked) (component_of j) x.0 x.1 (all_good x.0 x.1 a)) h) (texts (component_of j)) (known_texts p c j u d)
+        (λ x a h ns xs. text_quiet x.0 x.1 a h ns xs) (texts (component_of j)) (known_texts p c j u d)
 
     abbrev SideQuiet : Equation → Type 0
     SideQuiet e = AreQuiet i f t (equation_parts (setting_on i f w body asked) e)
@@ -121,8 +127,7 @@ module _ (p : Program) (c : IsChecked p) where
     sides_quiet =
         all_from_both (SideFits j) (λ e. IsQuiet i f t w (clock_of_names (component_of j) e.names) e.right) SideQuiet
         (λ e a h. let k : Clock = clock_of_names (component_of j) e.names in
-        quiet_parts i f t w sh body asked (needs_of (setting_on i f w body asked) k e.right) e.names (as_side k) e.right
-        (each_part (IsGood i f t w body asked) (component_of j) (as_side k) e.right (all_good (as_side k) e.right a.0)) h)
+        text_quiet (as_side k) e.right a.0 h (needs_of (setting_on i f w body asked) k e.right) e.names)
         (equations (component_of j)) (sides_fit p c j u d) mine.rights
 
 pub all_texts_are_quiet : AllTextsAreQuiet

@@ -17,24 +17,28 @@ use Rattle.slot_sources.specs.Source.{Source, listed}
 use Rattle.slot_sources.specs.Sources.{NameSources, paired, name_source, switch_of}
 use Rattle.row_laws.proofs.Given.{source_names}
 
-abbrev Finds : NameSources → Name × Source → Type 0
+-- names with what is given for them
+abbrev pub Finds : {A : Type 0} → List (Name × A) → Name × A → Type 0
 Finds p q = lookup (bytes_eq q.0) p ≡ Some q.1
 
-finds_later : (x : Name) (s : Source) (p q : NameSources) → named_in x (source_names q) ≡ false → AllByRecursion (Finds p) q →
+abbrev pub firsts : {A : Type 0} → List (Name × A) → List Name
+firsts p = map (λ q. q.0) p
+
+finds_later : {A : Type 0} (x : Name) (s : A) (p q : List (Name × A)) → named_in x (firsts q) ≡ false → AllByRecursion (Finds p) q →
     AllByRecursion (Finds ((x, s) ∷ p)) q
 finds_later x s p [] e a = tt
 finds_later x s p (k ∷ q) e a = (go (bytes_eq x k.0) refl (bytes_eq k.0 x) refl e, finds_later x s p q (rest (bytes_eq x k.0) e) a.1)
   where
-    rest : (c : Bool) → (c || named_in x (source_names q)) ≡ false → named_in x (source_names q) ≡ false
+    rest : (c : Bool) → (c || named_in x (firsts q)) ≡ false → named_in x (firsts q) ≡ false
     rest true h = absurd (true≢false h)
     rest false h = h
 
-    go : (c : Bool) → bytes_eq x k.0 ≡ c → (g : Bool) → bytes_eq k.0 x ≡ g → (c || named_in x (source_names q)) ≡ false → Finds ((x, s) ∷ p) k
+    go : (c : Bool) → bytes_eq x k.0 ≡ c → (g : Bool) → bytes_eq k.0 x ≡ g → (c || named_in x (firsts q)) ≡ false → Finds ((x, s) ∷ p) k
     go true m g l h = absurd (true≢false h)
     go false m true l h = absurd (false≢true (sym m ∙ ap (bytes_eq x) (same_bytes k.0 x l) ∙ self_bytes x))
     go false m false l h = rw l a.0
 
-all_found : (p : NameSources) → AreDistinct (source_names p) → AllByRecursion (Finds p) p
+pub all_found : {A : Type 0} (p : List (Name × A)) → AreDistinct (firsts p) → AllByRecursion (Finds p) p
 all_found [] d = tt
 all_found (q ∷ p) d = (rw (self_bytes q.0) refl, finds_later q.0 q.1 p p d.0 (all_found p d.1))
 

@@ -1,6 +1,15 @@
+pub mod Lists
 pub mod Quiet
 pub mod Texts
 pub mod Made
 pub mod Given
 pub mod Facts
+pub mod SomeRun
+pub mod Slots
+pub mod Constants
+pub mod Defaults
 pub mod Frames
+pub mod Contracts
+pub mod Bodies
+pub mod Trees
+pub mod Instants

@@ -17,11 +17,11 @@ use Rattle.lus_meaning.specs.Refusals.{IsChecked}
 use Rattle.clock_laws.proofs.Made.{each_well_made}
 use Rattle.sys_meaning.proofs.Cells.{everywhere}
 
-abbrev of_sort : Sort → Value
+abbrev pub of_sort : Sort → Value
 of_sort Flags = flag true
 of_sort Numbers = whole (pos 0)
 
-of_sorts : (ss : List Sort) → have_sorts ss (map of_sort ss) ≡ true
+pub of_sorts : (ss : List Sort) → have_sorts ss (map of_sort ss) ≡ true
 of_sorts [] = refl
 of_sorts (Flags ∷ ss) = of_sorts ss
 of_sorts (Numbers ∷ ss) = of_sorts ss

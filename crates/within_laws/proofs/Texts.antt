@@ -28,7 +28,7 @@ use Rattle.order_laws.specs.Rows.{place_there}
 use Rattle.within_laws.specs.Laws.{AreQuiet}
 use Rattle.within_laws.specs.Texts.{IsQuiet, EachQuiet, IsGood, TextsAreQuiet}
 
-none_in : {X : Type 0} (xs ys : List X) → xs ++ ys ≡ [] → (xs ≡ []) × (ys ≡ [])
+pub none_in : {X : Type 0} (xs ys : List X) → xs ++ ys ≡ [] → (xs ≡ []) × (ys ≡ [])
 none_in [] ys e = (refl, e)
 none_in (x ∷ xs) ys e = cc
 

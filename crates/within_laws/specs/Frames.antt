@@ -7,7 +7,6 @@ use Rattle.lus_meaning.specs.Scene.{base, Instance, component_of, calls_of}
 use Rattle.lus_meaning.specs.Cycle.{Place as NeededPlace}
 use Rattle.lus_meaning.specs.Occurrences.{texts}
 use Rattle.lus_meaning.specs.Run.{equations}
-use Rattle.sys_meaning.specs.Defaults.{site_of}
 use Rattle.sys_meaning.specs.WellTyped.{count_of, IsKnown}
 use Rattle.lus_evaluation.specs.Part.{Part, ModeParts, key_of, asked_in, parts}
 use Rattle.lus_evaluation.specs.Frame.{equation_parts}
@@ -16,15 +15,12 @@ use Rattle.slot_sources.specs.Sources.{sources_of}
 use Rattle.evaluation_laws.specs.Rows.{row_at, OfEachFrame}
 use Rattle.order_laws.specs.Rows.{place_there}
 use Rattle.within_laws.specs.Laws.{AreQuiet}
-use Rattle.within_laws.specs.Texts.{IsQuiet, EachQuiet}
+use Rattle.within_laws.specs.Texts.{IsQuiet}
 use Rattle.within_laws.specs.Sources.{AreSourcesQuiet}
 
--- What is taken of others: what calls evaluate in their frames; the defaults of calls, which are constants; and what a mode requires, where what is worth its
--- name has no operation outside.
+-- What is taken of others: what calls evaluate in their frames; and what a mode requires, where what is worth its name has no operation outside.
 pub record OthersQuiet (i : Instance) (f : Frame) (t : ℕ) (w : List ℕ) (body : ℕ → List Part) (asked : ModeParts) : Type 0 where
   pub bodies : (k : ℕ) → 0 < k → pred k < count_of (calls_of (place_there i f w)) → AreQuiet i f t (body k)
-  pub defaults : (k : ℕ) → 0 < k → pred k < count_of (calls_of (place_there i f w)) →
-      EachQuiet i f t w (site_of (place_there i f w) k).clock (site_of (place_there i f w) k).defaults
   pub modes : (p : Place) (d : Option Spelled) (m : Spelled) → IsKnown (place_there i f w) (option_to_list (option_map text_of d), m.text) →
       IsQuiet i f t w base (mode_name p d m) → (ns : List NeededPlace) →
       AreQuiet i f t (asked_in (setting_on i f w body asked) ns (key_of (option_map text_of d) m.text))

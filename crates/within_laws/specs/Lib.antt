@@ -2,3 +2,4 @@ pub mod Laws
 pub mod Texts
 pub mod Sources
 pub mod Frames
+pub mod Instants
