@@ -8,3 +8,4 @@ pub mod Resting
 pub mod Made
 pub mod Build
 pub mod Conditions
+pub mod Main
