@@ -1,0 +1,5 @@
+pub mod OverSlots
+pub mod Listed
+pub mod Answer
+pub mod GivenHere
+pub mod RestsHere
