@@ -8,6 +8,14 @@
 # takes more than where the trace has no lines. Ends with status 1 where a replay takes 400
 # instructions or more, does not double with the instants or with the equations, or where the
 # reading takes 60 instructions a byte or more.
+#
+# Behind that the same of programs of 60 and of 120 equations of other kinds: with numbers, on two
+# clocks, with calls (half of them two deep), with calls that run while a condition is true, on a
+# clock that is on once in 1,000 instants, and with modes. What is done once, whatever the number of
+# instants, is what a replay of one instant takes; the replay of a trace is what a run takes more. It
+# may take 2,000 instructions for each equation, with those in callees, or mode at an instant, and is
+# to double with the instants and with the equations. What is done once may grow fourfold where the
+# equations double.
 set -eu
 
 top=$(pwd)
@@ -50,6 +58,76 @@ trace_of() {
             print ""
         }
         print "end" behind
+    }'
+}
+
+# A program of the kind `$1` with `$2` equations; of calls and modes with as many of these.
+program_of() {
+    awk -v kind="$1" -v count="$2" '
+    function listed(name, many,   i, text) {
+        text = name "0"
+        for (i = 1; i < many; i++) text = text ", " name i
+        return text
+    }
+    # the signal before the `i`-th one
+    function before(i) { return i ? "signal" (i - 1) : "value" }
+    function numbers(i,   b, x) {
+        b = before(i); x = "signal" i
+        if (i % 5 == 0) return "(value + " b " + 3 * pre " x ") mod 1000"
+        if (i % 5 == 1) return "0 -> (if " b " < value then pre " b " - 4 else " b ")"
+        if (i % 5 == 2) return b " * 7 div 5 + value"
+        if (i % 5 == 3) return "-" b " + 2"
+        return "(if " b " >= value then value else " b ")"
+    }
+    BEGIN {
+        print "node step(u : int; back : bool) returns (k : int);"
+        print "let k = if back then 0 else ((0 -> pre k) + u) mod 1000; tel"
+        print "node twice(u : int; back : bool) returns (k : int);"
+        print "let k = step(step(u, back), false) - 1; tel"
+        many = kind == "clocks" || kind == "slow" ? count / 3 : kind == "modes" ? 1 : count
+        print "node main(fast, rare : bool; value : int) returns (" listed("signal", many) " : int);"
+        if (kind == "modes") {
+            print "(*@contract"
+            for (i = 0; i < count; i++)
+                printf "  mode m%d (require value > %d; ensure signal0 > %d;);\n", i, i - 100, i - 101
+            print "  mode low (require value <= -100;);\n*)"
+        }
+        if (kind == "clocks") print "var " listed("f", many) " : int when fast; " listed("g", many) " : int when not rare;"
+        if (kind == "slow") print "var " listed("f", many) " : int when rare; " listed("h", many) " : int;"
+        print "let"
+        for (i = 0; i < many; i++) {
+            b = before(i); x = "signal" i
+            if (kind == "numbers") print "  " x " = " numbers(i) ";"
+            if (kind == "calls") print "  " x " = " (i % 2 ? "step" : "twice") "(" b ", rare);"
+            if (kind == "condacts") print "  " x " = condact(" (i % 2 ? "fast" : "not fast") ", step(" b ", rare), " i ");"
+            if (kind == "clocks") {
+                print "  f" i " = 0 -> (pre f" i " + (" b " when fast)) mod 100;"
+                print "  g" i " = (" b " when not rare) + 1;"
+                print "  " x " = (merge fast (true -> f" i ") (false -> value when not fast)) - (merge rare (true -> 0) (false -> g" i "));"
+            }
+            if (kind == "slow") {
+                print "  f" i " = 1 -> pre f" i " + 1;"
+                print "  h" i " = condact(rare, step(" b ", fast), " i ");"
+                print "  " x " = merge rare (true -> f" i ") (false -> (0 -> pre " x ") when not rare);"
+            }
+            if (kind == "modes") print "  " x " = value;"
+        }
+        print "  --%PROPERTY \"last\" " x " > " x " - 1;\ntel"
+    }'
+}
+
+# A trace of `$1` instants for it, behind whose end line `$2` stands.
+numbers_of() {
+    awk -v count="$1" -v behind="$2" 'BEGIN {
+        print "trace main " count
+        seed = 1
+        for (t = 0; t < count; t++) {
+            seed = (seed * 16807) % 2147483647
+            fast = fast " " (seed % 3 ? "true" : "false")
+            rare = rare " " (t % 1000 == 3 ? "true" : "false")
+            value = value " " seed % 199 - 99
+        }
+        print "fast" fast "\nrare" rare "\nvalue" value "\nend" behind
     }'
 }
 
@@ -110,4 +188,46 @@ for instants in 250 500 1001; do
         printf "%d %d %d %.1f\n", n, b, c, c / b
         if (c / b >= 60) exit 1
     }' || { echo "too slow"; exit 1; }
+done
+
+for instants in 1 250 500 1001; do
+    numbers_of $instants "" >"$work/numbers_$instants"
+    numbers_of $instants " x" >"$work/unread_$instants"
+done
+
+# What a replay of the kind's program of `$1` equations on `$2` instants takes more than the reading.
+replayed() {
+    whole=$(counted "$work/kind_$1" "$work/numbers_$2")
+    grep -q "^lawful $2 of $2" "$work/printed"
+    read=$(counted "$work/kind_$1" "$work/unread_$2")
+    echo $((whole - read))
+}
+
+echo "kind equations instants once instructions each growth-by-instants growth-by-equations growth-of-once"
+for kind in numbers clocks calls condacts slow modes; do
+    for equations in 60 120; do
+        program_of $kind $equations >"$work/kind_$equations"
+        once=$(replayed $equations 1)
+        fewer_once=0
+        if [ $equations -eq 120 ]; then fewer_once=$(cat "$work/once"); fi
+        echo "$once" >"$work/once"
+        earlier=0
+        for instants in 250 500 1001; do
+            count=$(($(replayed $equations $instants) - once))
+            fewer=0
+            if [ $equations -eq 120 ]; then fewer=$(cat "$work/kind_replay_$instants"); fi
+            echo "$count" >"$work/kind_replay_$instants"
+            awk -v k=$kind -v e=$equations -v n=$instants -v o="$once" -v g="$fewer_once" -v c="$count" -v p="$earlier" -v f="$fewer" 'BEGIN {
+                # of calls that are two deep and not, and of conditions, the equations in callees count
+                own = k == "calls" ? 3 * e : k == "condacts" ? 2 * e : k == "slow" ? 4 * e / 3 : e
+                each = c / own / (n - 1)
+                by_instants = p ? sprintf("%.3f", c / p) : "-"
+                by_equations = f ? sprintf("%.3f", c / f) : "-"
+                of_once = g ? sprintf("%.3f", o / g) : "-"
+                printf "%s %d %d %d %d %.1f %s %s %s\n", k, e, n, o, c, each, by_instants, by_equations, of_once
+                if (each >= 2000 || (p && (c / p < 1.8 || c / p > 2.2)) || (f && (c / f < 1.8 || c / f > 2.2)) || (g && o / g >= 4)) exit 1
+            }' || { echo "too slow, or not linear"; exit 1; }
+            earlier=$count
+        done
+    done
 done

@@ -4,7 +4,7 @@ use Rattle.lus_meaning.specs.Scene.{Instance}
 use Rattle.lus_evaluation.specs.Frame.{picked}
 use Rattle.lus_evaluation.specs.Turn.{in_turn}
 use Rattle.evaluation_rows.specs.Orders.{OrderTree, order_tree, no_trees, with_tree, orders_of}
-use Rattle.evaluation_rows.specs.OrderRows.{Evaluated, shown, Evaluates, operating, operating_parts, calling_next, calling_parts, condact_next, condact_parts, with_import, import_parts, late_pre, late_parts, calling_late, late_call_parts, with_conditions, condition_parts, with_mode, mode_parts, one_equation, in_one_call}
+use Rattle.evaluation_rows.specs.OrderRows.{Evaluated, shown, Evaluates, operating, operating_parts, calling_next, calling_parts, condact_next, condact_parts, with_import, import_parts, late_pre, late_parts, calling_late, late_call_parts, late_condact, late_condact_parts, with_conditions, condition_parts, with_mode, mode_parts, one_equation, in_one_call}
 use Rattle.evaluation_rows.proofs.EvaluationTest.{least_in, least_waits, evaluation_by}
 
 evaluates : (m : ℕ) (i : Instance) (t : OrderTree) (ks : List ℕ) (es : Evaluated) → least_in m i t ≡ true →
@@ -35,6 +35,11 @@ pub late_callee : Evaluates calling_late late_call_parts
 late_callee =
     evaluates 10 calling_late (order_tree (0 ∷ 1 ∷ []) (with_tree (order_tree (0 ∷ 1 ∷ []) no_trees) no_trees))
     (1 ∷ 5 ∷ 6 ∷ 10 ∷ 11 ∷ 12 ∷ 13 ∷ 14 ∷ 15 ∷ 0 ∷ 7 ∷ 8 ∷ 9 ∷ 2 ∷ 3 ∷ 4 ∷ []) late_call_parts refl refl refl
+
+pub late_condition : Evaluates late_condact late_condact_parts
+late_condition =
+    evaluates 10 late_condact (order_tree (0 ∷ []) (with_tree one_equation (with_tree one_equation no_trees)))
+    (1 ∷ 2 ∷ 3 ∷ 4 ∷ 5 ∷ 6 ∷ 7 ∷ 8 ∷ 9 ∷ 13 ∷ 15 ∷ 16 ∷ 17 ∷ 0 ∷ 10 ∷ 11 ∷ 12 ∷ 14 ∷ []) late_condact_parts refl refl refl
 
 pub conditions : Evaluates with_conditions condition_parts
 conditions =

@@ -213,6 +213,62 @@ late_call_parts =
     ∷ below more_than_q
     ∷ []
 
+-- node square(b : int) returns (o : int); let o = b * b; tel
+-- node delayed(i : int) returns (y : int); let y = 0 -> pre i; tel
+-- node main(d, b : int) returns (x : int); let x = delayed(x + condact(d * d > 0, square(b), 0)); tel
+abbrev pub square : Component
+square =
+    declares (codes "square") (number_named "b" ∷ []) (number_named "o" ∷ []) [] None (sets "o" (combined Mul (the "b") (the "b")) ∷ [])
+
+abbrev pub delayed : Component
+delayed =
+    declares (codes "delayed") (number_named "i" ∷ []) (number_named "y" ∷ []) [] None
+    (sets "y" (followed 1 (literal 0) (previous 1 (the "i"))) ∷ [])
+
+abbrev pub squared_condition : Expression
+squared_condition = combined More (combined Mul (the "d") (the "d")) (literal 0)
+
+abbrev pub condact_of_square : Expression
+condact_of_square = calling_while 2 squared_condition "square" (the "b" ∷ []) (literal 0 ∷ [])
+
+abbrev pub late_sum : Expression
+late_sum = combined Add (the "x") condact_of_square
+
+abbrev pub late_condact_node : Component
+late_condact_node =
+    declares (codes "main") (number_named "d" ∷ number_named "b" ∷ []) (number_named "x" ∷ []) [] None
+    (sets "x" (calling 1 "delayed" (late_sum ∷ [])) ∷ [])
+
+abbrev pub late_condact : Instance
+late_condact = instance_of (declared_node square ∷ declared_node delayed ∷ declared_node late_condact_node ∷ []) late_condact_node
+
+-- an expression of the frame of the second call
+abbrev pub in_square : Expression → List ℕ × Expression
+in_square e = (2 ∷ [], e)
+
+-- the sum waits for `x`, and the condact with it; its condition and its callee do not
+abbrev pub late_condact_parts : Evaluated
+late_condact_parts =
+    main (the "d")
+    ∷ main (the "d")
+    ∷ main (combined Mul (the "d") (the "d"))
+    ∷ main (literal 0)
+    ∷ main squared_condition
+    ∷ main (the "b")
+    ∷ in_square (the "b")
+    ∷ in_square (the "b")
+    ∷ in_square (combined Mul (the "b") (the "b"))
+    ∷ below (literal 0)
+    ∷ below (previous 1 (the "i"))
+    ∷ below (followed 1 (literal 0) (previous 1 (the "i")))
+    ∷ main (calling 1 "delayed" (late_sum ∷ []))
+    ∷ main (the "x")
+    ∷ main (literal 0)
+    ∷ main condact_of_square
+    ∷ main late_sum
+    ∷ below (the "i")
+    ∷ []
+
 -- ---- conditions
 
 -- node positive(a : int) returns (o : bool); let assert a > 0; o = a > 1; tel

@@ -6,7 +6,8 @@ mod order_rows;
 mod past_rows;
 
 pub use order_rows::{
-    callee_row, conditions_row, import_row, late_callee_row, late_part_row, mode_row, operands_row,
+    callee_row, conditions_row, import_row, late_callee_row, late_condact_row, late_part_row,
+    mode_row, operands_row,
 };
 pub use past_rows::{
     callee_past_row, clocks_row, condact_row, growing_row, operators_row, two_values_row,

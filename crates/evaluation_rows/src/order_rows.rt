@@ -1,6 +1,6 @@
 //! Worked rows of the order in which an instant is evaluated, with the programs of `specs/OrderRows.antt`.
 
-ghost use Rattle.evaluation_rows.specs.OrderRows.{Evaluates, operating, operating_parts, calling_next, calling_parts, condact_next, condact_parts, with_import, import_parts, late_pre, late_parts, calling_late, late_call_parts, with_conditions, condition_parts, with_mode, mode_parts};
+ghost use Rattle.evaluation_rows.specs.OrderRows.{Evaluates, operating, operating_parts, calling_next, calling_parts, condact_next, condact_parts, with_import, import_parts, late_pre, late_parts, calling_late, late_call_parts, late_condact, late_condact_parts, with_conditions, condition_parts, with_mode, mode_parts};
 
 /// The operands of an operator come from left to right, inner ones first.
 pub fn operands_row()
@@ -29,6 +29,11 @@ pub fn late_part_row()
 /// under `pre` in the callee and reads that equation's name: of these that one comes last, though it stands first.
 pub fn late_callee_row()
     ensures { Evaluates calling_late late_call_parts }
+{}
+
+/// The condition of a condact is evaluated before the callee, also in a late argument: it waits for what it needs itself.
+pub fn late_condact_row()
+    ensures { Evaluates late_condact late_condact_parts }
 {}
 
 /// The conditions come behind the equations: assumptions, assertions, properties. A call that stands in no equation is

@@ -24,6 +24,7 @@ use Rattle.int_simplex.proofs.Starts.{in_yes, in_no}
 use Rattle.int_simplex.proofs.Turned.{there}
 use Rattle.int_simplex.proofs.Places.{at_listed, same_some}
 use Rattle.int_simplex.proofs.Kept.{values_fractions}
+use Rattle.int_simplex.specs.Seating.{AreSeats}
 use Rattle.int_simplex.proofs.Moves.{giving}
 use Rattle.int_simplex.proofs.Pasts.{basis_of}
 
@@ -230,15 +231,15 @@ tables_at columns bounds lowers lowers1 uppers uppers1 e f a =
     let R : ℕ → Type 0 = λ n. AreTables n bounds lowers1 uppers1 in
     let b = subst Q f (subst P e a) in subst R (sym b.lows.count) b
 
-pub first_at : (basis basis1 : List ℕ) (values values1 : List (ℤ × ℤ)) (lowers lowers1 uppers uppers1 : List (Option (ℤ × ℕ))) (places : List ℤ)
-    → basis1 ≡ basis → values1 ≡ values → lowers1 ≡ lowers → uppers1 ≡ uppers
-    → AreFirst basis1 values1 lowers1 uppers1 places → AreFirst basis values lowers uppers places
-first_at basis basis1 values values1 lowers lowers1 uppers uppers1 places a b c d h =
-    let A : List ℕ → Type 0 = λ x. AreFirst x values1 lowers1 uppers1 places in
+pub first_at : (n : ℕ) (basis : List ℕ) (seats seats1 : List (Option ℕ)) (values values1 : List (ℤ × ℤ))
+    (lowers lowers1 uppers uppers1 : List (Option (ℤ × ℕ))) (places : List ℤ)
+    → seats1 ≡ seats → values1 ≡ values → lowers1 ≡ lowers → uppers1 ≡ uppers → AreSeats n basis seats
+    → ((m : ℕ) (b : List ℕ) → AreSeats m b seats1 → AreFirst b values1 lowers1 uppers1 places) → AreFirst basis values lowers uppers places
+first_at n basis seats seats1 values values1 lowers lowers1 uppers uppers1 places a b c d s h =
     let B : List (ℤ × ℤ) → Type 0 = λ x. AreFirst basis x lowers1 uppers1 places in
     let C : List (Option (ℤ × ℕ)) → Type 0 = λ x. AreFirst basis values x uppers1 places in
     let D : List (Option (ℤ × ℕ)) → Type 0 = λ x. AreFirst basis values lowers x places in
-    subst D d (subst C c (subst B b (subst A a h)))
+    subst D d (subst C c (subst B b (h n basis (subst (AreSeats n basis) (sym a) s))))
 
 pub started : (basis basis1 : List ℕ) (trail trail1 : List Asserted) (values values1 : List (ℤ × ℤ)) (budget : ℕ) → basis1 ≡ basis
     → trail1 ≡ trail → values1 ≡ values

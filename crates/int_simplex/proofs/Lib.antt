@@ -39,6 +39,7 @@ pub mod Sparse
 pub mod Kept
 pub mod Crossings
 pub mod Holding
+pub mod Seating
 pub mod Sorting
 pub mod OnRows
 pub mod Calls

@@ -12,6 +12,7 @@ pub mod Sparse
 pub mod Making
 pub mod Crossing
 pub mod Holding
+pub mod Seating
 pub mod Pivoting
 pub mod Valued
 pub mod Choosing

@@ -14,6 +14,7 @@ mod moving;
 mod pivoting;
 mod refuting;
 mod run;
+mod seats;
 mod stopping;
 mod table;
 mod trouble;

@@ -3,6 +3,7 @@ ghost use lib.IntN.{ℤ};
 ghost use Rattle.proof_steps.specs.View.{row_view};
 ghost use Rattle.int_simplex.specs.State.{Standing};
 ghost use Rattle.int_simplex.specs.Holding.{lists_of, AreListed};
+ghost use Rattle.int_simplex.specs.Seating.{AreSeats};
 ghost use Rattle.int_simplex.specs.Running.{IsKept, AreTables, IsMove, IsTurnOf, IsCrossing, IsStopped, ArePlacesOf, AreLimitsOf, at as at_place};
 ghost use Rattle.proof_steps.specs.Pivots.{exchanged};
 ghost use Rattle.std.specs.Prelude.{slice_set};
@@ -11,6 +12,7 @@ use crate::answers::Farkas;
 use crate::choosing::{Exit, entering, leaving};
 use crate::pivoting::turn_rows;
 use crate::refuting::farkas_of;
+use crate::seats::reseat;
 use crate::trouble::Stopped;
 use crate::values::update_values;
 use std::alloc::Global;
@@ -65,6 +67,7 @@ pub(crate) fn turn(
     columns: u32,
     given: &[Vec<(u32, i128)>],
     basis: &mut Vec<u32>,
+    seats: &mut Vec<Option<usize>>,
     rows: &mut Vec<Vec<(u32, i128)>>,
     lists: &mut Vec<Vec<usize>>,
     values: &mut Vec<(i128, i128)>,
@@ -75,11 +78,13 @@ pub(crate) fn turn(
     requires kept { IsKept (map row_view given.now) (length places.old.items) basis.old.items
         (map row_view rows.old.items) places.old.items values.old.items }
     requires listed { AreListed columns (map row_view rows.old.items) (lists_of lists.old.items) }
+    requires seats { AreSeats columns basis.old.items seats.old.items }
     requires turn { IsCrossing basis.old.items (map row_view rows.old.items) (length places.old.items) out column }
     requires columns { columns ≡ length places.old.items }
     ensures kept { IfOk result (λ _. IsKept (map row_view given.now) (length places.old.items) basis.new.items
         (map row_view rows.new.items) places.new.items values.new.items) }
     ensures listed { IfOk result (λ _. AreListed columns (map row_view rows.new.items) (lists_of lists.new.items)) }
+    ensures seats { IfOk result (λ _. AreSeats columns basis.new.items seats.new.items) }
     ensures basis { IfOk result (λ _. basis.new.items ≡ map (exchanged out.column column) basis.old.items) }
     ensures places { IfOk result (λ _. places.new.items ≡ slice_set places.old.items out.column out.limit) }
     ensures past { IfErr result (λ e. (numbers : List ℤ) → ArePlacesOf numbers places.old.items
@@ -87,6 +92,7 @@ pub(crate) fn turn(
 {
     let touched = turn_rows(alloc, columns, rows, lists, out.at, column)?;
     basis[out.at] = column;
+    reseat(seats, out.at, out.column, column);
     places[out.column as usize] = out.limit;
     values[out.column as usize] = (out.limit, 1);
     update_values(alloc, given, basis, rows, places, &touched, values)?;

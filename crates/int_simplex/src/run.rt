@@ -1,4 +1,4 @@
-ghost use Rattle.std.specs.Prelude.{List, ◌≡◌, ◌<◌, ◌≤◌, IfOk, IfErr, length, map, Option, true};
+ghost use Rattle.std.specs.Prelude.{ℕ, List, ◌≡◌, ◌<◌, ◌≤◌, IfOk, IfErr, length, map, Option, true};
 ghost use lib.IntN.{ℤ};
 ghost use lib.Signed.{◌<ℤ◌};
 ghost use Rattle.proof_steps.specs.View.{row_view};
@@ -8,11 +8,12 @@ ghost use Rattle.int_simplex.specs.State.{Standing, plain, outside_from};
 ghost use Rattle.int_simplex.specs.Choosing.{bare};
 ghost use Rattle.int_simplex.specs.Inner.{standing};
 ghost use Rattle.int_simplex.specs.Holding.{lists_of, AreListed};
+ghost use Rattle.int_simplex.specs.Seating.{AreSeats};
 ghost use Rattle.int_simplex.specs.Running.{IsKept, IsReady, AreTables, AreFirst, IsStopped, IsWalked, IsAnswer, ArePlacesOf, AreLimitsOf, at as at_place};
 
 use crate::answers::Farkas;
-use crate::bounds::place_in;
 use crate::moving::{Move, next_move, turn};
+use crate::seats::seat_of;
 use crate::table::Asserted;
 use crate::trouble::Stopped;
 use crate::values::values_of;
@@ -39,15 +40,16 @@ fn plain_bounds(alloc: Global, trail: &[Asserted]) -> Result<Vec<(u32, bool, i12
 
 fn outside_places(
     alloc: Global,
-    basis: &[u32],
+    seats: &[Option<usize>],
     values: &[(i128, i128)],
 ) -> Result<Vec<(u32, i128)>, AllocError>
     requires { length values.now ≤ 4294967295 }
-    ensures { IfOk result (λ v. v.items ≡ outside_from 0 values.now basis.now) }
+    ensures { IfOk result (λ v. (n : ℕ) (basis : List ℕ) → AreSeats n basis seats.now
+        → v.items ≡ outside_from 0 values.now basis) }
 {
     let mut places = Vec::new(alloc);
     for c in 0..values.len() {
-        match place_in(basis, c as u32) {
+        match seat_of(seats, c as u32) {
             None => places.push((c as u32, values[c].0))?,
             Some(_) => {}
         }
@@ -59,11 +61,13 @@ fn outside_places(
 pub(crate) fn start_of(
     alloc: Global,
     basis: &[u32],
+    seats: &[Option<usize>],
     trail: &[Asserted],
     values: &[(i128, i128)],
     pivots: u64,
 ) -> Result<Start, AllocError>
-    requires { length values.now ≤ 4294967295 }
+    requires few { length values.now ≤ 4294967295 }
+    requires seats { AreSeats (length values.now) basis.now seats.now }
     ensures { IfOk result (λ s. start_view s ≡ record {
       basis = basis.now;
       bounds = map plain (map standing trail.now);
@@ -73,7 +77,7 @@ pub(crate) fn start_of(
     }) }
 {
     let bounds = plain_bounds(alloc, trail)?;
-    let places = outside_places(alloc, basis, values)?;
+    let places = outside_places(alloc, seats, values)?;
     Ok(Start {
         basis: Vec::from_slice(alloc, basis)?,
         bounds,
@@ -99,7 +103,7 @@ fn clamped(z: i128, low: Option<(i128, u32)>, high: Option<(i128, u32)>) -> i128
 // Where the columns stand as a run begins.
 pub(crate) fn first_places(
     alloc: Global,
-    basis: &[u32],
+    seats: &[Option<usize>],
     values: &[(i128, i128)],
     lowers: &[Option<(i128, u32)>],
     uppers: &[Option<(i128, u32)>],
@@ -107,11 +111,12 @@ pub(crate) fn first_places(
     requires few { length values.now ≤ 4294967295 }
     requires lowers { length lowers.now ≡ length values.now }
     requires uppers { length uppers.now ≡ length values.now }
-    ensures { IfOk result (λ v. AreFirst basis.now values.now lowers.now uppers.now v.items) }
+    ensures { IfOk result (λ v. (n : ℕ) (basis : List ℕ) → AreSeats n basis seats.now
+        → AreFirst basis values.now lowers.now uppers.now v.items) }
 {
     let mut places = Vec::new(alloc);
     for c in 0..values.len() {
-        let z = match place_in(basis, c as u32) {
+        let z = match seat_of(seats, c as u32) {
             None => values[c].0,
             Some(_) => 0,
         };
@@ -129,6 +134,7 @@ pub(crate) fn walk(
     lowers: &[Option<(i128, u32)>],
     uppers: &[Option<(i128, u32)>],
     basis: &mut Vec<u32>,
+    seats: &mut Vec<Option<usize>>,
     rows: &mut Vec<Vec<(u32, i128)>>,
     lists: &mut Vec<Vec<usize>>,
     values: &mut Vec<(i128, i128)>,
@@ -138,6 +144,7 @@ pub(crate) fn walk(
     requires ready { IsReady (map row_view given.now) (length lowers.now) basis.old.items
         (map row_view rows.old.items) }
     requires listed { AreListed columns (map row_view rows.old.items) (lists_of lists.old.items) }
+    requires seats { AreSeats columns basis.old.items seats.old.items }
     requires places { length places.old.items ≡ length lowers.now }
     requires uppers { length uppers.now ≡ length lowers.now }
     requires columns { columns ≡ length lowers.now }
@@ -149,6 +156,7 @@ pub(crate) fn walk(
         (length lowers.now) basis.new.items (map row_view rows.new.items) places.new.items values.new.items) }
     ensures listed { IfOk result (λ w. IsAnswer w → AreListed columns (map row_view rows.new.items)
         (lists_of lists.new.items)) }
+    ensures seats { IfOk result (λ w. IsAnswer w → AreSeats columns basis.new.items seats.new.items) }
     ensures past { IfErr result (λ e. (numbers : List ℤ) → ArePlacesOf numbers places.old.items
         → AreLimitsOf numbers lowers.now uppers.now → IsStopped (map row_view given.now)
         (length lowers.now) numbers e) }
@@ -165,7 +173,7 @@ pub(crate) fn walk(
                 }
                 left -= 1;
                 turn(
-                    alloc, columns, given, basis, rows, lists, values, places, out, column,
+                    alloc, columns, given, basis, seats, rows, lists, values, places, out, column,
                 )?;
             }
         }

@@ -8,11 +8,12 @@ ghost use Rattle.int_simplex.specs.Sound.{IsSound, IsRowIn};
 ghost use Rattle.int_simplex.specs.Answers.{IsNew, IsAsserted, IsCheckup, IsAnswered, a_bound};
 
 use crate::answers::{BoundFault, Checkup, Farkas, TableauFault};
-use crate::bounds::{is_across, place_in, tighter, undo};
+use crate::bounds::{is_across, tighter, undo};
 use crate::holders::listed;
 use crate::making::{first_basis, open_limits, row_copies, sorted_rows};
 use crate::refuting::literal_of;
 use crate::run::{Walked, first_places, start_of, walk};
+use crate::seats::{seat_of, seated};
 use crate::trouble::Stopped;
 use std::alloc::Global;
 use std::marker::Model;
@@ -33,6 +34,8 @@ pub struct Tableau {
     given: Vec<Vec<(u32, i128)>>,
     columns: u32,
     basis: Vec<u32>,
+    // For each column its place in the basis.
+    seats: Vec<Option<usize>>,
     rows: Vec<Vec<(u32, i128)>>,
     // For each column the places of the rows that hold it.
     lists: Vec<Vec<usize>>,
@@ -67,6 +70,7 @@ impl Tableau {
     {
         let given = row_copies(alloc, rows)?;
         let basis = first_basis(alloc, rows)?;
+        let seats = seated(alloc, columns, &basis)?;
         let rows = sorted_rows(alloc, rows, columns)?;
         let lists = listed(alloc, columns, &rows)?;
         let values = vec![in alloc; (0, 1); columns as usize]?;
@@ -76,6 +80,7 @@ impl Tableau {
             given,
             columns,
             basis,
+            seats,
             rows,
             lists,
             values,
@@ -144,7 +149,7 @@ impl Tableau {
         ensures in_range { IfSome result (λ r. IsWithin self.now.columns r.now) }
         ensures entries { IfSome result (λ r. HasNoZero r.now) }
     {
-        match place_in(&self.basis, column) {
+        match seat_of(&self.seats, column) {
             Some(k) => Some(&self.rows[k]),
             None => None,
         }
@@ -204,10 +209,17 @@ impl Tableau {
         ensures answer { IfOk result (IsCheckup self.old self.new pivots) }
         ensures kept { IfOk result (λ a. IsAnswered a → self.new.usable ≡ true) }
     {
-        let start = start_of(alloc, &self.basis, &self.trail, &self.values, pivots)?;
-        let mut places = first_places(
+        let start = start_of(
             alloc,
             &self.basis,
+            &self.seats,
+            &self.trail,
+            &self.values,
+            pivots,
+        )?;
+        let mut places = first_places(
+            alloc,
+            &self.seats,
             &self.values,
             &self.lowers,
             &self.uppers,
@@ -219,6 +231,7 @@ impl Tableau {
             &self.lowers,
             &self.uppers,
             &mut self.basis,
+            &mut self.seats,
             &mut self.rows,
             &mut self.lists,
             &mut self.values,

@@ -11,7 +11,7 @@ use std::alloc::Global;
 use std::{fs, io};
 
 /// A table of cases is a file, and what each of its lines says.
-const TABLES: [Table; 21] = [
+const TABLES: [Table; 22] = [
     ("first_replays", Ask::Replay),
     ("order_of_properties", Ask::Replay),
     ("order_of_equations", Ask::Replay),
@@ -20,7 +20,7 @@ const TABLES: [Table; 21] = [
     ("blanks_of_a_trace", Ask::Replay),
     ("longest_trace", Ask::Replay),
     ("comments", Ask::Replay),
-    ("not_built", Ask::Replay),
+    ("small_programs", Ask::Replay),
     ("broken_rules", Ask::Replay),
     ("no_tree", Ask::Replay),
     ("limits", Ask::Replay),
@@ -29,6 +29,7 @@ const TABLES: [Table; 21] = [
     ("proofs_of_operators", Ask::Prove),
     ("proofs_of_programs", Ask::Prove),
     ("traces_of_proofs", Ask::Replay),
+    ("replays_of_programs", Ask::Replay),
     ("other_words", Ask::Words),
     ("failing_calls", Ask::Calls),
     ("failing_proofs", Ask::Calls),

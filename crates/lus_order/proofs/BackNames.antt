@@ -16,13 +16,13 @@ use Rattle.way_laws.specs.Nodes.{of_name, NodeLeads}
 use Rattle.way_laws.proofs.Lists.{itself, one_named}
 use Rattle.way_laws.proofs.Nodes.{names_by_nodes}
 use Rattle.lus_meaning.specs.EquationFaults.{last_name}
-use Rattle.lus_order.specs.Graphs.{Rows, row_at, leads, is_marked, LeadsTo, AreReached}
+use Rattle.number_graphs.specs.Graphs.{Rows, row_at, leads, is_marked, LeadsTo, AreReached}
 use Rattle.lus_order.specs.Backs.{IsClosed, LeadsBack, AreFlagged, rows_of, any_marked, BacksAreOwn}
 use Rattle.lus_order.specs.MarkedNames.{is_marked_name}
 use Rattle.lus_order.specs.declared.sides.Side.{Side}
 use Rattle.lus_order.specs.Sides.{side_words, words_of}
 use Rattle.lus_order.proofs.FoundNodes.{streams_lead}
-use Rattle.lus_order.proofs.Searches.{or_cases, or_right}
+use Rattle.number_graphs.proofs.Searches.{or_cases, or_right}
 use Rattle.lus_order.proofs.ClosedRows.{last_row, inner_path, outer_path}
 use Rattle.lus_order.proofs.Stands.{listed_joined, none_stand, or_left}
 

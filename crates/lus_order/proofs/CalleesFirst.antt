@@ -19,7 +19,7 @@ use Rattle.name_table.proofs.Names.{itself, in_joined}
 use Rattle.way_laws.specs.Laws.{GoesLower}
 use Rattle.way_laws.proofs.Callees.{callees_lower}
 use Rattle.lus_order.specs.Declarations.{with_calls, are_known, is_next}
-use Rattle.lus_order.proofs.Searches.{or_right}
+use Rattle.number_graphs.proofs.Searches.{or_right}
 use Rattle.lus_order.proofs.Stands.{or_left}
 
 abbrev pub Entry : Type 0

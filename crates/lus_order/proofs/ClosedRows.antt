@@ -2,7 +2,7 @@
 use Rattle.std.proofs.Common.{◌≡◌, ℕ, ◌<◌, true, List, [], ◌∷◌, ◌++◌, length, refl, ap, ◌∙◌, sym}
 use Rattle.std.proofs.lemmas.List.{get_or_append_left}
 use Rattle.lus_meaning.specs.Order.{is_listed}
-use Rattle.lus_order.specs.Graphs.{Rows, row_at, leads, IsPath}
+use Rattle.number_graphs.specs.Graphs.{Rows, row_at, leads, IsPath}
 use Rattle.lus_order.specs.Backs.{IsClosed}
 
 pub last_row : (rows : Rows) (row : List ℕ) → row_at (rows ++ row ∷ []) (length rows) ≡ row

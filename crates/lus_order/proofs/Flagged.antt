@@ -9,7 +9,7 @@ use Rattle.lus_tree.specs.Reason.{Refused, cycle}
 use Rattle.lus_meaning.specs.Faults.{fault}
 use Rattle.lus_meaning.specs.WellMade.{AreDistinct}
 use Rattle.way_laws.specs.OwnGraph.{Summaries, LeadsTo as NamesLead, own_edges}
-use Rattle.lus_order.specs.Graphs.{Rows}
+use Rattle.number_graphs.specs.Graphs.{Rows}
 use Rattle.lus_order.specs.Backs.{LeadsBack, AreFlagged, fault_at_first, flagged_faults, AreNumbered, IsOnCircle, FlaggedAreCircles}
 use Rattle.lus_order.specs.OwnNodes.{AreNodes}
 use Rattle.lus_order.proofs.BackNames.{backs_own}

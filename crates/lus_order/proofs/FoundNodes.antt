@@ -13,7 +13,7 @@ use Rattle.way_laws.specs.OwnGraph.{Summaries, IsOwnWay, LeadsTo as NamesLead, F
 use Rattle.way_laws.specs.Nodes.{of_name, NodeLeads}
 use Rattle.way_laws.proofs.Lists.{itself, one_named}
 use Rattle.way_laws.proofs.Nodes.{names_by_nodes}
-use Rattle.lus_order.specs.Graphs.{Rows, IsPath, end_of, LeadsTo}
+use Rattle.number_graphs.specs.Graphs.{Rows, IsPath, end_of, LeadsTo}
 use Rattle.lus_order.specs.Numbered.{name_at}
 use Rattle.lus_order.specs.OwnNodes.{AreNodes, node_at}
 use Rattle.lus_order.specs.MarkedNames.{RowLeadsTo, RowsFind}

@@ -23,7 +23,7 @@ use Rattle.way_laws.specs.Circles.{free_clock}
 use Rattle.way_laws.specs.OwnGraph.{Edges, Finds, LeadsTo as NamesLead}
 use Rattle.lus_order.specs.declared.setting.Clocks.{Clocks}
 use Rattle.lus_order.specs.ClockCircles.{free_of, free_rows, marked_faults, IsClockCircle, MarkedAreCircles}
-use Rattle.lus_order.specs.Graphs.{Rows, row_at, leads, LeadsTo, AreOnCircles, is_marked}
+use Rattle.number_graphs.specs.Graphs.{Rows, row_at, leads, LeadsTo, AreOnCircles, is_marked}
 use Rattle.lus_order.specs.Numbered.{name_at, IsNumbered}
 use Rattle.lus_order.specs.OwnRows.{numbers_of}
 use Rattle.lus_order.specs.Reads.{clock_seen}
@@ -32,8 +32,8 @@ use Rattle.lus_order.specs.Streams.{AreTabled, names_of, with_all, with_sides}
 use Rattle.lus_order.proofs.Added.{added_is}
 use Rattle.lus_order.proofs.Declared.{tabled_clocks, tabled_length}
 use Rattle.lus_order.proofs.Numbered.{ways_numbered}
-use Rattle.lus_order.proofs.Paths.{one_step}
-use Rattle.lus_order.proofs.Searches.{or_cases}
+use Rattle.number_graphs.proofs.Paths.{one_step}
+use Rattle.number_graphs.proofs.Searches.{or_cases}
 use Rattle.lus_order.proofs.SiteCallees.{at_contains}
 use Rattle.lus_order.proofs.Stands.{names_stand, or_left}
 

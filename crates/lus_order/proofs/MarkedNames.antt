@@ -10,10 +10,10 @@ use Rattle.lus_meaning.proofs.Unique.{same_bytes}
 use Rattle.name_table.specs.Names.{add, number_of}
 use Rattle.name_table.proofs.Names.{in_joined}
 use Rattle.name_table.proofs.Numbers.{number_below}
-use Rattle.lus_order.specs.Graphs.{Rows, AreReached, is_marked}
+use Rattle.number_graphs.specs.Graphs.{Rows, AreReached, is_marked}
 use Rattle.lus_order.specs.MarkedNames.{RowLeadsTo, is_marked_name, with_marked, AreFound}
 use Rattle.lus_order.proofs.Added.{added_is}
-use Rattle.lus_order.proofs.Searches.{or_cases, or_right}
+use Rattle.number_graphs.proofs.Searches.{or_cases, or_right}
 use Rattle.lus_order.proofs.Stands.{or_left}
 
 module _ (marks : List Bool) (names : List Name) where

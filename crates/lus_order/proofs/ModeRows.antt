@@ -13,13 +13,14 @@ use Rattle.lus_order.specs.declared.setting.Clocks.{Clocks}
 use Rattle.lus_order.specs.declared.setting.Callees.{Callees}
 use Rattle.lus_order.specs.Reads.{Read, a_name, a_mode, callees_view, clocks_view, read_in}
 use Rattle.lus_order.specs.OwnReads.{expanded, AreFlagsOf}
-use Rattle.lus_order.specs.Rows.{ModeRows, known_row, number_list, read_row, read_rows, once, row_in, asked_row, listed_row, shared_row, imported_row, imported_rows, mode_rows_after, clock_row, side_clock, equation_row}
+use Rattle.lus_order.specs.Rows.{ModeRows, known_row, number_list, read_row, read_rows, row_in, asked_row, listed_row, shared_row, imported_row, imported_rows, mode_rows_after, clock_row, side_clock, equation_row}
+use Rattle.number_graphs.specs.Visits.{once}
 use Rattle.lus_order.specs.ModeRows.{AreModes}
 use Rattle.lus_order.specs.Stands.{Stands}
 use Rattle.lus_order.specs.Streams.{AreTabled, names_of}
 use Rattle.lus_order.proofs.Declared.{tabled_clocks, declared_clock, tabled_side}
 use Rattle.lus_order.proofs.OwnReads.{reads_own}
-use Rattle.lus_order.proofs.Searches.{once_listed}
+use Rattle.number_graphs.proofs.Searches.{once_listed}
 use Rattle.lus_order.proofs.Stands.{none_stand, stand_joined, name_stands, names_stand}
 
 -- ---- modes

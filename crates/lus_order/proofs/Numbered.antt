@@ -8,9 +8,9 @@ use Rattle.lus_meaning.specs.EquationFaults.{last_name}
 use Rattle.name_table.specs.Names.{number_of}
 use Rattle.name_table.proofs.Numbers.{name_of_number, number_below}
 use Rattle.way_laws.specs.OwnGraph.{Edges, IsOwnWay, Finds}
-use Rattle.lus_order.specs.Graphs.{Rows, leads, IsPath, end_of, LeadsTo}
+use Rattle.number_graphs.specs.Graphs.{Rows, leads, IsPath, end_of, LeadsTo}
 use Rattle.lus_order.specs.Numbered.{name_at, IsNumbered, WaysAreNumbered}
-use Rattle.lus_order.proofs.Paths.{leads_within, both_steps}
+use Rattle.number_graphs.proofs.Paths.{leads_within, both_steps}
 
 module _ (edges : Edges) (names : List Name) (list : ℕ → List Name) (rows : Rows) (is : IsNumbered edges names list rows) where
   abbrev found_from : ℕ → ℕ → Type 0

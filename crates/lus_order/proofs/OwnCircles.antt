@@ -17,7 +17,7 @@ use Rattle.lus_order.specs.declared.library.Library.{Library}
 use Rattle.lus_order.specs.declared.own.Own.{Own}
 use Rattle.lus_order.specs.Backs.{AreFlagged, AreNumbered, IsClosed, IsOnCircle, flagged_faults}
 use Rattle.lus_order.specs.ClockCircles.{IsClockCircle, free_rows, marked_faults}
-use Rattle.lus_order.specs.Graphs.{AreOnCircles, graph_view}
+use Rattle.number_graphs.specs.Graphs.{AreOnCircles, graph_view}
 use Rattle.lus_order.specs.Library.{library_view}
 use Rattle.lus_order.specs.Ordered.{NotesCircles, NotesOwn}
 use Rattle.lus_order.specs.Own.{IsOwn}

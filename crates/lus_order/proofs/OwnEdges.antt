@@ -16,10 +16,10 @@ use Rattle.name_table.proofs.Names.{itself as bytes_same}
 use Rattle.name_table.proofs.Numbers.{number_below, name_of_number, number_at, in_list}
 use Rattle.lus_order.specs.declared.setting.Clocks.{Clocks}
 use Rattle.lus_order.specs.declared.setting.Callees.{Callees}
-use Rattle.lus_order.specs.Graphs.{Rows, row_at}
+use Rattle.number_graphs.specs.Graphs.{Rows, row_at}
 use Rattle.lus_order.specs.Rows.{ModeRows, equation_row}
 use Rattle.lus_order.specs.OwnRows.{with_edge, with_left, with_lefts, with_equation, with_equations}
-use Rattle.lus_order.proofs.Searches.{or_cases, or_right}
+use Rattle.number_graphs.proofs.Searches.{or_cases, or_right}
 use Rattle.lus_order.proofs.Stands.{or_left, listed_joined}
 
 row_of : (rs : List (Vec ℕ Global)) (i : ℕ) (r : Vec ℕ Global) → i < length rs → r ≡ get_or rs i r → r.items ≡ row_at (map (λ v. v.items) rs) i

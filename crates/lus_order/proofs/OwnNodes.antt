@@ -15,7 +15,7 @@ use Rattle.way_laws.specs.OwnGraph.{Summaries, declared_reads, equation_reads}
 use Rattle.way_laws.specs.Nodes.{Node, of_name, of_equation, read_at, IsEdge, IsNodeWay, last_node, NodeLeads}
 use Rattle.lus_order.specs.declared.setting.Clocks.{Clocks}
 use Rattle.lus_order.specs.declared.setting.Callees.{Callees}
-use Rattle.lus_order.specs.Graphs.{Rows, row_at, leads, IsPath, end_of, LeadsTo}
+use Rattle.number_graphs.specs.Graphs.{Rows, row_at, leads, IsPath, end_of, LeadsTo}
 use Rattle.lus_order.specs.Numbered.{name_at}
 use Rattle.lus_order.specs.OwnReads.{AreFlagsOf}
 use Rattle.lus_order.specs.OwnRows.{clock_rows, numbers_of, own_rows}
@@ -27,8 +27,8 @@ use Rattle.lus_order.specs.Streams.{AreTabled, names_of}
 use Rattle.lus_order.proofs.Declared.{tabled_clocks, tabled_length, declared_clock, undeclared}
 use Rattle.lus_order.proofs.ModeRows.{modes_stand, equation_stands}
 use Rattle.lus_order.proofs.OwnEdges.{hits_are, are_hit, all_hits, Hit, all_length, all_names, all_equations}
-use Rattle.lus_order.proofs.Paths.{leads_within, one_step, both_steps}
-use Rattle.lus_order.proofs.Searches.{or_cases, or_right}
+use Rattle.number_graphs.proofs.Paths.{leads_within, one_step, both_steps}
+use Rattle.number_graphs.proofs.Searches.{or_cases, or_right}
 use Rattle.lus_order.proofs.Stands.{listed_joined, names_stand, or_left}
 
 -- ---- nodes of numbers

@@ -5,7 +5,7 @@ use Rattle.lus_meaning.specs.Run.{equations}
 use Rattle.way_laws.specs.Nodes.{of_equation, NodeLeads}
 use Rattle.way_laws.proofs.Nodes.{orders_by_nodes}
 use Rattle.way_laws.proofs.Orders.{same_orders}
-use Rattle.lus_order.specs.Graphs.{LeadsFrom}
+use Rattle.number_graphs.specs.Graphs.{LeadsFrom}
 use Rattle.lus_order.specs.OwnNodes.{node_at}
 use Rattle.lus_order.specs.OwnOrders.{OrdersAreLeast}
 use Rattle.lus_order.proofs.OwnNodes.{of_sum}

@@ -27,7 +27,7 @@ use Rattle.way_laws.specs.Summaries.{HoldsOf, HasMode, IsSummary}
 use Rattle.lus_order.specs.declared.library.Known.{Known}
 use Rattle.lus_order.specs.declared.library.Library.{Library}
 use Rattle.lus_order.specs.declared.own.Own.{Own}
-use Rattle.lus_order.specs.Graphs.{graph_view}
+use Rattle.number_graphs.specs.Graphs.{graph_view}
 use Rattle.lus_order.specs.KnownModes.{IsKnown}
 use Rattle.lus_order.specs.Learned.{flags_of, names_known, all_known, all_flags, IsConsistent, IsAdded, IsLearned}
 use Rattle.lus_order.specs.Library.{known_view, library_view, nothing_known}
@@ -40,7 +40,7 @@ use Rattle.lus_order.specs.SameCallees.{SameCallees}
 use Rattle.lus_order.specs.Streams.{names_of}
 use Rattle.lus_order.proofs.OwnNodes.{rows_nodes}
 use Rattle.lus_order.proofs.SameReads.{reads_by_callees}
-use Rattle.lus_order.proofs.Searches.{or_cases, or_right}
+use Rattle.number_graphs.proofs.Searches.{or_cases, or_right}
 use Rattle.lus_order.proofs.SiteCallees.{same_callees}
 use Rattle.lus_order.proofs.Stands.{or_left}
 use Rattle.lus_order.proofs.Summarised.{known_summaries}

@@ -13,7 +13,7 @@ use Rattle.name_table.specs.Names.{number_of}
 use Rattle.name_table.proofs.Names.{itself, in_joined}
 use Rattle.name_table.proofs.Numbers.{number_below, name_of_number, number_at, in_list}
 use Rattle.std.proofs.lemmas.List.Folds.{list_any-append}
-use Rattle.lus_order.proofs.Searches.{or_cases, or_right}
+use Rattle.number_graphs.proofs.Searches.{or_cases, or_right}
 use Rattle.lus_order.specs.Stands.{Stands}
 use Rattle.lus_order.specs.Rows.{number_list}
 use Rattle.lus_order.specs.OwnRows.{numbers_of}

@@ -22,7 +22,7 @@ use Rattle.lus_order.specs.declared.library.KnownMode.{KnownMode}
 use Rattle.lus_order.specs.declared.rows.Mode.{Mode}
 use Rattle.lus_order.specs.declared.setting.Clocks.{Clocks}
 use Rattle.lus_order.specs.declared.setting.Callees.{Callees}
-use Rattle.lus_order.specs.Graphs.{Rows}
+use Rattle.number_graphs.specs.Graphs.{Rows}
 use Rattle.lus_order.specs.KnownModes.{AreKnown, IsKnown, KnownAreSummaries}
 use Rattle.lus_order.specs.Library.{known_modes, known_view, texts_seen}
 use Rattle.lus_order.specs.MarkedNames.{AreFound, RowLeadsTo}
@@ -30,12 +30,13 @@ use Rattle.lus_order.specs.OwnNodes.{AreNodes, own_modes}
 use Rattle.lus_order.specs.OwnReads.{AreFlagsOf}
 use Rattle.lus_order.specs.OwnRows.{numbers_of}
 use Rattle.lus_order.specs.Reads.{callees_view, text_seen}
-use Rattle.lus_order.specs.Rows.{ModeRows, mode_view, known_row, mode_rows_after, once, asked_row, imported_rows}
+use Rattle.lus_order.specs.Rows.{ModeRows, mode_view, known_row, mode_rows_after, asked_row, imported_rows}
+use Rattle.number_graphs.specs.Visits.{once}
 use Rattle.lus_order.specs.Stands.{Stands}
 use Rattle.lus_order.specs.Streams.{AreTabled, names_of}
 use Rattle.lus_order.proofs.FoundNodes.{rows_find}
 use Rattle.lus_order.proofs.ModeRows.{known_stands, modes_stand}
-use Rattle.lus_order.proofs.Searches.{or_cases, or_right}
+use Rattle.number_graphs.proofs.Searches.{or_cases, or_right}
 use Rattle.lus_order.proofs.Stands.{names_stand, or_left}
 
 -- ---- mode by mode

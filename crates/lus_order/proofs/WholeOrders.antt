@@ -19,7 +19,7 @@ use Rattle.way_laws.proofs.Callees.{all_summaries_exact}
 use Rattle.way_laws.proofs.Circles.{circles_are_own}
 use Rattle.way_laws.proofs.Nodes.{names_by_nodes}
 use Rattle.way_laws.proofs.Rounds.{names_in_circles}
-use Rattle.lus_order.specs.Graphs.{Rows, HasCircle}
+use Rattle.number_graphs.specs.Graphs.{Rows, HasCircle}
 use Rattle.lus_order.specs.Library.{library_view}
 use Rattle.lus_order.specs.OwnNodes.{AreNodes, node_at}
 use Rattle.lus_order.specs.OwnOrders.{IsOrderOf}

@@ -15,7 +15,7 @@ use Rattle.name_table.proofs.Names.{distinct_added, itself, in_joined}
 use Rattle.lus_order.specs.declared.setting.Clocks.{Clocks}
 use Rattle.lus_order.specs.Reads.{clock_seen}
 use Rattle.lus_order.specs.Streams.{AreTabled, Widened, names_of, stream_clock, with_all, with_sides}
-use Rattle.lus_order.proofs.Searches.{or_right}
+use Rattle.number_graphs.proofs.Searches.{or_right}
 
 pub not_widened : (s : Clocks) → Widened s s
 not_widened s = record { others = []; names = sym (append-nil s.names); clocks = sym (append-nil (map clock_seen s.clocks.items)) }

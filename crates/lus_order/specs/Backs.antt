@@ -8,7 +8,7 @@ use Rattle.lus_meaning.specs.Faults.{fault}
 use Rattle.lus_meaning.specs.WellMade.{AreDistinct}
 use Rattle.name_table.specs.Names.{number_of}
 use Rattle.way_laws.specs.OwnGraph.{Summaries, LeadsTo as NamesLead, own_edges}
-use Rattle.lus_order.specs.Graphs.{Rows, row_at, leads, LeadsTo}
+use Rattle.number_graphs.specs.Graphs.{Rows, row_at, leads, LeadsTo}
 use Rattle.lus_order.specs.MarkedNames.{is_marked_name}
 use Rattle.lus_order.specs.OwnNodes.{AreNodes}
 

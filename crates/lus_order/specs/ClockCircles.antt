@@ -10,7 +10,7 @@ use Rattle.lus_meaning.specs.WellMade.{AreDistinct}
 use Rattle.way_laws.specs.Circles.{free_clock}
 use Rattle.way_laws.specs.OwnGraph.{LeadsTo}
 use Rattle.lus_order.specs.declared.setting.Clocks.{Clocks}
-use Rattle.lus_order.specs.Graphs.{Rows, AreOnCircles}
+use Rattle.number_graphs.specs.Graphs.{Rows, AreOnCircles}
 use Rattle.lus_order.specs.OwnRows.{numbers_of}
 use Rattle.lus_order.specs.Reads.{clock_seen}
 use Rattle.lus_order.specs.Streams.{AreTabled, with_sides}

@@ -8,7 +8,7 @@ use Rattle.way_laws.specs.Summaries.{IsSummary}
 use Rattle.lus_order.specs.declared.library.Known.{Known}
 use Rattle.lus_order.specs.declared.setting.Clocks.{Clocks}
 use Rattle.lus_order.specs.declared.setting.Callees.{Callees}
-use Rattle.lus_order.specs.Graphs.{Rows}
+use Rattle.number_graphs.specs.Graphs.{Rows}
 use Rattle.lus_order.specs.Library.{known_modes, known_view, texts_seen}
 use Rattle.lus_order.specs.MarkedNames.{AreFound}
 use Rattle.lus_order.specs.OwnNodes.{AreNodes, own_modes}

@@ -5,7 +5,7 @@ use Rattle.lus_meaning.specs.Depends.{named_in}
 use Rattle.lus_meaning.specs.WellMade.{AreDistinct}
 use Rattle.name_table.specs.Names.{add, number_of}
 use Rattle.way_laws.specs.OwnGraph.{Summaries, Finds, own_edges}
-use Rattle.lus_order.specs.Graphs.{Rows, LeadsTo, is_marked}
+use Rattle.number_graphs.specs.Graphs.{Rows, LeadsTo, is_marked}
 use Rattle.lus_order.specs.OwnNodes.{AreNodes}
 use Rattle.lus_order.specs.Stands.{Stands}
 

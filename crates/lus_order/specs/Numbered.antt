@@ -3,7 +3,7 @@ use Rattle.std.specs.Prelude.{◌≡◌, ◌↔◌, ℕ, ◌<◌, ◌≤◌, tru
 use Rattle.lus_tree.specs.Tree.{Name}
 use Rattle.lus_meaning.specs.Depends.{named_in}
 use Rattle.way_laws.specs.OwnGraph.{Edges, Finds}
-use Rattle.lus_order.specs.Graphs.{Rows, leads, LeadsTo}
+use Rattle.number_graphs.specs.Graphs.{Rows, leads, LeadsTo}
 
 abbrev pub name_at : List Name → ℕ → Name
 name_at names i = get_or names i []

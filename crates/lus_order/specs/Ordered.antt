@@ -9,7 +9,7 @@ use Rattle.way_laws.specs.OwnGraph.{Summaries}
 use Rattle.lus_order.specs.declared.own.Own.{Own}
 use Rattle.lus_order.specs.Backs.{AreFlagged, flagged_faults}
 use Rattle.lus_order.specs.ClockCircles.{free_rows, marked_faults}
-use Rattle.lus_order.specs.Graphs.{Rows, HasCircle, AreOnCircles, graph_view}
+use Rattle.number_graphs.specs.Graphs.{Rows, HasCircle, AreOnCircles, graph_view}
 use Rattle.lus_order.specs.OwnNodes.{AreNodes}
 use Rattle.lus_order.specs.OwnOrders.{IsOrderOf}
 use Rattle.lus_order.specs.Sides.{equations_view, words_of}

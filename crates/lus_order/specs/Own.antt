@@ -7,7 +7,7 @@ use Rattle.lus_meaning.specs.EquationFaults.{sides}
 use Rattle.lus_meaning.specs.WellMade.{AreDistinct}
 use Rattle.lus_order.specs.declared.library.Library.{Library}
 use Rattle.lus_order.specs.declared.own.Own.{Own}
-use Rattle.lus_order.specs.Graphs.{graph_view}
+use Rattle.number_graphs.specs.Graphs.{graph_view}
 use Rattle.lus_order.specs.Library.{library_view}
 use Rattle.lus_order.specs.OwnNodes.{HasLefts, own_modes}
 use Rattle.lus_order.specs.OwnRows.{own_rows}

@@ -10,7 +10,7 @@ use Rattle.way_laws.specs.OwnGraph.{Summaries}
 use Rattle.way_laws.specs.Nodes.{Node, of_name, of_equation, IsEdge, NodeLeads}
 use Rattle.lus_order.specs.declared.setting.Clocks.{Clocks}
 use Rattle.lus_order.specs.declared.setting.Callees.{Callees}
-use Rattle.lus_order.specs.Graphs.{Rows, leads, LeadsTo}
+use Rattle.number_graphs.specs.Graphs.{Rows, leads, LeadsTo}
 use Rattle.lus_order.specs.Numbered.{name_at}
 use Rattle.lus_order.specs.OwnReads.{AreFlagsOf}
 use Rattle.lus_order.specs.OwnRows.{own_rows}

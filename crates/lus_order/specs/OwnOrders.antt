@@ -6,7 +6,7 @@ use Rattle.lus_meaning.specs.Program.{instance_of}
 use Rattle.lus_meaning.specs.Run.{equations}
 use Rattle.lus_meaning.specs.EquationFaults.{left_faults}
 use Rattle.way_laws.specs.Laws.{OfEachByCallees}
-use Rattle.lus_order.specs.Graphs.{Rows, LeadsFrom}
+use Rattle.number_graphs.specs.Graphs.{Rows, LeadsFrom}
 use Rattle.lus_order.specs.OwnNodes.{AreNodes}
 
 -- of the numbers behind those of so many names

@@ -6,7 +6,7 @@ use Rattle.lus_meaning.specs.Run.{Equation}
 use Rattle.name_table.specs.Names.{number_of}
 use Rattle.lus_order.specs.declared.setting.Clocks.{Clocks}
 use Rattle.lus_order.specs.declared.setting.Callees.{Callees}
-use Rattle.lus_order.specs.Graphs.{Rows, row_at}
+use Rattle.number_graphs.specs.Graphs.{Rows, row_at}
 use Rattle.lus_order.specs.Reads.{clock_seen}
 use Rattle.lus_order.specs.Rows.{ModeRows, number_list, equation_row}
 

@@ -1,5 +1,5 @@
 -- What expressions and modes read, by the numbers of the streams.
-use Rattle.std.specs.Prelude.{ℕ, false, length, cond, List, [], ◌∷◌, ◌++◌, map, flat_map, option_to_list, replicate, unwrap_or}
+use Rattle.std.specs.Prelude.{ℕ, length, cond, List, [], ◌∷◌, ◌++◌, map, flat_map, option_to_list, unwrap_or}
 use Rattle.std.specs.Map.{lookup}
 use Rattle.lus_tree.specs.Tree.{Name, Spelled, Expression, Labelled, ContractStatement, assume, guarantee, ghost_variable, constant, mode, «import»}
 use Rattle.lus_meaning.specs.Run.{Equation}
@@ -10,7 +10,7 @@ use Rattle.lus_order.specs.declared.rows.Mode.{Mode}
 use Rattle.lus_order.specs.declared.setting.Clocks.{Clocks}
 use Rattle.lus_order.specs.declared.setting.Callees.{Callees}
 use Rattle.lus_order.specs.Reads.{Read, a_name, a_mode, text_seen, clocks_view, callees_view, read_in}
-use Rattle.lus_order.specs.Visits.{visited_all}
+use Rattle.number_graphs.specs.Visits.{once}
 use Rattle.way_laws.specs.OwnGraph.{Summary}
 
 -- modes by the import before them and their names, with the numbers of what they read
@@ -39,10 +39,6 @@ read_row names ms (a_mode key) = known_row ms key
 
 abbrev pub read_rows : List Name → ModeRows → List Read → List ℕ
 read_rows names ms rs = flat_map (read_row names ms) rs
-
--- each number of a list once, of those below a count
-abbrev pub once : ℕ → List ℕ → List ℕ
-once count ks = (visited_all (replicate count false, []) ks).1
 
 -- what an expression on a clock reads
 abbrev pub row_in : Clocks → Callees → ModeRows → List Name → Expression → List ℕ

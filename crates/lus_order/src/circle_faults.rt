@@ -4,12 +4,12 @@ ghost use Rattle.std.specs.Prelude.{◌≡◌, ◌↔◌, ◌≤◌, [], IfOk, c
 ghost use Rattle.lus_tree.specs.Tree.{text_of};
 ghost use Rattle.lus_scopes.specs.Least.{least_view, noted_all};
 ghost use Rattle.lus_order.specs.Backs.{AreFlagged, IsClosed, LeadsBack, any_marked, fault_at_first, flagged_faults, rows_of};
-ghost use Rattle.lus_order.specs.Graphs.{graph_view};
+ghost use Rattle.number_graphs.specs.Graphs.{graph_view};
 ghost use Rattle.lus_order.specs.Names.{words_view};
 ghost use Rattle.lus_order.specs.Sides.{side_words, words_of};
 
 use crate::found::{is_marked_name, reached_from};
-use crate::graph::Graph;
+use number_graphs::graph::Graph;
 use crate::rows::push_numbers;
 use crate::sides::Side;
 use lus_scopes::least::Least;

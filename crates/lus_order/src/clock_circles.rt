@@ -4,15 +4,15 @@ ghost use Rattle.std.specs.Prelude.{◌≡◌, [], IfOk, map};
 ghost use Rattle.lus_tree.specs.Tree.{text_of};
 ghost use Rattle.lus_scopes.specs.Least.{least_view, noted_all};
 ghost use Rattle.lus_order.specs.ClockCircles.{free_of, free_rows, marked_faults};
-ghost use Rattle.lus_order.specs.Graphs.{AreOnCircles, graph_view};
+ghost use Rattle.number_graphs.specs.Graphs.{AreOnCircles, graph_view};
 ghost use Rattle.lus_order.specs.Names.{words_view};
 ghost use Rattle.lus_order.specs.OwnRows.{numbers_of};
 ghost use Rattle.lus_order.specs.Reads.{clock_seen};
 ghost use Rattle.lus_order.specs.Sides.{equations_view};
 ghost use Rattle.lus_order.specs.Streams.{params_view, with_all, with_sides};
 
-use crate::circles::on_circles;
-use crate::graph::Graph;
+use number_graphs::circles::on_circles;
+use number_graphs::graph::Graph;
 use crate::rows::push_number;
 use crate::setting::Clocks;
 use crate::sides::Side;

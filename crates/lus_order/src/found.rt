@@ -2,12 +2,12 @@
 
 ghost use Rattle.std.specs.Prelude.{◌≡◌, ◌++◌, ◌∷◌, [], ◌≤◌, IfOk, length};
 ghost use Rattle.lus_order.specs.MarkedNames.{AreFound, is_marked_name, with_marked};
-ghost use Rattle.lus_order.specs.Graphs.{AreReached, graph_view};
+ghost use Rattle.number_graphs.specs.Graphs.{AreReached, graph_view};
 ghost use Rattle.lus_order.specs.Library.{texts_seen};
 ghost use Rattle.lus_order.specs.OwnRows.{numbers_of};
 
-use crate::graph::Graph;
-use crate::reach::reached;
+use number_graphs::graph::Graph;
+use number_graphs::reach::reached;
 use crate::rows::push_number;
 use name_table::NameTable;
 use std::alloc::{AllocError, Global};

@@ -3,10 +3,11 @@
 ghost use Rattle.std.specs.Prelude.{◌≡◌, ◌++◌, ◌∷◌, [], IfOk, length, map};
 ghost use Rattle.lus_tree.specs.View.{contract_item_view, expr_view, named_view, word_view};
 ghost use Rattle.lus_order.specs.Library.{known_modes, known_view, library_view, texts_seen};
-ghost use Rattle.lus_order.specs.Rows.{asked_row, imported_row, imported_rows, listed_row, mode_rows_after, mode_view, modes_view, once, shared_row};
+ghost use Rattle.lus_order.specs.Rows.{asked_row, imported_row, imported_rows, listed_row, mode_rows_after, mode_view, modes_view, shared_row};
+ghost use Rattle.number_graphs.specs.Visits.{once};
 
 use crate::library::{Known, KnownMode, Library};
-use crate::reach::once;
+use number_graphs::reach::once;
 use crate::rows::{Mode, push_asked, push_expression, push_number};
 use crate::setting::{Callees, Clocks};
 use lus_tree::{ContractItem, Expr, Named, PlacedName};

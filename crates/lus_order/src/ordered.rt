@@ -5,7 +5,7 @@ ghost use Rattle.lus_meaning.specs.Scene.{variables};
 ghost use Rattle.lus_meaning.specs.WellMade.{AreDistinct};
 ghost use Rattle.lus_scopes.specs.Least.{least_view};
 ghost use Rattle.lus_order.specs.Backs.{IsClosed};
-ghost use Rattle.lus_order.specs.Graphs.{graph_view};
+ghost use Rattle.number_graphs.specs.Graphs.{graph_view};
 ghost use Rattle.lus_order.specs.Library.{library_view};
 ghost use Rattle.lus_order.specs.Ordered.{IsOrdered, NotesCircles, NotesOwn};
 ghost use Rattle.lus_streams.specs.Owner.{owner_view};

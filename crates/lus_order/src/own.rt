@@ -4,16 +4,16 @@ ghost use Rattle.std.specs.Prelude.{◌≡◌, [], ℕ, IfOk, List, MatchOption,
 ghost use Rattle.lus_tree.specs.Tree.{Component, Program as ProgramTree};
 ghost use Rattle.lus_meaning.specs.Scene.{variables};
 ghost use Rattle.lus_meaning.specs.WellMade.{AreDistinct};
-ghost use Rattle.lus_order.specs.Graphs.{HasCircle, graph_view};
+ghost use Rattle.number_graphs.specs.Graphs.{HasCircle, graph_view};
 ghost use Rattle.lus_order.specs.Own.{IsOwn};
 ghost use Rattle.lus_order.specs.OwnOrders.{IsOrderOf};
 ghost use Rattle.lus_streams.specs.Owner.{owner_view};
 ghost use Rattle.lus_order.specs.Streams.{names_of};
 
-use crate::graph::Graph;
+use number_graphs::graph::Graph;
 use crate::library::Library;
 use crate::modes::modes_of;
-use crate::order_from::order_from;
+use number_graphs::order_from::order_from;
 use crate::own_rows::own_rows;
 use crate::rows::Mode;
 use crate::setting::Clocks;

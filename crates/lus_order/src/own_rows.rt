@@ -2,14 +2,14 @@
 
 ghost use Rattle.std.specs.Prelude.{◌≡◌, ◌++◌, ◌∷◌, ◌<◌, [], IfOk, flat_map, length, map};
 ghost use Rattle.lus_tree.specs.Tree.{text_of};
-ghost use Rattle.lus_order.specs.Graphs.{graph_view};
+ghost use Rattle.number_graphs.specs.Graphs.{graph_view};
 ghost use Rattle.lus_order.specs.Names.{words_view};
 ghost use Rattle.lus_order.specs.OwnRows.{clock_rows, numbers_of, own_rows, with_edge, with_equation, with_left, with_lefts};
 ghost use Rattle.lus_order.specs.Reads.{clock_seen};
 ghost use Rattle.lus_order.specs.Rows.{clock_row, equation_row, modes_view, side_clock};
 ghost use Rattle.lus_order.specs.Sides.{equation_view, equations_view};
 
-use crate::graph::Graph;
+use number_graphs::graph::Graph;
 use crate::rows::{Mode, push_expression, push_number};
 use crate::setting::{Callees, Clocks};
 use crate::sides::Side;

@@ -2,7 +2,7 @@
 
 ghost use Rattle.std.specs.Prelude.{◌≡◌, ◌++◌, ◌∷◌, ◌≤◌, [], IfOk, length, map};
 ghost use Rattle.lus_tree.specs.View.{param_view};
-ghost use Rattle.lus_order.specs.Graphs.{graph_view};
+ghost use Rattle.number_graphs.specs.Graphs.{graph_view};
 ghost use Rattle.lus_order.specs.KnownModes.{AreKnown, IsKnown};
 ghost use Rattle.lus_order.specs.Library.{known_modes, texts_seen};
 ghost use Rattle.lus_order.specs.MarkedNames.{AreFound};
@@ -11,7 +11,7 @@ ghost use Rattle.lus_order.specs.Rows.{ModeRows, mode_view, modes_view};
 ghost use Rattle.lus_order.specs.Streams.{names_of};
 
 use crate::found::{found_names, numbers_of};
-use crate::graph::Graph;
+use number_graphs::graph::Graph;
 use crate::library::{Known, KnownMode};
 use crate::own::Own;
 use crate::rows::{Mode, push_numbers};

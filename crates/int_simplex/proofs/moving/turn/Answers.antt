@@ -1,5 +1,5 @@
 use Rattle.std.specs.Int.{w128}
-use Rattle.std.specs.Prelude.{ℕ, ◌≡◌, ◌<◌, List, [], length, map, All, Contains, Some, slice_get, slice_set}
+use Rattle.std.specs.Prelude.{Option, ℕ, ◌≡◌, ◌<◌, List, [], length, map, All, Contains, Some, slice_get, slice_set}
 use Rattle.std.proofs.Common.{rules, ap, ◌∙◌, sym, subst, arith}
 use Rattle.std.proofs.lemmas.Option.{slice_get_within}
 use Rattle.std.proofs.lemmas.List.{length-map, length-set}
@@ -15,6 +15,8 @@ use Rattle.int_simplex.specs.Pivoting.{AreTurned}
 use Rattle.int_simplex.specs.Sparse.{IsSparse}
 use Rattle.int_simplex.specs.Valued.{place_at, AreValues, AreValuesBut, IsValuesPast}
 use Rattle.int_simplex.specs.Running.{IsReady}
+use Rattle.int_simplex.specs.Seating.{AreSeats}
+use Rattle.int_simplex.proofs.Seating.{seats_after}
 use Rattle.int_simplex.proofs.Turned.{there}
 use Rattle.int_simplex.proofs.Turns.{ready_after, set_exchanged, in-list, turn_stopped, values_stopped}
 use Rattle.int_simplex.proofs.Touched.{values_but, all_below}
@@ -215,6 +217,27 @@ returns-clause-kept c =
           (subst (λ (b : List ℕ). AreValues b (map row_view c.deref-2.result.now) c.deref-3.result.now c.update_values.new.values.items)
           c.deref.ensures.value a));
     }
+
+pub reseat-requires-clause-leaving : goal.reseat-requires-clause-leaving
+reseat-requires-clause-leaving c =
+    let h = in-list (length c.args.places.now.items) c.args.basis.now.items c.args.out.at c.args.out.column c.requires.kept.ready.in_range
+    c.requires.turn.stands in
+    let n = c.requires.seats.count in let m = c.requires.columns in omega arith
+
+pub reseat-requires-clause-entering : goal.reseat-requires-clause-entering
+reseat-requires-clause-entering c =
+    let h = c.requires.turn.in_range in
+    let n = c.requires.seats.count in let m = c.requires.columns in omega arith
+
+pub returns-clause-seats : goal.returns-clause-seats
+returns-clause-seats c =
+    let r = c.requires.kept.ready in let t = c.requires.turn in let m = c.requires.columns in
+    let h = in-list (length c.args.places.now.items) c.args.basis.now.items c.args.out.at c.args.out.column r.in_range t.stands in
+    let i = t.in_range in
+    subst (λ (s : List (Option ℕ)). AreSeats c.args.columns (slice_set c.args.basis.now.items c.args.out.at c.args.column) s)
+    (sym c.reseat.ensures)
+    (seats_after c.args.columns c.args.basis.now.items c.args.seats.now.items c.args.out.at c.args.out.column c.args.column
+    r.different t.stands t.differ (omega arith) (omega arith) c.requires.seats)
 
 pub returns-clause-basis : goal.returns-clause-basis
 returns-clause-basis c = set_exchanged c.args.basis.now.items c.args.out.at c.args.out.column c.args.column c.requires.kept.ready.different

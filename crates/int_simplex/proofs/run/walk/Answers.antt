@@ -74,6 +74,7 @@ loop-farkas-preserved c =
           (map row_view c.turn.new.rows.items) c.turn.new.places.items c.turn.new.values.items) g
           c.in_ok-turn-in-Pivot.ensures.kept;
       listed = c.in_ok-turn-in-Pivot.ensures.listed;
+      seats = c.in_ok-turn-in-Pivot.ensures.seats;
       way = λ bounds a. step_at (map row_view c.args.given.now) (length c.args.lowers.now) bounds c.args.pivots c.loop-farkas.left _
           c.loop-farkas.basis.items c.turn.new.basis.items
           c.loop-farkas.places.items c.turn.new.places.items c.in-Pivot.out c.in-Pivot.column c.if-left-eq0.false

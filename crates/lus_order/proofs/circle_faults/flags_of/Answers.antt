@@ -1,7 +1,7 @@
 use Rattle.std.proofs.Common.{◌≡◌, ◌↔◌, true, map, ◌∙◌, subst}
 use Rattle.lus_tree.specs.Tree.{text_of}
 use Rattle.lus_order.specs.Backs.{LeadsBack}
-use Rattle.lus_order.specs.Graphs.{graph_view}
+use Rattle.number_graphs.specs.Graphs.{graph_view}
 use Rattle.lus_order.specs.Names.{words_view}
 use Rattle.lus_order.proofs.BackNames.{flags_more}
 use Rattle.lus_order.proofs.circle_faults.flags_of.Goals as goal

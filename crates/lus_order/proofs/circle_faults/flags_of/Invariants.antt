@@ -1,6 +1,6 @@
 use Rattle.std.proofs.Common.{◌≡◌, take}
 use Rattle.lus_order.specs.Backs.{AreFlagged}
-use Rattle.lus_order.specs.Graphs.{graph_view}
+use Rattle.number_graphs.specs.Graphs.{graph_view}
 use Rattle.lus_order.specs.Sides.{words_of}
 use Rattle.lus_order.proofs.circle_faults.flags_of.Given as goal
 

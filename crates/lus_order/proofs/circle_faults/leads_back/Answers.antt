@@ -1,7 +1,7 @@
 use Rattle.std.proofs.Common.{◌≡◌, ◌↔◌, true, List, map, sym, subst, ap, ◌∙◌}
 use Rattle.lus_tree.specs.Tree.{Name, text_of}
 use Rattle.lus_order.specs.Backs.{LeadsBack, any_marked}
-use Rattle.lus_order.specs.Graphs.{graph_view}
+use Rattle.number_graphs.specs.Graphs.{graph_view}
 use Rattle.lus_order.specs.Names.{words_view}
 use Rattle.lus_order.proofs.BackNames.{marks_back}
 use Rattle.lus_order.proofs.circle_faults.leads_back.Goals as goal

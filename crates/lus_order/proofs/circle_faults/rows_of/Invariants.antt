@@ -1,7 +1,7 @@
 use Rattle.std.proofs.Common.{◌≡◌, ◌++◌, drop, map}
 use Rattle.lus_tree.specs.Tree.{text_of}
 use Rattle.lus_order.specs.Backs.{rows_of}
-use Rattle.lus_order.specs.Graphs.{graph_view}
+use Rattle.number_graphs.specs.Graphs.{graph_view}
 use Rattle.lus_order.specs.Names.{words_view}
 use Rattle.lus_order.proofs.circle_faults.rows_of.Given as goal
 

@@ -1,6 +1,6 @@
 use Rattle.std.proofs.Common.{◌≡◌, ◌++◌, drop, map}
 use Rattle.lus_order.specs.ClockCircles.{free_of, free_rows}
-use Rattle.lus_order.specs.Graphs.{graph_view}
+use Rattle.number_graphs.specs.Graphs.{graph_view}
 use Rattle.lus_order.specs.OwnRows.{numbers_of}
 use Rattle.lus_order.specs.Reads.{clock_seen}
 use Rattle.lus_order.proofs.clock_circles.free_rows.Given as goal

@@ -1,4 +1,4 @@
-use Rattle.lus_order.specs.Graphs.{graph_view}
+use Rattle.number_graphs.specs.Graphs.{graph_view}
 use Rattle.lus_order.specs.Library.{texts_seen}
 use Rattle.lus_order.proofs.MarkedNames.{marks_found}
 use Rattle.lus_order.proofs.found.found_names.Goals as goal

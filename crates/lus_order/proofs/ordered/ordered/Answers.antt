@@ -2,7 +2,7 @@ use Rattle.std.proofs.Common.{length, subst}
 use Rattle.std.specs.Prelude.{MatchOption}
 use Rattle.std.proofs.Math.Logic.{inl, inr}
 use Rattle.lus_scopes.specs.Least.{least_view}
-use Rattle.lus_order.specs.Graphs.{HasCircle, graph_view}
+use Rattle.number_graphs.specs.Graphs.{HasCircle, graph_view}
 use Rattle.lus_order.specs.OwnOrders.{IsOrderOf}
 use Rattle.lus_streams.specs.Owner.{owner_view}
 use Rattle.lus_order.proofs.OwnCircles.{circles_noted, closed_rows, flagged_nodes, within_rows}

@@ -1,6 +1,6 @@
 use Rattle.std.proofs.Common.{◌≡◌, drop, map}
 use Rattle.lus_tree.specs.Tree.{text_of}
-use Rattle.lus_order.specs.Graphs.{graph_view}
+use Rattle.number_graphs.specs.Graphs.{graph_view}
 use Rattle.lus_order.specs.Names.{words_view}
 use Rattle.lus_order.specs.OwnRows.{with_lefts}
 use Rattle.lus_order.proofs.own_rows.add_lefts.Given as goal

@@ -1,5 +1,5 @@
 use Rattle.std.proofs.Common.{◌≡◌, ◌++◌, drop, map}
-use Rattle.lus_order.specs.Graphs.{graph_view}
+use Rattle.number_graphs.specs.Graphs.{graph_view}
 use Rattle.lus_order.specs.OwnRows.{clock_rows, numbers_of}
 use Rattle.lus_order.specs.Reads.{clock_seen}
 use Rattle.lus_order.proofs.own_rows.clock_rows.Given as goal

@@ -1,5 +1,5 @@
 use Rattle.std.proofs.Common.{◌≡◌, drop}
-use Rattle.lus_order.specs.Graphs.{graph_view}
+use Rattle.number_graphs.specs.Graphs.{graph_view}
 use Rattle.lus_order.specs.OwnRows.{own_rows, with_equations}
 use Rattle.lus_order.specs.Rows.{modes_view}
 use Rattle.lus_order.specs.Sides.{equations_view}

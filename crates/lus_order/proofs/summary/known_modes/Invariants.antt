@@ -1,5 +1,5 @@
 use Rattle.std.proofs.Common.{◌≡◌, ◌++◌, take}
-use Rattle.lus_order.specs.Graphs.{graph_view}
+use Rattle.number_graphs.specs.Graphs.{graph_view}
 use Rattle.lus_order.specs.KnownModes.{AreKnown}
 use Rattle.lus_order.specs.Library.{known_modes, texts_seen}
 use Rattle.lus_order.specs.Rows.{modes_view}

@@ -1,11 +1,13 @@
-use Rattle.std.specs.Prelude.{ℕ, ◌≡◌, List, [], Option, true, false, map, replicate, Some, slice_get}
-use Rattle.std.proofs.Common.{ap, sym, subst}
+use Rattle.std.specs.Prelude.{ℕ, ◌≡◌, ◌<◌, All, List, [], Option, true, false, map, replicate, Some, slice_get}
+use Rattle.std.proofs.Common.{ap, ◌∙◌, sym, subst}
 use lib.IntN.{ℤ, pos}
 use Rattle.proof_steps.specs.View.{row_view}
 use Rattle.std.specs.declared.vec.Vec.{Vec}
 use Rattle.std.specs.declared.alloc.Global.{Global}
 use Rattle.int_simplex.specs.Holding.{lists_of, AreListed}
 use Rattle.int_simplex.specs.State.{Standing}
+use Rattle.int_simplex.specs.Seating.{AreSeats}
+use Rattle.int_simplex.proofs.Opposites.{first_basis}
 use Rattle.int_simplex.specs.Given.{last_columns}
 use Rattle.int_simplex.specs.Inner.{AreRows, IsFree, AreLimits, AreBefore, IsWithinColumns, standing}
 use Rattle.int_simplex.specs.declared.table.Asserted.{Asserted}
@@ -13,10 +15,15 @@ use Rattle.int_simplex.proofs.First.{free_first}
 use Rattle.int_simplex.proofs.Begun.{begun_sound, begun_rows, no_limits, sound_parts, same_pair, none_before, none_within}
 use Rattle.int_simplex.proofs.table.Tableau.new.Goals as goal
 
+pub seated-requires : goal.seated-requires
+seated-requires c =
+    subst (λ (b : List ℕ). All (λ k. k < c.args.columns) b) (sym (c.deref.ensures.value ∙ c.in_ok-basis.ensures))
+    (first_basis (map row_view c.args.rows.now) c.args.columns c.requires).in_range
+
 pub listed-requires : goal.listed-requires
 listed-requires c = λ k r e.
     (begun_rows (map row_view c.args.rows.now) c.args.columns c.requires (map row_view c.in_ok-rows.rows.items) c.in_ok-rows.ensures).sparse k r
-    (subst (λ (xs : List (Vec (ℕ × ℤ) Global)). slice_get (map row_view xs) k ≡ Some r) c.deref.ensures.value e)
+    (subst (λ (xs : List (Vec (ℕ × ℤ) Global)). slice_get (map row_view xs) k ≡ Some r) c.deref-2.ensures.value e)
 
 pub invariant_of-result : goal.invariant_of-result
 invariant_of-result c =
@@ -38,7 +45,8 @@ invariant_of-result c =
           (subst (λ (b : List ℕ). IsFree (map row_view c.args.rows.now) b) (sym eb) (free_first (map row_view c.args.rows.now)));
       listed = λ u.
           subst (λ (xs : List (Vec (ℕ × ℤ) Global)). AreListed c.args.columns (map row_view xs) (lists_of c.in_ok-lists.lists.items))
-          c.deref.ensures.value c.in_ok-lists.ensures;
+          c.deref-2.ensures.value c.in_ok-lists.ensures;
+      seats = λ u. subst (λ (b : List ℕ). AreSeats c.args.columns b c.in_ok-seats.seats.items) c.deref.ensures.value c.in_ok-seats.ensures;
       lowers = subst (λ (bs : List Standing). AreLimits c.args.columns false bs c.in_ok-lowers.lowers.items) (sym es)
           (subst (λ (ls : List (Option (ℤ × ℕ))). AreLimits c.args.columns false [] ls) (sym el) (no_limits c.args.columns false));
       uppers = subst (λ (bs : List Standing). AreLimits c.args.columns true bs c.in_ok-uppers.uppers.items) (sym es)

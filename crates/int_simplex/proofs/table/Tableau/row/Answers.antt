@@ -1,4 +1,4 @@
-use Rattle.std.specs.Prelude.{◌≡◌, ◌<◌, true, length, ℕ, map, Some, slice_get, List}
+use Rattle.std.specs.Prelude.{Contains, ◌≡◌, ◌<◌, true, length, ℕ, map, Some, slice_get, List}
 use Rattle.std.proofs.Common.{ap, ◌∙◌, sym, subst, arith, refl}
 use Rattle.std.proofs.lemmas.List.{length-map}
 use Rattle.std.proofs.lemmas.Option.{slice_get_read, slice_get_within}
@@ -6,6 +6,7 @@ use lib.IntN.{ℤ}
 use Rattle.proof_steps.specs.View.{row_view}
 use Rattle.int_simplex.specs.State.{State}
 use Rattle.int_simplex.specs.Sound.{IsRowIn}
+use Rattle.int_simplex.specs.Seating.{AreSeats}
 use Rattle.int_simplex.proofs.Places.{mapped_at}
 use Rattle.int_simplex.specs.Given.{IsInOrder, IsWithin}
 use Rattle.int_simplex.proofs.Kept.{row_in}
@@ -14,12 +15,31 @@ use Rattle.int_simplex.specs.Given.{HasNoZero}
 use Rattle.int_simplex.proofs.Sparse.{sparse_in_order, sparse_within, sparse_no_zero}
 use Rattle.int_simplex.proofs.table.Tableau.row.Goals as goal
 
+pub index-requires : goal.index-requires
+index-requires c =
+    let u : c.self.inside.usable ≡ true = ap (λ s. s.usable) c.self.view_is ∙ c.requires in
+    let a = c.self.invariant.rows u in
+    let p : slice_get c.self.inside.basis.items c.in-Some.k ≡ Some c.args.column =
+    c.in-Some.ensures c.self.inside.columns c.self.inside.basis.items (subst (AreSeats c.self.inside.columns c.self.inside.basis.items)
+    (sym c.deref.ensures.value) (c.self.invariant.seats u)) in
+    let n : length c.self.inside.rows.items ≡ length c.self.inside.basis.items = sym (length-map c.self.inside.rows.items row_view) ∙ a.count in
+    let h : c.in-Some.k < length c.self.inside.basis.items = slice_get_within c.self.inside.basis.items c.in-Some.k c.args.column p in
+    let k = c.self.inside.rows.ok.0 in omega arith
+
+pub returns-in-None-clause-row : goal.returns-in-None-clause-row
+returns-in-None-clause-row c =
+    let u : c.self.inside.usable ≡ true = ap (λ s. s.usable) c.self.view_is ∙ c.requires in
+    subst (λ (s : State). Contains s.basis c.args.column → ⊥) c.self.view_is
+    (c.in-None.ensures c.self.inside.columns c.self.inside.basis.items (subst (AreSeats c.self.inside.columns c.self.inside.basis.items)
+    (sym c.deref.ensures.value) (c.self.invariant.seats u)))
+
 pub returns-in-Some-clause-row : goal.returns-in-Some-clause-row
 returns-in-Some-clause-row c =
     let u : c.self.inside.usable ≡ true = ap (λ s. s.usable) c.self.view_is ∙ c.requires in
     let a = c.self.invariant.rows u in
     let p : slice_get c.self.inside.basis.items c.in-Some.k ≡ Some c.args.column =
-    subst (λ (xs : List ℕ). slice_get xs c.in-Some.k ≡ Some c.args.column) c.deref.ensures.value c.in-Some.ensures in
+    c.in-Some.ensures c.self.inside.columns c.self.inside.basis.items (subst (AreSeats c.self.inside.columns c.self.inside.basis.items)
+    (sym c.deref.ensures.value) (c.self.invariant.seats u)) in
     let n : length c.self.inside.rows.items ≡ length c.self.inside.basis.items = sym (length-map c.self.inside.rows.items row_view) ∙ a.count in
     let h : c.in-Some.k < length c.self.inside.basis.items = slice_get_within c.self.inside.basis.items c.in-Some.k c.args.column p in
     let r : slice_get c.self.inside.rows.items c.in-Some.k ≡ Some c.index.result.now =
@@ -35,7 +55,8 @@ returns-in-Some-clause-in_order c =
     let u : c.self.inside.usable ≡ true = ap (λ s. s.usable) c.self.view_is ∙ c.requires in
     let a = c.self.invariant.rows u in
     let p : slice_get c.self.inside.basis.items c.in-Some.k ≡ Some c.args.column =
-    subst (λ (xs : List ℕ). slice_get xs c.in-Some.k ≡ Some c.args.column) c.deref.ensures.value c.in-Some.ensures in
+    c.in-Some.ensures c.self.inside.columns c.self.inside.basis.items (subst (AreSeats c.self.inside.columns c.self.inside.basis.items)
+    (sym c.deref.ensures.value) (c.self.invariant.seats u)) in
     let n : length c.self.inside.rows.items ≡ length c.self.inside.basis.items = sym (length-map c.self.inside.rows.items row_view) ∙ a.count in
     let h : c.in-Some.k < length c.self.inside.basis.items = slice_get_within c.self.inside.basis.items c.in-Some.k c.args.column p in
     let f = a.sparse c.in-Some.k (row_view c.index.result.now) (row_there c.self.inside.rows.items c.in-Some.k c.index.result.now
@@ -48,7 +69,8 @@ returns-in-Some-clause-in_range c =
     let m : c.self.inside.columns ≡ c.args.self.now.columns = ap (λ s. s.columns) c.self.view_is in
     let a = c.self.invariant.rows u in
     let p : slice_get c.self.inside.basis.items c.in-Some.k ≡ Some c.args.column =
-    subst (λ (xs : List ℕ). slice_get xs c.in-Some.k ≡ Some c.args.column) c.deref.ensures.value c.in-Some.ensures in
+    c.in-Some.ensures c.self.inside.columns c.self.inside.basis.items (subst (AreSeats c.self.inside.columns c.self.inside.basis.items)
+    (sym c.deref.ensures.value) (c.self.invariant.seats u)) in
     let n : length c.self.inside.rows.items ≡ length c.self.inside.basis.items = sym (length-map c.self.inside.rows.items row_view) ∙ a.count in
     let h : c.in-Some.k < length c.self.inside.basis.items = slice_get_within c.self.inside.basis.items c.in-Some.k c.args.column p in
     let f = a.sparse c.in-Some.k (row_view c.index.result.now) (row_there c.self.inside.rows.items c.in-Some.k c.index.result.now
@@ -61,7 +83,8 @@ returns-in-Some-clause-entries c =
     let u : c.self.inside.usable ≡ true = ap (λ s. s.usable) c.self.view_is ∙ c.requires in
     let a = c.self.invariant.rows u in
     let p : slice_get c.self.inside.basis.items c.in-Some.k ≡ Some c.args.column =
-    subst (λ (xs : List ℕ). slice_get xs c.in-Some.k ≡ Some c.args.column) c.deref.ensures.value c.in-Some.ensures in
+    c.in-Some.ensures c.self.inside.columns c.self.inside.basis.items (subst (AreSeats c.self.inside.columns c.self.inside.basis.items)
+    (sym c.deref.ensures.value) (c.self.invariant.seats u)) in
     let n : length c.self.inside.rows.items ≡ length c.self.inside.basis.items = sym (length-map c.self.inside.rows.items row_view) ∙ a.count in
     let h : c.in-Some.k < length c.self.inside.basis.items = slice_get_within c.self.inside.basis.items c.in-Some.k c.args.column p in
     let f = a.sparse c.in-Some.k (row_view c.index.result.now) (row_there c.self.inside.rows.items c.in-Some.k c.index.result.now

@@ -1,9 +1,0 @@
-use Rattle.std.proofs.Common.{◌≡◌, ◌-◌, true, length, take}
-use Rattle.lus_order.specs.Rounds.{are_done}
-use Rattle.lus_order.proofs.least_order.pass.Given as goal
-
-abbrev pub invariant-loop-place : goal.invariant-loop-place
-invariant-loop-place l = are_done l.done (take l.place l.row) ≡ true
-
-abbrev pub decreases-loop-place : goal.decreases-loop-place
-decreases-loop-place l = length l.row - l.place

@@ -1,7 +1,0 @@
-use Rattle.std.proofs.Common.{◌≡◌, ◌++◌, drop}
-use Rattle.lus_order.specs.Graphs.{from_on}
-use Rattle.lus_order.proofs.order_from.numbers_from.Given as goal
-
--- what is there, followed by what is to come, is all
-abbrev pub invariant-loop-number : goal.invariant-loop-number
-invariant-loop-number l = l.rest.items ++ from_on l.start (drop l.number-index l.numbers) ≡ from_on l.start l.numbers

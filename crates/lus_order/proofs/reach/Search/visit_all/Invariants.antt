@@ -1,6 +1,0 @@
-use Rattle.std.proofs.Common.{◌≡◌, drop}
-use Rattle.lus_order.specs.Visits.{state_view, visited_all}
-use Rattle.lus_order.proofs.reach.Search.visit_all.Given as goal
-
-abbrev pub invariant-loop-number : goal.invariant-loop-number
-invariant-loop-number l = visited_all (state_view l.self) (drop l.number-index l.numbers) ≡ visited_all (state_view l.initial.self) l.numbers

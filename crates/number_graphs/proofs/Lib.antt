@@ -1,0 +1,5 @@
+pub mod Paths
+pub mod Searches
+pub mod Rounds
+pub mod OnCircles
+pub mod Contracted
