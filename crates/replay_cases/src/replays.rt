@@ -2,24 +2,47 @@
 
 ghost use Rattle.std.specs.Prelude.{◌≤◌, length};
 
-use crate::texts::fault;
+use crate::texts::wrong;
 use lus_checked::Checked;
-use lus_meaning::Value;
+use lus_meaning::{Trace, Value};
 use lus_tree::Param;
 use program_replay::{Replay, ReplayFault, replay};
 use std::alloc::{AllocError, Global};
-use trace_text::read_trace;
+use trace_text::{TraceFault, read_trace};
 
-fn replayed<'a>(
-    alloc: Global,
-    checked: &'a Checked,
-    bytes: &[u8],
-) -> Result<(Replay<'a>, u32), TraceFault>
+/// The trace of a text.
+fn listing(alloc: Global, bytes: &[u8]) -> Result<Trace, ReplayFault>
     requires { length bytes.now ≤ 1048576 }
 {
-    let trace = read_trace(alloc, bytes)?;
+    match read_trace(alloc, bytes) {
+        Ok(trace) => Ok(trace),
+        Err(TraceFault::Form(at)) => Err(ReplayFault::Form(at)),
+        Err(TraceFault::Memory) => Err(ReplayFault::Memory),
+    }
+}
+
+fn replayed(
+    alloc: Global,
+    checked: &Checked,
+    bytes: &[u8],
+) -> Result<(Replay, u32), ReplayFault>
+    requires { length bytes.now ≤ 1048576 }
+{
+    let trace = listing(alloc, bytes)?;
     let replay = replay(alloc, checked, &trace)?;
     Ok((replay, trace.length))
+}
+
+/// Where a trace goes wrong, or which value is outside 128 bits.
+fn fault(alloc: Global, fault: ReplayFault) -> Result<String, AllocError> {
+    match fault {
+        ReplayFault::Form(at) => wrong(alloc, at),
+        ReplayFault::Past { at, instant, .. } => {
+            let (line, column) = (at.line, at.column);
+            format!(in alloc; "past at {line}:{column}, instant {instant}")
+        }
+        ReplayFault::Memory => Err(AllocError),
+    }
 }
 
 /// Whether the trace fits the program, or where it doesn't.
@@ -86,7 +109,9 @@ fn show(
     instants: u32,
 ) -> Result<String, AllocError> {
     let mut out = String::new(alloc);
-    let node = checked.node();
+    let Some(node) = checked.program().node(replay.node()) else {
+        return Ok(out);
+    };
     show_names(&mut out, replay, &node.inputs, instants)?;
     show_names(&mut out, replay, &node.outputs, instants)?;
     show_names(&mut out, replay, &node.locals, instants)?;

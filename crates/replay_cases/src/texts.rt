@@ -7,10 +7,16 @@ use lus_tree::Pos;
 use std::alloc::{AllocError, Global};
 use trace_text::{TraceFault, read_trace, write_trace};
 
+/// A place at which a trace goes wrong.
+pub fn wrong(alloc: Global, at: Pos) -> Result<String, AllocError> {
+    let Pos { line, column } = at;
+    format!(in alloc; "at {line}:{column}")
+}
+
 /// Where a trace goes wrong.
-pub fn fault(alloc: Global, fault: TraceFault) -> Result<String, AllocError> {
+fn fault(alloc: Global, fault: TraceFault) -> Result<String, AllocError> {
     match fault {
-        TraceFault::Form(Pos { line, column }) => format!(in alloc; "at {line}:{column}"),
+        TraceFault::Form(at) => wrong(alloc, at),
         TraceFault::Memory => Err(AllocError),
     }
 }

@@ -40,8 +40,7 @@ use Rattle.order_laws.specs.Laws.{IsOneOf}
 use Rattle.order_laws.specs.Own.{own_setting, own_modes}
 use Rattle.order_laws.specs.Needed.{IsCalled, Sees, IsGiven, IsEvaluatedIn, NoneOutside, OfOperand, right_there}
 use Rattle.order_laws.specs.Rows.{place_there, standpoint_there}
-use Rattle.order_laws.proofs.Frames.{StandsAt, stands_there}
-use Rattle.order_laws.proofs.Trees.{same_place}
+use Rattle.order_laws.proofs.Frames.{StandsAt, stands_there, same_place}
 use Rattle.rest_laws.proofs.Atoms.{AtomsOf, modes_read, reads, rights}
 use Rattle.rest_laws.proofs.Clocks.{IsClockNamed}
 

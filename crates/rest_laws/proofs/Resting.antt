@@ -46,13 +46,12 @@ use Rattle.order_laws.specs.Laws.{IsOneOf}
 use Rattle.order_laws.specs.Needed.{IsCalled, Sees, IsGiven, IsEvaluatedIn, NoneOutside, OfOperand}
 use Rattle.order_laws.specs.Rows.{place_there}
 use Rattle.order_laws.proofs.Bodies.{in_all, slice_in}
-use Rattle.order_laws.proofs.Frames.{StandsAt, stands_there}
+use Rattle.order_laws.proofs.Frames.{StandsAt, stands_there, stands_called, same_place}
 use Rattle.order_laws.proofs.Placed.{all_in_self}
 use Rattle.rest_laws.specs.Rests.{part_reads}
 use Rattle.rest_laws.proofs.Clocks.{IsClockNamed, fitting_named}
 use Rattle.rest_laws.proofs.Facts.{in_of, IsEntered, fitting_call, AreGiven, Facts, PartAtoms, numbering_at, own_operands, resolution_read, part_read, evaluated_read, given_read, switch_is, left_of_all, one_equation}
 use Rattle.rest_laws.proofs.Set.{rested, is_entered, entered_in, entered_out, entered_parent, seen_calls, slot_own, name_in, ClockIs, switch_in, AtomsAre, atoms_in, above_itself, same_itself, is_pre, is_pre_of}
-use Rattle.order_laws.proofs.Trees.{same_place}
 use Rattle.rest_laws.proofs.Slots.{place_at, place_of_slot, slot_there}
 use Rattle.rest_laws.proofs.Sources.{Gives, Obliged, GoodAt, all_good}
 
@@ -77,7 +76,7 @@ module _ (i : Instance) (f : Frame) (t : ℕ) (qs : List Part) (facts : Facts i 
       P (w ++ ks) p → R (numbers_there i w (ks, p))
   slot_in w a ks p z h e = subst at_place (sym (slot_there i f facts.typed w a ks p z h)) e
 
-  calls_in : (w : List ℕ) → IsEntered qs w → AreCalls i w
+  pub calls_in : (w : List ℕ) → IsEntered qs w → AreCalls i w
   calls_in w (inl e) = subst (AreCalls i) (sym e) tt
   calls_in w (inr h) = seen_calls i f facts.typed.tree h.0 (facts.calls h.0 h.1) (facts.stands h.0 h.1) w h.2
 
@@ -382,11 +381,29 @@ module _ (i : Instance) (f : Frame) (t : ℕ) (qs : List Part) (facts : Facts i 
       calls = call_gives;
     }
 
+  -- the names of a frame that is entered
+  pub names_in : (w : List ℕ) → IsEntered qs w →
+      AllByRecursion (λ v. R (numbers_there i w (own (named v.name.text)))) (variables (component_of (place_there i f w)))
+  names_in w e =
+      all_from (StreamFits (place_there i f w) (IsKnown (place_there i f w))) (λ v. R (numbers_there i w (own (named v.name.text))))
+      (λ v fit. name_in i f facts.typed.tree R P slot_in w (calls_in w e) (clock_from v.clock) v.name.text fit.name (entered_in qs w e))
+      (variables (component_of (place_there i f w))) (own_fits IsKnown (place_there i f w) (stands_there i f w (calls_in w e) facts.typed.tree).fits).streams
+
+  -- a frame whose beat is in the set, and the one above
+  pub beat_up : (w : List ℕ) (j : Instance) → StandsAt i f w j → (k : ℕ) → 0 < k → pred k < count_of (calls_of j) →
+      R (numbers_there i (w ++ k ∷ []) (own beat)) → R (numbers_there i w (own beat))
+  beat_up w j s k c l h =
+      let v : List ℕ = w ++ k ∷ [] in
+      let e : is_entered qs v ≡ true =
+      subst (λ z. is_entered qs z ≡ true) (append_none v)
+      (subst at_place (slot_there i f facts.typed v (stands_called i f w j s k c l).calls [] beat Flags refl) h) in
+      slot_own i f facts.typed.tree R P slot_in w s.calls beat Flags refl (entered_in qs w (entered_parent qs w k (entered_out qs v e)))
+
   obliged : (w : List ℕ) (j : Instance) → StandsAt i f w j → Obliged at_place Good w j (numbers_there i w)
   obliged w j s = subst (λ y. Obliged at_place Good w y (numbers_there i w)) s.place (frame_obliged w s.calls)
 
   -- of each slot of the set the source is good
-  all_sources : Both (GoodAt at_place Good) (slots i) (sources_of i)
+  pub all_sources : Both (GoodAt at_place Good) (slots i) (sources_of i)
   all_sources =
       all_good at_place Good i f obliged (stands_there i f [] tt facts.typed.tree) facts.typed.tree
       (λ e. record { read = refl; now = tt; before = tt; within = λ n. (refl, refl) })

@@ -157,7 +157,7 @@ above_parent (n ∷ w) k (m ∷ v) h =
     let q : (eqb n m ≡ true) × (is_above (w ++ k ∷ []) v ≡ true) = both_true (eqb n m) (is_above (w ++ k ∷ []) v) h in
     both (eqb n m) (is_above w v) q.0 (above_parent w k v q.1)
 
-no_end : (w : List ℕ) (k : ℕ) → w ++ k ∷ [] ≡ [] → ⊥
+pub no_end : (w : List ℕ) (k : ℕ) → w ++ k ∷ [] ≡ [] → ⊥
 no_end [] k e = cc
 no_end (m ∷ w) k e = cc
 
