@@ -60,7 +60,7 @@ module _ (p : Program) (c : IsChecked p) (n : Component) (j : Contains (componen
   abbrev pub in_set : ℕ → Bool
   in_set = rest.in_set i f 0 qs known
 
-  closed : IsClosed (sources_of i) in_set
+  pub closed : IsClosed (sources_of i) in_set
   closed = record {
     slots = λ k h. subst (λ l. k < l) (sym (both_many (GoodAt (rest.at_place i f 0 qs known) (rest.Good i f 0 qs known)) (slots i) (sources_of i) (rest.all_sources i f 0 qs known)))
         (in_range qs (slots i) k h);
