@@ -2,7 +2,7 @@
 use Rattle.std.proofs.Common.{◌≡◌, ℕ, zero, suc, pred, ◌<◌, Bool, true, false, List, [], ◌∷◌, ◌++◌, map, length, refl, ap, ◌∙◌, sym, subst, arith, Option, Some, None, slice_get}
 use Rattle.std.specs.Prelude.{Contains}
 use Rattle.std.specs.List.{AllByRecursion}
-use Rattle.std.proofs.Math.Logic.{◌⊎◌, inl, inr}
+use Rattle.std.proofs.Math.Logic.{inl, inr}
 use Rattle.lus_tree.specs.declared.place.Sort.{Sort}
 use Rattle.lus_tree.specs.declared.place.Sort.TheVariants.{Bool as Flags}
 use Rattle.lus_tree.specs.Tree.{Name, Variable, Expression, truth, number, name, negation, minus, pre, arrow, binary, choice, sampled, merged, call, condact, mode_name, Component, Program}
@@ -10,25 +10,25 @@ use Rattle.lus_meaning.specs.Frame.{Frame}
 use Rattle.lus_meaning.specs.Scene.{Clock, base, sampled_by, Manner, plain, while_true, as_import, Site, Instance, component_of, calls_of, call_instance, outputs_of, clock_from, clock_of_names, variables}
 use Rattle.lus_meaning.specs.Occurrences.{memories, starts}
 use Rattle.lus_meaning.specs.Program.{in_order, instance_of}
-use Rattle.lus_meaning.specs.Run.{IsRun, Equation, equations, inputs_of, sort_of_name}
-use Rattle.lus_meaning.specs.Depends.{Need, the_beat, a_name, clock_needs, output_needs, needs, needs_each, modes_need, site_needs, named_in, left_names}
-use Rattle.lus_meaning.specs.Cycle.{Place as NeededPlace, caller_needs, matching, shared_needs}
+use Rattle.lus_meaning.specs.Run.{IsRun, Equation, equations, inputs_of}
+use Rattle.lus_meaning.specs.Depends.{Need, the_beat, a_name, clock_needs, output_needs, needs, needs_each, modes_need, site_needs, named_in}
+use Rattle.lus_meaning.specs.Cycle.{matching, shared_needs}
 use Rattle.lus_meaning.specs.Slots.{slots}
 use Rattle.lus_meaning.specs.Trace.{same_numbers}
 use Rattle.lus_meaning.specs.Verdict.{throughout}
 use Rattle.lus_meaning.specs.ClockFaults.{components}
 use Rattle.lus_meaning.specs.Refusals.{IsChecked}
 use Rattle.lus_meaning.proofs.BooleanOrder.{IsIn, in_left, in_right, in_mapped}
-use Rattle.lus_meaning.proofs.Lists.{all_from, append_none, mapped_all}
+use Rattle.lus_meaning.proofs.Lists.{all_from}
 use Rattle.lus_meaning.proofs.Ranked.{all_named}
-use Rattle.sys_meaning.specs.Slot.{Spot, beat, named, memory, starting, so_far, held, Place, own, in_call}
+use Rattle.sys_meaning.specs.Slot.{Spot, beat, named, memory, starting, so_far, held, Place, own}
 use Rattle.sys_meaning.specs.Defaults.{site_of}
 use Rattle.sys_meaning.specs.WellTyped.{IsKnown, IsCall, IsNameOn, IsImport, is_declared, clock_here, OutputFits, Stands, StreamFits, EquationFits, MannerFits, CallFits, OwnFits, TreeFits, HasPlaceIn, count_of}
 use Rattle.sys_meaning.proofs.Balanced.{join_all}
 use Rattle.sys_meaning.proofs.Cells.{everywhere}
 use Rattle.sys_meaning.proofs.Forward.{own_fits}
 use Rattle.lus_evaluation.specs.Part.{Part, from_top}
-use Rattle.lus_evaluation.specs.Evaluation.{is_above, gives_name, NeedsPlace, place_named, IsEvaluation}
+use Rattle.lus_evaluation.specs.Evaluation.{is_above, NeedsPlace, place_named, IsEvaluation}
 use Rattle.lus_evaluation.specs.Past.{part_past, NonePast}
 use Rattle.slot_values.specs.Evaluated.{SlotValues, outside}
 use Rattle.slot_values.specs.Resolution.{Resolution}
@@ -37,7 +37,7 @@ use Rattle.slot_values.specs.Clocked.{row_by, clock_on}
 use Rattle.evaluation_laws.specs.Rows.{AreCalls, row_at, numbers_there}
 use Rattle.evaluation_laws.proofs.Waiting.{both_true}
 use Rattle.slot_sources.specs.declared.source.Switch.{Switch}
-use Rattle.slot_sources.specs.Source.{Source, always, given, same, listed}
+use Rattle.slot_sources.specs.Source.{Source, given, same, listed}
 use Rattle.slot_sources.specs.Rows as rows
 use Rattle.slot_sources.specs.Rows.{outside_now, reads_now, slots_read}
 use Rattle.slot_sources.specs.Sources.{numbering_of, switch_of, call_beat, beat_source, argument_source, held_source, memory_source, start_source, sources_of}
@@ -48,17 +48,17 @@ use Rattle.order_laws.specs.Needed.{IsCalled, Sees, IsGiven, IsEvaluatedIn, None
 use Rattle.order_laws.specs.Rows.{place_there}
 use Rattle.order_laws.proofs.Bodies.{in_all, slice_in}
 use Rattle.order_laws.proofs.Callers.{frame_inputs_come_before, frame_conditions_come_before}
-use Rattle.order_laws.proofs.Covers.{CoversNeeds, needs_itself}
+use Rattle.order_laws.proofs.Covers.{needs_itself}
 use Rattle.order_laws.proofs.FirstByRows as b
 use Rattle.order_laws.proofs.Frames.{StandsAt, stands_there, stands_called, same_place}
 use Rattle.order_laws.proofs.Needed.{needed_names_come_before}
 use Rattle.order_laws.proofs.Placed.{all_in_self}
 use Rattle.rest_laws.specs.Rests.{part_reads}
-use Rattle.rest_laws.proofs.Build.{facts, placed, in_turn_from, in_order_from, all_stand}
-use Rattle.rest_laws.proofs.Clocks.{IsClockNamed, fitting_named, IsTimed, instant_timed}
+use Rattle.rest_laws.proofs.Build.{facts, placed, in_turn_from, all_stand}
+use Rattle.rest_laws.proofs.Clocks.{fitting_named, IsTimed, instant_timed}
 use Rattle.rest_laws.proofs.Facts.{in_of, fitting_call, Facts, PartAtoms, numbering_at, own_operands, resolution_read, part_read, evaluated_read, given_read, switch_is, left_of_all, one_equation}
 use Rattle.rest_laws.proofs.Needing.{own_name, call_name, in_matching, reach_clock, reach_caller, name_reaches, lower, AreImports, BeatNeeded, beat_of_whole, beat_of_import}
-use Rattle.rest_laws.proofs.Set.{sees_parent, seen_calls, slot_own, name_in, ClockIs, switch_in, AtomsAre, atoms_in, above_itself, same_end, no_end}
+use Rattle.rest_laws.proofs.Set.{sees_parent, slot_own, name_in, ClockIs, switch_in, AtomsAre, atoms_in, above_itself, same_end}
 use Rattle.rest_laws.proofs.Slots.{place_at, place_of_slot, slot_there}
 use Rattle.rest_laws.proofs.Sources.{Gives, Obliged, GoodAt, all_good}
 

@@ -6,13 +6,13 @@ use Rattle.std.specs.Str.{bytes_eq}
 use Rattle.std.proofs.Math.Logic.{inl, inr}
 use Rattle.std.proofs.lemmas.Bool.{false≢true}
 use Rattle.std.proofs.lemmas.Option.{none-some, same_Some}
-use Rattle.lus_tree.specs.Tree.{Name, text_of, Variable, Expression, Expressions, truth, number, name, negation, minus, pre, arrow, binary, choice, sampled, merged, call, condact, mode_name, Labelled, ContractStatement, assume, guarantee, ghost_variable, constant, mode, «import»}
+use Rattle.lus_tree.specs.Tree.{Name, text_of, Variable, Expression, truth, number, name, negation, minus, pre, arrow, binary, choice, sampled, merged, call, condact, mode_name, ContractStatement, assume, guarantee, ghost_variable, constant, mode, «import»}
 use Rattle.lus_meaning.specs.Frame.{Frame}
-use Rattle.lus_meaning.specs.Scene.{Clock, base, sampled_by, Manner, plain, while_true, as_import, Site, Instance, Instances, instance, no_instances, with_instance, instance_at, component_of, calls_of, call_instance, outputs_of, clock_of, clock_from, contract_statements, variables}
+use Rattle.lus_meaning.specs.Scene.{Clock, base, sampled_by, Instance, Instances, instance, no_instances, with_instance, instance_at, component_of, calls_of, call_instance, clock_from, contract_statements, variables}
 use Rattle.lus_meaning.specs.Meaning.{mode_key}
-use Rattle.lus_meaning.specs.Run.{equations, inputs_of}
-use Rattle.lus_meaning.specs.Depends.{Need, the_beat, a_name, inside, ModeNeeds, known_needs, clock_needs, output_needs, needs, needs_each, asked_needs, imported_needs, modes_after, modes_need, modes_need_each, site_needs, named_in}
-use Rattle.lus_meaning.specs.Cycle.{Place, place_of, deeper, declared_needs, defined_needs, own_needs, matching, shared_needs, caller_needs, at_top, next_places, next_in_call, IsAt}
+use Rattle.lus_meaning.specs.Run.{equations}
+use Rattle.lus_meaning.specs.Depends.{Need, the_beat, a_name, inside, ModeNeeds, known_needs, clock_needs, needs, asked_needs, imported_needs, modes_after, modes_need, modes_need_each, site_needs, named_in}
+use Rattle.lus_meaning.specs.Cycle.{Place, place_of, deeper, declared_needs, defined_needs, own_needs, matching, caller_needs, next_places, next_in_call, IsAt}
 use Rattle.lus_meaning.specs.Verdict.{throughout}
 use Rattle.lus_meaning.proofs.BooleanOrder.{IsIn, in_left, in_right, in_mapped, at_some}
 use Rattle.lus_meaning.proofs.Exists.{self_bytes}
@@ -21,17 +21,17 @@ use Rattle.lus_meaning.proofs.Unique.{same_bytes}
 use Rattle.clock_laws.proofs.Reaching.{next_top}
 use Rattle.sys_meaning.specs.Defaults.{site_of}
 use Rattle.sys_meaning.specs.Items.{Key, Known}
-use Rattle.sys_meaning.specs.WellTyped.{IsKnown, IsAmong, IsNameOn, is_declared, clock_here, OutputFits, StreamFits, ClockEnds, ClockFits, OwnFits, TreeFits, Stands, IsImport, count_of}
+use Rattle.sys_meaning.specs.WellTyped.{IsKnown, IsAmong, is_declared, clock_here, OutputFits, StreamFits, ClockEnds, OwnFits, TreeFits, Stands, IsImport, count_of}
 use Rattle.sys_meaning.proofs.Forward.{own_fits}
-use Rattle.lus_evaluation.specs.Part.{Part, from_top, needs_of}
-use Rattle.lus_evaluation.specs.Evaluation.{is_above, NeedsPlace, place_named, instance_on}
+use Rattle.lus_evaluation.specs.Part.{from_top, needs_of}
+use Rattle.lus_evaluation.specs.Evaluation.{NeedsPlace, place_named, instance_on}
 use Rattle.evaluation_laws.specs.Resolvings.{Resolving, asked_resolving, imported_resolving, resolvings_after, resolvings, resolvings_each}
 use Rattle.evaluation_laws.specs.Rows.{AreCalls}
 use Rattle.order_laws.specs.Own.{own_setting}
 use Rattle.order_laws.specs.Rows.{place_there}
 use Rattle.order_laws.proofs.Beats.{from_end}
 use Rattle.order_laws.proofs.Covers.{further, needs_itself}
-use Rattle.order_laws.proofs.Frames.{StandsAt, stands_there, stands_called, same_place}
+use Rattle.order_laws.proofs.Frames.{StandsAt, stands_called, same_place}
 use Rattle.order_laws.proofs.Inputs.{call_next}
 use Rattle.order_laws.proofs.ModeKeys.{keys, keys_any, resolving_keys}
 use Rattle.rest_laws.proofs.Clocks.{IsClockNamed, declared_fits}
