@@ -1,13 +1,13 @@
 -- What is known of the evaluation of an instant of a run.
-use Rattle.std.proofs.Common.{◌≡◌, ℕ, suc, ◌<◌, true, List, [], ◌∷◌, ◌++◌, length, slice_get, refl, ap, ◌∙◌, sym, subst, arith}
+use Rattle.std.proofs.Common.{◌≡◌, ℕ, ◌<◌, true, List, [], ◌∷◌, ◌++◌, slice_get, refl, ap, ◌∙◌, sym, subst}
 use Rattle.std.specs.Prelude.{Contains, option_to_list, Option, Some, None}
 use Rattle.std.specs.List.{AllByRecursion}
 use Rattle.std.proofs.Math.Logic.{◌⊎◌, inl, inr}
 use Rattle.std.proofs.lemmas.Bool.{false≢true}
 use Rattle.lus_tree.specs.Tree.{Name, Expression, truth, number, name, negation, minus, pre, arrow, binary, choice, sampled, merged, call, condact, mode_name, Component, Program}
 use Rattle.lus_meaning.specs.Frame.{Frame}
-use Rattle.lus_meaning.specs.Scene.{Clock, while_true, Instance, component_of}
-use Rattle.lus_meaning.specs.Depends.{named_in, left_names}
+use Rattle.lus_meaning.specs.Scene.{Clock, Instance}
+use Rattle.lus_meaning.specs.Depends.{named_in}
 use Rattle.lus_meaning.specs.Cycle.{Place}
 use Rattle.lus_meaning.specs.Program.{instance_of}
 use Rattle.lus_meaning.specs.Run.{IsRun}
@@ -15,27 +15,26 @@ use Rattle.lus_meaning.specs.Trace.{same_numbers}
 use Rattle.lus_meaning.specs.Verdict.{throughout}
 use Rattle.lus_meaning.specs.ClockFaults.{components}
 use Rattle.lus_meaning.specs.Refusals.{IsChecked}
-use Rattle.lus_meaning.proofs.BooleanOrder.{IsIn, in_left, in_right}
+use Rattle.lus_meaning.proofs.BooleanOrder.{IsIn, in_left}
 use Rattle.lus_meaning.proofs.Lists.{all_from}
 use Rattle.sys_meaning.specs.Defaults.{site_of}
-use Rattle.sys_meaning.specs.WellTyped.{IsKnown, Stands, IsImport, WellTyped}
+use Rattle.sys_meaning.specs.WellTyped.{IsKnown, WellTyped}
 use Rattle.sys_meaning.proofs.Shows.{same_ways}
 use Rattle.path_laws.proofs.Main.{each_is_well_typed}
-use Rattle.lus_evaluation.specs.Part.{Part, needs_of}
+use Rattle.lus_evaluation.specs.Part.{Part}
 use Rattle.lus_evaluation.specs.Frame.{picked}
 use Rattle.lus_evaluation.specs.Turn.{in_turn}
-use Rattle.lus_evaluation.specs.Evaluation.{is_above, gives_name, IsEvaluation}
+use Rattle.lus_evaluation.specs.Evaluation.{is_above, IsEvaluation}
 use Rattle.evaluation_laws.proofs.Waiting.{both_true}
 use Rattle.order_laws.specs.Laws.{IsOneOf}
-use Rattle.order_laws.specs.Own.{own_setting}
-use Rattle.order_laws.specs.Needed.{IsSide, IsCalled, Sees, IsGiven, IsEvaluatedIn, OfOperand}
+use Rattle.order_laws.specs.Needed.{IsSide, IsCalled, IsGiven, IsEvaluatedIn, OfOperand}
 use Rattle.order_laws.specs.Rows.{place_there}
 use Rattle.order_laws.proofs.Bodies.{in_all, slice_in, slice_below, at_slice, picked_in}
 use Rattle.order_laws.proofs.Evaluated.{firsts, first_at}
 use Rattle.order_laws.proofs.FirstByRows as b
-use Rattle.order_laws.proofs.Frames.{StandsAt, stands_there}
+use Rattle.order_laws.proofs.Frames.{stands_there}
 use Rattle.order_laws.proofs.NoneOutside.{given_names_are_within, arguments_are_within}
-use Rattle.order_laws.proofs.Placed.{all_in_self, Among, Giver, Settled, settled_among, PartIn, WholeIn, GivenTo, given_among, CalledIn, Placed, placed_in}
+use Rattle.order_laws.proofs.Placed.{all_in_self, Among, Giver, Settled, settled_among, PartIn, WholeIn, GivenTo, CalledIn, Placed, placed_in}
 use Rattle.rest_laws.proofs.Clocks.{IsStanding, IsTimed, instant_timed}
 use Rattle.rest_laws.proofs.Facts.{in_of, IsEntered, AreGiven, own_operands, Facts}
 use Rattle.rest_laws.proofs.Made.{given_once}

@@ -1,8 +1,8 @@
 -- What the conditions of a declaration read, where all that is evaluated for them reads such slots.
-use Rattle.std.proofs.Common.{◌≡◌, ℕ, zero, suc, pred, ◌+◌, ◌<◌, Bool, true, false, cond, List, [], ◌∷◌, ◌++◌, map, flat_map, slice_index_or, refl, ap, ◌∙◌, sym, subst, arith, Option, Some, None, option_map, option_to_list, unwrap_or}
+use Rattle.std.proofs.Common.{◌≡◌, ℕ, zero, suc, pred, ◌+◌, ◌<◌, Bool, true, false, cond, List, [], ◌∷◌, ◌++◌, map, flat_map, slice_index_or, refl, ap, ◌∙◌, sym, subst, arith, Some, option_map, option_to_list, unwrap_or}
 use Rattle.std.specs.List.{AllByRecursion}
 use Rattle.std.specs.Map.{lookup}
-use Rattle.lus_tree.specs.Tree.{Name, text_of, Expression, Expressions, truth, number, name, negation, minus, pre, arrow, binary, choice, sampled, merged, call, condact, mode_name, Labelled, Statement, equation, assertion, property, main_mark, ContractStatement, assume, guarantee, ghost_variable, constant, mode, «import»}
+use Rattle.lus_tree.specs.Tree.{Name, text_of, Expression, truth, number, name, negation, minus, pre, arrow, binary, choice, sampled, merged, call, condact, mode_name, Labelled, Statement, equation, assertion, property, main_mark, ContractStatement, assume, guarantee, ghost_variable, constant, mode, «import»}
 use Rattle.lus_meaning.specs.Value.{flag}
 use Rattle.lus_meaning.specs.Frame.{Frame}
 use Rattle.lus_meaning.specs.Scene.{base, Manner, plain, while_true, as_import, Site, Instance, Instances, instance, no_instances, with_instance, no_instance, component_of, calls_of, call_instance, instance_at, contract_statements}
@@ -23,21 +23,19 @@ use Rattle.lus_evaluation.specs.Frame.{ModeText, ContractText, FrameText, no_tex
 use Rattle.lus_evaluation.specs.Frame as frames
 use Rattle.lus_evaluation.specs.Turn as turn
 use Rattle.lus_evaluation.specs.Turn.{property_texts, owed_in_calls, condition_parts, in_turn}
-use Rattle.lus_evaluation.specs.Evaluation.{instance_on}
 use Rattle.slot_values.specs.Resolution.{Resolution}
 use Rattle.slot_values.specs.Resolution as r
-use Rattle.slot_values.specs.Resolved.{Numbering, resolution, mode_resolution, latest_resolution, outputs_at, first_resolution}
+use Rattle.slot_values.specs.Resolved.{Numbering, resolution, latest_resolution, outputs_at, first_resolution}
 use Rattle.evaluation_laws.specs.Resolvings.{Resolving, at_numbers, all_resolved, resolvings}
 use Rattle.evaluation_laws.specs.Rows.{numbers_there}
 use Rattle.slot_sources.specs.Rows.{slots_read}
-use Rattle.slot_sources.specs.Sources.{numbering_of, call_beat}
+use Rattle.slot_sources.specs.Sources.{numbering_of}
 use Rattle.condition_laws.specs.Conditions.{resolved, conditions_of, assumed, some_resolved, where_active, asserts_of, asserts_in, calls_asserts, legal_in, body_properties, one_mode, owed_by_site, owed_by_calls, properties_in}
 use Rattle.condition_laws.proofs.ItemsWithin.{text_called}
 use Rattle.condition_laws.proofs.Known.{items_ask_resolvings}
 use Rattle.order_laws.proofs.Bodies.{in_all}
 use Rattle.order_laws.proofs.Frames.{StandsAt, stands_called, same_place, numbers_further}
 use Rattle.order_laws.proofs.Laying.{root_in}
-use Rattle.order_laws.proofs.Lists.{grouped}
 use Rattle.rest_laws.specs.Rests.{part_reads}
 
 module _ (R : ℕ → Type 0) where

@@ -9,3 +9,7 @@ pub mod Made
 pub mod Build
 pub mod Conditions
 pub mod Main
+pub mod Needing
+pub mod Closure
+pub mod Before
+pub mod Law

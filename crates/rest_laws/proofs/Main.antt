@@ -1,5 +1,5 @@
 -- On which slots the parts of an instant rest.
-use Rattle.std.proofs.Common.{◌≡◌, ℕ, zero, suc, pred, ◌<◌, Bool, true, false, List, [], ◌∷◌, ◌++◌, map, length, refl, ap, ◌∙◌, sym, subst, arith, Option, Some, None, slice_get, unwrap_or}
+use Rattle.std.proofs.Common.{◌≡◌, ℕ, zero, suc, ◌<◌, Bool, true, List, [], ◌∷◌, ◌++◌, map, length, refl, sym, subst, arith, slice_get, unwrap_or}
 use Rattle.std.specs.Prelude.{Contains}
 use Rattle.std.specs.List.{AllByRecursion}
 use Rattle.std.proofs.Math.Logic.{inl, inr}
@@ -8,7 +8,6 @@ use Rattle.lus_tree.specs.Tree.{Component, Program}
 use Rattle.lus_meaning.specs.Frame.{Frame}
 use Rattle.lus_meaning.specs.Scene.{Instance, component_of, calls_of, variables}
 use Rattle.lus_meaning.specs.Program.{instance_of}
-use Rattle.lus_meaning.specs.Run.{IsRun}
 use Rattle.lus_meaning.specs.Slots.{Slot, slots}
 use Rattle.lus_meaning.specs.Verdict.{throughout}
 use Rattle.lus_meaning.specs.ClockFaults.{components}
@@ -20,11 +19,9 @@ use Rattle.sys_meaning.specs.Slot.{named, so_far, Place, own, place_of}
 use Rattle.lus_evaluation.specs.Part.{Part}
 use Rattle.lus_evaluation.specs.Frame.{text_at, frame_text, call_texts}
 use Rattle.lus_evaluation.specs.Turn.{condition_parts, in_turn}
-use Rattle.lus_evaluation.specs.Evaluation.{instance_on, IsEvaluation}
+use Rattle.lus_evaluation.specs.Evaluation.{IsEvaluation}
 use Rattle.lus_evaluation.specs.Past.{NonePast}
-use Rattle.evaluation_laws.specs.Rows.{row_at, numbers_there}
-use Rattle.slot_sources.specs.Source.{Source}
-use Rattle.slot_sources.specs.Rows.{slots_read}
+use Rattle.evaluation_laws.specs.Rows.{numbers_there}
 use Rattle.slot_sources.specs.Sources.{sources_of}
 use Rattle.slot_rows.specs.Agreement.{IsClosed}
 use Rattle.row_laws.proofs.Lists.{both_many}
@@ -32,7 +29,7 @@ use Rattle.order_laws.proofs.Frames.{StandsAt, stands_there, same_place}
 use Rattle.order_laws.proofs.Placed.{all_in_self}
 use Rattle.rest_laws.specs.Rests.{part_reads, NamesIn, OfRuns, RestsBefore, Rests}
 use Rattle.rest_laws.proofs.Build.{facts, in_order_from}
-use Rattle.rest_laws.proofs.Conditions.{IsRead, legal_read, properties_read}
+use Rattle.rest_laws.proofs.Conditions.{legal_read, properties_read}
 use Rattle.rest_laws.proofs.Facts.{IsEntered, Facts}
 use Rattle.rest_laws.proofs.Made.{some_run}
 use Rattle.rest_laws.proofs.Resting as rest
@@ -60,7 +57,7 @@ module _ (p : Program) (c : IsChecked p) (n : Component) (j : Contains (componen
   abbrev pub in_set : ℕ → Bool
   in_set = rest.in_set i f 0 qs known
 
-  closed : IsClosed (sources_of i) in_set
+  pub closed : IsClosed (sources_of i) in_set
   closed = record {
     slots = λ k h. subst (λ l. k < l) (sym (both_many (GoodAt (rest.at_place i f 0 qs known) (rest.Good i f 0 qs known)) (slots i) (sources_of i) (rest.all_sources i f 0 qs known)))
         (in_range qs (slots i) k h);

@@ -1,18 +1,18 @@
 -- What needs need: a name its clock, a frame's beat what its caller gives it by; and each whole needs the beat of its frame.
-use Rattle.std.proofs.Common.{◌≡◌, ℕ, zero, suc, pred, ◌<◌, Bool, true, false, cond, ◌||◌, List, [], ◌∷◌, ◌++◌, map, flat_map, slice_index_or, Option, Some, None, option_map, option_to_list, unwrap_or, slice_get, refl, ap, ◌∙◌, sym, subst, arith}
+use Rattle.std.proofs.Common.{◌≡◌, ℕ, zero, suc, pred, ◌<◌, Bool, true, false, cond, ◌||◌, List, [], ◌∷◌, ◌++◌, map, flat_map, length, slice_index_or, Option, Some, None, option_map, option_to_list, unwrap_or, slice_get, refl, ap, ◌∙◌, sym, subst, arith}
 use Rattle.std.specs.List.{AllByRecursion, list_any}
 use Rattle.std.specs.Map.{lookup}
 use Rattle.std.specs.Str.{bytes_eq}
 use Rattle.std.proofs.Math.Logic.{inl, inr}
 use Rattle.std.proofs.lemmas.Bool.{false≢true}
 use Rattle.std.proofs.lemmas.Option.{none-some, same_Some}
-use Rattle.lus_tree.specs.Tree.{Name, text_of, Variable, Expression, Expressions, truth, number, name, negation, minus, pre, arrow, binary, choice, sampled, merged, call, condact, mode_name, Labelled, ContractStatement, assume, guarantee, ghost_variable, constant, mode, «import»}
+use Rattle.lus_tree.specs.Tree.{Name, text_of, Variable, Expression, truth, number, name, negation, minus, pre, arrow, binary, choice, sampled, merged, call, condact, mode_name, ContractStatement, assume, guarantee, ghost_variable, constant, mode, «import»}
 use Rattle.lus_meaning.specs.Frame.{Frame}
-use Rattle.lus_meaning.specs.Scene.{Clock, base, sampled_by, Manner, plain, while_true, as_import, Site, Instance, Instances, instance, no_instances, with_instance, instance_at, component_of, calls_of, call_instance, outputs_of, clock_of, clock_from, contract_statements, variables}
+use Rattle.lus_meaning.specs.Scene.{Clock, base, sampled_by, Instance, Instances, instance, no_instances, with_instance, instance_at, component_of, calls_of, call_instance, clock_from, contract_statements, variables}
 use Rattle.lus_meaning.specs.Meaning.{mode_key}
-use Rattle.lus_meaning.specs.Run.{equations, inputs_of}
-use Rattle.lus_meaning.specs.Depends.{Need, the_beat, a_name, inside, ModeNeeds, known_needs, clock_needs, output_needs, needs, needs_each, asked_needs, imported_needs, modes_after, modes_need, modes_need_each, site_needs, named_in}
-use Rattle.lus_meaning.specs.Cycle.{Place, place_of, deeper, declared_needs, defined_needs, own_needs, matching, shared_needs, caller_needs, at_top, next_places, next_in_call, IsAt}
+use Rattle.lus_meaning.specs.Run.{equations}
+use Rattle.lus_meaning.specs.Depends.{Need, the_beat, a_name, inside, ModeNeeds, known_needs, clock_needs, needs, asked_needs, imported_needs, modes_after, modes_need, modes_need_each, site_needs, named_in}
+use Rattle.lus_meaning.specs.Cycle.{Place, place_of, deeper, declared_needs, defined_needs, own_needs, matching, caller_needs, next_places, next_in_call, IsAt}
 use Rattle.lus_meaning.specs.Verdict.{throughout}
 use Rattle.lus_meaning.proofs.BooleanOrder.{IsIn, in_left, in_right, in_mapped, at_some}
 use Rattle.lus_meaning.proofs.Exists.{self_bytes}
@@ -21,17 +21,17 @@ use Rattle.lus_meaning.proofs.Unique.{same_bytes}
 use Rattle.clock_laws.proofs.Reaching.{next_top}
 use Rattle.sys_meaning.specs.Defaults.{site_of}
 use Rattle.sys_meaning.specs.Items.{Key, Known}
-use Rattle.sys_meaning.specs.WellTyped.{IsKnown, IsAmong, IsNameOn, is_declared, clock_here, OutputFits, StreamFits, ClockEnds, ClockFits, OwnFits, Stands, IsImport, count_of}
+use Rattle.sys_meaning.specs.WellTyped.{IsKnown, IsAmong, is_declared, clock_here, OutputFits, StreamFits, ClockEnds, OwnFits, TreeFits, Stands, IsImport, count_of}
 use Rattle.sys_meaning.proofs.Forward.{own_fits}
-use Rattle.lus_evaluation.specs.Part.{Part, from_top, needs_of}
-use Rattle.lus_evaluation.specs.Evaluation.{is_above, NeedsPlace, place_named, instance_on}
+use Rattle.lus_evaluation.specs.Part.{from_top, needs_of}
+use Rattle.lus_evaluation.specs.Evaluation.{NeedsPlace, place_named, instance_on}
 use Rattle.evaluation_laws.specs.Resolvings.{Resolving, asked_resolving, imported_resolving, resolvings_after, resolvings, resolvings_each}
 use Rattle.evaluation_laws.specs.Rows.{AreCalls}
 use Rattle.order_laws.specs.Own.{own_setting}
 use Rattle.order_laws.specs.Rows.{place_there}
 use Rattle.order_laws.proofs.Beats.{from_end}
 use Rattle.order_laws.proofs.Covers.{further, needs_itself}
-use Rattle.order_laws.proofs.Frames.{StandsAt, stands_there, stands_called, same_place}
+use Rattle.order_laws.proofs.Frames.{StandsAt, stands_called, same_place}
 use Rattle.order_laws.proofs.Inputs.{call_next}
 use Rattle.order_laws.proofs.ModeKeys.{keys, keys_any, resolving_keys}
 use Rattle.rest_laws.proofs.Clocks.{IsClockNamed, declared_fits}
@@ -229,6 +229,17 @@ module _ (i : Instance) (f : Frame) where
           NeedsPlace i ns (from_top w the_beat)
       by_name x d q = name_reaches i f ns w a o x d (subst (NeedsPlace i ns) (own_name w x) q)
 
+      callee : (k : ℕ) → 0 < k → pred k < count_of (calls_of (place_there i f w)) → (vs : List Variable) → 0 < length vs →
+          AllByRecursion (OutputFits (place_there i f w) (IsKnown (place_there i f w)) k) vs →
+          Reach i f ns w (map (a_name (pred k ∷ [])) (map (λ v. v.name.text) vs)) → NeedsPlace i ns (from_top (w ++ k ∷ []) the_beat)
+      callee k u l [] g q h = absurd (omega (arith, g))
+      callee k u l (v ∷ vs) g q h =
+          let z : StandsAt i f (w ++ k ∷ []) (call_instance (place_there i f w) k) = stands_called i f w (place_there i f w) s k u l in
+          name_reaches i f ns (w ++ k ∷ []) z.calls
+          (subst (λ y. OwnFits y (IsKnown y)) (sym z.place) (own_fits IsKnown (call_instance (place_there i f w) k) z.fits)) v.name.text
+          (subst (λ y. is_declared y (IsKnown y) v.name.text) (sym z.place) q.0.2)
+          (subst (NeedsPlace i ns) (call_name w k v.name.text) (h (a_name (pred k ∷ []) v.name.text) (inl refl)))
+
       go : (e : Expression) → Stands (place_there i f w) (IsKnown (place_there i f w)) c e →
           Reach i f ns w (needs (place_there i f w) (modes_need (place_there i f w)) c e) → NeedsPlace i ns (from_top w the_beat)
       go (truth p x) st h = by_clock h
@@ -251,7 +262,49 @@ module _ (i : Instance) (f : Frame) where
       go (condact p k x z as_ ds) st h = by_front _ h
       go (mode_name p d m) st h = h the_beat (known_beats (place_there i f w) (option_to_list (option_map text_of d), m.text) st.1)
 
-      callee : (k : ℕ) → 0 < k → pred k < count_of (calls_of (place_there i f w)) → (vs : List Variable) → 0 < Rattle.std.specs.Prelude.length vs →
-          AllByRecursion (OutputFits (place_there i f w) (IsKnown (place_there i f w)) k) vs →
-          Reach i f ns w (map (a_name (pred k ∷ [])) (map (λ v. v.name.text) vs)) → NeedsPlace i ns (map pred (w ++ k ∷ []), None)
-      callee k u l vs g q h = tt
+  -- ---- of all parts
+
+  -- the frame below by so many calls, the last one first
+  abbrev pub lower : List ℕ → List ℕ → List ℕ
+  lower w [] = w
+  lower w (k ∷ ks) = lower w ks ++ k ∷ []
+
+  abbrev pub AreImports : List ℕ → List ℕ → Type 0
+  AreImports w [] = Unit {0}
+  AreImports w (k ∷ ks) = IsImport (place_there i f (lower w ks)) k × AreImports w ks
+
+  -- the beat of a frame, or of one that it is an import of, at every depth
+  pub record BeatNeeded (w : List ℕ) (ns : List Place) : Type 0 where
+    pub above : List ℕ
+    pub down : List ℕ
+    pub same : w ≡ lower above down
+    pub imports : AreImports above down
+    pub needed : NeedsPlace i ns (from_top above the_beat)
+
+  pub beat_of_whole : (w : List ℕ) (j : Instance) → StandsAt i f w j → (c : Clock) (e : Expression) → Stands j (IsKnown j) c e → IsClockNamed j c →
+      BeatNeeded w (needs_of (own_setting j w []) c e)
+  beat_of_whole w j s c e st n = go j s.place st n
+    where
+      go : (j : Instance) → place_there i f w ≡ j → Stands j (IsKnown j) c e → IsClockNamed j c → BeatNeeded w (needs_of (own_setting j w []) c e)
+      go j q st n =
+          subst (λ y. BeatNeeded w (needs_of (own_setting y w []) c e)) q record {
+            above = w;
+            down = [];
+            same = refl;
+            imports = tt;
+            needed = beat_needed w s.calls (record { calls = s.calls; place = refl; fits = subst (λ y. TreeFits IsKnown y) (sym s.place) s.fits })
+                (needs_of (own_setting (place_there i f w) w []) c e) c e
+                (subst (λ y. Stands y (IsKnown y) c e) (sym q) st) (subst (λ y. IsClockNamed y c) (sym q) n)
+                (λ m h. needs_itself i (needs_of (own_setting (place_there i f w) w []) c e) (from_top w m)
+                (in_mapped (from_top w) m (needs (place_there i f w) (modes_need (place_there i f w)) c e) h));
+          }
+
+  pub beat_of_import : (w : List ℕ) (j : Instance) → StandsAt i f w j → (k : ℕ) → IsImport j k → (ns : List Place) → BeatNeeded w ns →
+      BeatNeeded (w ++ k ∷ []) ns
+  beat_of_import w j s k im ns b = record {
+    above = b.above;
+    down = k ∷ b.down;
+    same = ap (λ v. v ++ k ∷ []) b.same;
+    imports = (subst (λ v. IsImport (place_there i f v) k) b.same (subst (λ y. IsImport y k) (sym s.place) im), b.imports);
+    needed = b.needed;
+  }

@@ -1,32 +1,32 @@
 -- The sources of the slots on which the parts of an instant rest.
-use Rattle.std.proofs.Common.{◌≡◌, ℕ, zero, suc, pred, ◌<◌, Bool, true, false, ◌||◌, ◌&&◌, eqb, List, [], ◌∷◌, ◌++◌, map, length, refl, ap, ◌∙◌, sym, subst, arith, Option, Some, None, slice_get}
-use Rattle.std.specs.List.{AllByRecursion, list_any}
-use Rattle.std.proofs.Math.Logic.{◌⊎◌, inl, inr}
+use Rattle.std.proofs.Common.{◌≡◌, ℕ, pred, ◌<◌, Bool, true, List, [], ◌∷◌, ◌++◌, refl, ap, ◌∙◌, sym, subst, Some, slice_get}
+use Rattle.std.specs.List.{AllByRecursion}
+use Rattle.std.proofs.Math.Logic.{inl, inr}
 use Rattle.std.proofs.lemmas.Bool.{false≢true, eqb-true, eq-eqb}
 use Rattle.lus_tree.specs.declared.place.Sort.{Sort}
 use Rattle.lus_tree.specs.declared.place.Sort.TheVariants.{Bool as Flags}
 use Rattle.lus_tree.specs.Tree.{Name, Variable, Expression, truth, number, name, negation, minus, pre, arrow, binary, choice, sampled, merged, call, condact, mode_name}
 use Rattle.lus_meaning.specs.Frame.{Frame}
-use Rattle.lus_meaning.specs.Scene.{Clock, base, sampled_by, Manner, plain, while_true, as_import, Site, Instance, component_of, calls_of, call_instance, outputs_of, clock_from, clock_of_names, variables}
+use Rattle.lus_meaning.specs.Scene.{Clock, base, sampled_by, Manner, plain, while_true, as_import, Site, Instance, component_of, calls_of, call_instance, clock_from, clock_of_names, variables}
 use Rattle.lus_meaning.specs.Occurrences.{Memory, memories, Start, starts}
 use Rattle.lus_meaning.specs.Program.{in_order}
-use Rattle.lus_meaning.specs.Run.{Equation, equations, inputs_of, sort_of, sort_of_name}
-use Rattle.lus_meaning.specs.Depends.{named_in, left_names}
+use Rattle.lus_meaning.specs.Run.{Equation, equations, sort_of_name}
+use Rattle.lus_meaning.specs.Depends.{named_in}
 use Rattle.lus_meaning.specs.Slots.{slots}
 use Rattle.lus_meaning.specs.Trace.{same_numbers}
 use Rattle.lus_meaning.specs.Verdict.{throughout}
 use Rattle.lus_meaning.proofs.BooleanOrder.{IsIn}
 use Rattle.lus_meaning.proofs.InOrder.{in_order_all}
-use Rattle.lus_meaning.proofs.Lists.{all_from, both_parts, append_none, mapped_all}
+use Rattle.lus_meaning.proofs.Lists.{all_from, append_none, mapped_all}
 use Rattle.lus_meaning.proofs.Ranked.{all_named}
-use Rattle.sys_meaning.specs.Slot.{Spot, beat, named, memory, starting, so_far, held, Place, own, in_call, memory_of}
+use Rattle.sys_meaning.specs.Slot.{Spot, beat, named, memory, starting, held, Place, own, in_call}
 use Rattle.sys_meaning.specs.Defaults.{site_of}
 use Rattle.sys_meaning.specs.WellTyped.{IsKnown, IsCall, IsNameOn, IsMemory, Stands, StreamFits, EquationFits, MemoryFits, StartFits, MannerFits, CallFits, OwnFits, HasPlaceIn, count_of}
 use Rattle.sys_meaning.proofs.Balanced.{join_all}
 use Rattle.sys_meaning.proofs.Forward.{own_fits}
 use Rattle.sys_meaning.proofs.Shows.{same_ways}
 use Rattle.lus_evaluation.specs.Part.{Part}
-use Rattle.lus_evaluation.specs.Evaluation.{is_above, gives_name}
+use Rattle.lus_evaluation.specs.Evaluation.{is_above}
 use Rattle.lus_evaluation.specs.Past.{NonePast}
 use Rattle.slot_values.specs.Evaluated.{SlotValues, outside}
 use Rattle.slot_values.specs.Resolution.{Resolution}
@@ -35,15 +35,14 @@ use Rattle.slot_values.specs.Clocked.{row_by, clock_on}
 use Rattle.evaluation_laws.specs.Rows.{AreCalls, row_at, numbers_there}
 use Rattle.evaluation_laws.proofs.Waiting.{both_true, both, any_in, in_any}
 use Rattle.slot_sources.specs.declared.source.Switch.{Switch}
-use Rattle.slot_sources.specs.Source.{Source, always, runs, runs_while, given, same, argument, listed, remembered}
-use Rattle.slot_sources.specs.Source as s
+use Rattle.slot_sources.specs.Source.{Source, given, same, listed}
 use Rattle.slot_sources.specs.Rows as rows
 use Rattle.slot_sources.specs.Rows.{is_read, outside_now, outside_next, reads_now, reads_before, slots_read}
 use Rattle.slot_sources.specs.Sources.{numbering_of, switch_of, call_beat, beat_source, argument_source, held_source, memory_source, start_source, sources_of}
 use Rattle.row_laws.proofs.Lists.{some_inner, Both, both_at}
 use Rattle.row_laws.proofs.Ranking.{call_of_number}
 use Rattle.order_laws.specs.Laws.{IsOneOf}
-use Rattle.order_laws.specs.Needed.{IsCalled, Sees, IsGiven, IsEvaluatedIn, NoneOutside, OfOperand}
+use Rattle.order_laws.specs.Needed.{IsCalled, IsGiven, IsEvaluatedIn, NoneOutside, OfOperand}
 use Rattle.order_laws.specs.Rows.{place_there}
 use Rattle.order_laws.proofs.Bodies.{in_all, slice_in}
 use Rattle.order_laws.proofs.Frames.{StandsAt, stands_there, stands_called, same_place}
