@@ -1,5 +1,5 @@
 -- How a replay ends, put together from what each step knows.
-use Rattle.std.proofs.Common.{◌≡◌, ◌≢◌, ◌⊎◌, inl, inr, ℕ, ◌≤◌, List, length, refl, sym, ap, ◌∙◌, subst, Result, Ok, Err, IsErrAnd, Some}
+use Rattle.std.proofs.Common.{◌≡◌, ◌≢◌, ◌⊎◌, inl, inr, ℕ, ◌≤◌, List, length, refl, sym, ap, ◌∙◌, subst, Result, Ok, Err, IsErrAnd, Some, MatchResult}
 use Rattle.std.proofs.lemmas.Result.{err_from_is_err_and}
 use Rattle.kind_io.specs.Told.{Told, MayHold, MayExceed}
 use Rattle.lus_tree.specs.Tree.{Program}
@@ -17,7 +17,7 @@ use Rattle.kind_main.specs.Report.{IsReplayReport}
 use Rattle.kind_main.specs.declared.ending.Report.{Report}
 use Rattle.kind_main.specs.declared.ending.Stopped.{Stopped}
 use Rattle.kind_main.specs.declared.ending.Stopped.TheVariants.{Usage, Unread, Refused, Memory}
-use Rattle.kind_main.specs.Ending.{Ending, usage, unread, refused, done, IfStopped, IfEnded}
+use Rattle.kind_main.specs.Ending.{Ending, usage, unread, refused, done, lines_view, IfStopped, IfEnded}
 use Rattle.kind_main.specs.Fetched.{Tells, limit, IsUnfetched}
 use Rattle.kind_main.specs.Source as S
 use Rattle.kind_main.specs.Source.{EndsAtSource, HoldsSource, FollowsAll, IsRuling}
@@ -123,3 +123,11 @@ module _ (told : Tells) (before now : ℕ) (file trace : List ℕ) where
       held = record { bytes = bytes; held = subst (λ w. MayHold w bytes) same m; short = le; text = text; fits = fits };
       replay = r;
     }
+
+    -- what comes of it
+    pub replay_ends : (tells : Told) → tells ≡ told trace → (bytes : List ℕ) → MayHold tells bytes → length bytes ≤ limit → (t : Listing)
+        → IsTraceText bytes t → (r : Result Report Stopped)
+        → MatchResult r (λ x. FitsProgram p t × IsReplayReport p t (lines_view x.lines.items) x.status.code) (IfStopped (EndsAtMisfit p t))
+        → IfEnded (EndsReplay told before now file trace) r
+    replay_ends tells same bytes m le t text (Ok x) h = traced tells same bytes m le t text h.0 (lines_view x.lines.items) x.status.code h.1
+    replay_ends tells same bytes m le t text (Err s) h = stop_as _ _ (unfit_trace tells same bytes m le t text) s h

@@ -25,7 +25,7 @@ module _ {X : Type 0} (label : X → List ℕ) (properties : List X) (hits : ℕ
   report-next lines grown number next index x lt is n g r =
       let cons : report_left index ≡ said (label x) (hits index) ++ report_left (index + 1) =
       ap (λ l. report_from index (map label l) hits) (dropped properties index x lt is)
-      ∙ ap (λ k. said (label x) (hits index) ++ report_from k (map label (drop (index + 1) properties)) hits) (sym add-one) in
+      ∙ ap (λ k. said (label x) (hits index) ++ report_from k (map label (drop (index + 1) properties)) hits) (sym (add-one index)) in
       let same : number ≡ index = r.counted in
       record {
         go = ap (λ l. l ++ report_left (index + 1)) (g ∙ ap (λ k. lines ++ said (label x) (hits k)) same)

@@ -2,7 +2,7 @@
 ghost use Rattle.std.specs.Prelude.{◌≡◌, ◌++◌, ℕ, List, [], ◌∷◌, codes, decimal, IfOk};
 ghost use Rattle.std.specs.String.{string_bytes};
 ghost use Rattle.lus_tree.specs.Reason.{refusal_view, what_view};
-ghost use Rattle.kind_main.specs.Lines.{breaks_line, formless_line, lawful_line, operation_text, past_line, read_fault_line, refused_line, rule_more, rule_name};
+ghost use Rattle.kind_main.specs.Lines.{breaks_line, formless_line, lawful_line, operation_text, past_line, past_text, read_fault_line, refused_line, rule_more, rule_name};
 
 use kind_num::{Op, Past};
 use lus_tree::{Pos, Refusal, What};
@@ -16,7 +16,7 @@ pub fn breaks_text(alloc: Global, label: &str, t: u32) -> Result<String, AllocEr
 }
 
 /// The word of an operation.
-pub fn operation(op: Op) -> &'static str
+fn operation(op: Op) -> &'static str
     ensures { result.now ≡ operation_text op }
 {
     match op {
@@ -25,6 +25,16 @@ pub fn operation(op: Op) -> &'static str
         Op::Mul => "*",
         Op::Div => "div",
     }
+}
+
+/// An operation and its operands.
+pub fn past_words(alloc: Global, past: Past) -> Result<String, AllocError>
+    ensures { IfOk result (λ text. string_bytes text ≡ past_text past) }
+{
+    let op = operation(past.op);
+    let left = past.left;
+    let right = past.right;
+    format!(in alloc; "{op} {left} {right}")
 }
 
 /// `past 128 bits at L:C instant T: OP A B`
@@ -38,10 +48,8 @@ pub fn past_line_text(
 {
     let line = at.line;
     let column = at.column;
-    let op = operation(past.op);
-    let left = past.left;
-    let right = past.right;
-    format!(in alloc; "past 128 bits at {line}:{column} instant {instant}: {op} {left} {right}\n")
+    let words = past_words(alloc, past)?;
+    format!(in alloc; "past 128 bits at {line}:{column} instant {instant}: {words}\n")
 }
 
 /// `lawful A of N`

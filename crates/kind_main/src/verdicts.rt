@@ -21,7 +21,7 @@ ghost use Rattle.kind_main.specs.Verdicts.{because_text, engine_text, falsifiabl
 use crate::cause::Because;
 use crate::options::EngineName;
 use crate::outcome::Outcome;
-use crate::text::operation;
+use crate::text::past_words;
 use board_core::Cause;
 use kind_num::Past;
 use lus_meaning::Spot;
@@ -35,10 +35,8 @@ use std::alloc::{AllocError, Global};
 fn past(alloc: Global, past: Past) -> Result<String, AllocError>
     ensures { IfOk result (λ text. string_bytes text ≡ codes "past 128 bits " ++ past_text past) }
 {
-    let op = operation(past.op);
-    let left = past.left;
-    let right = past.right;
-    format!(in alloc; "past 128 bits {op} {left} {right}")
+    let words = past_words(alloc, past)?;
+    format!(in alloc; "past 128 bits {words}")
 }
 
 /// The budget that was spent, or the operation whose result has more than 128 bits.

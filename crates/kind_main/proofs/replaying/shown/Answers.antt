@@ -22,15 +22,16 @@ use Rattle.kind_main.proofs.Reporting.{pushed-line}
 use Rattle.kind_main.proofs.Replayed.{node_inside, stays}
 use Rattle.kind_main.proofs.replaying.shown.Goals as goal
 
-pub replayed_node-requires : goal.replayed_node-requires
-replayed_node-requires c = node_inside (tree_of c.args.checked.now) (trace_view c.args.trace.now) (replay_view c.args.replay.now) c.requires
+pub replayed_node-node-requires : goal.replayed_node-node-requires
+replayed_node-node-requires c =
+    rw c.node.ensures (node_inside (tree_of c.args.checked.now) (trace_view c.args.trace.now) (replay_view c.args.replay.now) c.requires)
 
 pub break_lines-requires : goal.break_lines-requires
 break_lines-requires c =
     let p = tree_of c.args.checked.now in
-    let d = node_view c.node.result.now in
+    let d = node_view c.replayed_node-node.result.now in
     let follows : FollowsAll p = record { rules = c.program.ensures.rules; limits = c.program.ensures.within } in
-    let declared : Contains p (declared_node d) = node_declared p (replay_view c.args.replay.now).node d (rw c.node-2.ensures at c.node.ensures) in
+    let declared : Contains p (declared_node d) = node_declared p (replay_view c.args.replay.now).node d (rw c.node.ensures at c.replayed_node-node.ensures) in
     let marks : map property_view c.in_ok-properties.properties.items ≡ map mark_of (properties (instance_of p d)) =
     rw c.program.ensures.same at c.in_ok-properties.ensures in
     let many : length c.in_ok-properties.properties.items ≡ length (properties (instance_of p d)) =
@@ -40,13 +41,13 @@ break_lines-requires c =
 pub returns : goal.returns
 returns c =
     let p = tree_of c.args.checked.now in
-    let d = node_view c.node.result.now in
+    let d = node_view c.replayed_node-node.result.now in
     let marks : map property_view c.in_ok-properties.properties.items ≡ map mark_of (properties (instance_of p d)) =
     rw c.program.ensures.same at c.in_ok-properties.ensures in
     let labels : map (λ q. mark_text (property_view q)) c.in_ok-properties.properties.items ≡ map label_of (properties (instance_of p d)) =
     sym (map_map property_view mark_text c.in_ok-properties.properties.items) ∙ labels_so _ (properties (instance_of p d)) marks in
     let report = rw c.deref.ensures.value at c.in_ok-lines.ensures in
-    stays p (trace_view c.args.trace.now) (replay_view c.args.replay.now) c.requires d (rw c.node-2.ensures at c.node.ensures)
+    stays p (trace_view c.args.trace.now) (replay_view c.args.replay.now) c.requires d (rw c.node.ensures at c.replayed_node-node.ensures)
     _ labels (lines_view c.in_ok-lines.lines.items) report
     _ (pushed-line line_bytes c.in_ok-lines.lines.items _ c.into_bytes.result _ c.in_ok-push.ensures.items
     (ap line_bytes c.into_bytes.ensures.value ∙ (rw c.lawful.ensures at c.in_ok-last.ensures)))
