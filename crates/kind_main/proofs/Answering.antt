@@ -78,7 +78,7 @@ module _ (told : Tells) (before now : ℕ) (file trace : List ℕ) where
   no_source (done lines code) h = absurd h
 
   -- its bytes are refused
-  pub bad_source : (bytes : List ℕ) → MayHold (told file) bytes → length bytes ≤ limit → (e : Ending) → EndsReplayAtSource bytes e
+  pub bad_source : (bytes : List ℕ) → MayHold (told file) bytes → length bytes ≤ limit → (e : Ending) → EndsAtSource bytes e
       → EndsReplay told before now file trace e
   bad_source bytes m le usage h = absurd h
   bad_source bytes m le (unread name) h = absurd h

@@ -30,10 +30,10 @@ pub break_lines-requires : goal.break_lines-requires
 break_lines-requires c =
     let p = tree_of c.args.checked.now in
     let d = node_view c.replayed_node-node.result.now in
-    let follows : FollowsAll p = record { rules = c.program.ensures.rules; limits = c.program.ensures.within } in
+    let follows : FollowsAll p = record { rules = c.program-program.ensures.rules; limits = c.program-program.ensures.within } in
     let declared : Contains p (declared_node d) = node_declared p (replay_view c.args.replay.now).node d (rw c.node.ensures at c.replayed_node-node.ensures) in
     let marks : map property_view c.in_ok-properties.properties.items ≡ map mark_of (properties (instance_of p d)) =
-    rw c.program.ensures.same at c.in_ok-properties.ensures in
+    rw c.program-program.ensures.same at c.in_ok-properties.ensures in
     let many : length c.in_ok-properties.properties.items ≡ length (properties (instance_of p d)) =
     sym (as_long property_view c.in_ok-properties.properties.items) ∙ (ap length marks ∙ as_long mark_of (properties (instance_of p d))) in
     rw c.deref.ensures.value (subst (λ n. n ≤ 500) (sym many) (few p d follows declared c.small_systems.ensures c.as_many_formulas.ensures))
@@ -43,7 +43,7 @@ returns c =
     let p = tree_of c.args.checked.now in
     let d = node_view c.replayed_node-node.result.now in
     let marks : map property_view c.in_ok-properties.properties.items ≡ map mark_of (properties (instance_of p d)) =
-    rw c.program.ensures.same at c.in_ok-properties.ensures in
+    rw c.program-program.ensures.same at c.in_ok-properties.ensures in
     let labels : map (λ q. mark_text (property_view q)) c.in_ok-properties.properties.items ≡ map label_of (properties (instance_of p d)) =
     sym (map_map property_view mark_text c.in_ok-properties.properties.items) ∙ labels_so _ (properties (instance_of p d)) marks in
     let report = rw c.deref.ensures.value at c.in_ok-lines.ensures in

@@ -14,7 +14,7 @@ push_property-requires c =
 pub loop-property-preserved : goal.loop-property-preserved
 loop-property-preserved c =
     report-next (λ q. mark_text (property_view q)) c.args.properties.now (replay_view c.args.replay.now).breaks _ _ _ _ c.loop-property.property-index _
-    (omega arith) c.item-property.is c.in_ok-number.ensures.next c.in_ok-number.ensures.added c.loop-property.invariant
+    (omega arith) c.property-item.is c.in_ok-number.ensures.next c.in_ok-number.ensures.added c.loop-property.invariant
 
 pub loop-property-init : goal.loop-property-init
 loop-property-init c = rw c.new-lines.ensures.items (report-start (λ q. mark_text (property_view q)) c.args.properties.now (replay_view c.args.replay.now).breaks)
