@@ -1,5 +1,5 @@
 -- Rows that agree on what conditions and parts read have the same answers.
-use Rattle.std.proofs.Common.{◌≡◌, ℕ, zero, suc, ◌<◌, Bool, true, List, [], ◌∷◌, ◌++◌, Option, Some, None, slice_get, refl, ap, ◌∙◌, sym, subst, arith}
+use Rattle.std.proofs.Common.{◌≡◌, ℕ, zero, suc, ◌<◌, ◌≤◌, Bool, true, List, [], ◌∷◌, ◌++◌, Option, Some, None, slice_get, refl, ap, ◌∙◌, sym, subst, arith}
 use Rattle.lus_meaning.proofs.Lists.{all_from}
 use Rattle.slot_values.specs.Resolution.{Resolution}
 use Rattle.slot_values.specs.Evaluated.{SlotValues, outside}
@@ -8,8 +8,8 @@ use Rattle.slot_sources.specs.Rows.{is_on, slots_read}
 use Rattle.slot_rows.proofs.Dependence.{SameOn, outside_same, worth_same}
 use Rattle.slot_replay.specs.Conditions.{Conditions, all_true, any_outside, is_true}
 use Rattle.slot_replay.specs.Parts.{Part, pasts_of}
-use Rattle.slot_replay.specs.Answer.{Breaks, GoesOn, IsBreak, IsBreakOf, IsLawful, first_past, met_outside}
-use Rattle.slot_replay.specs.Agreement.{AgreeOn, AreIn, BreaksAgree, ConditionsReadIn, FirstAgree, LawfulAgree, PartsReadIn, PastsAgree, ReadIn, WithinTrue}
+use Rattle.slot_replay.specs.Answer.{Breaks, GoesOn, IsBreak, IsBreakOf, IsLawful, first_past, is_outside, met_before, met_outside}
+use Rattle.slot_replay.specs.Agreement.{AgreeOn, AreIn, BreaksAgree, ConditionsReadIn, FirstAgree, LawfulAgree, PartsReadIn, PastsAgree, ReadIn, WithinTrue, part_reads}
 
 -- ---- at one instant
 
@@ -24,17 +24,16 @@ module _ (in_set : ℕ → Bool) (s r : SlotValues) (agree : AgreeOn in_set s r)
   all_same [] a = refl
   all_same (e ∷ es) a = rw (true_same e a.0, all_same es a.1) refl
 
-  any_same : (es : List Resolution) → ReadIn in_set es → any_outside s es ≡ any_outside r es
+  pub any_same : (es : List Resolution) → ReadIn in_set es → any_outside s es ≡ any_outside r es
   any_same [] a = refl
   any_same (e ∷ es) a = rw (outside_same s r true e (same_on (slots_read e) a.0), any_same es a.1) refl
 
-  pasts_same : (ps : List Part) → PartsReadIn in_set ps → pasts_of s ps ≡ pasts_of r ps
+  pub part_alike : (p : Part) → AreIn in_set (part_reads p) → outside s (is_on s p.clock) p.expression ≡ outside r (is_on r p.clock) p.expression
+  part_alike p a = rw (agree p.clock.slot a.0) (outside_same s r (is_on r p.clock) p.expression (same_on (slots_read p.expression) a.1))
+
+  pub pasts_same : (ps : List Part) → PartsReadIn in_set ps → pasts_of s ps ≡ pasts_of r ps
   pasts_same [] a = refl
-  pasts_same (p ∷ ps) a = rw (
-    agree p.clock.slot a.0.0,
-    outside_same s r (is_on r p.clock) p.expression (same_on (slots_read p.expression) a.0.1),
-    pasts_same ps a.1,
-  ) refl
+  pasts_same (p ∷ ps) a = rw (part_alike p a.0, pasts_same ps a.1) refl
 
 turned : (in_set : ℕ → Bool) (s r : SlotValues) → AgreeOn in_set s r → AgreeOn in_set r s
 turned in_set s r h k i = sym (h k i)
@@ -100,12 +99,19 @@ pasts_agree in_set q ps n m s r reads parts agree flags = record {
   going_on = λ h t l. goes_on t l (h t l);
 }
   where
-    met_same : (t : ℕ) → t < m → met_outside s q t ≡ met_outside r q t
-    met_same t l = rw (
+    here_same : (t : ℕ) → t < m → is_outside s q t ≡ is_outside r q t
+    here_same t l = rw (
       flags t l,
       any_same in_set (s.values t) (r.values t) (agree t l) q.legal reads.legal,
       any_same in_set (s.values t) (r.values t) (agree t l) q.properties reads.properties,
     ) refl
+
+    before_same : (t : ℕ) → t ≤ m → met_before s q t ≡ met_before r q t
+    before_same zero l = refl
+    before_same (suc t) l = rw (before_same t (omega (arith, l)), here_same t (omega (arith, l))) refl
+
+    met_same : (t : ℕ) → t < m → met_outside s q t ≡ met_outside r q t
+    met_same t l = before_same (suc t) (omega (arith, l))
 
     first_same : (t : ℕ) → t < m → first_past s ps t ≡ first_past r ps t
     first_same t l = ap (λ xs. slice_get xs 0) (pasts_same in_set (s.values t) (r.values t) (agree t l) ps parts)
@@ -113,7 +119,7 @@ pasts_agree in_set q ps n m s r reads parts agree flags = record {
     goes_on : (t : ℕ) → t < m → GoesOn s q ps t → GoesOn r q ps t
     goes_on t l h met = sym (first_same t l) ∙ h (met_same t l ∙ met)
 
-first_front : (r : SlotValues) (front rest : List Part) (p : PastAt) → slice_get (pasts_of r front) 0 ≡ Some p
+pub first_front : (r : SlotValues) (front rest : List Part) (p : PastAt) → slice_get (pasts_of r front) 0 ≡ Some p
     → slice_get (pasts_of r (front ++ rest)) 0 ≡ Some p
 first_front r [] rest p h = cc
 first_front r (f ∷ fs) rest p h = go (outside r (is_on r f.clock) f.expression) (first_front r fs rest p) h

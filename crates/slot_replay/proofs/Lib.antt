@@ -1,3 +1,4 @@
 pub mod Told
 pub mod Marked
 pub mod Agreed
+pub mod Followed

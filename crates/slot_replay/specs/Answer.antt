@@ -1,5 +1,5 @@
 -- What a replay answers: the first operation outside 128 bits that a part has; or when properties break, and which instants are lawful.
-use Rattle.std.specs.Prelude.{◌≡◌, ℕ, ◌<◌, ◌≤◌, Bool, true, false, ◌||◌, List, Option, Some, None, slice_get}
+use Rattle.std.specs.Prelude.{◌≡◌, ℕ, zero, suc, ◌<◌, ◌≤◌, Bool, true, false, ◌||◌, List, Option, Some, None, slice_get}
 use Rattle.slot_values.specs.Resolution.{Resolution}
 use Rattle.slot_values.specs.Evaluated.{SlotValues}
 use Rattle.slot_values.specs.declared.resolved.PastAt.{PastAt}
@@ -19,32 +19,56 @@ pub record Seen : Type 0 where
 abbrev pub seen_in : List Row → Seen
 seen_in rs = record { values = value_in rs; outside = λ t. (row_in rs t).outside }
 
--- whether something was outside at an instant: in the row, or in a condition
+-- whether something is outside at an instant: in the row, or in a condition
+abbrev pub is_outside : Seen → Conditions → ℕ → Bool
+is_outside s q t = s.outside t || (any_outside (s.values t) q.legal || any_outside (s.values t) q.properties)
+
+-- at one of the first t instants
+abbrev pub met_before : Seen → Conditions → ℕ → Bool
+met_before s q zero = false
+met_before s q (suc t) = met_before s q t || is_outside s q t
+
+-- Whether something was outside by then: at an instant or at an earlier one. Behind one at which something is, what rests on that may be wrong, and so may the
+-- marks of the rows.
 abbrev pub met_outside : Seen → Conditions → ℕ → Bool
-met_outside s q t = s.outside t || (any_outside (s.values t) q.legal || any_outside (s.values t) q.properties)
+met_outside s q t = met_before s q (suc t)
 
 -- the first operation outside that a part has there
 abbrev pub first_past : Seen → List Part → ℕ → Option PastAt
 first_past s ps t = slice_get (pasts_of (s.values t) ps) 0
 
--- where something was outside no part is
+-- where something was outside by then no part is
 abbrev pub GoesOn : Seen → Conditions → List Part → ℕ → Type 0
 GoesOn s q ps t = met_outside s q t ≡ true → first_past s ps t ≡ None
 
 abbrev pub AllGoOn : Seen → Conditions → List Part → ℕ → Type 0
 AllGoOn s q ps n = (t : ℕ) → t < n → GoesOn s q ps t
 
--- The first operation outside that is told: it is that of the first instant at which something was outside and a part is.
+-- The first operation outside that is told: it is that of the first instant at which something was outside by then and a part is.
 pub record IsFirstTold (s : Seen) (q : Conditions) (ps : List Part) (n t : ℕ) (p : PastAt) : Type 0 where
   pub below : t < n
   pub met : met_outside s q t ≡ true
   pub first : first_past s ps t ≡ Some p
   pub earlier : AllGoOn s q ps t
 
--- the same of a fault, where that isn't want of memory
-abbrev pub IsPast : Seen → Conditions → List Part → ℕ → ReplayFault → Type 0
-IsPast s q ps n (faults.Past at t past) = IsFirstTold s q ps n t (record { at = at; past = past })
-IsPast s q ps n faults.Memory = Unit {0}
+-- the same of a fault, where that isn't want of memory, of a list of parts
+pub record IsToldOf (s : Seen) (q : Conditions) (AreParts : List Part → Type 0) (n t : ℕ) (p : PastAt) : Type 0 where
+  pub parts : List Part
+  pub are_parts : AreParts parts
+  pub told : IsFirstTold s q parts n t p
+
+abbrev pub IsPast : Seen → Conditions → (List Part → Type 0) → ℕ → ReplayFault → Type 0
+IsPast s q AreParts n (faults.Past at t past) = IsToldOf s q AreParts n t (record { at = at; past = past })
+IsPast s q AreParts n faults.Memory = Unit {0}
+
+-- if something was outside at one of n instants, a list of parts was looked at, and there was none to tell
+pub record HasGoneOn (s : Seen) (q : Conditions) (AreParts : List Part → Type 0) (n : ℕ) : Type 0 where
+  pub parts : List Part
+  pub are_parts : AreParts parts
+  pub going_on : AllGoOn s q parts n
+
+abbrev pub GoesThrough : Seen → Conditions → (List Part → Type 0) → ℕ → Type 0
+GoesThrough s q AreParts n = met_before s q n ≡ true → HasGoneOn s q AreParts n
 
 -- ---- what breaks
 
@@ -80,13 +104,24 @@ pub record AreLawful (s : ℕ → SlotValues) (q : Conditions) (n a : ℕ) : Typ
 
 -- ---- at one instant
 
--- the first one of these operations, at this instant
-abbrev pub IsToldOf : List PastAt → ℕ → ReplayFault → Type 0
-IsToldOf ps t (faults.Past at u past) = (u ≡ t) × (slice_get ps 0 ≡ Some (record { at = at; past = past }))
-IsToldOf ps t faults.Memory = Unit {0}
+-- the first operation of the parts that are kept, if there are such
+abbrev pub first_kept : SlotValues → Option (List Part) → Option PastAt
+first_kept s None = None
+first_kept s (Some ps) = slice_get (pasts_of s ps) 0
 
--- the same of the parts, where something was outside
-abbrev pub IsPastAt : Seen → Conditions → List Part → ℕ → ReplayFault → Type 0
-IsPastAt s q ps t (faults.Past at u past) =
-    (u ≡ t) × (met_outside s q t ≡ true) × (first_past s ps t ≡ Some (record { at = at; past = past }))
-IsPastAt s q ps t faults.Memory = Unit {0}
+-- this operation, at this instant
+abbrev pub IsTold : Option PastAt → ℕ → ReplayFault → Type 0
+IsTold first t (faults.Past at u past) = (u ≡ t) × (first ≡ Some (record { at = at; past = past }))
+IsTold first t faults.Memory = Unit {0}
+
+-- The parts are kept from the first instant on at which something is outside. At the first t instants there was none to tell.
+abbrev pub IsKept : Seen → Conditions → (List Part → Type 0) → ℕ → Option (List Part) → Type 0
+IsKept s q AreParts t None = met_before s q t ≡ false
+IsKept s q AreParts t (Some ps) = (met_before s q t ≡ true) × AreParts ps × AllGoOn s q ps t
+
+-- they are made where none are kept and something is outside
+abbrev pub IsKeptAfter : Option (List Part) → Bool → (List Part → Type 0) → Option (List Part) → Type 0
+IsKeptAfter (Some ps) outside AreParts new = new ≡ Some ps
+IsKeptAfter None false AreParts new = new ≡ None
+IsKeptAfter None true AreParts None = ⊥
+IsKeptAfter None true AreParts (Some ps) = AreParts ps

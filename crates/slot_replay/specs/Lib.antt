@@ -4,3 +4,4 @@ pub mod Answer
 pub mod Shown
 pub mod Marks
 pub mod Agreement
+pub mod Following

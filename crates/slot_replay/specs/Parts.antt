@@ -1,5 +1,7 @@
 -- The parts of an instant, in the order of evaluation.
-use Rattle.std.specs.Prelude.{List, [], ◌∷◌, ◌++◌}
+use Rattle.std.specs.Prelude.{List, [], ◌∷◌, ◌++◌, map, Option, Some, None}
+use Rattle.std.specs.declared.alloc.Global.{Global}
+use Rattle.std.specs.declared.vec.Vec.{Vec}
 use Rattle.slot_values.specs.Resolution.{Resolution, resolved_view}
 use Rattle.slot_values.specs.Evaluated.{SlotValues, outside}
 use Rattle.slot_values.specs.declared.resolved.PastAt.{PastAt}
@@ -19,3 +21,8 @@ pasts_of s (p ∷ ps) = outside s (is_on s p.clock) p.expression ++ pasts_of s p
 
 abbrev pub part_view : PartAt → Part
 part_view p = record { clock = p.clock; expression = resolved_view p.expression }
+
+-- parts that are kept, where they are made
+abbrev pub kept_view : Option (Vec PartAt Global) → Option (List Part)
+kept_view None = None
+kept_view (Some v) = Some (map part_view v.items)

@@ -19,8 +19,8 @@ pub struct PartAt {
 
 /// What is evaluated at each instant, in order. It is made only where an operation was outside 128 bits.
 pub trait Parts {
-    /// The parts as contracts see them.
-    ghost parts: { Self → List Part };
+    /// Whether these are the parts, as contracts see them.
+    ghost are_parts: { Self → List Part → Type 0 };
 
     /// The parts.
     ///
@@ -28,7 +28,7 @@ pub trait Parts {
     ///
     /// Want of memory.
     fn in_order(&self, alloc: Global) -> Result<Vec<PartAt>, AllocError>
-        ensures { IfOk result (λ v. map part_view v.items ≡ parts self.now) };
+        ensures { IfOk result (λ v. are_parts self.now (map part_view v.items)) };
 }
 
 /// The first operation of the first part that has one outside 128 bits.

@@ -4,7 +4,7 @@ ghost use Rattle.std.specs.Prelude.{◌≡◌, ℕ, IfErr, IfOk, OnOk, map};
 ghost use Rattle.slot_sources.specs.Source.{source_view};
 ghost use Rattle.slot_rows.specs.Table.{rows, value_in};
 ghost use Rattle.slot_replay.specs.Conditions.{conditions_view};
-ghost use Rattle.slot_replay.specs.Answer.{AllGoOn, AreBreaks, AreLawful, IsPast, seen_in};
+ghost use Rattle.slot_replay.specs.Answer.{AreBreaks, AreLawful, GoesThrough, IsPast, seen_in};
 ghost use Rattle.slot_replay.specs.Shown.{replayed_view};
 
 use crate::conditions::Conditions;
@@ -20,8 +20,8 @@ use std::alloc::Global;
 ///
 /// # Errors
 ///
-/// `Past` at the first instant at which an operation was outside 128 bits in the table or a condition and a part has one:
-/// the first operation of the first such part. `Memory` for want of memory.
+/// `Past` at the first instant at which a part has an operation outside 128 bits, from the first instant on at which one
+/// was outside in the table or a condition: the first operation of the first such part. `Memory` for want of memory.
 pub fn replay<C: Chosen, P: Parts>(
     alloc: Global,
     sources: &[Source],
@@ -33,10 +33,10 @@ pub fn replay<C: Chosen, P: Parts>(
 ) -> Result<Replayed, ReplayFault>
     // An operation that is told is the first one.
     ensures past { IfErr result (IsPast (seen_in (rows (C.choices chosen.now) (map source_view sources.now) order.now instants))
-        (conditions_view conditions.now) (P.parts parts.now) instants) }
-    // Where there is an answer no part had one.
-    ensures going_on { OnOk result (AllGoOn (seen_in (rows (C.choices chosen.now) (map source_view sources.now) order.now instants))
-        (conditions_view conditions.now) (P.parts parts.now) instants) }
+        (conditions_view conditions.now) (P.are_parts parts.now) instants) }
+    // Where there is an answer no part had one, once something was outside.
+    ensures going_on { OnOk result (GoesThrough (seen_in (rows (C.choices chosen.now) (map source_view sources.now) order.now instants))
+        (conditions_view conditions.now) (P.are_parts parts.now) instants) }
     // The first lawful instants at which properties are not true.
     ensures breaks { IfOk result (λ r. AreBreaks (value_in (rows (C.choices chosen.now) (map source_view sources.now) order.now instants))
         (conditions_view conditions.now) instants (replayed_view r).breaks) }

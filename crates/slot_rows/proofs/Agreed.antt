@@ -10,9 +10,9 @@ use Rattle.slot_sources.specs.Source.{Source, always, runs, runs_while, same, gi
 use Rattle.slot_sources.specs.Rows.{Choices, brought, brought_first, brought_next, is_read, outside_next, outside_now, reads_before, value_now}
 use Rattle.slot_rows.specs.Order.{IsSlotOrder}
 use Rattle.slot_rows.specs.Table.{Row, brought_to, closed as closed_row, filled, first_values, is_any, listed_or, next_outside, next_value, next_values, no_row, row_at, row_from, rows, slots_of, unless}
-use Rattle.slot_rows.specs.Agreement.{FollowIn, IsClosed, NoneMetWithin, NoneOutside, ReadAgree, RowsAgree, UnmetAgree, UnmetWithin, is_read_at, read_slots}
+use Rattle.slot_rows.specs.Agreement.{DoneAgrees, FollowIn, IsClosed, IsDone, NoneMetWithin, NoneOutside, ReadAgree, RowsAgree, UnmetAgree, UnmetWithin, is_read_at, read_slots}
 use Rattle.slot_rows.proofs.Dependence.{SameOn, next_same, outside_next_same}
-use Rattle.slot_rows.proofs.Filled.{Filling, fills, none_of, stays_within, were_within}
+use Rattle.slot_rows.proofs.Filled.{Filling, IsClosedNow, fills, none_of, stays_within, were_within}
 use Rattle.slot_rows.proofs.RowAt.{row_is}
 
 -- ---- what is brought
@@ -107,11 +107,18 @@ brought_later c s k t v (starting w) h = sym h
 brought_later c s k t v (held b o d) h = sym h
 brought_later c s k t v unread h = sym h
 
+brought_whole : (es : List Source) (c : Choices) (ks : List ℕ) (t : ℕ) → length (brought_to c es ks t) ≡ length es
+brought_whole es c ks zero = first_whole c zero es
+brought_whole es c ks (suc t) = next_whole (slots_of (row_at c es ks t).values) zero es
+
 -- ---- row after row
 
 module _ (es : List Source) (c : Choices) (ks : List ℕ) (in_set : ℕ → Bool) (n m : ℕ) (s : ℕ → SlotValues) (order : IsSlotOrder es ks)
     (closed : IsClosed es in_set) (few : m ≤ n) (follow : FollowIn es in_set c n s)
     (fine : (t : ℕ) → t < m → NoneOutside es in_set (s t) ⊎ ((row_at c es ks t).outside ≡ false)) where
+  by_now : IsClosedNow es in_set
+  by_now = record { slots = closed.slots; now = closed.now }
+
   abbrev Told : ℕ → List Value → Type 0
   Told t vs = (k : ℕ) (e : Source) → slice_get es k ≡ Some e → in_set k ≡ true → brought c s k t e ≡ listed_or c t k (slots_of vs k) e
 
@@ -120,7 +127,7 @@ module _ (es : List Source) (c : Choices) (ks : List ℕ) (in_set : ℕ → Bool
   follows t l vs told k e q g = follow k e q g t (omega (arith, l, few)) ∙ ap (λ v. value_now (s t) v e) (told k e q g)
 
   starts : (t : ℕ) (l : t < m) (vs : List Value) (told : Told t vs) → length vs ≡ length es
-      → Filling c es t in_set closed (s t) (slots_of vs) (follows t l vs told) [] ks (record { values = vs; outside = false })
+      → Filling c es t in_set by_now (s t) (slots_of vs) (follows t l vs told) [] ks (record { values = vs; outside = false })
   starts t l vs told whole = record {
     whole = whole;
     ready = order.ready;
@@ -134,7 +141,7 @@ module _ (es : List Source) (c : Choices) (ks : List ℕ) (in_set : ℕ → Bool
   row_agrees : (t : ℕ) → t < m → (vs : List Value) → length vs ≡ length es → Told t vs
       → NoneOutside es in_set (s t) ⊎ ((row_from c es ks t vs).outside ≡ false)
       → (k : ℕ) → in_set k ≡ true → slots_of (row_from c es ks t vs).values k ≡ s t k
-  row_agrees t l vs whole told none k i = fills c es t in_set closed (s t) (slots_of vs) (follows t l vs told) [] ks
+  row_agrees t l vs whole told none k i = fills c es t in_set by_now (s t) (slots_of vs) (follows t l vs told) [] ks
       (record { values = vs; outside = false }) (starts t l vs told whole) (now none) k i (order.all k (closed.slots k i))
     where
       now : NoneOutside es in_set (s t) ⊎ ((row_from c es ks t vs).outside ≡ false)
@@ -179,13 +186,13 @@ module _ (es : List Source) (c : Choices) (ks : List ℕ) (in_set : ℕ → Bool
       let row : SlotValues = slots_of (row_at c es ks t).values in
       row_agrees (suc t) l (next_values row zero es) (next_whole row zero es) (told_later t before (agrees t before)) (fine (suc t) l)
 
-  tells : (t : ℕ) → t < m → Told t (brought_to c es ks t)
+  -- also what the rows up to the end bring to the next one
+  pub tells : (t : ℕ) → t ≤ m → Told t (brought_to c es ks t)
   tells zero l = told_first
   tells (suc t) l = let before : t < m = omega (arith, l) in told_later t before (agrees t before)
 
-  brought_whole : (t : ℕ) → length (brought_to c es ks t) ≡ length es
-  brought_whole zero = first_whole c zero es
-  brought_whole (suc t) = next_whole (slots_of (row_at c es ks t).values) zero es
+  tells_at : (t : ℕ) → t < m → Told t (brought_to c es ks t)
+  tells_at t l = tells t (omega (arith, l))
 
   -- where the rows that follow have none outside, and the slots that are left have none, the row meets none
   pub unmet : ((t : ℕ) → t < m → NoneOutside es in_set (s t)) → ((k : ℕ) (e : Source) → slice_get es k ≡ Some e → in_set k ≡ false
@@ -199,11 +206,11 @@ module _ (es : List Source) (c : Choices) (ks : List ℕ) (in_set : ℕ → Bool
       row = filled c es t (record { values = vs; outside = false }) ks
 
       now : (filled c es t (record { values = brought_to c es ks t; outside = false }) ks).outside ≡ false
-      now = stays_within c es t in_set closed (s t) (slots_of vs) (follows t l vs (tells t l)) (λ k e q g. (none t l k e q g).0)
-          (λ k e q g r. (others k e q g r).0) [] ks (record { values = vs; outside = false }) (starts t l vs (tells t l) (brought_whole t)) refl
+      now = stays_within c es t in_set by_now (s t) (slots_of vs) (follows t l vs (tells_at t l)) (λ k e q g. (none t l k e q g).0)
+          (λ k e q g r. (others k e q g r).0) [] ks (record { values = vs; outside = false }) (starts t l vs (tells_at t l) (brought_whole es c ks t)) refl
 
       same : (k : ℕ) → in_set k ≡ true → slots_of row.values k ≡ s t k
-      same = row_agrees t l vs (brought_whole t) (tells t l) (inl (none t l))
+      same = row_agrees t l vs (brought_whole es c ks t) (tells_at t l) (inl (none t l))
 
       each : (k : ℕ) (e : Source) → slice_get es k ≡ Some e → (in_set k ≡ true) ⊎ (in_set k ≡ false) → outside_next (slots_of row.values) e ≡ []
       each k e q (inl g) = outside_next_same (slots_of row.values) (s t) e (all_from (λ j. in_set j ≡ true) (λ j. slots_of row.values j ≡ s t j) same
@@ -216,8 +223,8 @@ module _ (es : List Source) (c : Choices) (ks : List ℕ) (in_set : ℕ → Bool
   -- where the row met none, the rows that follow have none outside
   pub within : (t : ℕ) → t < m → (row_at c es ks t).outside ≡ false → NoneOutside es in_set (s t)
   within t l flag k e q g = (
-    were_within c es t in_set closed (s t) (slots_of vs) (follows t l vs (tells t l)) [] ks (record { values = vs; outside = false })
-        (starts t l vs (tells t l) (brought_whole t)) (neither row.outside (next_outside (slots_of row.values) es) here).0 k e q g
+    were_within c es t in_set by_now (s t) (slots_of vs) (follows t l vs (tells_at t l)) [] ks (record { values = vs; outside = false })
+        (starts t l vs (tells_at t l) (brought_whole es c ks t)) (neither row.outside (next_outside (slots_of row.values) es) here).0 k e q g
         (order.all k (closed.slots k g)),
     sym (outside_next_same (slots_of row.values) (s t) e (all_from (λ j. in_set j ≡ true) (λ j. slots_of row.values j ≡ s t j) same
         (reads_before e) (closed.before k e q g)))
@@ -234,7 +241,7 @@ module _ (es : List Source) (c : Choices) (ks : List ℕ) (in_set : ℕ → Bool
       here = subst (λ r. r.outside ≡ false) (row_is c es ks t) flag
 
       same : (k : ℕ) → in_set k ≡ true → slots_of row.values k ≡ s t k
-      same = row_agrees t l vs (brought_whole t) (tells t l) (inr here)
+      same = row_agrees t l vs (brought_whole es c ks t) (tells_at t l) (inr here)
 
 -- ---- in the table
 
@@ -285,3 +292,36 @@ unmet_within es c ks in_set n m s order closed few follow none t l =
   where
     flag : (t : ℕ) → t < m → (row_at c es ks t).outside ≡ false
     flag t l = let h : t < n = omega (arith, l, few) in ap (λ r. r.outside) (sym (row_there c es ks n t h)) ∙ none t l
+
+-- ---- what is done of the next row
+
+pub done_agrees : DoneAgrees
+done_agrees es c ks in_set done n t s order closed below follow none d k i =
+    ap (λ r. slots_of r.values k) (row_there c es ks n t below ∙ row_is c es ks t)
+    ∙ fills c es t done by_now (s t) (slots_of vs) follows [] ks first filling (inl d.within) k i (order.all k (closed.slots k (d.inside k i)))
+  where
+    vs : List Value
+    vs = brought_to c es ks t
+
+    first : Row
+    first = record { values = vs; outside = false }
+
+    by_now : IsClosedNow es done
+    by_now = record { slots = λ k i. closed.slots k (d.inside k i); now = d.reads }
+
+    follows : (k : ℕ) (e : Source) → slice_get es k ≡ Some e → done k ≡ true → s t k ≡ value_now (s t) (listed_or c t k (slots_of vs k) e) e
+    follows k e q g =
+        let few : t ≤ n = omega (arith, below) in
+        let same : t ≤ t = omega arith in
+        follow k e q (d.inside k g) t below
+        ∙ ap (λ v. value_now (s t) v e) (tells es c ks in_set n t s order closed few follow (λ t l. inl (none t l)) t same k e q (d.inside k g))
+
+    filling : Filling c es t done by_now (s t) (slots_of vs) follows [] ks first
+    filling = record {
+      whole = brought_whole es c ks t;
+      ready = order.ready;
+      once = order.once;
+      below = order.below;
+      there = λ j g e. absurd (false≢true e);
+      own = λ j e. refl;
+    }

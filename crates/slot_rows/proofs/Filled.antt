@@ -14,7 +14,6 @@ use Rattle.slot_sources.specs.Source.{Source}
 use Rattle.slot_sources.specs.Rows.{Choices, outside_now, reads_now, value_now}
 use Rattle.slot_rows.specs.Order.{NeedsSlot, reads_each, reads_of}
 use Rattle.slot_rows.specs.Table.{Row, filled, is_any, listed_or, slots_of, unless, value_by, with_value}
-use Rattle.slot_rows.specs.Agreement.{IsClosed}
 use Rattle.slot_rows.proofs.Dependence.{SameOn, now_same, outside_now_same}
 
 -- ---- sources by their numbers
@@ -65,7 +64,12 @@ none_of (p ∷ ps) h = absurd (h refl)
 
 -- ---- slot by slot
 
-module _ (c : Choices) (es : List Source) (t : ℕ) (in_set : ℕ → Bool) (closed : IsClosed es in_set) (s : SlotValues) (initial : SlotValues)
+-- a set of slots whose sources read at the same instant only slots of the set
+pub record IsClosedNow (es : List Source) (in_set : ℕ → Bool) : Type 0 where
+  pub slots : (k : ℕ) → in_set k ≡ true → k < length es
+  pub now : (k : ℕ) (e : Source) → slice_get es k ≡ Some e → in_set k ≡ true → AllByRecursion (λ j. in_set j ≡ true) (reads_now e)
+
+module _ (c : Choices) (es : List Source) (t : ℕ) (in_set : ℕ → Bool) (closed : IsClosedNow es in_set) (s : SlotValues) (initial : SlotValues)
     (follows : (k : ℕ) (e : Source) → slice_get es k ≡ Some e → in_set k ≡ true → s k ≡ value_now s (listed_or c t k (initial k) e) e) where
   -- no operation is outside in the rows that follow, or none was in this row
   abbrev pub Fine : Row → Type 0

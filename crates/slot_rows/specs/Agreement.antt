@@ -44,6 +44,21 @@ UnmetAgree =
     (es : List Source) (c : Choices) (ks : List ℕ) (in_set : ℕ → Bool) (n m : ℕ) (s : ℕ → SlotValues) → IsSlotOrder es ks → IsClosed es in_set → m ≤ n →
     FollowIn es in_set c n s → NoneMet es c ks n m → AgreeIn es in_set c ks n m s
 
+-- ---- at the next instant
+
+-- some slots of a set, whose sources have no operation outside 128 bits in the row of their instant and read there only such slots
+pub record IsDone (es : List Source) (in_set done : ℕ → Bool) (s : SlotValues) : Type 0 where
+  pub inside : (k : ℕ) → done k ≡ true → in_set k ≡ true
+  pub within : (k : ℕ) (e : Source) → slice_get es k ≡ Some e → done k ≡ true → outside_now s e ≡ []
+  pub reads : (k : ℕ) (e : Source) → slice_get es k ≡ Some e → done k ≡ true → AllByRecursion (λ j. done j ≡ true) (reads_now e)
+
+-- Behind instants with no operation outside the table has their values, also at an instant with one.
+abbrev pub DoneAgrees : Type 0
+DoneAgrees =
+    (es : List Source) (c : Choices) (ks : List ℕ) (in_set done : ℕ → Bool) (n t : ℕ) (s : ℕ → SlotValues) → IsSlotOrder es ks → IsClosed es in_set →
+    t < n → FollowIn es in_set c n s → ((u : ℕ) → u < t → NoneOutside es in_set (s u)) → IsDone es in_set done (s t) →
+    (k : ℕ) → done k ≡ true → value_in (rows c es ks n) t k ≡ s t k
+
 -- ---- of all slots that are read
 
 abbrev pub is_read_at : Option Source → Bool

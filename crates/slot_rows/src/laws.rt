@@ -1,6 +1,6 @@
 //! What the values of the table are.
 
-ghost use Rattle.slot_rows.specs.Agreement.{NoneMetWithin, ReadAgree, RowsAgree, UnmetAgree, UnmetWithin};
+ghost use Rattle.slot_rows.specs.Agreement.{DoneAgrees, NoneMetWithin, ReadAgree, RowsAgree, UnmetAgree, UnmetWithin};
 
 /// Take a set of slots whose sources read only slots of the set, and rows that follow from these. Up to an instant at
 /// which no operation is outside 128 bits, in these rows or by what the table says, the table has their values.
@@ -15,4 +15,10 @@ pub fn rows_agree()
 pub fn none_met()
     ensures rows { UnmetWithin }
     ensures table { NoneMetWithin }
+{}
+
+/// Take the first instant at which an operation is outside 128 bits in the rows that follow. There too the table has the
+/// values of slots whose sources have none there and read only such slots.
+pub fn done_agrees()
+    ensures { DoneAgrees }
 {}
