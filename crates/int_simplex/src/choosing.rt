@@ -1,6 +1,7 @@
 ghost use Rattle.std.specs.Prelude.{◌≡◌, ◌↔◌, true, false, Bool, length, ◌<◌, MatchOption, All};
 ghost use lib.IntN.{ℤ, pos};
 ghost use lib.Signed.{◌<ℤ◌};
+ghost use Rattle.kind_num.specs.Division.{IsFloor};
 ghost use Rattle.proof_steps.specs.Pivots.{IsPast};
 ghost use Rattle.int_simplex.specs.Points.{IsFraction};
 ghost use Rattle.int_simplex.specs.Sparse.{IsSparse};
@@ -18,12 +19,20 @@ pub(crate) struct Exit {
     pub(crate) limit: i128,
 }
 
+// The fraction, rounded down: most values are whole.
+fn floor_of(v: (i128, i128)) -> i128
+    requires { pos 0 <ℤ v.1 }
+    ensures { IsFloor v.0 v.1 result }
+{
+    if v.1 == 1 { v.0 } else { div_floor(v.0, v.1) }
+}
+
 // In lowest terms a fraction is whole where its divisor is 1.
 fn is_above(v: (i128, i128), limit: i128) -> bool
     requires { IsFraction v }
     ensures { (result ≡ true) ↔ IsPast true limit v.0 v.1 }
 {
-    let floor = div_floor(v.0, v.1);
+    let floor = floor_of(v);
     limit < floor || limit == floor && v.1 != 1
 }
 
@@ -31,7 +40,7 @@ fn is_below(v: (i128, i128), limit: i128) -> bool
     requires { IsFraction v }
     ensures { (result ≡ true) ↔ IsPast false limit v.0 v.1 }
 {
-    div_floor(v.0, v.1) < limit
+    floor_of(v) < limit
 }
 
 // The side on which the value misses a limit, and that limit.

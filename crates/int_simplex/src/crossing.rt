@@ -15,6 +15,9 @@ fn content(row: &[(u32, i128)]) -> u128
 {
     let mut divisor = 0;
     for t in row {
+        if divisor == 1 {
+            return 1;
+        }
         divisor = gcd(divisor, t.1.unsigned_abs());
     }
     divisor
@@ -26,6 +29,9 @@ pub(crate) fn divided(a: i128, g: u128) -> i128
     requires exact { g ∣ unsigned_abs a }
     ensures { pos g *ℤ result ≡ a }
 {
+    if g == 1 {
+        return a;
+    }
     if g > i128::MAX as u128 {
         return if a == 0 { 0 } else { -1 };
     }
@@ -46,14 +52,14 @@ fn parts(alloc: Global, row: &[(u32, i128)], g: u128) -> Result<Vec<(u32, i128)>
 }
 
 // The row without its common factor; a row of zeros has none.
-fn reduced(alloc: Global, row: &[(u32, i128)]) -> Result<Vec<(u32, i128)>, AllocError>
-    ensures { IfOk result (λ v. HasEntry row.now → IsReduced row.now v.items) }
+fn reduced(alloc: Global, row: Vec<(u32, i128)>) -> Result<Vec<(u32, i128)>, AllocError>
+    ensures { IfOk result (λ v. HasEntry row.items → IsReduced row.items v.items) }
 {
-    let g = content(row);
-    if g == 0 {
-        return Ok(Vec::from_slice(alloc, row)?);
+    let g = content(&row);
+    if g <= 1 {
+        return Ok(row);
     }
-    parts(alloc, row, g)
+    parts(alloc, &row, g)
 }
 
 fn crossed_number(p: i128, a: i128, q: i128, b: i128) -> Result<i128, Past>
@@ -154,6 +160,6 @@ pub(crate) fn pivoted(
     if made.is_empty() {
         return Ok(made);
     }
-    let new = reduced(alloc, &made)?;
+    let new = reduced(alloc, made)?;
     Ok(new)
 }

@@ -55,6 +55,9 @@ fn lowest(top: i128, bottom: i128) -> (i128, i128)
     ensures fraction { IsFraction result }
     ensures same { top *ℤ result.1 ≡ result.0 *ℤ bottom }
 {
+    if bottom == 1 {
+        return (top, bottom);
+    }
     let g = gcd(top.unsigned_abs(), bottom.unsigned_abs());
     (divided(top, g), divided(bottom, g))
 }

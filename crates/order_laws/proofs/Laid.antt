@@ -99,9 +99,9 @@ module _ (p : Program) (c : IsChecked p) (i : Instance) (f : Frame) (t : ℕ) (e
 
     -- a part behind these parts, which has its own operands among them
     last : (b : List Part) (ns : List NeededPlace) (xs : List Name) (s : Standing) (e : Expression) → Knows s e → Shown s.clock → Gives xs s.clock e →
-        (front : List Part) → Laid b front → Own b ns front (operands h ns s.clock e) → CalledIn i f t w (b ++ front) s.clock e →
+        Reads ns (Needed s.clock e) → (front : List Part) → Laid b front → Own b ns front (operands h ns s.clock e) → CalledIn i f t w (b ++ front) s.clock e →
         Laid b (front ++ part g ns xs s.clock e ∷ [])
-    last b ns xs s e k o v front a q z =
+    last b ns xs s e k o v y front a q z =
         laid_both i f t every w b front (part g ns xs s.clock e ∷ []) a (λ inside gv hb hq. (
           record {
             calls = calls;
@@ -113,6 +113,7 @@ module _ (p : Program) (c : IsChecked p) (i : Instance) (f : Frame) (t : ℕ) (e
             called = z;
             inside = inside;
             given = gv;
+            covers = y;
           },
           tt,
         ))
@@ -196,20 +197,20 @@ module _ (p : Program) (c : IsChecked p) (i : Instance) (f : Frame) (t : ℕ) (e
     mutual
       pub each_laid : (b : List Part) → Ready b → (ns : List NeededPlace) (xs : List Name) (s : Standing) (e : Expression) → Knows s e → Names s e →
           Shown s.clock → Gives xs s.clock e → CoversNeeds i w ns (needs j (modes_need j) s.clock e) → Laid b (parts g ns xs s.clock e)
-      each_laid b r ns xs s (truth q a) k n o v y = last b ns xs s (truth q a) k o v [] (nothing b) tt tt
-      each_laid b r ns xs s (number q a) k n o v y = last b ns xs s (number q a) k o v [] (nothing b) tt tt
-      each_laid b r ns xs s (name q a) k n o v y = last b ns xs s (name q a) k o v [] (nothing b) tt tt
+      each_laid b r ns xs s (truth q a) k n o v y = last b ns xs s (truth q a) k o v y [] (nothing b) tt tt
+      each_laid b r ns xs s (number q a) k n o v y = last b ns xs s (number q a) k o v y [] (nothing b) tt tt
+      each_laid b r ns xs s (name q a) k n o v y = last b ns xs s (name q a) k o v y [] (nothing b) tt tt
       each_laid b r ns xs s (negation q a) k n o v y =
           let need : Reads ns (Needed s.clock a) = covers_right i w ns (clock_needs s.clock) (Needed s.clock a) y in
-          last b ns xs s (negation q a) k o v (parts g ns [] s.clock a) (each_laid b r ns [] (within s) a k.1 n.1 o gives_none need)
+          last b ns xs s (negation q a) k o v y (parts g ns [] s.clock a) (each_laid b r ns [] (within s) a k.1 n.1 o gives_none need)
           (ours b r ns (within s) a n.1 need) tt
       each_laid b r ns xs s (minus q a) k n o v y =
           let need : Reads ns (Needed s.clock a) = covers_right i w ns (clock_needs s.clock) (Needed s.clock a) y in
-          last b ns xs s (minus q a) k o v (parts g ns [] s.clock a) (each_laid b r ns [] (within s) a k.1 n.1 o gives_none need)
+          last b ns xs s (minus q a) k o v y (parts g ns [] s.clock a) (each_laid b r ns [] (within s) a k.1 n.1 o gives_none need)
           (ours b r ns (within s) a n.1 need) tt
       each_laid b r ns xs s (pre q l a) k n o v y =
           let zs : List NeededPlace = needs_of g s.clock a in
-          last b ns xs s (pre q l a) k o v (parts g zs [] s.clock a)
+          last b ns xs s (pre q l a) k o v y (parts g zs [] s.clock a)
           (each_laid b r zs [] (before s) a k.1 n.1 o gives_none (covers_itself i zs)) tt record {
             part = part g zs [] s.clock a;
             there = in_right (part g zs [] s.clock a) b (parts g zs [] s.clock a) (root_in g zs [] s.clock a);
@@ -224,7 +225,7 @@ module _ (p : Program) (c : IsChecked p) (i : Instance) (f : Frame) (t : ℕ) (e
           covers_right i w ns (clock_needs s.clock) (Needed s.clock a ++ Needed s.clock e) y in
           let left : Reads ns (Needed s.clock a) = covers_left i w ns (Needed s.clock a) (Needed s.clock e) need in
           let right : Reads ns (Needed s.clock e) = covers_right i w ns (Needed s.clock a) (Needed s.clock e) need in
-          last b ns xs s (arrow q l a e) k o v (one ++ other)
+          last b ns xs s (arrow q l a e) k o v y (one ++ other)
           (both b one other (each_laid b r ns [] (within s) a k.1 n.1 o gives_none left)
           (each_laid (b ++ one) (still b one r) ns [] (within s) e k.2 n.2 o gives_none right))
           (twice b ns one other (own_parts h ns [] s.clock a) (own_parts h ns [] s.clock e) (ours b r ns (within s) a n.1 left)
@@ -236,7 +237,7 @@ module _ (p : Program) (c : IsChecked p) (i : Instance) (f : Frame) (t : ℕ) (e
           covers_right i w ns (clock_needs s.clock) (Needed s.clock a ++ Needed s.clock e) y in
           let left : Reads ns (Needed s.clock a) = covers_left i w ns (Needed s.clock a) (Needed s.clock e) need in
           let right : Reads ns (Needed s.clock e) = covers_right i w ns (Needed s.clock a) (Needed s.clock e) need in
-          last b ns xs s (binary q l a e) k o v (one ++ other)
+          last b ns xs s (binary q l a e) k o v y (one ++ other)
           (both b one other (each_laid b r ns [] (within s) a k.1 n.1 o gives_none left)
           (each_laid (b ++ one) (still b one r) ns [] (within s) e k.2 n.2 o gives_none right))
           (twice b ns one other (own_parts h ns [] s.clock a) (own_parts h ns [] s.clock e) (ours b r ns (within s) a n.1 left)
@@ -252,7 +253,7 @@ module _ (p : Program) (c : IsChecked p) (i : Instance) (f : Frame) (t : ℕ) (e
           let first : Reads ns (Needed s.clock a) = covers_left i w ns (Needed s.clock a) (Needed s.clock e ++ Needed s.clock z) need in
           let left : Reads ns (Needed s.clock e) = covers_left i w ns (Needed s.clock e) (Needed s.clock z) behind in
           let right : Reads ns (Needed s.clock z) = covers_right i w ns (Needed s.clock e) (Needed s.clock z) behind in
-          last b ns xs s (choice q a e z) k o v (one ++ other ++ third)
+          last b ns xs s (choice q a e z) k o v y (one ++ other ++ third)
           (both b (one ++ other) third
           (both b one other (each_laid b r ns [] (within s) a k.1 n.1 o gives_none first)
           (each_laid (b ++ one) (still b one r) ns [] (within s) e k.2 n.2 o gives_none left))
@@ -264,7 +265,7 @@ module _ (p : Program) (c : IsChecked p) (i : Instance) (f : Frame) (t : ℕ) (e
           let here : Clock = clock_of (component_of j) x.text in
           let st : Stands j (IsKnown j) s.clock (sampled q a l x) = stand p c j u d s (sampled q a l x) k in
           let need : Reads ns (Needed here a) = covers_right i w ns (a_name [] x.text ∷ []) (Needed here a) y in
-          last b ns xs s (sampled q a l x) k o v (parts g ns [] here a)
+          last b ns xs s (sampled q a l x) k o v y (parts g ns [] here a)
           (each_laid b r ns [] (moved here s) a k.1 n.1 (on_name x.text here st.1) gives_none need) (ours b r ns (moved here s) a n.1 need) tt
       each_laid b r ns xs s (merged q x a e) k n o v y =
           let yes : Clock = sampled_by true x.text in
@@ -275,7 +276,7 @@ module _ (p : Program) (c : IsChecked p) (i : Instance) (f : Frame) (t : ℕ) (e
           let need : Reads ns (Needed yes a ++ Needed no e) = covers_right i w ns (a_name [] x.text ∷ []) (Needed yes a ++ Needed no e) y in
           let left : Reads ns (Needed yes a) = covers_left i w ns (Needed yes a) (Needed no e) need in
           let right : Reads ns (Needed no e) = covers_right i w ns (Needed yes a) (Needed no e) need in
-          last b ns xs s (merged q x a e) k o v (one ++ other)
+          last b ns xs s (merged q x a e) k o v y (one ++ other)
           (both b one other (each_laid b r ns [] (moved yes s) a k.1 n.1 (on_truth true x.text s.clock st.0) gives_none left)
           (each_laid (b ++ one) (still b one r) ns [] (moved no s) e k.2 n.2 (on_truth false x.text s.clock st.0) gives_none right))
           (twice b ns one other (own_parts h ns [] yes a) (own_parts h ns [] no e) (ours b r ns (moved yes s) a n.1 left)
@@ -287,7 +288,7 @@ module _ (p : Program) (c : IsChecked p) (i : Instance) (f : Frame) (t : ℕ) (e
           let site : Site = record { number = l; callee = z.text; clock = s.clock; arguments = listed as_; defaults = []; manner = plain } in
           let to : (qs : List Part) → Among given qs → GivenTo i f t w l qs =
           λ qs m. given_to site k.0.fits qs (wholes_in s.clock as_ qs m) (λ a e. absurd (no_plain a e)) in
-          last b ns xs s (call q l z as_) k o v (given ++ g.body l)
+          last b ns xs s (call q l z as_) k o v y (given ++ g.body l)
           (both b given (g.body l) (each_argument b r (within s) as_ k.1 n.1 o)
           (body_below i f t every w l (b ++ given) (g.body l) bd (λ inside gv hb. to (b ++ given) (λ x m. in_right x b given m)))) tt (
             settled_in l bd b (given ++ g.body l) (λ x m. in_right x given (g.body l) m),
@@ -313,7 +314,7 @@ module _ (p : Program) (c : IsChecked p) (i : Instance) (f : Frame) (t : ℕ) (e
           let to : (qs : List Part) → Among (asked ++ given) qs → GivenTo i f t w l qs =
           λ qs m. given_to site k.0.fits.0 qs (wholes_in s.clock as_ qs (λ x q. m x (in_right x asked given q)))
           (λ e same. condition_in s.clock a qs (λ x q. m x (in_left x asked given q)) e same) in
-          last b ns xs s (condact q l a z as_ ds) k o v (asked ++ given ++ g.body l ++ kept)
+          last b ns xs s (condact q l a z as_ ds) k o v y (asked ++ given ++ g.body l ++ kept)
           (both b (asked ++ given ++ g.body l) kept
           (both b (asked ++ given) (g.body l)
           (both b asked given (each_laid b r zs [] (within s) a k.1 n.1 o gives_none (covers_itself i zs))
@@ -334,7 +335,7 @@ module _ (p : Program) (c : IsChecked p) (i : Instance) (f : Frame) (t : ℕ) (e
                 (in_left x (asked ++ given ++ g.body l) kept (in_left x (asked ++ given) (g.body l) m))),
           )
       each_laid b r ns xs s (mode_name q x m) k n o v y =
-          last b ns xs s (mode_name q x m) k o v (asked_in g ns (key_of (option_map text_of x) m.text))
+          last b ns xs s (mode_name q x m) k o v y (asked_in g ns (key_of (option_map text_of x) m.text))
           (modes (key_of (option_map text_of x) m.text) n ns b r y) (asks (key_of (option_map text_of x) m.text) n ns b r y) tt
 
       each_argument : (b : List Part) → Ready b → (s : Standing) (as_ : Expressions) → EachAmong (Known j) (component_of j) s as_ →

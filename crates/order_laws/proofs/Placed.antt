@@ -6,7 +6,7 @@ use Rattle.std.proofs.lemmas.Bool.{false≢true, eqb-true}
 use Rattle.lus_tree.specs.Tree.{Name, Expression, truth, number, name, negation, minus, pre, arrow, binary, choice, sampled, merged, call, condact, mode_name}
 use Rattle.lus_meaning.specs.Frame.{Frame}
 use Rattle.lus_meaning.specs.Scene.{Clock, while_true, Instance, component_of, is_on}
-use Rattle.lus_meaning.specs.Depends.{named_in, left_names}
+use Rattle.lus_meaning.specs.Depends.{named_in, left_names, needs, modes_need}
 use Rattle.lus_meaning.specs.Cycle.{Place as NeededPlace}
 use Rattle.lus_meaning.proofs.BooleanOrder.{IsIn, in_left, in_right}
 use Rattle.lus_meaning.proofs.Lists.{append_none, all_from, both_parts}
@@ -23,7 +23,7 @@ use Rattle.order_laws.specs.Own.{own_setting}
 use Rattle.order_laws.specs.Rows.{place_there, standpoint_there}
 use Rattle.order_laws.specs.Needed.{IsSide}
 use Rattle.order_laws.proofs.Lists.{grouped}
-use Rattle.order_laws.proofs.Covers.{Covers, covers_itself, covers_both}
+use Rattle.order_laws.proofs.Covers.{Covers, CoversNeeds, covers_itself, covers_both}
 
 pub all_in_self : {A : Type 0} (xs : List A) → AllByRecursion (λ x. IsIn x xs) xs
 all_in_self [] = tt
@@ -249,6 +249,7 @@ module _ (i : Instance) (f : Frame) (t : ℕ) where
   module _ (every : List Part) where
     -- A part that stands behind these ones: it has its types and its clock, and its own operands are among them; so are those of the frame that it calls,
     -- if it is a call, and the operand of a `pre`. The equations of each frame on its way are among all, and what the calls on its way are given is among them.
+    -- Its whole needs each name that it needs itself.
     pub record Placed (b : List Part) (q : Part) : Type 0 where
       pub calls : AreCalls i q.way
       pub stands : Stands (place_there i f q.way) (IsKnown (place_there i f q.way)) q.clock q.expression
@@ -259,6 +260,7 @@ module _ (i : Instance) (f : Frame) (t : ℕ) where
       pub called : CalledIn q.way b q.clock q.expression
       pub inside : Within [] every q.way
       pub given : Given q.way b
+      pub covers : CoversNeeds i q.way q.needs (needs (place_there i f q.way) (modes_need (place_there i f q.way)) q.clock q.expression)
 
     abbrev pub EachPlaced : List Part → List Part → Type 0
     EachPlaced b [] = Unit {0}

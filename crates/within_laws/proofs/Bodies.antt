@@ -1,14 +1,14 @@
 -- Where the sources of a frame have no operation outside 128 bits, no part of what is evaluated in the frame has one; nor has a part of an assertion, where
 -- none of these has.
-use Rattle.std.proofs.Common.{◌≡◌, ℕ, zero, suc, pred, ◌+◌, ◌<◌, Bool, true, false, cond, List, [], ◌∷◌, ◌++◌, map, flat_map, slice_index_or, refl, ap, ◌∙◌, sym, subst, arith}
+use Rattle.std.proofs.Common.{◌≡◌, ℕ, suc, pred, ◌+◌, ◌<◌, Bool, true, false, cond, List, [], ◌∷◌, ◌++◌, map, flat_map, slice_index_or, refl, ap, ◌∙◌, sym, subst, arith}
 use Rattle.std.specs.Prelude.{Contains}
 use Rattle.std.specs.List.{AllByRecursion}
 use Rattle.std.proofs.Math.Logic.{inl, inr}
 use Rattle.std.proofs.lemmas.Bool.{false≢true}
-use Rattle.lus_tree.specs.Tree.{text_of, Expression, ContractStatement, assume, guarantee, ghost_variable, constant, mode, «import», Component, Program}
-use Rattle.lus_meaning.specs.Value.{flag, is}
+use Rattle.lus_tree.specs.Tree.{Expression, ContractStatement, assume, guarantee, ghost_variable, constant, mode, «import», Component, Program}
+use Rattle.lus_meaning.specs.Value.{is}
 use Rattle.lus_meaning.specs.Frame.{Frame}
-use Rattle.lus_meaning.specs.Scene.{base, as_import, Site, Instance, Instances, instance, no_instances, with_instance, component_of, calls_of, call_instance, instance_at, contract_statements, is_on}
+use Rattle.lus_meaning.specs.Scene.{base, Site, Instance, Instances, instance, no_instances, with_instance, component_of, calls_of, call_instance, instance_at, contract_statements}
 use Rattle.lus_meaning.specs.ClockFaults.{components}
 use Rattle.lus_meaning.specs.Occurrences.{Standing, on_clock}
 use Rattle.lus_meaning.specs.Program.{import_site, all_sites}
@@ -23,7 +23,7 @@ use Rattle.lus_meaning.proofs.Now.{left_part, right_part}
 use Rattle.rule_laws.specs.Laws.{HasItsPlace, IsUnfolded, AreUnfolded}
 use Rattle.rule_laws.proofs.Lists.{all_flat}
 use Rattle.sys_meaning.specs.Slot.{Place, beat, own}
-use Rattle.sys_meaning.specs.Items.{Key, ModeItem, Items, no_items, items_after, items_each}
+use Rattle.sys_meaning.specs.Items.{Key, Items, no_items, items_after, items_each}
 use Rattle.sys_meaning.specs.Defaults.{site_at, site_of}
 use Rattle.sys_meaning.specs.System.{number_of, below_call}
 use Rattle.sys_meaning.specs.WellTyped.{IsKnown, IsImport, CallsFit, own_keys, count_of}
@@ -32,7 +32,7 @@ use Rattle.path_laws.proofs.Places.{imports_there}
 use Rattle.path_laws.proofs.Standing as standing
 use Rattle.path_laws.proofs.Tree.{own_fits}
 use Rattle.lus_evaluation.specs.Part.{Part, Setting, wholes}
-use Rattle.lus_evaluation.specs.Frame.{ModeText, ContractText, FrameText, Calls, setting, contract_after, import_parts, equation_parts, picked, is_evaluated, call_condition, call_parts, asserted_below, asserted_in_calls, text_over}
+use Rattle.lus_evaluation.specs.Frame.{ContractText, FrameText, Calls, setting, contract_after, import_parts, equation_parts, picked, is_evaluated, call_condition, call_parts, asserted_below, asserted_in_calls, text_over}
 use Rattle.slot_values.specs.Resolution.{Resolution}
 use Rattle.slot_values.specs.Evaluated.{SlotValues, outside}
 use Rattle.slot_values.specs.Resolved.{resolution}
@@ -50,7 +50,7 @@ use Rattle.order_laws.proofs.Sites.{CallKnown, SiteKnown}
 use Rattle.within_laws.specs.Laws.{AreQuiet}
 use Rattle.within_laws.specs.Texts.{IsQuiet, EachQuiet}
 use Rattle.within_laws.specs.Sources.{IsFrameQuiet}
-use Rattle.within_laws.proofs.Contracts.{QuietModes, QuietItems, wholes_quiet, others, after}
+use Rattle.within_laws.proofs.Contracts.{QuietItems, wholes_quiet, others, after}
 use Rattle.within_laws.proofs.Frames.{sides_quiet}
 use Rattle.within_laws.proofs.Lists.{each_picked}
 use Rattle.within_laws.proofs.Texts.{none_in}

@@ -1,5 +1,5 @@
 -- The resolution of a constant expression that is light has no operation outside 128 bits, in any row.
-use Rattle.std.proofs.Common.{◌≡◌, ℕ, ◌≤◌, Bool, true, false, cond, ◌&&◌, List, [], ◌++◌, refl, ap, ◌∙◌, arith, ℤ, pos, negsuc, Option, Some, None}
+use Rattle.std.proofs.Common.{◌≡◌, ℕ, ◌≤◌, Bool, true, false, cond, ◌&&◌, List, [], ◌++◌, refl, ap, ◌∙◌, arith, ℤ, Option, Some, None}
 use Rattle.std.specs.Prelude.{unsigned_abs, neg_ℤ, ◌+ℤ◌, ◌-ℤ◌, ◌*ℤ◌, is_some, max}
 use Rattle.std.specs.Int.{int_div_euclid}
 use Rattle.std.specs.Map.{lookup}
@@ -17,16 +17,14 @@ use Rattle.lus_meaning.specs.Scene.{Clock, Instance, constants_of}
 use Rattle.lus_meaning.specs.Scope.{greatest_weight}
 use Rattle.kind_num.specs.Exact.{within}
 use Rattle.kind_num.specs.declared.Past.{Past}
-use Rattle.kind_num.specs.declared.Op.TheVariants as ops
 use Rattle.kind_num.proofs.Within.{within-fits}
 use Rattle.rule_laws.proofs.Truths.{both_true}
 use Rattle.sys_meaning.specs.Slot.{named, own}
 use Rattle.sys_meaning.specs.Defaults.{is_constant}
 use Rattle.sys_meaning.specs.WellTyped.{IsKnown, Stands}
-use Rattle.term_laws.proofs.Weights.{value_size, DivisorFits, applied_size, value_here, weighs, Light, light_root, constant_size}
+use Rattle.term_laws.proofs.Weights.{value_size, applied_size, value_here, weighs, Light, light_root, constant_size}
 use Rattle.lus_evaluation.specs.Past.{past_of_numbers, past_of_values, past_of_minus}
 use Rattle.slot_values.specs.declared.resolved.PastAt.{PastAt}
-use Rattle.slot_values.specs.Resolution.{Resolution}
 use Rattle.slot_values.specs.Evaluated.{SlotValues, only_where, worth, told, outside}
 use Rattle.slot_values.specs.Resolved.{Numbering, constant_or_slot, slot_of, resolution}
 
@@ -170,9 +168,6 @@ module _ (row : SlotValues) (g : Numbering) (on : Bool) where
 
   one_at_most : (m n l : ℕ) → m ≤ max 1 n → n ≤ l → 1 ≤ l → m ≤ l
   one_at_most m n l h k o = omega arith
-
-  abbrev IsPair : Operator → Expression → Expression → Type 0
-  IsPair o a b = value_size (apply o (Here a) (Here b)) ≤ greatest_weight
 
   result_small : (at : Clock) (p : Place) (o : Operator) (a b : Expression) → Stands i (IsKnown i) at (binary p o a b) → IsLight (binary p o a b) →
       Constant a → Constant b → IsSmall o (Here a) (Here b)

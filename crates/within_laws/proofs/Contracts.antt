@@ -3,10 +3,10 @@ use Rattle.std.proofs.Common.{◌≡◌, ℕ, pred, ◌<◌, Bool, true, false, 
 use Rattle.std.specs.Prelude.{Contains, option_map, option_to_list}
 use Rattle.std.specs.List.{AllByRecursion}
 use Rattle.std.specs.Map.{lookup}
-use Rattle.lus_tree.specs.Tree.{Place as SourcePlace, Spelled, Name, text_of, Expression, mode_name, Labelled, ContractStatement, assume, guarantee, ghost_variable, constant, mode, «import», Component, Program}
+use Rattle.lus_tree.specs.Tree.{Place as SourcePlace, Spelled, Name, text_of, Expression, mode_name, Labelled, ContractStatement, assume, guarantee, ghost_variable, constant, mode, «import», Program}
 use Rattle.lus_meaning.specs.Value.{flag}
 use Rattle.lus_meaning.specs.Frame.{Frame}
-use Rattle.lus_meaning.specs.Scene.{base, Instance, component_of, calls_of, call_instance, contract_statements, Scene}
+use Rattle.lus_meaning.specs.Scene.{base, Instance, component_of, calls_of, call_instance}
 use Rattle.lus_meaning.specs.Contract.{ModeTerms, terms}
 use Rattle.lus_meaning.specs.Cycle.{Place as NeededPlace}
 use Rattle.lus_meaning.specs.ClockFaults.{components}
@@ -19,18 +19,16 @@ use Rattle.lus_meaning.proofs.Now.{left_part, right_part}
 use Rattle.rule_laws.specs.Laws.{IsUnfolded}
 use Rattle.sys_meaning.specs.Slot.{Place}
 use Rattle.sys_meaning.specs.Items.{Key, Known, known, ModeItem, mode_item, imported_item, Items, items_after}
-use Rattle.sys_meaning.specs.Defaults.{site_of}
 use Rattle.sys_meaning.specs.System.{below_call}
-use Rattle.sys_meaning.specs.WellTyped.{IsKnown, IsAmong, IsImport, FlagFits, StatementsFit, own_keys, count_of}
+use Rattle.sys_meaning.specs.WellTyped.{IsAmong, IsImport, FlagFits, StatementsFit, own_keys, count_of}
 use Rattle.path_laws.proofs.Standing as standing
 use Rattle.lus_evaluation.specs.Part.{Part, Setting, needs_of, parts, whole_parts, wholes}
 use Rattle.lus_evaluation.specs.Frame.{ModeText, ContractText, Calls, setting, conditions_of, mode_text, imported_mode, contract_after}
 use Rattle.slot_values.specs.Resolution.{Resolution}
 use Rattle.slot_values.specs.Resolution as r
 use Rattle.slot_values.specs.Evaluated.{SlotValues, told, outside}
-use Rattle.slot_values.specs.Resolved.{resolution}
 use Rattle.evaluation_laws.specs.Resolvings.{Resolving, at_numbers, nowhere, all_resolved, resolvings}
-use Rattle.evaluation_laws.specs.Rows.{row_at, scene_there, numbers_there, modes_there, resolution_there, RowShows}
+use Rattle.evaluation_laws.specs.Rows.{row_at, scene_there, numbers_there, modes_there, RowShows}
 use Rattle.condition_laws.specs.Conditions as conditions
 use Rattle.condition_laws.specs.Conditions.{resolved}
 use Rattle.condition_laws.proofs.Known.{items_ask_resolvings}

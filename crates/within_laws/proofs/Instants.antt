@@ -1,18 +1,16 @@
 -- Where no source and no condition has an operation outside 128 bits, all that is evaluated at an instant is within.
-use Rattle.std.proofs.Common.{◌≡◌, ℕ, zero, suc, pred, ◌+◌, ◌<◌, Bool, true, List, [], ◌∷◌, ◌++◌, map, flat_map, slice_index_or, refl, ap, ◌∙◌, sym, subst, arith}
+use Rattle.std.proofs.Common.{◌≡◌, ℕ, zero, suc, pred, ◌+◌, ◌<◌, Bool, true, List, [], ◌∷◌, ◌++◌, map, flat_map, refl, ap, ◌∙◌, sym, subst, arith}
 use Rattle.std.specs.Prelude.{Contains}
 use Rattle.std.specs.List.{AllByRecursion}
-use Rattle.lus_tree.specs.Tree.{Expression, Statement, equation, assertion, property, main_mark, Component, Program}
+use Rattle.lus_tree.specs.Tree.{Statement, equation, assertion, property, main_mark, Component, Program}
 use Rattle.lus_meaning.specs.Value.{is}
 use Rattle.lus_meaning.specs.Frame.{Frame}
 use Rattle.lus_meaning.specs.Scene.{base, Manner, plain, while_true, as_import, Site, Instance, Instances, instance, no_instances, with_instance, component_of, calls_of, call_instance, instance_at}
 use Rattle.lus_meaning.specs.ClockFaults.{components}
-use Rattle.lus_meaning.specs.Occurrences.{on_clock}
 use Rattle.lus_meaning.specs.Program.{instance_of, all_sites}
 use Rattle.lus_meaning.specs.Refusals.{IsChecked}
 use Rattle.lus_meaning.proofs.Lists.{both_parts}
 use Rattle.lus_meaning.proofs.Now.{left_part, right_part}
-use Rattle.rule_laws.specs.Laws.{IsUnfolded, AreUnfolded}
 use Rattle.rule_laws.proofs.Callees.{each_site}
 use Rattle.rule_laws.proofs.Unfolded.{component_within, each_unfolded}
 use Rattle.sys_meaning.specs.Slot.{Place, beat, own, in_call}
@@ -22,15 +20,17 @@ use Rattle.sys_meaning.specs.WellTyped.{IsKnown, CallsFit, count_of}
 use Rattle.sys_meaning.proofs.Forward.{calls_fit}
 use Rattle.path_laws.proofs.Main.{each_is_well_typed}
 use Rattle.path_laws.proofs.Tree.{tree_fits}
-use Rattle.lus_evaluation.specs.Part.{Part, Setting, wholes}
+use Rattle.lus_evaluation.specs.Part.{Part, wholes}
 use Rattle.lus_evaluation.specs.Frame.{ModeText, ContractText, FrameText, Calls, setting, Orders, text_over, text_at, frame_text, call_texts}
 use Rattle.lus_evaluation.specs.Turn as turn
 use Rattle.lus_evaluation.specs.Turn.{property_texts, owed_in_calls, condition_parts, in_turn}
 use Rattle.slot_values.specs.Evaluated.{SlotValues, told, outside}
 use Rattle.slot_values.specs.Resolution.{Resolution}
 use Rattle.slot_values.specs.Resolved.{Numbering, resolution}
+use Rattle.evaluation_laws.specs.Laws.{HasOneEvaluation}
 use Rattle.evaluation_laws.specs.Resolvings.{Resolving, nowhere}
-use Rattle.evaluation_laws.specs.Rows.{row_at, AreCalls, scene_there, numbers_there, RowShows}
+use Rattle.evaluation_laws.specs.Rows.{row_at, AreCalls, scene_there, RowShows}
+use Rattle.evaluation_laws.proofs.Evaluations.{each_has_one_evaluation}
 use Rattle.evaluation_laws.proofs.FrameShown.{true_flag}
 use Rattle.evaluation_laws.proofs.RowFrames.{rows_show}
 use Rattle.slot_sources.specs.Sources.{numbering_of, call_beat}
@@ -41,12 +41,11 @@ use Rattle.order_laws.specs.Laws.{operations_there}
 use Rattle.order_laws.proofs.Frames.{stands_there, stands_called}
 use Rattle.order_laws.proofs.Items.{properties_fit}
 use Rattle.within_laws.specs.Laws.{AreQuiet}
-use Rattle.within_laws.specs.Texts.{EachQuiet}
 use Rattle.within_laws.specs.Sources.{IsFrameQuiet}
-use Rattle.within_laws.specs.Instants.{InstantsAreWithin}
+use Rattle.within_laws.specs.Instants.{InstantsAreWithin, QuietRunsStayWithin}
 use Rattle.within_laws.proofs.Bodies.{active_none, FrameQuiet, fit_quiet}
 use Rattle.within_laws.proofs.Defaults.{unfolded_sites}
-use Rattle.within_laws.proofs.Contracts.{HasNone, QuietModes, QuietItems}
+use Rattle.within_laws.proofs.Contracts.{QuietModes}
 use Rattle.within_laws.proofs.Facts.{frames_are_quiet}
 use Rattle.within_laws.proofs.Lists.{each_picked, from_mapped}
 use Rattle.within_laws.proofs.Quiet.{quiet_parts_are_within}
@@ -286,3 +285,12 @@ instants_are_within p c n j qs ev m f run t l sources legal said =
     (subst (AreQuiet i f t) (sym ev.parts)
     (each_picked (λ q. operations_there i f t q ≡ []) ev.numbers (in_turn ev.orders i)
     (instant_quiet p c i f t (λ w a. rows_show p c n j m f run t l w a) (λ w a. frames_are_quiet p c n j m f run t l w a sources) ev.orders top legal said)))
+
+pub quiet_runs_stay_within : QuietRunsStayWithin
+quiet_runs_stay_within p c n j m f run k le sources legal said =
+    let e : HasOneEvaluation (instance_of p n) = each_has_one_evaluation p c n j in
+    record {
+      parts = e.parts;
+      evaluation = e.evaluation;
+      within = λ t l. instants_are_within p c n j e.parts e.evaluation m f run t (omega (arith, l, le)) (sources t l) (legal t l) (said t l);
+    }

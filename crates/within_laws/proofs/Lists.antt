@@ -1,5 +1,5 @@
 -- What holds of all of a list.
-use Rattle.std.proofs.Common.{ℕ, zero, suc, List, [], ◌∷◌, ◌++◌, map}
+use Rattle.std.proofs.Common.{ℕ, zero, suc, List, [], ◌∷◌, map}
 use Rattle.std.specs.Prelude.{slice_get, option_to_list}
 use Rattle.std.specs.List.{AllByRecursion}
 use Rattle.lus_meaning.proofs.Lists.{both_parts}

@@ -1,5 +1,5 @@
 -- What the row of a run says of all that is evaluated at an instant.
-use Rattle.std.specs.Prelude.{◌≡◌, ℕ, ◌<◌, List}
+use Rattle.std.specs.Prelude.{◌≡◌, ℕ, ◌<◌, ◌≤◌, List}
 use Rattle.std.specs.List.{AllByRecursion}
 use Rattle.lus_meaning.specs.Frame.{Frame}
 use Rattle.lus_meaning.specs.Scene.{Instance}
@@ -8,6 +8,7 @@ use Rattle.lus_meaning.specs.RuleLaws.{OfEach}
 use Rattle.lus_evaluation.specs.Part.{Part}
 use Rattle.lus_evaluation.specs.Evaluation.{IsEvaluation}
 use Rattle.lus_evaluation.specs.Past.{NonePast}
+use Rattle.lus_evaluation.specs.Outcome.{StaysWithin}
 use Rattle.slot_values.specs.Evaluated.{outside}
 use Rattle.slot_sources.specs.Rows.{is_on}
 use Rattle.slot_sources.specs.Sources.{sources_of}
@@ -15,6 +16,7 @@ use Rattle.slot_sources.specs.Parts.{part_switch, part_resolution}
 use Rattle.evaluation_laws.specs.Rows.{row_at, AreCalls}
 use Rattle.order_laws.specs.Laws.{operations_there, OfEachEvaluation}
 use Rattle.condition_laws.specs.Conditions.{legal_resolutions, property_resolutions}
+use Rattle.condition_laws.specs.Laws.{OfEachRun}
 use Rattle.condition_laws.specs.Within.{NoneOutside}
 use Rattle.within_laws.specs.Sources.{AreSourcesQuiet}
 
@@ -39,3 +41,10 @@ abbrev pub InstantsAreWithin : Type 0
 InstantsAreWithin =
     OfEachEvaluation (λ i m f qs. (t : ℕ) → t < m → AreSourcesQuiet (row_at i f t) (sources_of i) → NoneOutside (row_at i f t) (legal_resolutions i) →
     NoneOutside (row_at i f t) (property_resolutions i) → NonePast i f qs t)
+
+-- So the evaluation of the first n instants of a run stays within, where it is so at each of them.
+abbrev pub QuietRunsStayWithin : Type 0
+QuietRunsStayWithin =
+    OfEachRun (λ i m f. (n : ℕ) → n ≤ m → ((t : ℕ) → t < n → AreSourcesQuiet (row_at i f t) (sources_of i)) →
+    ((t : ℕ) → t < n → NoneOutside (row_at i f t) (legal_resolutions i)) → ((t : ℕ) → t < n → NoneOutside (row_at i f t) (property_resolutions i)) →
+    StaysWithin i f n)

@@ -2,7 +2,7 @@
 
 ghost use Rattle.within_laws.specs.Laws.{QuietPartsAreWithin, PartsWithinAreQuiet};
 ghost use Rattle.within_laws.specs.Frames.{AllSidesAreQuiet, AllTextsAreQuiet};
-ghost use Rattle.within_laws.specs.Instants.{InstantsAreWithin, PartsStandAtCalls, PartsAreOverSlots};
+ghost use Rattle.within_laws.specs.Instants.{InstantsAreWithin, PartsStandAtCalls, PartsAreOverSlots, QuietRunsStayWithin};
 ghost use Rattle.within_laws.specs.Sources.{FramesAreQuiet};
 ghost use Rattle.within_laws.specs.Texts.{TextsAreQuiet};
 
@@ -28,8 +28,8 @@ pub fn frames_are_quiet()
 {}
 
 /// So in each of these frames no part of a text has an operation outside where the text has none: what its parts leave to
-/// others are sources. It is taken that the frames of calls, the defaults and what modes require have none. So no part of
-/// an equation's right side has one.
+/// others are sources, or defaults, which are constants. It is taken that the frames of calls and what modes require have
+/// none. So no part of an equation's right side has one.
 pub fn all_texts_are_quiet()
     ensures texts { AllTextsAreQuiet }
     ensures equations { AllSidesAreQuiet }
@@ -44,6 +44,8 @@ pub fn parts_over_slots()
 
 /// Of a checked program, in the evaluation of an instant of a run of a declaration: where no source of a slot that is
 /// read has an operation outside 128 bits in the row of that instant, and no condition has one, all parts are within.
+/// So the evaluation of the first instants of a run stays within, where it is so at each of them.
 pub fn instants_are_within()
     ensures within { InstantsAreWithin }
+    ensures stays { QuietRunsStayWithin }
 {}

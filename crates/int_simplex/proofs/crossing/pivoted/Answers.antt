@@ -1,10 +1,7 @@
 use Rattle.std.specs.Int.{w128}
-use Rattle.std.specs.Prelude.{ℕ, List}
-use Rattle.std.proofs.Common.{rules, subst, sym}
+use Rattle.std.proofs.Common.{rules, sym}
 use mir.Val.{SFits}
-use lib.IntN.{ℤ}
 use Rattle.std.proofs.lemmas.Int.{to_z-of_z}
-use Rattle.int_simplex.specs.Crossing.{IsReduced, HasEntry}
 use Rattle.int_simplex.proofs.Sparse.{sparse_differ}
 use Rattle.int_simplex.proofs.Crossings.{reduced_pivoted, empty_pivoted, made_has, past_of, made_of, empty_list, full_list}
 use Rattle.int_simplex.proofs.crossing.pivoted.Goals as goal
@@ -45,7 +42,5 @@ returns-clause-made c =
     let m = made_of c.args.columns c.args.entering c.entry_in-p.result c.entry_in-q.result c.args.row.now c.args.other.now
     c.in_ok-made.made.items p q (simp to_z-of_z at c.in_ok-made.ensures.made) in
     reduced_pivoted c.args.columns c.args.entering c.args.row.now c.args.other.now c.in_ok-made.made.items c.in_ok-new.new.items m
-    (subst (λ (r : List (ℕ × ℤ)). IsReduced r c.in_ok-new.new.items) c.deref.ensures.value
-    (c.in_ok-new.ensures (subst HasEntry (sym c.deref.ensures.value)
-    (made_has c.args.columns _ c.in_ok-made.made.items (full_list c.in_ok-made.made.items _
-    (sym c.in_ok-made.made.ok.0) c.if-is_empty.ensures) m))))
+    (c.in_ok-new.ensures (made_has c.args.columns _ c.in_ok-made.made.items (full_list c.in_ok-made.made.items _
+    (sym c.in_ok-made.made.ok.0) c.if-is_empty.ensures) m))

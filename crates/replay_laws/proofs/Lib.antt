@@ -1,0 +1,4 @@
+pub mod Lists
+pub mod Covered
+pub mod Answers
+pub mod Choices

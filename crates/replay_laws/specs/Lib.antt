@@ -1,0 +1,3 @@
+pub mod OverSlots
+pub mod Chosen
+pub mod Replayed
