@@ -1,3 +1,5 @@
 pub mod Numbers
-pub mod Choices
-pub mod Chosen
+pub mod Values
+pub mod Joined
+pub mod Slots
+pub mod Room

@@ -1,6 +1,5 @@
 pub mod Named
 pub mod NamedView
-pub mod Listed
 pub mod Faults
 pub mod Told
 pub mod Slots

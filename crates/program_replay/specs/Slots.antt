@@ -1,35 +1,37 @@
--- What is shown and told of the slots of a node, by the table of its sources and of what lines of a trace choose.
+-- What is shown and told of the slots of a node, by the table of its sources.
 use Rattle.std.specs.Prelude.{◌≡◌, ℕ, List}
 use Rattle.lus_meaning.specs.Scene.{Instance}
 use Rattle.lus_meaning.specs.Trace.{BareLine}
-use Rattle.condition_laws.specs.Conditions.{legal_resolutions, property_resolutions}
-use Rattle.row_laws.specs.Choices.{choices_of}
+use Rattle.slot_sources.specs.Rows.{Choices}
 use Rattle.slot_sources.specs.Sources.{sources_of}
 use Rattle.slot_rows.specs.Order.{IsSlotOrder}
 use Rattle.slot_rows.specs.Table.{Row, rows, value_in}
 use Rattle.slot_replay.specs.declared.fault.ReplayFault.{ReplayFault}
 use Rattle.slot_replay.specs.Answer.{AreBreaks, AreLawful, GoesThrough, IsPast, seen_in}
-use Rattle.slot_replay.specs.Conditions.{Conditions}
 use Rattle.slot_replay.specs.Parts.{Part}
 use Rattle.slot_replay.specs.Shown.{Shown}
+use Rattle.replay_laws.specs.Chosen.{Chooses}
+use Rattle.replay_laws.specs.OverSlots.{conditions_over}
 
-abbrev pub conditions_over : Instance → Conditions
-conditions_over i = record { legal = legal_resolutions i; properties = property_resolutions i }
+-- the table of n instants, by an order of the slots and by what lines of a trace choose
+pub record IsTable (i : Instance) (ls : List BareLine) (n : ℕ) (table : List Row) : Type 0 where
+  pub order : List ℕ
+  pub is_order : IsSlotOrder (sources_of i) order
+  pub choices : Choices
+  pub chosen : Chooses ls i choices
+  pub filled : table ≡ rows choices (sources_of i) order n
 
--- of n instants, by an order of the slots
-abbrev pub table_of : Instance → List BareLine → ℕ → List ℕ → List Row
-table_of i ls n ks = rows (choices_of ls i) (sources_of i) ks n
-
--- by some order
+-- this is what such a table shows, where these are the parts
 pub record ShowsSlots (i : Instance) (ls : List BareLine) (n : ℕ) (AreParts : List Part → Type 0) (r : Shown) : Type 0 where
-  pub order : List ℕ
-  pub is_order : IsSlotOrder (sources_of i) order
-  pub going_on : GoesThrough (seen_in (table_of i ls n order)) (conditions_over i) AreParts n
-  pub breaks : AreBreaks (value_in (table_of i ls n order)) (conditions_over i) n r.breaks
-  pub lawful : AreLawful (value_in (table_of i ls n order)) (conditions_over i) n r.lawful
-  pub value : (k t : ℕ) → r.value k t ≡ value_in (table_of i ls n order) t k
+  pub table : List Row
+  pub is_table : IsTable i ls n table
+  pub going_on : GoesThrough (seen_in table) (conditions_over i) AreParts n
+  pub breaks : AreBreaks (value_in table) (conditions_over i) n r.breaks
+  pub lawful : AreLawful (value_in table) (conditions_over i) n r.lawful
+  pub value : (k t : ℕ) → r.value k t ≡ value_in table t k
 
+-- this is told by such a table
 pub record TellsSlots (i : Instance) (ls : List BareLine) (n : ℕ) (AreParts : List Part → Type 0) (e : ReplayFault) : Type 0 where
-  pub order : List ℕ
-  pub is_order : IsSlotOrder (sources_of i) order
-  pub past : IsPast (seen_in (table_of i ls n order)) (conditions_over i) AreParts n e
+  pub table : List Row
+  pub is_table : IsTable i ls n table
+  pub past : IsPast (seen_in table) (conditions_over i) AreParts n e

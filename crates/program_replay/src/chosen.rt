@@ -3,7 +3,7 @@
 ghost use Rattle.std.specs.Prelude.{◌≡◌, slice_get};
 ghost use Rattle.lus_meaning.specs.TraceView.{entry_view};
 ghost use Rattle.trace_fits.specs.Views.{fitted_at};
-ghost use Rattle.program_replay.specs.Listed.{choices_by, listed_by};
+ghost use Rattle.replay_laws.specs.Chosen.{choices_by, listed_by};
 
 use kind_num::Shape;
 use lus_meaning::Value;

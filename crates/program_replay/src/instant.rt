@@ -6,7 +6,7 @@ ghost use Rattle.lus_meaning.specs.ClockFaults.{components};
 ghost use Rattle.lus_meaning.specs.Program.{instance_of};
 ghost use Rattle.lus_meaning.specs.Slots.{width};
 ghost use Rattle.lus_checked.specs.Program.{tree_of};
-ghost use Rattle.replay_laws.specs.OverSlots.{ArePartsOf};
+ghost use Rattle.replay_laws.specs.OverSlots.{AreDeclaredParts};
 
 use evaluation_order::evaluation;
 use lus_checked::Checked;
@@ -26,7 +26,7 @@ pub(crate) struct Instant<'c> {
 }
 
 impl Parts for Instant<'_> {
-    ghost are_parts = { λ s ps. ArePartsOf ps (instance_of (tree_of s.checked.now) (node_view s.node.now)) };
+    ghost are_parts = { λ s ps. AreDeclaredParts (tree_of s.checked.now) s.place ps };
 
     fn in_order(&self, alloc: Global) -> Result<Vec<PartAt>, AllocError> {
         let parts = evaluation(alloc, self.checked, self.place)?;

@@ -16,7 +16,7 @@ pub(crate) struct Named<'a> {
 }
 
 /// The first node or function of that name.
-pub(crate) fn named<'a>(program: &'a Program, name: &str) -> Option<Named<'a>>
+pub(crate) fn find_named<'a>(program: &'a Program, name: &str) -> Option<Named<'a>>
     ensures { option_map named_view result ≡ numbers_from 0 0 name.now (program_view program.now) }
 {
     let mut number = 0;

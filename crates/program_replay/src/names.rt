@@ -8,7 +8,7 @@ ghost use Rattle.lus_meaning.specs.Scene.{ghosts, variables};
 ghost use Rattle.lus_streams.specs.Owner.{owner_view};
 ghost use Rattle.lus_streams.specs.Streams.{names_of};
 
-use lus_meaning::rule_laws::names_once;
+use lus_meaning::names_once;
 use lus_streams::owner::Owner;
 use lus_tree::{ContractItem, Param, Program};
 use name_table::NameTable;

@@ -1,13 +1,13 @@
 //! The shapes of the slots of a node.
 
-ghost use Rattle.std.specs.Prelude.{◌≡◌, ◌<◌, Contains, IfOk, map};
+ghost use Rattle.std.specs.Prelude.{◌≡◌, ◌<◌, Contains, IfOk};
 ghost use Rattle.lus_tree.specs.View.{program_view};
 ghost use Rattle.lus_meaning.specs.ClockFaults.{components};
 ghost use Rattle.lus_meaning.specs.Program.{instance_of};
 ghost use Rattle.lus_meaning.specs.Refusals.{IsChecked};
-ghost use Rattle.lus_meaning.specs.Slots.{slots, width};
+ghost use Rattle.lus_meaning.specs.Slots.{width};
 ghost use Rattle.lus_streams.specs.Owner.{owner_view};
-ghost use Rattle.sys_meaning.specs.System.{shape_of};
+ghost use Rattle.replay_laws.specs.Chosen.{slot_shapes};
 
 use kind_num::Shape;
 use lus_streams::owner::Owner;
@@ -26,7 +26,7 @@ pub(crate) fn shapes(
     requires declared { Contains (components (program_view program.now)) (owner_view node) }
     requires small { width (instance_of (program_view program.now) (owner_view node)) < 20001 }
     ensures { IfOk result (λ v. v.items
-        ≡ map (λ q. shape_of q.sort) (slots (instance_of (program_view program.now) (owner_view node.entry)))) }
+        ≡ slot_shapes (instance_of (program_view program.now) (owner_view node.entry))) }
 {
     let System { shapes, .. } = system(alloc, program, node)?;
     Ok(shapes)

@@ -15,7 +15,8 @@ ghost use Rattle.slot_replay.specs.Conditions.{conditions_view};
 ghost use Rattle.slot_replay.specs.Shown.{replayed_view};
 ghost use Rattle.trace_fits.specs.Given.{given_at};
 ghost use Rattle.trace_fits.specs.Views.{fitted_at};
-ghost use Rattle.program_replay.specs.Slots.{ShowsSlots, TellsSlots, conditions_over};
+ghost use Rattle.program_replay.specs.Slots.{ShowsSlots, TellsSlots};
+ghost use Rattle.replay_laws.specs.OverSlots.{conditions_over};
 
 use crate::chosen::Listed;
 use crate::shapes::shapes;
@@ -24,6 +25,7 @@ use frame_sources::sources;
 use lus_meaning::Trace;
 use lus_streams::owner::Owner;
 use lus_tree::{Node, Program};
+use replay_laws::laws::shapes_choose;
 use row_laws::laws::sources_have_ranks;
 use slot_replay::{Conditions, Parts, ReplayFault, Replayed, replay};
 use slot_rows::order;
@@ -79,6 +81,7 @@ pub(crate) fn replay_slots<P: Parts>(
         (lines_of (trace_view trace.now)) (trace_view trace.now).length (P.are_parts parts.now)) }
 {
     sources_have_ranks();
+    shapes_choose();
     let owner = Owner::Node(node);
     let shapes = shapes(alloc, program, owner)?;
     let chosen = Listed { shapes, fitted };
