@@ -43,12 +43,12 @@ all-same P zero x p k d h = absurd (omega arith)
 all-same P (suc n) x p zero d h = p
 all-same P (suc n) x p (suc k) d h = all-same P n x p k d (omega arith)
 
-zeros : (n c : ℕ) → places_of (replicate n (pos 0, pos 1)) c ≡ pos 0
+pub zeros : (n c : ℕ) → places_of (replicate n (pos 0, pos 1)) c ≡ pos 0
 zeros zero c = refl
 zeros (suc n) zero = refl
 zeros (suc n) (suc c) = zeros n c
 
-rest-zero : (f p : ℕ → ℤ) (x : ℕ) → ((c : ℕ) → p c ≡ pos 0) → (n : ℕ) → rest_below f p x n ≡ pos 0
+pub rest-zero : (f p : ℕ → ℤ) (x : ℕ) → ((c : ℕ) → p c ≡ pos 0) → (n : ℕ) → rest_below f p x n ≡ pos 0
 rest-zero f p x h zero = refl
 rest-zero f p x h (suc n) = by (n == x) (f n) (p n) (rest_below f p x n) (h n) (rest-zero f p x h n) where
   by : (b : Bool) (a v s : ℤ) → v ≡ pos 0 → s ≡ pos 0 → cond b s (a *ℤ v +ℤ s) ≡ pos 0

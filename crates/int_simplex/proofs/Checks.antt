@@ -48,7 +48,7 @@ tables_of i u h = record {
   of_columns = (h.sound u).of_columns;
 }
 
-rest-places : (e p q : ℕ → ℤ) (x n : ℕ) → ((c : ℕ) → c < n → c ≢ x → e c *ℤ p c ≡ e c *ℤ q c) → rest_below e p x n ≡ rest_below e q x n
+pub rest-places : (e p q : ℕ → ℤ) (x n : ℕ) → ((c : ℕ) → c < n → c ≢ x → e c *ℤ p c ≡ e c *ℤ q c) → rest_below e p x n ≡ rest_below e q x n
 rest-places e p q x zero h = refl
 rest-places e p q x (suc n) h =
     let r = rest-places e p q x n (λ c l. h c (omega arith)) in
@@ -60,7 +60,7 @@ rest-places e p q x (suc n) h =
           ∙ sym (ap (λ b. cond b (rest_below e q x n) (e n *ℤ q n +ℤ rest_below e q x n)) t)
     ]
 
-no-product : (a p q : ℤ) → a ≡ pos 0 → a *ℤ p ≡ a *ℤ q
+pub no-product : (a p q : ℤ) → a ≡ pos 0 → a *ℤ p ≡ a *ℤ q
 no-product a p q e = ap (λ z. z *ℤ p) e ∙ zero-*ℤ p ∙ sym (zero-*ℤ q) ∙ sym (ap (λ z. z *ℤ q) e)
 
 module _ (given : List (List (ℕ × ℤ))) (columns : ℕ) (basis : List ℕ) (rows : List (List (ℕ × ℤ))) (places : List ℤ) (values : List (ℤ × ℤ))

@@ -40,6 +40,7 @@ pub mod Kept
 pub mod Crossings
 pub mod Holding
 pub mod Seating
+pub mod Fresh
 pub mod Sorting
 pub mod OnRows
 pub mod Calls

@@ -13,6 +13,7 @@ use Rattle.int_simplex.specs.Sparse.{IsSparse}
 use Rattle.int_simplex.specs.Sound.{IsSound}
 use Rattle.int_simplex.specs.Holding.{lists_of, AreListed}
 use Rattle.int_simplex.specs.Seating.{AreSeats}
+use Rattle.int_simplex.specs.Marks.{AreOwnValues}
 
 abbrev pub standing : Asserted → Standing
 standing a = record { column = a.column; upper = a.upper; limit = a.limit; literal = a.literal }
@@ -70,6 +71,7 @@ pub record IsInner (i : Inside) : Type 0 where
   pub free : i.usable ≡ true → IsFree (map row_view i.given.items) i.basis.items
   pub listed : i.usable ≡ true → AreListed i.columns (map row_view i.rows.items) (lists_of i.lists.items)
   pub seats : i.usable ≡ true → AreSeats i.columns i.basis.items i.seats.items
+  pub own : i.usable ≡ true → AreOwnValues i.basis.items (map row_view i.rows.items) i.values.items
   pub lowers : AreLimits i.columns false (map standing i.trail.items) i.lowers.items
   pub uppers : AreLimits i.columns true (map standing i.trail.items) i.uppers.items
   pub before : AreBefore i.trail.items

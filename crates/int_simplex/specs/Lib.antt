@@ -15,6 +15,7 @@ pub mod Holding
 pub mod Seating
 pub mod Pivoting
 pub mod Valued
+pub mod Marks
 pub mod Choosing
 pub mod Refuting
 pub mod Running

@@ -15,6 +15,7 @@ mod pivoting;
 mod refuting;
 mod run;
 mod seats;
+mod stale;
 mod stopping;
 mod table;
 mod trouble;

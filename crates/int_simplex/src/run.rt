@@ -9,14 +9,15 @@ ghost use Rattle.int_simplex.specs.Choosing.{bare};
 ghost use Rattle.int_simplex.specs.Inner.{standing};
 ghost use Rattle.int_simplex.specs.Holding.{lists_of, AreListed};
 ghost use Rattle.int_simplex.specs.Seating.{AreSeats};
+ghost use Rattle.int_simplex.specs.Marks.{AreOwnValues};
 ghost use Rattle.int_simplex.specs.Running.{IsKept, IsReady, AreTables, AreFirst, IsStopped, IsWalked, IsAnswer, ArePlacesOf, AreLimitsOf, at as at_place};
 
 use crate::answers::Farkas;
 use crate::moving::{Move, next_move, turn};
 use crate::seats::seat_of;
+use crate::stale::refresh;
 use crate::table::Asserted;
 use crate::trouble::Stopped;
-use crate::values::values_of;
 use proof_steps::Start;
 use std::alloc::{AllocError, Global};
 
@@ -146,6 +147,8 @@ pub(crate) fn walk(
     requires listed { AreListed columns (map row_view rows.old.items) (lists_of lists.old.items) }
     requires seats { AreSeats columns basis.old.items seats.old.items }
     requires places { length places.old.items ≡ length lowers.now }
+    requires width { length values.old.items ≡ length lowers.now }
+    requires own { AreOwnValues basis.old.items (map row_view rows.old.items) values.old.items }
     requires uppers { length uppers.now ≡ length lowers.now }
     requires columns { columns ≡ length lowers.now }
     ensures found { IfOk result (λ w. (bounds : List Standing) → AreTables
@@ -161,7 +164,7 @@ pub(crate) fn walk(
         → AreLimitsOf numbers lowers.now uppers.now → IsStopped (map row_view given.now)
         (length lowers.now) numbers e) }
 {
-    *values = values_of(alloc, given, basis, rows, places)?;
+    refresh(alloc, given, basis, seats, rows, lists, places, values)?;
     let mut left = pivots;
     loop {
         match next_move(alloc, given, lowers, uppers, basis, rows, values, places)? {

@@ -79,37 +79,6 @@ pub(crate) fn value_in(row: &[(u32, i128)], x: u32, places: &[i128]) -> Result<(
     }
 }
 
-// The columns' values: those outside the basis stand at their places.
-pub(crate) fn values_of(
-    alloc: Global,
-    given: &[Vec<(u32, i128)>],
-    basis: &[u32],
-    rows: &[Vec<(u32, i128)>],
-    places: &[i128],
-) -> Result<Vec<(i128, i128)>, Stopped>
-    requires count { length rows.now ≡ length basis.now }
-    requires given { length given.now ≡ length basis.now }
-    requires different { AllDiffer basis.now }
-    requires in_range { All (λ c. c < length places.now) basis.now }
-    requires sparse { (k : ℕ) (r : List (ℕ × ℤ)) → slice_get (map row_view rows.now) k ≡ Some r → IsSparse
-        (length places.now) r }
-    ensures values { IfOk result (λ v. AreValues basis.now (map row_view rows.now) places.now v.items) }
-    ensures past { IfErr result (IsValuesPast (map row_view given.now) basis.now (map row_view rows.now)
-        (place_at places.now)) }
-{
-    let mut values = Vec::new(alloc);
-    for z in places {
-        values.push((*z, 1))?;
-    }
-    for k in 0..basis.len() {
-        match value_in(&rows[k], basis[k], places) {
-            Ok(v) => values[basis[k] as usize] = v,
-            Err(past) => return Err(past_over(alloc, &rows[k], &given[0], past)),
-        }
-    }
-    Ok(values)
-}
-
 // The values after a change of the rows at these places: those of the others are what they were.
 pub(crate) fn update_values(
     alloc: Global,

@@ -9,12 +9,12 @@ ghost use Rattle.lus_order.specs.Names.{words_view};
 ghost use Rattle.lus_order.specs.Sides.{side_words, words_of};
 
 use crate::found::{is_marked_name, reached_from};
-use number_graphs::graph::Graph;
 use crate::rows::push_numbers;
 use crate::sides::Side;
 use lus_scopes::least::Least;
 use lus_tree::{PlacedName, What};
 use name_table::NameTable;
+use number_graphs::graph::Graph;
 use std::alloc::{AllocError, Global};
 
 /// All to which the numbers of these names lead by one step.

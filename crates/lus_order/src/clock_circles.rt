@@ -11,14 +11,14 @@ ghost use Rattle.lus_order.specs.Reads.{clock_seen};
 ghost use Rattle.lus_order.specs.Sides.{equations_view};
 ghost use Rattle.lus_order.specs.Streams.{params_view, with_all, with_sides};
 
-use number_graphs::circles::on_circles;
-use number_graphs::graph::Graph;
 use crate::rows::push_number;
 use crate::setting::Clocks;
 use crate::sides::Side;
 use lus_scopes::least::Least;
 use lus_tree::{Param, PlacedName, What};
 use name_table::NameTable;
+use number_graphs::circles::on_circles;
+use number_graphs::graph::Graph;
 use std::alloc::{AllocError, Global};
 
 /// The table, and in it these left names.

@@ -6,10 +6,10 @@ ghost use Rattle.number_graphs.specs.Graphs.{AreReached, graph_view};
 ghost use Rattle.lus_order.specs.Library.{texts_seen};
 ghost use Rattle.lus_order.specs.OwnRows.{numbers_of};
 
-use number_graphs::graph::Graph;
-use number_graphs::reach::reached;
 use crate::rows::push_number;
 use name_table::NameTable;
+use number_graphs::graph::Graph;
+use number_graphs::reach::reached;
 use std::alloc::{AllocError, Global};
 
 /// Marks the numbers to which one with that row leads by one step or several. The graph is as it was.

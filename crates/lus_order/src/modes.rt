@@ -7,11 +7,11 @@ ghost use Rattle.lus_order.specs.Rows.{asked_row, imported_row, imported_rows, l
 ghost use Rattle.number_graphs.specs.Visits.{once};
 
 use crate::library::{Known, KnownMode, Library};
-use number_graphs::reach::once;
 use crate::rows::{Mode, push_asked, push_expression, push_number};
 use crate::setting::{Callees, Clocks};
 use lus_tree::{ContractItem, Expr, Named, PlacedName};
 use name_table::NameTable;
+use number_graphs::reach::once;
 use std::alloc::{AllocError, Global};
 
 /// A mode of the contract itself, by those before it.

@@ -10,10 +10,8 @@ ghost use Rattle.lus_order.specs.OwnOrders.{IsOrderOf};
 ghost use Rattle.lus_streams.specs.Owner.{owner_view};
 ghost use Rattle.lus_order.specs.Streams.{names_of};
 
-use number_graphs::graph::Graph;
 use crate::library::Library;
 use crate::modes::modes_of;
-use number_graphs::order_from::order_from;
 use crate::own_rows::own_rows;
 use crate::rows::Mode;
 use crate::setting::Clocks;
@@ -21,6 +19,8 @@ use crate::sides::{Side, sides_of};
 use crate::streams::{params_of, table_of};
 use lus_streams::owner::Owner;
 use lus_tree::Param;
+use number_graphs::graph::Graph;
+use number_graphs::order_from::order_from;
 use std::alloc::{AllocError, Global};
 
 /// A declaration with its streams, its equations, its modes and its own graph.

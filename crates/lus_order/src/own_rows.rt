@@ -9,12 +9,12 @@ ghost use Rattle.lus_order.specs.Reads.{clock_seen};
 ghost use Rattle.lus_order.specs.Rows.{clock_row, equation_row, modes_view, side_clock};
 ghost use Rattle.lus_order.specs.Sides.{equation_view, equations_view};
 
-use number_graphs::graph::Graph;
 use crate::rows::{Mode, push_expression, push_number};
 use crate::setting::{Callees, Clocks};
 use crate::sides::Side;
 use lus_tree::PlacedName;
 use name_table::NameTable;
+use number_graphs::graph::Graph;
 use std::alloc::{AllocError, Global};
 
 /// The row, and behind it the number of the clock of a name, where it has one.

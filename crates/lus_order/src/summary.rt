@@ -11,13 +11,13 @@ ghost use Rattle.lus_order.specs.Rows.{ModeRows, mode_view, modes_view};
 ghost use Rattle.lus_order.specs.Streams.{names_of};
 
 use crate::found::{found_names, numbers_of};
-use number_graphs::graph::Graph;
 use crate::library::{Known, KnownMode};
 use crate::own::Own;
 use crate::rows::{Mode, push_numbers};
 use lus_streams::owner::Owner;
 use lus_tree::Param;
 use name_table::NameTable;
+use number_graphs::graph::Graph;
 use std::alloc::{AllocError, Global};
 
 /// The names of streams.

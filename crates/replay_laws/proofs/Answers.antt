@@ -1,10 +1,10 @@
 -- What is said of rows of values is said of the run.
-use Rattle.std.proofs.Common.{◌≡◌, ℕ, zero, suc, ◌<◌, ◌≤◌, Bool, true, false, List, [], ◌∷◌, Option, Some, None, slice_get, refl, ap, ◌∙◌, sym, subst, arith}
+use Rattle.std.proofs.Common.{◌≡◌, ℕ, zero, suc, ◌<◌, true, List, [], ◌∷◌, Option, Some, None, slice_get, refl, ◌∙◌, sym, subst, arith}
 use Rattle.std.specs.List.{AllByRecursion}
 use Rattle.slot_values.specs.Resolution.{Resolution}
 use Rattle.slot_values.specs.Evaluated.{SlotValues, outside}
 use Rattle.slot_replay.specs.Conditions.{Conditions, all_true, is_true}
-use Rattle.slot_replay.specs.Answer.{AreBreaks, AreLawful, Breaks, IsBreak, IsBreakOf, IsLawful}
+use Rattle.slot_replay.specs.Answer.{AreBreaks, AreLawful, IsBreak, IsBreakOf, IsLawful}
 use Rattle.slot_replay.specs.Following.{ConditionsWithin}
 use Rattle.slot_replay.proofs.Agreed.{within_true}
 use Rattle.condition_laws.specs.Breaks as rows

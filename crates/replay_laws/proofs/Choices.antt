@@ -1,5 +1,5 @@
 -- What lines choose, of each slot by its type: rows that follow by what lines of a trace choose follow by that too.
-use Rattle.std.proofs.Common.{◌≡◌, ℕ, zero, suc, List, [], ◌∷◌, ◌++◌, map, length, Option, Some, None, slice_get, refl, ap, ◌∙◌, sym, subst}
+use Rattle.std.proofs.Common.{◌≡◌, ℕ, zero, suc, List, [], ◌∷◌, ◌++◌, map, Option, Some, None, slice_get, refl, ap, ◌∙◌, sym}
 use Rattle.std.specs.Prelude.{option_map, unwrap_or}
 use Rattle.std.specs.Option.{option_map_or}
 use Rattle.std.specs.List.{AllByRecursion}
@@ -14,7 +14,7 @@ use Rattle.lus_meaning.specs.Scene.{Manner, plain, while_true, as_import, Site, 
 use Rattle.lus_meaning.specs.Occurrences.{Memory, memories, Start, starts}
 use Rattle.lus_meaning.specs.Program.{in_order}
 use Rattle.lus_meaning.specs.Run.{Equation, equations, inputs_of}
-use Rattle.lus_meaning.specs.Slots.{Cell, beat_cell, name_cell, memory_cell, start_cell, sofar_cell, held_cell, Slot, slot, contract_cells, own_cells, held_each, held_cells, slots_in, call_slots, slots}
+use Rattle.lus_meaning.specs.Slots.{Cell, beat_cell, name_cell, memory_cell, start_cell, Slot, slot, contract_cells, own_cells, held_each, held_cells, slots_in, call_slots, slots}
 use Rattle.lus_meaning.specs.Trace.{BareLine, Subject, of_name, of_first, listed_at, or_default}
 use Rattle.sys_meaning.specs.Slot.{named, Place, own}
 use Rattle.sys_meaning.specs.System.{below_call, number_of, shape_of}
@@ -27,8 +27,7 @@ use Rattle.slot_sources.specs.Sources.{numbering_of, switch_of, NameSources, pai
 use Rattle.row_laws.specs.Choices.{choices_of, first_in, listed_in, of_slot}
 use Rattle.row_laws.proofs.Lists.{Both, both_append, both_over, both_at, found_has, mapped_at}
 use Rattle.lus_meaning.proofs.Lists.{both_parts}
-use Rattle.program_replay.specs.GivenHere.{given_at, listed_there, place_in, subject_in}
-use Rattle.program_replay.specs.Listed.{choices_by, listed_by, shape_default}
+use Rattle.replay_laws.specs.Chosen.{Chooses, ShapesChoose, listed_by, listed_of, listed_there, place_in, shape_default, slot_shapes, subject_in}
 
 -- ---- what gives names their values is no memory
 
@@ -208,66 +207,69 @@ mapped_some w (y ∷ xs) (suc k) x e = mapped_some w xs k x e
 
 module _ (i : Instance) (ls : List BareLine) where
   abbrev shapes : List Shape
-  shapes = map (λ q. shape_of q.sort) (slots i)
+  shapes = slot_shapes i
 
   -- what is listed of a slot by its shape
   by_shape : (k t : ℕ) (q : Slot) (x : Subject) → slice_get (slots i) k ≡ Some q → subject_in q.cell ≡ Some x
-      → listed_by (slice_get shapes k) (given_at i ls k t) ≡ or_default q.sort (listed_at ls q.path x t)
+      → listed_by (slice_get shapes k) (listed_of i ls k t) ≡ or_default q.sort (listed_at ls q.path x t)
   by_shape k t q x e s =
-      ap (λ o. listed_by o (given_at i ls k t)) (mapped_some (λ q. shape_of q.sort) (slots i) k q e)
-      ∙ (default_same q.sort (given_at i ls k t)
+      ap (λ o. listed_by o (listed_of i ls k t)) (mapped_some (λ q. shape_of q.sort) (slots i) k q e)
+      ∙ (default_same q.sort (listed_of i ls k t)
       ∙ ap (or_default q.sort) (ap (λ o. listed_there ls (option_map_or place_in o None) t) e ∙ ap (λ o. listed_there ls (option_map (λ x. (q.path, x)) o) t) s))
 
   one_at : (w : Slot → Value) (k : ℕ) (q : Slot) → slice_get (slots i) k ≡ Some q → of_slot w i k ≡ w q
   one_at w k q e = mapped_at w absent (slots i) k q e
 
   first_same : (k : ℕ) (q : Slot) (m : Memory) → slice_get (slots i) k ≡ Some q → q.cell ≡ memory_cell m
-      → listed_by (slice_get shapes k) (given_at i ls k 0) ≡ (choices_of ls i).first k
+      → listed_by (slice_get shapes k) (listed_of i ls k 0) ≡ (choices_of ls i).first k
   first_same k q m e c =
       by_shape k 0 q (of_first m.number) e (ap subject_in c)
       ∙ sym (one_at (λ q. first_in ls q.path q.sort q.cell) k q e ∙ ap (first_in ls q.path q.sort) c)
 
   at_same : (k t : ℕ) (q : Slot) (v : Variable) → slice_get (slots i) k ≡ Some q → q.cell ≡ name_cell v → q.sort ≡ v.sort
-      → listed_by (slice_get shapes k) (given_at i ls k t) ≡ (choices_of ls i).at k t
+      → listed_by (slice_get shapes k) (listed_of i ls k t) ≡ (choices_of ls i).at k t
   at_same k t q v e c z =
       by_shape k t q (of_name v.name.text) e (ap subject_in c)
       ∙ (ap (λ z. or_default z (listed_at ls q.path (of_name v.name.text) t)) z
       ∙ sym (one_at (λ q. listed_in ls q.path q.cell t) k q e ∙ ap (λ c. listed_in ls q.path c t) c))
 
-  module _ (told : ℕ → ℕ → Value) (is_given : (k t : ℕ) → told k t ≡ given_at i ls k t) (rows : ℕ → SlotValues) where
-    abbrev mine : Choices
-    mine = choices_by shapes told
+  suit_at : (k : ℕ) (e : Source) → slice_get (sources_of i) k ≡ Some e → (x : Slot) × (slice_get (slots i) k ≡ Some x) × Suits x e
+  suit_at k e q = both_at Suits (slots i) (sources_of i) (all_suit plain [] i (number_of i) always [] tt tt) k e q
 
-    to_listed : (k t : ℕ) → listed_by (slice_get shapes k) (told k t) ≡ listed_by (slice_get shapes k) (given_at i ls k t)
-    to_listed k t = ap (listed_by (slice_get shapes k)) (is_given k t)
+pub shapes_choose : ShapesChoose
+shapes_choose i ls told is_listed = record {
+  first = λ k w e q. let h : (x : Slot) × (slice_get (slots i) k ≡ Some x) × Suits x (remembered w e) = suit_at i ls k (remembered w e) q in
+      ap (listed_by (slice_get (slot_shapes i) k)) (is_listed k 0) ∙ first_same i ls k h.0 h.2.0 h.1 h.2.1;
+  at = λ k w q t. let h : (x : Slot) × (slice_get (slots i) k ≡ Some x) × Suits x (listed w) = suit_at i ls k (listed w) q in
+      ap (listed_by (slice_get (slot_shapes i) k)) (is_listed k t) ∙ at_same i ls k t h.0 h.2.0 h.1 h.2.1 h.2.2;
+}
 
-    brought_same : (k t : ℕ) (e : Source) (q : Slot) → slice_get (slots i) k ≡ Some q → Suits q e
-        → brought (choices_of ls i) rows k t e ≡ brought mine rows k t e
-    brought_same k zero always q p s = refl
-    brought_same k zero (runs w) q p s = refl
-    brought_same k zero (runs_while w e) q p s = refl
-    brought_same k zero (same j) q p s = refl
-    brought_same k zero (given w e) q p s = refl
-    brought_same k zero (argument b w e) q p s = refl
-    brought_same k zero (listed w) q p s = sym (to_listed k 0 ∙ at_same k 0 q s.0 p s.1 s.2)
-    brought_same k zero (remembered w e) q p s = sym (to_listed k 0 ∙ first_same k q s.0 p s.1)
-    brought_same k zero (starting w) q p s = refl
-    brought_same k zero (held b o d) q p s = refl
-    brought_same k zero unread q p s = refl
-    brought_same k (suc t) always q p s = refl
-    brought_same k (suc t) (runs w) q p s = refl
-    brought_same k (suc t) (runs_while w e) q p s = refl
-    brought_same k (suc t) (same j) q p s = refl
-    brought_same k (suc t) (given w e) q p s = refl
-    brought_same k (suc t) (argument b w e) q p s = refl
-    brought_same k (suc t) (listed w) q p s = sym (to_listed k (suc t) ∙ at_same k (suc t) q s.0 p s.1 s.2)
-    brought_same k (suc t) (remembered w e) q p s = refl
-    brought_same k (suc t) (starting w) q p s = refl
-    brought_same k (suc t) (held b o d) q p s = refl
-    brought_same k (suc t) unread q p s = refl
+-- ---- rows that follow
 
-    pub follow_by_shapes : (n : ℕ) → Follow (sources_of i) (choices_of ls i) n rows → Follow (sources_of i) mine n rows
-    follow_by_shapes n follow k e q r t l =
-        let h : (x : Slot) × (slice_get (slots i) k ≡ Some x) × Suits x e =
-        both_at Suits (slots i) (sources_of i) (all_suit plain [] i (number_of i) always [] tt tt) k e q in
-        follow k e q r t l ∙ ap (λ v. value_now (rows t) v e) (brought_same k t e h.0 h.1 h.2)
+module _ (i : Instance) (ls : List BareLine) (c : Choices) (chosen : Chooses ls i c) (rows : ℕ → SlotValues) where
+  brought_same : (k t : ℕ) (e : Source) → slice_get (sources_of i) k ≡ Some e → brought (choices_of ls i) rows k t e ≡ brought c rows k t e
+  brought_same k zero always q = refl
+  brought_same k zero (runs w) q = refl
+  brought_same k zero (runs_while w e) q = refl
+  brought_same k zero (same j) q = refl
+  brought_same k zero (given w e) q = refl
+  brought_same k zero (argument b w e) q = refl
+  brought_same k zero (listed w) q = sym (chosen.at k w q zero)
+  brought_same k zero (remembered w e) q = sym (chosen.first k w e q)
+  brought_same k zero (starting w) q = refl
+  brought_same k zero (held b o d) q = refl
+  brought_same k zero unread q = refl
+  brought_same k (suc t) always q = refl
+  brought_same k (suc t) (runs w) q = refl
+  brought_same k (suc t) (runs_while w e) q = refl
+  brought_same k (suc t) (same j) q = refl
+  brought_same k (suc t) (given w e) q = refl
+  brought_same k (suc t) (argument b w e) q = refl
+  brought_same k (suc t) (listed w) q = sym (chosen.at k w q (suc t))
+  brought_same k (suc t) (remembered w e) q = refl
+  brought_same k (suc t) (starting w) q = refl
+  brought_same k (suc t) (held b o d) q = refl
+  brought_same k (suc t) unread q = refl
+
+  pub follow_chosen : (n : ℕ) → Follow (sources_of i) (choices_of ls i) n rows → Follow (sources_of i) c n rows
+  follow_chosen n follow k e q r t l = follow k e q r t l ∙ ap (λ v. value_now (rows t) v e) (brought_same k t e q)

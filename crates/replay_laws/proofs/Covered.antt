@@ -1,5 +1,5 @@
 -- The rows of a run are covered: its sources, its conditions and its parts have to do with each other as the replay asks.
-use Rattle.std.proofs.Common.{◌≡◌, ℕ, zero, suc, ◌<◌, ◌≤◌, Bool, true, List, [], ◌∷◌, ◌++◌, map, length, Some, None, Option, slice_get, refl, ap, ◌∙◌, sym, subst, arith}
+use Rattle.std.proofs.Common.{◌≡◌, ℕ, zero, suc, ◌<◌, true, List, [], ◌∷◌, ◌++◌, map, length, Some, None, Option, slice_get, refl, ap, ◌∙◌, sym, subst, arith}
 use Rattle.std.specs.Prelude.{Contains}
 use Rattle.std.specs.List.{AllByRecursion}
 use Rattle.std.proofs.lemmas.Bool.{false≢true}
@@ -27,7 +27,7 @@ use Rattle.slot_sources.specs.Rows.{Choices, Follow, is_on, is_read, reads_befor
 use Rattle.slot_sources.specs.Sources.{sources_of}
 use Rattle.slot_sources.specs.Parts.{part_resolution, part_switch}
 use Rattle.slot_rows.specs.Order.{IsSlotOrder}
-use Rattle.slot_rows.specs.Agreement.{IsClosed, NoneOutside, is_read_at, read_slots}
+use Rattle.slot_rows.specs.Agreement.{IsClosed, is_read_at, read_slots}
 use Rattle.slot_replay.specs.Parts.{Part as SlotPart, pasts_of}
 use Rattle.slot_replay.specs.Agreement.{AreIn, part_reads}
 use Rattle.slot_replay.specs.Following.{AreCovered, ConditionsWithin, IsCovered, IsFirstOutside, IsReadDone, PartsWithin}
@@ -41,9 +41,9 @@ use Rattle.condition_laws.proofs.ConditionsWithin.{conditions_stay_within}
 use Rattle.within_laws.specs.Laws.{AreQuiet}
 use Rattle.within_laws.specs.Instants.{InstantsAreWithin, IsOverSlots, PartsAreOverSlots}
 use Rattle.within_laws.proofs.Quiet.{parts_within_are_quiet, quiet_parts_are_within}
-use Rattle.program_replay.specs.RestsHere.{Rests, RestsBefore}
-use Rattle.program_replay.specs.OverSlots.{conditions_over, over_slots}
-use Rattle.program_replay.proofs.Lists.{IsSplitOf, all_picked, map_split, over_mapped}
+use Rattle.rest_laws.specs.Rests.{Rests, RestsBefore}
+use Rattle.replay_laws.specs.OverSlots.{conditions_over, over_slots}
+use Rattle.replay_laws.proofs.Lists.{IsSplitOf, all_picked, map_split, over_mapped}
 
 -- ---- the slots that are read are a closed set
 

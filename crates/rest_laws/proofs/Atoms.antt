@@ -1,23 +1,23 @@
 -- What the resolution of an expression reads is what its own parts read by themselves.
-use Rattle.std.proofs.Common.{◌≡◌, ℕ, zero, suc, pred, ◌+◌, ◌<◌, Bool, true, false, cond, List, [], ◌∷◌, ◌++◌, map, flat_map, slice_index_or, refl, ap, ◌∙◌, sym, subst, arith, Option, Some, None, option_map, option_to_list, unwrap_or}
+use Rattle.std.proofs.Common.{◌≡◌, ℕ, zero, suc, pred, ◌+◌, ◌<◌, Bool, true, false, cond, List, [], ◌∷◌, ◌++◌, map, slice_index_or, refl, ap, ◌∙◌, sym, subst, arith, Some, option_map, unwrap_or}
 use Rattle.std.specs.List.{AllByRecursion}
 use Rattle.std.specs.Map.{lookup}
-use Rattle.lus_tree.specs.Tree.{Name, text_of, Expression, Expressions, truth, number, name, negation, minus, pre, arrow, binary, choice, sampled, merged, call, condact, mode_name, Labelled, ContractStatement, assume, guarantee, ghost_variable, constant, mode, «import»}
+use Rattle.lus_tree.specs.Tree.{Name, text_of, Expression, truth, number, name, negation, minus, pre, arrow, binary, choice, sampled, merged, call, condact, mode_name, Labelled, ContractStatement, assume, guarantee, ghost_variable, constant, mode, «import»}
 use Rattle.lus_meaning.specs.Value.{flag}
 use Rattle.lus_meaning.specs.Frame.{Frame}
-use Rattle.lus_meaning.specs.Scene.{Clock, base, sampled_by, Instance, Instances, instance, no_instances, with_instance, component_of, calls_of, call_instance, instance_at, clock_of, contract_statements}
+use Rattle.lus_meaning.specs.Scene.{Clock, base, sampled_by, Instance, Instances, instance, no_instances, with_instance, component_of, instance_at, clock_of, contract_statements}
 use Rattle.lus_meaning.specs.Meaning.{mode_key}
 use Rattle.lus_meaning.specs.Cycle.{Place as NeededPlace}
 use Rattle.lus_meaning.proofs.Lists.{both_parts}
 use Rattle.lus_meaning.proofs.Now.{left_part, right_part}
 use Rattle.sys_meaning.specs.Slot.{beat, named, memory, starting, held, Place, own, in_call}
 use Rattle.sys_meaning.specs.Items.{Key, Known}
-use Rattle.sys_meaning.specs.System.{number_of, below_call}
+use Rattle.sys_meaning.specs.System.{number_of}
 use Rattle.sys_meaning.specs.WellTyped.{IsKnown, IsImport, StatementsFit, own_keys, count_of, CallsFit}
 use Rattle.sys_meaning.proofs.Forward.{own_fits}
 use Rattle.lus_evaluation.specs.Part.{Part, ModeParts, Setting, needs_of, key_of, asked_in, part}
 use Rattle.slot_values.specs.Resolution.{Resolution, known}
-use Rattle.slot_values.specs.Resolved.{Numbering, resolution, right_resolutions, name_resolution, mode_resolution, output_resolution, latest_resolution, outputs_at, first_resolution}
+use Rattle.slot_values.specs.Resolved.{Numbering, resolution, right_resolutions, name_resolution, output_resolution, latest_resolution, outputs_at, first_resolution}
 use Rattle.slot_values.specs.Parts.{own_parts}
 use Rattle.evaluation_laws.specs.Resolvings.{Resolving, at_numbers, all_resolved, asked_resolving, imported_resolving, resolvings_after, resolvings, resolvings_each}
 use Rattle.evaluation_laws.specs.Rows.{numbers_there}

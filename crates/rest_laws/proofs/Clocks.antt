@@ -1,11 +1,11 @@
 -- Of the parts of an instant: the clock of each is that of a declared name, and what is so of the needs of each whole.
-use Rattle.std.proofs.Common.{◌≡◌, refl, ℕ, zero, suc, pred, ◌+◌, ◌<◌, Bool, true, false, cond, List, [], ◌∷◌, ◌++◌, map, flat_map, Option, Some, None, slice_get, slice_index_or, option_map, ap, ◌∙◌, sym, subst, arith}
+use Rattle.std.proofs.Common.{◌≡◌, refl, ℕ, zero, suc, pred, ◌+◌, ◌<◌, Bool, true, false, cond, List, [], ◌∷◌, ◌++◌, map, flat_map, Option, Some, slice_get, slice_index_or, option_map, ap, ◌∙◌, sym, subst, arith}
 use Rattle.std.specs.Prelude.{option_to_list, unwrap_or}
 use Rattle.std.specs.List.{AllByRecursion}
 use Rattle.std.specs.Map.{lookup}
-use Rattle.lus_tree.specs.Tree.{Name, text_of, Variable, Expression, Expressions, truth, number, name, negation, minus, pre, arrow, binary, choice, sampled, merged, call, condact, mode_name, no_more, more, Labelled, ContractStatement, assume, guarantee, ghost_variable, constant, mode, «import», Component}
+use Rattle.lus_tree.specs.Tree.{Name, text_of, Expression, Expressions, truth, number, name, negation, minus, pre, arrow, binary, choice, sampled, merged, call, condact, mode_name, no_more, more, Labelled, ContractStatement, assume, guarantee, ghost_variable, constant, mode, «import»}
 use Rattle.lus_meaning.specs.Frame.{Frame}
-use Rattle.lus_meaning.specs.Scene.{Clock, base, sampled_by, Manner, plain, while_true, as_import, Site, Instance, Instances, instance, no_instances, with_instance, no_instance, component_of, calls_of, call_instance, clock_of, clock_from, contract_statements, clock_of_names, variables}
+use Rattle.lus_meaning.specs.Scene.{Clock, base, sampled_by, Manner, plain, while_true, as_import, Site, Instance, Instances, instance, no_instances, with_instance, no_instance, component_of, calls_of, clock_of, contract_statements, clock_of_names, variables}
 use Rattle.lus_meaning.specs.Meaning.{mode_key}
 use Rattle.lus_meaning.specs.Run.{Equation, equations}
 use Rattle.lus_meaning.specs.Property.{assertions}
@@ -13,7 +13,7 @@ use Rattle.lus_meaning.specs.Cycle.{Place}
 use Rattle.lus_meaning.proofs.Lists.{both_parts}
 use Rattle.lus_meaning.proofs.Now.{left_part, right_part}
 use Rattle.sys_meaning.specs.Items.{Key}
-use Rattle.sys_meaning.specs.WellTyped.{IsKnown, count_of, IsNameOn, is_declared, clock_here, Stands, ClockEnds, ClockFits, StreamFits, EquationFits, StatementsFit, own_keys, IsImport, OwnFits, CallFits, CallsFit, TreeFits}
+use Rattle.sys_meaning.specs.WellTyped.{IsKnown, count_of, IsNameOn, is_declared, clock_here, Stands, ClockEnds, ClockFits, StreamFits, EquationFits, StatementsFit, own_keys, IsImport, OwnFits, CallsFit, TreeFits}
 use Rattle.sys_meaning.proofs.Balanced.{Picked, pick}
 use Rattle.sys_meaning.proofs.Forward.{own_fits, drop_calls, first_instance, instance_dropped, calls_later, later_calls}
 use Rattle.lus_evaluation.specs.Part.{Part, Setting, needs_of, key_of, asked_in, part, parts, argument_parts, operand_parts, whole_parts, wholes}

@@ -1,36 +1,34 @@
 -- What is known of the evaluation of an instant of a run, and what follows for slots that its parts read.
-use Rattle.std.proofs.Common.{◌≡◌, ℕ, zero, suc, pred, ◌+◌, ◌<◌, Bool, true, false, cond, ◌||◌, List, [], ◌∷◌, ◌++◌, map, flat_map, refl, ap, ◌∙◌, sym, subst, arith, Option, Some, None, slice_get}
+use Rattle.std.proofs.Common.{◌≡◌, ℕ, zero, suc, pred, ◌+◌, ◌<◌, Bool, true, false, ◌||◌, List, [], ◌∷◌, ◌++◌, flat_map, refl, ◌∙◌, sym, subst, arith}
 use Rattle.std.specs.List.{AllByRecursion}
 use Rattle.std.specs.Str.{bytes_eq}
 use Rattle.std.proofs.Math.Logic.{◌⊎◌, inl, inr}
-use Rattle.std.proofs.lemmas.Bool.{false≢true, true≢false}
+use Rattle.std.proofs.lemmas.Bool.{false≢true}
 use Rattle.lus_tree.specs.Tree.{Name, Expression, truth, number, name, negation, minus, pre, arrow, binary, choice, sampled, merged, call, condact, mode_name}
 use Rattle.lus_meaning.specs.Frame.{Frame}
 use Rattle.lus_meaning.specs.Scene.{Clock, base, sampled_by, while_true, Instance, Instances, no_instances, with_instance, instance_at, component_of, calls_of, call_instance}
-use Rattle.lus_meaning.specs.Run.{Equation, equations, inputs_of}
+use Rattle.lus_meaning.specs.Run.{Equation}
 use Rattle.lus_meaning.specs.Depends.{named_in, left_names}
 use Rattle.lus_meaning.specs.Trace.{same_numbers}
 use Rattle.lus_meaning.specs.Cycle.{Place as NeededPlace}
 use Rattle.lus_meaning.specs.Verdict.{throughout}
 use Rattle.lus_meaning.specs.WellMade.{AreDistinct}
-use Rattle.lus_meaning.proofs.BooleanOrder.{IsIn, in_left, in_right}
+use Rattle.lus_meaning.proofs.BooleanOrder.{IsIn, in_right}
 use Rattle.lus_meaning.proofs.Lists.{all_from, both_parts, named_append, or_left, or_true}
 use Rattle.lus_meaning.proofs.Unique.{same_bytes}
-use Rattle.sys_meaning.specs.Slot.{Place}
 use Rattle.sys_meaning.specs.Defaults.{site_at, site_of}
 use Rattle.sys_meaning.specs.WellTyped.{IsKnown, count_of, Stands, CallFits, CallsFit, TreeFits, WellTyped}
 use Rattle.sys_meaning.proofs.Forward.{calls_fit}
 use Rattle.sys_meaning.proofs.Shows.{same_ways}
 use Rattle.lus_evaluation.specs.Part.{Part, Setting, part}
-use Rattle.lus_evaluation.specs.Evaluation.{is_above, gives_name, instance_on}
 use Rattle.lus_evaluation.specs.Past.{NonePast}
-use Rattle.slot_values.specs.Evaluated.{SlotValues, outside}
+use Rattle.slot_values.specs.Evaluated.{SlotValues}
 use Rattle.slot_values.specs.Resolution.{Resolution}
 use Rattle.slot_values.specs.Resolved.{Numbering, resolution, right_resolutions}
 use Rattle.slot_values.specs.Clocked.{row_by, clock_on}
 use Rattle.slot_values.specs.Parts.{own_parts, operands, setting_at}
 use Rattle.evaluation_laws.specs.Resolvings.{resolvings}
-use Rattle.evaluation_laws.specs.Rows.{AreCalls, row_at, numbers_there, resolution_there}
+use Rattle.evaluation_laws.specs.Rows.{AreCalls, numbers_there, resolution_there}
 use Rattle.evaluation_laws.proofs.Waiting.{both_true}
 use Rattle.slot_sources.specs.Rows as rows
 use Rattle.slot_sources.specs.Rows.{slots_read}
@@ -38,10 +36,9 @@ use Rattle.slot_sources.specs.Sources.{numbering_of, switch_of}
 use Rattle.slot_sources.specs.Parts.{part_resolution}
 use Rattle.order_laws.specs.Laws.{IsOneOf}
 use Rattle.order_laws.specs.Own.{own_setting, own_modes}
-use Rattle.order_laws.specs.Needed.{IsCalled, Sees, IsGiven, IsEvaluatedIn, NoneOutside, OfOperand, right_there}
+use Rattle.order_laws.specs.Needed.{Sees, IsGiven, IsEvaluatedIn, NoneOutside, OfOperand, right_there}
 use Rattle.order_laws.specs.Rows.{place_there, standpoint_there}
-use Rattle.order_laws.proofs.Frames.{StandsAt, stands_there}
-use Rattle.order_laws.proofs.Trees.{same_place}
+use Rattle.order_laws.proofs.Frames.{StandsAt, stands_there, same_place}
 use Rattle.rest_laws.proofs.Atoms.{AtomsOf, modes_read, reads, rights}
 use Rattle.rest_laws.proofs.Clocks.{IsClockNamed}
 

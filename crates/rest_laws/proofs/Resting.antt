@@ -1,32 +1,32 @@
 -- The sources of the slots on which the parts of an instant rest.
-use Rattle.std.proofs.Common.{◌≡◌, ℕ, zero, suc, pred, ◌<◌, Bool, true, false, ◌||◌, ◌&&◌, eqb, List, [], ◌∷◌, ◌++◌, map, length, refl, ap, ◌∙◌, sym, subst, arith, Option, Some, None, slice_get}
-use Rattle.std.specs.List.{AllByRecursion, list_any}
-use Rattle.std.proofs.Math.Logic.{◌⊎◌, inl, inr}
+use Rattle.std.proofs.Common.{◌≡◌, ℕ, pred, ◌<◌, Bool, true, List, [], ◌∷◌, ◌++◌, refl, ap, ◌∙◌, sym, subst, Some, slice_get}
+use Rattle.std.specs.List.{AllByRecursion}
+use Rattle.std.proofs.Math.Logic.{inl, inr}
 use Rattle.std.proofs.lemmas.Bool.{false≢true, eqb-true, eq-eqb}
 use Rattle.lus_tree.specs.declared.place.Sort.{Sort}
 use Rattle.lus_tree.specs.declared.place.Sort.TheVariants.{Bool as Flags}
 use Rattle.lus_tree.specs.Tree.{Name, Variable, Expression, truth, number, name, negation, minus, pre, arrow, binary, choice, sampled, merged, call, condact, mode_name}
 use Rattle.lus_meaning.specs.Frame.{Frame}
-use Rattle.lus_meaning.specs.Scene.{Clock, base, sampled_by, Manner, plain, while_true, as_import, Site, Instance, component_of, calls_of, call_instance, outputs_of, clock_from, clock_of_names, variables}
+use Rattle.lus_meaning.specs.Scene.{Clock, base, sampled_by, Manner, plain, while_true, as_import, Site, Instance, component_of, calls_of, call_instance, clock_from, clock_of_names, variables}
 use Rattle.lus_meaning.specs.Occurrences.{Memory, memories, Start, starts}
 use Rattle.lus_meaning.specs.Program.{in_order}
-use Rattle.lus_meaning.specs.Run.{Equation, equations, inputs_of, sort_of, sort_of_name}
-use Rattle.lus_meaning.specs.Depends.{named_in, left_names}
+use Rattle.lus_meaning.specs.Run.{Equation, equations, sort_of_name}
+use Rattle.lus_meaning.specs.Depends.{named_in}
 use Rattle.lus_meaning.specs.Slots.{slots}
 use Rattle.lus_meaning.specs.Trace.{same_numbers}
 use Rattle.lus_meaning.specs.Verdict.{throughout}
 use Rattle.lus_meaning.proofs.BooleanOrder.{IsIn}
 use Rattle.lus_meaning.proofs.InOrder.{in_order_all}
-use Rattle.lus_meaning.proofs.Lists.{all_from, both_parts, append_none, mapped_all}
+use Rattle.lus_meaning.proofs.Lists.{all_from, append_none, mapped_all}
 use Rattle.lus_meaning.proofs.Ranked.{all_named}
-use Rattle.sys_meaning.specs.Slot.{Spot, beat, named, memory, starting, so_far, held, Place, own, in_call, memory_of}
+use Rattle.sys_meaning.specs.Slot.{Spot, beat, named, memory, starting, held, Place, own, in_call}
 use Rattle.sys_meaning.specs.Defaults.{site_of}
 use Rattle.sys_meaning.specs.WellTyped.{IsKnown, IsCall, IsNameOn, IsMemory, Stands, StreamFits, EquationFits, MemoryFits, StartFits, MannerFits, CallFits, OwnFits, HasPlaceIn, count_of}
 use Rattle.sys_meaning.proofs.Balanced.{join_all}
 use Rattle.sys_meaning.proofs.Forward.{own_fits}
 use Rattle.sys_meaning.proofs.Shows.{same_ways}
 use Rattle.lus_evaluation.specs.Part.{Part}
-use Rattle.lus_evaluation.specs.Evaluation.{is_above, gives_name}
+use Rattle.lus_evaluation.specs.Evaluation.{is_above}
 use Rattle.lus_evaluation.specs.Past.{NonePast}
 use Rattle.slot_values.specs.Evaluated.{SlotValues, outside}
 use Rattle.slot_values.specs.Resolution.{Resolution}
@@ -35,24 +35,22 @@ use Rattle.slot_values.specs.Clocked.{row_by, clock_on}
 use Rattle.evaluation_laws.specs.Rows.{AreCalls, row_at, numbers_there}
 use Rattle.evaluation_laws.proofs.Waiting.{both_true, both, any_in, in_any}
 use Rattle.slot_sources.specs.declared.source.Switch.{Switch}
-use Rattle.slot_sources.specs.Source.{Source, always, runs, runs_while, given, same, argument, listed, remembered}
-use Rattle.slot_sources.specs.Source as s
+use Rattle.slot_sources.specs.Source.{Source, given, same, listed}
 use Rattle.slot_sources.specs.Rows as rows
 use Rattle.slot_sources.specs.Rows.{is_read, outside_now, outside_next, reads_now, reads_before, slots_read}
 use Rattle.slot_sources.specs.Sources.{numbering_of, switch_of, call_beat, beat_source, argument_source, held_source, memory_source, start_source, sources_of}
 use Rattle.row_laws.proofs.Lists.{some_inner, Both, both_at}
 use Rattle.row_laws.proofs.Ranking.{call_of_number}
 use Rattle.order_laws.specs.Laws.{IsOneOf}
-use Rattle.order_laws.specs.Needed.{IsCalled, Sees, IsGiven, IsEvaluatedIn, NoneOutside, OfOperand}
+use Rattle.order_laws.specs.Needed.{IsCalled, IsGiven, IsEvaluatedIn, NoneOutside, OfOperand}
 use Rattle.order_laws.specs.Rows.{place_there}
 use Rattle.order_laws.proofs.Bodies.{in_all, slice_in}
-use Rattle.order_laws.proofs.Frames.{StandsAt, stands_there}
+use Rattle.order_laws.proofs.Frames.{StandsAt, stands_there, stands_called, same_place}
 use Rattle.order_laws.proofs.Placed.{all_in_self}
 use Rattle.rest_laws.specs.Rests.{part_reads}
 use Rattle.rest_laws.proofs.Clocks.{IsClockNamed, fitting_named}
 use Rattle.rest_laws.proofs.Facts.{in_of, IsEntered, fitting_call, AreGiven, Facts, PartAtoms, numbering_at, own_operands, resolution_read, part_read, evaluated_read, given_read, switch_is, left_of_all, one_equation}
 use Rattle.rest_laws.proofs.Set.{rested, is_entered, entered_in, entered_out, entered_parent, seen_calls, slot_own, name_in, ClockIs, switch_in, AtomsAre, atoms_in, above_itself, same_itself, is_pre, is_pre_of}
-use Rattle.order_laws.proofs.Trees.{same_place}
 use Rattle.rest_laws.proofs.Slots.{place_at, place_of_slot, slot_there}
 use Rattle.rest_laws.proofs.Sources.{Gives, Obliged, GoodAt, all_good}
 
@@ -77,7 +75,7 @@ module _ (i : Instance) (f : Frame) (t : ℕ) (qs : List Part) (facts : Facts i 
       P (w ++ ks) p → R (numbers_there i w (ks, p))
   slot_in w a ks p z h e = subst at_place (sym (slot_there i f facts.typed w a ks p z h)) e
 
-  calls_in : (w : List ℕ) → IsEntered qs w → AreCalls i w
+  pub calls_in : (w : List ℕ) → IsEntered qs w → AreCalls i w
   calls_in w (inl e) = subst (AreCalls i) (sym e) tt
   calls_in w (inr h) = seen_calls i f facts.typed.tree h.0 (facts.calls h.0 h.1) (facts.stands h.0 h.1) w h.2
 
@@ -382,11 +380,29 @@ module _ (i : Instance) (f : Frame) (t : ℕ) (qs : List Part) (facts : Facts i 
       calls = call_gives;
     }
 
+  -- the names of a frame that is entered
+  pub names_in : (w : List ℕ) → IsEntered qs w →
+      AllByRecursion (λ v. R (numbers_there i w (own (named v.name.text)))) (variables (component_of (place_there i f w)))
+  names_in w e =
+      all_from (StreamFits (place_there i f w) (IsKnown (place_there i f w))) (λ v. R (numbers_there i w (own (named v.name.text))))
+      (λ v fit. name_in i f facts.typed.tree R P slot_in w (calls_in w e) (clock_from v.clock) v.name.text fit.name (entered_in qs w e))
+      (variables (component_of (place_there i f w))) (own_fits IsKnown (place_there i f w) (stands_there i f w (calls_in w e) facts.typed.tree).fits).streams
+
+  -- a frame whose beat is in the set, and the one above
+  pub beat_up : (w : List ℕ) (j : Instance) → StandsAt i f w j → (k : ℕ) → 0 < k → pred k < count_of (calls_of j) →
+      R (numbers_there i (w ++ k ∷ []) (own beat)) → R (numbers_there i w (own beat))
+  beat_up w j s k c l h =
+      let v : List ℕ = w ++ k ∷ [] in
+      let e : is_entered qs v ≡ true =
+      subst (λ z. is_entered qs z ≡ true) (append_none v)
+      (subst at_place (slot_there i f facts.typed v (stands_called i f w j s k c l).calls [] beat Flags refl) h) in
+      slot_own i f facts.typed.tree R P slot_in w s.calls beat Flags refl (entered_in qs w (entered_parent qs w k (entered_out qs v e)))
+
   obliged : (w : List ℕ) (j : Instance) → StandsAt i f w j → Obliged at_place Good w j (numbers_there i w)
   obliged w j s = subst (λ y. Obliged at_place Good w y (numbers_there i w)) s.place (frame_obliged w s.calls)
 
   -- of each slot of the set the source is good
-  all_sources : Both (GoodAt at_place Good) (slots i) (sources_of i)
+  pub all_sources : Both (GoodAt at_place Good) (slots i) (sources_of i)
   all_sources =
       all_good at_place Good i f obliged (stands_there i f [] tt facts.typed.tree) facts.typed.tree
       (λ e. record { read = refl; now = tt; before = tt; within = λ n. (refl, refl) })

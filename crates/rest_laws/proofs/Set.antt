@@ -1,5 +1,5 @@
 -- The slots on which the parts of an instant rest: those of the frames that parts see, but of memories only those of which a `pre` is among the parts.
-use Rattle.std.proofs.Common.{◌≡◌, ℕ, zero, suc, pred, ◌<◌, Bool, true, false, ◌||◌, ◌&&◌, eqb, List, [], ◌∷◌, ◌++◌, map, refl, ap, ◌∙◌, sym, subst, arith, Option, Some, None, slice_get}
+use Rattle.std.proofs.Common.{◌≡◌, ℕ, Bool, true, false, ◌||◌, ◌&&◌, eqb, List, [], ◌∷◌, ◌++◌, map, refl, sym, subst, Option, Some, None}
 use Rattle.std.specs.Prelude.{◌==◌}
 use Rattle.std.specs.List.{AllByRecursion, list_any}
 use Rattle.std.specs.Map.{lookup}
@@ -11,48 +11,28 @@ use Rattle.lus_tree.specs.declared.place.Sort.TheVariants.{Bool as Flags}
 use Rattle.lus_tree.specs.Tree.{Name, Variable, Expression, truth, number, name, negation, minus, pre, arrow, binary, choice, sampled, merged, call, condact, mode_name}
 use Rattle.lus_meaning.specs.Value.{Value}
 use Rattle.lus_meaning.specs.Frame.{Frame}
-use Rattle.lus_meaning.specs.Scene.{Clock, base, sampled_by, Manner, plain, while_true, as_import, Site, Instance, component_of, calls_of, constants_of, call_instance, outputs_of, clock_from, clock_of_names, variables}
-use Rattle.lus_meaning.specs.Occurrences.{Memory, memories, Start, starts}
-use Rattle.lus_meaning.specs.Program.{in_order}
-use Rattle.lus_meaning.specs.Run.{Equation, equations, inputs_of, sort_of, sort_of_name}
-use Rattle.lus_meaning.specs.Depends.{named_in, left_names}
+use Rattle.lus_meaning.specs.Scene.{Clock, base, sampled_by, as_import, Instance, component_of, constants_of, call_instance, outputs_of}
+use Rattle.lus_meaning.specs.Run.{sort_of, sort_of_name}
+use Rattle.lus_meaning.specs.Depends.{named_in}
 use Rattle.lus_meaning.specs.Trace.{same_numbers}
-use Rattle.lus_meaning.specs.Verdict.{throughout}
-use Rattle.lus_meaning.proofs.BooleanOrder.{IsIn}
-use Rattle.lus_meaning.proofs.InOrder.{in_order_all}
-use Rattle.lus_meaning.proofs.Lists.{all_from, both_parts, append_none, or_left, or_true, mapped_all}
+use Rattle.lus_meaning.proofs.Lists.{append_none, or_left, or_true, mapped_all}
 use Rattle.lus_meaning.proofs.Ranked.{all_named}
-use Rattle.sys_meaning.specs.Slot.{Spot, beat, named, memory, starting, so_far, held, Place, own, in_call}
-use Rattle.sys_meaning.specs.Defaults.{site_of}
-use Rattle.sys_meaning.specs.WellTyped.{IsKnown, IsCall, IsHeldCall, IsNameOn, OutputFits, NameFits, Stands, StreamFits, EquationFits, MemoryFits, StartFits, MannerFits, CallFits, OwnFits, TreeFits, HasPlaceIn, count_of}
-use Rattle.sys_meaning.proofs.Forward.{own_fits}
+use Rattle.sys_meaning.specs.Slot.{Spot, beat, named, memory, starting, so_far, held, own, in_call}
+use Rattle.sys_meaning.specs.WellTyped.{IsKnown, IsNameOn, OutputFits, NameFits, Stands, TreeFits, HasPlaceIn}
 use Rattle.sys_meaning.proofs.Shows.{same_ways}
 use Rattle.lus_evaluation.specs.Part.{Part}
-use Rattle.lus_evaluation.specs.Evaluation.{is_above, gives_name}
-use Rattle.lus_evaluation.specs.Past.{NonePast}
-use Rattle.slot_values.specs.Evaluated.{SlotValues, outside}
-use Rattle.slot_values.specs.Resolution.{Resolution}
-use Rattle.slot_values.specs.Resolved.{Numbering, resolution, right_resolutions, constant_or_slot, slot_of}
-use Rattle.slot_values.specs.Clocked.{row_by, clock_on}
-use Rattle.evaluation_laws.specs.Rows.{AreCalls, row_at, numbers_there}
+use Rattle.lus_evaluation.specs.Evaluation.{is_above}
+use Rattle.slot_values.specs.Resolved.{constant_or_slot, slot_of}
+use Rattle.evaluation_laws.specs.Rows.{AreCalls, numbers_there}
 use Rattle.evaluation_laws.proofs.Waiting.{both_true, both, any_in, in_any}
-use Rattle.slot_sources.specs.declared.source.Switch.{Switch}
-use Rattle.slot_sources.specs.Source.{Source, always, runs, runs_while, given, same, argument, listed, remembered}
-use Rattle.slot_sources.specs.Source as s
-use Rattle.slot_sources.specs.Rows as rows
-use Rattle.slot_sources.specs.Rows.{is_read, outside_now, outside_next, reads_now, reads_before, slots_read}
-use Rattle.slot_sources.specs.Sources.{numbering_of, switch_of, beat_source, argument_source, held_source, memory_source, start_source}
-use Rattle.order_laws.specs.Laws.{IsOneOf}
-use Rattle.order_laws.specs.Needed.{IsCalled, Sees, IsGiven, IsEvaluatedIn, NoneOutside, OfOperand}
+use Rattle.slot_sources.specs.Rows.{slots_read}
+use Rattle.slot_sources.specs.Sources.{numbering_of, switch_of}
+use Rattle.order_laws.specs.Needed.{IsCalled, Sees}
 use Rattle.order_laws.specs.Rows.{place_there}
-use Rattle.order_laws.proofs.Bodies.{in_all, slice_in}
-use Rattle.order_laws.proofs.Frames.{StandsAt, stands_there, stands_called}
-use Rattle.order_laws.proofs.Placed.{all_in_self}
+use Rattle.order_laws.proofs.Frames.{stands_there, stands_called}
 use Rattle.rest_laws.proofs.Atoms.{Atoms}
-use Rattle.rest_laws.proofs.Clocks.{IsClockNamed, fitting_named}
-use Rattle.rest_laws.proofs.Facts.{in_of, IsEntered, fitting_call, AreGiven, Facts, PartAtoms, numbering_at, own_operands, resolution_read, part_read, evaluated_read, given_read, switch_is, left_of_all, one_equation}
-use Rattle.rest_laws.proofs.Slots.{place_at, slot_there}
-use Rattle.rest_laws.proofs.Sources.{Gives, Obliged}
+use Rattle.rest_laws.proofs.Clocks.{IsClockNamed}
+use Rattle.rest_laws.proofs.Facts.{IsEntered}
 
 -- ---- frames that are entered, as a test
 
@@ -157,7 +137,7 @@ above_parent (n ∷ w) k (m ∷ v) h =
     let q : (eqb n m ≡ true) × (is_above (w ++ k ∷ []) v ≡ true) = both_true (eqb n m) (is_above (w ++ k ∷ []) v) h in
     both (eqb n m) (is_above w v) q.0 (above_parent w k v q.1)
 
-no_end : (w : List ℕ) (k : ℕ) → w ++ k ∷ [] ≡ [] → ⊥
+pub no_end : (w : List ℕ) (k : ℕ) → w ++ k ∷ [] ≡ [] → ⊥
 no_end [] k e = cc
 no_end (m ∷ w) k e = cc
 

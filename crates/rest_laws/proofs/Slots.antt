@@ -1,5 +1,5 @@
 -- What each slot of a declaration stands for, and the slot of each place of a frame.
-use Rattle.std.proofs.Common.{◌≡◌, ℕ, pred, ◌<◌, true, List, [], ◌∷◌, ◌++◌, map, refl, ap, ◌∙◌, sym, subst, Some, slice_get, unwrap_or}
+use Rattle.std.proofs.Common.{◌≡◌, ℕ, List, [], ◌∷◌, ◌++◌, map, Some, slice_get, unwrap_or}
 use Rattle.lus_tree.specs.declared.place.Sort.{Sort}
 use Rattle.lus_meaning.specs.Value.{Instants}
 use Rattle.lus_meaning.specs.Frame.{Frame, call_frame}
@@ -10,7 +10,6 @@ use Rattle.lus_meaning.specs.Slots.{Slot, slots}
 use Rattle.lus_meaning.specs.Verdict.{throughout}
 use Rattle.sys_meaning.specs.Slot.{Spot, so_far, Place, place_of}
 use Rattle.sys_meaning.specs.Defaults.{site_of}
-use Rattle.sys_meaning.specs.System.{number_of}
 use Rattle.sys_meaning.specs.WellTyped.{IsKnown, TreeFits, WellTyped, HasPlaceIn}
 use Rattle.sys_meaning.proofs.Forward.{calls_fit}
 use Rattle.sys_meaning.proofs.Shows.{in_any}

@@ -1,15 +1,15 @@
 -- What is so of the source of each slot, if it is so of what gives each frame its slots.
-use Rattle.std.proofs.Common.{◌≡◌, ℕ, zero, suc, pred, ◌<◌, List, [], ◌∷◌, ◌++◌, map, refl, ap, ◌∙◌, sym, subst, arith, Option, Some, None, slice_get, unwrap_or}
+use Rattle.std.proofs.Common.{◌≡◌, ℕ, suc, pred, ◌<◌, List, [], ◌∷◌, ◌++◌, map, refl, ap, ◌∙◌, sym, subst, Option, Some, None, slice_get, unwrap_or}
 use Rattle.std.specs.List.{AllByRecursion}
 use Rattle.std.specs.Map.{lookup}
 use Rattle.std.specs.Str.{bytes_eq}
-use Rattle.lus_tree.specs.Tree.{Name, Variable, Expression, ContractStatement, Component}
+use Rattle.lus_tree.specs.Tree.{Name, Variable, Expression, ContractStatement}
 use Rattle.lus_meaning.specs.Frame.{Frame}
 use Rattle.lus_meaning.specs.Scene.{Manner, plain, while_true, as_import, Site, Instance, Instances, instance, no_instances, with_instance, no_instance, component_of, calls_of, call_instance, outputs_of, clock_from, clock_of_names, variables}
 use Rattle.lus_meaning.specs.Occurrences.{memories, starts}
 use Rattle.lus_meaning.specs.Program.{in_order}
 use Rattle.lus_meaning.specs.Run.{Equation, equations, inputs_of}
-use Rattle.lus_meaning.specs.Slots.{Cell, name_cell, memory_cell, start_cell, held_cell, Slot, slot, slots, slots_in, call_slots, contract_cells, own_cells, held_each, held_cells}
+use Rattle.lus_meaning.specs.Slots.{Cell, name_cell, memory_cell, start_cell, Slot, slot, slots, slots_in, call_slots, contract_cells, own_cells, held_each, held_cells}
 use Rattle.lus_meaning.proofs.Lists.{all_from, both_parts}
 use Rattle.sys_meaning.specs.Slot.{beat, named, memory, starting, so_far, held, Place, own, place_of}
 use Rattle.sys_meaning.specs.Defaults.{site_at, site_of}
@@ -20,7 +20,7 @@ use Rattle.slot_values.specs.Resolution.{Resolution}
 use Rattle.slot_values.specs.Resolved.{Numbering, right_resolutions}
 use Rattle.evaluation_laws.specs.Rows.{numbers_there}
 use Rattle.slot_sources.specs.declared.source.Switch.{Switch}
-use Rattle.slot_sources.specs.Source.{Source, always, given, same, listed, unread}
+use Rattle.slot_sources.specs.Source.{Source, always, given, same, listed}
 use Rattle.slot_sources.specs.Sources as sources
 use Rattle.slot_sources.specs.Sources.{numbering_of, switch_of, NameSources, paired, equation_sources, name_source, name_sources, beat_source, argument_source, shared_sources, from_call, held_source, held_sources, memory_source, start_source, contract_sources, own_sources, sources_in, call_sources, sources_of}
 use Rattle.row_laws.proofs.Lists.{Both, both_append, both_mapped, both_over, found_has}

@@ -11,7 +11,6 @@ use Rattle.sys_meaning.specs.Slot.{named, own}
 use Rattle.lus_evaluation.specs.Part.{Part}
 use Rattle.lus_evaluation.specs.Evaluation.{instance_on, IsEvaluation}
 use Rattle.lus_evaluation.specs.Past.{NonePast}
-use Rattle.slot_values.specs.Resolution.{Resolution}
 use Rattle.evaluation_laws.specs.Rows.{row_at, numbers_there}
 use Rattle.slot_sources.specs.Source.{Source}
 use Rattle.slot_sources.specs.Rows.{outside_now, reads_now, slots_read}

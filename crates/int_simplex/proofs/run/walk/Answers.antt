@@ -12,19 +12,19 @@ use Rattle.int_simplex.proofs.Turns.{in-list, places_after}
 use Rattle.int_simplex.proofs.Walks.{move_at, long_at, step_at, free_error}
 use Rattle.int_simplex.proofs.run.walk.Goals as goal
 
-pub returns-in_err-values-clause-past : goal.returns-in_err-values-clause-past
-returns-in_err-values-clause-past c =
+pub returns-in_err-refresh-clause-past : goal.returns-in_err-refresh-clause-past
+returns-in_err-refresh-clause-past c =
     free_error (map row_view c.args.given.now) (length c.args.lowers.now) c.args.places.now.items c.args.lowers.now c.args.uppers.now
-    c.in_err-values.field-0.0 c.from_residual.result
+    c.in_err-refresh.field-0.0 c.from_residual.result
     (λ numbers a l. values_result (map row_view c.args.given.now) (length c.args.lowers.now) c.args.basis.now.items
-    (map row_view c.args.rows.now.items) c.args.places.now.items c.requires.ready c.in_err-values.field-0.0
+    (map row_view c.args.rows.now.items) c.args.places.now.items c.requires.ready c.in_err-refresh.field-0.0
     (subst (λ (ps : List ℤ). IsValuesPast (map row_view c.args.given.now) c.args.basis.now.items (map row_view c.args.rows.now.items)
-    (place_at ps) c.in_err-values.field-0.0) c.deref-3.ensures.value
+    (place_at ps) c.in_err-refresh.field-0.0) c.deref-5.ensures.value
     (subst (λ (xs : List (Vec (ℕ × ℤ) Global)). IsValuesPast (map row_view c.args.given.now) c.args.basis.now.items (map row_view xs)
-    (place_at c.deref-3.result.now) c.in_err-values.field-0.0) c.deref-2.ensures.value
-    (subst (λ (b : List ℕ). IsValuesPast (map row_view c.args.given.now) b (map row_view c.deref-2.result.now)
-    (place_at c.deref-3.result.now) c.in_err-values.field-0.0) c.deref.ensures.value
-    c.in_err-values.ensures.past))) numbers a)
+    (place_at c.deref-5.result.now) c.in_err-refresh.field-0.0) c.deref-3.ensures.value
+    (subst (λ (b : List ℕ). IsValuesPast (map row_view c.args.given.now) b (map row_view c.deref-3.result.now)
+    (place_at c.deref-5.result.now) c.in_err-refresh.field-0.0) c.deref.ensures.value
+    c.in_err-refresh.ensures.past))) numbers a)
     c.from_residual.ensures.1
 
 pub returns-in_err-next_move-clause-past : goal.returns-in_err-next_move-clause-past

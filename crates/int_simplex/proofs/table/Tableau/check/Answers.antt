@@ -14,6 +14,7 @@ use Rattle.int_simplex.specs.Running.{IsReady, IsKept}
 use Rattle.int_simplex.specs.Seating.{AreSeats}
 use Rattle.int_simplex.proofs.Checked.{refuted_from, fits_from}
 use Rattle.int_simplex.proofs.Passed.{past_from}
+use Rattle.int_simplex.proofs.Fresh.{own_kept}
 use Rattle.int_simplex.proofs.Checks.{ready_of, tables_of, sound_kept, first_is, first_at, tables_at, long_from, started}
 use Rattle.int_simplex.proofs.table.Tableau.check.Goals as goal
 
@@ -49,6 +50,9 @@ walk-walked-requires-clause-places c =
 pub walk-walked-requires-clause-seats : goal.walk-walked-requires-clause-seats
 walk-walked-requires-clause-seats c = c.self.invariant.seats (ap (λ s. s.usable) c.self.view_is ∙ c.requires)
 
+pub walk-walked-requires-clause-own : goal.walk-walked-requires-clause-own
+walk-walked-requires-clause-own c = c.self.invariant.own (ap (λ s. s.usable) c.self.view_is ∙ c.requires)
+
 pub invariant_of-self : goal.invariant_of-self
 invariant_of-self c =
     let i = c.self.invariant in
@@ -69,6 +73,8 @@ invariant_of-self c =
       free = λ u. q.ready.free;
       listed = λ u. let z = rw c.in-Ok-Fits.is at c.walk-walked.ensures.listed in let y = rw c.in-Ok-Fits.field-0-is at z in y tt;
       seats = λ u. let z = rw c.in-Ok-Fits.is at c.walk-walked.ensures.seats in let y = rw c.in-Ok-Fits.field-0-is at z in y tt;
+      own = λ u. own_kept (map row_view c.self.inside.given.items) c.self.inside.columns c.walk-walked.new.basis.items
+          (map row_view c.walk-walked.new.rows.items) c.walk-walked.new.places.items c.walk-walked.new.values.items q;
       lowers = i.lowers;
       uppers = i.uppers;
       before = i.before;
@@ -95,6 +101,8 @@ invariant_of-self-in-Ok-Refuted c =
       free = λ u. q.ready.free;
       listed = λ u. let z = rw c.in-Ok-Refuted.is at c.walk-walked.ensures.listed in let y = rw c.in-Ok-Refuted.field-0-is at z in y tt;
       seats = λ u. let z = rw c.in-Ok-Refuted.is at c.walk-walked.ensures.seats in let y = rw c.in-Ok-Refuted.field-0-is at z in y tt;
+      own = λ u. own_kept (map row_view c.self.inside.given.items) c.self.inside.columns c.walk-walked.new.basis.items
+          (map row_view c.walk-walked.new.rows.items) c.walk-walked.new.places.items c.walk-walked.new.values.items q;
       lowers = i.lowers;
       uppers = i.uppers;
       before = i.before;

@@ -7,6 +7,8 @@ use Rattle.std.specs.declared.alloc.Global.{Global}
 use Rattle.int_simplex.specs.Holding.{lists_of, AreListed}
 use Rattle.int_simplex.specs.State.{Standing}
 use Rattle.int_simplex.specs.Seating.{AreSeats}
+use Rattle.int_simplex.specs.Marks.{AreOwnValues}
+use Rattle.int_simplex.proofs.Fresh.{own_first, column_below}
 use Rattle.int_simplex.proofs.Opposites.{first_basis}
 use Rattle.int_simplex.specs.Given.{last_columns}
 use Rattle.int_simplex.specs.Inner.{AreRows, IsFree, AreLimits, AreBefore, IsWithinColumns, standing}
@@ -47,6 +49,11 @@ invariant_of-result c =
           subst (λ (xs : List (Vec (ℕ × ℤ) Global)). AreListed c.args.columns (map row_view xs) (lists_of c.in_ok-lists.lists.items))
           c.deref-2.ensures.value c.in_ok-lists.ensures;
       seats = λ u. subst (λ (b : List ℕ). AreSeats c.args.columns b c.in_ok-seats.seats.items) c.deref.ensures.value c.in_ok-seats.ensures;
+      own = λ u. subst (λ (vs : List (ℤ × ℤ)). AreOwnValues c.in_ok-basis.basis.items (map row_view c.in_ok-rows.rows.items) vs) (sym ev)
+          (own_first c.args.columns c.in_ok-basis.basis.items (map row_view c.in_ok-rows.rows.items)
+          (λ k x e. column_below c.args.columns c.in_ok-basis.basis.items k x
+          (subst (λ (b : List ℕ). All (λ k. k < c.args.columns) b) (sym eb)
+          (first_basis (map row_view c.args.rows.now) c.args.columns c.requires).in_range) e));
       lowers = subst (λ (bs : List Standing). AreLimits c.args.columns false bs c.in_ok-lowers.lowers.items) (sym es)
           (subst (λ (ls : List (Option (ℤ × ℕ))). AreLimits c.args.columns false [] ls) (sym el) (no_limits c.args.columns false));
       uppers = subst (λ (bs : List Standing). AreLimits c.args.columns true bs c.in_ok-uppers.uppers.items) (sym es)

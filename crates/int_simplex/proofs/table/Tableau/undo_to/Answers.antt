@@ -24,6 +24,7 @@ invariant_of-self c =
       free = i.free;
       listed = i.listed;
       seats = i.seats;
+      own = i.own;
       lowers = subst (λ (k : ℕ). AreLimits k false (map standing c.undo.new.trail.items) c.undo.new.lowers.items) n a.lowers;
       uppers = subst (λ (k : ℕ). AreLimits k true (map standing c.undo.new.trail.items) c.undo.new.uppers.items) n a.uppers;
       before = a.before;

@@ -1,0 +1,15 @@
+pub mod Slots
+pub mod Sources
+pub mod Clocks
+pub mod Atoms
+pub mod Facts
+pub mod Set
+pub mod Resting
+pub mod Made
+pub mod Build
+pub mod Conditions
+pub mod Main
+pub mod Needing
+pub mod Closure
+pub mod Before
+pub mod Law
