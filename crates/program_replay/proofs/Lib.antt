@@ -1,5 +1,5 @@
 pub mod Numbers
 pub mod Values
 pub mod Joined
-pub mod Slots
+pub mod Shown
 pub mod Room

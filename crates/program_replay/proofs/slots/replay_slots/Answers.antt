@@ -8,7 +8,7 @@ use Rattle.slot_rows.specs.Order.{IsSlotOrder}
 use Rattle.slot_replay.specs.Conditions.{conditions_view}
 use Rattle.trace_fits.specs.Views.{fitted_at}
 use Rattle.replay_laws.specs.Chosen.{choices_by}
-use Rattle.program_replay.proofs.Slots.{are_chosen, shown, told}
+use Rattle.program_replay.proofs.Shown.{are_chosen, shown, told}
 use Rattle.program_replay.proofs.slots.replay_slots.Goals as goal
 
 pub slot_order-requires : goal.slot_order-requires

@@ -1,0 +1,6 @@
+pub mod Rooms
+pub mod Keeps
+pub mod Nobody
+pub mod Placed
+pub mod Frames
+pub mod Exact
