@@ -5,15 +5,16 @@ use Rattle.std.specs.List.{AllByRecursion}
 use Rattle.lus_tree.specs.Lookup.{nodes_of}
 use Rattle.lus_tree.specs.Tree.{Name, Variable, Component, Program}
 use Rattle.lus_meaning.specs.ClockFaults.{components}
-use Rattle.lus_meaning.specs.Fits.{FitsInstance, FitsProgram, first_named}
+use Rattle.lus_meaning.specs.Fits.{FitsInstance, FitsProgram, first_named, misfit}
 use Rattle.lus_meaning.specs.Frame.{Frame, entry}
 use Rattle.lus_meaning.specs.Program.{instance_of}
-use Rattle.lus_meaning.specs.Refusals.{IsChecked}
+use Rattle.lus_meaning.specs.Refusals.{IsChecked, IsWithinLimits}
 use Rattle.lus_meaning.specs.Replay.{frame_on}
 use Rattle.lus_meaning.specs.Scene.{Instance, component_of, plain, variables}
 use Rattle.lus_meaning.specs.Slots.{width}
 use Rattle.lus_meaning.specs.Trace.{BareLine}
 use Rattle.lus_meaning.specs.TraceView.{Listing, lines_of}
+use Rattle.lus_layouts.proofs.Fits.{nodes_fit}
 use Rattle.lus_limits.proofs.Instances.{component_called}
 use Rattle.lus_streams.specs.Streams.{names_of}
 use Rattle.sys_meaning.specs.Slot.{named, own}
@@ -26,18 +27,26 @@ use Rattle.slot_replay.specs.Answer.{AreBreaks, AreLawful, GoesThrough, IsToldOf
 use Rattle.slot_replay.specs.Shown.{Shown}
 use Rattle.slot_replay.specs.declared.fault.ReplayFault.{ReplayFault as SlotFault}
 use Rattle.slot_replay.specs.declared.fault.ReplayFault.TheVariants as slots
+use Rattle.trace_fits.proofs.Named.{named_contained, unnamed}
 use Rattle.replay_laws.specs.OverSlots.{AreDeclaredParts, conditions_over}
 use Rattle.replay_laws.specs.Replayed.{AnswerIsShown, IsReplayable, IsShown, OfOneFrame, ToldIsMet}
 use Rattle.program_replay.specs.Answer.{ShowsTrace, value_of}
 use Rattle.program_replay.specs.Faults.{IsFault}
-use Rattle.program_replay.specs.Named.{Numbered}
+use Rattle.program_replay.specs.Named.{Numbered, numbers_from}
 use Rattle.program_replay.specs.Slots.{IsTable, ShowsSlots, TellsSlots}
 use Rattle.program_replay.specs.Told.{of_slots}
-use Rattle.program_replay.proofs.Numbers.{IsFound, declared_there}
+use Rattle.program_replay.proofs.Numbers.{IsFound, declared_there, first_none}
 use Rattle.program_replay.proofs.Values.{all_values}
 
 some_same : {A : Type 0} (x y : A) → Some x ≡ Some y → x ≡ y
 some_same x y e = cc
+
+-- a name that no node has doesn't fit
+pub unnamed_misfit : (p : Program) (t : Listing) → None ≡ numbers_from 0 0 t.node p → misfit p t ≡ Some t.node_at
+unnamed_misfit p t e = unnamed p t (first_none 0 0 t.node p e)
+
+pub node_small : (p : Program) (x : Name) (m : Numbered) → IsFound 0 0 x p m → IsWithinLimits p None → width (instance_of p m.node) < 20001
+node_small p x m found h = nodes_fit p None h m.node (named_contained (nodes_of p) x m.node found.named)
 
 module _ (p : Program) (t : Listing) (c : IsChecked p) (fits : FitsProgram p t) (m : Numbered) (found : IsFound 0 0 t.node p m) where
   abbrev d : Component
@@ -46,7 +55,7 @@ module _ (p : Program) (t : Listing) (c : IsChecked p) (fits : FitsProgram p t) 
   abbrev i : Instance
   i = instance_of p d
 
-  place_is : slice_get (components p) m.place ≡ Some d
+  pub place_is : slice_get (components p) m.place ≡ Some d
   place_is = ap (slice_get (components p)) found.behind_components ∙ found.component
 
   lines_fit : FitsInstance i t.length (lines_of t)
@@ -79,11 +88,15 @@ module _ (p : Program) (t : Listing) (c : IsChecked p) (fits : FitsProgram p t) 
       )
   fault_told told slots.Memory h = tt
 
-  declared : Contains (components p) d
+  pub declared : Contains (components p) d
   declared = declared_there (components p) m.place d place_is
 
   stands : StandsAtRoot → OwnStands → (x : Name) → number_of i (own (named x)) ≡ name_number (width i) 1 (variables d) x
   stands root own_stands x = (own_stands p c d declared plain (number_of i) (width i) 0 (root i)).streams x
+
+  abbrev Says : Shown → List Row → Type 0
+  Says r table = GoesThrough (seen_in table) (conditions_over i) (AreDeclaredParts p m.place) t.length
+      × AreBreaks (value_in table) (conditions_over i) t.length r.breaks × AreLawful (value_in table) (conditions_over i) t.length r.lawful
 
   pub trace_shown : AnswerIsShown → StandsAtRoot → OwnStands → (r : Shown) → ShowsSlots i (lines_of t) t.length (AreDeclaredParts p m.place) r
       → (names : List Name) → names ≡ names_of (variables d) → (n : ℕ) → n ≡ m.number
@@ -113,12 +126,8 @@ module _ (p : Program) (t : Listing) (c : IsChecked p) (fits : FitsProgram p t) 
       x : IsTable i (lines_of t) t.length h.table
       x = h.is_table
 
-      abbrev Says : List Row → Type 0
-      Says table = GoesThrough (seen_in table) (conditions_over i) (AreDeclaredParts p m.place) t.length
-          × AreBreaks (value_in table) (conditions_over i) t.length r.breaks × AreLawful (value_in table) (conditions_over i) t.length r.lawful
-
-      moved : Says (rows x.choices (sources_of i) x.order t.length)
-      moved = subst Says x.filled (h.going_on, h.breaks, h.lawful)
+      moved : Says r (rows x.choices (sources_of i) x.order t.length)
+      moved = subst (Says r) x.filled (h.going_on, h.breaks, h.lawful)
 
       q : OfOneFrame (lines_of t) i t.length (λ f. IsShown i f t.length (value_in (rows x.choices (sources_of i) x.order t.length)) r.breaks r.lawful)
       q = answered p m.place d (lines_of t) t.length x.choices x.order (replayable h.table x) moved.0 r.breaks r.lawful moved.1 moved.2

@@ -3,3 +3,5 @@ pub mod Values
 pub mod Joined
 pub mod Shown
 pub mod Room
+pub mod Evaluated
+pub mod Defaults

@@ -24,7 +24,7 @@ pub record IsFound (k j : ℕ) (x : Name) (p : Program) (m : Numbered) : Type 0 
   pub component : slice_get (components p) place ≡ Some m.node
   pub named : first_named x (nodes_of p) ≡ Some m.node
 
-here : ℕ → ℕ → Component → Numbered
+abbrev here : ℕ → ℕ → Component → Numbered
 here k j n = record { node = n; number = k; place = j }
 
 node_found : (k j : ℕ) (x : Name) (n : Component) (ds : Program) (m : Numbered)

@@ -1,5 +1,5 @@
 -- The names of a node by the slots of its table.
-use Rattle.std.proofs.Common.{◌≡◌, ℕ, zero, suc, ◌+◌, ◌<◌, Bool, true, false, cond, ◌||◌, List, [], ◌∷◌, map, refl, sym, ap, ◌∙◌, subst}
+use Rattle.std.proofs.Common.{◌≡◌, ℕ, zero, suc, ◌+◌, ◌<◌, Bool, true, false, cond, ◌||◌, List, [], ◌∷◌, map, refl, sym, ap, ◌∙◌, subst, arith}
 use Rattle.std.specs.List.{AllByRecursion}
 use Rattle.std.specs.Str.{bytes_eq}
 use Rattle.std.proofs.lemmas.Bool.{false≢true}
@@ -11,6 +11,9 @@ use Rattle.name_table.specs.Names.{number_of}
 use Rattle.name_table.proofs.Names.{itself}
 use Rattle.sys_places.specs.Own.{name_number}
 use Rattle.program_replay.specs.Answer.{value_of}
+
+next_one : (a : ℕ) → suc a ≡ 1 + a
+next_one a = omega arith
 
 -- what is so of each name of these is so of each of the variables, since each is named
 module _ (vs : List Variable) where
@@ -40,7 +43,7 @@ module _ (vs : List Variable) where
     where
       go : (b : Bool) → b ≡ true → cond b (slots (suc (number_of (names_of vs) x)) t) absent
           ≡ slots (cond b (1 + number_of (names_of vs) x) missing) t
-      go true e = refl
+      go true e = ap (λ k. slots k t) (next_one (number_of (names_of vs) x))
       go false e = absurd (false≢true e)
 
   pub values_there : (slots : ℕ → Stream) (missing : ℕ) (at : Name → ℕ) (says : Name → Stream) → ((x : Name) → at x ≡ name_number missing 1 vs x)

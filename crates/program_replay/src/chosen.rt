@@ -1,9 +1,11 @@
 //! What is chosen of the slots of a node.
 
 ghost use Rattle.std.specs.Prelude.{◌≡◌, slice_get};
+ghost use Rattle.lus_meaning.specs.CodeValue.{value_view};
 ghost use Rattle.lus_meaning.specs.TraceView.{entry_view};
+ghost use Rattle.lus_meaning.specs.Value.{absent};
 ghost use Rattle.trace_fits.specs.Views.{fitted_at};
-ghost use Rattle.replay_laws.specs.Chosen.{choices_by, listed_by};
+ghost use Rattle.replay_laws.specs.Chosen.{choices_by, listed_by, shape_default};
 
 use kind_num::Shape;
 use lus_meaning::Value;
@@ -24,15 +26,34 @@ fn shape_at(shapes: &[Shape], slot: usize) -> Option<Shape>
     shapes.get(slot).copied()
 }
 
-/// What is listed, else 0 or false; nothing where there is no slot.
+/// 0 or false.
+fn default_of(shape: Shape) -> Value
+    ensures { value_view result ≡ shape_default shape absent }
+{
+    match shape {
+        Shape::Flag => Value::Truth(false),
+        Shape::Number => Value::Whole(0),
+    }
+}
+
+/// What is listed, else 0 or false.
+#[tactic(auto, using(crate::proofs::Defaults::listed_stays))]
+fn or_default(shape: Shape, value: Option<Value>) -> Value
+    ensures { value_view result ≡ shape_default shape (entry_view value) }
+{
+    match value {
+        Some(value) => value,
+        None => default_of(shape),
+    }
+}
+
+/// The same of a slot; nothing where there is none.
 fn listed_by(shape: Option<Shape>, value: Option<Value>) -> Option<Value>
     ensures { entry_view result ≡ listed_by shape (entry_view value) }
 {
-    match (shape, value) {
-        (None, _) => None,
-        (Some(Shape::Flag), None) => Some(Value::Truth(false)),
-        (Some(Shape::Number), None) => Some(Value::Whole(0)),
-        (Some(_), Some(value)) => Some(value),
+    match shape {
+        Some(shape) => Some(or_default(shape, value)),
+        None => None,
     }
 }
 
