@@ -17,6 +17,7 @@ use slot_replay::{PartAt, Parts};
 use std::alloc::{AllocError, Global};
 
 /// The evaluation of an instant of a node of a checked program, which has that number among the declarations with parts.
+#[derive(Drop)]
 pub(crate) struct Instant<'c> {
     pub(crate) checked: &'c Checked,
     pub(crate) node: &'c Node,

@@ -1,7 +1,8 @@
 -- What a part reads is there before it is evaluated: the sources of what it needs are evaluated by parts that come before.
-use Rattle.std.proofs.Common.{◌≡◌, ℕ, zero, suc, pred, ◌<◌, Bool, true, false, List, [], ◌∷◌, ◌++◌, map, length, refl, ap, ◌∙◌, sym, subst, arith, Option, Some, None, slice_get}
+use Rattle.std.proofs.Common.{eqb, ◌≡◌, ℕ, pred, ◌<◌, true, List, [], ◌∷◌, ◌++◌, map, length, refl, ap, ◌∙◌, sym, subst, arith, Some, None, slice_get}
 use Rattle.std.specs.Prelude.{Contains}
 use Rattle.std.specs.List.{AllByRecursion}
+use Rattle.std.proofs.lemmas.Bool.{false≢true}
 use Rattle.std.proofs.Math.Logic.{inl, inr}
 use Rattle.lus_tree.specs.declared.place.Sort.{Sort}
 use Rattle.lus_tree.specs.declared.place.Sort.TheVariants.{Bool as Flags}
@@ -28,6 +29,7 @@ use Rattle.sys_meaning.proofs.Balanced.{join_all}
 use Rattle.sys_meaning.proofs.Cells.{everywhere}
 use Rattle.sys_meaning.proofs.Forward.{own_fits}
 use Rattle.lus_evaluation.specs.Part.{Part, from_top}
+use Rattle.lus_evaluation.specs.Turn.{in_turn}
 use Rattle.lus_evaluation.specs.Evaluation.{is_above, NeedsPlace, place_named, IsEvaluation}
 use Rattle.lus_evaluation.specs.Past.{part_past, NonePast}
 use Rattle.slot_values.specs.Evaluated.{SlotValues, outside}
@@ -35,7 +37,7 @@ use Rattle.slot_values.specs.Resolution.{Resolution}
 use Rattle.slot_values.specs.Resolved.{Numbering, resolution, right_resolutions}
 use Rattle.slot_values.specs.Clocked.{row_by, clock_on}
 use Rattle.evaluation_laws.specs.Rows.{AreCalls, row_at, numbers_there}
-use Rattle.evaluation_laws.proofs.Waiting.{both_true}
+use Rattle.evaluation_laws.proofs.Waiting.{both_true, both}
 use Rattle.slot_sources.specs.declared.source.Switch.{Switch}
 use Rattle.slot_sources.specs.Source.{Source, given, same, listed}
 use Rattle.slot_sources.specs.Rows as rows
@@ -64,10 +66,10 @@ use Rattle.rest_laws.proofs.Sources.{Gives, Obliged, GoodAt, all_good}
 
 above_longer : (v w : List ℕ) (k : ℕ) → is_above v w ≡ true → is_above v (w ++ k ∷ []) ≡ true
 above_longer [] w k h = refl
-above_longer (n ∷ v) [] k h = absurd (Rattle.std.proofs.lemmas.Bool.false≢true h)
+above_longer (n ∷ v) [] k h = absurd (false≢true h)
 above_longer (n ∷ v) (m ∷ w) k h =
-    let q = both_true (Rattle.std.proofs.Common.eqb n m) (is_above v w) h in
-    Rattle.evaluation_laws.proofs.Waiting.both (Rattle.std.proofs.Common.eqb n m) (is_above v (w ++ k ∷ [])) q.0 (above_longer v w k q.1)
+    let q = both_true (eqb n m) (is_above v w) h in
+    both (eqb n m) (is_above v (w ++ k ∷ [])) q.0 (above_longer v w k q.1)
 
 no_import : (m : Manner) (xs : List Name) → m ≡ plain → m ≡ as_import xs → ⊥
 no_import m xs e d = cc
@@ -180,7 +182,7 @@ module _ (p : Program) (c : IsChecked p) (n : Component) (j : Contains (componen
 
   timed : (r : Part) → IsIn r qs → BeatNeeded i f r.way r.needs
   timed r h =
-      (in_all (IsTimed i f (BeatNeeded i f) (beat_of_whole i f) (beat_of_import i f)) (Rattle.lus_evaluation.specs.Turn.in_turn ev.orders i) r
+      (in_all (IsTimed i f (BeatNeeded i f) (beat_of_whole i f) (beat_of_import i f)) (in_turn ev.orders i) r
       (instant_timed i f (BeatNeeded i f) (beat_of_whole i f) (beat_of_import i f) ev.orders (stands_there i f [] tt tree) tree
       (all_stand p c n j qs ev m f run t l)) (in_turn_from p c n j qs ev m f run t l r h)).needed
 
@@ -233,9 +235,9 @@ module _ (p : Program) (c : IsChecked p) (n : Component) (j : Contains (componen
         NeedsPlace i r.needs (place_named (w ++ k ∷ []) x)
     call_need k x h =
         (placed p c n j qs ev m f run t l r (in_turn_from p c n j qs ev m f run t l r (there r e))).2.covers (w ++ k ∷ []) x
-          (subst (NeedsPlace i (map (from_top w) (needs z (modes_need z) r.clock r.expression))) (call_name w k x)
-          (needs_itself i (map (from_top w) (needs z (modes_need z) r.clock r.expression)) (from_top w (a_name (pred k ∷ []) x))
-          (in_mapped (from_top w) (a_name (pred k ∷ []) x) (needs z (modes_need z) r.clock r.expression) h)))
+        (subst (NeedsPlace i (map (from_top w) (needs z (modes_need z) r.clock r.expression))) (call_name w k x)
+        (needs_itself i (map (from_top w) (needs z (modes_need z) r.clock r.expression)) (from_top w (a_name (pred k ∷ []) x))
+        (in_mapped (from_top w) (a_name (pred k ∷ []) x) (needs z (modes_need z) r.clock r.expression) h)))
 
     call_seen : (k : ℕ) (x : Name) → Sees r (w ++ k ∷ []) → IsIn (a_name (pred k ∷ []) x) (needs z (modes_need z) r.clock r.expression) →
         NameSeen (w ++ k ∷ []) x

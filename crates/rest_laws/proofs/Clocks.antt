@@ -429,5 +429,5 @@ module _ (i : Instance) (f : Frame) where
               let j : Instance = instance d cs is in
               let u : TextTimed [] (frame_text o [] j) = frame_timed [] j s t in
               joined (frame_text o [] j).body (condition_parts (text_at (call_texts o [] is)) (frame_text o [] j) j) u.body
-              (conditions_all j s t (text_at (call_texts o [] is)) 
+              (conditions_all j s t (text_at (call_texts o [] is))
               (by_number [] (count_of is) (call_texts o [] is) (λ p l. calls_timed [] j s is 0 refl t.1 p (suc p) (omega arith) l)) t.1 (frame_text o [] j) u)

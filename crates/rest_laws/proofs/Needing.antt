@@ -262,7 +262,6 @@ module _ (i : Instance) (f : Frame) where
       go (condact p k x z as_ ds) st h = by_front _ h
       go (mode_name p d m) st h = h the_beat (known_beats (place_there i f w) (option_to_list (option_map text_of d), m.text) st.1)
 
-
   -- ---- of all parts
 
   -- the frame below by so many calls, the last one first

@@ -1,0 +1,9 @@
+pub mod Lists
+pub mod Numbered
+pub mod Giving
+pub mod Orders
+pub mod Steps
+pub mod Own
+pub mod Streams
+pub mod Closing
+pub mod Found

@@ -1,0 +1,5 @@
+pub mod Numbered
+pub mod Givers
+pub mod GiverViews
+pub mod Ordered
+pub mod Steps
