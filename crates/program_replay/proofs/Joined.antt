@@ -5,7 +5,7 @@ use Rattle.std.specs.List.{AllByRecursion}
 use Rattle.lus_tree.specs.Lookup.{nodes_of}
 use Rattle.lus_tree.specs.Tree.{Name, Variable, Component, Program}
 use Rattle.lus_meaning.specs.ClockFaults.{components}
-use Rattle.lus_meaning.specs.Fits.{FitsInstance, FitsProgram, first_named, misfit}
+use Rattle.lus_meaning.specs.Fits.{FitsInstance, FitsProgram, first_failed, first_named, misfit, node_tests}
 use Rattle.lus_meaning.specs.Frame.{Frame, entry}
 use Rattle.lus_meaning.specs.Program.{instance_of}
 use Rattle.lus_meaning.specs.Refusals.{IsChecked, IsWithinLimits}
@@ -24,18 +24,19 @@ use Rattle.sys_places.specs.Places.{StandsAtRoot}
 use Rattle.slot_rows.specs.Table.{Row, rows, value_in}
 use Rattle.slot_sources.specs.Sources.{sources_of}
 use Rattle.slot_replay.specs.Answer.{AreBreaks, AreLawful, GoesThrough, IsToldOf, seen_in}
+use Rattle.slot_replay.specs.Parts.{Part as SlotPart}
 use Rattle.slot_replay.specs.Shown.{Shown}
 use Rattle.slot_replay.specs.declared.fault.ReplayFault.{ReplayFault as SlotFault}
 use Rattle.slot_replay.specs.declared.fault.ReplayFault.TheVariants as slots
-use Rattle.trace_fits.proofs.Named.{named_contained, unnamed}
 use Rattle.replay_laws.specs.OverSlots.{AreDeclaredParts, conditions_over}
 use Rattle.replay_laws.specs.Replayed.{AnswerIsShown, IsReplayable, IsShown, OfOneFrame, ToldIsMet}
 use Rattle.program_replay.specs.Answer.{ShowsTrace, value_of}
 use Rattle.program_replay.specs.Faults.{IsFault}
+use Rattle.program_replay.specs.Instants.{AreNamedParts}
 use Rattle.program_replay.specs.Named.{Numbered, numbers_from}
 use Rattle.program_replay.specs.Slots.{IsTable, ShowsSlots, TellsSlots}
 use Rattle.program_replay.specs.Told.{of_slots}
-use Rattle.program_replay.proofs.Numbers.{IsFound, declared_there, first_none}
+use Rattle.program_replay.proofs.Numbers.{IsFound, declared_there, first_none, found_from}
 use Rattle.program_replay.proofs.Values.{all_values}
 
 some_same : {A : Type 0} (x y : A) → Some x ≡ Some y → x ≡ y
@@ -43,12 +44,27 @@ some_same x y e = cc
 
 -- a name that no node has doesn't fit
 pub unnamed_misfit : (p : Program) (t : Listing) → None ≡ numbers_from 0 0 t.node p → misfit p t ≡ Some t.node_at
-unnamed_misfit p t e = unnamed p t (first_none 0 0 t.node p e)
+unnamed_misfit p t e = ap (λ o. first_failed (node_tests p o t)) (sym (first_none 0 0 t.node p e))
 
-pub node_small : (p : Program) (x : Name) (m : Numbered) → IsFound 0 0 x p m → IsWithinLimits p None → width (instance_of p m.node) < 20001
-node_small p x m found h = nodes_fit p None h m.node (named_contained (nodes_of p) x m.node found.named)
+pub node_small : (p : Program) (x : Name) (m : Numbered) → numbers_from 0 0 x p ≡ Some m → IsWithinLimits p None → width (instance_of p m.node) < 20001
+node_small p x m e h =
+    let found = found_from 0 0 x p m e in
+    nodes_fit p None h m.node (declared_there (nodes_of p) found.number m.node found.node)
 
-module _ (p : Program) (t : Listing) (c : IsChecked p) (fits : FitsProgram p t) (m : Numbered) (found : IsFound 0 0 t.node p m) where
+pub node_declared : (p : Program) (x : Name) (m : Numbered) → numbers_from 0 0 x p ≡ Some m → Contains (components p) m.node
+node_declared p x m e =
+    let found = found_from 0 0 x p m e in
+    declared_there (components p) found.place m.node found.component
+
+pub node_place : (p : Program) (x : Name) (m : Numbered) → numbers_from 0 0 x p ≡ Some m → slice_get (components p) m.place ≡ Some m.node
+node_place p x m e =
+    let found = found_from 0 0 x p m e in
+    ap (slice_get (components p)) found.behind_components ∙ found.component
+
+module _ (p : Program) (t : Listing) (c : IsChecked p) (fits : FitsProgram p t) (m : Numbered) (is_found : numbers_from 0 0 t.node p ≡ Some m) where
+  found : IsFound 0 0 t.node p m
+  found = found_from 0 0 t.node p m is_found
+
   abbrev d : Component
   d = m.node
 
@@ -70,11 +86,16 @@ module _ (p : Program) (t : Listing) (c : IsChecked p) (fits : FitsProgram p t) 
     chosen = x.chosen;
   }
 
-  pub fault_told : ToldIsMet → (e : SlotFault) → TellsSlots i (lines_of t) t.length (AreDeclaredParts p m.place) e → IsFault p t (of_slots e)
+  named_declared : (ps : List SlotPart) → AreNamedParts p t.node ps → AreDeclaredParts p m.place ps
+  named_declared ps h = h m is_found
+
+  pub fault_told : ToldIsMet → (e : SlotFault) → TellsSlots i (lines_of t) t.length (AreNamedParts p t.node) e → IsFault p t (of_slots e)
   fault_told told (slots.Past at u past) h =
       let x = h.is_table in
+      let moved : IsToldOf (seen_in h.table) (conditions_over i) (AreDeclaredParts p m.place) t.length u (record { at = at; past = past }) =
+          record { parts = h.told.parts; are_parts = named_declared h.told.parts h.told.are_parts; told = h.told.told } in
       let q = told p m.place d (lines_of t) t.length x.choices x.order (replayable h.table x) u (record { at = at; past = past })
-          (subst (λ table. IsToldOf (seen_in table) (conditions_over i) (AreDeclaredParts p m.place) t.length u (record { at = at; past = past })) x.filled h.past)
+          (subst (λ table. IsToldOf (seen_in table) (conditions_over i) (AreDeclaredParts p m.place) t.length u (record { at = at; past = past })) x.filled moved)
       in (
         fits,
         record {
@@ -98,7 +119,7 @@ module _ (p : Program) (t : Listing) (c : IsChecked p) (fits : FitsProgram p t) 
   Says r table = GoesThrough (seen_in table) (conditions_over i) (AreDeclaredParts p m.place) t.length
       × AreBreaks (value_in table) (conditions_over i) t.length r.breaks × AreLawful (value_in table) (conditions_over i) t.length r.lawful
 
-  pub trace_shown : AnswerIsShown → StandsAtRoot → OwnStands → (r : Shown) → ShowsSlots i (lines_of t) t.length (AreDeclaredParts p m.place) r
+  pub trace_shown : AnswerIsShown → StandsAtRoot → OwnStands → (r : Shown) → ShowsSlots i (lines_of t) t.length (AreNamedParts p t.node) r
       → (names : List Name) → names ≡ names_of (variables d) → (n : ℕ) → n ≡ m.number
       → ShowsTrace p t (record { breaks = r.breaks; lawful = r.lawful; value = value_of names r.value; node = n })
   trace_shown answered root own_stands r h names e n k = record {
@@ -126,8 +147,12 @@ module _ (p : Program) (t : Listing) (c : IsChecked p) (fits : FitsProgram p t) 
       x : IsTable i (lines_of t) t.length h.table
       x = h.is_table
 
+      gone : GoesThrough (seen_in h.table) (conditions_over i) (AreDeclaredParts p m.place) t.length
+      gone e = let g = h.going_on e in record { parts = g.parts; are_parts = named_declared g.parts g.are_parts; going_on = g.going_on }
+
       moved : Says r (rows x.choices (sources_of i) x.order t.length)
-      moved = subst (Says r) x.filled (h.going_on, h.breaks, h.lawful)
+      moved = subst (Says r) x.filled (gone, h.breaks, h.lawful)
+
 
       q : OfOneFrame (lines_of t) i t.length (λ f. IsShown i f t.length (value_in (rows x.choices (sources_of i) x.order t.length)) r.breaks r.lawful)
       q = answered p m.place d (lines_of t) t.length x.choices x.order (replayable h.table x) moved.0 r.breaks r.lawful moved.1 moved.2

@@ -13,8 +13,9 @@ use Rattle.slot_sources.specs.Sources.{sources_of}
 use Rattle.slot_rows.specs.Order.{IsSlotOrder}
 use Rattle.slot_rows.specs.Table.{Row, rows, value_in}
 use Rattle.slot_replay.specs.declared.fault.ReplayFault.{ReplayFault}
+use Rattle.slot_replay.specs.declared.fault.ReplayFault.TheVariants as faults
 use Rattle.slot_replay.specs.declared.replayed.Replayed.{Replayed}
-use Rattle.slot_replay.specs.Answer.{AreBreaks, AreLawful, GoesThrough, IsPast, seen_in}
+use Rattle.slot_replay.specs.Answer.{AreBreaks, AreLawful, GoesThrough, IsPast, IsToldOf, seen_in}
 use Rattle.slot_replay.specs.Conditions.{Conditions}
 use Rattle.slot_replay.specs.Parts.{Part}
 use Rattle.slot_replay.specs.Shown.{replayed_view}
@@ -84,8 +85,5 @@ module _ (i : Instance) (ls : List BareLine) (n : ℕ) (c : Choices) (h : Choose
 
   pub told : (r : Result Replayed ReplayFault) → IfErr r (IsPast (seen_in table) q AreParts n) → IfErr r (TellsSlots i ls n AreParts)
   told (Ok r) p = tt
-  told (Err e) p = record {
-    table = table;
-    is_table = is_table;
-    past = subst (λ q. IsPast (seen_in table) q AreParts n e) y p;
-  }
+  told (Err (faults.Past at t past)) p = record { table = table; is_table = is_table; told = subst (λ q. IsToldOf (seen_in table) q AreParts n t (record { at = at; past = past })) y p }
+  told (Err faults.Memory) p = tt

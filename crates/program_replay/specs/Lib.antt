@@ -3,4 +3,5 @@ pub mod NamedView
 pub mod Faults
 pub mod Told
 pub mod Slots
+pub mod Instants
 pub mod Answer

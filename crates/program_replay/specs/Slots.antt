@@ -7,7 +7,9 @@ use Rattle.slot_sources.specs.Sources.{sources_of}
 use Rattle.slot_rows.specs.Order.{IsSlotOrder}
 use Rattle.slot_rows.specs.Table.{Row, rows, value_in}
 use Rattle.slot_replay.specs.declared.fault.ReplayFault.{ReplayFault}
-use Rattle.slot_replay.specs.Answer.{AreBreaks, AreLawful, GoesThrough, IsPast, seen_in}
+use Rattle.slot_replay.specs.declared.fault.ReplayFault.TheVariants as faults
+use Rattle.slot_replay.specs.Answer.{AreBreaks, AreLawful, GoesThrough, IsToldOf, seen_in}
+use Rattle.slot_values.specs.declared.resolved.PastAt.{PastAt}
 use Rattle.slot_replay.specs.Parts.{Part}
 use Rattle.slot_replay.specs.Shown.{Shown}
 use Rattle.replay_laws.specs.Chosen.{Chooses}
@@ -30,8 +32,13 @@ pub record ShowsSlots (i : Instance) (ls : List BareLine) (n : ℕ) (AreParts : 
   pub lawful : AreLawful (value_in table) (conditions_over i) n r.lawful
   pub value : (k t : ℕ) → r.value k t ≡ value_in table t k
 
--- this is told by such a table
-pub record TellsSlots (i : Instance) (ls : List BareLine) (n : ℕ) (AreParts : List Part → Type 0) (e : ReplayFault) : Type 0 where
+-- an operation that such a table tells
+pub record TellsPast (i : Instance) (ls : List BareLine) (n : ℕ) (AreParts : List Part → Type 0) (t : ℕ) (x : PastAt) : Type 0 where
   pub table : List Row
   pub is_table : IsTable i ls n table
-  pub past : IsPast (seen_in table) (conditions_over i) AreParts n e
+  pub told : IsToldOf (seen_in table) (conditions_over i) AreParts n t x
+
+-- the same of a fault, where that isn't want of memory
+abbrev pub TellsSlots : Instance → List BareLine → ℕ → (List Part → Type 0) → ReplayFault → Type 0
+TellsSlots i ls n AreParts (faults.Past at t past) = TellsPast i ls n AreParts t (record { at = at; past = past })
+TellsSlots i ls n AreParts faults.Memory = Unit {0}

@@ -1,36 +1,34 @@
 //! What is evaluated at an instant of a node.
 
-ghost use Rattle.std.specs.Prelude.{◌≡◌, ◌<◌, Some, slice_get};
-ghost use Rattle.lus_tree.specs.View.{node_view};
-ghost use Rattle.lus_meaning.specs.ClockFaults.{components};
-ghost use Rattle.lus_meaning.specs.Program.{instance_of};
-ghost use Rattle.lus_meaning.specs.Slots.{width};
 ghost use Rattle.lus_checked.specs.Program.{tree_of};
-ghost use Rattle.replay_laws.specs.OverSlots.{AreDeclaredParts};
+ghost use Rattle.program_replay.specs.Instants.{AreNamedParts};
 
+use crate::named::find_named;
 use evaluation_order::evaluation;
 use lus_checked::Checked;
 use lus_streams::owner::Owner;
-use lus_tree::Node;
 use part_resolver::resolved;
 use slot_replay::{PartAt, Parts};
 use std::alloc::{AllocError, Global};
 
-/// The evaluation of an instant of a node of a checked program, which has that number among the declarations with parts.
+/// The evaluation of an instant of the node of that name.
 #[derive(Drop)]
 pub(crate) struct Instant<'c> {
     pub(crate) checked: &'c Checked,
-    pub(crate) node: &'c Node,
-    pub(crate) place: usize,
-    ghost placed: { slice_get (components (tree_of checked.now)) place ≡ Some (node_view node.now) },
-    ghost small: { width (instance_of (tree_of checked.now) (node_view node.now)) < 20001 },
+    pub(crate) name: &'c str,
 }
 
 impl Parts for Instant<'_> {
-    ghost are_parts = { λ s ps. AreDeclaredParts (tree_of s.checked.now) s.place ps };
+    ghost are_parts = { λ s ps. AreNamedParts (tree_of s.checked.now) s.name.now ps };
 
     fn in_order(&self, alloc: Global) -> Result<Vec<PartAt>, AllocError> {
-        let parts = evaluation(alloc, self.checked, self.place)?;
-        resolved(alloc, self.checked.program(), Owner::Node(self.node), &parts)
+        let program = self.checked.program();
+        match find_named(program, self.name) {
+            Some(named) => {
+                let parts = evaluation(alloc, self.checked, named.place)?;
+                resolved(alloc, program, Owner::Node(named.node), &parts)
+            }
+            None => Ok(Vec::new(alloc)),
+        }
     }
 }

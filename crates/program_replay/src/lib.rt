@@ -11,6 +11,7 @@ mod names;
 mod replaying;
 mod shapes;
 mod slots;
+mod told;
 
 pub use answer::Replay;
 pub use fault::ReplayFault;

@@ -12,7 +12,6 @@ ghost use Rattle.program_replay.specs.Answer.{ShowsTrace, replay_view};
 ghost use Rattle.program_replay.specs.Faults.{IsFault};
 ghost use Rattle.program_replay.specs.Named.{numbers_from};
 ghost use Rattle.program_replay.specs.NamedView.{named_view};
-ghost use Rattle.program_replay.specs.Told.{of_slots};
 
 use crate::answer::Replay;
 use crate::fault::ReplayFault;
@@ -25,18 +24,17 @@ use lus_checked::Checked;
 use lus_meaning::Trace;
 use lus_streams::owner::Owner;
 use replay_laws::laws::replays_tell_frames;
-use slot_replay::ReplayFault as SlotFault;
-use std::alloc::Global;
+use std::alloc::{AllocError, Global};
 use sys_places::laws::{own_variables_stand, stands_at_root};
 use trace_fits::Fitted;
 
-/// The same fault.
-fn of_slots(fault: SlotFault) -> ReplayFault
-    ensures { result ≡ of_slots fault }
+/// A number as the answer has it.
+fn narrowed(number: usize) -> Result<u32, AllocError>
+    ensures { IfOk result (λ n. n ≡ number) }
 {
-    match fault {
-        SlotFault::Past { at, instant, past } => ReplayFault::Past { at, instant, past },
-        SlotFault::Memory => ReplayFault::Memory,
+    match u32::try_from(number) {
+        Ok(number) => Ok(number),
+        Err(_) => Err(AllocError),
     }
 }
 
@@ -60,23 +58,18 @@ fn replay_node(
     stands_at_root();
     own_variables_stand();
     let program = checked.program();
-    let Ok(number) = u32::try_from(named.number) else {
-        return Err(ReplayFault::Memory);
-    };
+    let node = narrowed(named.number)?;
     let names = name_table(alloc, program, Owner::Node(named.node))?;
     let instant = Instant {
         checked,
-        node: named.node,
-        place: named.place,
+        name: &trace.node,
     };
-    match replay_slots(alloc, program, named.node, fitted, trace, &instant) {
-        Ok(replayed) => Ok(Replay {
-            replayed,
-            names,
-            node: number,
-        }),
-        Err(fault) => Err(of_slots(fault)),
-    }
+    let replayed = replay_slots(alloc, program, named.node, fitted, trace, &instant)?;
+    Ok(Replay {
+        replayed,
+        names,
+        node,
+    })
 }
 
 /// The replay of a trace on a checked program.
@@ -85,6 +78,7 @@ fn replay_node(
 ///
 /// `Form` exactly where the trace doesn't fit the program, at the first word that doesn't; `Past` where it fits, and the
 /// evaluation of its one frame meets a value outside 128 bits: the first one; `Memory` for want of memory.
+#[tactic(auto, using(crate::proofs::Joined::unnamed_misfit))]
 pub fn replay(alloc: Global, checked: &Checked, trace: &Trace) -> Result<Replay, ReplayFault>
     // A trace that is replayed fits.
     ensures fits { OnOk result (FitsProgram (tree_of checked.now) (trace_view trace.now)) }

@@ -2,7 +2,7 @@ use Rattle.std.proofs.Common.{◌≡◌, ◌<◌, ℕ, sym, ap, ◌∙◌, subst
 use Rattle.std.specs.Prelude.{Contains, length}
 use Rattle.lus_checked.specs.Program.{tree_of}
 use Rattle.lus_tree.specs.Tree.{Program}
-use Rattle.lus_tree.specs.View.{node_view, program_view}
+use Rattle.lus_tree.specs.View.{program_view}
 use Rattle.lus_meaning.specs.ClockFaults.{components}
 use Rattle.lus_meaning.specs.Program.{instance_of}
 use Rattle.lus_meaning.specs.Refusals.{IsChecked}
@@ -14,11 +14,11 @@ use Rattle.lus_streams.specs.Streams.{names_of}
 use Rattle.slot_replay.specs.Shown.{replayed_view}
 use Rattle.trace_fits.specs.Given.{given_at}
 use Rattle.trace_fits.specs.Views.{fitted_at}
-use Rattle.replay_laws.specs.OverSlots.{AreDeclaredParts}
+use Rattle.program_replay.specs.Faults.{IsFault}
+use Rattle.program_replay.specs.Instants.{AreNamedParts}
 use Rattle.program_replay.specs.NamedView.{named_view}
 use Rattle.program_replay.specs.Slots.{ShowsSlots, TellsSlots}
-use Rattle.program_replay.proofs.Joined.{declared, fault_told, node_small, place_is, trace_shown}
-use Rattle.program_replay.proofs.Numbers.{found_from}
+use Rattle.program_replay.proofs.Joined.{fault_told, node_declared, node_small, trace_shown}
 use Rattle.program_replay.proofs.Room.{few_names}
 use Rattle.program_replay.proofs.replaying.replay_node.Goals as goal
 
@@ -27,21 +27,9 @@ name_table-requires c =
     let p = tree_of c.args.checked.now in
     let t = trace_view c.args.trace.now in
     let m = named_view c.args.named in
-    let found = found_from 0 0 t.node p m (sym c.requires.found) in
     record {
       checked = subst IsChecked (sym c.program.ensures.same) c.program.ensures.rules;
-      declared = subst (λ p. Contains (components p) m.node) (sym c.program.ensures.same) (declared p t c.program.ensures.rules c.requires.fits m found);
-    }
-
-pub invariant_of-instant : goal.invariant_of-instant
-invariant_of-instant c =
-    let p = tree_of c.args.checked.now in
-    let t = trace_view c.args.trace.now in
-    let m = named_view c.args.named in
-    let found = found_from 0 0 t.node p m (sym c.requires.found) in
-    record {
-      placed = place_is p t c.program.ensures.rules c.requires.fits m found;
-      small = node_small p t.node m found c.program.ensures.within;
+      declared = subst (λ p. Contains (components p) m.node) (sym c.program.ensures.same) (node_declared p t.node m (sym c.requires.found));
     }
 
 pub replay_slots-requires : goal.replay_slots-requires
@@ -49,48 +37,45 @@ replay_slots-requires c =
     let p = tree_of c.args.checked.now in
     let t = trace_view c.args.trace.now in
     let m = named_view c.args.named in
-    let found = found_from 0 0 t.node p m (sym c.requires.found) in
     record {
       checked = subst IsChecked (sym c.program.ensures.same) c.program.ensures.rules;
-      declared = subst (λ p. Contains (components p) m.node) (sym c.program.ensures.same) (declared p t c.program.ensures.rules c.requires.fits m found);
-      small = subst (λ (p : Program). width (instance_of p m.node) < 20001) (sym c.program.ensures.same) (node_small p t.node m found c.program.ensures.within);
+      declared = subst (λ p. Contains (components p) m.node) (sym c.program.ensures.same) (node_declared p t.node m (sym c.requires.found));
+      small = subst (λ (p : Program). width (instance_of p m.node) < 20001) (sym c.program.ensures.same)
+          (node_small p t.node m (sym c.requires.found) c.program.ensures.within);
       listed = subst (λ p. (k n : ℕ) → fitted_at c.args.fitted k n ≡ given_at (instance_of p m.node) (lines_of t) k n) (sym c.program.ensures.same)
           c.requires.listed;
     }
 
-pub invariant_of-result-in_Ok : goal.invariant_of-result-in_Ok
-invariant_of-result-in_Ok c =
+pub invariant_of-result : goal.invariant_of-result
+invariant_of-result c =
     let p = tree_of c.args.checked.now in
     let t = trace_view c.args.trace.now in
     let m = named_view c.args.named in
-    let found = found_from 0 0 t.node p m (sym c.requires.found) in
-    let small : width (instance_of p m.node) < 20001 = node_small p t.node m found c.program.ensures.within in
+    let small : width (instance_of p m.node) < 20001 = node_small p t.node m (sym c.requires.found) c.program.ensures.within in
     let few : length (names_of (variables m.node)) < width (instance_of p m.node) =
         subst (λ n. length (names_of (variables n)) < width (instance_of p m.node)) (component_called p m.node) (few_names (instance_of p m.node)) in
     let same : length c.in_ok-names.names ≡ length (names_of (variables m.node)) = ap length c.in_ok-names.ensures in
     omega (arith, small, few, same)
 
-pub returns-in_Ok : goal.returns-in_Ok
-returns-in_Ok c =
+pub returns : goal.returns
+returns c =
     let p = tree_of c.args.checked.now in
     let t = trace_view c.args.trace.now in
     let m = named_view c.args.named in
-    let found = found_from 0 0 t.node p m (sym c.requires.found) in
     record {
-      shows = trace_shown p t c.program.ensures.rules c.requires.fits m found c.replays_tell_frames.ensures.answered c.stands_at_root.ensures
-          c.own_variables_stand.ensures (replayed_view c.in-Ok.replayed)
-          (subst (λ p. ShowsSlots (instance_of p m.node) (lines_of t) t.length (AreDeclaredParts (tree_of c.args.checked.now) m.place) (replayed_view c.in-Ok.replayed))
-          c.program.ensures.same c.in-Ok.ensures.shown)
-          c.in_ok-names.names c.in_ok-names.ensures c.in-Ok-1.number ?;
+      shows = trace_shown p t c.program.ensures.rules c.requires.fits m (sym c.requires.found) c.replays_tell_frames.ensures.answered c.stands_at_root.ensures
+          c.own_variables_stand.ensures (replayed_view c.in_ok-replayed.replayed)
+          (subst (λ p. ShowsSlots (instance_of p m.node) (lines_of t) t.length (AreNamedParts (tree_of c.args.checked.now) t.node)
+          (replayed_view c.in_ok-replayed.replayed)) c.program.ensures.same c.in_ok-replayed.ensures.shown)
+          c.in_ok-names.names c.in_ok-names.ensures c.in_ok-node.node c.in_ok-node.ensures;
       fault = tt;
     }
 
-pub returns-in_Err : goal.returns-in_Err
-returns-in_Err c =
+pub returns-in_err-replayed : goal.returns-in_err-replayed
+returns-in_err-replayed c =
     let p = tree_of c.args.checked.now in
     let t = trace_view c.args.trace.now in
     let m = named_view c.args.named in
-    let found = found_from 0 0 t.node p m (sym c.requires.found) in
     record {
       shows = tt;
       fault = ?;

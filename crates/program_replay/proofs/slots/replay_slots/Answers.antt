@@ -15,7 +15,7 @@ pub slot_order-requires : goal.slot_order-requires
 slot_order-requires g c =
     let p = program_view c.args.program.now in
     let d = node_view c.args.node.now in
-    subst HasRanks (sym (ap (map source_view) c.deref.ensures.value ∙ c.in_ok-sources.ensures))
+    subst HasRanks (sym (ap (map source_view) c.deref.ensures.value ∙ c.in_ok-sources.ensures.exact))
     (c.sources_have_ranks.ensures p c.requires.checked d c.requires.declared)
 
 pub returns : goal.returns
@@ -27,7 +27,7 @@ returns g c =
     let cs = choices_by c.in_ok-shapes.shapes.items (fitted_at c.args.fitted) in
     let h = are_chosen c.shapes_choose.ensures i ls c.in_ok-shapes.shapes.items c.in_ok-shapes.ensures (fitted_at c.args.fitted) c.requires.listed in
     let es = map source_view c.deref-2.result.now in
-    let s : es ≡ sources_of i = ap (map source_view) c.deref-2.ensures.value ∙ c.in_ok-sources.ensures in
+    let s : es ≡ sources_of i = ap (map source_view) c.deref-2.ensures.value ∙ c.in_ok-sources.ensures.exact in
     let o : IsSlotOrder es c.deref-3.result.now =
         subst (λ ks. IsSlotOrder es ks) (sym c.deref-3.ensures.value)
         (subst (λ xs. IsSlotOrder (map source_view xs) c.in_ok-order.order.items) (c.deref.ensures.value ∙ sym c.deref-2.ensures.value) c.in_ok-order.ensures) in

@@ -1,6 +1,6 @@
-use Rattle.std.proofs.Common.{◌≡◌, ◌<◌, ap, ◌∙◌, sym, subst}
+use Rattle.std.proofs.Common.{rules, ◌≡◌, ◌<◌, Some, None, ap, ◌∙◌, sym, subst, List, map}
 use Rattle.std.specs.Prelude.{Contains}
-use Rattle.lus_tree.specs.View.{node_view, program_view}
+use Rattle.lus_tree.specs.View.{program_view}
 use Rattle.lus_tree.specs.Tree.{Program}
 use Rattle.lus_checked.specs.Program.{tree_of}
 use Rattle.lus_meaning.specs.ClockFaults.{components}
@@ -10,31 +10,49 @@ use Rattle.lus_meaning.specs.Slots.{width}
 use Rattle.lus_evaluation.specs.Evaluation.{IsEvaluation}
 use Rattle.evaluation_parts.specs.PartViews.{parts_view}
 use Rattle.evaluation_turns.specs.Turned.{OfDeclaration}
-use Rattle.program_replay.proofs.Evaluated.{parts_declared}
-use Rattle.program_replay.proofs.Numbers.{declared_there, place_below}
+use Rattle.program_replay.specs.Named.{numbers_from}
+use Rattle.program_replay.specs.NamedView.{named_view}
+use Rattle.program_replay.proofs.Evaluated.{no_parts, parts_declared, parts_named}
+use Rattle.program_replay.proofs.Joined.{node_declared, node_place, node_small}
+use Rattle.program_replay.proofs.Numbers.{place_below}
 use Rattle.program_replay.proofs.instant.InstantParts.in_order.Goals as goal
 
 pub evaluation-requires : goal.evaluation-requires
 evaluation-requires c =
-    place_below (components (tree_of c.args.self.now.checked.now)) c.args.self.now.place (node_view c.args.self.now.node.now) c.args.self.now.placed
+    let p = tree_of c.args.self.now.checked.now in
+    let x = c.args.self.now.name.now in
+    let m = named_view c.in-Some.named in
+    let e : numbers_from 0 0 x p ≡ Some m = subst (λ p. numbers_from 0 0 x p ≡ Some m) c.program.ensures.same (sym c.in-Some.ensures) in
+    place_below (components p) m.place m.node (node_place p x m e)
 
 pub resolved-requires : goal.resolved-requires
 resolved-requires c =
-    let s : program_view c.program.result.now ≡ tree_of c.args.self.now.checked.now = c.program.ensures.same in
-    let d = node_view c.args.self.now.node.now in
+    let q = program_view c.program.result.now in
+    let x = c.args.self.now.name.now in
+    let m = named_view c.in-Some.named in
+    let e : numbers_from 0 0 x q ≡ Some m = sym c.in-Some.ensures in
+    let f : numbers_from 0 0 x (tree_of c.args.self.now.checked.now) ≡ Some m = subst (λ p. numbers_from 0 0 x p ≡ Some m) c.program.ensures.same e in
     record {
-      checked = subst IsChecked (sym s) c.program.ensures.rules;
-      declared = subst (λ p. Contains (components p) d) (sym s)
-          (declared_there (components (tree_of c.args.self.now.checked.now)) c.args.self.now.place d c.args.self.now.placed);
-      small = subst (λ (p : Program). width (instance_of p d) < 20001) (sym s) c.args.self.now.small;
+      checked = subst IsChecked (sym c.program.ensures.same) c.program.ensures.rules;
+      declared = node_declared q x m e;
+      small = subst (λ (p : Program). width (instance_of p m.node) < 20001) (sym c.program.ensures.same)
+          (node_small (tree_of c.args.self.now.checked.now) x m f c.program.ensures.within);
     }
 
-pub returns : goal.returns
-returns c =
+pub returns-in_Some : goal.returns-in_Some
+returns-in_Some c =
     let p = tree_of c.args.self.now.checked.now in
-    let s : program_view c.program.result.now ≡ p = c.program.ensures.same in
+    let x = c.args.self.now.name.now in
+    let m = named_view c.in-Some.named in
+    let e : numbers_from 0 0 x p ≡ Some m = subst (λ p. numbers_from 0 0 x p ≡ Some m) c.program.ensures.same (sym c.in-Some.ensures) in
     let qs = parts_view c.deref.result.now in
-    let ev : OfDeclaration p c.args.self.now.place (λ i. IsEvaluation i qs) =
-        subst (λ xs. OfDeclaration p c.args.self.now.place (λ i. IsEvaluation i (parts_view xs))) (sym c.deref.ensures.value) c.in_ok-parts.ensures in
-    parts_declared p (program_view c.program.result.now) s c.args.self.now.place (node_view c.args.self.now.node.now) c.args.self.now.placed qs ev
-    c.resolved.result c.resolved.ensures
+    let ev : OfDeclaration p m.place (λ i. IsEvaluation i qs) =
+        subst (λ xs. OfDeclaration p m.place (λ i. IsEvaluation i (parts_view xs))) (sym c.deref.ensures.value) c.in_ok-parts.ensures in
+    parts_named p x m e c.resolved.result
+    (parts_declared p (program_view c.program.result.now) c.program.ensures.same m.place m.node (node_place p x m e) qs ev c.resolved.result c.resolved.ensures.exact)
+
+pub returns-in_None : goal.returns-in_None
+returns-in_None c =
+    let p = tree_of c.args.self.now.checked.now in
+    let x = c.args.self.now.name.now in
+    no_parts p x (subst (λ p. None ≡ numbers_from 0 0 x p) c.program.ensures.same c.in-None.ensures) _
