@@ -36,7 +36,7 @@ use Rattle.program_replay.specs.Instants.{AreNamedParts}
 use Rattle.program_replay.specs.Named.{Numbered, numbers_from}
 use Rattle.program_replay.specs.Slots.{IsTable, ShowsSlots, TellsSlots}
 use Rattle.program_replay.specs.Told.{of_slots}
-use Rattle.program_replay.proofs.Numbers.{IsFound, declared_there, first_none, found_from}
+use Rattle.program_replay.proofs.Numbers.{IsFound, declared_there, first_none, found_from, from_first}
 use Rattle.program_replay.proofs.Values.{all_values}
 
 some_same : {A : Type 0} (x y : A) → Some x ≡ Some y → x ≡ y
@@ -59,7 +59,7 @@ node_declared p x m e =
 pub node_place : (p : Program) (x : Name) (m : Numbered) → numbers_from 0 0 x p ≡ Some m → slice_get (components p) m.place ≡ Some m.node
 node_place p x m e =
     let found = found_from 0 0 x p m e in
-    ap (slice_get (components p)) found.behind_components ∙ found.component
+    ap (slice_get (components p)) (from_first m.place found.place found.behind_components) ∙ found.component
 
 module _ (p : Program) (t : Listing) (c : IsChecked p) (fits : FitsProgram p t) (m : Numbered) (is_found : numbers_from 0 0 t.node p ≡ Some m) where
   found : IsFound 0 0 t.node p m
@@ -72,7 +72,7 @@ module _ (p : Program) (t : Listing) (c : IsChecked p) (fits : FitsProgram p t) 
   i = instance_of p d
 
   pub place_is : slice_get (components p) m.place ≡ Some d
-  place_is = ap (slice_get (components p)) found.behind_components ∙ found.component
+  place_is = node_place p t.node m is_found
 
   lines_fit : FitsInstance i t.length (lines_of t)
   lines_fit = subst (λ n. FitsInstance (instance_of p n) t.length (lines_of t)) (some_same fits.node d (sym fits.named ∙ found.named)) fits.lines
@@ -137,7 +137,7 @@ module _ (p : Program) (t : Listing) (c : IsChecked p) (fits : FitsProgram p t) 
       };
     };
     within = q.so.within;
-    node = ap (slice_get (nodes_of p)) (k ∙ found.behind_nodes) ∙ found.node;
+    node = ap (slice_get (nodes_of p)) (k ∙ from_first m.number found.number found.behind_nodes) ∙ found.node;
     breaks = λ k. refl;
     lawful = refl;
     values = subst (λ vs. AllByRecursion (λ v. (u : ℕ) → value_of names r.value [] v.name.text u ≡ entry q.frame v.name.text u) vs)

@@ -93,6 +93,9 @@ first_none k j x (declared_node n ∷ ds) e = go (bytes_eq x n.name.text) e (fir
     go true e r = absurd (none_some (here k j n) e)
     go false e r = r e
 
+pub from_first : (a b : ℕ) → a ≡ 0 + b → a ≡ b
+from_first a b e = omega (arith, e)
+
 pub declared_there : (ns : List Component) (k : ℕ) (d : Component) → slice_get ns k ≡ Some d → Contains ns d
 declared_there [] k d e = absurd (none_some d e)
 declared_there (n ∷ ns) zero d e = (zero, omega arith, some_same n d e)

@@ -11,7 +11,6 @@ mod names;
 mod replaying;
 mod shapes;
 mod slots;
-mod told;
 
 pub use answer::Replay;
 pub use fault::ReplayFault;

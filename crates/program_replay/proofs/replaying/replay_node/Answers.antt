@@ -28,22 +28,8 @@ name_table-requires c =
     let t = trace_view c.args.trace.now in
     let m = named_view c.args.named in
     record {
-      checked = subst IsChecked (sym c.program.ensures.same) c.program.ensures.rules;
-      declared = subst (λ p. Contains (components p) m.node) (sym c.program.ensures.same) (node_declared p t.node m (sym c.requires.found));
-    }
-
-pub replay_slots-requires : goal.replay_slots-requires
-replay_slots-requires c =
-    let p = tree_of c.args.checked.now in
-    let t = trace_view c.args.trace.now in
-    let m = named_view c.args.named in
-    record {
-      checked = subst IsChecked (sym c.program.ensures.same) c.program.ensures.rules;
-      declared = subst (λ p. Contains (components p) m.node) (sym c.program.ensures.same) (node_declared p t.node m (sym c.requires.found));
-      small = subst (λ (p : Program). width (instance_of p m.node) < 20001) (sym c.program.ensures.same)
-          (node_small p t.node m (sym c.requires.found) c.program.ensures.within);
-      listed = subst (λ p. (k n : ℕ) → fitted_at c.args.fitted k n ≡ given_at (instance_of p m.node) (lines_of t) k n) (sym c.program.ensures.same)
-          c.requires.listed;
+      checked = subst IsChecked (sym c.program-program.ensures.same) c.program-program.ensures.rules;
+      declared = subst (λ p. Contains (components p) m.node) (sym c.program-program.ensures.same) (node_declared p t.node m (sym c.requires.found));
     }
 
 pub invariant_of-result : goal.invariant_of-result
@@ -51,7 +37,7 @@ invariant_of-result c =
     let p = tree_of c.args.checked.now in
     let t = trace_view c.args.trace.now in
     let m = named_view c.args.named in
-    let small : width (instance_of p m.node) < 20001 = node_small p t.node m (sym c.requires.found) c.program.ensures.within in
+    let small : width (instance_of p m.node) < 20001 = node_small p t.node m (sym c.requires.found) c.program-program.ensures.within in
     let few : length (names_of (variables m.node)) < width (instance_of p m.node) =
         subst (λ n. length (names_of (variables n)) < width (instance_of p m.node)) (component_called p m.node) (few_names (instance_of p m.node)) in
     let same : length c.in_ok-names.names ≡ length (names_of (variables m.node)) = ap length c.in_ok-names.ensures in
@@ -63,20 +49,10 @@ returns c =
     let t = trace_view c.args.trace.now in
     let m = named_view c.args.named in
     record {
-      shows = trace_shown p t c.program.ensures.rules c.requires.fits m (sym c.requires.found) c.replays_tell_frames.ensures.answered c.stands_at_root.ensures
+      shows = trace_shown p t c.program-program.ensures.rules c.requires.fits m (sym c.requires.found) c.replays_tell_frames.ensures.answered c.stands_at_root.ensures
           c.own_variables_stand.ensures (replayed_view c.in_ok-replayed.replayed)
-          (subst (λ p. ShowsSlots (instance_of p m.node) (lines_of t) t.length (AreNamedParts (tree_of c.args.checked.now) t.node)
-          (replayed_view c.in_ok-replayed.replayed)) c.program.ensures.same c.in_ok-replayed.ensures.shown)
+          c.in_ok-replayed.ensures.shown
           c.in_ok-names.names c.in_ok-names.ensures c.in_ok-node.node c.in_ok-node.ensures;
       fault = tt;
     }
 
-pub returns-in_err-replayed : goal.returns-in_err-replayed
-returns-in_err-replayed c =
-    let p = tree_of c.args.checked.now in
-    let t = trace_view c.args.trace.now in
-    let m = named_view c.args.named in
-    record {
-      shows = tt;
-      fault = ?;
-    }

@@ -22,37 +22,37 @@ evaluation-requires c =
     let p = tree_of c.args.self.now.checked.now in
     let x = c.args.self.now.name.now in
     let m = named_view c.in-Some.named in
-    let e : numbers_from 0 0 x p ≡ Some m = subst (λ p. numbers_from 0 0 x p ≡ Some m) c.program.ensures.same (sym c.in-Some.ensures) in
+    let e : numbers_from 0 0 x p ≡ Some m = subst (λ p. numbers_from 0 0 x p ≡ Some m) c.program-program.ensures.same (sym c.in-Some.ensures) in
     place_below (components p) m.place m.node (node_place p x m e)
 
 pub resolved-requires : goal.resolved-requires
 resolved-requires c =
-    let q = program_view c.program.result.now in
+    let q = program_view c.program-program.result.now in
     let x = c.args.self.now.name.now in
     let m = named_view c.in-Some.named in
     let e : numbers_from 0 0 x q ≡ Some m = sym c.in-Some.ensures in
-    let f : numbers_from 0 0 x (tree_of c.args.self.now.checked.now) ≡ Some m = subst (λ p. numbers_from 0 0 x p ≡ Some m) c.program.ensures.same e in
+    let f : numbers_from 0 0 x (tree_of c.args.self.now.checked.now) ≡ Some m = subst (λ p. numbers_from 0 0 x p ≡ Some m) c.program-program.ensures.same e in
     record {
-      checked = subst IsChecked (sym c.program.ensures.same) c.program.ensures.rules;
+      checked = subst IsChecked (sym c.program-program.ensures.same) c.program-program.ensures.rules;
       declared = node_declared q x m e;
-      small = subst (λ (p : Program). width (instance_of p m.node) < 20001) (sym c.program.ensures.same)
-          (node_small (tree_of c.args.self.now.checked.now) x m f c.program.ensures.within);
+      small = subst (λ (p : Program). width (instance_of p m.node) < 20001) (sym c.program-program.ensures.same)
+          (node_small (tree_of c.args.self.now.checked.now) x m f c.program-program.ensures.within);
     }
 
-pub returns-in_Some : goal.returns-in_Some
-returns-in_Some c =
+pub returns-in_ok-parts-in-Some : goal.returns-in_ok-parts-in-Some
+returns-in_ok-parts-in-Some c =
     let p = tree_of c.args.self.now.checked.now in
     let x = c.args.self.now.name.now in
     let m = named_view c.in-Some.named in
-    let e : numbers_from 0 0 x p ≡ Some m = subst (λ p. numbers_from 0 0 x p ≡ Some m) c.program.ensures.same (sym c.in-Some.ensures) in
+    let e : numbers_from 0 0 x p ≡ Some m = subst (λ p. numbers_from 0 0 x p ≡ Some m) c.program-program.ensures.same (sym c.in-Some.ensures) in
     let qs = parts_view c.deref.result.now in
     let ev : OfDeclaration p m.place (λ i. IsEvaluation i qs) =
-        subst (λ xs. OfDeclaration p m.place (λ i. IsEvaluation i (parts_view xs))) (sym c.deref.ensures.value) c.in_ok-parts.ensures in
+        subst (λ xs. OfDeclaration p m.place (λ i. IsEvaluation i (parts_view xs))) (sym c.deref.ensures.value) c.in_ok-parts-in-Some.ensures in
     parts_named p x m e c.resolved.result
-    (parts_declared p (program_view c.program.result.now) c.program.ensures.same m.place m.node (node_place p x m e) qs ev c.resolved.result c.resolved.ensures.exact)
+    (parts_declared p (program_view c.program-program.result.now) c.program-program.ensures.same m.place m.node (node_place p x m e) qs ev c.resolved.result c.resolved.ensures.exact)
 
-pub returns-in_None : goal.returns-in_None
-returns-in_None c =
+pub returns-in-None : goal.returns-in-None
+returns-in-None c =
     let p = tree_of c.args.self.now.checked.now in
     let x = c.args.self.now.name.now in
-    no_parts p x (subst (λ p. None ≡ numbers_from 0 0 x p) c.program.ensures.same c.in-None.ensures) _
+    no_parts p x (subst (λ p. None ≡ numbers_from 0 0 x p) c.program-program.ensures.same c.in-None.ensures) _
