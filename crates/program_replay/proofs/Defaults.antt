@@ -1,5 +1,5 @@
 -- What is listed is no default.
-use Rattle.std.proofs.Common.{◌≡◌, refl, sym}
+use Rattle.std.proofs.Common.{◌≡◌, refl}
 use Rattle.kind_num.specs.declared.Shape.{Shape}
 use Rattle.kind_num.specs.declared.Shape.TheVariants.{Flag, Number}
 use Rattle.lus_meaning.specs.CodeValue.{value_view}

@@ -1,18 +1,17 @@
 -- What is told or shown of slots is so of the one frame of the trace.
-use Rattle.std.proofs.Common.{◌≡◌, ℕ, zero, suc, ◌+◌, ◌<◌, Bool, List, [], ◌∷◌, Option, Some, None, slice_get, refl, sym, ap, ◌∙◌, subst, arith}
+use Rattle.std.proofs.Common.{◌≡◌, ℕ, ◌<◌, List, [], ◌∷◌, Some, None, slice_get, refl, sym, ap, ◌∙◌, subst}
 use Rattle.std.specs.Prelude.{Contains}
 use Rattle.std.specs.List.{AllByRecursion}
 use Rattle.lus_tree.specs.Lookup.{nodes_of}
 use Rattle.lus_tree.specs.Tree.{Name, Variable, Component, Program}
 use Rattle.lus_meaning.specs.ClockFaults.{components}
-use Rattle.lus_meaning.specs.Fits.{FitsInstance, FitsProgram, first_failed, first_named, misfit, node_tests}
-use Rattle.lus_meaning.specs.Frame.{Frame, entry}
+use Rattle.lus_meaning.specs.Fits.{FitsInstance, FitsProgram, first_failed, misfit, node_tests}
+use Rattle.lus_meaning.specs.Frame.{entry}
 use Rattle.lus_meaning.specs.Program.{instance_of}
 use Rattle.lus_meaning.specs.Refusals.{IsChecked, IsWithinLimits}
 use Rattle.lus_meaning.specs.Replay.{frame_on}
 use Rattle.lus_meaning.specs.Scene.{Instance, component_of, plain, variables}
 use Rattle.lus_meaning.specs.Slots.{width}
-use Rattle.lus_meaning.specs.Trace.{BareLine}
 use Rattle.lus_meaning.specs.TraceView.{Listing, lines_of}
 use Rattle.lus_layouts.proofs.Fits.{nodes_fit}
 use Rattle.lus_limits.proofs.Instances.{component_called}

@@ -1,12 +1,12 @@
 -- The numbers of the node that a trace names.
-use Rattle.std.proofs.Common.{◌≡◌, ℕ, zero, suc, ◌+◌, ◌<◌, Bool, true, false, cond, List, [], ◌∷◌, length, Option, Some, None, slice_get, refl, sym, ap, ◌∙◌, arith, subst}
+use Rattle.std.proofs.Common.{◌≡◌, ℕ, zero, suc, ◌+◌, ◌<◌, Bool, true, false, cond, List, [], ◌∷◌, length, Some, None, slice_get, refl, ap, arith}
 use Rattle.std.specs.Prelude.{Contains}
 use Rattle.std.specs.Str.{bytes_eq}
 use Rattle.lus_tree.specs.Tree.{Name, Component, Program, declared_constant, declared_node, declared_contract}
 use Rattle.lus_tree.specs.Lookup.{nodes_of}
 use Rattle.lus_meaning.specs.ClockFaults.{components}
 use Rattle.lus_meaning.specs.Fits.{first_named}
-use Rattle.program_replay.specs.Named.{Numbered, IsNumbered, numbers_from}
+use Rattle.program_replay.specs.Named.{Numbered, numbers_from}
 
 none_some : {A : Type 0} (x : A) → None ≡ Some x → ⊥
 none_some x e = cc

@@ -1,10 +1,9 @@
 -- There are fewer names than slots.
-use Rattle.std.proofs.Common.{◌≡◌, ℕ, ◌<◌, ◌+◌, suc, List, [], ◌∷◌, ◌++◌, length, map, ap, arith, length-append}
-use Rattle.lus_tree.specs.Tree.{Variable}
+use Rattle.std.proofs.Common.{◌≡◌, ◌<◌, ◌+◌, suc, List, [], ◌++◌, length, map, ap, arith, length-append}
 use Rattle.lus_meaning.specs.Occurrences.{memories, starts}
 use Rattle.lus_meaning.specs.Program.{in_order}
 use Rattle.lus_meaning.specs.Scene.{Instance, instance, component_of, plain, variables}
-use Rattle.lus_meaning.specs.Slots.{Cell, beat_cell, name_cell, memory_cell, start_cell, contract_cells, own_cells, call_slots, slot, slots, width}
+use Rattle.lus_meaning.specs.Slots.{Cell, name_cell, memory_cell, start_cell, contract_cells, own_cells, call_slots, slot, width}
 use Rattle.lus_meaning.proofs.Exists.{length_mapped}
 use Rattle.lus_streams.specs.Streams.{names_of}
 

@@ -1,11 +1,11 @@
 -- The names of a node by the slots of its table.
-use Rattle.std.proofs.Common.{◌≡◌, ℕ, zero, suc, ◌+◌, ◌<◌, Bool, true, false, cond, ◌||◌, List, [], ◌∷◌, map, refl, sym, ap, ◌∙◌, subst, arith}
+use Rattle.std.proofs.Common.{◌≡◌, ℕ, suc, ◌+◌, Bool, true, false, cond, ◌||◌, List, [], ◌∷◌, refl, sym, ap, ◌∙◌, arith}
 use Rattle.std.specs.List.{AllByRecursion}
 use Rattle.std.specs.Str.{bytes_eq}
 use Rattle.std.proofs.lemmas.Bool.{false≢true}
-use Rattle.lus_tree.specs.Tree.{Name, Variable, Component, Program}
+use Rattle.lus_tree.specs.Tree.{Name, Variable}
 use Rattle.lus_meaning.specs.Depends.{named_in}
-use Rattle.lus_meaning.specs.Value.{Stream, Value, absent}
+use Rattle.lus_meaning.specs.Value.{Stream, absent}
 use Rattle.lus_streams.specs.Streams.{names_of}
 use Rattle.name_table.specs.Names.{number_of}
 use Rattle.name_table.proofs.Names.{itself}

@@ -1,5 +1,5 @@
 -- What the replay of a trace answers.
-use Rattle.std.specs.Prelude.{◌≡◌, ℕ, suc, cond, List, [], ◌∷◌, map, Option, Some, slice_get}
+use Rattle.std.specs.Prelude.{◌≡◌, ℕ, suc, cond, List, [], ◌∷◌, Option, Some, slice_get}
 use Rattle.std.specs.List.{AllByRecursion}
 use Rattle.lus_tree.specs.Lookup.{nodes_of}
 use Rattle.lus_tree.specs.Tree.{Name, Program}
@@ -8,7 +8,7 @@ use Rattle.lus_meaning.specs.Program.{instance_of}
 use Rattle.lus_meaning.specs.Replay.{ReplaysTrace, Shown}
 use Rattle.lus_meaning.specs.Scene.{component_of, variables}
 use Rattle.lus_meaning.specs.TraceView.{Listing}
-use Rattle.lus_meaning.specs.Value.{Stream, Value, absent}
+use Rattle.lus_meaning.specs.Value.{Stream, absent}
 use Rattle.lus_evaluation.specs.Outcome.{StaysWithin}
 use Rattle.name_table.specs.Names.{number_of}
 use Rattle.slot_replay.specs.Shown.{replayed_view}

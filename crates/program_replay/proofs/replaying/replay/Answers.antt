@@ -1,4 +1,4 @@
-use Rattle.std.proofs.Common.{rules, ◌≡◌, ℕ, Some, None, sym, ap, ◌∙◌, subst}
+use Rattle.std.proofs.Common.{rules, ◌≡◌, ℕ, Some, None, sym, subst}
 use Rattle.lus_checked.specs.Program.{tree_of}
 use Rattle.lus_tree.specs.View.{program_view}
 use Rattle.lus_meaning.specs.Fits.{FitsProgram}

@@ -1,16 +1,12 @@
-use Rattle.std.proofs.Common.{◌≡◌, ◌<◌, ℕ, sym, ap, ◌∙◌, subst, arith}
-use Rattle.std.specs.Prelude.{Contains, length}
+use Rattle.std.proofs.Common.{◌≡◌, ◌<◌, ℕ, sym, subst}
+use Rattle.std.specs.Prelude.{Contains}
 use Rattle.lus_checked.specs.Program.{tree_of}
 use Rattle.lus_tree.specs.Tree.{Program}
-use Rattle.lus_tree.specs.View.{program_view}
 use Rattle.lus_meaning.specs.ClockFaults.{components}
 use Rattle.lus_meaning.specs.Program.{instance_of}
 use Rattle.lus_meaning.specs.Refusals.{IsChecked}
-use Rattle.lus_meaning.specs.Scene.{variables}
 use Rattle.lus_meaning.specs.Slots.{width}
 use Rattle.lus_meaning.specs.TraceView.{lines_of, trace_view}
-use Rattle.lus_limits.proofs.Instances.{component_called}
-use Rattle.lus_streams.specs.Streams.{names_of}
 use Rattle.slot_replay.specs.Shown.{replayed_view}
 use Rattle.trace_fits.specs.Given.{given_at}
 use Rattle.trace_fits.specs.Views.{fitted_at}
@@ -18,8 +14,7 @@ use Rattle.program_replay.specs.Faults.{IsFault}
 use Rattle.program_replay.specs.Instants.{AreNamedParts}
 use Rattle.program_replay.specs.NamedView.{named_view}
 use Rattle.program_replay.specs.Slots.{ShowsSlots, TellsSlots}
-use Rattle.program_replay.proofs.Joined.{fault_told, node_declared, node_small, trace_shown}
-use Rattle.program_replay.proofs.Room.{few_names}
+use Rattle.program_replay.proofs.Joined.{fault_told, node_declared, node_small}
 use Rattle.program_replay.proofs.replaying.replayed.Goals as goal
 
 pub replay_slots-requires : goal.replay_slots-requires

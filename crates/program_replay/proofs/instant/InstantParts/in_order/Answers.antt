@@ -1,5 +1,4 @@
-use Rattle.std.proofs.Common.{rules, ◌≡◌, ◌<◌, Some, None, ap, ◌∙◌, sym, subst, List, map}
-use Rattle.std.specs.Prelude.{Contains}
+use Rattle.std.proofs.Common.{◌≡◌, ◌<◌, Some, None, sym, subst}
 use Rattle.lus_tree.specs.View.{program_view}
 use Rattle.lus_tree.specs.Tree.{Program}
 use Rattle.lus_checked.specs.Program.{tree_of}
