@@ -21,7 +21,6 @@ some_same x y e = cc
 none_some : {A : Type 0} (x : A) → None ≡ Some x → ⊥
 none_some x e = cc
 
-
 pub parts_declared : {E : Type 0} (p q : Program) → q ≡ p → (k : ℕ) (d : Component) → slice_get (components p) k ≡ Some d → (qs : List Part)
     → OfDeclaration p k (λ i. IsEvaluation i qs) → (r : Result (Vec PartAt Global) E)
     → IfOk r (λ v. map part_view v.items ≡ map (over_slots (instance_of q d)) qs) → IfOk r (λ v. AreDeclaredParts p k (map part_view v.items))

@@ -92,9 +92,9 @@ module _ (p : Program) (t : Listing) (c : IsChecked p) (fits : FitsProgram p t) 
   fault_told told (slots.Past at u past) h =
       let x = h.is_table in
       let moved : IsToldOf (seen_in h.table) (conditions_over i) (AreDeclaredParts p m.place) t.length u (record { at = at; past = past }) =
-          record { parts = h.told.parts; are_parts = named_declared h.told.parts h.told.are_parts; told = h.told.told } in
+      record { parts = h.told.parts; are_parts = named_declared h.told.parts h.told.are_parts; told = h.told.told } in
       let q = told p m.place d (lines_of t) t.length x.choices x.order (replayable h.table x) u (record { at = at; past = past })
-          (subst (λ table. IsToldOf (seen_in table) (conditions_over i) (AreDeclaredParts p m.place) t.length u (record { at = at; past = past })) x.filled moved)
+      (subst (λ table. IsToldOf (seen_in table) (conditions_over i) (AreDeclaredParts p m.place) t.length u (record { at = at; past = past })) x.filled moved)
       in (
         fits,
         record {
@@ -151,7 +151,6 @@ module _ (p : Program) (t : Listing) (c : IsChecked p) (fits : FitsProgram p t) 
 
       moved : Says r (rows x.choices (sources_of i) x.order t.length)
       moved = subst (Says r) x.filled (gone, h.breaks, h.lawful)
-
 
       q : OfOneFrame (lines_of t) i t.length (λ f. IsShown i f t.length (value_in (rows x.choices (sources_of i) x.order t.length)) r.breaks r.lawful)
       q = answered p m.place d (lines_of t) t.length x.choices x.order (replayable h.table x) moved.0 r.breaks r.lawful moved.1 moved.2

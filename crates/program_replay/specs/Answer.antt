@@ -13,7 +13,6 @@ use Rattle.lus_evaluation.specs.Outcome.{StaysWithin}
 use Rattle.name_table.specs.Names.{number_of}
 use Rattle.slot_replay.specs.Shown.{replayed_view}
 use Rattle.program_replay.specs.declared.answer.Replay.{Replay as CodeReplay}
-
 pub use Rattle.program_replay.specs.Faults.{IsFault, MeetsPastOf}
 
 -- At which instant each property breaks, how many instants are lawful, and what each name has in the frame at the end of a way of calls, as far as that is

@@ -45,11 +45,7 @@ fn slot_order(alloc: Global, sources: &[Source]) -> Result<Vec<usize>, AllocErro
 }
 
 /// The conditions of a declaration over its slots.
-fn conditions(
-    alloc: Global,
-    program: &Program,
-    node: Owner<'_>,
-) -> Result<Conditions, AllocError>
+fn conditions(alloc: Global, program: &Program, node: Owner<'_>) -> Result<Conditions, AllocError>
     requires checked { IsChecked (program_view program.now) }
     requires declared { Contains (components (program_view program.now)) (owner_view node) }
     requires small { width (instance_of (program_view program.now) (owner_view node)) < 20001 }

@@ -32,7 +32,7 @@ invariant_of-result c =
     let m = named_view c.args.named in
     let small : width (instance_of p m.node) < 20001 = node_small p t.node m (sym c.requires.found) c.program-program.ensures.within in
     let few : length (names_of (variables m.node)) < width (instance_of p m.node) =
-        subst (λ n. length (names_of (variables n)) < width (instance_of p m.node)) (component_called p m.node) (few_names (instance_of p m.node)) in
+    subst (λ n. length (names_of (variables n)) < width (instance_of p m.node)) (component_called p m.node) (few_names (instance_of p m.node)) in
     let same : length c.in_ok-names.names ≡ length (names_of (variables m.node)) = ap length c.in_ok-names.ensures in
     omega (arith, small, few, same)
 
@@ -48,4 +48,3 @@ returns c =
           c.in_ok-names.names c.in_ok-names.ensures c.in_ok-node.node c.in_ok-node.ensures;
       fault = tt;
     }
-

@@ -29,8 +29,8 @@ returns g c =
     let es = map source_view c.deref-2.result.now in
     let s : es ≡ sources_of i = ap (map source_view) c.deref-2.ensures.value ∙ c.in_ok-sources.ensures.exact in
     let o : IsSlotOrder es c.deref-3.result.now =
-        subst (λ ks. IsSlotOrder es ks) (sym c.deref-3.ensures.value)
-        (subst (λ xs. IsSlotOrder (map source_view xs) c.in_ok-order.order.items) (c.deref.ensures.value ∙ sym c.deref-2.ensures.value) c.in_ok-order.ensures) in
+    subst (λ ks. IsSlotOrder es ks) (sym c.deref-3.ensures.value)
+    (subst (λ xs. IsSlotOrder (map source_view xs) c.in_ok-order.order.items) (c.deref.ensures.value ∙ sym c.deref-2.ensures.value) c.in_ok-order.ensures) in
     record {
       shown = shown i ls t.length cs h es s c.deref-3.result.now o (conditions_view c.in_ok-conditions.conditions) c.in_ok-conditions.ensures _ c.replay.result
           c.replay.ensures.going_on c.replay.ensures.breaks c.replay.ensures.lawful c.replay.ensures.value;

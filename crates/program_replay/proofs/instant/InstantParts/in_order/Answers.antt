@@ -46,7 +46,7 @@ returns-in_ok-parts-in-Some c =
     let e : numbers_from 0 0 x p ≡ Some m = subst (λ p. numbers_from 0 0 x p ≡ Some m) c.program-program.ensures.same (sym c.in-Some.ensures) in
     let qs = parts_view c.deref.result.now in
     let ev : OfDeclaration p m.place (λ i. IsEvaluation i qs) =
-        subst (λ xs. OfDeclaration p m.place (λ i. IsEvaluation i (parts_view xs))) (sym c.deref.ensures.value) c.in_ok-parts-in-Some.ensures in
+    subst (λ xs. OfDeclaration p m.place (λ i. IsEvaluation i (parts_view xs))) (sym c.deref.ensures.value) c.in_ok-parts-in-Some.ensures in
     parts_named p x m e c.resolved.result
     (parts_declared p (program_view c.program-program.result.now) c.program-program.ensures.same m.place m.node (node_place p x m e) qs ev c.resolved.result c.resolved.ensures.exact)
 
