@@ -4,7 +4,7 @@ ghost use Rattle.lus_checked.specs.Program.{tree_of};
 ghost use Rattle.program_replay.specs.Instants.{AreNamedParts};
 
 use crate::named::find_named;
-use evaluation_order::evaluation;
+use evaluation_order::evaluation::evaluation;
 use lus_checked::Checked;
 use lus_streams::owner::Owner;
 use part_resolver::resolved;
