@@ -7,3 +7,4 @@ pub mod Own
 pub mod Streams
 pub mod Closing
 pub mod Found
+pub mod Evaluated

@@ -2,6 +2,7 @@
 #![tactic(auto)]
 
 mod caller_needs;
+pub mod evaluation;
 mod givers;
 mod needs_graph;
 mod next;

@@ -3,6 +3,6 @@
 #![tactic(auto)]
 
 mod links;
-mod named;
-mod sources;
+pub mod named;
+pub mod sources;
 pub mod turns;

@@ -11,7 +11,7 @@ use sys_tables::table::Table;
 
 /// What is known of a declaration, and its streams by name.
 #[derive(Drop)]
-pub(crate) struct Source<'a, 't> {
+pub struct Source<'a, 't> {
     pub(crate) table: &'t Table<'a>,
     pub(crate) streams: Streams<'a>,
     ghost named: { streams.numbers ≡ names_of (params_view streams.firsts.items) },

@@ -26,7 +26,11 @@ fn with_streams_of<'a, 't>(
 }
 
 /// The streams of declarations beside what is known of these.
-pub(crate) fn sources_of<'a, 't>(
+///
+/// # Errors
+///
+/// Want of memory.
+pub fn sources_of<'a, 't>(
     alloc: Global,
     tables: &'t [Table<'a>],
 ) -> Result<Vec<Source<'a, 't>>, AllocError>
@@ -54,7 +58,11 @@ fn declared<'a, 's>(
 }
 
 /// Declarations with their streams and their calls.
-pub(crate) fn all_declared<'a, 's>(
+///
+/// # Errors
+///
+/// Want of memory.
+pub fn all_declared<'a, 's>(
     alloc: Global,
     sources: &'s [Source<'a, '_>],
 ) -> Result<Vec<Declared<'a, 's>>, AllocError>
