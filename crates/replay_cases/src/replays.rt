@@ -21,11 +21,7 @@ fn listing(alloc: Global, bytes: &[u8]) -> Result<Trace, ReplayFault>
     }
 }
 
-fn replayed(
-    alloc: Global,
-    checked: &Checked,
-    bytes: &[u8],
-) -> Result<(Replay, u32), ReplayFault>
+fn replayed(alloc: Global, checked: &Checked, bytes: &[u8]) -> Result<(Replay, u32), ReplayFault>
     requires { length bytes.now ≤ 1048576 }
 {
     let trace = listing(alloc, bytes)?;
