@@ -1,5 +1,5 @@
 -- The parts that are found for a part are those for which it waits.
-use Rattle.std.proofs.Common.{◌≡◌, ◌∙◌, ℕ, zero, suc, ◌<◌, ◌≤◌, ◌+◌, Bool, true, false, cond, ◌&&◌, ◌||◌, eqb, List, [], ◌∷◌, ◌++◌, map, flat_map, length, Option, Some, None, option_to_list, slice_get, refl, ap, sym, subst, arith, length-append}
+use Rattle.std.proofs.Common.{◌≡◌, ◌∙◌, ℕ, zero, suc, ◌<◌, ◌+◌, Bool, true, false, cond, ◌&&◌, ◌||◌, List, [], ◌∷◌, map, length, Option, Some, None, option_to_list, slice_get, refl, ap, sym, subst, arith, length-append}
 use Rattle.std.specs.Prelude.{position}
 use Rattle.std.specs.List.{position_from}
 use Rattle.std.specs.Str.{bytes_eq}
@@ -18,14 +18,13 @@ use Rattle.lus_meaning.proofs.Exists.{self_bytes, length_mapped}
 use Rattle.lus_meaning.proofs.Unique.{same_bytes}
 use Rattle.clock_laws.proofs.Reaching.{in_either}
 use Rattle.sys_meaning.proofs.Shows.{same_ways}
-use Rattle.sys_meaning.proofs.Tracing.{self_way}
 use Rattle.lus_evaluation.specs.Part.{Part}
 use Rattle.lus_evaluation.specs.Evaluation.{is_above, gives_name, place_named, NeedsPlace, Waits}
 use Rattle.evaluation_laws.proofs.Waiting.{both, both_true}
-use Rattle.number_graphs.specs.Graphs.{Rows, is_marked, LeadsTo, AreReached}
+use Rattle.number_graphs.specs.Graphs.{is_marked, LeadsTo, AreReached}
 use Rattle.evaluation_order.specs.Numbered.{number_of, HaveAll, place_rows, part_rows, need_rows, numbers_of, next_of}
 use Rattle.evaluation_order.specs.Givers.{Giver, is_number, is_first, giver, giver_of, givers_of, givers_from, given_above, AreWaited}
-use Rattle.evaluation_order.proofs.Lists.{Found, found_at, listed_in, in_listed, in_flat, flat_in, in_option, option_in}
+use Rattle.evaluation_order.proofs.Lists.{Found, found_at, listed_in, in_listed, in_flat, flat_in}
 use Rattle.evaluation_order.proofs.Numbered.{place_at, led_needed, needed_led, needed_numbered}
 
 -- ---- lists

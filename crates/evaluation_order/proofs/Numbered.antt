@@ -1,13 +1,12 @@
 -- The places to which a part leads in the graph are those that its whole needs.
-use Rattle.std.proofs.Common.{◌≡◌, ◌∙◌, ℕ, zero, suc, ◌<◌, ◌≤◌, ◌+◌, Bool, true, false, ◌&&◌, List, [], ◌∷◌, ◌++◌, map, length, Option, Some, None, slice_get, refl, ap, sym, subst, arith, append_assoc}
+use Rattle.std.proofs.Common.{◌≡◌, ◌∙◌, ℕ, zero, suc, ◌+◌, true, List, [], ◌∷◌, ◌++◌, length, Option, Some, None, slice_get, refl, ap, sym, subst, arith, append_assoc}
 use Rattle.std.specs.Prelude.{is_some, option_to_list}
-use Rattle.std.specs.List.{AllByRecursion, position_from}
-use Rattle.std.specs.Str.{bytes_eq}
-use Rattle.std.proofs.Math.Logic.{◌⊎◌, inl, inr}
+use Rattle.std.specs.List.{AllByRecursion}
+use Rattle.std.proofs.Math.Logic.{inl, inr}
 use Rattle.std.proofs.lemmas.Bool.{false≢true}
 use Rattle.std.proofs.lemmas.Option.{none-some, same_Some}
 use Rattle.lus_tree.specs.Tree.{Name}
-use Rattle.lus_meaning.specs.Cycle.{Place, next_places, IsAt, IsWay, last_place}
+use Rattle.lus_meaning.specs.Cycle.{Place, IsAt, IsWay, last_place}
 use Rattle.lus_meaning.specs.Order.{is_listed}
 use Rattle.lus_meaning.specs.Scene.{Instance}
 use Rattle.lus_meaning.specs.Trace.{same_numbers}
@@ -21,8 +20,8 @@ use Rattle.sys_meaning.proofs.Tracing.{self_way}
 use Rattle.lus_evaluation.specs.Part.{Part}
 use Rattle.lus_evaluation.specs.Evaluation.{NeedsPlace}
 use Rattle.evaluation_laws.proofs.Waiting.{both, both_true}
-use Rattle.number_graphs.specs.Graphs.{Rows, row_at, leads, IsPath, end_of, LeadsTo}
-use Rattle.evaluation_order.specs.Numbered.{same_name, same_place, number_of, numbers_of, where_new, met, met_all, AreAmong, next_of, HaveAll, place_rows, part_rows, need_rows}
+use Rattle.number_graphs.specs.Graphs.{Rows, row_at, IsPath, end_of, LeadsTo}
+use Rattle.evaluation_order.specs.Numbered.{same_name, same_place, number_of, numbers_of, where_new, met, met_all, AreAmong, next_of, HaveAll, part_rows, need_rows}
 use Rattle.evaluation_order.proofs.Lists.{Found, found_at, kept_before, found_last, some_number, number_some, listed_in, in_listed, in_flat, flat_in, in_option, option_in, row_before, row_behind}
 
 -- ---- places

@@ -1,10 +1,10 @@
 -- The least order of the parts by the rows that say for which each waits.
-use Rattle.std.proofs.Common.{◌≡◌, ◌∙◌, ℕ, zero, suc, ◌<◌, ◌≤◌, Bool, true, false, ◌||◌, eqb, List, [], ◌∷◌, ◌++◌, length, refl, ap, sym, subst}
+use Rattle.std.proofs.Common.{◌≡◌, ◌∙◌, ℕ, ◌<◌, Bool, true, false, ◌||◌, eqb, List, [], ◌∷◌, ◌++◌, length, refl, sym, subst}
 use Rattle.std.specs.List.{AllByRecursion}
 use Rattle.std.proofs.Math.Logic.{◌⊎◌, inl, inr}
 use Rattle.std.proofs.lemmas.Bool.{true≢false, false≢true, cases_Bool, eqb-true, eq-eqb}
 use Rattle.std.proofs.lemmas.List.Folds.{list_any-append}
-use Rattle.lus_meaning.specs.Order.{is_listed, Passes, IsReady, AreReady, IsOrder, IsLeastOrder, IsStuck}
+use Rattle.lus_meaning.specs.Order.{is_listed, Passes, AreReady, IsOrder, IsLeastOrder, IsStuck}
 use Rattle.lus_meaning.specs.Scene.{Instance}
 use Rattle.lus_evaluation.specs.Part.{Part}
 use Rattle.lus_evaluation.specs.Evaluation.{Waits}

@@ -1,5 +1,5 @@
 -- What a name needs of its own frame, by what is pushed one after the other.
-use Rattle.std.proofs.Common.{◌≡◌, refl, ap, sym, ◌∙◌, List, [], ◌∷◌, ◌++◌, flat_map, append_assoc}
+use Rattle.std.proofs.Common.{◌≡◌, ap, sym, ◌∙◌, List, [], ◌∷◌, ◌++◌, flat_map, append_assoc}
 use Rattle.std.proofs.lemmas.Grind.{flat_map-append}
 use Rattle.lus_tree.specs.Tree.{Name, Expression, Statement, ContractStatement, Component}
 use Rattle.lus_meaning.specs.Cycle.{declared_needs, defined_needs, equation_step, own_needs}

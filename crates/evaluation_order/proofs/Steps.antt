@@ -1,5 +1,5 @@
 -- What a place needs in one step, by the calls of an instance that is unfolded.
-use Rattle.std.proofs.Common.{◌≡◌, refl, ap, sym, ◌∙◌, ℕ, zero, suc, pred, ◌≤◌, ◌-◌, List, [], ◌∷◌, ◌++◌, map, length, take, drop, get_or, Option, Some, None, slice_get, append_assoc, arith}
+use Rattle.std.proofs.Common.{◌≡◌, refl, ap, sym, ◌∙◌, ℕ, zero, suc, pred, ◌≤◌, ◌-◌, List, [], ◌∷◌, ◌++◌, map, length, take, drop, get_or, Option, Some, slice_get, append_assoc, arith}
 use Rattle.std.proofs.lemmas.List.{take_all}
 use Rattle.lus_tree.specs.Tree.{Name, Program}
 use Rattle.lus_meaning.specs.Cycle.{Place, at_top, caller_needs, deeper, next_places, next_in_call}

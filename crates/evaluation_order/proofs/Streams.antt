@@ -1,5 +1,5 @@
 -- What a name needs by how it is declared, list by list of streams.
-use Rattle.std.proofs.Common.{◌≡◌, ◌++◌, ◌∙◌, ap, List}
+use Rattle.std.proofs.Common.{◌≡◌, ◌++◌, List}
 use Rattle.std.proofs.lemmas.Grind.{flat_map-append}
 use Rattle.lus_tree.specs.Tree.{Name, Variable}
 use Rattle.evaluation_order.specs.Steps.{stream_needs}

@@ -1,9 +1,9 @@
 -- Which parts give the names that are waited for, and which of them a part waits for.
-use Rattle.std.specs.Prelude.{◌≡◌, ℕ, ◌+◌, ◌<◌, Bool, true, false, cond, ◌&&◌, ◌==◌, List, [], ◌∷◌, ◌++◌, flat_map, map, Option, Some, None, option_to_list, option_map, length}
+use Rattle.std.specs.Prelude.{◌≡◌, ℕ, ◌+◌, Bool, true, false, cond, ◌&&◌, ◌==◌, List, [], ◌∷◌, ◌++◌, flat_map, map, Option, Some, None, option_to_list}
 use Rattle.std.specs.List.{position_from}
 use Rattle.lus_tree.specs.Tree.{Name}
 use Rattle.lus_meaning.specs.Cycle.{Place}
-use Rattle.lus_meaning.specs.Order.{is_listed, IsStuck, IsLeastOrder}
+use Rattle.lus_meaning.specs.Order.{is_listed}
 use Rattle.lus_meaning.specs.Scene.{Instance}
 use Rattle.lus_evaluation.specs.Part.{Part}
 use Rattle.lus_evaluation.specs.Evaluation.{is_above, gives_name, place_named, Waits}

@@ -1,5 +1,5 @@
 -- The parts of an instant in the least order by what each waits for.
-use Rattle.std.specs.Prelude.{◌≡◌, ℕ, List, length, Option, Some, slice_get}
+use Rattle.std.specs.Prelude.{◌≡◌, ℕ, List, length, Some, slice_get}
 use Rattle.lus_meaning.specs.Order.{IsLeastOrder, IsStuck}
 use Rattle.lus_meaning.specs.Scene.{Instance}
 use Rattle.lus_evaluation.specs.Part.{Part}

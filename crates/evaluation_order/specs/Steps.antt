@@ -1,5 +1,5 @@
 -- What a place needs in one step, by the frames on its way.
-use Rattle.std.specs.Prelude.{ℕ, cond, List, [], ◌∷◌, ◌++◌, map, flat_map, Option, Some, None}
+use Rattle.std.specs.Prelude.{ℕ, cond, List, [], ◌++◌, map, flat_map, Option, Some, None}
 use Rattle.std.specs.Str.{bytes_eq}
 use Rattle.lus_tree.specs.Tree.{Name, Variable, Expression}
 use Rattle.lus_meaning.specs.Cycle.{Place, place_of, at_top, caller_needs, deeper, next_places}

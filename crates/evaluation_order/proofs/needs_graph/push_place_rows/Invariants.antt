@@ -1,6 +1,6 @@
 use Rattle.std.proofs.Common.{◌≡◌, ◌++◌, drop}
 use Rattle.number_graphs.specs.Graphs.{graph_view}
-use Rattle.evaluation_parts.specs.PartViews.{parts_view, places_view}
+use Rattle.evaluation_parts.specs.PartViews.{places_view}
 use Rattle.evaluation_parts.specs.Views.{frame_instance}
 use Rattle.evaluation_order.specs.Numbered.{place_rows}
 use Rattle.evaluation_order.proofs.needs_graph.push_place_rows.Given as goal

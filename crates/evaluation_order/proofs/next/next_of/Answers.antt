@@ -1,4 +1,4 @@
-use Rattle.std.proofs.Common.{◌≡◌, ◌++◌, ◌∙◌, [], ap, option_map}
+use Rattle.std.proofs.Common.{◌++◌, ◌∙◌, [], ap, option_map}
 use Rattle.lus_meaning.specs.Cycle.{next_places}
 use Rattle.evaluation_parts.specs.PartViews.{places_view}
 use Rattle.evaluation_parts.specs.Views.{frame_instance}

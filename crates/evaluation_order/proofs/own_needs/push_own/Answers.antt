@@ -1,4 +1,4 @@
-use Rattle.std.proofs.Common.{◌≡◌, ◌++◌, OnOk, map, subst}
+use Rattle.std.proofs.Common.{◌≡◌, OnOk, map, subst}
 use Rattle.lus_tree.specs.View.{contract_item_view, item_view, program_view}
 use Rattle.lus_streams.specs.Names.{names_view}
 use Rattle.evaluation_parts.specs.Needed.{needs_view}

@@ -1,4 +1,4 @@
-use Rattle.std.proofs.Common.{◌≡◌, ◌++◌, OnOk, map, subst}
+use Rattle.std.proofs.Common.{◌≡◌, OnOk, map, subst}
 use Rattle.lus_tree.specs.Tree.{text_of}
 use Rattle.lus_tree.specs.View.{expr_view, program_view, word_view}
 use Rattle.lus_streams.specs.Clocks.{clock_seen}
