@@ -2,20 +2,19 @@
 # Instructions that a replay takes per equation and instant, and the reading of a trace per byte.
 #
 # Run at the top of the repository. Makes nodes of 50 and of 100 equations with four inputs, and
-# traces of 250, 500 and 1,001 instants, and counts the instructions of the program on them, where
-# valgrind is there. The replay of a trace is what a run takes more than on the same trace with a
-# word behind its `end`, which is refused once all its lines are read; the reading is what that run
-# takes more than where the trace has no lines. Ends with status 1 where a replay takes 400
-# instructions or more, does not double with the instants or with the equations, or where the
-# reading takes 60 instructions a byte or more.
+# traces of 1, 250, 500 and 1,001 instants, and counts the instructions of the program on them, where
+# valgrind is there. What is done once, whatever the number of instants, is what a run on one instant
+# takes more than on the same trace with a word behind its `end`, which is refused once all its lines
+# are read; the replay of a trace is what its run takes more than that; the reading is what a refused
+# run takes more than where the trace has no lines. Ends with status 1 where a replay takes 2,000
+# instructions or more for each equation at an instant, does not double with the instants or with the
+# equations, or where the reading takes 60 instructions a byte or more.
 #
 # Behind that the same of programs of 60 and of 120 equations of other kinds: with numbers, on two
 # clocks, with calls (half of them two deep), with calls that run while a condition is true, on a
-# clock that is on once in 1,000 instants, and with modes. What is done once, whatever the number of
-# instants, is what a replay of one instant takes; the replay of a trace is what a run takes more. It
-# may take 2,000 instructions for each equation, with those in callees, or mode at an instant, and is
-# to double with the instants and with the equations. What is done once may grow fourfold where the
-# equations double.
+# clock that is on once in 1,000 instants, and with modes. A replay may take 2,500 instructions for
+# each equation, with those in callees, or mode at an instant, and is to double with the instants and
+# with the equations. What is done once may grow fourfold where the equations double.
 set -eu
 
 top=$(pwd)
@@ -152,28 +151,30 @@ for equations in 50 100; do
     source_of $equations >"$work/source_$equations"
 done
 printf 'trace main 1\nend x\n' >"$work/no_lines"
-for instants in 250 500 1001; do
+for instants in 1 250 500 1001; do
     trace_of $instants "" >"$work/trace_$instants"
     trace_of $instants " x" >"$work/refused_$instants"
 done
 
-echo "equations instants instructions each growth-by-instants growth-by-equations"
+echo "equations instants once instructions each growth-by-instants growth-by-equations"
 for equations in 50 100; do
     earlier=0
+    whole=$(counted "$work/source_$equations" "$work/trace_1")
+    once=$((whole - $(counted "$work/source_$equations" "$work/refused_1")))
     for instants in 250 500 1001; do
         whole=$(counted "$work/source_$equations" "$work/trace_$instants")
         grep -q "^lawful $instants of $instants" "$work/printed"
         read=$(counted "$work/source_$equations" "$work/refused_$instants")
-        count=$((whole - read))
+        count=$((whole - read - once))
         fewer=0
         if [ $equations -eq 100 ]; then fewer=$(cat "$work/replay_$instants"); fi
         echo "$count" >"$work/replay_$instants"
-        awk -v e=$equations -v n=$instants -v c="$count" -v p="$earlier" -v f="$fewer" 'BEGIN {
-            each = c / e / n
+        awk -v e=$equations -v n=$instants -v o="$once" -v c="$count" -v p="$earlier" -v f="$fewer" 'BEGIN {
+            each = c / e / (n - 1)
             by_instants = p ? sprintf("%.3f", c / p) : "-"
             by_equations = f ? sprintf("%.3f", c / f) : "-"
-            printf "%d %d %d %.1f %s %s\n", e, n, c, each, by_instants, by_equations
-            if (each >= 400 || (p && (c / p < 1.8 || c / p > 2.2)) || (f && (c / f < 1.8 || c / f > 2.2))) exit 1
+            printf "%d %d %d %d %.1f %s %s\n", e, n, o, c, each, by_instants, by_equations
+            if (each >= 2000 || (p && (c / p < 1.8 || c / p > 2.2)) || (f && (c / f < 1.8 || c / f > 2.2))) exit 1
         }' || { echo "too slow, or not linear"; exit 1; }
         earlier=$count
     done
@@ -225,7 +226,7 @@ for kind in numbers clocks calls condacts slow modes; do
                 by_equations = f ? sprintf("%.3f", c / f) : "-"
                 of_once = g ? sprintf("%.3f", o / g) : "-"
                 printf "%s %d %d %d %d %.1f %s %s %s\n", k, e, n, o, c, each, by_instants, by_equations, of_once
-                if (each >= 2000 || (p && (c / p < 1.8 || c / p > 2.2)) || (f && (c / f < 1.8 || c / f > 2.2)) || (g && o / g >= 4)) exit 1
+                if (each >= 2500 || (p && (c / p < 1.8 || c / p > 2.2)) || (f && (c / f < 1.8 || c / f > 2.2)) || (g && o / g >= 4)) exit 1
             }' || { echo "too slow, or not linear"; exit 1; }
             earlier=$count
         done
