@@ -5,5 +5,7 @@ pub mod ContractItems
 pub mod Declares
 pub mod Framed
 pub mod Modes
+pub mod Operands
 pub mod Picked
+pub mod There
 pub mod Turns

@@ -1,5 +1,5 @@
 -- The conditions of a contract, one item after the other.
-use Rattle.std.specs.Prelude.{ℕ, List, [], ◌∷◌, ◌++◌, map, flat_map, Option, Some, None}
+use Rattle.std.specs.Prelude.{ℕ, List, [], ◌∷◌, ◌++◌, map, flat_map, Option, option_map, unwrap_or}
 use Rattle.std.specs.Borrow.{Bor}
 use Rattle.lus_tree.specs.Tree.{Name, Labelled, ContractStatement, assume, guarantee, ghost_variable, constant, mode, «import»}
 use Rattle.lus_meaning.specs.Cycle.{Place}
@@ -19,8 +19,7 @@ abbrev pub joint_view : List PartCode → List PartCode → List ModeTextCode �
 joint_view as_ gs ms = record { assumed = parts_view as_; guaranteed = parts_view gs; modes = mode_texts_view ms }
 
 abbrev pub text_or_none : Option (Bor FrameTextCode) → FrameText
-text_or_none None = no_text
-text_or_none (Some t) = frame_text_view t.now
+text_or_none t = unwrap_or (option_map (λ r. frame_text_view r.now) t) no_text
 
 -- what a mode requires, as operands of a whole of these needs
 abbrev pub asked_of : Setting → List Labelled → List Place → List Part

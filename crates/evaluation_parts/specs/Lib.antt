@@ -4,6 +4,7 @@ pub mod Conditions
 pub mod Declares
 pub mod Framed
 pub mod Needed
+pub mod Operands
 pub mod PartViews
 pub mod Texts
 pub mod Turns

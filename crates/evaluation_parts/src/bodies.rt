@@ -14,6 +14,7 @@ ghost use Rattle.evaluation_parts.specs.Texts.{frame_texts_view, setting_view};
 ghost use Rattle.evaluation_parts.specs.Views.{frame_instance};
 
 use crate::frame::Frame;
+use crate::item::item_at;
 use crate::part::{Gives, Part};
 use crate::parts::{push_body, push_whole};
 use crate::setting::Setting;
@@ -106,11 +107,11 @@ fn clock_of_side<'a>(frame: Frame<'a, '_>, gives: Gives<'a>) -> Clock<'a>
 fn push_side<'a>(
     alloc: Global,
     all: &mut Vec<Part<'a>>,
-    setting: Setting<'a, '_, '_>,
+    setting: &Setting<'a, '_, '_>,
     side: Side<'a>,
 ) -> Result<(), AllocError>
     ensures { OnOk result (parts_view all.new.items ≡ parts_view all.old.items
-        ++ equation_parts (setting_view setting.entry) (side_view side.entry)) }
+        ++ equation_parts (setting_view setting.now) (side_view side.entry)) }
 {
     let clock = clock_of_side(setting.frame, side.gives);
     push_whole(alloc, all, setting, side.gives, clock, side.right)?;
@@ -121,18 +122,18 @@ fn push_side<'a>(
 fn side_at<'a>(sides: &[Side<'a>], number: u32) -> Option<Side<'a>>
     ensures { option_map side_view result ≡ slice_get (sides_view sides.now) number }
 {
-    sides.get(number as usize).copied()
+    item_at(sides, number as usize).copied()
 }
 
 /// The parts, and behind them those of an equation, where there is one.
 fn push_side_there<'a>(
     alloc: Global,
     all: &mut Vec<Part<'a>>,
-    setting: Setting<'a, '_, '_>,
+    setting: &Setting<'a, '_, '_>,
     side: Option<Side<'a>>,
 ) -> Result<(), AllocError>
     ensures { OnOk result (parts_view all.new.items ≡ parts_view all.old.items
-        ++ flat_map (equation_parts (setting_view setting.entry)) (option_to_list (option_map side_view side.entry))) }
+        ++ flat_map (equation_parts (setting_view setting.now)) (option_to_list (option_map side_view side.entry))) }
 {
     if let Some(side) = side {
         push_side(alloc, all, setting, side)?;
@@ -145,12 +146,12 @@ fn push_side_there<'a>(
 fn push_sides<'a>(
     alloc: Global,
     all: &mut Vec<Part<'a>>,
-    setting: Setting<'a, '_, '_>,
+    setting: &Setting<'a, '_, '_>,
     sides: &[Side<'a>],
     order: &[u32],
 ) -> Result<(), AllocError>
     ensures { OnOk result (parts_view all.new.items ≡ parts_view all.old.items
-        ++ flat_map (equation_parts (setting_view setting.entry)) (picked order.now (sides_view sides.now))) }
+        ++ flat_map (equation_parts (setting_view setting.now)) (picked order.now (sides_view sides.now))) }
 {
     for number in order {
         push_side_there(alloc, all, setting, side_at(sides, *number))?;
@@ -162,12 +163,12 @@ fn push_sides<'a>(
 pub(crate) fn push_wholes<'a>(
     alloc: Global,
     all: &mut Vec<Part<'a>>,
-    setting: Setting<'a, '_, '_>,
+    setting: &Setting<'a, '_, '_>,
     clock: Clock<'a>,
     values: &'a [Expr],
 ) -> Result<(), AllocError>
     ensures { OnOk result (parts_view all.new.items ≡ parts_view all.old.items
-        ++ wholes (setting_view setting.entry) (clock_seen clock.entry) (exprs_view values.now)) }
+        ++ wholes (setting_view setting.now) (clock_seen clock.entry) (exprs_view values.now)) }
 {
     for value in values {
         push_whole(alloc, all, setting, Gives::Nothing, clock, value)?;
@@ -193,11 +194,11 @@ pub(crate) fn push_called<'a>(
 fn push_import<'a>(
     alloc: Global,
     all: &mut Vec<Part<'a>>,
-    setting: Setting<'a, '_, '_>,
+    setting: &Setting<'a, '_, '_>,
     item: &'a ContractItem,
 ) -> Result<(), AllocError>
     ensures { OnOk result (parts_view all.new.items ≡ parts_view all.old.items
-        ++ import_parts (setting_view setting.entry) (contract_item_view item.now)) }
+        ++ import_parts (setting_view setting.now) (contract_item_view item.now)) }
 {
     if let ContractItem::Import(number, _, arguments, _) = item {
         push_wholes(alloc, all, setting, Clock::Base, arguments)?;
@@ -210,11 +211,11 @@ fn push_import<'a>(
 fn push_imports<'a>(
     alloc: Global,
     all: &mut Vec<Part<'a>>,
-    setting: Setting<'a, '_, '_>,
+    setting: &Setting<'a, '_, '_>,
     items: &'a [ContractItem],
 ) -> Result<(), AllocError>
     ensures { OnOk result (parts_view all.new.items ≡ parts_view all.old.items
-        ++ flat_map (import_parts (setting_view setting.entry)) (map contract_item_view items.now)) }
+        ++ flat_map (import_parts (setting_view setting.now)) (map contract_item_view items.now)) }
 {
     for item in items {
         push_import(alloc, all, setting, item)?;
@@ -225,11 +226,11 @@ fn push_imports<'a>(
 /// What is evaluated in a frame where it is called.
 pub(crate) fn body_of<'a>(
     alloc: Global,
-    setting: Setting<'a, '_, '_>,
+    setting: &Setting<'a, '_, '_>,
     order: &[u32],
 ) -> Result<Vec<Part<'a>>, AllocError>
-    ensures { IfOk result (λ v. parts_view v.items ≡ body_parts (setting_view setting.entry) order.now
-        (component_of (frame_instance setting.entry.frame))) }
+    ensures { IfOk result (λ v. parts_view v.items ≡ body_parts (setting_view setting.now) order.now
+        (component_of (frame_instance setting.now.frame))) }
 {
     let owner = setting.frame.names().owner;
     let sides = sides_of(alloc, owner)?;

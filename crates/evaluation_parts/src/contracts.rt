@@ -11,6 +11,7 @@ ghost use Rattle.evaluation_parts.specs.Texts.{contract_text_view, frame_texts_v
 ghost use Rattle.evaluation_parts.specs.Views.{frame_instance};
 
 use crate::frame::from_zero;
+use crate::item::item_at;
 use crate::part::{Gives, Part, Whole, push_copies};
 use crate::parts::{push_parts, push_whole};
 use crate::setting::Setting;
@@ -21,10 +22,10 @@ use std::alloc::{AllocError, Global};
 
 /// The same place, where these modes may be named.
 pub(crate) fn naming<'a, 't, 's>(
-    setting: Setting<'a, 't, 's>,
+    setting: &Setting<'a, 't, 's>,
     modes: &'s [ModeText<'a>],
 ) -> Setting<'a, 't, 's>
-    ensures { setting_view result ≡ naming setting.entry modes.now }
+    ensures { setting_view result ≡ naming setting.now modes.now }
 {
     Setting {
         frame: setting.frame,
@@ -39,11 +40,11 @@ pub(crate) fn naming<'a, 't, 's>(
 pub(crate) fn push_conditions<'a>(
     alloc: Global,
     all: &mut Vec<Part<'a>>,
-    setting: Setting<'a, '_, '_>,
+    setting: &Setting<'a, '_, '_>,
     conditions: &'a [Named],
 ) -> Result<(), AllocError>
     ensures { OnOk result (parts_view all.new.items ≡ parts_view all.old.items
-        ++ conditions_of (setting_view setting.entry) (map named_view conditions.now)) }
+        ++ conditions_of (setting_view setting.now) (map named_view conditions.now)) }
 {
     for condition in conditions {
         push_whole(
@@ -62,11 +63,11 @@ pub(crate) fn push_conditions<'a>(
 fn push_condition<'a>(
     alloc: Global,
     all: &mut Vec<Part<'a>>,
-    setting: Setting<'a, '_, '_>,
+    setting: &Setting<'a, '_, '_>,
     condition: &'a Named,
 ) -> Result<(), AllocError>
     ensures { OnOk result (parts_view all.new.items ≡ parts_view all.old.items
-        ++ conditions_of (setting_view setting.entry) (named_view condition.now ∷ [])) }
+        ++ conditions_of (setting_view setting.now) (named_view condition.now ∷ [])) }
 {
     push_whole(
         alloc,
@@ -82,11 +83,11 @@ fn push_condition<'a>(
 /// What a mode requires, as operands of a whole that is not known.
 fn asked_by<'a>(
     alloc: Global,
-    setting: Setting<'a, '_, '_>,
+    setting: &Setting<'a, '_, '_>,
     asked: &'a [Named],
 ) -> Result<Vec<Part<'a>>, AllocError>
     ensures { IfOk result (λ v. (ns : List Place) → filled_each ns v.items
-        ≡ asked_of (setting_view setting.entry) (map named_view asked.now) ns) }
+        ≡ asked_of (setting_view setting.now) (map named_view asked.now) ns) }
 {
     let mut all = Vec::new(alloc);
     let whole = Whole { needs: None };
@@ -108,13 +109,13 @@ fn asked_by<'a>(
 fn push_ensure<'a>(
     alloc: Global,
     all: &mut Vec<Part<'a>>,
-    setting: Setting<'a, '_, '_>,
+    setting: &Setting<'a, '_, '_>,
     asked: &'a [Named],
     one: &'a Named,
 ) -> Result<(), AllocError>
     ensures { OnOk result (parts_view all.new.items ≡ parts_view all.old.items
-        ++ (conditions_of (setting_view setting.entry) (map named_view asked.now)
-        ++ conditions_of (setting_view setting.entry) (named_view one.now ∷ []))) }
+        ++ (conditions_of (setting_view setting.now) (map named_view asked.now)
+        ++ conditions_of (setting_view setting.now) (named_view one.now ∷ []))) }
 {
     push_conditions(alloc, all, setting, asked)?;
     push_condition(alloc, all, setting, one)?;
@@ -124,12 +125,12 @@ fn push_ensure<'a>(
 /// Each ensure of a mode as a condition, behind what the mode requires.
 fn ensured_by<'a>(
     alloc: Global,
-    setting: Setting<'a, '_, '_>,
+    setting: &Setting<'a, '_, '_>,
     asked: &'a [Named],
     ensured: &'a [Named],
 ) -> Result<Vec<Part<'a>>, AllocError>
     ensures { IfOk result (λ v. parts_view v.items
-        ≡ ensured_of (setting_view setting.entry) (map named_view asked.now) (map named_view ensured.now)) }
+        ≡ ensured_of (setting_view setting.now) (map named_view asked.now) (map named_view ensured.now)) }
 {
     let mut all = Vec::new(alloc);
     for one in ensured {
@@ -141,12 +142,12 @@ fn ensured_by<'a>(
 /// A mode of the contract itself.
 fn own_mode<'a>(
     alloc: Global,
-    setting: Setting<'a, '_, '_>,
+    setting: &Setting<'a, '_, '_>,
     name: &'a PlacedName,
     asked: &'a [Named],
     ensured: &'a [Named],
 ) -> Result<ModeText<'a>, AllocError>
-    ensures { IfOk result (λ m. mode_text_view m ≡ mode_text (setting_view setting.entry) (word_view name.now).text
+    ensures { IfOk result (λ m. mode_text_view m ≡ mode_text (setting_view setting.now) (word_view name.now).text
         (map named_view asked.now) (map named_view ensured.now)) }
 {
     let operands = asked_by(alloc, setting, asked)?;
@@ -268,11 +269,7 @@ pub(crate) fn text_there<'a, 's>(
 ) -> Option<&'s FrameText<'a>>
     ensures { text_or_none result ≡ slice_index_or (frame_texts_view texts.now) place no_text }
 {
-    if place < texts.len() {
-        Some(&texts[place])
-    } else {
-        None
-    }
+    item_at(texts, place)
 }
 
 /// The conditions, and behind them those of an item.
@@ -281,24 +278,24 @@ fn push_item<'a>(
     assumed: &mut Vec<Part<'a>>,
     guaranteed: &mut Vec<Part<'a>>,
     modes: &mut Vec<ModeText<'a>>,
-    setting: Setting<'a, '_, '_>,
+    setting: &Setting<'a, '_, '_>,
     item: &'a ContractItem,
 ) -> Result<(), AllocError>
     ensures { OnOk result (joint_view assumed.new.items guaranteed.new.items modes.new.items
-        ≡ with_item setting.entry (joint_view assumed.old.items guaranteed.old.items modes.old.items)
+        ≡ with_item setting.now (joint_view assumed.old.items guaranteed.old.items modes.old.items)
         (contract_item_view item.now)) }
 {
     match item {
         ContractItem::Assume(condition) => {
-            push_condition(alloc, assumed, naming(setting, modes), condition)?;
+            push_condition(alloc, assumed, &naming(setting, modes), condition)?;
             Ok(())
         }
         ContractItem::Guarantee(condition) => {
-            push_condition(alloc, guaranteed, naming(setting, modes), condition)?;
+            push_condition(alloc, guaranteed, &naming(setting, modes), condition)?;
             Ok(())
         }
         ContractItem::Mode(name, asked, ensured) => {
-            let mode = own_mode(alloc, naming(setting, modes), name, asked, ensured)?;
+            let mode = own_mode(alloc, &naming(setting, modes), name, asked, ensured)?;
             modes.push(mode)?;
             Ok(())
         }
@@ -315,11 +312,11 @@ fn push_item<'a>(
 #[tactic(auto, using(crate::proofs::ContractItems::after_one))]
 pub(crate) fn contract_text<'a>(
     alloc: Global,
-    setting: Setting<'a, '_, '_>,
+    setting: &Setting<'a, '_, '_>,
     items: &'a [ContractItem],
 ) -> Result<ContractText<'a>, AllocError>
-    ensures { IfOk result (λ k. contract_text_view k ≡ contract_after (frame_instance setting.entry.frame)
-        setting.entry.way.now (calls_view setting.entry) [] (map contract_item_view items.now)) }
+    ensures { IfOk result (λ k. contract_text_view k ≡ contract_after (frame_instance setting.now.frame)
+        setting.now.way.now (calls_view setting.now) [] (map contract_item_view items.now)) }
 {
     let mut assumed = Vec::new(alloc);
     let mut guaranteed = Vec::new(alloc);

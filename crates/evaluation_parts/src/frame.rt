@@ -9,6 +9,7 @@ ghost use Rattle.lus_streams.specs.Streams.{names_of};
 ghost use Rattle.evaluation_parts.specs.Unfolded.{called_instance, calls_at, counted_from_one, declared_outputs, linked_outputs};
 ghost use Rattle.evaluation_parts.specs.Views.{all_view, declared_view, frame_declared, frame_instance, instance_there, link_view, links_view};
 
+use crate::item::item_at;
 use lus_streams::clock::Clock;
 use lus_streams::names::Names;
 use lus_tree::{Expr, Param, PlacedName, Program};
@@ -61,7 +62,7 @@ pub(crate) fn from_zero(number: u32) -> u32
 fn link_at<'a, 's>(links: &'s [Link<'a>], place: usize) -> Option<&'s Link<'a>>
     ensures { option_map (λ l. link_view l.now) result ≡ slice_get (links_view links.now) place }
 {
-    links.get(place)
+    item_at(links, place)
 }
 
 impl<'a, 't> Frame<'a, 't> {
@@ -95,7 +96,7 @@ impl<'a, 't> Frame<'a, 't> {
         ensures { option_map (λ d. declared_view d.now) result
             ≡ slice_get (all_view self.entry.all.now) place }
     {
-        self.all.get(place)
+        item_at(self.all, place)
     }
 
     /// The outputs of the declaration of that place.
@@ -132,7 +133,6 @@ impl<'a, 't> Frame<'a, 't> {
     }
 
     /// The outputs of the call with that number.
-
     pub(crate) fn outputs(self, number: u32) -> &'a [Param]
         ensures { names_of (map param_view result.now) ≡ outputs_of (call_instance (frame_instance self.entry) number) }
     {

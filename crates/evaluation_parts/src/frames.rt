@@ -30,11 +30,11 @@ use std::alloc::{AllocError, Global};
 fn push_assertion<'a>(
     alloc: Global,
     all: &mut Vec<Part<'a>>,
-    setting: Setting<'a, '_, '_>,
+    setting: &Setting<'a, '_, '_>,
     item: &'a Item,
 ) -> Result<(), AllocError>
     ensures { OnOk result (parts_view all.new.items ≡ parts_view all.old.items
-        ++ wholes (setting_view setting.entry) base (assertions (item_view item.now ∷ []))) }
+        ++ wholes (setting_view setting.now) base (assertions (item_view item.now ∷ []))) }
 {
     if let Item::Assert(value) = item {
         push_whole(alloc, all, setting, Gives::Nothing, Clock::Base, value)?;
@@ -46,11 +46,11 @@ fn push_assertion<'a>(
 fn push_assertions<'a>(
     alloc: Global,
     all: &mut Vec<Part<'a>>,
-    setting: Setting<'a, '_, '_>,
+    setting: &Setting<'a, '_, '_>,
     items: &'a [Item],
 ) -> Result<(), AllocError>
     ensures { OnOk result (parts_view all.new.items ≡ parts_view all.old.items
-        ++ wholes (setting_view setting.entry) base (assertions (map item_view items.now))) }
+        ++ wholes (setting_view setting.now) base (assertions (map item_view items.now))) }
 {
     for item in items {
         push_assertion(alloc, all, setting, item)?;
@@ -62,11 +62,11 @@ fn push_assertions<'a>(
 fn push_call_condition<'a>(
     alloc: Global,
     all: &mut Vec<Part<'a>>,
-    setting: Setting<'a, '_, '_>,
+    setting: &Setting<'a, '_, '_>,
     link: &Link<'a>,
 ) -> Result<(), AllocError>
     ensures { OnOk result (parts_view all.new.items ≡ parts_view all.old.items
-        ++ wholes (setting_view setting.entry) (site_view link.now).clock
+        ++ wholes (setting_view setting.now) (site_view link.now).clock
         (call_condition (site_view link.now) (manner_view link.now.manner))) }
 {
     if let Manner::While(condition) = link.manner {
@@ -80,12 +80,12 @@ fn push_call_condition<'a>(
 fn push_call<'a>(
     alloc: Global,
     all: &mut Vec<Part<'a>>,
-    setting: Setting<'a, '_, '_>,
+    setting: &Setting<'a, '_, '_>,
     link: &Link<'a>,
     text: &FrameText<'a>,
 ) -> Result<(), AllocError>
     ensures { OnOk result (parts_view all.new.items ≡ parts_view all.old.items
-        ++ call_parts (setting_view setting.entry) (site_view link.now) (frame_text_view text.now)) }
+        ++ call_parts (setting_view setting.now) (site_view link.now) (frame_text_view text.now)) }
 {
     push_call_condition(alloc, all, setting, link)?;
     push_wholes(alloc, all, setting, link.clock, link.arguments)?;
@@ -97,13 +97,13 @@ fn push_call<'a>(
 fn push_unless<'a>(
     alloc: Global,
     all: &mut Vec<Part<'a>>,
-    setting: Setting<'a, '_, '_>,
+    setting: &Setting<'a, '_, '_>,
     evaluated: bool,
     link: &Link<'a>,
     text: &FrameText<'a>,
 ) -> Result<(), AllocError>
     ensures { OnOk result (parts_view all.new.items ≡ parts_view all.old.items
-        ++ cond evaluated [] (call_parts (setting_view setting.entry) (site_view link.now) (frame_text_view text.now))) }
+        ++ cond evaluated [] (call_parts (setting_view setting.now) (site_view link.now) (frame_text_view text.now))) }
 {
     if !evaluated {
         push_call(alloc, all, setting, link, text)?;
@@ -117,16 +117,16 @@ fn push_unless<'a>(
 fn push_behind_call<'a>(
     alloc: Global,
     all: &mut Vec<Part<'a>>,
-    setting: Setting<'a, '_, '_>,
+    setting: &Setting<'a, '_, '_>,
     numbers: &[u32],
     link: &Link<'a>,
     text: &FrameText<'a>,
     asserted: &[Part<'a>],
 ) -> Result<(), AllocError>
-    requires { numbers.now ≡ numbers_evaluated (component_of (frame_instance setting.frame)) }
+    requires { numbers.now ≡ numbers_evaluated (component_of (frame_instance setting.now.frame)) }
     ensures { OnOk result (parts_view all.new.items ≡ parts_view all.old.items
-        ++ cond (is_evaluated (component_of (frame_instance setting.entry.frame)) (site_view link.now) (manner_view link.now.manner))
-        [] (call_parts (setting_view setting.entry) (site_view link.now) (frame_text_view text.now))
+        ++ cond (is_evaluated (component_of (frame_instance setting.now.frame)) (site_view link.now) (manner_view link.now.manner))
+        [] (call_parts (setting_view setting.now) (site_view link.now) (frame_text_view text.now))
         ++ parts_view asserted.now) }
 {
     let evaluated = is_import_or(numbers, link.number, link.manner);
@@ -141,15 +141,15 @@ fn push_behind_call<'a>(
 fn push_asserted_as<'a>(
     alloc: Global,
     all: &mut Vec<Part<'a>>,
-    setting: Setting<'a, '_, '_>,
+    setting: &Setting<'a, '_, '_>,
     numbers: &[u32],
     link: &Link<'a>,
     text: &FrameText<'a>,
     asserted: &[Part<'a>],
 ) -> Result<(), AllocError>
-    requires { numbers.now ≡ numbers_evaluated (component_of (frame_instance setting.frame)) }
+    requires { numbers.now ≡ numbers_evaluated (component_of (frame_instance setting.now.frame)) }
     ensures { OnOk result (parts_view all.new.items ≡ parts_view all.old.items
-        ++ asserted_as (setting_view setting.entry) (site_view link.now) (frame_text_view text.now)
+        ++ asserted_as (setting_view setting.now) (site_view link.now) (frame_text_view text.now)
         (parts_view asserted.now)) }
 {
     match asserted {
@@ -163,14 +163,14 @@ fn push_asserted_as<'a>(
 fn push_asserted<'a>(
     alloc: Global,
     all: &mut Vec<Part<'a>>,
-    setting: Setting<'a, '_, '_>,
+    setting: &Setting<'a, '_, '_>,
     numbers: &[u32],
     link: &Link<'a>,
     text: Option<&FrameText<'a>>,
 ) -> Result<(), AllocError>
-    requires { numbers.now ≡ numbers_evaluated (component_of (frame_instance setting.frame)) }
+    requires { numbers.now ≡ numbers_evaluated (component_of (frame_instance setting.now.frame)) }
     ensures { OnOk result (parts_view all.new.items ≡ parts_view all.old.items
-        ++ asserted_below (setting_view setting.entry) (site_view link.now) (text_or_none text.entry)) }
+        ++ asserted_below (setting_view setting.now) (site_view link.now) (text_or_none text.entry)) }
 {
     if let Some(text) = text {
         push_asserted_as(alloc, all, setting, numbers, link, text, &text.asserted)?;
@@ -182,13 +182,13 @@ fn push_asserted<'a>(
 fn push_asserted_each<'a>(
     alloc: Global,
     all: &mut Vec<Part<'a>>,
-    setting: Setting<'a, '_, '_>,
+    setting: &Setting<'a, '_, '_>,
     numbers: &[u32],
     links: &[Link<'a>],
 ) -> Result<(), AllocError>
-    requires { numbers.now ≡ numbers_evaluated (component_of (frame_instance setting.frame)) }
+    requires { numbers.now ≡ numbers_evaluated (component_of (frame_instance setting.now.frame)) }
     ensures { OnOk result (parts_view all.new.items ≡ parts_view all.old.items
-        ++ asserted_each (setting_view setting.entry) (calls_view setting.entry) (links_view links.now)) }
+        ++ asserted_each (setting_view setting.now) (calls_view setting.now) (links_view links.now)) }
 {
     for link in links {
         let text = text_there(setting.texts, from_zero(link.number) as usize);
@@ -199,11 +199,14 @@ fn push_asserted_each<'a>(
 
 /// The assertions of a frame and of the frames of its calls.
 #[tactic(auto, using(crate::proofs::Asserted::each_is))]
-fn asserted_of<'a>(alloc: Global, setting: Setting<'a, '_, '_>) -> Result<Vec<Part<'a>>, AllocError>
-    ensures { IfOk result (λ v. parts_view v.items ≡ wholes (setting_view setting.entry) base
-        (assertions (component_of (frame_instance setting.entry.frame)).body)
-        ++ asserted_in_calls (setting_view setting.entry) (calls_view setting.entry)
-        (calls_of (frame_instance setting.entry.frame))) }
+fn asserted_of<'a>(
+    alloc: Global,
+    setting: &Setting<'a, '_, '_>,
+) -> Result<Vec<Part<'a>>, AllocError>
+    ensures { IfOk result (λ v. parts_view v.items ≡ wholes (setting_view setting.now) base
+        (assertions (component_of (frame_instance setting.now.frame)).body)
+        ++ asserted_in_calls (setting_view setting.now) (calls_view setting.now)
+        (calls_of (frame_instance setting.now.frame))) }
 {
     let owner = setting.frame.names().owner;
     let numbers = numbers_evaluated(alloc, owner)?;
@@ -232,7 +235,7 @@ pub(crate) fn text_over<'a>(
         texts,
         modes: &[],
     };
-    let contract = contract_text(alloc, bare, frame.names().owner.contract())?;
+    let contract = contract_text(alloc, &bare, frame.names().owner.contract())?;
     let setting = Setting {
         frame,
         way,
@@ -240,8 +243,8 @@ pub(crate) fn text_over<'a>(
         texts,
         modes: &contract.modes,
     };
-    let body = body_of(alloc, setting, order)?;
-    let asserted = asserted_of(alloc, setting)?;
+    let body = body_of(alloc, &setting, order)?;
+    let asserted = asserted_of(alloc, &setting)?;
     Ok(FrameText {
         body,
         contract,

@@ -7,6 +7,7 @@ mod call_numbers;
 mod contracts;
 pub mod frame;
 mod frames;
+mod item;
 pub mod laws;
 pub mod mode_need;
 pub mod mode_needs;

@@ -68,12 +68,12 @@ fn all_from_top<'a>(
 /// What an expression on a clock of the frame needs of its own instant.
 fn needed_by<'a>(
     alloc: Global,
-    setting: Setting<'a, '_, '_>,
+    setting: &Setting<'a, '_, '_>,
     clock: Clock<'a>,
     e: &'a Expr,
 ) -> Result<Vec<Needed<'a>>, AllocError>
     ensures { IfOk result (λ v. places_view v.items
-        ≡ needs_of (setting_view setting.entry) (clock_seen clock.entry) (expr_view e.now)) }
+        ≡ needs_of (setting_view setting.now) (clock_seen clock.entry) (expr_view e.now)) }
 {
     let mut needs = Vec::new(alloc);
     push_needs(alloc, &mut needs, setting.frame, setting.needs, clock, e)?;
@@ -83,12 +83,12 @@ fn needed_by<'a>(
 /// The whole that is an expression on a clock of the frame.
 pub(crate) fn whole_of<'a>(
     alloc: Global,
-    setting: Setting<'a, '_, '_>,
+    setting: &Setting<'a, '_, '_>,
     clock: Clock<'a>,
     e: &'a Expr,
 ) -> Result<Whole<'a>, AllocError>
     ensures { IfOk result (λ w. (ns : List Place)
-        → needed_in ns w ≡ needs_of (setting_view setting.entry) (clock_seen clock.entry) (expr_view e.now)) }
+        → needed_in ns w ≡ needs_of (setting_view setting.now) (clock_seen clock.entry) (expr_view e.now)) }
 {
     let places = needed_by(alloc, setting, clock, e)?;
     Ok(Whole {

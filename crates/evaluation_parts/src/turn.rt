@@ -30,11 +30,11 @@ use std::alloc::{AllocError, Global};
 fn push_property<'a>(
     alloc: Global,
     all: &mut Vec<Part<'a>>,
-    setting: Setting<'a, '_, '_>,
+    setting: &Setting<'a, '_, '_>,
     item: &'a Item,
 ) -> Result<(), AllocError>
     ensures { OnOk result (parts_view all.new.items ≡ parts_view all.old.items
-        ++ wholes (setting_view setting.entry) base (property_texts (item_view item.now ∷ []))) }
+        ++ wholes (setting_view setting.now) base (property_texts (item_view item.now ∷ []))) }
 {
     if let Item::Property(property) = item {
         push_whole(
@@ -53,11 +53,11 @@ fn push_property<'a>(
 fn push_properties<'a>(
     alloc: Global,
     all: &mut Vec<Part<'a>>,
-    setting: Setting<'a, '_, '_>,
+    setting: &Setting<'a, '_, '_>,
     items: &'a [Item],
 ) -> Result<(), AllocError>
     ensures { OnOk result (parts_view all.new.items ≡ parts_view all.old.items
-        ++ wholes (setting_view setting.entry) base (property_texts (map item_view items.now))) }
+        ++ wholes (setting_view setting.now) base (property_texts (map item_view items.now))) }
 {
     for item in items {
         push_property(alloc, all, setting, item)?;
@@ -147,13 +147,13 @@ fn push_owed_each<'a>(
 fn push_conditions_of<'a>(
     alloc: Global,
     all: &mut Vec<Part<'a>>,
-    setting: Setting<'a, '_, '_>,
+    setting: &Setting<'a, '_, '_>,
     text: &FrameText<'a>,
 ) -> Result<(), AllocError>
-    requires top { setting_view setting ≡ top (frame_instance setting.frame) (calls_view setting)
+    requires top { setting_view setting.now ≡ top (frame_instance setting.now.frame) (calls_view setting.now)
         (frame_text_view text.now).contract.modes }
     ensures { OnOk result (parts_view all.new.items ≡ parts_view all.old.items
-        ++ condition_parts (calls_view setting.entry) (frame_text_view text.now) (frame_instance setting.entry.frame)) }
+        ++ condition_parts (calls_view setting.now) (frame_text_view text.now) (frame_instance setting.now.frame)) }
 {
     push_all(alloc, all, &text.contract.assumed)?;
     push_all(alloc, all, &text.asserted)?;
@@ -185,7 +185,7 @@ fn push_conditions<'a>(
         texts,
         modes: &text.contract.modes,
     };
-    push_conditions_of(alloc, all, setting, text)?;
+    push_conditions_of(alloc, all, &setting, text)?;
     Ok(())
 }
 

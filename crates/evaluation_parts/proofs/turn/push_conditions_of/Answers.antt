@@ -14,9 +14,9 @@ use Rattle.evaluation_parts.proofs.turn.push_conditions_of.Goals as goal
 
 pub returns : goal.returns
 returns c =
-    let sub : Calls = calls_view c.args.setting in
+    let sub : Calls = calls_view c.args.setting.now in
     let t : FrameText = frame_text_view c.args.text.now in
-    let i : Instance = frame_instance c.args.setting.frame in
+    let i : Instance = frame_instance c.args.setting.now.frame in
     let g : Setting = top i sub t.contract.modes in
     let asserts : List Part = parts_view c.push_all-2.new.all.items in
     let promises : List Part = parts_view c.push_all-3.new.all.items in
@@ -34,5 +34,5 @@ returns c =
     (c.in_ok-push_owed_each.ensures
     ∙ ap (λ z. requires ++ owed_each sub z) c.links.ensures
     ∙ ap (λ z. requires ++ z)
-    (sym (owed_is sub (program_view c.args.setting.frame.program.now) (all_view c.args.setting.frame.all.now) c.args.setting.frame.depth
-    (frame_declared c.args.setting.frame))))
+    (sym (owed_is sub (program_view c.args.setting.now.frame.program.now) (all_view c.args.setting.now.frame.all.now) c.args.setting.now.frame.depth
+    (frame_declared c.args.setting.now.frame))))
