@@ -1,5 +1,5 @@
-use Rattle.meaning_rows.proofs.BooleanRows.{circle_stuck, circle_refused}
-use Rattle.meaning_rows.proofs.boolean_rows.circle_row.Goals as goal
+use Rattle.meaning_rows.proofs.PairRows.{circle_stuck, circle_refused}
+use Rattle.meaning_rows.proofs.pair_rows.circle_row.Goals as goal
 
 pub returns-clause-stuck : goal.returns-clause-stuck
 returns-clause-stuck c = circle_stuck

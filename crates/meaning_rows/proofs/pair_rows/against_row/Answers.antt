@@ -1,5 +1,5 @@
-use Rattle.meaning_rows.proofs.BooleanRows.{against_checked, against_order, against_within}
-use Rattle.meaning_rows.proofs.boolean_rows.against_row.Goals as goal
+use Rattle.meaning_rows.proofs.PairRows.{against_checked, against_order, against_within}
+use Rattle.meaning_rows.proofs.pair_rows.against_row.Goals as goal
 
 pub returns-clause-checked : goal.returns-clause-checked
 returns-clause-checked c = against_checked

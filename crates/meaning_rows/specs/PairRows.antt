@@ -1,4 +1,4 @@
--- Worked rows of the Boolean language: a node whose equations stand against their order, and one whose equations need each other.
+-- Worked rows of two equations: a node whose equations stand against their order, and one whose equations need each other.
 use Rattle.std.specs.Prelude.{[], ◌∷◌, None, codes}
 use Rattle.lus_tree.specs.declared.expression.Operator.TheVariants.{Implies, Xor, And, Equal}
 use Rattle.lus_tree.specs.Tree.{negation, pre, arrow, binary, choice, property, main_mark, Component, declared_node}

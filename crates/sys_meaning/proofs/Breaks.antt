@@ -1,4 +1,4 @@
--- The runs of a checked program are paths, and a path that breaks a property breaks it by its frame.
+-- A path that breaks a property breaks it by its frame, at the last instant.
 use Rattle.std.proofs.Common.{◌≡◌, ℕ, zero, suc, pred, ◌<◌, ◌+◌, List, [], ◌∷◌, length, refl, ap, ◌∙◌, sym, arith, Option, Some, None, slice_get, get_or}
 use Rattle.lus_meaning.specs.Value.{flag}
 use Rattle.lus_meaning.specs.Frame.{Frame}
@@ -14,23 +14,11 @@ use Rattle.sys_meaning.specs.Path.{frame_of_path}
 use Rattle.sys_meaning.specs.System.{number_of, system_of}
 use Rattle.sys_meaning.specs.WellTyped.{IsKnown, WellTyped}
 use Rattle.sys_meaning.specs.Law.{true_in, IsRunOf, Agree, TreeDistinct}
-use Rattle.sys_meaning.specs.Checked.{BreaksAtLast, CheckedRunsArePaths, CheckedLemmas, CheckedProperties, CheckedBreaks}
-use Rattle.sys_meaning.proofs.Follows.{none_some, at_place, lemma_law, property_law}
+use Rattle.sys_meaning.specs.Verdicts.{BreaksAtLast}
+use Rattle.sys_meaning.proofs.Follows.{none_some, at_place}
 use Rattle.sys_meaning.proofs.PathStates.{some_length}
 use Rattle.sys_meaning.proofs.Truths.{truths_in_runs}
-use Rattle.sys_meaning.proofs.OneRun.{state_listed, paths_to_runs, runs_are_paths}
-use Rattle.sys_meaning.proofs.CheckedFits.{checked_is_well_typed}
-
-pub checked_runs_are_paths : CheckedRunsArePaths
-checked_runs_are_paths p d h = let w = checked_is_well_typed p d h in runs_are_paths _ w.0 w.1
-
-pub checked_lemmas : CheckedLemmas
-checked_lemmas p d h = lemma_law _ (checked_runs_are_paths p d h)
-
-pub checked_properties : CheckedProperties
-checked_properties p d h = property_law _ (checked_runs_are_paths p d h)
-
--- ---- a property that breaks
+use Rattle.sys_meaning.proofs.OneRun.{state_listed, paths_to_runs}
 
 -- where a formula is, there is its property
 property_there : (k : ℕ) (f : Frame) (t : ℕ) (s : List Entry) (ps : List Property) (qs : List Formula) (q : Formula) →
@@ -93,6 +81,3 @@ module _ (i : Instance) (w : WellTyped IsKnown i) (distinct : TreeDistinct i (nu
               fails = truth (pred (length states)) (omega (arith, some)) ∙ ap flag (false_at_last q states h);
             },
           )
-
-pub checked_breaks : CheckedBreaks
-checked_breaks p d h = let w = checked_is_well_typed p d h in breaks_at_last _ w.0 w.1
