@@ -61,60 +61,60 @@ fn latest(
     }
 }
 
-/// The same of an operand, which most often is a slot.
+/// What an expression comes to. Most operands are slots and literals, for which no walk begins.
 #[cycle(quick)]
 #[inline(always)]
-fn part(e: &Resolved, on: bool, row: &[Option<Value>]) -> Outcome
+pub(crate) fn quick(e: &Resolved, on: bool, row: &[Option<Value>]) -> Outcome
     ensures { outcome_view result ≡ quickly (slots_in row.now) on (resolved_view e.now) }
 {
     match e {
         Resolved::Slot(slot) => slot_outcome(on, row, *slot),
-        Resolved::Known(_)
-        | Resolved::Not(_)
+        Resolved::Known(value) => outcome_if(on, *value),
+        Resolved::Not(_)
         | Resolved::Minus(_, _)
         | Resolved::Binary(_, _, _, _)
         | Resolved::If(_, _, _)
         | Resolved::Arrow(_, _, _)
         | Resolved::When(_, _, _)
         | Resolved::Merge(_, _, _)
-        | Resolved::Latest(_, _, _, _) => quick(e, on, row),
+        | Resolved::Latest(_, _, _, _) => walk(e, on, row),
     }
 }
 
 #[cycle(quick)]
-pub(crate) fn quick(e: &Resolved, on: bool, row: &[Option<Value>]) -> Outcome
+fn walk(e: &Resolved, on: bool, row: &[Option<Value>]) -> Outcome
     ensures { outcome_view result ≡ quickly (slots_in row.now) on (resolved_view e.now) }
 {
     match e {
         Resolved::Known(value) => outcome_if(on, *value),
         Resolved::Slot(slot) => slot_outcome(on, row, *slot),
-        Resolved::Not(a) => not_of(part(a, on, row)),
-        Resolved::Minus(_, a) => minus_of(part(a, on, row)),
+        Resolved::Not(a) => not_of(quick(a, on, row)),
+        Resolved::Minus(_, a) => minus_of(quick(a, on, row)),
         Resolved::Binary(_, operator, a, b) => {
-            let a = part(a, on, row);
-            let b = part(b, on, row);
+            let a = quick(a, on, row);
+            let b = quick(b, on, row);
             applied(*operator, a, b)
         }
         Resolved::If(c, a, b) => {
-            let c = part(c, on, row);
-            let a = part(a, on, row);
-            let b = part(b, on, row);
+            let c = quick(c, on, row);
+            let a = quick(a, on, row);
+            let b = quick(b, on, row);
             choice_of(c, a, b)
         }
         Resolved::Arrow(start, a, b) => {
-            let a = part(a, on, row);
-            let b = part(b, on, row);
+            let a = quick(a, on, row);
+            let b = quick(b, on, row);
             chosen_of(slot_value(row, *start), a, b)
         }
         Resolved::When(slot, wanted, a) => {
             let clock = slot_value(row, *slot);
-            let a = part(a, is_present(clock), row);
+            let a = quick(a, is_present(clock), row);
             kept_where(is_truth(*wanted, clock), a)
         }
         Resolved::Merge(slot, a, b) => {
             let clock = slot_value(row, *slot);
-            let a = part(a, is_truth(true, clock), row);
-            let b = part(b, is_truth(false, clock), row);
+            let a = quick(a, is_truth(true, clock), row);
+            let b = quick(b, is_truth(false, clock), row);
             chosen_of(clock, a, b)
         }
         Resolved::Latest(condition, beat, output, held) => {
