@@ -1,0 +1,32 @@
+-- What a true stop of pivots, or of an operation outside 128 bits, needs.
+use Rattle.std.specs.Prelude.{ℕ, suc, ◌≡◌, ◌*◌, ◌<◌, ◌^◌, List, Some, length, slice_get}
+use lib.IntN.{ℤ}
+use Rattle.kind_num.specs.declared.Shape.TheVariants.{Number}
+use Rattle.proof_steps.specs.declared.stops.Budgets.{Budgets}
+use Rattle.proof_steps.specs.StopView.{pivots, past, Beginning, Operation}
+use Rattle.proof_steps.specs.Rows.{Form, rows_of, columns_of}
+use Rattle.proof_steps.specs.Bounds.{HasRange}
+use Rattle.proof_steps.specs.Stopped.{IsTrueOf}
+use Rattle.cause_laws.specs.Bases.{AreAllBases}
+use Rattle.cause_laws.specs.Small.{HasItsVariables, HasSmallNumbers}
+
+-- The budget of a true stop of pivots is at least two below 3 to the power of the columns, also where bounds cross.
+abbrev pub PivotsAreFew : Type 0
+PivotsAreFew =
+    (f : Form) (budgets : Budgets) (start : Beginning) (pairs : List (ℕ × ℤ))
+    → IsTrueOf f budgets (pivots start pairs) → suc budgets.pivots < 3 ^ columns_of f
+
+-- So it is below that times the number of bases.
+abbrev pub BasesBoundPivots : Type 0
+BasesBoundPivots =
+    (f : Form) (budgets : Budgets) (bases : List (List ℕ)) (start : Beginning) (pairs : List (ℕ × ℤ))
+    → AreAllBases (rows_of f) (columns_of f) bases → IsTrueOf f budgets (pivots start pairs)
+    → budgets.pivots < length bases * 3 ^ columns_of f
+
+-- Where each number has a range, and numbers and columns are few enough, no operation is outside 128 bits.
+abbrev pub SmallNumbersStayWithin : Type 0
+SmallNumbersStayWithin =
+    (f : Form) (budgets : Budgets) (low high : ℕ → ℤ) (step : Operation) (pairs : List (ℕ × ℤ))
+    → HasItsVariables f → HasSmallNumbers f
+    → ((x : ℕ) → slice_get f.shapes x ≡ Some Number → HasRange f x (low x) (high x))
+    → ¬ IsTrueOf f budgets (past step pairs)

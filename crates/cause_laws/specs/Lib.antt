@@ -1,0 +1,3 @@
+pub mod Bases
+pub mod Small
+pub mod Laws
