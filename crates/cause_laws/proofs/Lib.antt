@@ -4,3 +4,6 @@ pub mod Pivoted
 pub mod Summed
 pub mod Rowed
 pub mod Within
+pub mod WorkedRow
+pub mod WorkedSmall
+pub mod WorkedStops

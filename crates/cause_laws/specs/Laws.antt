@@ -4,11 +4,19 @@ use lib.IntN.{ℤ}
 use Rattle.kind_num.specs.declared.Shape.TheVariants.{Number}
 use Rattle.proof_steps.specs.declared.stops.Budgets.{Budgets}
 use Rattle.proof_steps.specs.StopView.{pivots, past, Beginning, Operation}
-use Rattle.proof_steps.specs.Rows.{Form, rows_of, columns_of}
+use Rattle.proof_steps.specs.Rows.{Form, IsBasis, rows_of, columns_of}
 use Rattle.proof_steps.specs.Bounds.{HasRange}
+use Rattle.proof_steps.specs.Pivots.{CanPivot, first_position}
 use Rattle.proof_steps.specs.Stopped.{IsTrueOf}
 use Rattle.cause_laws.specs.Bases.{AreAllBases}
 use Rattle.cause_laws.specs.Small.{HasItsVariables, HasSmallNumbers}
+
+-- The run that a check begins has fewer pivots than 3 to the power of the columns, whether or not its bounds cross: a
+-- column whose bounds cross never enters, so that it leaves at most once.
+abbrev pub ChecksAlwaysEnd : Type 0
+ChecksAlwaysEnd =
+    (given : List (List (ℕ × ℤ))) (columns : ℕ) (b : Beginning) → IsBasis given columns b.basis
+    → (n : ℕ) → CanPivot given columns b.bounds n (first_position b) → n < 3 ^ columns
 
 -- The budget of a true stop of pivots is at least two below 3 to the power of the columns, also where bounds cross.
 abbrev pub PivotsAreFew : Type 0

@@ -1,3 +1,4 @@
 pub mod Bases
 pub mod Small
 pub mod Laws
+pub mod Worked

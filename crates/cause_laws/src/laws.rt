@@ -1,6 +1,11 @@
 //! Laws of true stops, over the definitions alone: each function is its contract.
 
-ghost use Rattle.cause_laws.specs.Laws.{BasesBoundPivots, PivotsAreFew, SmallNumbersStayWithin};
+ghost use Rattle.cause_laws.specs.Laws.{BasesBoundPivots, ChecksAlwaysEnd, PivotsAreFew, SmallNumbersStayWithin};
+
+/// A run from where a check begins makes fewer pivots than 3 to the power of the columns, also where bounds cross.
+pub fn checks_always_end()
+    ensures { ChecksAlwaysEnd }
+{}
 
 /// A true stop of pivots names a budget at least two below 3 to the power of the columns, whatever its bounds.
 pub fn pivots_are_few()

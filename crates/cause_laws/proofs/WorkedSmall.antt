@@ -1,0 +1,91 @@
+-- The numbers of the worked query are small.
+use Rattle.std.specs.Prelude.{ℕ, zero, suc, ◌≡◌, ◌<◌, ◌≤◌, ◌^◌, Bool, true, false, List, [], ◌∷◌, map, Option, Some, None, All, Contains, slice_get, unsigned_abs}
+use Rattle.std.proofs.Common.{sym, ap, subst, arith, refl}
+use Rattle.std.proofs.lemmas.Int.{ints}
+use Rattle.std.proofs.lemmas.List.Elements.{All-contains, All-nil, All-cons, All-from_recursion}
+use lib.IntN.{ℤ, pos, negsuc}
+use Rattle.kind_num.specs.declared.Shape.TheVariants.{Number}
+use Rattle.proof_steps.specs.declared.Literal.{Literal}
+use Rattle.proof_steps.specs.declared.Literal.TheVariants.{Flag, Atom}
+use Rattle.proof_steps.specs.View.{Inequality}
+use Rattle.proof_steps.specs.Bounds.{Bound, HasRange, bound_of_literal}
+use Rattle.proof_steps.specs.Stopped.{IsCoefficient, IsLimit}
+use Rattle.cause_laws.specs.Small.{IsSmall, HasSmallNumbers, HasItsVariables}
+use Rattle.cause_laws.specs.Worked.{near, near_low, near_high}
+use Rattle.cause_laws.proofs.WorkedRow.{multipliers-small, entries-small}
+
+abbrev small-of : Option Bound → Type 0
+small-of None = Unit
+small-of (Some b) = IsSmall b.limit
+
+limit-of : (l : Literal) → small-of (bound_of_literal near [] l)
+limit-of (Flag n b) = tt
+limit-of (Atom zero b) = tt
+limit-of (Atom (suc zero) true) = omega arith
+limit-of (Atom (suc zero) false) = omega arith
+limit-of (Atom (suc (suc zero)) true) = omega arith
+limit-of (Atom (suc (suc zero)) false) = omega arith
+limit-of (Atom (suc (suc (suc zero))) true) = omega arith
+limit-of (Atom (suc (suc (suc zero))) false) = omega arith
+limit-of (Atom (suc (suc (suc (suc zero)))) true) = omega arith
+limit-of (Atom (suc (suc (suc (suc zero)))) false) = omega arith
+limit-of (Atom (suc (suc (suc (suc (suc zero))))) true) = omega arith
+limit-of (Atom (suc (suc (suc (suc (suc zero))))) false) = omega arith
+limit-of (Atom (suc (suc (suc (suc (suc (suc n)))))) b) = tt
+
+limits : (z : ℤ) → IsLimit near z → IsSmall z
+limits z (b, (l, e), q) = subst IsSmall q (subst small-of e (limit-of l))
+
+abbrev SmallAtom : Inequality → Type 0
+SmallAtom i = All IsSmall (map (λ (t : ℕ × ℤ). t.1) i.terms)
+
+one : (z : ℤ) → IsSmall z → All IsSmall (z ∷ [])
+one z h = All-cons IsSmall z [] h (All-nil IsSmall)
+
+small-atoms : All SmallAtom near.atoms
+small-atoms = All-from_recursion SmallAtom near.atoms (
+  All-cons IsSmall (pos 2) (negsuc 1 ∷ []) (omega arith) (one (negsuc 1) (omega arith)),
+  (one (negsuc 0) (omega arith), (one (pos 1) (omega arith), (one (negsuc 0) (omega arith), (one (pos 1) (omega arith), tt)))),
+)
+
+coefficients : (z : ℤ) → IsCoefficient near z → IsSmall z
+coefficients z (i, c, k) =
+    All-contains IsSmall (map (λ (t : ℕ × ℤ). t.1) i.terms) z (All-contains SmallAtom near.atoms i small-atoms c) k
+
+pub is-small : HasSmallNumbers near
+is-small = record {
+  multipliers = λ basis x ms b r. multipliers-small basis x ms r;
+  entries = λ basis x ms b r. entries-small basis x ms r;
+  coefficients = coefficients;
+  limits = limits;
+  columns = omega arith;
+}
+
+abbrev OneOf : Inequality → Type 0
+OneOf i = All (λ (t : ℕ × ℤ). t.0 < 2) i.terms
+
+one-term : (t : ℕ × ℤ) → t.0 < 2 → All (λ (t : ℕ × ℤ). t.0 < 2) (t ∷ [])
+one-term t h = All-cons (λ (t : ℕ × ℤ). t.0 < 2) t [] h (All-nil (λ (t : ℕ × ℤ). t.0 < 2))
+
+pub its-variables : HasItsVariables near
+its-variables = All-from_recursion OneOf near.atoms (
+  All-cons (λ (t : ℕ × ℤ). t.0 < 2) (0, pos 2) ((1, negsuc 1) ∷ []) (omega arith) (one-term (1, negsuc 1) (omega arith)),
+  (
+    one-term (0, negsuc 0) (omega arith),
+    (
+      one-term (0, pos 1) (omega arith),
+      (one-term (1, negsuc 0) (omega arith), (one-term (1, pos 1) (omega arith), tt)),
+    ),
+  ),
+)
+
+pub near-ranges : (x : ℕ) → slice_get near.shapes x ≡ Some Number → HasRange near x (near_low x) (near_high x)
+near-ranges zero e = record {
+  from_low = (Atom 2 true, (1, omega arith, refl), refl);
+  to_high = (Atom 3 true, (2, omega arith, refl), refl);
+}
+near-ranges (suc zero) e = record {
+  from_low = (Atom 4 true, (3, omega arith, refl), refl);
+  to_high = (Atom 5 true, (4, omega arith, refl), refl);
+}
+near-ranges (suc (suc x)) e = absurd cc
