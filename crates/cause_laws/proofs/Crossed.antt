@@ -4,16 +4,16 @@ use Rattle.std.specs.Prelude.{ℕ, zero, suc, ◌≡◌, ◌≢◌, ◌⊎◌, �
 use Rattle.std.specs.Int.{int_max, int_min}
 use Rattle.std.proofs.Common.{sym, ◌∙◌, ap, subst, arith, refl, inl, inr}
 use Rattle.std.proofs.lemmas.Int.{ints, by_lt_z}
-use lib.IntN.{ℤ, pos, ◌*ℤ◌, *ℤ_comm}
+use lib.IntN.{ℤ, ◌*ℤ◌, *ℤ_comm}
 use lib.Signed.{◌≤ℤ◌, ◌<ℤ◌}
 use Rattle.proof_steps.specs.StopView.{Beginning}
 use Rattle.proof_steps.specs.Rows.{IsBasis, combined}
-use Rattle.proof_steps.specs.Pivots.{Position, Pivots, CanPivot, Misses, CanEnter, HasRoom, CanRise, CanFall, IsPast, first_position, lower, upper, raised, lowered, place_of, bound_on}
+use Rattle.proof_steps.specs.Pivots.{Position, Pivots, CanPivot, Misses, CanEnter, HasRoom, CanRise, CanFall, first_position, lower, upper, raised, lowered, place_of, bound_on}
 use Rattle.bland_laws.specs.Laws.{Leads, LeaveRoom, CanBegin}
 use Rattle.bland_laws.proofs.Listed.{either, same-or, kept-in, after-or}
 use Rattle.bland_laws.proofs.Orders.{below_times}
 use Rattle.bland_laws.proofs.Runs.{runs_end}
-use Rattle.cause_laws.proofs.Replaced.{same-some, crossed, Cross, do-cross, leave-room, replaced, put, put-off, lower-replaced, upper-replaced, bound-on-replaced}
+use Rattle.cause_laws.proofs.Replaced.{same-some, crossed, Cross, do-cross, leave-room, replaced, put, put-off, bound-on-replaced}
 
 true-false : {X : Type 0} (b : Bool) → b ≡ true → b ≡ false → X
 true-false b p q = absurd cc
@@ -171,12 +171,12 @@ module _ (given : List (List (ℕ × ℤ))) (columns : ℕ) (bounds : List (ℕ 
               | inr h ↦ p.least_leaving y true x.high ms l h
             ]
         | inr n ↦ p.least_leaving y b z ms l (record {
-            top = m.top;
-            bottom = m.bottom;
-            bounded = sym (as-before b y n) ∙ m.bounded;
-            value = m.value;
-            past = m.past;
-          })
+          top = m.top;
+          bottom = m.bottom;
+          bounded = sym (as-before b y n) ∙ m.bounded;
+          value = m.value;
+          past = m.past;
+        })
       ]
 
       none-enters : (c : ℕ) → c < p.entering → ¬ CanEnter given columns (by-end t) u p.side p.multipliers c
@@ -192,10 +192,10 @@ module _ (given : List (List (ℕ × ℤ))) (columns : ℕ) (bounds : List (ℕ 
                   absurd (omega (arith, ints))
             ]
         | inr m ↦ p.least_entering c l (record {
-            in_range = e.in_range;
-            outside = e.outside;
-            room = same-room (by-end t) bounds u p.side (combined p.multipliers given c) c (as-before false c m) (as-before true c m) e.room;
-          })
+          in_range = e.in_range;
+          outside = e.outside;
+          room = same-room (by-end t) bounds u p.side (combined p.multipliers given c) c (as-before false c m) (as-before true c m) e.room;
+        })
       ]
 
       same-pivot : Pivots given columns (by-end t) u v
@@ -277,11 +277,11 @@ module _ (given : List (List (ℕ × ℤ))) (columns : ℕ) (b : Beginning) (h :
                 let a : t.places c ≡ u = same-some (t.places c) u (sym (at-end given columns b.bounds t true c x) ∙ e) in omega (arith, ints);
           }
       | inr m ↦ record {
-          from_below = λ l e.
-              moved-above (lower b.bounds c) (upper b.bounds c) l (place_of b.places c) m (sym (as-before given columns b.bounds t false c m) ∙ e);
-          from_above = λ u e.
-              moved-below (upper b.bounds c) u (raised (lower b.bounds c) (place_of b.places c)) (sym (as-before given columns b.bounds t true c m) ∙ e);
-        }
+        from_below = λ l e.
+            moved-above (lower b.bounds c) (upper b.bounds c) l (place_of b.places c) m (sym (as-before given columns b.bounds t false c m) ∙ e);
+        from_above = λ u e.
+            moved-below (upper b.bounds c) u (raised (lower b.bounds c) (place_of b.places c)) (sym (as-before given columns b.bounds t true c m) ∙ e);
+      }
     ];
   }
 

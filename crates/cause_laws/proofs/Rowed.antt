@@ -1,13 +1,13 @@
 -- What the numbers of a kept row sum to.
-use Rattle.std.specs.Prelude.{ℕ, zero, suc, ◌≡◌, ◌≢◌, ◌==◌, ◌+◌, ◌*◌, ◌<◌, ◌≤◌, ◌^◌, Bool, true, false, cond, List, [], ◌∷◌, ◌++◌, length, map, All, Contains, Some, slice_get, unsigned_abs}
-use Rattle.std.proofs.Common.{sym, ◌∙◌, ap, subst, arith, refl, inl, inr}
+use Rattle.std.specs.Prelude.{ℕ, zero, suc, ◌≡◌, ◌+◌, ◌*◌, ◌<◌, ◌≤◌, ◌^◌, Bool, true, false, cond, List, [], ◌∷◌, ◌++◌, length, map, All, Contains, unsigned_abs}
+use Rattle.std.proofs.Common.{sym, ◌∙◌, ap, subst, arith, refl}
 use Rattle.std.proofs.lemmas.Int.{ints}
-use Rattle.std.proofs.lemmas.List.Elements.{All-append, All-contains, All-contains_itself, All-head, All-map, All-tail, All-weaker}
+use Rattle.std.proofs.lemmas.List.Elements.{All-append, All-contains_itself, All-head, All-map, All-tail, All-weaker}
 use lib.IntN.{ℤ, pos, negsuc, ◌+ℤ◌, ◌*ℤ◌, *ℤ-zero}
 use Rattle.proof_steps.specs.View.{Inequality}
-use Rattle.proof_steps.specs.Rows.{Form, IsBasis, IsRow, AllDiffer, combined, defining_rows, entry, is_long, rows_of, columns_of}
+use Rattle.proof_steps.specs.Rows.{Form, AllDiffer, combined, defining_rows, entry, is_long, rows_of, columns_of}
 use Rattle.proof_steps.specs.Stopped.{Row, IsRowOf, numbers}
-use Rattle.bland_laws.proofs.Listed.{tests-same, tests-other, same-or}
+use Rattle.bland_laws.proofs.Listed.{tests-same, tests-other}
 use Rattle.cause_laws.specs.Small.{IsSmall, HasItsVariables, HasSmallNumbers}
 use Rattle.cause_laws.proofs.Summed.{summed, summed-map, summed-append, summed-same, summed-at-most, below, below-at-most, summed-different}
 

@@ -1,22 +1,20 @@
 -- With small numbers no operation over a kept row is outside 128 bits.
-use Rattle.std.specs.Prelude.{ℕ, zero, suc, ◌≡◌, ◌≢◌, ◌⊎◌, ◌+◌, ◌*◌, ◌<◌, ◌≤◌, ◌^◌, Bool, true, false, List, [], ◌∷◌, ◌++◌, length, map, All, Contains, Some, slice_get, unsigned_abs}
+use Rattle.std.specs.Prelude.{ℕ, zero, suc, ◌≡◌, ◌⊎◌, ◌+◌, ◌*◌, ◌<◌, ◌≤◌, ◌^◌, Bool, true, false, List, [], ◌∷◌, ◌++◌, length, map, All, Contains, Some, slice_get, unsigned_abs}
 use Rattle.std.specs.Int.{w128}
-use Rattle.std.proofs.Common.{sym, ◌∙◌, ap, subst, arith, refl, inl, inr}
+use Rattle.std.proofs.Common.{sym, subst, arith, refl, inl, inr}
 use Rattle.std.proofs.lemmas.Int.{ints, unsigned_abs-mul, fits_signed_from_abs}
-use Rattle.std.proofs.lemmas.List.Elements.{All-contains, All-head, All-tail, All-weaker, All-contains_itself}
-use lib.IntN.{ℤ, pos, ◌+ℤ◌, ◌-ℤ◌, ◌*ℤ◌, neg_ℤ, *ℤ_comm}
+use Rattle.std.proofs.lemmas.List.Elements.{All-contains, All-head, All-tail, All-weaker}
+use lib.IntN.{ℤ, pos, ◌+ℤ◌, ◌-ℤ◌, ◌*ℤ◌, *ℤ_comm}
 use lib.Signed.{◌≤ℤ◌}
 use Rattle.kind_num.specs.Exact.{within}
 use Rattle.kind_num.proofs.Within.{within-fits}
-use Rattle.kind_num.specs.declared.Shape.TheVariants.{Number}
 use Rattle.kind_num.specs.declared.Op.{Op}
 use Rattle.kind_num.specs.declared.Op.TheVariants.{Add, Sub, Mul, Div}
-use Rattle.proof_steps.specs.StopView.{Operation}
 use Rattle.proof_steps.specs.Rows.{Form, rows_of, columns_of, AllDiffer}
-use Rattle.proof_steps.specs.Bounds.{Bound, HasRange, IsGiven}
+use Rattle.proof_steps.specs.Bounds.{Bound, IsGiven}
 use Rattle.proof_steps.specs.Splits.{IsSplit, AreSplits, AreSplitsAfter}
-use Rattle.proof_steps.specs.Stopped.{Row, IsRowOf, numbers, IsLimit, IsSplitEnd, IsNumberOf, IsFactor, Product, IsProduct, signed, total, HasOperands, AreOperands, result_of}
-use Rattle.cause_laws.specs.Small.{IsSmall, HasItsVariables, HasSmallNumbers}
+use Rattle.proof_steps.specs.Stopped.{Row, IsRowOf, numbers, IsSplitEnd, IsNumberOf, IsFactor, Product, IsProduct, signed, total, AreOperands, result_of}
+use Rattle.cause_laws.specs.Small.{IsSmall, HasItsVariables, EachHasRange, HasSmallNumbers}
 use Rattle.cause_laws.specs.Laws.{SmallNumbersStayWithin}
 use Rattle.cause_laws.proofs.Summed.{summed, summed-map, summed-append, summed-same, below, summed-different, size-at, is-size, past-end, all-sizes}
 use Rattle.cause_laws.proofs.Rowed.{small-numbers, numbers-sum}
@@ -103,8 +101,7 @@ between : (l c u z : ℤ) → IsSmall l → IsSmall u → l ≤ℤ c → (c +ℤ
 between l c u z a b p q (inl e) = omega (arith, ints)
 between l c u z a b p q (inr e) = omega (arith, ints)
 
-module _ (f : Form) (low high : ℕ → ℤ) (over : HasItsVariables f) (small : HasSmallNumbers f)
-    (ranges : (x : ℕ) → slice_get f.shapes x ≡ Some Number → HasRange f x (low x) (high x)) where
+module _ (f : Form) (low high : ℕ → ℤ) (over : HasItsVariables f) (ranges : EachHasRange f low high) (small : HasSmallNumbers f) where
   given-small : (b : Bound) → IsGiven f b → IsSmall b.limit
   given-small b (l, c, e) = small.limits b.limit (b, (l, e), refl)
 
@@ -186,10 +183,10 @@ module _ (f : Form) (low high : ℕ → ℤ) (over : HasItsVariables f) (small :
       operands-within Div left right h = absurd h
 
 pub small-within : SmallNumbersStayWithin
-small-within f budgets low high step pairs over small ranges t =
+small-within f budgets low high step pairs over ranges small t =
     let h = t.1 in
     let w : within (result_of step.past.op step.past.left step.past.right) ≡ true =
-    operands-within f low high over small ranges pairs t.0 h.rows h.are_rows h.place h.row h.is_row
+    operands-within f low high over ranges small pairs t.0 h.rows h.are_rows h.place h.row h.is_row
     step.past.op step.past.left step.past.right h.operands in
     let o = h.outside in
     absurd cc

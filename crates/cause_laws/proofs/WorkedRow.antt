@@ -1,7 +1,7 @@
 -- The one row of the worked queries.
 use Prim.Native.Nat.{◌∣◌}
-use Rattle.std.specs.Prelude.{ℕ, zero, suc, ◌≡◌, ◌≢◌, ◌*◌, ◌<◌, ◌≤◌, ◌^◌, true, false, List, [], ◌∷◌, length, All, Contains, unsigned_abs}
-use Rattle.std.proofs.Common.{sym, ◌∙◌, ap, subst, arith, refl}
+use Rattle.std.specs.Prelude.{ℕ, zero, suc, ◌≡◌, ◌*◌, ◌<◌, ◌≤◌, List, [], ◌∷◌, length, All, Contains, unsigned_abs}
+use Rattle.std.proofs.Common.{sym, ap, subst, arith, refl}
 use Rattle.std.proofs.Math.Nat.{dvd-mul_right}
 use Rattle.std.proofs.lemmas.Int.{ints, unsigned_abs-mul}
 use Rattle.std.proofs.lemmas.List.Elements.{All-head, All-nil, All-cons}

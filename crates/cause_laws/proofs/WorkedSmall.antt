@@ -1,17 +1,17 @@
--- The numbers of the worked query are small.
-use Rattle.std.specs.Prelude.{ℕ, zero, suc, ◌≡◌, ◌<◌, ◌≤◌, ◌^◌, Bool, true, false, List, [], ◌∷◌, map, Option, Some, None, All, Contains, slice_get, unsigned_abs}
-use Rattle.std.proofs.Common.{sym, ap, subst, arith, refl}
-use Rattle.std.proofs.lemmas.Int.{ints}
-use Rattle.std.proofs.lemmas.List.Elements.{All-contains, All-nil, All-cons, All-from_recursion}
+-- The numbers of the worked query are small, and its bases are three.
+use Rattle.std.specs.Prelude.{ℕ, zero, suc, ◌≡◌, ◌<◌, true, false, [], ◌∷◌, length, map, Option, Some, None, All, Contains}
+use Rattle.std.proofs.Common.{subst, arith, refl}
+use Rattle.std.proofs.lemmas.List.Elements.{All-contains, All-head, All-nil, All-cons, All-from_recursion}
 use lib.IntN.{ℤ, pos, negsuc}
-use Rattle.kind_num.specs.declared.Shape.TheVariants.{Number}
 use Rattle.proof_steps.specs.declared.Literal.{Literal}
 use Rattle.proof_steps.specs.declared.Literal.TheVariants.{Flag, Atom}
 use Rattle.proof_steps.specs.View.{Inequality}
-use Rattle.proof_steps.specs.Bounds.{Bound, HasRange, bound_of_literal}
+use Rattle.proof_steps.specs.Bounds.{Bound, bound_of_literal}
 use Rattle.proof_steps.specs.Stopped.{IsCoefficient, IsLimit}
-use Rattle.cause_laws.specs.Small.{IsSmall, HasSmallNumbers, HasItsVariables}
-use Rattle.cause_laws.specs.Worked.{near, near_low, near_high}
+use Rattle.proof_steps.specs.Rows.{rows_of, columns_of}
+use Rattle.cause_laws.specs.Bases.{AreAllBases}
+use Rattle.cause_laws.specs.Small.{IsSmall, EachHasRange, HasSmallNumbers, HasItsVariables}
+use Rattle.cause_laws.specs.Worked.{near, near_low, near_high, three_bases}
 use Rattle.cause_laws.proofs.WorkedRow.{multipliers-small, entries-small}
 
 abbrev small-of : Option Bound → Type 0
@@ -79,7 +79,7 @@ its-variables = All-from_recursion OneOf near.atoms (
   ),
 )
 
-pub near-ranges : (x : ℕ) → slice_get near.shapes x ≡ Some Number → HasRange near x (near_low x) (near_high x)
+pub near-ranges : EachHasRange near near_low near_high
 near-ranges zero e = record {
   from_low = (Atom 2 true, (1, omega arith, refl), refl);
   to_high = (Atom 3 true, (2, omega arith, refl), refl);
@@ -89,3 +89,14 @@ near-ranges (suc zero) e = record {
   to_high = (Atom 5 true, (4, omega arith, refl), refl);
 }
 near-ranges (suc (suc x)) e = absurd cc
+
+-- each basis is one of the three columns
+pub all-bases : AreAllBases (rows_of near) (columns_of near) three_bases
+all-bases [] h = let e : ◌≡◌ {A = ℕ} 0 1 = h.count in absurd (omega arith)
+all-bases (c ∷ d ∷ rest) h = let e : length (c ∷ d ∷ rest) ≡ 1 = h.count in absurd (omega arith)
+all-bases (c ∷ []) h = (c ∷ [], listed c (All-head (λ c. c < columns_of near) c [] h.in_range), λ d. (λ i. i, λ i. i)) where
+  listed : (c : ℕ) → c < 3 → Contains three_bases (c ∷ [])
+  listed zero l = (0, omega arith, refl)
+  listed (suc zero) l = (1, omega arith, refl)
+  listed (suc (suc zero)) l = (2, omega arith, refl)
+  listed (suc (suc (suc c))) l = absurd (omega arith)

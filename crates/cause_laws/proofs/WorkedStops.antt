@@ -1,21 +1,21 @@
 -- True stops of the worked queries.
-use Rattle.std.specs.Prelude.{ℕ, zero, suc, ◌≡◌, ◌≢◌, ◌==◌, ◌<◌, Bool, true, false, cond, List, [], ◌∷◌, Option, Some, None, map, All, Contains, slice_get}
-use Rattle.std.proofs.Common.{sym, ◌∙◌, ap, subst, arith, refl, inl, inr}
+use Rattle.std.specs.Prelude.{ℕ, zero, suc, ◌≡◌, ◌≢◌, ◌==◌, ◌<◌, Bool, true, false, cond, List, [], ◌∷◌, Option, Some, None, map, Contains}
+use Rattle.std.proofs.Common.{sym, ap, subst, arith, refl, inl, inr}
 use Rattle.std.proofs.lemmas.Int.{ints}
 use Rattle.std.proofs.lemmas.List.Elements.{All-nil, All-cons}
 use Rattle.std.proofs.lemmas.Bool.Decides.{nat_tests}
 use lib.IntN.{ℤ, pos, negsuc, ◌+ℤ◌, ◌*ℤ◌}
 use lib.Signed.{◌≤ℤ◌}
 use Rattle.kind_num.specs.Exact as e
-use Rattle.kind_num.specs.declared.Shape.TheVariants.{Number}
 use Rattle.proof_steps.specs.declared.Literal.{Literal}
-use Rattle.proof_steps.specs.declared.Literal.TheVariants.{Flag, Atom}
+use Rattle.proof_steps.specs.declared.Literal.TheVariants.{Atom}
 use Rattle.proof_steps.specs.Rows.{HasValue, AllDiffer, entry, combined, rows_of, columns_of}
 use Rattle.proof_steps.specs.Bounds.{Bound, IsBound, IsGiven, HasRange, bound_of_literal}
 use Rattle.proof_steps.specs.Splits.{IsStand, IsBetween, AreSplits}
 use Rattle.proof_steps.specs.Pivots.{Position, Misses, CanEnter, Pivots, first_position}
 use Rattle.proof_steps.specs.StopView.{pivots, past}
 use Rattle.proof_steps.specs.Stopped.{IsTrueOf, Row, IsRowOf, bound_view}
+use Rattle.cause_laws.specs.Small.{EachHasRange}
 use Rattle.cause_laws.specs.Worked.{near, far, far_ends, large, doubled, crossing, splits_of, pivots_of}
 use Rattle.cause_laws.proofs.WorkedRow.{alone-in, sum-row, sum-basis, x-row, x-basis, far-entry}
 
@@ -253,7 +253,7 @@ far-past = (
     x-at-least : Bound
     x-at-least = record { column = 0; upper = false; limit = large }
 
-pub far-ranges : (x : ℕ) → slice_get far.shapes x ≡ Some Number → HasRange far x (far_ends x) (far_ends x)
+pub far-ranges : EachHasRange far far_ends far_ends
 far-ranges zero e = record {
   from_low = (Atom 2 true, (1, omega arith, refl), refl);
   to_high = (Atom 3 true, (2, omega arith, refl), refl);

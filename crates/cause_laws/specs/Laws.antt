@@ -1,15 +1,13 @@
 -- What a true stop of pivots, or of an operation outside 128 bits, needs.
-use Rattle.std.specs.Prelude.{ℕ, suc, ◌≡◌, ◌*◌, ◌<◌, ◌^◌, List, Some, length, slice_get}
+use Rattle.std.specs.Prelude.{ℕ, suc, ◌*◌, ◌<◌, ◌^◌, List, length}
 use lib.IntN.{ℤ}
-use Rattle.kind_num.specs.declared.Shape.TheVariants.{Number}
 use Rattle.proof_steps.specs.declared.stops.Budgets.{Budgets}
 use Rattle.proof_steps.specs.StopView.{pivots, past, Beginning, Operation}
 use Rattle.proof_steps.specs.Rows.{Form, IsBasis, rows_of, columns_of}
-use Rattle.proof_steps.specs.Bounds.{HasRange}
 use Rattle.proof_steps.specs.Pivots.{CanPivot, first_position}
 use Rattle.proof_steps.specs.Stopped.{IsTrueOf}
 use Rattle.cause_laws.specs.Bases.{AreAllBases}
-use Rattle.cause_laws.specs.Small.{HasItsVariables, HasSmallNumbers}
+use Rattle.cause_laws.specs.Small.{HasItsVariables, EachHasRange, HasSmallNumbers}
 
 -- The run that a check begins has fewer pivots than 3 to the power of the columns, whether or not its bounds cross: a
 -- column whose bounds cross never enters, so that it leaves at most once.
@@ -35,6 +33,5 @@ BasesBoundPivots =
 abbrev pub SmallNumbersStayWithin : Type 0
 SmallNumbersStayWithin =
     (f : Form) (budgets : Budgets) (low high : ℕ → ℤ) (step : Operation) (pairs : List (ℕ × ℤ))
-    → HasItsVariables f → HasSmallNumbers f
-    → ((x : ℕ) → slice_get f.shapes x ≡ Some Number → HasRange f x (low x) (high x))
+    → HasItsVariables f → EachHasRange f low high → HasSmallNumbers f
     → ¬ IsTrueOf f budgets (past step pairs)

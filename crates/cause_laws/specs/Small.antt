@@ -15,6 +15,10 @@ IsSmall z = unsigned_abs z < 2 ^ 40
 abbrev pub HasItsVariables : Form → Type 0
 HasItsVariables f = All (λ (i : Inequality). All (λ (t : ℕ × ℤ). t.0 < length f.shapes) i.terms) f.atoms
 
+-- clauses of one literal give each number of the query the range from low to high
+abbrev pub EachHasRange : Form → (ℕ → ℤ) → (ℕ → ℤ) → Type 0
+EachHasRange f low high = (x : ℕ) → slice_get f.shapes x ≡ Some Number → HasRange f x (low x) (high x)
+
 -- few columns, and small numbers: the multipliers and entries of each row of a column in a basis, the atoms'
 -- coefficients, and the bounds of the query's literals, among which are the ends of its ranges
 pub record HasSmallNumbers (f : Form) : Type 0 where

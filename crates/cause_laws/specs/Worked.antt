@@ -71,3 +71,7 @@ splits_of n = record { conflicts = 0; splits = n; pivots = 0 }
 
 abbrev pub pivots_of : ℕ → Budgets
 pivots_of n = record { conflicts = 0; splits = 0; pivots = n }
+
+-- of one row with three columns each column is a basis
+abbrev pub three_bases : List (List ℕ)
+three_bases = (0 ∷ []) ∷ (1 ∷ []) ∷ (2 ∷ []) ∷ []

@@ -1,15 +1,14 @@
 //! Rows at the bounds of the laws, worked out by hand: each function is its contract.
 
-ghost use Rattle.std.specs.Prelude.{ℕ, ◌≡◌, List, [], ◌∷◌, Some, slice_get};
+ghost use Rattle.std.specs.Prelude.{ℕ, List, [], ◌∷◌};
 ghost use lib.IntN.{ℤ, pos};
-ghost use Rattle.kind_num.specs.declared.Shape.TheVariants.{Number};
-ghost use Rattle.proof_steps.specs.Bounds.{HasRange};
 ghost use Rattle.proof_steps.specs.StopView.{splits, pivots, past, Beginning, Operation};
 ghost use Rattle.proof_steps.specs.declared.stops.Budgets.{Budgets as Limits};
-ghost use Rattle.proof_steps.specs.Rows.{Form};
+ghost use Rattle.proof_steps.specs.Rows.{Form, rows_of, columns_of};
 ghost use Rattle.proof_steps.specs.Stopped.{IsTrueOf};
-ghost use Rattle.cause_laws.specs.Small.{HasSmallNumbers};
-ghost use Rattle.cause_laws.specs.Worked.{near, far, far_ends, doubled, crossing, splits_of, pivots_of};
+ghost use Rattle.cause_laws.specs.Bases.{AreAllBases};
+ghost use Rattle.cause_laws.specs.Small.{EachHasRange, HasSmallNumbers};
+ghost use Rattle.cause_laws.specs.Worked.{near, far, far_ends, doubled, crossing, three_bases, splits_of, pivots_of};
 
 use crate::laws::{pivots_are_few, small_numbers_stay_within};
 
@@ -35,6 +34,11 @@ pub fn three_columns_need_no_more()
     pivots_are_few();
 }
 
+/// Each basis is one of the three columns.
+pub fn near_has_three_bases()
+    ensures { AreAllBases (rows_of near) (columns_of near) three_bases }
+{}
+
 /// The numbers of the query are small.
 pub fn near_is_small()
     ensures { HasSmallNumbers near }
@@ -50,6 +54,6 @@ pub fn near_stays_within()
 
 /// With x from 2^126 to 2^126, `2*x` of the row `2*x - 2*y - s = 0` is outside: ranges alone are not enough.
 pub fn far_is_past()
-    ensures ranges { (x : ℕ) → slice_get far.shapes x ≡ Some Number → HasRange far x (far_ends x) (far_ends x) }
+    ensures ranges { EachHasRange far far_ends far_ends }
     ensures past { IsTrueOf far (splits_of 0) (past doubled []) }
 {}

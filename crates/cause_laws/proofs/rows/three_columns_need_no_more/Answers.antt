@@ -1,4 +1,4 @@
-use Rattle.std.specs.Prelude.{suc, ◌<◌, ◌^◌}
+use Rattle.std.specs.Prelude.{◌<◌, ◌^◌}
 use Rattle.std.proofs.Common.{arith}
 use Rattle.cause_laws.specs.Worked.{near, pivots_of}
 use Rattle.cause_laws.proofs.rows.three_columns_need_no_more.Goals as goal
