@@ -7,3 +7,4 @@ pub mod Within
 pub mod WorkedRow
 pub mod WorkedSmall
 pub mod WorkedStops
+pub mod Complete

@@ -1,4 +1,4 @@
--- The numbers of the worked query are small, and its bases are three.
+-- The numbers of the worked query are small, and its bases are three; with ample budgets no stop is true of it.
 use Rattle.std.specs.Prelude.{ℕ, zero, suc, ◌≡◌, ◌<◌, true, false, [], ◌∷◌, length, map, Option, Some, None, All, Contains}
 use Rattle.std.proofs.Common.{subst, arith, refl}
 use Rattle.std.proofs.lemmas.List.Elements.{All-contains, All-head, All-nil, All-cons, All-from_recursion}
@@ -7,11 +7,14 @@ use Rattle.proof_steps.specs.declared.Literal.{Literal}
 use Rattle.proof_steps.specs.declared.Literal.TheVariants.{Flag, Atom}
 use Rattle.proof_steps.specs.View.{Inequality}
 use Rattle.proof_steps.specs.Bounds.{Bound, bound_of_literal}
-use Rattle.proof_steps.specs.Stopped.{IsCoefficient, IsLimit}
+use Rattle.proof_steps.specs.Stopped.{IsCoefficient, IsLimit, IsTrueOf}
 use Rattle.proof_steps.specs.Rows.{rows_of, columns_of}
+use Rattle.proof_steps.specs.StopView.{Halt, conflicts, splits, pivots, past}
+use Rattle.smt_solver.specs.NeedRoom.{RangesSuffice}
+use Rattle.cause_laws.specs.Laws.{BasesBoundPivots, SmallNumbersStayWithin}
 use Rattle.cause_laws.specs.Bases.{AreAllBases}
 use Rattle.cause_laws.specs.Small.{IsSmall, EachHasRange, HasSmallNumbers, HasItsVariables}
-use Rattle.cause_laws.specs.Worked.{near, near_low, near_high, three_bases}
+use Rattle.cause_laws.specs.Worked.{near, near_low, near_high, three_bases, ample}
 use Rattle.cause_laws.proofs.WorkedRow.{multipliers-small, entries-small}
 
 abbrev small-of : Option Bound → Type 0
@@ -100,3 +103,11 @@ all-bases (c ∷ []) h = (c ∷ [], listed c (All-head (λ c. c < columns_of nea
   listed (suc zero) l = (1, omega arith, refl)
   listed (suc (suc zero)) l = (2, omega arith, refl)
   listed (suc (suc (suc c))) l = absurd (omega arith)
+
+module _ (ranges : RangesSuffice) (bases : BasesBoundPivots) (small : SmallNumbersStayWithin) where
+  pub no-stop : (halt : Halt) → ¬ IsTrueOf near ample halt
+  no-stop (conflicts clauses pairs) =
+      (ranges near near_low near_high ample record { given = near-ranges }).conflicts_suffice (omega arith) clauses pairs
+  no-stop (splits pairs) = (ranges near near_low near_high ample record { given = near-ranges }).splits_suffice (omega arith) pairs
+  no-stop (pivots start pairs) = λ h. let l = bases near ample three_bases start pairs all-bases h in omega arith
+  no-stop (past step pairs) = small near ample near_low near_high step pairs its-variables near-ranges is-small

@@ -75,3 +75,7 @@ pivots_of n = record { conflicts = 0; splits = 0; pivots = n }
 -- of one row with three columns each column is a basis
 abbrev pub three_bases : List (List ℕ)
 three_bases = (0 ∷ []) ∷ (1 ∷ []) ∷ (2 ∷ []) ∷ []
+
+-- 3 to the power of five atoms and a room of 1, one split more than the room, and 3 bases times 3 to the columns
+abbrev pub ample : Budgets
+ample = record { conflicts = 729; splits = 2; pivots = 81 }

@@ -2,15 +2,16 @@
 
 ghost use Rattle.std.specs.Prelude.{ℕ, List, [], ◌∷◌};
 ghost use lib.IntN.{ℤ, pos};
-ghost use Rattle.proof_steps.specs.StopView.{splits, pivots, past, Beginning, Operation};
+ghost use Rattle.proof_steps.specs.StopView.{Halt, splits, pivots, past, Beginning, Operation};
 ghost use Rattle.proof_steps.specs.declared.stops.Budgets.{Budgets as Limits};
 ghost use Rattle.proof_steps.specs.Rows.{Form, rows_of, columns_of};
 ghost use Rattle.proof_steps.specs.Stopped.{IsTrueOf};
 ghost use Rattle.cause_laws.specs.Bases.{AreAllBases};
 ghost use Rattle.cause_laws.specs.Small.{EachHasRange, HasSmallNumbers};
-ghost use Rattle.cause_laws.specs.Worked.{near, far, far_ends, doubled, crossing, three_bases, splits_of, pivots_of};
+ghost use Rattle.cause_laws.specs.Worked.{near, far, far_ends, doubled, crossing, ample, three_bases, splits_of, pivots_of};
 
-use crate::laws::{pivots_are_few, small_numbers_stay_within};
+use crate::laws::{bases_bound_pivots, pivots_are_few, small_numbers_stay_within};
+use smt_solver::laws::ranges_suffice;
 
 /// Whatever the query, a budget of no splits is used up at the start.
 pub fn no_split_is_spent_at_once()
@@ -49,6 +50,16 @@ pub fn near_stays_within()
     ensures { (budgets : Limits) (step : Operation) (pairs : List (ℕ × ℤ)) → ¬ IsTrueOf near budgets (past step pairs) }
 {
     near_is_small();
+    small_numbers_stay_within();
+}
+
+/// With a budget above the room, one of 3 to the number of atoms and room, and one of 3 bases times 3^3, no stop is true
+/// of it.
+pub fn near_has_no_stop()
+    ensures { (halt : Halt) → ¬ IsTrueOf near ample halt }
+{
+    ranges_suffice();
+    bases_bound_pivots();
     small_numbers_stay_within();
 }
 
