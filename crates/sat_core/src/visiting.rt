@@ -31,13 +31,16 @@ fn can_stand(assignment: &Assignment, literal: Literal, other: Literal) -> bool
     !assignment.is_false(literal) && !same(literal, other)
 }
 
-/// A literal of the clause that is not false, beside another one.
+/// A literal of the clause that is not false, beside another one. A learnt clause's last literals became
+/// false first, so they are tried first: what is true among them stays so for longest.
 pub fn replacement(assignment: &Assignment, clause: &[Literal], other: Literal) -> Option<Literal>
     ensures { IsReplacement assignment.now clause.now other result }
 {
-    for literal in clause {
-        if can_stand(assignment, *literal, other) {
-            return Some(*literal);
+    let mut i = clause.len();
+    while i > 0 {
+        i -= 1;
+        if can_stand(assignment, clause[i], other) {
+            return Some(clause[i]);
         }
     }
     None
