@@ -1,6 +1,5 @@
 -- In a checked program the names of what is known of a declaration differ.
-use Rattle.std.proofs.Common.{◌≡◌, List, [], ◌∷◌, map, sym, subst}
-use Rattle.std.specs.Prelude.{Contains}
+use Rattle.std.proofs.Common.{List, [], ◌∷◌, map, sym, subst}
 use Rattle.std.specs.List.{AllByRecursion}
 use Rattle.lus_tree.specs.Tree.{Component, Program}
 use Rattle.lus_meaning.specs.ClockFaults.{components}
@@ -9,7 +8,7 @@ use Rattle.lus_meaning.specs.RuleLaws.{NamesOnce}
 use Rattle.lus_meaning.specs.Scene.{variables}
 use Rattle.lus_meaning.specs.WellMade.{AreDistinct}
 use Rattle.rule_laws.proofs.Covered.{all_contained}
-use Rattle.sys_tables.specs.Tabled.{Tabled, table_of}
+use Rattle.sys_tables.specs.Tabled.{table_of}
 use Rattle.frame_names.specs.Known.{HasNamesOnce}
 use Rattle.frame_names.proofs.Walks.{names_same}
 

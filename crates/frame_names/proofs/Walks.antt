@@ -7,9 +7,9 @@ use Rattle.std.proofs.lemmas.Option.{none-some, slice_get-map}
 use Rattle.lus_tree.specs.Tree.{Name, Variable, Component, Program}
 use Rattle.lus_meaning.specs.ClockFaults.{components}
 use Rattle.lus_meaning.specs.Depends.{named_in}
-use Rattle.lus_meaning.specs.Program.{all_sites, constants_in, instances_with, instance_of}
+use Rattle.lus_meaning.specs.Program.{all_sites, instances_with, instance_of}
 use Rattle.lus_meaning.specs.Refusals.{IsChecked}
-use Rattle.lus_meaning.specs.Scene.{Manner, plain, Site, Instance, instance, component_of, instance_at, call_instance, no_instance, variables}
+use Rattle.lus_meaning.specs.Scene.{Manner, plain, Site, Instance, component_of, instance_at, call_instance, no_instance, variables}
 use Rattle.lus_meaning.specs.Slots.{Slot, slots, width}
 use Rattle.rule_laws.proofs.Truths.{same_some}
 use Rattle.lus_streams.specs.Streams.{names_of}
@@ -28,14 +28,14 @@ use Rattle.name_table.specs.Names.{number_of as name_place}
 use Rattle.path_laws.proofs.Numbers.{CountedFrom}
 use Rattle.sys_meaning.specs.Slot.{Place, beat, named, own, in_call, place_of, same_place, number_in as place_number}
 use Rattle.sys_meaning.specs.System.{below_call, number_of}
-use Rattle.sys_places.specs.Own.{OwnStands, name_number}
+use Rattle.sys_places.specs.Own.{OwnStands}
 use Rattle.sys_places.specs.Places.{StandsAt, StandsAtCalls, StandsAtRoot, OfEachCall, CallStandsAt, own_end}
 use Rattle.sys_places.proofs.Parts.{call_number, numbered_calls}
 use Rattle.sys_tables.specs.Tabled.{Linked, all_linked, linked, named_stream, table_of}
 use Rattle.sys_tables.specs.Tabled.{place_of as declared_place}
 use Rattle.sight_laws.specs.Sights.{CalleesAreThere, CalleesStand}
 use Rattle.frame_names.specs.Known.{Known, callee_of, known_of, own_cells_of, stream_names}
-use Rattle.frame_names.specs.Slots.{KnowsSlots, slot_there}
+use Rattle.frame_names.specs.Slots.{KnowsSlots}
 use Rattle.frame_names.specs.Walk.{analysed, called, number_in, number_there, slot_of, stands_after, walked}
 use Rattle.frame_names.specs.declared.walk.Standing.{Standing}
 

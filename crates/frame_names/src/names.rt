@@ -43,11 +43,7 @@ impl FrameNames {
 /// # Errors
 ///
 /// Want of memory.
-pub fn frame_names(
-    alloc: Global,
-    program: &Program,
-    place: usize,
-) -> Result<FrameNames, AllocError>
+pub fn frame_names(alloc: Global, program: &Program, place: usize) -> Result<FrameNames, AllocError>
     requires checked { IsChecked (program_view program.now) }
     // Where the declaration's system has at most 20,000 variables, each slot has the number that its name has there.
     ensures { IfOk result (λ f. KnowsSlots (program_view program.now) place (slot_by f)) }

@@ -1,10 +1,9 @@
-use Rattle.std.proofs.Common.{◌≡◌, map, sym, ap, ◌∙◌, subst}
+use Rattle.std.proofs.Common.{map, sym, ap, ◌∙◌, subst}
 use Rattle.std.specs.List.{AllByRecursion}
 use Rattle.lus_tree.specs.View.{program_view}
 use Rattle.sys_tables.specs.Views.{tables_view}
 use Rattle.frame_names.specs.Known.{HasNamesOnce, known_of}
 use Rattle.frame_names.specs.Slots.{KnowsSlots}
-use Rattle.frame_names.specs.Views.{known_view}
 use Rattle.frame_names.specs.Walk.{slot_of}
 use Rattle.frame_names.proofs.Once.{all_once}
 use Rattle.frame_names.proofs.Walks.{knows_slots}
