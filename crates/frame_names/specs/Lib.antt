@@ -1,0 +1,4 @@
+pub mod Known
+pub mod Walk
+pub mod Slots
+pub mod Views
