@@ -161,3 +161,10 @@ both_less rs a b c o e f =
     let h : free_count b < free_count a = rw e (down_less rs a o) in
     let l : free_count c ≤ free_count b = rw f ((up_spreads rs b).fewer) in
     omega (arith, h, l)
+
+-- ---- the row at a place
+
+pub place_spreads : (rs : List Row) (i : ℕ) (d : Row) (ms : List Bool) → i < length rs → Spreads rs ms (stepped ms (get_or rs i d))
+place_spreads [] i d ms l = absurd (omega (arith, l))
+place_spreads (r ∷ rs) zero d ms l = step_spreads r rs ms
+place_spreads (r ∷ rs) (suc i) d ms l = more_rows r rs ms (stepped ms (get_or rs i d)) (place_spreads rs i d ms (omega (arith, l)))
