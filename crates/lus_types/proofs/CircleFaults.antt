@@ -268,16 +268,21 @@ module _ (p : Program) where
       rest_of true x fs a = a.1
       rest_of false x fs a = a
 
+      abbrev Further : Component → List Spelled → Type 0
+      Further n ws = stays_below ranks (rank n.name.text) (map (link_to table) ws) ≡ true
+          → AllByRecursion P (level_faults ranks (rank n.name.text) (map (link_to table) ws))
+          → AllByRecursion P (map (λ f. fault node_recursion f.at) (filter (λ f. named_in n.name.text (reached (length p) (graph_of p p) (f.text ∷ []))) ws))
+
       row_level : (n : Component) (ws : List Spelled) → stays_below ranks (rank n.name.text) (map (link_to table) ws) ≡ true
           → AllByRecursion P (level_faults ranks (rank n.name.text) (map (link_to table) ws))
           → AllByRecursion P (map (λ f. fault node_recursion f.at) (filter (λ f. named_in n.name.text (reached (length p) (graph_of p p) (f.text ∷ []))) ws))
       row_level n [] s a = tt
-      row_level n (w ∷ ws) s a = go (cases_Bool (named_in n.name.text (reached (length p) (graph_of p p) (w.text ∷ []))))
+      row_level n (w ∷ ws) s a = go (row_level n ws) (cases_Bool (named_in n.name.text (reached (length p) (graph_of p p) (w.text ∷ []))))
           (and_parts (nat_le (rank w.text) (rank n.name.text)) (stays_below ranks (rank n.name.text) (map (link_to table) ws)) s)
         where
-          rest : stays_below ranks (rank n.name.text) (map (link_to table) ws) ≡ true → AllByRecursion P
+          rest : Further n ws → stays_below ranks (rank n.name.text) (map (link_to table) ws) ≡ true → AllByRecursion P
               (map (λ f. fault node_recursion f.at) (filter (λ f. named_in n.name.text (reached (length p) (graph_of p p) (f.text ∷ []))) ws))
-          rest h = row_level n ws h (rest_of (rank w.text == rank n.name.text) w (level_faults ranks (rank n.name.text) (map (link_to table) ws)) a)
+          rest more h = more h (rest_of (rank w.text == rank n.name.text) w (level_faults ranks (rank n.name.text) (map (link_to table) ws)) a)
 
           first : (rank w.text == rank n.name.text) ≡ true → P (fault node_recursion w.at)
           first e =
@@ -285,13 +290,13 @@ module _ (p : Program) where
               subst (λ b. AllByRecursion P (if_so b node_recursion w.at ++ level_faults ranks (rank n.name.text) (map (link_to table) ws))) e a in
               both.0
 
-          go : (named_in n.name.text (reached (length p) (graph_of p p) (w.text ∷ [])) ≡ true)
+          go : Further n ws → (named_in n.name.text (reached (length p) (graph_of p p) (w.text ∷ [])) ≡ true)
               ⊎ (named_in n.name.text (reached (length p) (graph_of p p) (w.text ∷ [])) ≡ false)
               → (nat_le (rank w.text) (rank n.name.text) ≡ true) × (stays_below ranks (rank n.name.text) (map (link_to table) ws) ≡ true)
               → AllByRecursion P
               (map (λ f. fault node_recursion f.at) (filter (λ f. named_in n.name.text (reached (length p) (graph_of p p) (f.text ∷ []))) (w ∷ ws)))
-          go (inl t) h = rw t (first (equal_rank n w h.0 t), rest h.1)
-          go (inr f) h = rw f (rest h.1)
+          go more (inl t) h = rw t (first (equal_rank n w h.0 t), rest more h.1)
+          go more (inr f) h = rw f (rest more h.1)
 
       parts_of : (xs ys : List Refused) → AllByRecursion P (xs ++ ys) → AllByRecursion P xs × AllByRecursion P ys
       parts_of [] ys a = (tt, a)

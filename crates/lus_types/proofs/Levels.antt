@@ -1,6 +1,6 @@
 -- The first of the links to numbers of equal rank, where no number leads to one of a greater rank.
-use Rattle.std.proofs.Common.{◌≡◌, ℕ, ◌+◌, ◌<◌, Bool, true, false, ◌&&◌, ◌||◌, cond, List, [], ◌∷◌, ◌++◌, map, flat_map, length, get_or, refl, ap, ◌∙◌, sym, subst, inl, inr, arith, Option, Some, None}
-use Rattle.std.specs.Prelude.{◌==◌, nat_lt, slice_get, Contains}
+use Rattle.std.proofs.Common.{◌≡◌, ℕ, ◌+◌, ◌<◌, Bool, true, false, ◌&&◌, ◌||◌, cond, List, [], ◌∷◌, ◌++◌, map, flat_map, drop, length, get_or, refl, ap, ◌∙◌, sym, subst, inl, inr, arith, Option, Some, None}
+use Rattle.std.specs.Prelude.{◌==◌, nat_lt, option_map, slice_get, Contains}
 use Rattle.std.specs.List.{AllByRecursion}
 use Rattle.std.proofs.Math.Logic.{◌⊎◌}
 use Rattle.std.proofs.lemmas.Bool.{false≢true, eqb-true, and_parts}
@@ -16,16 +16,18 @@ use Rattle.lus_meaning.specs.NameFaults.{callees, graph_of, reached, recursion_f
 use Rattle.lus_meaning.specs.Depends.{named_in}
 use Rattle.lus_meaning.specs.Refusals.{HasNone}
 use Rattle.lus_meaning.specs.Scene.{no_component}
+use Rattle.lus_types.specs.declared.marks.Row.{Row as CodeRow}
 use Rattle.lus_types.specs.declared.recursion.Graph.{Graph}
 use Rattle.lus_types.specs.Called.{all_level_faults, level_faults, names_behind, none_rises, rank_of, row_of}
 use Rattle.lus_types.specs.Circles.{IsGraph}
 use Rattle.lus_types.specs.Firsts.{circle_faults, stands_at}
-use Rattle.lus_types.specs.Marks.{Link, Row, row_view}
+use Rattle.lus_types.specs.Marks.{Link, Row, link_view, row_view}
 use Rattle.lus_scopes.specs.Least.{IsLeast, noted, noted_all}
 use Rattle.lus_scopes.specs.Notes.{Notes}
-use Rattle.lus_scopes.proofs.Leasts.{least_noted, least_of_all, none_in}
+use Rattle.lus_scopes.proofs.Leasts.{least_noted, least_of_all, noted_append}
+use Rattle.lus_scopes.proofs.Loops.{dropped}
 use Rattle.lus_scopes.proofs.Noting.{nothing_noted}
-use Rattle.lus_scopes.proofs.Order.{test}
+use Rattle.lus_types.proofs.Circled.{as_many}
 use Rattle.lus_types.proofs.CircleFaults.{at_number, level_holds}
 
 -- ---- what is so of each
@@ -67,6 +69,10 @@ of_reason q r e = ap (λ (z : Reason). fault z r.at) e
 
 -- ---- the first of them
 
+-- by line, column and number
+abbrev test : ℕ → ℕ → ℕ → ℕ → ℕ → ℕ → Bool
+test l c n m d k = (nat_lt l m || ((l == m) && nat_lt c d)) || (((l == m) && (c == d)) && nat_lt n k)
+
 neither : (l c n m d k p e j : ℕ) → test l c n m d k ≡ false → test m d k p e j ≡ false → test l c n p e j ≡ false
 neither l c n m d k p e j a b = grind (arith, nat_tests)
 
@@ -74,6 +80,20 @@ neither l c n m d k p e j a b = grind (arith, nat_tests)
 not_before : (s r q : Refused) → comes_before s r ≡ false → comes_before r q ≡ false → comes_before s q ≡ false
 not_before s r q =
     neither s.at.line s.at.column (number_of s.reason) r.at.line r.at.column (number_of r.reason) q.at.line q.at.column (number_of q.reason)
+
+no_place : (o : Option Refused) → option_map (λ r. r.at) o ≡ None → o ≡ None
+no_place None e = refl
+no_place (Some r) e = absurd cc
+
+some_place : (at : Pos) → option_map (λ (r : Refused). r.at) None ≡ Some at → ⊥
+some_place at e = absurd cc
+
+one_place : (d a b : Pos) → Some a ≡ Some b → a ≡ b
+one_place d a b e = ap of e
+  where
+    of : Option Pos → Pos
+    of None = d
+    of (Some x) = x
 
 module _ (p : Program) (g : Graph) (is : IsGraph p g) (ranks : List ℕ) (stay : none_rises ranks (map row_view g.rows.items) ≡ true) where
   abbrev level : List Refused
@@ -98,6 +118,36 @@ module _ (p : Program) (g : Graph) (is : IsGraph p g) (ranks : List ℕ) (stay :
         broken = c;
         first = holds (λ s. comes_before s (fault node_recursion r.at) ≡ false) (λ s d. subst (λ (q : Refused). comes_before s q ≡ false) same (i.first s d));
       }
+
+  module _ (o q : Option Refused) (none : o ≡ None) (all : q ≡ noted_all o level) where
+    from_none : noted_all None level ≡ q
+    from_none = sym (all ∙ ap (λ (z : Option Refused). noted_all z level) none)
+
+    pub nowhere_by : option_map (λ r. r.at) q ≡ None → HasNone (Contains (circle_faults p))
+    nowhere_by e = nowhere (from_none ∙ no_place q e)
+
+    pub first_by : (at : Pos) → option_map (λ r. r.at) q ≡ Some at → Contains (circle_faults p) (fault node_recursion at)
+        → IsFirst (Contains (circle_faults p)) (fault node_recursion at)
+    first_by at e c = go q from_none e
+      where
+        go : (z : Option Refused) → noted_all None level ≡ z → option_map (λ r. r.at) z ≡ Some at → IsFirst (Contains (circle_faults p)) (fault node_recursion at)
+        go None n i = absurd (some_place at i)
+        go (Some r) n i =
+            let same : r.at ≡ at = one_place at r.at at i in
+            subst (λ (w : Pos). IsFirst (Contains (circle_faults p)) (fault node_recursion w)) same
+            (first r n (subst (λ (w : Pos). Contains (circle_faults p) (fault node_recursion w)) (sym same) c))
+
+-- ---- the links of one row after another
+
+pub next_row : (ranks : List ℕ) (rows : List CodeRow) (i : ℕ) (r : CodeRow) → i < length rows → r ≡ get_or rows i r → (k : ℕ) → k ≡ rank_of ranks r.from
+    → (o q : Option Refused) → q ≡ noted_all o (level_faults ranks k (map link_view r.links.items))
+    → noted_all q (all_level_faults ranks (map row_view (drop (i + 1) rows))) ≡ noted_all o (all_level_faults ranks (map row_view (drop i rows)))
+next_row ranks rows i r l e k f o q n =
+    let rest : List Refused = all_level_faults ranks (map row_view (drop (i + 1) rows)) in
+    ap (λ (z : Option Refused). noted_all z rest) n
+    ∙ ap (λ (j : ℕ). noted_all (noted_all o (level_faults ranks j (map link_view r.links.items))) rest) f
+    ∙ sym (noted_append o (level_faults ranks (rank_of ranks r.from) (map link_view r.links.items)) rest)
+    ∙ ap (λ (zs : List CodeRow). noted_all o (all_level_faults ranks (map row_view zs))) (sym (dropped rows i r l e))
 
 -- ---- one that was found
 
@@ -124,6 +174,18 @@ is_found p i n e (Some r) l at t =
     at_number (λ m. (q : Refused) → Contains (recursion_faults p m) q → Contains (circle_faults p) q) (components p)
     (each_in (recursion_faults p) (circle_faults p) (components p) (λ q c. c)) i n e (fault node_recursion at)
     (subst (λ (q : Refused). Contains (recursion_faults p n) q) same l.broken)
+
+none_in : (r : Refused) → Contains [] r → ⊥
+none_in r (k, l, e) = omega arith
+
+pub found_circle : (p : Program) (g : Graph) → IsGraph p g → (i : ℕ) → i < length g.rows.items → (o q : Option Refused) → o ≡ None
+    → ((r : Program) (n : Component) → IsGraph r g → slice_get (components r) i ≡ Some n → Notes o q (recursion_faults r n))
+    → (at : Pos) → stands_at q at ≡ true → Contains (circle_faults p) (fault node_recursion at)
+found_circle p g is i l o q e f at t =
+    let h : i < length (components p) = subst (λ k. i < k) (as_many p g is) l in
+    let s : slice_get (components p) i ≡ Some (get_or (components p) i no_component) = slice_get-get_or (components p) i no_component h in
+    is_found p i (get_or (components p) i no_component) s q
+    (f p (get_or (components p) i no_component) is s [] (subst (λ z. IsLeast z []) (sym e) none_in)) at t
 
 -- ---- what is noted
 

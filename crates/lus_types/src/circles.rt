@@ -1,6 +1,6 @@
 //! The first of the calls and imports that are on circles of declarations.
 
-ghost use Rattle.std.specs.Prelude.{◌≡◌, IfOk, Contains, map, true};
+ghost use Rattle.std.specs.Prelude.{◌≡◌, IfOk, Contains, map, option_map, true};
 ghost use Rattle.lus_tree.specs.Reason.{node_recursion};
 ghost use Rattle.lus_tree.specs.Tree.{Program as ProgramTree};
 ghost use Rattle.lus_meaning.specs.Faults.{fault};
@@ -66,7 +66,6 @@ fn note_level(least: &mut Least, ranks: &[usize], rank: usize, links: &[Link])
 }
 
 /// Notes the links to numbers of equal rank.
-#[tactic(auto, using(lus_scopes::proofs::Leasts::noted_append))]
 fn note_levels(least: &mut Least, ranks: &[usize], rows: &[Row])
     ensures { least_view least.new
         ≡ noted_all (least_view least.old) (all_level_faults ranks.now (map row_view rows.now)) }
@@ -107,6 +106,16 @@ fn stands_at(found: &Least, at: Pos) -> bool
     }
 }
 
+/// The place of the first fault.
+fn place_of(found: &Least) -> Option<Pos>
+    ensures { result ≡ option_map (λ r. r.at) (least_view found.now) }
+{
+    match &found.fault {
+        Some(fault) => Some(fault.at),
+        None => None,
+    }
+}
+
 /// Whether the link with this place is found to be on a circle.
 fn is_circle(alloc: Global, graph: &Graph, at: Pos) -> Result<bool, AllocError>
     ensures { IfOk result (λ b. (p : ProgramTree) → IsGraph p graph.now → b ≡ true
@@ -137,10 +146,10 @@ pub(crate) fn first_circle(alloc: Global, graph: &Graph) -> Result<FirstCircle, 
     }
     let mut level = Least::new();
     note_levels(&mut level, &ranks, &graph.rows);
-    match level.fault {
-        Some(fault) => {
-            if is_circle(alloc, graph, fault.at)? {
-                Ok(FirstCircle::At(fault.at))
+    match place_of(&level) {
+        Some(at) => {
+            if is_circle(alloc, graph, at)? {
+                Ok(FirstCircle::At(at))
             } else {
                 Ok(FirstCircle::Unclear)
             }
