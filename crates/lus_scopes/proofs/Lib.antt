@@ -17,3 +17,4 @@ pub mod Noting
 pub mod Loops
 pub mod FirstNamed
 pub mod Tables
+pub mod Counting

@@ -2,6 +2,7 @@ pub mod Least
 pub mod Notes
 pub mod Cut
 pub mod Worth
+pub mod Counts
 pub mod Meanings
 pub mod Scopes
 pub mod Walk

@@ -76,7 +76,7 @@ IsTable es t =
 
 abbrev pub callee_view : Callee → Declaration
 callee_view (Node n) = declared_node (node_view n.now)
-callee_view (Contract n) = declared_contract (contract_node_view n.now)
+callee_view (Contract c) = declared_contract (contract_node_view c.contract.now)
 
 -- the first declaration with parts of that name
 abbrev pub first_named : Program → Name → Option Declaration
@@ -88,8 +88,8 @@ first_named (declared_contract n ∷ ds) x = cond (bytes_eq x n.name.text) (Some
 -- it where it is a node or function, and where it is a contract node
 abbrev pub as_node : Callee → Option Component
 as_node (Node n) = Some (node_view n.now)
-as_node (Contract n) = None
+as_node (Contract c) = None
 
 abbrev pub as_contract : Callee → Option Component
 as_contract (Node n) = None
-as_contract (Contract n) = Some (contract_node_view n.now)
+as_contract (Contract c) = Some (contract_node_view c.contract.now)

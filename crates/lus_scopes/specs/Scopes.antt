@@ -8,6 +8,7 @@ use Rattle.lus_scopes.specs.declared.layer.Layer.{Layer}
 use Rattle.lus_scopes.specs.declared.scope.Owner.{Owner}
 use Rattle.lus_scopes.specs.declared.scope.Owner.TheVariants.{Nothing, Node, Contract}
 use Rattle.lus_scopes.specs.declared.scope.Scope.{Scope as CodeScope}
+use Rattle.lus_scopes.specs.Counts.{all_of}
 use Rattle.lus_scopes.specs.Meanings.{entry_view}
 pub use Rattle.lus_scopes.specs.Meanings.{role_view, meaning_view, is_local, is_reached, known_as, entry_view}
 
@@ -25,6 +26,6 @@ scope_view s =
       program = program_view s.declarations.now;
       owner = owner_view s.owner;
       names = layer_view s.own s.hidden ++ layer_view s.outer s.hidden;
-      modes = map (λ x. x.now) s.modes.now;
-      imports = map (λ x. x.now) s.imports.now;
+      modes = all_of s.modes;
+      imports = all_of s.imports;
     }

@@ -1,10 +1,11 @@
 //! What may be called or imported.
 
-use lus_tree::{ContractNode, Node};
+use crate::with_modes::WithModes;
+use lus_tree::Node;
 
 /// A declaration with parts.
-#[derive(Clone, Copy)]
+#[derive(Drop)]
 pub(crate) enum Callee<'a> {
     Node(&'a Node),
-    Contract(&'a ContractNode),
+    Contract(WithModes<'a>),
 }

@@ -6,9 +6,11 @@ ghost use Rattle.std.specs.Str.{bytes_eq};
 ghost use Rattle.lus_tree.specs.Tree.{Name};
 ghost use Rattle.lus_tree.specs.View.{contract_node_view, decl_view, node_view, program_view};
 ghost use Rattle.lus_meaning.specs.Scope.{contract_named, node_named};
+ghost use Rattle.lus_meaning.specs.ExpressionFaults.{has_mode};
 ghost use Rattle.lus_scopes.specs.Meanings.{by_name, callee_view, first_named};
 
 use crate::callee::Callee;
+use crate::with_modes::WithModes;
 use indexmap::IndexMap;
 use lus_tree::{ContractNode, Decl, Node, Program};
 use std::alloc::{AllocError, Global};
@@ -61,6 +63,7 @@ fn note<'a>(
 
 /// Notes a declaration with parts.
 fn note_declaration<'a>(
+    alloc: Global,
     table: &mut IndexMap<&'a str, Callee<'a>>,
     decl: &'a Decl,
 ) -> Result<(), AllocError>
@@ -70,7 +73,10 @@ fn note_declaration<'a>(
     match decl {
         Decl::Constant(_) => Ok(()),
         Decl::Node(node) => note(table, &node.name.text, Callee::Node(node)),
-        Decl::Contract(contract) => note(table, &contract.name.text, Callee::Contract(contract)),
+        Decl::Contract(contract) => {
+            let callee = Callee::Contract(WithModes::of(alloc, contract)?);
+            note(table, &contract.name.text, callee)
+        }
     }
 }
 
@@ -81,7 +87,7 @@ fn table_of(alloc: Global, program: &Program) -> Result<IndexMap<&str, Callee<'_
 {
     let mut table = IndexMap::new(alloc);
     for decl in &program.decls {
-        note_declaration(&mut table, decl)?;
+        note_declaration(alloc, &mut table, decl)?;
     }
     Ok(table)
 }
@@ -111,8 +117,8 @@ impl<'a> Declarations<'a> {
     pub fn node(&self, name: &str) -> Option<&'a Node>
         ensures { option_map (λ n. node_view n.now) result ≡ node_named (program_view self.now) name.now }
     {
-        match self.table.get(name).copied() {
-            Some(Callee::Node(node)) => Some(node),
+        match self.table.get(name) {
+            Some(Callee::Node(node)) => Some(*node),
             Some(Callee::Contract(_)) | None => None,
         }
     }
@@ -122,9 +128,19 @@ impl<'a> Declarations<'a> {
         ensures { option_map (λ n. contract_node_view n.now) result
             ≡ contract_named (program_view self.now) name.now }
     {
-        match self.table.get(name).copied() {
-            Some(Callee::Contract(contract)) => Some(contract),
+        match self.table.get(name) {
+            Some(Callee::Contract(found)) => Some(found.contract),
             Some(Callee::Node(_)) | None => None,
+        }
+    }
+
+    /// Whether the first declaration with parts of this name is a contract node that has this mode.
+    pub fn has_mode(&self, contract: &str, mode: &str) -> bool
+        ensures { result ≡ has_mode mode.now (contract_named (program_view self.now) contract.now) }
+    {
+        match self.table.get(contract) {
+            Some(Callee::Contract(found)) => found.modes.has(mode),
+            Some(Callee::Node(_)) | None => false,
         }
     }
 }

@@ -1,20 +1,22 @@
 //! Names and modes of a scope.
 
-ghost use Rattle.std.specs.Prelude.{◌≡◌, ◌==◌, ◌&&◌, Bool, cond, false, Some, length, filter, find, map, option_map};
+ghost use Rattle.std.specs.Prelude.{◌≡◌, ◌&&◌, Bool, cond, false, Some, filter, find, option_map};
 ghost use Rattle.std.specs.Str.{bytes_eq};
-ghost use Rattle.lus_tree.specs.View.{contract_item_view, word_view};
+ghost use Rattle.lus_tree.specs.View.{word_view};
 ghost use Rattle.lus_meaning.specs.Depends.{named_in};
-ghost use Rattle.lus_meaning.specs.Scope.{entry_of, holds_of, is_constant_name, is_constant_role, is_ghost_role, is_known, is_output_role, mode_names, name_weight, size_of, sort_of_entry, value_of_entry, worth};
-ghost use Rattle.lus_meaning.specs.ExpressionFaults.{has_mode, has_one, is_imported_mode, mode_is_known};
+ghost use Rattle.lus_meaning.specs.Scope.{entry_of, holds_of, is_constant_name, is_constant_role, is_ghost_role, is_known, is_output_role, name_weight, size_of, sort_of_entry, value_of_entry, worth};
+ghost use Rattle.lus_meaning.specs.ExpressionFaults.{has_one, is_imported_mode, mode_is_known};
+ghost use Rattle.lus_scopes.specs.Counts.{all_of};
 ghost use Rattle.lus_scopes.specs.Cut.{cut_worth};
 ghost use Rattle.lus_scopes.specs.Scopes.{entry_view, is_reached, layer_view, scope_view};
 ghost use Rattle.lus_scopes.specs.Worth.{worth_view};
 
+use crate::counted::Counted;
 use crate::layer::Layer;
 use crate::scope::{Entry, Extent, Meaning, Role, Scope};
 use crate::worth::Worth;
 use crate::worths::{of_constant, weighing};
-use lus_tree::{ContractItem, PlacedName, Sort};
+use lus_tree::{PlacedName, Sort};
 
 /// What the rules ask of a name.
 #[derive(Clone, Copy)]
@@ -139,55 +141,30 @@ pub fn is_ghost(scope: &Scope<'_>, name: &str) -> bool
 }
 
 /// Whether these names have this one.
-fn has(names: &[&str], name: &str) -> bool
-    ensures { result ≡ named_in name.now (map (λ x. x.now) names.now) }
+fn has(names: Option<&Counted<'_>>, name: &str) -> bool
+    ensures { result ≡ named_in name.now (all_of names.entry) }
 {
-    for other in names {
-        if name == *other {
-            return true;
-        }
+    match names {
+        Some(names) => names.has(name),
+        None => false,
     }
-    false
 }
 
-/// How often a name stands among these.
-fn count(names: &[&str], name: &str) -> usize
-    ensures { result ≡ length (filter (bytes_eq name.now) (map (λ x. x.now) names.now)) }
+/// Whether these names have this one exactly once.
+fn has_once(names: Option<&Counted<'_>>, name: &str) -> bool
+    ensures { result ≡ has_one (filter (bytes_eq name.now) (all_of names.entry)) }
 {
-    let mut count = 0;
-    for other in names {
-        if name == *other {
-            count += 1;
-        }
+    match names {
+        Some(names) => names.has_once(name),
+        None => false,
     }
-    count
-}
-
-/// Whether a contract has a mode.
-fn has_mode(items: &[ContractItem], name: &str) -> bool
-    ensures { result ≡ named_in name.now (mode_names (map contract_item_view items.now)) }
-{
-    for item in items {
-        if let ContractItem::Mode(mode, _, _) = item {
-            if name == mode.text.as_str() {
-                return true;
-            }
-        }
-    }
-    false
 }
 
 /// Whether a contract is imported exactly once before, and has the mode.
 fn is_imported_mode(scope: &Scope<'_>, contract_name: &str, mode: &str) -> bool
     ensures { result ≡ is_imported_mode (scope_view scope.now) contract_name.now mode.now }
 {
-    if count(scope.imports, contract_name) != 1 {
-        return false;
-    }
-    match scope.declarations.contract(contract_name) {
-        Some(contract) => has_mode(&contract.items, mode),
-        None => false,
-    }
+    has_once(scope.imports, contract_name) && scope.declarations.has_mode(contract_name, mode)
 }
 
 /// Whether a mode may be used.

@@ -1,23 +1,42 @@
 //! Names with what they mean, as they are made.
 
-ghost use Rattle.std.specs.Prelude.{◌≡◌, ◌++◌, ◌∷◌, [], Some, None, cond, false, IfOk, OnOk};
+ghost use Rattle.std.specs.Prelude.{◌≡◌, ◌++◌, ◌∷◌, [], Some, None, cond, false, IfOk, OnErr, OnOk};
 ghost use Rattle.std.specs.Option.{option_or};
 ghost use Rattle.std.specs.Str.{bytes_eq};
 ghost use Rattle.lus_tree.specs.Tree.{Name};
 ghost use Rattle.lus_tree.specs.View.{word_view};
-ghost use Rattle.lus_scopes.specs.Meanings.{IsTable, by_name, meaning_view};
+ghost use Rattle.lus_scopes.specs.Meanings.{by_name, meaning_view};
 
 use crate::layer::Layer;
 use crate::scope::{Entry, Extent, Meaning};
 use indexmap::IndexMap;
 use lus_tree::PlacedName;
 use std::alloc::{AllocError, Global};
+use std::marker::Model;
 
-/// Names in the order in which they are declared, and a table of the first of each name.
+/// Names in the order in which they are declared, and a table of the first of each name. Contracts
+/// see the names in this order.
 #[derive(Drop)]
 pub struct Names<'a> {
-    pub entries: Vec<Entry<'a>>,
-    pub table: IndexMap<&'a str, Entry<'a>>,
+    entries: Vec<Entry<'a>>,
+    table: IndexMap<&'a str, Entry<'a>>,
+}
+
+impl<'a> Model for Names<'a> {
+    ghost use Rattle.std.specs.Prelude.{List};
+    ghost use Rattle.std.specs.Coded.{codes};
+    ghost use Rattle.lus_tree.specs.contracts.expression.Expr as e;
+    ghost use Rattle.lus_tree.specs.contracts.expression.Form as f;
+    ghost use Rattle.lus_scopes.specs.declared.scope.Entry.{Entry};
+    ghost use Rattle.lus_scopes.specs.Meanings.{IsTable};
+
+    ghost Value = { List Entry };
+
+    ghost coded = { Prim.hlevel (codes, e.the_row.coded, f.the_row.coded) };
+
+    ghost view = { λ n. n.entries.items };
+
+    ghost invariant = { λ n. IsTable n.entries.items n.table };
 }
 
 /// The word of a name.
@@ -36,8 +55,9 @@ fn note<'a>(
     name: &'a str,
     entry: Entry<'a>,
 ) -> Result<(), AllocError>
-    ensures { OnOk result ((x : Name) → by_name table.new x ≡ option_or (by_name table.old x)
+    ensures noted { OnOk result ((x : Name) → by_name table.new x ≡ option_or (by_name table.old x)
         (cond (bytes_eq x name.now) (Some entry.entry) None)) }
+    ensures kept { OnErr result ((x : Name) → by_name table.new x ≡ by_name table.old x) }
 {
     if !table.contains_key(name) {
         table.insert(name, entry)?;
@@ -48,8 +68,7 @@ fn note<'a>(
 impl<'a> Names<'a> {
     /// No names.
     pub fn new(alloc: Global) -> Self
-        ensures entries { result.entries.items ≡ [] }
-        ensures table { IsTable result.entries.items result.table }
+        ensures { result ≡ [] }
     {
         Names {
             entries: Vec::new(alloc),
@@ -61,23 +80,32 @@ impl<'a> Names<'a> {
     ///
     /// # Errors
     ///
-    /// Want of memory.
-    #[tactic(auto, using(crate::proofs::Tables::one_more))]
+    /// Want of memory; there are then the names that there were.
     pub fn push(&mut self, entry: Entry<'a>) -> Result<(), AllocError>
-        requires { IsTable self.old.entries.items self.old.table }
-        ensures entries { IfOk result (λ _. self.new.entries.items ≡ self.old.entries.items ++ entry.entry ∷ []) }
-        ensures table { IfOk result (λ _. IsTable self.new.entries.items self.new.table) }
+        ensures names { IfOk result (λ _. self.new ≡ self.old ++ entry.entry ∷ []) }
+        ensures kept { OnErr result (self.new ≡ self.old) }
     {
         let name = word(&entry.meaning).text.as_str();
-        note(&mut self.table, name, entry)?;
         self.entries.push(entry)?;
-        Ok(())
+        match note(&mut self.table, name, entry) {
+            Ok(_) => Ok(()),
+            Err(error) => {
+                self.entries.pop();
+                Err(error)
+            }
+        }
+    }
+
+    /// The names, in the order in which they were added.
+    pub fn entries(&self) -> &[Entry<'a>]
+        ensures { result.now ≡ self.now }
+    {
+        &self.entries
     }
 
     /// The list of a scope in which all of them may be used.
     pub fn layer(&self) -> Layer<'_>
-        requires { IsTable self.now.entries.items self.now.table }
-        ensures entries { result.entries.now ≡ self.now.entries.items }
+        ensures entries { result.entries.now ≡ self.now }
         ensures extent { result.extent ≡ Extent.All }
     {
         Layer {

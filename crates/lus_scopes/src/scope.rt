@@ -1,5 +1,6 @@
 //! What names mean where an expression stands.
 
+use crate::counted::Counted;
 use crate::declarations::Declarations;
 use crate::layer::Layer;
 use lus_meaning::Value;
@@ -48,7 +49,8 @@ pub enum Owner<'a> {
 }
 
 /// Where an expression stands: the declarations of the program, its own, its names and behind them those of the
-/// program's constants, whether the locals may not be used, and the modes and the imports before it.
+/// program's constants, whether the locals may not be used, and the modes and the imports before it,
+/// where there can be any.
 #[derive(Clone, Copy)]
 pub struct Scope<'a> {
     pub declarations: &'a Declarations<'a>,
@@ -56,6 +58,6 @@ pub struct Scope<'a> {
     pub own: Layer<'a>,
     pub outer: Layer<'a>,
     pub hidden: bool,
-    pub modes: &'a [&'a str],
-    pub imports: &'a [&'a str],
+    pub modes: Option<&'a Counted<'a>>,
+    pub imports: Option<&'a Counted<'a>>,
 }

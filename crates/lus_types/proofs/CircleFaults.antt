@@ -1,13 +1,13 @@
 -- The faults of a row are those of its declaration.
 use Rattle.std.proofs.Common.{◌≡◌, ℕ, zero, suc, ◌<◌, ◌≤◌, Bool, true, false, cond, not, ◌&&◌, ◌||◌, List, [], ◌∷◌, ◌++◌, length, get_or, map, flat_map, filter, refl, ap, ◌∙◌, sym, subst, arith, Some}
-use Rattle.std.specs.Prelude.{slice_get, nat_lt}
+use Rattle.std.specs.Prelude.{◌==◌, slice_get, nat_le}
 use Rattle.std.specs.List.{AllByRecursion, list_all}
 use Rattle.std.specs.Str.{bytes_eq}
 use Rattle.std.proofs.Math.Logic.{◌⊎◌, inl, inr}
-use Rattle.std.proofs.lemmas.Bool.{true≢false, false≢true, cases_Bool, ltb-true}
+use Rattle.std.proofs.lemmas.Bool.{true≢false, false≢true, cases_Bool, eq-eqb, leb-true}
 use Rattle.std.proofs.lemmas.Option.{slice_get_within, get_or_from_slice_get}
 use Rattle.lus_tree.specs.Tree.{Name, text_of, Spelled, Component, declared_constant, declared_node, declared_contract, Program}
-use Rattle.lus_tree.specs.Reason.{node_recursion}
+use Rattle.lus_tree.specs.Reason.{Refused, node_recursion}
 use Rattle.lus_meaning.specs.Depends.{named_in}
 use Rattle.lus_meaning.specs.ClockFaults.{components}
 use Rattle.lus_meaning.specs.Faults.{fault, if_so}
@@ -20,10 +20,10 @@ use Rattle.name_table.specs.Names.{add, number_of}
 use Rattle.name_table.proofs.Names.{in_joined, itself}
 use Rattle.name_table.proofs.Numbers.{name_of_number, number_below}
 use Rattle.lus_types.specs.Marks.{Link, has_open, is_backed, is_free, is_marked, is_open, leads_on}
-use Rattle.lus_types.specs.Called.{all_fall, falls_to, link_of, marked_faults, names_behind, rank_of, row_of}
+use Rattle.lus_types.specs.Called.{all_level_faults, level_faults, link_of, marked_faults, names_behind, none_rises, rank_of, row_of, stays_below}
 use Rattle.lus_types.specs.Circles.{IsLeading}
 use Rattle.lus_types.proofs.Callees.{split}
-use Rattle.lus_types.proofs.Reached.{AreWithin, IsBack, never_reached, reaches}
+use Rattle.lus_types.proofs.Reached.{AreWithin, IsBack, reached_below, reaches}
 
 pub or_left : (a b : Bool) → a ≡ true → (a || b) ≡ true
 or_left true b e = refl
@@ -218,52 +218,108 @@ module _ (p : Program) where
   graph_within [] = tt
   graph_within (n ∷ ns) = (text_has (names_in p) (callees p n) (callees_named p (names_in p) (λ x e. e) n), graph_within ns)
 
-  -- ---- where each number has a greater rank than those that it leads to
+  -- ---- where no number leads to one of a greater rank
 
   module _ (ranks : List ℕ) where
-    abbrev rank : Name → ℕ
+    abbrev pub rank : Name → ℕ
     rank y = rank_of ranks (number_of table y)
 
-    falls_below : (k : ℕ) (ws : List Spelled) → falls_to ranks k (map (link_to table) ws) ≡ true → (y : Name) → named_in y (map text_of ws) ≡ true → rank y < k
-    falls_below k [] f y e = absurd (false≢true e)
-    falls_below k (w ∷ ws) f y e = go (and_parts (nat_lt (rank w.text) k) (falls_to ranks k (map (link_to table) ws)) f) (cases_Bool (bytes_eq y w.text))
-        (falls_below k ws)
+    below_callees : (k : ℕ) (ws : List Spelled) → stays_below ranks k (map (link_to table) ws) ≡ true → (y : Name) → named_in y (map text_of ws) ≡ true → rank y ≤ k
+    below_callees k [] f y e = absurd (false≢true e)
+    below_callees k (w ∷ ws) f y e = go (and_parts (nat_le (rank w.text) k) (stays_below ranks k (map (link_to table) ws)) f) (cases_Bool (bytes_eq y w.text))
+        (below_callees k ws)
       where
-        go : (nat_lt (rank w.text) k ≡ true) × (falls_to ranks k (map (link_to table) ws) ≡ true) → (bytes_eq y w.text ≡ true) ⊎ (bytes_eq y w.text ≡ false)
-            → (falls_to ranks k (map (link_to table) ws) ≡ true → (y : Name) → named_in y (map text_of ws) ≡ true → rank y < k) → rank y < k
-        go h (inl q) r = subst (λ z. rank z < k) (sym (same_bytes y w.text q)) (ltb-true (rank w.text) k h.0)
+        go : (nat_le (rank w.text) k ≡ true) × (stays_below ranks k (map (link_to table) ws) ≡ true) → (bytes_eq y w.text ≡ true) ⊎ (bytes_eq y w.text ≡ false)
+            → (stays_below ranks k (map (link_to table) ws) ≡ true → (y : Name) → named_in y (map text_of ws) ≡ true → rank y ≤ k) → rank y ≤ k
+        go h (inl q) r = subst (λ z. rank z ≤ k) (sym (same_bytes y w.text q)) (leb-true (rank w.text) k h.0)
         go h (inr d) r = r h.1 y (rw d at e)
 
     abbrev IsBelow : Component → Type 0
-    IsBelow n = (y : Name) → named_in y (map text_of (callees p n)) ≡ true → rank y < rank n.name.text
+    IsBelow n = (y : Name) → named_in y (map text_of (callees p n)) ≡ true → rank y ≤ rank n.name.text
 
-    each_falls : (ns : List Component) → all_fall ranks (map (row_of p table) ns) ≡ true → AllByRecursion IsBelow ns
-    each_falls [] f = tt
-    each_falls (n ∷ ns) f =
-        let h : (falls_to ranks (rank n.name.text) (row_of p table n).1 ≡ true) × (all_fall ranks (map (row_of p table) ns) ≡ true) =
-        and_parts (falls_to ranks (rank n.name.text) (row_of p table n).1) (all_fall ranks (map (row_of p table) ns)) f in
-        (falls_below (rank n.name.text) (callees p n) (subst (λ ls. falls_to ranks (rank n.name.text) ls ≡ true) (links_of n) h.0), each_falls ns h.1)
+    abbrev pub Stays : Component → Type 0
+    Stays n = stays_below ranks (rank n.name.text) (map (link_to table) (callees p n)) ≡ true
 
-    graph_falls : (ns : List Component) → AllByRecursion IsBelow ns
-        → AllByRecursion (λ r. (y : Name) → named_in y r.1 ≡ true → rank y < rank r.0) (map (row_in p) ns)
-    graph_falls [] a = tt
-    graph_falls (n ∷ ns) a = (a.0, graph_falls ns a.1)
+    each_stays : (ns : List Component) → none_rises ranks (map (row_of p table) ns) ≡ true → AllByRecursion Stays ns
+    each_stays [] f = tt
+    each_stays (n ∷ ns) f =
+        let h : (stays_below ranks (rank n.name.text) (row_of p table n).1 ≡ true) × (none_rises ranks (map (row_of p table) ns) ≡ true) =
+        and_parts (stays_below ranks (rank n.name.text) (row_of p table n).1) (none_rises ranks (map (row_of p table) ns)) f in
+        (subst (λ ls. stays_below ranks (rank n.name.text) ls ≡ true) (links_of n) h.0, each_stays ns h.1)
 
-    none_back : AllByRecursion (λ r. (y : Name) → named_in y r.1 ≡ true → rank y < rank r.0) (graph_of p p) → (n : Component) (ws : List Spelled)
-        → ((y : Name) → named_in y (map text_of ws) ≡ true → rank y < rank n.name.text)
-        → map (λ f. fault node_recursion f.at) (filter (λ f. named_in n.name.text (reached (length p) (graph_of p p) (f.text ∷ []))) ws) ≡ []
-    none_back g n [] h = refl
-    none_back g n (w ∷ ws) h =
-        let never : named_in n.name.text (reached (length p) (graph_of p p) (w.text ∷ [])) ≡ false =
-        never_reached rank (graph_of p p) g (length p) n.name.text w.text
-        (h w.text (or_left (bytes_eq w.text w.text) (named_in w.text (map text_of ws)) (itself w.text))) in
-        rw never (none_back g n ws (λ y e. h y (or_right (bytes_eq y w.text) (named_in y (map text_of ws)) e)))
+    graph_below : (ns : List Component) → AllByRecursion Stays ns
+        → AllByRecursion (λ r. (y : Name) → named_in y r.1 ≡ true → rank y ≤ rank r.0) (map (row_in p) ns)
+    graph_below [] a = tt
+    graph_below (n ∷ ns) a = (below_callees (rank n.name.text) (callees p n) a.0, graph_below ns a.1)
 
-    pub no_faults : (i : ℕ) (n : Component) → all_fall ranks (map (row_of p table) (components p)) ≡ true → slice_get (components p) i ≡ Some n
-        → recursion_faults p n ≡ []
-    no_faults i n f e =
-        let each : AllByRecursion IsBelow (components p) = each_falls (components p) f in
-        none_back (rw (graph_is p p) (graph_falls (components p) each)) n (callees p n) (at_number IsBelow (components p) each i n e)
+    module _ (stay : none_rises ranks (map (row_of p table) (components p)) ≡ true) (P : Refused → Type 0) where
+      below : AllByRecursion (λ r. (y : Name) → named_in y r.1 ≡ true → rank y ≤ rank r.0) (graph_of p p)
+      below = rw (graph_is p p) (graph_below (components p) (each_stays (components p) stay))
+
+      -- a callee that leads back has the caller's rank
+      equal_rank : (n : Component) (w : Spelled) → nat_le (rank w.text) (rank n.name.text) ≡ true
+          → named_in n.name.text (reached (length p) (graph_of p p) (w.text ∷ [])) ≡ true → (rank w.text == rank n.name.text) ≡ true
+      equal_rank n w l e =
+          let up : rank n.name.text ≤ rank w.text = reached_below rank (graph_of p p) below (length p) n.name.text w.text e in
+          let down : rank w.text ≤ rank n.name.text = leb-true (rank w.text) (rank n.name.text) l in
+          eq-eqb (rank w.text) (rank n.name.text) (omega (arith, up, down))
+
+      rest_of : (b : Bool) (x : Spelled) (fs : List Refused) → AllByRecursion P (if_so b node_recursion x.at ++ fs) → AllByRecursion P fs
+      rest_of true x fs a = a.1
+      rest_of false x fs a = a
+
+      abbrev Further : Component → List Spelled → Type 0
+      Further n ws = stays_below ranks (rank n.name.text) (map (link_to table) ws) ≡ true
+          → AllByRecursion P (level_faults ranks (rank n.name.text) (map (link_to table) ws))
+          → AllByRecursion P (map (λ f. fault node_recursion f.at) (filter (λ f. named_in n.name.text (reached (length p) (graph_of p p) (f.text ∷ []))) ws))
+
+      row_level : (n : Component) (ws : List Spelled) → stays_below ranks (rank n.name.text) (map (link_to table) ws) ≡ true
+          → AllByRecursion P (level_faults ranks (rank n.name.text) (map (link_to table) ws))
+          → AllByRecursion P (map (λ f. fault node_recursion f.at) (filter (λ f. named_in n.name.text (reached (length p) (graph_of p p) (f.text ∷ []))) ws))
+      row_level n [] s a = tt
+      row_level n (w ∷ ws) s a = go (row_level n ws) (cases_Bool (named_in n.name.text (reached (length p) (graph_of p p) (w.text ∷ []))))
+          (and_parts (nat_le (rank w.text) (rank n.name.text)) (stays_below ranks (rank n.name.text) (map (link_to table) ws)) s)
+        where
+          rest : Further n ws → stays_below ranks (rank n.name.text) (map (link_to table) ws) ≡ true → AllByRecursion P
+              (map (λ f. fault node_recursion f.at) (filter (λ f. named_in n.name.text (reached (length p) (graph_of p p) (f.text ∷ []))) ws))
+          rest more h = more h (rest_of (rank w.text == rank n.name.text) w (level_faults ranks (rank n.name.text) (map (link_to table) ws)) a)
+
+          first : (rank w.text == rank n.name.text) ≡ true → P (fault node_recursion w.at)
+          first e =
+              let both : AllByRecursion P (fault node_recursion w.at ∷ level_faults ranks (rank n.name.text) (map (link_to table) ws)) =
+              subst (λ b. AllByRecursion P (if_so b node_recursion w.at ++ level_faults ranks (rank n.name.text) (map (link_to table) ws))) e a in
+              both.0
+
+          go : Further n ws → (named_in n.name.text (reached (length p) (graph_of p p) (w.text ∷ [])) ≡ true)
+              ⊎ (named_in n.name.text (reached (length p) (graph_of p p) (w.text ∷ [])) ≡ false)
+              → (nat_le (rank w.text) (rank n.name.text) ≡ true) × (stays_below ranks (rank n.name.text) (map (link_to table) ws) ≡ true)
+              → AllByRecursion P
+              (map (λ f. fault node_recursion f.at) (filter (λ f. named_in n.name.text (reached (length p) (graph_of p p) (f.text ∷ []))) (w ∷ ws)))
+          go more (inl t) h = rw t (first (equal_rank n w h.0 t), rest more h.1)
+          go more (inr f) h = rw f (rest more h.1)
+
+      parts_of : (xs ys : List Refused) → AllByRecursion P (xs ++ ys) → AllByRecursion P xs × AllByRecursion P ys
+      parts_of [] ys a = (tt, a)
+      parts_of (x ∷ xs) ys a = let h : AllByRecursion P xs × AllByRecursion P ys = parts_of xs ys a.1 in ((a.0, h.0), h.1)
+
+      joined_of : (xs ys : List Refused) → AllByRecursion P xs → AllByRecursion P ys → AllByRecursion P (xs ++ ys)
+      joined_of [] ys a b = b
+      joined_of (x ∷ xs) ys a b = (a.0, joined_of xs ys a.1 b)
+
+      all_level : (ns : List Component) → AllByRecursion Stays ns → AllByRecursion P (all_level_faults ranks (map (row_of p table) ns))
+          → AllByRecursion P (flat_map (recursion_faults p) ns)
+      all_level [] s a = tt
+      all_level (n ∷ ns) s a =
+          let h : AllByRecursion P (level_faults ranks (rank n.name.text) (row_of p table n).1)
+          × AllByRecursion P (all_level_faults ranks (map (row_of p table) ns)) =
+          parts_of (level_faults ranks (rank n.name.text) (row_of p table n).1) (all_level_faults ranks (map (row_of p table) ns)) a in
+          joined_of (recursion_faults p n) (flat_map (recursion_faults p) ns)
+          (row_level n (callees p n) s.0 (subst (λ ls. AllByRecursion P (level_faults ranks (rank n.name.text) ls)) (links_of n) h.0)) (all_level ns s.1 h.1)
+
+      -- what is so of all links to numbers of equal rank is so of the faults
+      pub level_holds : AllByRecursion P (all_level_faults ranks (map (row_of p table) (components p)))
+          → AllByRecursion P (flat_map (recursion_faults p) (components p))
+      level_holds a = all_level (components p) (each_stays (components p) stay) a
 
   -- ---- where those are marked that lead to a declaration
 

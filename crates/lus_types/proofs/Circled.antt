@@ -28,7 +28,7 @@ use Rattle.lus_scopes.proofs.Walks.{failing, failing_append}
 
 -- ---- circles
 
-as_many : (p : Program) (g : Graph) → IsGraph p g → length g.rows.items ≡ length (components p)
+pub as_many : (p : Program) (g : Graph) → IsGraph p g → length g.rows.items ≡ length (components p)
 as_many p g is = sym (length-map g.rows.items row_view) ∙ ap length is.rows ∙ length-map (components p) (row_of p (names_behind [] p))
 
 pub circle_next : (p : Program) (g : Graph) (i : ℕ) (s o q : Option Refused) → IsGraph p g → i < length g.rows.items

@@ -7,6 +7,7 @@ pub mod Reached
 pub mod Callees
 pub mod CircleFaults
 pub mod RowFaults
+pub mod Levels
 pub mod GivenNow
 pub mod RepeatedWords
 pub mod Stateless

@@ -101,8 +101,8 @@ pub scope_is : (h : Home) (b : Before) (own : Layer) (hidden : Bool) (k : ℕ) (
       own = own;
       outer = h.outer;
       hidden = hidden;
-      modes = record { ref_ptr = i; now = b.modes.items };
-      imports = record { ref_ptr = j; now = b.imports.items };
+      modes = Some record { ref_ptr = i; now = b.modes };
+      imports = Some record { ref_ptr = j; now = b.imports };
     } ≡ scope_at (home_view h) (earlier_view b) hidden
 scope_is h b own hidden k i j f g e =
     let same : layer_view own hidden ≡ map (entry_view (First k) hidden) h.own.entries.now = rw (f, g) refl in
@@ -110,8 +110,8 @@ scope_is h b own hidden k i j f g e =
       program = program_view h.declarations.now;
       owner = owner_view h.owner;
       names = names;
-      modes = map (λ x. x.now) b.modes.items;
-      imports = map (λ x. x.now) b.imports.items;
+      modes = b.modes;
+      imports = b.imports;
     } in z)
     (ap (λ es. es ++ layer_view h.outer hidden) same ∙ names_behind hidden k h.outer.extent h.own.entries.now h.outer.entries.now
     (first_constants (length (map (λ d. definition_view d.now) b.constants.items)) (own_names (home_view h)))

@@ -154,20 +154,20 @@ module _ (g : Graph) (us : List Name) (k : ℕ) (within : AreWithin us g) (enoug
 
 -- ---- ranks
 
-next_below : (rank : Name → ℕ) (b : ℕ) (g : Graph) → AllByRecursion (λ r. (y : Name) → named_in y r.1 ≡ true → rank y < rank r.0) g → (xs : List Name)
+next_below : (rank : Name → ℕ) (b : ℕ) (g : Graph) → AllByRecursion (λ r. (y : Name) → named_in y r.1 ≡ true → rank y ≤ rank r.0) g → (xs : List Name)
     → ((y : Name) → named_in y xs ≡ true → rank y ≤ b) → (y : Name) → named_in y (next_in g xs) ≡ true → rank y ≤ b
 next_below rank b [] a xs h y e = absurd (false≢true e)
 next_below rank b (r ∷ rs) a xs h y e = go (in_first (named_in r.0 xs) r.1 (next_in rs xs) y e) (next_below rank b rs a.1 xs h y)
   where
     go : ((named_in r.0 xs ≡ true) × (named_in y r.1 ≡ true)) ⊎ (named_in y (next_in rs xs) ≡ true)
         → (named_in y (next_in rs xs) ≡ true → rank y ≤ b) → rank y ≤ b
-    go (inl t) k = let p : rank y < rank r.0 = a.0 y t.1 in let q : rank r.0 ≤ b = h r.0 t.0 in omega (arith, p, q)
+    go (inl t) k = let p : rank y ≤ rank r.0 = a.0 y t.1 in let q : rank r.0 ≤ b = h r.0 t.0 in omega (arith, p, q)
     go (inr t) k = k t
 
--- nothing is reached from what is below it
-pub never_reached : (rank : Name → ℕ) (g : Graph) → AllByRecursion (λ r. (y : Name) → named_in y r.1 ≡ true → rank y < rank r.0) g
-    → (k : ℕ) (n x : Name) → rank x < rank n → named_in n (reached k g (x ∷ [])) ≡ false
-never_reached rank g a k n x l = go (cases_Bool (named_in n (reached k g (x ∷ []))))
+-- what is reached from something has no greater rank
+pub reached_below : (rank : Name → ℕ) (g : Graph) → AllByRecursion (λ r. (y : Name) → named_in y r.1 ≡ true → rank y ≤ rank r.0) g
+    → (k : ℕ) (n x : Name) → named_in n (reached k g (x ∷ [])) ≡ true → rank n ≤ rank x
+reached_below rank g a k n x e = below k (x ∷ []) start n e
   where
     below : (k : ℕ) (xs : List Name) → ((y : Name) → named_in y xs ≡ true → rank y ≤ rank x) → (y : Name) → named_in y (reached k g xs) ≡ true → rank y ≤ rank x
     below zero xs h = h
@@ -184,10 +184,3 @@ never_reached rank g a k n x l = go (cases_Bool (named_in n (reached k g (x ∷ 
 
     start : (y : Name) → named_in y (x ∷ []) ≡ true → rank y ≤ rank x
     start y i = rw (only y x i) (omega arith)
-
-    go : (named_in n (reached k g (x ∷ [])) ≡ true) ⊎ (named_in n (reached k g (x ∷ [])) ≡ false) → named_in n (reached k g (x ∷ [])) ≡ false
-    go (inl t) = absurd (no (below k (x ∷ []) start n t))
-      where
-        no : rank n ≤ rank x → ⊥
-        no h = omega (arith, h, l)
-    go (inr f) = f

@@ -9,13 +9,12 @@ use Rattle.lus_meaning.specs.NameFaults.{recursion_faults}
 use Rattle.name_table.specs.Names.{number_of}
 use Rattle.lus_types.specs.declared.marks.Row.{Row as CodeRow}
 use Rattle.lus_types.specs.declared.recursion.Graph.{Graph}
-use Rattle.lus_types.specs.Called.{all_fall, marked_faults, names_behind, row_of}
+use Rattle.lus_types.specs.Called.{marked_faults, names_behind, row_of}
 use Rattle.lus_types.specs.Circles.{IsGraph, IsLeading}
 use Rattle.lus_scopes.specs.Least.{IsLeast, noted_all}
 use Rattle.lus_types.specs.Marks.{Row, link_view, row_view}
 use Rattle.lus_scopes.proofs.Leasts.{least_noted_all}
-use Rattle.lus_scopes.proofs.Nothing.{nothing_behind}
-use Rattle.lus_types.proofs.CircleFaults.{faults_found, no_faults}
+use Rattle.lus_types.proofs.CircleFaults.{faults_found}
 
 in_some : (a b : Row) → Some a ≡ Some b → a ≡ b
 in_some a b e = ap of e
@@ -26,11 +25,6 @@ in_some a b e = ap of e
 
 module _ (p : Program) (g : Graph) (is : IsGraph p g) (i : ℕ) (n : Component) (at : slice_get (components p) i
     ≡ Some n) (o : Option Refused) (fs : List Refused) (least : IsLeast o fs) where
-  pub none_noted : g.falls ≡ true → IsLeast o (fs ++ recursion_faults p n)
-  none_noted f =
-      let h : (ranks : List ℕ) × (all_fall ranks (map row_view g.rows.items) ≡ true) = is.falls f in
-      rw (no_faults p h.0 i n (subst (λ rs. all_fall h.0 rs ≡ true) is.rows h.1) at) (nothing_behind o fs least)
-
   row_is : (r : CodeRow) → slice_get g.rows.items i ≡ Some r → row_view r ≡ row_of p (names_behind [] p) n
   row_is r e = in_some (row_view r) (row_of p (names_behind [] p) n)
       (ap (option_map row_view) (sym e) ∙ (sym (slice_get-map row_view g.rows.items i) ∙ (ap (λ rs. slice_get rs i) is.rows

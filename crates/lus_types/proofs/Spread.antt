@@ -1,10 +1,11 @@
 -- What is marked when rows are passed.
-use Rattle.std.proofs.Common.{◌≡◌, ℕ, zero, suc, ◌<◌, ◌≤◌, Bool, true, false, cond, not, ◌&&◌, ◌||◌, eqb, List, [], ◌∷◌, length, get_or, set, refl, ◌∙◌, sym, subst, arith}
+use Rattle.std.proofs.Common.{◌≡◌, ℕ, zero, suc, ◌<◌, ◌≤◌, Bool, true, false, cond, not, ◌&&◌, ◌||◌, eqb, List, [], ◌∷◌, length, map, get_or, set, refl, ◌∙◌, sym, subst, arith}
 use Rattle.std.specs.List.{list_all}
 use Rattle.std.proofs.Math.Logic.{◌⊎◌, inl, inr}
 use Rattle.std.proofs.lemmas.Bool.{true≢false, false≢true, eqb-true, eqb-false, cases_Bool}
 use Rattle.std.proofs.lemmas.List.{get_or-set_other, length-set}
-use Rattle.lus_types.specs.Marks.{Link, Row, Spreads, free_count, has_open, is_backed, is_free, is_marked, is_open, leads_on, passed_down, passed_up, stepped}
+use Rattle.lus_types.specs.declared.marks.Row.{Row as CodeRow}
+use Rattle.lus_types.specs.Marks.{Link, Row, row_view, Spreads, free_count, has_open, is_backed, is_free, is_marked, is_open, leads_on, passed_down, passed_up, stepped}
 
 pub both_true : (c b : Bool) → (c && b) ≡ true → (c ≡ true) × (b ≡ true)
 both_true true true e = (refl, refl)
@@ -161,3 +162,12 @@ both_less rs a b c o e f =
     let h : free_count b < free_count a = rw e (down_less rs a o) in
     let l : free_count c ≤ free_count b = rw f ((up_spreads rs b).fewer) in
     omega (arith, h, l)
+
+-- ---- the row at a place
+
+pub read_spreads : (rows : List CodeRow) (i : ℕ) (r : CodeRow) (ms ns : List Bool) → i < length rows → r ≡ get_or rows i r → ns ≡ stepped ms (row_view r)
+    → Spreads (map row_view rows) ms ns
+read_spreads [] i r ms ns l e n = absurd (omega (arith, l))
+read_spreads (q ∷ rows) zero r ms ns l e n = rw (n, e) (step_spreads (row_view q) (map row_view rows) ms)
+read_spreads (q ∷ rows) (suc i) r ms ns l e n =
+    more_rows (row_view q) (map row_view rows) ms ns (read_spreads rows i r ms ns (omega (arith, l)) e n)

@@ -20,8 +20,8 @@ pub record Earlier : Type 0 where
 abbrev pub earlier_view : Before → Earlier
 earlier_view b = record {
   constants = map (λ d. definition_view d.now) b.constants.items;
-  modes = map (λ x. x.now) b.modes.items;
-  imports = map (λ x. x.now) b.imports.items;
+  modes = b.modes;
+  imports = b.imports;
 }
 
 -- behind these statements of the contract, and these constants of the body

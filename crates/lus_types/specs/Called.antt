@@ -1,5 +1,5 @@
 -- What a declaration calls and imports, by the numbers of names.
-use Rattle.std.specs.Prelude.{ℕ, Bool, cond, nat_lt, List, [], ◌∷◌, ◌++◌, map, flat_map, filter, get_or}
+use Rattle.std.specs.Prelude.{ℕ, ◌==◌, Bool, cond, nat_le, List, [], ◌∷◌, ◌++◌, map, flat_map, filter, get_or}
 use Rattle.std.specs.List.{list_all}
 use Rattle.lus_tree.specs.Tree.{Name, Spelled, Expression, Expressions, truth, number, name, negation, minus, pre, arrow, binary, choice, sampled, merged, call, condact, mode_name, no_more, more, Constant, Labelled, Statement, equation, assertion, property, main_mark, ContractStatement, assume, guarantee, ghost_variable, constant, mode, «import», Component, declared_constant, declared_node, declared_contract, Program}
 use Rattle.lus_tree.specs.Reason.{Refused, node_recursion}
@@ -86,12 +86,19 @@ row_of p t n = row_by p t n.name.text (gathered callee_in n) (flat_map import_wo
 abbrev pub marked_faults : List Bool → List Link → List Refused
 marked_faults marks ls = flat_map (λ l. if_so (is_marked marks l.0) node_recursion l.1) ls
 
--- whether each number has a greater rank than those that it leads to
+-- whether no number leads to one of a greater rank
 abbrev pub rank_of : List ℕ → ℕ → ℕ
 rank_of ranks j = get_or ranks j 0
 
-abbrev pub falls_to : List ℕ → ℕ → List Link → Bool
-falls_to ranks k ls = list_all (λ l. nat_lt (rank_of ranks l.0) k) ls
+abbrev pub stays_below : List ℕ → ℕ → List Link → Bool
+stays_below ranks k ls = list_all (λ l. nat_le (rank_of ranks l.0) k) ls
 
-abbrev pub all_fall : List ℕ → List Row → Bool
-all_fall ranks rs = list_all (λ r. falls_to ranks (rank_of ranks r.0) r.1) rs
+abbrev pub none_rises : List ℕ → List Row → Bool
+none_rises ranks rs = list_all (λ r. stays_below ranks (rank_of ranks r.0) r.1) rs
+
+-- the faults that the links to numbers of that rank would be, and those of all links to numbers of equal rank
+abbrev pub level_faults : List ℕ → ℕ → List Link → List Refused
+level_faults ranks k ls = flat_map (λ l. if_so (rank_of ranks l.0 == k) node_recursion l.1) ls
+
+abbrev pub all_level_faults : List ℕ → List Row → List Refused
+all_level_faults ranks rs = flat_map (λ r. level_faults ranks (rank_of ranks r.0) r.1) rs

@@ -4,13 +4,12 @@ use Rattle.lus_tree.specs.Tree.{Program}
 use Rattle.lus_meaning.specs.ClockFaults.{components}
 use Rattle.lus_types.specs.declared.recursion.Graph.{Graph}
 use Rattle.lus_types.specs.Marks.{Row, Spreads, has_open, is_marked, row_view}
-use Rattle.lus_types.specs.Called.{all_fall, names_behind, row_of}
+use Rattle.lus_types.specs.Called.{names_behind, row_of}
 
--- its rows are those of the declarations, and where it falls there are such ranks
+-- its rows are those of the declarations
 pub record IsGraph (p : Program) (g : Graph) : Type 0 where
   pub rows : map row_view g.rows.items ≡ map (row_of p (names_behind [] p)) (components p)
   pub count : g.count ≡ length (names_behind [] p)
-  pub falls : g.falls ≡ true → (ranks : List ℕ) × (all_fall ranks (map row_view g.rows.items) ≡ true)
 
 -- as many numbers, of which that one is marked and no other
 pub record IsOne (count number : ℕ) (marks : List Bool) : Type 0 where

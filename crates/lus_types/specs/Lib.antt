@@ -5,6 +5,7 @@ pub mod Marks
 pub mod Words
 pub mod Called
 pub mod Circles
+pub mod Firsts
 pub mod Reads
 pub mod Given
 pub mod Repeated

@@ -9,6 +9,7 @@ ghost use Rattle.lus_types.specs.Before.{earlier, earlier_view, home_view, one_b
 ghost use Rattle.lus_scopes.specs.Scopes.{scope_view};
 
 use crate::home::Home;
+use lus_scopes::counted::Counted;
 use lus_scopes::scope::{Extent, Scope};
 use lus_tree::{ContractItem, Definition};
 use std::alloc::{AllocError, Global};
@@ -17,8 +18,8 @@ use std::alloc::{AllocError, Global};
 #[derive(Drop)]
 pub(crate) struct Before<'a> {
     pub(crate) constants: Vec<&'a Definition>,
-    pub(crate) modes: Vec<&'a str>,
-    pub(crate) imports: Vec<&'a str>,
+    pub(crate) modes: Counted<'a>,
+    pub(crate) imports: Counted<'a>,
 }
 
 impl<'a> Before<'a> {
@@ -28,8 +29,8 @@ impl<'a> Before<'a> {
     {
         Before {
             constants: Vec::new(alloc),
-            modes: Vec::new(alloc),
-            imports: Vec::new(alloc),
+            modes: Counted::new(alloc),
+            imports: Counted::new(alloc),
         }
     }
 
@@ -52,14 +53,8 @@ impl<'a> Before<'a> {
                 self.constants.push(definition)?;
                 Ok(())
             }
-            ContractItem::Mode(mode, _, _) => {
-                self.modes.push(mode.text.as_str())?;
-                Ok(())
-            }
-            ContractItem::Import(_, contract, _, _) => {
-                self.imports.push(contract.text.as_str())?;
-                Ok(())
-            }
+            ContractItem::Mode(mode, _, _) => { self.modes.push(mode.text.as_str()) }
+            ContractItem::Import(_, contract, _, _) => { self.imports.push(contract.text.as_str()) }
             ContractItem::Assume(_) | ContractItem::Guarantee(_) | ContractItem::Ghost(_, _) => {
                 Ok(())
             }
@@ -77,8 +72,8 @@ fn scope_behind<'b>(before: &'b Before<'_>, home: &'b Home<'_>, hidden: bool) ->
         own: home.own.within(Extent::First(before.constants.len())),
         outer: home.outer,
         hidden,
-        modes: &before.modes,
-        imports: &before.imports,
+        modes: Some(&before.modes),
+        imports: Some(&before.imports),
     }
 }
 

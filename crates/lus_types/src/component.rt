@@ -73,7 +73,7 @@ fn inner(
     let own = entries(alloc, setting.declarations, outer, &declared)?;
     let home = with_names(setting.declarations, owner, own.layer(), outer);
     contract_and_body(alloc, &home, least)?;
-    let names = table_of(alloc, &own.entries)?;
+    let names = table_of(alloc, own.entries())?;
     Ok(names)
 }
 

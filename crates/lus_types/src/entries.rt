@@ -7,7 +7,6 @@ ghost use Rattle.lus_types.specs.Entries.{AreOrdered, behind, behind_all};
 ghost use Rattle.lus_scopes.specs.declared.scope.Extent.TheVariants.{All};
 ghost use Rattle.lus_scopes.specs.Scopes.{entry_view, layer_view, meaning_view, scope_view};
 ghost use Rattle.lus_types.specs.Homes.{declared_view};
-ghost use Rattle.lus_scopes.specs.Meanings.{IsTable};
 
 use crate::naming::Declared;
 use lus_scopes::declarations::Declarations;
@@ -38,8 +37,8 @@ fn names_only<'a>(declarations: &'a Declarations<'a>, own: Layer<'a>, outer: Lay
         own,
         outer,
         hidden: false,
-        modes: &[],
-        imports: &[],
+        modes: None,
+        imports: None,
     }
 }
 
@@ -65,11 +64,10 @@ pub(crate) fn entries<'a>(
     outer: Layer<'a>,
     names: &[Declared<'a>],
 ) -> Result<Names<'a>, AllocError>
-    ensures entries { IfOk result (λ n. map (entry_view All false) n.entries.items
+    ensures entries { IfOk result (λ n. map (entry_view All false) n
         ≡ entries_from (program_view declarations.now) (layer_view outer.entry false) []
         (map declared_view names.now)) }
-    ensures order { IfOk result (λ n. AreOrdered 0 n.entries.items) }
-    ensures table { IfOk result (λ n. IsTable n.entries.items n.table) }
+    ensures order { IfOk result (λ n. AreOrdered 0 n) }
 {
     let mut own = Names::new(alloc);
     let mut order = 0;

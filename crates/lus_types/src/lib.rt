@@ -3,6 +3,7 @@
 
 mod before;
 mod called;
+mod circles;
 mod component;
 mod declared;
 mod entries;
@@ -25,6 +26,7 @@ mod state;
 mod tables;
 mod typed;
 mod walk;
+mod ways;
 mod words;
 
 pub use found::{Kind, Named};

@@ -1,9 +1,10 @@
 //! Numbers that lead to marked ones, by rows of what each number leads to.
 
-ghost use Rattle.std.specs.Prelude.{◌≡◌, false, map};
+ghost use Rattle.std.specs.Prelude.{◌≡◌, ℕ, IfOk, false, true, length, map, set};
 ghost use Rattle.lus_types.specs.Marks.{Spreads, has_open, is_free, is_marked, is_open, leads_on, link_view, passed_down, passed_up, row_view, stepped};
 
 use lus_tree::Pos;
+use std::alloc::{AllocError, Global};
 
 /// A number that is led to, and the place that says so.
 #[derive(Clone, Copy)]
@@ -24,6 +25,26 @@ pub(crate) fn is_marked(marks: &[bool], number: usize) -> bool
     ensures { result ≡ is_marked marks.now number }
 {
     number < marks.len() && marks[number]
+}
+
+/// As many numbers, none of them marked.
+pub(crate) fn no_marks(alloc: Global, count: usize) -> Result<Vec<bool>, AllocError>
+    ensures { IfOk result (λ v. (length v.items ≡ count) × ((j : ℕ) → is_marked v.items j ≡ false)) }
+{
+    let mut marks = Vec::new(alloc);
+    while marks.len() < count {
+        marks.push(false)?;
+    }
+    Ok(marks)
+}
+
+/// Marks a number.
+pub(crate) fn mark(marks: &mut [bool], number: usize)
+    ensures { marks.new ≡ set marks.old number true }
+{
+    if number < marks.len() {
+        marks[number] = true;
+    }
 }
 
 /// Whether a number could be marked.
@@ -81,6 +102,24 @@ fn pass_up(marks: &mut [bool], rows: &[Row])
     }
 }
 
+/// Marks the number of the row at a place, where it leads to a marked one.
+fn step_at(marks: &mut [bool], rows: &[Row], place: usize)
+    ensures { Spreads (map row_view rows.now) marks.old marks.new }
+{
+    if place < rows.len() {
+        step(marks, &rows[place]);
+    }
+}
+
+/// Marks numbers, one row after another in the order of these places.
+fn pass_by(marks: &mut [bool], rows: &[Row], places: &[usize])
+    ensures { Spreads (map row_view rows.now) marks.old marks.new }
+{
+    for place in places {
+        step_at(marks, rows, *place);
+    }
+}
+
 /// Whether some number could be marked.
 fn has_open(marks: &[bool], rows: &[Row]) -> bool
     ensures { result ≡ has_open marks.now (map row_view rows.now) }
@@ -102,4 +141,13 @@ pub(crate) fn spread(marks: &mut [bool], rows: &[Row])
         pass_down(marks, rows);
         pass_up(marks, rows);
     }
+}
+
+/// The same, with the rows at these places first.
+pub(crate) fn spread_by(marks: &mut [bool], rows: &[Row], places: &[usize])
+    ensures marked { Spreads (map row_view rows.now) marks.old marks.new }
+    ensures all { has_open marks.new (map row_view rows.now) ≡ false }
+{
+    pass_by(marks, rows, places);
+    spread(marks, rows);
 }

@@ -1,9 +1,11 @@
-//! Ranks of numbers, so that each is above those that it leads to, where no number leads to itself.
+//! Ranks of numbers: numbers that lead to each other have one rank, and no number leads to one of a
+//! greater rank. Only `rank_of` promises something, since each link is looked at once more.
 
-ghost use Rattle.std.specs.Prelude.{◌≡◌, IfOk, length};
+ghost use Rattle.std.specs.Prelude.{◌≡◌};
 ghost use Rattle.lus_types.specs.Called.{rank_of};
 
-use crate::marks::Row;
+use crate::marks::{Row, is_marked, mark, no_marks};
+use crate::ways::{Ways, list_at, number_at};
 use std::alloc::{AllocError, Global};
 
 /// The rank of a number, 0 where it has none.
@@ -18,136 +20,140 @@ pub(crate) fn rank_of(ranks: &[usize], number: usize) -> usize
 }
 
 /// As many zeros.
-fn zeros(alloc: Global, count: usize) -> Result<Vec<usize>, AllocError>
-    ensures { IfOk result (λ v. length v.items ≡ count) }
-{
+fn zeros(alloc: Global, count: usize) -> Result<Vec<usize>, AllocError> {
     let mut numbers = Vec::new(alloc);
-    while numbers.len() < count {
+    for _ in 0..count {
         numbers.push(0)?;
     }
     Ok(numbers)
 }
 
-/// As many empty lists.
-fn empty_lists(alloc: Global, count: usize) -> Result<Vec<Vec<usize>>, AllocError>
-    ensures { IfOk result (λ v. length v.items ≡ count) }
-{
-    let mut lists = Vec::new(alloc);
-    while lists.len() < count {
-        lists.push(Vec::new(alloc))?;
+/// As many numbers, from 0.
+fn numbers_to(alloc: Global, count: usize) -> Result<Vec<usize>, AllocError> {
+    let mut numbers = Vec::new(alloc);
+    for number in 0..count {
+        numbers.push(number)?;
     }
-    Ok(lists)
+    Ok(numbers)
 }
 
-/// One more link that waits, and one more number that leads to another.
-fn wait(
-    waits: &mut [usize],
-    callers: &mut [Vec<usize>],
-    from: usize,
-    to: usize,
-) -> Result<(), AllocError> {
-    if from < waits.len() && to < callers.len() {
-        waits[from] = waits[from].saturating_add(1);
-        callers[to].push(from)?;
-    }
-    Ok(())
+/// A way along the links, into the depth first.
+#[derive(Drop)]
+struct Walk {
+    /// The numbers to go on with, the next one last.
+    waiting: Vec<usize>,
+    met: Vec<bool>,
+    left: Vec<bool>,
+    /// The numbers in the order in which they were left, each behind those that were met from it.
+    order: Vec<usize>,
 }
 
-/// The links of a row, which wait.
-fn wait_row(waits: &mut [usize], callers: &mut [Vec<usize>], row: &Row) -> Result<(), AllocError> {
-    for link in &row.links {
-        wait(waits, callers, row.from, link.to)?;
+impl Walk {
+    /// Meets a number, to be left behind those that it leads to.
+    fn meet(&mut self, number: usize, next: &[usize]) -> Result<(), AllocError> {
+        mark(&mut self.met, number);
+        self.waiting.push(number)?;
+        for to in next {
+            if !is_marked(&self.met, *to) {
+                self.waiting.push(*to)?;
+            }
+        }
+        Ok(())
     }
-    Ok(())
+
+    /// Leaves a number, once.
+    fn leave(&mut self, number: usize) -> Result<(), AllocError> {
+        if !is_marked(&self.left, number) {
+            mark(&mut self.left, number);
+            self.order.push(number)?;
+        }
+        Ok(())
+    }
+
+    /// Meets a number that wasn't met, and else leaves it.
+    fn go_on(&mut self, number: usize, next: &[usize]) -> Result<(), AllocError> {
+        if is_marked(&self.met, number) {
+            self.leave(number)
+        } else {
+            self.meet(number, next)
+        }
+    }
 }
 
-/// The links of rows, which wait.
-fn wait_all(
-    waits: &mut [usize],
-    callers: &mut [Vec<usize>],
+/// All numbers in the order in which a way along the links leaves them.
+fn left_order(alloc: Global, ways: &Ways, turns: usize) -> Result<Vec<usize>, AllocError> {
+    let count = ways.forth.len();
+    let mut walk = Walk {
+        waiting: numbers_to(alloc, count)?,
+        met: no_marks(alloc, count)?,
+        left: no_marks(alloc, count)?,
+        order: Vec::new(alloc),
+    };
+    for _ in 0..turns {
+        match walk.waiting.pop() {
+            Some(number) => walk.go_on(number, list_at(&ways.forth, number))?,
+            None => break,
+        }
+    }
+    Ok(walk.order)
+}
+
+/// A number, and a rank that it gets where it has none.
+#[derive(Clone, Copy)]
+struct Ranked {
+    number: usize,
+    rank: usize,
+}
+
+/// These numbers with greater and greater ranks.
+fn all_ranked(alloc: Global, order: &[usize]) -> Result<Vec<Ranked>, AllocError> {
+    let mut waiting = Vec::new(alloc);
+    for (place, number) in order.iter().enumerate() {
+        waiting.push(Ranked {
+            number: *number,
+            rank: place.saturating_add(1),
+        })?;
+    }
+    Ok(waiting)
+}
+
+/// Ranks a number that has no rank, and then those that lead to it.
+fn rank_next(
+    ranks: &mut [usize],
+    waiting: &mut Vec<Ranked>,
     rows: &[Row],
+    ways: &Ways,
+    next: Ranked,
 ) -> Result<(), AllocError> {
-    for row in rows {
-        wait_row(waits, callers, row)?;
-    }
-    Ok(())
-}
-
-/// The numbers of which no link waits.
-fn without_waits(alloc: Global, waits: &[usize]) -> Result<Vec<usize>, AllocError> {
-    let mut ready = Vec::new(alloc);
-    for number in 0..waits.len() {
-        if waits[number] == 0 {
-            ready.push(number)?;
-        }
-    }
-    Ok(ready)
-}
-
-/// One link of a number waits no more.
-fn settle(waits: &mut [usize], ready: &mut Vec<usize>, number: usize) -> Result<(), AllocError> {
-    if number < waits.len() {
-        waits[number] = waits[number].saturating_sub(1);
-        if waits[number] == 0 {
-            ready.push(number)?;
+    if next.number < ranks.len() && ranks[next.number] == 0 {
+        ranks[next.number] = next.rank;
+        for place in list_at(&ways.back, next.number) {
+            waiting.push(Ranked {
+                number: number_at(rows, *place),
+                rank: next.rank,
+            })?;
         }
     }
     Ok(())
 }
 
-/// One link of each of these numbers waits no more.
-fn settle_all(
-    waits: &mut [usize],
-    ready: &mut Vec<usize>,
-    numbers: &[usize],
-) -> Result<(), AllocError> {
-    for number in numbers {
-        settle(waits, ready, *number)?;
-    }
-    Ok(())
-}
-
-/// The numbers that lead to one.
-fn callers_of(callers: &[Vec<usize>], number: usize) -> &[usize] {
-    if number < callers.len() {
-        &callers[number]
-    } else {
-        &[]
-    }
-}
-
-/// The ranks of numbers in the order in which they wait no more, from 1.
-fn ranks_by(
-    alloc: Global,
-    waits: &mut [usize],
-    callers: &[Vec<usize>],
-    count: usize,
-) -> Result<Vec<usize>, AllocError>
-    ensures { IfOk result (λ v. length v.items ≡ count) }
-{
+/// The ranks of numbers, by rows of what each leads to. The numbers that lead to the one that was
+/// left last, and have no rank, are led to by it too, and get its rank.
+///
+/// # Errors
+///
+/// Want of memory.
+pub(crate) fn ranks_of(alloc: Global, rows: &[Row], ways: &Ways) -> Result<Vec<usize>, AllocError> {
+    let count = ways.forth.len();
+    let turns = ways.links.saturating_add(count).saturating_add(count);
+    let order = left_order(alloc, ways, turns)?;
     let mut ranks = zeros(alloc, count)?;
-    let mut ready = without_waits(alloc, waits)?;
-    for turn in 0..count {
-        if turn >= ready.len() {
-            break;
+    let mut waiting = all_ranked(alloc, &order)?;
+    for _ in 0..turns {
+        match waiting.pop() {
+            Some(next) => rank_next(&mut ranks, &mut waiting, rows, ways, next)?,
+            None => break,
         }
-        let number = ready[turn];
-        if number < ranks.len() {
-            ranks[number] = turn + 1;
-        }
-        settle_all(waits, &mut ready, callers_of(callers, number))?;
     }
     Ok(ranks)
-}
-
-/// The ranks of so many numbers, by rows of what each leads to: each is above those that it leads
-/// to, but for numbers that lead to themselves, by one link or several, and those that lead to
-/// such, which have none.
-pub(crate) fn ranks_of(alloc: Global, rows: &[Row], count: usize) -> Result<Vec<usize>, AllocError>
-    ensures { IfOk result (λ v. length v.items ≡ count) }
-{
-    let mut waits = zeros(alloc, count)?;
-    let mut callers = empty_lists(alloc, count)?;
-    wait_all(&mut waits, &mut callers, rows)?;
-    ranks_by(alloc, &mut waits, &callers, count)
 }

@@ -15,7 +15,7 @@ ghost use Rattle.lus_scopes.specs.Scopes.{owner_view, scope_view};
 ghost use Rattle.name_table.specs.Names.{number_of};
 
 use crate::called::contract_items;
-use crate::marks::{Link, Row, is_marked, spread};
+use crate::marks::{Link, Row, is_marked, mark, no_marks, spread};
 use crate::reads::{Read, push_reads, restricted_reads};
 use lus_scopes::least::Least;
 use lus_scopes::lookup::is_ghost;
@@ -176,26 +176,6 @@ fn ghost_rows(
         push_ghost_row(alloc, &mut rows, scope, names, item)?;
     }
     Ok(rows)
-}
-
-/// As many numbers, none of them marked.
-fn no_marks(alloc: Global, count: usize) -> Result<Vec<bool>, AllocError>
-    ensures { IfOk result (λ v. (length v.items ≡ count) × ((j : ℕ) → is_marked v.items j ≡ false)) }
-{
-    let mut marks = Vec::new(alloc);
-    while marks.len() < count {
-        marks.push(false)?;
-    }
-    Ok(marks)
-}
-
-/// Marks a number.
-fn mark(marks: &mut [bool], number: usize)
-    ensures { marks.new ≡ set marks.old number true }
-{
-    if number < marks.len() {
-        marks[number] = true;
-    }
 }
 
 /// Marks the numbers of outputs.

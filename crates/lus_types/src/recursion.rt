@@ -6,7 +6,7 @@ ghost use Rattle.lus_tree.specs.Reason.{Refused};
 ghost use Rattle.lus_tree.specs.View.{contract_node_view, decl_view, node_view, program_view, word_view};
 ghost use Rattle.lus_meaning.specs.ClockFaults.{components};
 ghost use Rattle.lus_meaning.specs.NameFaults.{recursion_faults};
-ghost use Rattle.lus_types.specs.Called.{all_fall, contract_links, falls_to, link_of, marked_faults, names_behind, node_links, rank_of, row_by, row_of};
+ghost use Rattle.lus_types.specs.Called.{contract_links, link_of, marked_faults, names_behind, node_links, row_by, row_of};
 ghost use Rattle.lus_types.specs.Circles.{IsGraph, IsLeading, IsOne};
 ghost use Rattle.lus_scopes.specs.Least.{least_view, noted_all};
 ghost use Rattle.lus_scopes.specs.Notes.{Notes};
@@ -15,8 +15,8 @@ ghost use Rattle.lus_types.specs.Words.{words_view};
 ghost use Rattle.name_table.specs.Names.{number_of};
 
 use crate::called::{contract_calls, contract_items, imports_of, node_calls};
-use crate::marks::{Link, Row, is_marked, spread};
-use crate::ranks::{rank_of, ranks_of};
+use crate::marks::{Link, Row, is_marked, spread_by};
+use crate::ways::{Ways, places_to, ways_of};
 use lus_scopes::declarations::Declarations;
 use lus_scopes::least::Least;
 use lus_tree::{ContractNode, Decl, Node, PlacedName, Program, What};
@@ -30,9 +30,8 @@ pub(crate) struct Graph {
     pub(crate) rows: Vec<Row>,
     /// How many names there are.
     count: usize,
-    /// Whether each number has a greater rank than those that it leads to, so that none leads to
-    /// itself.
-    falls: bool,
+    /// The same, forth and back.
+    pub(crate) ways: Ways,
 }
 
 /// The names of declarations with parts, each once.
@@ -255,42 +254,17 @@ fn rows_of(
     Ok(rows)
 }
 
-/// Whether each of these has a lesser rank.
-fn falls_to(ranks: &[usize], rank: usize, links: &[Link]) -> bool
-    ensures { result ≡ falls_to ranks.now rank (map link_view links.now) }
-{
-    for link in links {
-        if rank_of(ranks, link.to) >= rank {
-            return false;
-        }
-    }
-    true
-}
-
-/// Whether each number has a greater rank than those that it leads to.
-fn all_fall(ranks: &[usize], rows: &[Row]) -> bool
-    ensures { result ≡ all_fall ranks.now (map row_view rows.now) }
-{
-    for row in rows {
-        if !falls_to(ranks, rank_of(ranks, row.from), &row.links) {
-            return false;
-        }
-    }
-    true
-}
-
 /// What the declarations of a program call and import.
 pub(crate) fn graph_of(alloc: Global, declarations: &Declarations<'_>) -> Result<Graph, AllocError>
     ensures { IfOk result (λ g. IsGraph (program_view declarations.now) g) }
 {
     let names = names_of(alloc, declarations.program())?;
     let rows = rows_of(alloc, declarations, &names, &declarations.program().decls)?;
-    let ranks = ranks_of(alloc, &rows, names.len())?;
-    let falls = all_fall(&ranks, &rows);
+    let ways = ways_of(alloc, &rows, names.len())?;
     Ok(Graph {
         rows,
         count: names.len(),
-        falls,
+        ways,
     })
 }
 
@@ -310,7 +284,8 @@ fn leading(alloc: Global, graph: &Graph, number: usize) -> Result<Vec<bool>, All
     ensures { IfOk result (λ v. IsLeading (map row_view graph.now.rows.items) graph.now.count number v.items) }
 {
     let mut marks = one_marked(alloc, graph.count, number)?;
-    spread(&mut marks, &graph.rows);
+    let places = places_to(alloc, &graph.rows, &graph.ways, number)?;
+    spread_by(&mut marks, &graph.rows, &places);
     Ok(marks)
 }
 
@@ -341,9 +316,6 @@ pub(crate) fn recursion(
         → slice_get (components p) number ≡ Some n
         → Notes (least_view least.old) (least_view least.new) (recursion_faults p n)) }
 {
-    if graph.falls {
-        return Ok(());
-    }
     let row = &graph.rows[number];
     let marks = leading(alloc, graph, row.from)?;
     note_marked(least, &marks, &row.links);

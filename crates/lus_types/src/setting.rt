@@ -76,8 +76,8 @@ impl<'a, 's> Setting<'a, 's> {
             own: self.nothing,
             outer: self.constants_before(count),
             hidden: false,
-            modes: &[],
-            imports: &[],
+            modes: None,
+            imports: None,
         }
     }
 }

@@ -1,26 +1,27 @@
 //! The faults of all declarations of a program.
 
-ghost use Rattle.std.specs.Prelude.{◌≡◌, ◌++◌, ◌∷◌, [], false, IfOk, map, flat_map};
+ghost use Rattle.std.specs.Prelude.{◌≡◌, ◌++◌, ◌∷◌, [], false, IfOk, map};
 ghost use Rattle.lus_tree.specs.View.{decl_view, program_view};
-ghost use Rattle.lus_meaning.specs.ClockFaults.{components};
 ghost use Rattle.lus_meaning.specs.Scope.{constants_declared, entries_from};
-ghost use Rattle.lus_meaning.specs.NameFaults.{recursion_faults, typing_faults};
+ghost use Rattle.lus_meaning.specs.NameFaults.{typing_faults};
+ghost use Rattle.lus_types.specs.Circles.{IsGraph};
 ghost use Rattle.lus_types.specs.Declarations.{alone_from};
 ghost use Rattle.lus_types.specs.Entries.{AreOrdered};
+ghost use Rattle.lus_types.specs.Firsts.{circle_faults};
 ghost use Rattle.lus_scopes.specs.declared.scope.Extent.TheVariants.{All};
 ghost use Rattle.lus_scopes.specs.Least.{IsLeast, least_view};
 ghost use Rattle.lus_scopes.specs.Notes.{Notes};
 ghost use Rattle.lus_scopes.specs.Scopes.{entry_view, layer_view};
-ghost use Rattle.lus_tree.specs.Tree.{Name};
+ghost use Rattle.lus_tree.specs.Tree.{Name, Program as ProgramTree};
 ghost use Rattle.lus_types.specs.Homes.{declared_view};
 ghost use Rattle.lus_types.specs.Names.{HaveNames, found_in, known_among, names_from};
-ghost use Rattle.lus_scopes.specs.Meanings.{IsTable};
 
+use crate::circles::{FirstCircle, first_circle};
 use crate::component::{constants_after, declaration};
 use crate::entries::entries;
 use crate::naming::Declared;
 use crate::program_rules::{constant_words, declarations_twice, note_no_node};
-use crate::recursion::{graph_of, recursion};
+use crate::recursion::{Graph, graph_of, recursion};
 use crate::repeated::texts_of;
 use crate::setting::Setting;
 use crate::tables::{Table, Tables, declared_names, table_of};
@@ -28,7 +29,7 @@ use lus_scopes::declarations::Declarations;
 use lus_scopes::layer::Layer;
 use lus_scopes::least::Least;
 use lus_scopes::names::Names;
-use lus_tree::{Decl, Program};
+use lus_tree::{Decl, Program, What};
 use std::alloc::{AllocError, Global};
 
 /// The names, and behind them a constant of the program.
@@ -106,10 +107,9 @@ fn constants_of<'a>(
     nothing: Layer<'a>,
 ) -> Result<Names<'a>, AllocError>
     requires { layer_view nothing false ≡ [] }
-    ensures entries { IfOk result (λ n. map (entry_view All false) n.entries.items
+    ensures entries { IfOk result (λ n. map (entry_view All false) n
         ≡ entries_from (program_view declarations.now) [] [] (constants_declared (program_view declarations.now))) }
-    ensures order { IfOk result (λ n. AreOrdered 0 n.entries.items) }
-    ensures table { IfOk result (λ n. IsTable n.entries.items n.table) }
+    ensures order { IfOk result (λ n. AreOrdered 0 n) }
 {
     let declared = constants_declared(alloc, declarations.program())?;
     entries(alloc, declarations, nothing, &declared)
@@ -131,25 +131,41 @@ fn alone(
     let constants = constants_of(alloc, declarations, nothing)?;
     Ok(Tables {
         own: with_constants(alloc, declarations, constants.layer(), nothing, least)?,
-        constants: table_of(alloc, &constants.entries)?,
+        constants: table_of(alloc, constants.entries())?,
         declared: declared_names(alloc, &declarations.program().decls)?,
     })
 }
 
+/// Notes the calls and imports that are on circles, those of each declaration by themselves.
+fn each_circle(alloc: Global, graph: &Graph, least: &mut Least) -> Result<(), AllocError>
+    ensures { IfOk result (λ _. (p : ProgramTree) → IsGraph p graph.now
+        → Notes (least_view least.old) (least_view least.new) (circle_faults p)) }
+{
+    for number in 0..graph.rows.len() {
+        recursion(alloc, graph, least, number)?;
+    }
+    Ok(())
+}
+
 /// Notes the calls and imports of a program that are on circles of declarations.
+#[tactic(auto, using(crate::proofs::Levels::none_noted, crate::proofs::Levels::first_noted))]
 fn circles(
     alloc: Global,
     declarations: &Declarations<'_>,
     least: &mut Least,
 ) -> Result<(), AllocError>
     ensures { IfOk result (λ _. Notes (least_view least.old) (least_view least.new)
-        (flat_map (recursion_faults (program_view declarations.now)) (components (program_view declarations.now)))) }
+        (circle_faults (program_view declarations.now))) }
 {
     let graph = graph_of(alloc, declarations)?;
-    for number in 0..graph.rows.len() {
-        recursion(alloc, &graph, least, number)?;
+    match first_circle(alloc, &graph)? {
+        FirstCircle::Nowhere => Ok(()),
+        FirstCircle::At(at) => {
+            least.note(What::NodeRecursion, at);
+            Ok(())
+        }
+        FirstCircle::Unclear => each_circle(alloc, &graph, least),
     }
-    Ok(())
 }
 
 /// The least of a program's faults of names, types and numbers, and tables of its names.

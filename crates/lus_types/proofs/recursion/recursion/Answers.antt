@@ -1,11 +1,8 @@
 use Rattle.std.proofs.Common.{refl, rules}
 use Rattle.std.proofs.lemmas.Option.{slice_get_read}
 use Rattle.lus_scopes.specs.Least.{least_view}
-use Rattle.lus_types.proofs.RowFaults.{none_noted, row_noted}
+use Rattle.lus_types.proofs.RowFaults.{row_noted}
 use Rattle.lus_types.proofs.recursion.recursion.Goals as goal
-
-pub returns-then-graph : goal.returns-then-graph
-returns-then-graph c = λ p n g e fs i. none_noted p c.args.graph.now g c.args.number n e (least_view c.args.least.now) fs i c.if-graph.true
 
 pub returns : goal.returns
 returns c = λ p n g e fs i. row_noted p c.args.graph.now g c.args.number n e (least_view c.args.least.now) fs i
