@@ -10,7 +10,9 @@ ghost use Rattle.slot_values.specs.Quickly.{beside, quickly};
 
 use crate::operation::{chosen, is_truth};
 use crate::outcome::Outcome;
-use crate::quick_operation::{applied, choice_of, chosen_of, kept_where, minus_of, not_of};
+use crate::quick_operation::{
+    chosen_of, kept_where, minus_of, not_of, with_number, with_truth, within_both,
+};
 use crate::resolved::Resolved;
 use crate::slot::{is_present, slot_value};
 use lus_meaning::Value;
@@ -82,6 +84,7 @@ pub(crate) fn quick(e: &Resolved, on: bool, row: &[Option<Value>]) -> Outcome
 }
 
 #[cycle(quick)]
+#[tactic(auto, using(crate::proofs::Mismatched::mismatched))]
 fn walk(e: &Resolved, on: bool, row: &[Option<Value>]) -> Outcome
     ensures { outcome_view result ≡ quickly (slots_in row.now) on (resolved_view e.now) }
 {
@@ -90,22 +93,30 @@ fn walk(e: &Resolved, on: bool, row: &[Option<Value>]) -> Outcome
         Resolved::Slot(slot) => slot_outcome(on, row, *slot),
         Resolved::Not(a) => not_of(quick(a, on, row)),
         Resolved::Minus(_, a) => minus_of(quick(a, on, row)),
-        Resolved::Binary(_, operator, a, b) => {
-            let a = quick(a, on, row);
-            let b = quick(b, on, row);
-            applied(*operator, a, b)
-        }
-        Resolved::If(c, a, b) => {
-            let c = quick(c, on, row);
-            let a = quick(a, on, row);
-            let b = quick(b, on, row);
-            choice_of(c, a, b)
-        }
-        Resolved::Arrow(start, a, b) => {
-            let a = quick(a, on, row);
-            let b = quick(b, on, row);
-            chosen_of(slot_value(row, *start), a, b)
-        }
+        // What comes next is chosen by the first operand before the second one is read: so little is kept meanwhile.
+        Resolved::Binary(_, operator, a, b) => match quick(a, on, row) {
+            Outcome::Truth(a) => with_truth(*operator, a, quick(b, on, row)),
+            Outcome::Whole(a) => with_number(*operator, a, quick(b, on, row)),
+            Outcome::Absent => kept_where(false, quick(b, on, row)),
+            Outcome::Outside => Outcome::Outside,
+        },
+        Resolved::If(c, a, b) => match quick(c, on, row) {
+            Outcome::Truth(true) => within_both(quick(a, on, row), quick(b, on, row)),
+            Outcome::Truth(false) => within_both(quick(b, on, row), quick(a, on, row)),
+            Outcome::Absent => chosen_of(None, quick(a, on, row), quick(b, on, row)),
+            Outcome::Whole(n) => {
+                chosen_of(Some(Value::Whole(n)), quick(a, on, row), quick(b, on, row))
+            }
+            Outcome::Outside => Outcome::Outside,
+        },
+        Resolved::Arrow(start, a, b) => match slot_value(row, *start) {
+            Some(Value::Truth(true)) => within_both(quick(a, on, row), quick(b, on, row)),
+            Some(Value::Truth(false)) => within_both(quick(b, on, row), quick(a, on, row)),
+            Some(Value::Whole(n)) => {
+                chosen_of(Some(Value::Whole(n)), quick(a, on, row), quick(b, on, row))
+            }
+            None => chosen_of(None, quick(a, on, row), quick(b, on, row)),
+        },
         Resolved::When(slot, wanted, a) => {
             let clock = slot_value(row, *slot);
             let a = quick(a, is_present(clock), row);

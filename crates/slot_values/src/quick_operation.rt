@@ -1,12 +1,12 @@
 //! The operators on what expressions come to.
 
-ghost use Rattle.std.specs.Prelude.{◌≡◌, Some, is_none, option_map};
+ghost use Rattle.std.specs.Prelude.{◌≡◌, Some, false, is_none, option_map, true};
 ghost use Rattle.lus_tree.specs.declared.expression.Operator.TheVariants.{Add, Sub, Mul, Div, Mod};
 ghost use Rattle.lus_meaning.specs.Value.{flag, whole, apply, not_value};
 ghost use Rattle.lus_meaning.specs.TraceView.{entry_view};
 ghost use Rattle.slot_values.specs.Evaluated.{only_where};
 ghost use Rattle.slot_values.specs.Outcome.{outcome_view};
-ghost use Rattle.slot_values.specs.Quickly.{applied, chosen_of, choice_of, minus_of};
+ghost use Rattle.slot_values.specs.Quickly.{applied, chosen_of, minus_of};
 
 use crate::operation::{quotient_by_zero, remainder_by_zero};
 use crate::outcome::Outcome;
@@ -75,14 +75,15 @@ pub(crate) fn chosen_of(condition: Option<Value>, first: Outcome, second: Outcom
     }
 }
 
-/// One of two outcomes, by a third one.
-pub(crate) fn choice_of(condition: Outcome, first: Outcome, second: Outcome) -> Outcome
-    ensures { outcome_view result ≡ choice_of (outcome_view condition) (outcome_view first) (outcome_view second) }
+/// The first outcome, unless the second one is outside 128 bits.
+pub(crate) fn within_both(chosen: Outcome, other: Outcome) -> Outcome
+    ensures first { outcome_view result ≡ chosen_of (flag true) (outcome_view chosen) (outcome_view other) }
+    ensures second { outcome_view result ≡ chosen_of (flag false) (outcome_view other) (outcome_view chosen) }
 {
-    match condition {
-        Outcome::Truth(b) => chosen_of(Some(Value::Truth(b)), first, second),
-        Outcome::Absent | Outcome::Whole(_) => chosen_of(None, first, second),
-        Outcome::Outside => Outcome::Outside,
+    if is_outside(other) {
+        Outcome::Outside
+    } else {
+        chosen
     }
 }
 
@@ -178,8 +179,10 @@ fn truths(operator: Operator, a: bool, b: bool) -> Outcome
     }
 }
 
+/// An operator whose first operand is a truth value: absent where the second one is absent or has another type than it
+/// takes; outside 128 bits where that is, or the result.
 #[tactic(auto, using(crate::proofs::Mismatched::mismatched))]
-fn with_truth(operator: Operator, a: bool, right: Outcome) -> Outcome
+pub(crate) fn with_truth(operator: Operator, a: bool, right: Outcome) -> Outcome
     ensures { outcome_view result ≡ applied operator (Some (flag a)) (outcome_view right) }
 {
     match right {
@@ -189,27 +192,14 @@ fn with_truth(operator: Operator, a: bool, right: Outcome) -> Outcome
     }
 }
 
+/// The same where that is a whole number.
 #[tactic(auto, using(crate::proofs::Mismatched::mismatched))]
-fn with_number(operator: Operator, a: i128, right: Outcome) -> Outcome
+pub(crate) fn with_number(operator: Operator, a: i128, right: Outcome) -> Outcome
     ensures { outcome_view result ≡ applied operator (Some (whole a)) (outcome_view right) }
 {
     match right {
         Outcome::Whole(b) => numbers(operator, a, b),
         Outcome::Absent | Outcome::Truth(_) => Outcome::Absent,
-        Outcome::Outside => Outcome::Outside,
-    }
-}
-
-/// An operator on two outcomes: absent where one is absent, or they have other types than it takes; outside 128 bits
-/// where one is, or the result is.
-#[tactic(auto, using(crate::proofs::Mismatched::mismatched))]
-pub(crate) fn applied(operator: Operator, left: Outcome, right: Outcome) -> Outcome
-    ensures { outcome_view result ≡ applied operator (outcome_view left) (outcome_view right) }
-{
-    match left {
-        Outcome::Truth(a) => with_truth(operator, a, right),
-        Outcome::Whole(a) => with_number(operator, a, right),
-        Outcome::Absent => kept_where(false, right),
         Outcome::Outside => Outcome::Outside,
     }
 }
