@@ -1,6 +1,8 @@
 //! Checks each source of the files in data/ and prints it with its refusal, or with the number of its main node and the
 //! orders of the equations of its declarations; and sources that are made of numbers, or that stand in a file each, near
 //! the limits, with whether they are taken.
+//!
+//! For the benchmark, the words `checked FILE` have it read and check that source alone.
 #![tactic(auto)]
 
 mod answer;
@@ -8,7 +10,7 @@ mod made;
 
 use answer::{is_taken, orders_or_refusal};
 use made::source_of;
-use std::{fs, io};
+use std::{env, fs, io};
 
 /// The tables of sources: each line of a file is one.
 const TABLES: [&str; 3] = ["lefts", "circles", "orders"];
@@ -71,7 +73,18 @@ fn print_made(rt: &HostRuntime, case: &str) -> io::Result<()> {
     println!(rt; "{case}: {text}")
 }
 
+/// Whether the source of a file is taken.
+fn print_source(rt: &HostRuntime, file: &str) -> io::Result<()> {
+    let source = fs::read_to_string(rt, file)?;
+    let text = is_taken(rt.alloc(), source.as_str())?;
+    println!(rt; "{text}")
+}
+
 fn main(rt: HostRuntime) -> io::Result<()> {
+    let words: Vec<String> = env::args(&rt)?.collect(rt.alloc())?;
+    if let [_, _, file] = words.as_slice() {
+        return print_source(&rt, file.as_str());
+    }
     for name in TABLES {
         print_table(&rt, name)?;
     }

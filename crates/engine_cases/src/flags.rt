@@ -66,3 +66,14 @@ pub fn bits(alloc: Global) -> Result<System, AllocError> {
     let five = and(alloc, four_or_five, flag(0))?;
     of_flags(alloc, 3, first, steps, not(alloc, five)?)
 }
+
+/// Three free flags. That it doesn't matter which two are compared first is always true. Where it is denied each
+/// clause leaves two flags open, also behind the first clause that is learnt, so that one conflict does not show it.
+pub fn parity(alloc: Global) -> Result<System, AllocError> {
+    let first_two = same(alloc, flag(0), flag(1))?;
+    let left = same(alloc, first_two, flag(2))?;
+    let last_two = same(alloc, flag(1), flag(2))?;
+    let right = same(alloc, flag(0), last_two)?;
+    let property = same(alloc, left, right)?;
+    of_flags(alloc, 3, Vec::new(alloc), Vec::new(alloc), property)
+}

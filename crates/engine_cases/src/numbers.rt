@@ -188,3 +188,33 @@ pub fn halves(alloc: Global) -> Result<System, AllocError> {
     system.here.push(is_odd_sum(alloc)?)?;
     Ok(system)
 }
+
+/// The second number is more than the first one times a factor.
+fn above(alloc: Global, lower: u32, factor: i128, higher: u32) -> Result<Term, AllocError> {
+    let least = plus(alloc, multiple(alloc, factor, number(lower))?, constant(1))?;
+    at_most(alloc, least, number(higher))
+}
+
+/// The first number is at least 1, each further one more than the one before it times a factor, and the last one
+/// at least 3.
+fn climbing(alloc: Global, factor: i128, numbers: u32) -> Result<System, AllocError> {
+    let property = at_most(alloc, constant(3), number(numbers))?;
+    let mut system = free(alloc, property)?;
+    system.here.push(at_most(alloc, constant(1), number(0))?)?;
+    for lower in 0..numbers {
+        system.shapes.push(Shape::Number)?;
+        system.here.push(above(alloc, lower, factor, lower + 1)?)?;
+    }
+    Ok(system)
+}
+
+/// Three numbers, each more than the one before. Where the last one is at most 2, the second one has to come into the
+/// basis and then the third, before a row shows that it can't be.
+pub fn stairs(alloc: Global) -> Result<System, AllocError> {
+    climbing(alloc, 1, 2)
+}
+
+/// Four numbers, each more than 2^62 times the one before. The last one's row has 2^186 times the first one.
+pub fn steep(alloc: Global) -> Result<System, AllocError> {
+    climbing(alloc, HALF, 3)
+}

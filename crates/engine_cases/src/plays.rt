@@ -11,28 +11,33 @@ use crate::systems::{name_of, system_of};
 use anyhow::Result;
 use board_core::{Book, Cause, Plan, Statement, Verdict, play};
 use kind_engine::{BoundedEngine, StepEngine};
-use proof_steps::{Budgets, Stop};
+use proof_steps::Stop;
 use std::alloc::Global;
 use sys_terms::System;
+
+/// The largest budget.
+const MOST: u64 = 1_000_000_000;
 
 /// The plan of the case, where its numbers are within the ranges.
 fn plan(case: Case) -> Option<Plan>
     ensures { IfSome result IsPlan }
 {
     let depth = case.depth;
-    let splits = case.splits;
-    if depth == 0 || depth > 1_000 || splits == 0 || splits > 1_000_000_000 {
+    let budgets = case.budgets;
+    if depth == 0 || depth > 1_000 || budgets.splits == 0 || budgets.splits > MOST {
+        return None;
+    }
+    if budgets.conflicts == 0 || budgets.conflicts > MOST {
+        return None;
+    }
+    if budgets.pivots == 0 || budgets.pivots > MOST {
         return None;
     }
     Some(Plan {
         depth,
         frames: 30,
         blocked: 5_000,
-        budgets: Budgets {
-            conflicts: 100_000,
-            splits,
-            pivots: 200_000,
-        },
+        budgets,
     })
 }
 

@@ -3,20 +3,27 @@
 use crate::plays::{Cast, line};
 use crate::systems::Which;
 use anyhow::Result;
+use proof_steps::Budgets;
 use std::alloc::{AllocError, Global};
 
-/// More splits than any case needs.
-const MANY: u64 = 2_000;
-
-/// Who plays on which system, how deep, with how many splits a query, and in which order the first
+/// Who plays on which system, how deep, with which budgets a query, and in which order the first
 /// turns come.
 #[derive(Clone, Copy)]
 pub struct Case {
     pub cast: Cast,
     pub which: Which,
     pub depth: u32,
-    pub splits: u64,
+    pub budgets: Budgets,
     pub order: Order,
+}
+
+/// More than any case needs.
+fn ample() -> Budgets {
+    Budgets {
+        conflicts: 100_000,
+        splits: 2_000,
+        pivots: 200_000,
+    }
 }
 
 /// The first turns.
@@ -35,7 +42,7 @@ fn bounded(which: Which, depth: u32) -> Case {
         cast: Cast::Bounded,
         which,
         depth,
-        splits: MANY,
+        budgets: ample(),
         order: Order::First,
     }
 }
@@ -45,7 +52,7 @@ fn step(which: Which, depth: u32) -> Case {
         cast: Cast::Step,
         which,
         depth,
-        splits: MANY,
+        budgets: ample(),
         order: Order::Second,
     }
 }
@@ -55,13 +62,30 @@ fn both(which: Which, depth: u32, order: Order) -> Case {
         cast: Cast::Both,
         which,
         depth,
-        splits: MANY,
+        budgets: ample(),
         order,
     }
 }
 
+/// With at most so many conflicts a query.
+fn with_conflicts(conflicts: u64, case: Case) -> Case {
+    let budgets = Budgets {
+        conflicts,
+        ..ample()
+    };
+    Case { budgets, ..case }
+}
+
+/// With at most so many splits a query.
 fn with_splits(splits: u64, case: Case) -> Case {
-    Case { splits, ..case }
+    let budgets = Budgets { splits, ..ample() };
+    Case { budgets, ..case }
+}
+
+/// With at most so many pivots a check.
+fn with_pivots(pivots: u64, case: Case) -> Case {
+    let budgets = Budgets { pivots, ..ample() };
+    Case { budgets, ..case }
 }
 
 fn cases(alloc: Global) -> Result<Vec<Case>, AllocError> {
@@ -110,6 +134,14 @@ fn cases(alloc: Global) -> Result<Vec<Case>, AllocError> {
         both(Which::Doubling, 3, Order::Turns),
         both(Which::Kept, 2, Order::Turns),
         both(Which::FiveOrBig, 1, Order::Turns),
+        step(Which::Parity, 1),
+        with_conflicts(1, bounded(Which::Parity, 1)),
+        with_conflicts(1, step(Which::Parity, 1)),
+        step(Which::Stairs, 1),
+        with_pivots(1, bounded(Which::Stairs, 1)),
+        with_pivots(1, step(Which::Stairs, 1)),
+        bounded(Which::Steep, 1),
+        step(Which::Steep, 1),
     ]?)
 }
 

@@ -1,8 +1,9 @@
 //! The systems of the cases.
 
-use crate::flags::{bits, latch, register, toggle};
+use crate::flags::{bits, latch, parity, register, toggle};
 use crate::numbers::{
-    big_or_five, counting, doubling, five_or_big, halves, kept, lagging, limited, natural,
+    big_or_five, counting, doubling, five_or_big, halves, kept, lagging, limited, natural, stairs,
+    steep,
 };
 use kind_num::Shape;
 use std::alloc::{AllocError, Global};
@@ -24,6 +25,9 @@ pub enum Which {
     BigOrFive,
     FiveOrBig,
     Halves,
+    Parity,
+    Stairs,
+    Steep,
 }
 
 /// A system of these shapes, first states and steps, with one property.
@@ -60,6 +64,9 @@ pub fn system_of(alloc: Global, which: Which) -> Result<System, AllocError> {
         Which::BigOrFive => big_or_five(alloc),
         Which::FiveOrBig => five_or_big(alloc),
         Which::Halves => halves(alloc),
+        Which::Parity => parity(alloc),
+        Which::Stairs => stairs(alloc),
+        Which::Steep => steep(alloc),
     }
 }
 
@@ -79,5 +86,8 @@ pub fn name_of(which: Which) -> &'static str {
         Which::BigOrFive => "big or five",
         Which::FiveOrBig => "five or big",
         Which::Halves => "halves",
+        Which::Parity => "parity",
+        Which::Stairs => "stairs",
+        Which::Steep => "steep stairs",
     }
 }
