@@ -1,0 +1,5 @@
+//! An attempt, whose result is judged afterwards.
+
+pub mod cutting;
+pub mod outcome;
+pub mod turns;
