@@ -27,4 +27,4 @@ pub mod Forms
 pub mod Kept
 pub mod Ends
 pub mod Answering
-pub mod Judging
+pub mod Judged
