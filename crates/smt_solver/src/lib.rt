@@ -6,6 +6,7 @@
 #![tactic(auto)]
 
 mod answer;
+mod attempt;
 mod boolean;
 mod fault;
 pub mod laws;
