@@ -27,3 +27,4 @@ pub mod Forms
 pub mod Kept
 pub mod Ends
 pub mod Answering
+pub mod Plain

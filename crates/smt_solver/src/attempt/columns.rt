@@ -106,7 +106,9 @@ fn known_column(sums: &[Atom], first: u32, sum: &Atom) -> Option<u32> {
         return Some(x);
     }
     match sums.last() {
-        Some(last) if is_same_sum(last, sum) => Some(first.wrapping_add(sums.len() as u32).wrapping_sub(1)),
+        Some(last) if is_same_sum(last, sum) => Some(
+            first.wrapping_add(sums.len() as u32).wrapping_sub(1),
+        ),
         _ => None,
     }
 }

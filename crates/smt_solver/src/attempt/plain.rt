@@ -48,14 +48,20 @@ fn is_plain_atom(shapes: &[Shape], atom: &Atom) -> bool
     !terms.is_empty() && are_in_order(terms) && are_terms(shapes, terms)
 }
 
-/// Whether each atom is a sum of numbers of the form, each once and in order, with a coefficient other than 0.
-pub fn is_plain(cnf: &Cnf) -> bool
-    ensures { result ≡ true → IsPlain (form_view cnf.now) }
+fn are_plain(shapes: &[Shape], atoms: &[Atom]) -> bool
+    ensures { result ≡ true → All (IsPlainAtom shapes.now) (map atom_view atoms.now) }
 {
-    for atom in &cnf.atoms {
-        if !is_plain_atom(&cnf.shapes, atom) {
+    for atom in atoms {
+        if !is_plain_atom(shapes, atom) {
             return false;
         }
     }
     true
+}
+
+/// Whether each atom is a sum of numbers of the form, each once and in order, with a coefficient other than 0.
+pub fn is_plain(cnf: &Cnf) -> bool
+    ensures { result ≡ true → IsPlain (form_view cnf.now) }
+{
+    are_plain(&cnf.shapes, &cnf.atoms)
 }

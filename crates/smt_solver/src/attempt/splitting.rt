@@ -41,7 +41,12 @@ fn used(limit: Limit, below: bool) -> Used {
 }
 
 // Adds the step that the column is above the first limit or at most the second.
-fn add_order(alloc: Global, record: &mut Record, first: Limit, second: Limit) -> Result<(), SolveFault> {
+fn add_order(
+    alloc: Global,
+    record: &mut Record,
+    first: Limit,
+    second: Limit,
+) -> Result<(), SolveFault> {
     let both = vec![in alloc; used(first, true), used(second, false)]?;
     let step = conflict_step(alloc, &both)?;
     add(alloc, record, step)

@@ -1,6 +1,6 @@
 //! The turns of an attempt, up to what it gives or the end of its budgets.
 
-ghost use Rattle.std.specs.Prelude.{◌≡◌, ◌→◌, true, None, IfOk};
+ghost use Rattle.std.specs.Prelude.{◌≡◌, true, OnOk, IfOk, IfNone, IfSome};
 ghost use Rattle.cnf_maker.specs.View.{AreFew, form_view};
 
 use crate::attempt::bounding::{assert_picked, push_own};
@@ -44,10 +44,9 @@ struct Work {
     splits: u64,
 }
 
-/// How a turn ends.
+/// How an attempt ends.
 #[derive(Drop)]
-enum Ending {
-    Goes,
+pub enum Ending {
     GivesUp,
     Refutes,
     Finds(Vec<Entry>),
@@ -62,7 +61,9 @@ fn spend(left: &mut u64) -> bool {
     true
 }
 
-fn entry(search: &Search, tableau: &Tableau, number: u32, shape: Shape) -> Entry {
+fn entry(search: &Search, tableau: &Tableau, number: u32, shape: Shape) -> Entry
+    requires usable { tableau.now.usable ≡ true }
+{
     match shape {
         Shape::Flag => {
             let truth = search.value(Literal::Flag(number, true));
@@ -82,7 +83,9 @@ fn entries(
     search: &Search,
     tableau: &Tableau,
     shapes: &[Shape],
-) -> Result<Vec<Entry>, AllocError> {
+) -> Result<Vec<Entry>, AllocError>
+    requires usable { tableau.now.usable ≡ true }
+{
     let mut entries = Vec::new(alloc);
     for number in 0..u32::MAX {
         match shapes.get(number as usize) {
@@ -94,17 +97,20 @@ fn entries(
 }
 
 // Gives the values where they are whole, and else splits.
-fn at_fit(alloc: Global, subject: &Subject, work: &mut Work) -> Result<Ending, SolveFault> {
+fn at_fit(alloc: Global, subject: &Subject, work: &mut Work) -> Result<Option<Ending>, SolveFault>
+    requires usable { work.old.tableau.usable ≡ true }
+    ensures usable { OnOk result (work.new.tableau.usable ≡ true) }
+{
     let (x, c) = match split_of(&work.tableau) {
         Some(split) => split,
         None => {
             let search = &work.record.search;
             let values = entries(alloc, search, &work.tableau, subject.shapes)?;
-            return Ok(Ending::Finds(values));
+            return Ok(Some(Ending::Finds(values)));
         }
     };
     if x as usize >= subject.cnf.shapes.len() || !spend(&mut work.splits) {
-        return Ok(Ending::GivesUp);
+        return Ok(Some(Ending::GivesUp));
     }
     add_split(
         alloc,
@@ -114,15 +120,22 @@ fn at_fit(alloc: Global, subject: &Subject, work: &mut Work) -> Result<Ending, S
         x,
         c,
     )?;
-    Ok(Ending::Goes)
+    Ok(None)
 }
 
-fn refuted(alloc: Global, work: &mut Work, parts: &[(i128, u32)]) -> Result<Ending, SolveFault> {
+fn refuted(
+    alloc: Global,
+    work: &mut Work,
+    parts: &[(i128, u32)],
+) -> Result<Option<Ending>, SolveFault>
+    requires usable { work.old.tableau.usable ≡ true }
+    ensures usable { OnOk result (work.new.tableau.usable ≡ true) }
+{
     if !spend(&mut work.conflicts) {
-        return Ok(Ending::GivesUp);
+        return Ok(Some(Ending::GivesUp));
     }
     add_refutation(alloc, &mut work.record, &work.meanings, parts)?;
-    Ok(Ending::Goes)
+    Ok(None)
 }
 
 // Checks the bounds that matter.
@@ -131,7 +144,10 @@ fn at_full(
     subject: &Subject,
     work: &mut Work,
     pivots: u64,
-) -> Result<Ending, SolveFault> {
+) -> Result<Option<Ending>, SolveFault>
+    requires usable { work.old.tableau.usable ≡ true }
+    ensures usable { IfOk result (λ r. IfNone r (work.new.tableau.usable ≡ true)) }
+{
     let search = &work.record.search;
     let count = subject.cnf.atoms.len();
     let mut numbers = picked(
@@ -143,31 +159,45 @@ fn at_full(
         subject.truth,
     )?;
     push_own(&mut numbers, count, work.meanings.len())?;
-    if let Some((first, second)) = assert_picked(alloc, search, &mut work.tableau, &work.meanings, &numbers)? {
+    if let Some((first, second)) = assert_picked(
+        alloc,
+        search,
+        &mut work.tableau,
+        &work.meanings,
+        &numbers,
+    )? {
         let parts = vec![in alloc; (1, first), (1, second)]?;
         return refuted(alloc, work, &parts);
     }
     match work.tableau.check(alloc, pivots)? {
         Checkup::Fits => at_fit(alloc, subject, work),
         Checkup::Refuted(farkas) => refuted(alloc, work, &farkas.parts),
-        Checkup::Pivots(_) | Checkup::Past(_) => Ok(Ending::GivesUp),
+        Checkup::Pivots(_) | Checkup::Past(_) => Ok(Some(Ending::GivesUp)),
     }
 }
 
-fn turn(alloc: Global, subject: &Subject, work: &mut Work, pivots: u64) -> Result<Ending, SolveFault> {
+fn turn(
+    alloc: Global,
+    subject: &Subject,
+    work: &mut Work,
+    pivots: u64,
+) -> Result<Option<Ending>, SolveFault>
+    requires usable { work.old.tableau.usable ≡ true }
+    ensures usable { IfOk result (λ r. IfNone r (work.new.tableau.usable ≡ true)) }
+{
     match work.record.search.decide_or_conflict(alloc)? {
         Found::Full => at_full(alloc, subject, work, pivots),
         Found::Empty => {
             copy_last(alloc, &mut work.record)?;
-            Ok(Ending::Refutes)
+            Ok(Some(Ending::Refutes))
         }
         Found::Conflict => {
             if !spend(&mut work.conflicts) {
-                return Ok(Ending::GivesUp);
+                return Ok(Some(Ending::GivesUp));
             }
             work.record.search.learn(alloc)?;
             copy_last(alloc, &mut work.record)?;
-            Ok(Ending::Goes)
+            Ok(None)
         }
     }
 }
@@ -182,7 +212,13 @@ fn form_of_sums(alloc: Global, sums: Vec<Atom>, shapes: &[Shape]) -> Result<Cnf,
 }
 
 // The tableau of the sums, where they are plain.
-fn tableau_of(alloc: Global, sums: Vec<Atom>, shapes: &[Shape]) -> Result<Option<Tableau>, SolveFault> {
+fn tableau_of(
+    alloc: Global,
+    sums: Vec<Atom>,
+    shapes: &[Shape],
+) -> Result<Option<Tableau>, SolveFault>
+    ensures usable { IfOk result (λ r. IfSome r (λ t. t.usable ≡ true)) }
+{
     let form = form_of_sums(alloc, sums, shapes)?;
     let most = u32::MAX as usize;
     if form.atoms.len() > most || form.shapes.len() > most || !is_plain(&form) {
@@ -191,7 +227,10 @@ fn tableau_of(alloc: Global, sums: Vec<Atom>, shapes: &[Shape]) -> Result<Option
     Ok(Some(tableau(alloc, &form)?))
 }
 
-fn begun(alloc: Global, cnf: &Cnf, budgets: Budgets) -> Result<Option<Work>, SolveFault> {
+fn begun(alloc: Global, cnf: &Cnf, budgets: Budgets) -> Result<Option<Work>, SolveFault>
+    requires few { AreFew (form_view cnf.now) }
+    ensures usable { IfOk result (λ r. IfSome r (λ w. w.tableau.usable ≡ true)) }
+{
     let Columns { sums, meanings } = columns_of(alloc, &cnf.atoms, cnf.shapes.len() as u32)?;
     let tableau = match tableau_of(alloc, sums, &cnf.shapes)? {
         Some(tableau) => tableau,
@@ -213,12 +252,18 @@ fn begun(alloc: Global, cnf: &Cnf, budgets: Budgets) -> Result<Option<Work>, Sol
 }
 
 // Turn after turn.
-fn ended(alloc: Global, subject: &Subject, work: &mut Work, budgets: Budgets) -> Result<Ending, SolveFault> {
+fn ended(
+    alloc: Global,
+    subject: &Subject,
+    work: &mut Work,
+    budgets: Budgets,
+) -> Result<Ending, SolveFault>
+    requires usable { work.old.tableau.usable ≡ true }
+{
     let most = budgets.conflicts.saturating_add(budgets.splits);
     for _turn in 0..=most {
-        match turn(alloc, subject, work, budgets.pivots)? {
-            Ending::Goes => (),
-            end => return Ok(end),
+        if let Some(end) = turn(alloc, subject, work, budgets.pivots)? {
+            return Ok(end);
         }
     }
     Ok(Ending::GivesUp)
@@ -251,6 +296,6 @@ pub fn attempted(
             atoms: work.atoms,
             steps: work.record.steps,
         }))),
-        Ending::Goes | Ending::GivesUp => Ok(None),
+        Ending::GivesUp => Ok(None),
     }
 }
