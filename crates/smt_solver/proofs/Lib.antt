@@ -28,3 +28,4 @@ pub mod Kept
 pub mod Ends
 pub mod Answering
 pub mod Plain
+pub mod Judging

@@ -2,6 +2,7 @@
 
 pub mod bounding;
 pub mod columns;
+pub mod cutting;
 pub mod definitions;
 pub mod outcome;
 pub mod picking;

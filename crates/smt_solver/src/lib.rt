@@ -9,6 +9,7 @@ mod answer;
 mod attempt;
 mod boolean;
 mod fault;
+mod judging;
 pub mod laws;
 mod numbers;
 mod run;
