@@ -100,15 +100,23 @@ fn by_sum(alloc: Global, atoms: &[Atom]) -> Result<Vec<(i128, u32)>, AllocError>
     Ok(places)
 }
 
+// The column of the sum at this place, where the first one has that column.
+fn column_at(first: u32, place: usize) -> u32 {
+    match u32::try_from(place) {
+        Ok(place) => first.wrapping_add(place),
+        Err(_) => u32::MAX,
+    }
+}
+
 // The column of a sum, where it is one variable or the last of the sums.
 fn known_column(sums: &[Atom], first: u32, sum: &Atom) -> Option<u32> {
     if let Some(x) = only_variable(sum) {
         return Some(x);
     }
     match sums.last() {
-        Some(last) if is_same_sum(last, sum) => Some(
-            first.wrapping_add(sums.len() as u32).wrapping_sub(1),
-        ),
+        Some(last) if is_same_sum(last, sum) => {
+            Some(column_at(first, sums.len().saturating_sub(1)))
+        }
         _ => None,
     }
 }
@@ -118,7 +126,7 @@ fn column_of(sums: &mut Vec<Atom>, first: u32, sum: Atom) -> Result<u32, AllocEr
     if let Some(column) = known_column(sums, first, &sum) {
         return Ok(column);
     }
-    let column = first.wrapping_add(sums.len() as u32);
+    let column = column_at(first, sums.len());
     sums.push(sum)?;
     Ok(column)
 }

@@ -211,6 +211,13 @@ fn form_of_sums(alloc: Global, sums: Vec<Atom>, shapes: &[Shape]) -> Result<Cnf,
     })
 }
 
+fn is_few(cnf: &Cnf) -> bool
+    ensures { result ≡ true → AreFew (form_view cnf.now) }
+{
+    let most = u32::MAX as usize;
+    cnf.shapes.len() <= most && cnf.atoms.len() <= most && cnf.clauses.len() <= most
+}
+
 // The tableau of the sums, where they are plain.
 fn tableau_of(
     alloc: Global,
@@ -220,8 +227,7 @@ fn tableau_of(
     ensures usable { IfOk result (λ r. IfSome r (λ t. t.usable ≡ true)) }
 {
     let form = form_of_sums(alloc, sums, shapes)?;
-    let most = u32::MAX as usize;
-    if form.atoms.len() > most || form.shapes.len() > most || !is_plain(&form) {
+    if !is_few(&form) || !is_plain(&form) {
         return Ok(None);
     }
     Ok(Some(tableau(alloc, &form)?))
@@ -260,8 +266,11 @@ fn ended(
 ) -> Result<Ending, SolveFault>
     requires usable { work.old.tableau.usable ≡ true }
 {
-    let most = budgets.conflicts.saturating_add(budgets.splits);
-    for _turn in 0..=most {
+    let most = budgets
+        .conflicts
+        .saturating_add(budgets.splits)
+        .saturating_add(1);
+    for _turn in 0..most {
         if let Some(end) = turn(alloc, subject, work, budgets.pivots)? {
             return Ok(end);
         }

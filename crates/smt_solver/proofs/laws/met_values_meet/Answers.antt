@@ -1,4 +1,4 @@
-use Rattle.smt_solver.proofs.Judging.{met-meets}
+use Rattle.smt_solver.proofs.Judged.{met-meets}
 use Rattle.smt_solver.proofs.laws.met_values_meet.Goals as goal
 
 pub returns : goal.returns

@@ -1,7 +1,7 @@
 use Rattle.std.specs.Prelude.{refl}
 use Rattle.std.proofs.Common.{arith}
 use Rattle.cnf_maker.specs.Plain.{IsTermOf}
-use Rattle.smt_solver.proofs.Plain.{all_taken, all_next}
+use Rattle.smt_solver.proofs.Elements.{all_taken, all_next}
 use Rattle.smt_solver.proofs.attempt.plain.are_terms.Goals as goal
 
 pub loop-term-preserved : goal.loop-term-preserved
