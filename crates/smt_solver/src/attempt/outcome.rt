@@ -1,13 +1,12 @@
-//! What an attempt finds.
+//! What an attempt comes to.
 
 use proof_steps::Proof;
 use sys_terms::Entry;
 
-/// What an attempt finds. Nothing is known of it.
+/// What an attempt gives, to be judged: steps that are to refute the form, or values of the query's variables that
+/// are to meet its conditions.
 #[derive(Drop)]
 pub enum Attempt {
-    /// A proof that no values satisfy the form.
     Refuted(Proof),
-    /// A value for each variable of the query.
     Found(Vec<Entry>),
 }
