@@ -59,7 +59,7 @@ pub fn is_same_sum(left: &Atom, right: &Atom) -> bool {
 }
 
 /// The variable of a sum that is one variable.
-fn only_variable(sum: &Atom) -> Option<u32> {
+pub fn only_variable(sum: &Atom) -> Option<u32> {
     match sum.terms.as_slice() {
         [(x, _)] => Some(*x),
         _ => None,

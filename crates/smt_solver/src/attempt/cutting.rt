@@ -1,4 +1,4 @@
-//! The theory steps of cuts.
+//! Cuts, with the steps that they follow by.
 
 ghost use Rattle.std.specs.Prelude.{◌≡◌, ◌<◌, ◌-◌, ◌^◌, ◌++◌, ◌∷◌, [], true, map, length, IfOk};
 ghost use Rattle.proof_steps.specs.declared.Literal.TheVariants.{Atom};
@@ -6,12 +6,71 @@ ghost use Rattle.proof_steps.specs.View.{atom_view, clause_view, line_view, step
 ghost use Rattle.smt_solver.specs.Cutting.{numbered_in, used_in, closing_line, cut_move, move_of_cut};
 ghost use Rattle.smt_solver.specs.Used.{denied_by};
 
+use crate::attempt::columns::{is_same_sum, meaning_over, normal_sum, only_variable};
+use crate::attempt::record::{Record, add};
+use crate::attempt::splitting::{add_neighbours, next_number};
+use crate::fault::SolveFault;
 use crate::numbers::meanings::Meaning;
 use crate::numbers::steps::{Used, clause_of, own_lines, refuting_step, sum_line, uses};
-use int_cuts::Cut;
-use proof_steps::{Clause, Line, Literal, Source, Step};
+use int_cuts::{Cut, CutAnswer, CutFault, cut_of};
+use int_simplex::Tableau;
+use proof_steps::{Atom, Clause, Line, Literal, Source, Step};
 use sat_core::Search;
 use std::alloc::{AllocError, Global};
+
+// 2^62; cuts with larger numbers are left.
+const LARGE: u128 = 4_611_686_018_427_387_904;
+
+fn is_small(atom: &Atom) -> bool {
+    for (_, coefficient) in atom.terms.as_slice() {
+        if coefficient.unsigned_abs() >= LARGE {
+            return false;
+        }
+    }
+    atom.bound.unsigned_abs() < LARGE
+}
+
+/// The cut of the values, where there is one with small numbers.
+pub fn small_cut(alloc: Global, tableau: &Tableau) -> Result<Option<Cut>, SolveFault>
+    requires { tableau.now.usable ≡ true }
+{
+    match cut_of(alloc, tableau) {
+        Ok(CutAnswer::Cut(cut)) if is_small(&cut.atom) => Ok(Some(cut)),
+        Ok(_) => Ok(None),
+        Err(CutFault::Memory(error)) => Err(SolveFault::Memory(error)),
+    }
+}
+
+// The place of the sum among these.
+fn place_of(sums: &[Atom], sum: &Atom) -> Option<u32> {
+    for place in 0..u32::MAX {
+        match sums.get(place as usize) {
+            Some(other) if is_same_sum(other, sum) => return Some(place),
+            Some(_) => (),
+            None => break,
+        }
+    }
+    None
+}
+
+/// The column of the atom's sum, where the first of these has this one. A new sum is put behind them.
+pub fn column_among(
+    alloc: Global,
+    sums: &mut Vec<Atom>,
+    first: u32,
+    atom: &Atom,
+) -> Result<u32, AllocError> {
+    let sum = normal_sum(alloc, atom)?;
+    if let Some(x) = only_variable(&sum) {
+        return Ok(x);
+    }
+    if let Some(place) = place_of(sums, &sum) {
+        return Ok(first.wrapping_add(place));
+    }
+    let column = first.wrapping_add(sums.len() as u32);
+    sums.push(sum)?;
+    Ok(column)
+}
 
 // The multipliers of a line's bounds, each with the number of the bound's atom.
 fn numbered(alloc: Global, parts: &[(i128, Source)]) -> Result<Vec<(i128, u32)>, AllocError>
@@ -88,4 +147,27 @@ pub fn cut_step(
         return refuting_step(alloc, &used);
     }
     cutting_step(alloc, &used, cut.line.divisor, number)
+}
+
+/// Adds the step of a cut, and its atom, whose sum has this column, behind the others. An atom without a term is
+/// none: the step then is that bounds refute each other.
+pub fn add_cut(
+    alloc: Global,
+    record: &mut Record,
+    atoms: &mut Vec<Atom>,
+    meanings: &mut Vec<Meaning>,
+    cut: Cut,
+    column: u32,
+) -> Result<(), SolveFault> {
+    let number = next_number(meanings)?;
+    let step = cut_step(alloc, &record.search, meanings, &cut, number)?;
+    add(alloc, record, step)?;
+    if cut.atom.terms.as_slice().is_empty() {
+        return Ok(());
+    }
+    let meaning = meaning_over(&cut.atom, column);
+    add_neighbours(alloc, record, meanings, meaning, number)?;
+    atoms.push(cut.atom)?;
+    meanings.push(meaning)?;
+    Ok(())
 }

@@ -1,5 +1,7 @@
 //! The atoms of splits, with what they say of the limits beside them.
 
+ghost use Rattle.std.specs.Prelude.{◌≡◌, suc, length, IfOk};
+
 use crate::attempt::record::{Record, add};
 use crate::fault::SolveFault;
 use crate::numbers::meanings::Meaning;
@@ -109,6 +111,16 @@ pub fn add_neighbours(
     Ok(())
 }
 
+/// The number of the atom behind these.
+pub fn next_number(meanings: &[Meaning]) -> Result<u32, AllocError>
+    ensures { IfOk result (λ n. n ≡ suc (length meanings.now)) }
+{
+    match u32::try_from(meanings.len()) {
+        Ok(count) if count < u32::MAX => Ok(count + 1),
+        _ => Err(AllocError),
+    }
+}
+
 /// The atom `x <= c` of this number, with the steps that it or its opposite is true and that order its limit.
 pub fn add_split(
     alloc: Global,
@@ -118,10 +130,7 @@ pub fn add_split(
     x: u32,
     c: i128,
 ) -> Result<(), SolveFault> {
-    let number = match u32::try_from(meanings.len()) {
-        Ok(count) if count < u32::MAX => count + 1,
-        _ => return Err(SolveFault::Memory(AllocError)),
-    };
+    let number = next_number(meanings)?;
     let meaning = Meaning {
         column: x,
         upper: true,

@@ -5,6 +5,7 @@ ghost use Rattle.cnf_maker.specs.View.{AreFew, form_view};
 
 use crate::attempt::bounding::{assert_picked, push_own};
 use crate::attempt::columns::{Columns, columns_of};
+use crate::attempt::cutting::{add_cut, column_among, small_cut};
 use crate::attempt::definitions::{Definitions, definitions_of};
 use crate::attempt::outcome::Attempt;
 use crate::attempt::picking::picked;
@@ -16,13 +17,16 @@ use crate::numbers::meanings::Meaning;
 use crate::numbers::order::orders;
 use crate::numbers::rows::tableau;
 use cnf_maker::Cnf;
-use int_cuts::split_of;
+use int_cuts::{Cut, split_of};
 use int_simplex::{Checkup, Tableau};
 use kind_num::Shape;
 use proof_steps::{Atom, Budgets, Literal, Proof};
 use sat_core::{Found, Search};
 use std::alloc::{AllocError, Global};
 use sys_terms::Entry;
+
+// How many cuts come before a split or a conflict at most.
+const CUTS: u64 = 8;
 
 /// What an attempt is about: the form, which clauses define what, and how many variables are the query's own.
 #[derive(Clone, Copy)]
@@ -38,10 +42,12 @@ struct Subject<'a> {
 struct Work {
     record: Record,
     tableau: Tableau,
+    sums: Cnf,
     meanings: Vec<Meaning>,
     atoms: Vec<Atom>,
     conflicts: u64,
     splits: u64,
+    cuts: u64,
 }
 
 /// How an attempt ends.
@@ -96,7 +102,63 @@ fn entries(
     Ok(entries)
 }
 
-// Gives the values where they are whole, and else splits.
+// The column of the cut's sum. A new sum comes to the tableau, whose values then begin anew.
+fn column_of_cut(alloc: Global, work: &mut Work, cut: &Cut) -> Result<Option<u32>, SolveFault>
+    requires usable { work.old.tableau.usable ≡ true }
+    ensures usable { OnOk result (work.new.tableau.usable ≡ true) }
+{
+    if cut.atom.terms.as_slice().is_empty() {
+        return Ok(Some(0));
+    }
+    let count = work.sums.atoms.len();
+    let first = match u32::try_from(work.sums.shapes.len()) {
+        Ok(first) => first,
+        Err(_) => return Ok(None),
+    };
+    let column = column_among(alloc, &mut work.sums.atoms, first, &cut.atom)?;
+    if work.sums.atoms.len() == count {
+        return Ok(Some(column));
+    }
+    match tableau_of(alloc, &work.sums)? {
+        Some(tableau) => {
+            work.tableau = tableau;
+            Ok(Some(column))
+        }
+        None => {
+            work.sums.atoms.pop();
+            Ok(None)
+        }
+    }
+}
+
+// Adds a cut, where there is one and not too many came before.
+fn cuts(alloc: Global, work: &mut Work) -> Result<bool, SolveFault>
+    requires usable { work.old.tableau.usable ≡ true }
+    ensures usable { OnOk result (work.new.tableau.usable ≡ true) }
+{
+    if !spend(&mut work.cuts) {
+        return Ok(false);
+    }
+    let cut = match small_cut(alloc, &work.tableau)? {
+        Some(cut) => cut,
+        None => return Ok(false),
+    };
+    let column = match column_of_cut(alloc, work, &cut)? {
+        Some(column) => column,
+        None => return Ok(false),
+    };
+    add_cut(
+        alloc,
+        &mut work.record,
+        &mut work.atoms,
+        &mut work.meanings,
+        cut,
+        column,
+    )?;
+    Ok(true)
+}
+
+// Gives the values where they are whole, and else cuts or splits.
 fn at_fit(alloc: Global, subject: &Subject, work: &mut Work) -> Result<Option<Ending>, SolveFault>
     requires usable { work.old.tableau.usable ≡ true }
     ensures usable { OnOk result (work.new.tableau.usable ≡ true) }
@@ -109,9 +171,13 @@ fn at_fit(alloc: Global, subject: &Subject, work: &mut Work) -> Result<Option<En
             return Ok(Some(Ending::Finds(values)));
         }
     };
+    if cuts(alloc, work)? {
+        return Ok(None);
+    }
     if x as usize >= subject.cnf.shapes.len() || !spend(&mut work.splits) {
         return Ok(Some(Ending::GivesUp));
     }
+    work.cuts = CUTS;
     add_split(
         alloc,
         &mut work.record,
@@ -134,6 +200,7 @@ fn refuted(
     if !spend(&mut work.conflicts) {
         return Ok(Some(Ending::GivesUp));
     }
+    work.cuts = CUTS;
     add_refutation(alloc, &mut work.record, &work.meanings, parts)?;
     Ok(None)
 }
@@ -195,6 +262,7 @@ fn turn(
             if !spend(&mut work.conflicts) {
                 return Ok(Some(Ending::GivesUp));
             }
+            work.cuts = CUTS;
             work.record.search.learn(alloc)?;
             copy_last(alloc, &mut work.record)?;
             Ok(None)
@@ -219,18 +287,13 @@ fn is_few(cnf: &Cnf) -> bool
 }
 
 // The tableau of the sums, where they are plain.
-fn tableau_of(
-    alloc: Global,
-    sums: Vec<Atom>,
-    shapes: &[Shape],
-) -> Result<Option<Tableau>, SolveFault>
+fn tableau_of(alloc: Global, sums: &Cnf) -> Result<Option<Tableau>, SolveFault>
     ensures usable { IfOk result (λ r. IfSome r (λ t. t.usable ≡ true)) }
 {
-    let form = form_of_sums(alloc, sums, shapes)?;
-    if !is_few(&form) || !is_plain(&form) {
+    if !is_few(sums) || !is_plain(sums) {
         return Ok(None);
     }
-    Ok(Some(tableau(alloc, &form)?))
+    Ok(Some(tableau(alloc, sums)?))
 }
 
 fn begun(alloc: Global, cnf: &Cnf, budgets: Budgets) -> Result<Option<Work>, SolveFault>
@@ -238,7 +301,8 @@ fn begun(alloc: Global, cnf: &Cnf, budgets: Budgets) -> Result<Option<Work>, Sol
     ensures usable { IfOk result (λ r. IfSome r (λ w. w.tableau.usable ≡ true)) }
 {
     let Columns { sums, meanings } = columns_of(alloc, &cnf.atoms, cnf.shapes.len() as u32)?;
-    let tableau = match tableau_of(alloc, sums, &cnf.shapes)? {
+    let sums = form_of_sums(alloc, sums, &cnf.shapes)?;
+    let tableau = match tableau_of(alloc, &sums)? {
         Some(tableau) => tableau,
         None => return Ok(None),
     };
@@ -250,10 +314,12 @@ fn begun(alloc: Global, cnf: &Cnf, budgets: Budgets) -> Result<Option<Work>, Sol
     Ok(Some(Work {
         record,
         tableau,
+        sums,
         meanings,
         atoms: Vec::new(alloc),
         conflicts: budgets.conflicts,
         splits: budgets.splits,
+        cuts: CUTS,
     }))
 }
 
@@ -269,7 +335,8 @@ fn ended(
     let most = budgets
         .conflicts
         .saturating_add(budgets.splits)
-        .saturating_add(1);
+        .saturating_add(1)
+        .saturating_mul(CUTS + 1);
     for _turn in 0..most {
         if let Some(end) = turn(alloc, subject, work, budgets.pivots)? {
             return Ok(end);
