@@ -1,5 +1,5 @@
 -- What an accepted attempt says.
-use Rattle.std.specs.Prelude.{◌≡◌, Bool, true, false, ◌&&◌, List, [], ◌∷◌, Option, Some, None, All, Result, Ok, Err, length, tt, ℕ, refl}
+use Rattle.std.specs.Prelude.{◌≡◌, Bool, true, false, ◌&&◌, List, [], ◌∷◌, Option, Some, None, All, Result, Ok, Err, length, ℕ, refl}
 use Rattle.std.proofs.Common.{ap, sym, ◌∙◌, subst}
 use Rattle.std.proofs.lemmas.List.Elements.{All-nil, All-cons}
 use Rattle.kind_num.specs.declared.Past.{Past}
@@ -16,6 +16,10 @@ use Rattle.proof_steps.specs.Rows.{Form}
 use Rattle.smt_solver.specs.declared.answer.Answer.{Answer}
 use Rattle.smt_solver.specs.declared.attempt.outcome.Attempt.{Attempt}
 use Rattle.smt_solver.specs.declared.attempt.outcome.Attempt.TheVariants.{Refuted, Found}
+use Rattle.proof_steps.specs.declared.stops.Budgets.{Budgets}
+use Rattle.cnf_maker.specs.ClauseForm.{clause_form}
+use Rattle.smt_solver.specs.Answered.{IsTrueOver, StopsByConflicts}
+use Rattle.smt_solver.specs.View.{Found as Answered, unsat, sat, stop}
 use Rattle.smt_solver.specs.Judging.{holds, all_hold, is_met_by, IsVerdict, IsVerdictIf, Judges, MetValuesMeet}
 
 abbrev EvaluationIsTheTruth : Type 0
@@ -57,3 +61,16 @@ module _ (law : EvaluationIsTheTruth) where
 
 pub met-length : (q : Question) (values : List Entry) → is_met_by q values ≡ true → length q.shapes ≡ length values
 met-length q values h = state_fits-length q.shapes values (both_true _ _ h).0
+
+-- a verdict is an answer, and no stop
+pub verdict-true : (q : Question) (n count : ℕ) (f : Form) (budgets : Budgets) (found : Answered) → clause_form q ≡ Ok f
+    → IsVerdict q n count f found
+    → IsTrueOver q n count budgets found
+verdict-true q n count f budgets (unsat p) e h = record { form = f; is_form = e; is_true = h }
+verdict-true q n count f budgets (sat states) e h = record { form = f; is_form = e; is_true = h }
+verdict-true q n count f budgets (stop halt) e h = absurd h
+
+pub verdict-stops : (q : Question) (n count : ℕ) (f : Form) (found : Answered) → IsVerdict q n count f found → StopsByConflicts found
+verdict-stops q n count f (unsat p) h = tt
+verdict-stops q n count f (sat states) h = tt
+verdict-stops q n count f (stop halt) h = absurd h

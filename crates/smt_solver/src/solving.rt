@@ -209,7 +209,8 @@ fn answered(
 {
     let cnf = made(alloc, query)?;
     let attempt = attempted(alloc, &cnf, &query.shapes, budgets)?;
-    match judged(alloc, query, &cnf, size, count, attempt)? {
+    let verdict = judged(alloc, query, &cnf, size, count, attempt)?;
+    match verdict {
         Some(answer) => Ok(answer),
         None => ran(alloc, query, cnf, size, count, budgets),
     }
