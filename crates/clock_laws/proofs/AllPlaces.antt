@@ -9,7 +9,7 @@ use Rattle.lus_meaning.specs.Scene.{Manner, plain, while_true, as_import, Site, 
 use Rattle.lus_meaning.specs.Run.{Equation, equations, inputs_of}
 use Rattle.lus_meaning.specs.Depends.{Need, a_name, clock_needs, needs, modes_need, site_needs, left_names, named_in}
 use Rattle.lus_meaning.specs.Cycle.{Place, place_of, deeper, next_places, next_in_call, declared_needs, equation_step, defined_needs, own_needs, matching, shared_needs, caller_needs, at_top}
-use Rattle.lus_meaning.proofs.BooleanOrder.{IsIn, in_left, in_right, in_mapped}
+use Rattle.lus_meaning.proofs.Members.{IsIn, in_left, in_right, in_mapped}
 use Rattle.lus_meaning.proofs.Exists.{self_bytes}
 use Rattle.lus_meaning.proofs.Unique.{same_bytes}
 

@@ -14,7 +14,7 @@ use Rattle.lus_meaning.specs.Cycle.{Place, place_of, deeper, next_places, next_i
 use Rattle.lus_meaning.specs.Scope.{node_named}
 use Rattle.lus_meaning.specs.ClockFaults.{components}
 use Rattle.lus_meaning.specs.Refusals.{IsChecked}
-use Rattle.lus_meaning.proofs.BooleanOrder.{IsIn}
+use Rattle.lus_meaning.proofs.Members.{IsIn}
 use Rattle.lus_meaning.proofs.EachPart.{Each, each_part}
 use Rattle.lus_meaning.proofs.Lists.{all_from, map_append}
 use Rattle.lus_meaning.proofs.Now.{left_part}

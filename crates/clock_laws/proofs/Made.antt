@@ -18,12 +18,12 @@ use Rattle.lus_meaning.specs.Scope.{Scope, node_named, contract_named, component
 use Rattle.lus_meaning.specs.ExpressionFaults.{expression_faults, part_faults, sides_fit}
 use Rattle.lus_meaning.specs.NameFaults.{home, is_declared, contract_statement_faults, contract_faults, statement_faults}
 use Rattle.lus_meaning.specs.WellMade.{AreDistinct, SharesArity, IsWellMade, CallsWellMade}
-use Rattle.lus_meaning.specs.Laws.{ChoicesFrom, CallsFit}
+use Rattle.lus_meaning.specs.Choices.{ChoicesFrom, CallsFit}
 use Rattle.lus_meaning.specs.ClockFaults.{components}
 use Rattle.lus_meaning.specs.EquationFaults.{body_sides, body_lefts, definable}
 use Rattle.lus_meaning.specs.Grammatical.{IsContractNode, IsGrammaticalDeclaration}
 use Rattle.lus_meaning.specs.Refusals.{IsChecked}
-use Rattle.lus_meaning.proofs.BooleanOrder.{named_either}
+use Rattle.lus_meaning.proofs.Members.{named_either}
 use Rattle.lus_meaning.proofs.EachPart.{Each, each_part}
 use Rattle.lus_meaning.proofs.InOrder.{in_order_all}
 use Rattle.lus_meaning.proofs.Lists.{both_parts, all_from, named_append, or_left, or_true, append_none}

@@ -4,7 +4,7 @@ use Rattle.std.proofs.Math.Logic.{◌⊎◌, inl, inr}
 use Rattle.std.proofs.lemmas.Bool.{false≢true, cases_Bool}
 use Rattle.lus_meaning.specs.Scene.{Instance}
 use Rattle.lus_meaning.specs.Cycle.{Place, Lowers}
-use Rattle.lus_meaning.proofs.BooleanOrder.{IsIn}
+use Rattle.lus_meaning.proofs.Members.{IsIn}
 use Rattle.clock_laws.proofs.AllPlaces.{same_spot, spots_equal, all_places, is_member, member_in, spot_complete}
 use Rattle.clock_laws.proofs.Reaching.{RouteOf, needed_by, at_in}
 use Rattle.clock_laws.proofs.Routes.{by_way, route_of, decided}

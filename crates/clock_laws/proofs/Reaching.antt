@@ -11,7 +11,7 @@ use Rattle.lus_meaning.specs.Depends.{Need, named_in, left_names, equation_needs
 use Rattle.lus_meaning.specs.Cycle.{Place, place_of, next_places, IsAt, IsWay, last_place, Reaches, declared_needs, equation_step, defined_needs, own_needs}
 use Rattle.lus_meaning.specs.Order.{left_at}
 use Rattle.lus_meaning.specs.WellMade.{AreDistinct}
-use Rattle.lus_meaning.proofs.BooleanOrder.{IsIn, in_left, in_right, in_mapped, at_some, any_named, any_found}
+use Rattle.lus_meaning.proofs.Members.{IsIn, in_left, in_right, in_mapped, at_some, any_named, any_found}
 use Rattle.lus_meaning.proofs.Lists.{named_append, or_left, or_true}
 use Rattle.lus_meaning.proofs.Unique.{same_bytes}
 use Rattle.clock_laws.proofs.AllPlaces.{same_spot, spots_equal, all_places, is_member, member_in, spot_complete}

@@ -15,7 +15,7 @@ use Rattle.lus_meaning.specs.WellMade.{AreDistinct}
 use Rattle.lus_meaning.specs.ClockFaults.{components}
 use Rattle.lus_meaning.specs.EquationFaults.{clock_names, IsClockChain, last_name, of_clocks, of_circle}
 use Rattle.lus_meaning.specs.Refusals.{IsChecked}
-use Rattle.lus_meaning.proofs.BooleanOrder.{IsIn}
+use Rattle.lus_meaning.proofs.Members.{IsIn}
 use Rattle.lus_meaning.proofs.Lists.{named_append}
 use Rattle.lus_meaning.proofs.Unique.{same_bytes}
 use Rattle.clock_laws.proofs.AllPlaces.{same_spot, spots_equal, member_in}

@@ -14,7 +14,7 @@ use Rattle.lus_meaning.specs.Program.{instance_of}
 use Rattle.lus_meaning.specs.Depends.{Rank, IsRanked, SameChoices}
 use Rattle.lus_meaning.specs.Recompute.{recomputed}
 use Rattle.lus_meaning.specs.WellMade.{IsWellMade, HasTypes}
-use Rattle.lus_meaning.specs.Laws.{ChoicesFit}
+use Rattle.lus_meaning.specs.Choices.{ChoicesFit}
 use Rattle.lus_meaning.specs.Cycle.{Place, IsWay, last_place}
 use Rattle.lus_meaning.specs.Order.{IsEquationOrder, IsLeastEquationOrder}
 use Rattle.lus_meaning.specs.ClockFaults.{components}

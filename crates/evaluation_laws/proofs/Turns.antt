@@ -7,7 +7,7 @@ use Rattle.lus_meaning.specs.Depends.{named_in}
 use Rattle.lus_meaning.specs.Trace.{same_numbers}
 use Rattle.lus_meaning.specs.Cycle.{Place, next_places, IsAt, IsWay, last_place, Lowers}
 use Rattle.lus_meaning.specs.Order.{IsLeastOrder, IsStuck, Passes}
-use Rattle.lus_meaning.proofs.BooleanOrder.{IsIn, at_some}
+use Rattle.lus_meaning.proofs.Members.{IsIn, at_some}
 use Rattle.lus_meaning.proofs.Orders.{least_order, IsWalk, last_of, stuck_walk}
 use Rattle.lus_meaning.proofs.Steps.{far_least}
 use Rattle.clock_laws.proofs.Reaching.{at_in}

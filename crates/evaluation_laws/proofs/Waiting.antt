@@ -11,7 +11,7 @@ use Rattle.lus_meaning.specs.Scene.{Instance}
 use Rattle.lus_meaning.specs.Depends.{named_in}
 use Rattle.lus_meaning.specs.Trace.{same_numbers}
 use Rattle.lus_meaning.specs.Cycle.{Place, IsAt, IsWay, last_place}
-use Rattle.lus_meaning.proofs.BooleanOrder.{IsIn, at_some, any_named, any_found}
+use Rattle.lus_meaning.proofs.Members.{IsIn, at_some, any_named, any_found}
 use Rattle.lus_meaning.proofs.Lists.{or_left, or_true}
 use Rattle.clock_laws.proofs.AllPlaces.{same_spot, spots_equal, spot_itself, all_places, spot_complete}
 use Rattle.clock_laws.proofs.Reaching.{needed_by, RouteOf, WayTo, way_routes, route_ways, at_in}

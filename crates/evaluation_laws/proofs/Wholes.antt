@@ -7,7 +7,7 @@ use Rattle.lus_meaning.specs.Scene.{Instance, Instances, instance, no_instances,
 use Rattle.lus_meaning.specs.Run.{Equation, equations}
 use Rattle.lus_meaning.specs.Depends.{Need, the_beat, a_name, equation_needs, named_in}
 use Rattle.lus_meaning.specs.Cycle.{Place, place_of, deeper, declared_needs, equation_step, defined_needs, own_needs, caller_needs, at_top, next_places, next_in_call}
-use Rattle.lus_meaning.proofs.BooleanOrder.{IsIn, in_left, in_right, in_mapped}
+use Rattle.lus_meaning.proofs.Members.{IsIn, in_left, in_right, in_mapped}
 use Rattle.lus_meaning.proofs.Lists.{append_none, all_from}
 use Rattle.clock_laws.proofs.Reaching.{in_image}
 use Rattle.frame_laws.proofs.Along.{along, IsAlong, CallsAlong}

@@ -10,7 +10,7 @@ use Rattle.lus_meaning.specs.Cycle.{Place, IsAt, IsWay, last_place}
 use Rattle.lus_meaning.specs.Order.{is_listed}
 use Rattle.lus_meaning.specs.Scene.{Instance}
 use Rattle.lus_meaning.specs.Trace.{same_numbers}
-use Rattle.lus_meaning.proofs.BooleanOrder.{IsIn, at_some}
+use Rattle.lus_meaning.proofs.Members.{IsIn, at_some}
 use Rattle.lus_meaning.proofs.Exists.{self_bytes}
 use Rattle.lus_meaning.proofs.Lists.{append_none}
 use Rattle.lus_meaning.proofs.Unique.{same_bytes}

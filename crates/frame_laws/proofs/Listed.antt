@@ -16,7 +16,7 @@ use Rattle.lus_meaning.specs.Recompute.{sample}
 use Rattle.lus_meaning.specs.Trace.{Subject, of_name, of_first, BareLine, same_subject, same_numbers, listed_at, or_default, free_names, free_in}
 use Rattle.lus_meaning.specs.Fits.{Listable, listable_names, listable_firsts, listable_in, listable_below, listable, same_place, listable_at, is_of_sort, takes_value, IsTaken, AreTaken}
 use Rattle.lus_meaning.specs.WellMade.{AreDistinct}
-use Rattle.lus_meaning.specs.Laws.{ChoicesFrom, CallsFit}
+use Rattle.lus_meaning.specs.Choices.{ChoicesFrom, CallsFit}
 use Rattle.lus_meaning.proofs.Equal.{Rows, RowFound, rows_found}
 use Rattle.lus_meaning.proofs.Exists.{sampled_names}
 use Rattle.lus_meaning.proofs.Lists.{all_from, all_from_both, both_parts, mapped_all}

@@ -1,6 +1,6 @@
 -- The law of frames of a checked program.
 use Rattle.lus_meaning.specs.Program.{instance_of}
-use Rattle.lus_meaning.specs.Laws.{HasOneFrame}
+use Rattle.lus_meaning.specs.Choices.{HasOneFrame}
 use Rattle.lus_meaning.specs.RuleLaws.{OfEach}
 
 -- for a trace that fits each declaration has exactly one frame

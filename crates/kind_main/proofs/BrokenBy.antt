@@ -19,7 +19,7 @@ use Rattle.sys_terms.specs.declared.term.Entry.{Entry}
 use Rattle.sys_terms.specs.Paths as paths
 use Rattle.sys_meaning.specs.System.{system_of}
 use Rattle.sys_meaning.specs.Path.{frame_of_path, trace_of}
-use Rattle.sys_meaning.specs.Checked.{HasTrace, IsTraceOf}
+use Rattle.sys_meaning.specs.Verdicts.{HasTrace, IsTraceOf}
 use Rattle.path_laws.specs.Laws.{EachBreaks, EachHasTraces, HasSmallNumbers}
 use Rattle.trace_laws.specs.Laws.{EachReadBack, EachReplays}
 use Rattle.trace_laws.proofs.Named.{node_component}

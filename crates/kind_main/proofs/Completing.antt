@@ -14,7 +14,7 @@ use Rattle.lus_meaning.specs.Verdict.{throughout, Holds, Breaks}
 use Rattle.sys_terms.specs.View.{Machine}
 use Rattle.sys_terms.specs.Fits.{IsFit}
 use Rattle.sys_meaning.specs.System.{system_of}
-use Rattle.sys_meaning.specs.Checked.{HoldsUpTo}
+use Rattle.sys_meaning.specs.Verdicts.{HoldsUpTo}
 use Rattle.board_core.specs.declared.plan.Plan.{Plan}
 use Rattle.board_core.specs.Entries.{depth}
 use Rattle.board_core.specs.Verdicts.{cause_of}

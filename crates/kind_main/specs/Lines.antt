@@ -5,7 +5,7 @@ use Rattle.kind_num.specs.declared.Past.{Past}
 use Rattle.kind_num.specs.declared.Op.{Op}
 use Rattle.kind_num.specs.declared.Op.TheVariants.{Add, Sub, Mul, Div}
 use Rattle.lus_tree.specs.declared.place.Pos.{Pos}
-use Rattle.lus_tree.specs.Reason.{Reason, too_long, bad_byte, unclosed_comment, wide_literal, unexpected, too_large, left_out, name_twice, name_unknown, type_clash, arity_clash, not_linear, zero_divisor, not_constant, heavy, clock_clash, equation_twice, input_defined, cycle, node_recursion, not_stateless, assume_reads_output, no_node, main_unknown, mode_unknown, too_many, not_built, memory, Refused}
+use Rattle.lus_tree.specs.Reason.{Reason, too_long, bad_byte, unclosed_comment, wide_literal, unexpected, too_large, left_out, name_twice, name_unknown, type_clash, arity_clash, not_linear, zero_divisor, not_constant, heavy, clock_clash, equation_twice, input_defined, cycle, node_recursion, not_stateless, assume_reads_output, no_node, main_unknown, mode_unknown, too_many, memory, Refused}
 
 abbrev pub Line : Type 0
 Line = List ℕ
@@ -51,7 +51,6 @@ rule_name no_node = codes "NoNode"
 rule_name main_unknown = codes "MainUnknown"
 rule_name mode_unknown = codes "ModeUnknown"
 rule_name (too_many limit) = codes "TooMany"
-rule_name not_built = codes "NotBuilt"
 rule_name memory = codes "Memory"
 
 -- the word or the limit behind it, where the rule has one

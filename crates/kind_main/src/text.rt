@@ -101,7 +101,6 @@ fn rule_name(what: &What) -> &'static str
         What::MainUnknown => "MainUnknown",
         What::ModeUnknown => "ModeUnknown",
         What::TooMany(_) => "TooMany",
-        What::NotBuilt => "NotBuilt",
         What::Memory => "Memory",
     }
 }

@@ -6,9 +6,20 @@ use Rattle.lus_tree.specs.Numbers.{numbers, numbers_among, pre_number, arrow_num
 use Rattle.lus_meaning.specs.Scene.{base, sampled_by, clock_of, contract_statements}
 use Rattle.lus_meaning.specs.Occurrences.{Standing, within, before, moved, on_clock, occurs, Occurrence, occurrences, occurrences_among, Text, on_base, contract_statement_texts, statement_texts, constant_texts, texts, gathered, memory_in, Memory, memories, start_in, Start, starts}
 use Rattle.lus_meaning.proofs.Lists.{map_append}
-use Rattle.lus_meaning.proofs.BooleanNode.{read_in, read_texts, read_first}
 
 -- ---- what is read of occurrences, and its numbers
+
+-- what these read of the occurrences in an expression
+abbrev pub read_in : {A : Type 0} → (Standing → Expression → List A) → Component → Standing → Expression → List A
+read_in f d s e = flat_map (λ o. f o.standing o.expression) (occurrences d s e)
+
+-- what these read of the occurrences of some texts
+abbrev pub read_texts : {A : Type 0} → (Standing → Expression → List A) → Component → List Text → List A
+read_texts f d xs = flat_map (λ o. f o.standing o.expression) (flat_map (λ x. occurrences d x.0 x.1) xs)
+
+pub read_first : {A : Type 0} (f : Standing → Expression → List A) (d : Component) (x : Text) (xs : List Text) → read_texts f d
+    (x ∷ xs) ≡ read_in f d x.0 x.1 ++ read_texts f d xs
+read_first f d x xs = flat_map-append (λ o. f o.standing o.expression) (occurrences d x.0 x.1) (flat_map (λ y. occurrences d y.0 y.1) xs)
 
 module _ {A : Type 0} (f : Standing → Expression → List A) (at : A → ℕ) (own : Expression → List ℕ) (same : (s : Standing) (e : Expression) → map at (f s e) ≡ own e) (n : Component) where
   abbrev read : List Occurrence → List A

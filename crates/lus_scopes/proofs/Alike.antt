@@ -4,7 +4,7 @@ use Rattle.std.specs.Prelude.{Contains}
 use Rattle.std.specs.Str.{bytes_eq}
 use Rattle.std.proofs.lemmas.Bool.{false≢true, eqb-true, eq-eqb, and_parts}
 use Rattle.lus_tree.specs.Tree.{Name}
-use Rattle.lus_tree.specs.Reason.{Reason, Refused, too_long, bad_byte, unclosed_comment, wide_literal, unexpected, too_large, left_out, name_twice, name_unknown, type_clash, arity_clash, not_linear, zero_divisor, not_constant, heavy, clock_clash, equation_twice, input_defined, cycle, node_recursion, not_stateless, assume_reads_output, no_node, main_unknown, mode_unknown, too_many, not_built, memory}
+use Rattle.lus_tree.specs.Reason.{Reason, Refused, too_long, bad_byte, unclosed_comment, wide_literal, unexpected, too_large, left_out, name_twice, name_unknown, type_clash, arity_clash, not_linear, zero_divisor, not_constant, heavy, clock_clash, equation_twice, input_defined, cycle, node_recursion, not_stateless, assume_reads_output, no_node, main_unknown, mode_unknown, too_many, memory}
 use Rattle.lus_meaning.specs.Faults.{number_of, comes_before, IsFirst}
 use Rattle.lus_meaning.proofs.Unique.{same_bytes}
 use Rattle.lus_scopes.specs.Least.{IsLeast, noted_all}
@@ -27,7 +27,7 @@ reason_of k w n =
     get_or
     (memory ∷ too_long ∷ bad_byte ∷ unclosed_comment ∷ wide_literal ∷ unexpected ∷ too_large ∷ left_out w ∷ name_twice ∷ name_unknown ∷
     type_clash ∷ arity_clash ∷ not_linear ∷ zero_divisor ∷ not_constant ∷ heavy ∷ clock_clash ∷ equation_twice ∷ input_defined ∷ cycle ∷
-    node_recursion ∷ not_stateless ∷ assume_reads_output ∷ no_node ∷ main_unknown ∷ mode_unknown ∷ too_many n ∷ not_built ∷ memory ∷ [])
+    node_recursion ∷ not_stateless ∷ assume_reads_output ∷ no_node ∷ main_unknown ∷ mode_unknown ∷ too_many n ∷ [])
     k memory
 
 reason_is : (r : Reason) → reason_of (number_of r) (word_in r) (limit_in r) ≡ r
@@ -57,7 +57,6 @@ reason_is no_node = refl
 reason_is main_unknown = refl
 reason_is mode_unknown = refl
 reason_is (too_many n) = refl
-reason_is not_built = refl
 reason_is memory = refl
 
 same_reason : (a b : Reason) → number_of a ≡ number_of b → word_in a ≡ word_in b → limit_in a ≡ limit_in b → a ≡ b

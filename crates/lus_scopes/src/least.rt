@@ -40,7 +40,6 @@ fn number(what: &What) -> u32
         What::MainUnknown => 24,
         What::ModeUnknown => 25,
         What::TooMany(_) => 26,
-        What::NotBuilt => 27,
         What::Memory => 28,
     }
 }

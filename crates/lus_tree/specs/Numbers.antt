@@ -1,7 +1,7 @@
 -- The numbers of the occurrences of `pre`, of `->` and of calls.
 use Rattle.std.specs.Prelude.{◌≡◌, ℕ, zero, suc, Bool, true, cond, eqb, ◌==◌, List, [], ◌∷◌, ◌++◌, map, flat_map, length, unwrap_or}
 use Rattle.std.specs.List.{AllByRecursion, list_all}
-use Rattle.lus_tree.specs.Tree.{Expression, Expressions, truth, number, name, negation, minus, pre, arrow, binary, choice, sampled, merged, call, condact, mode_name, no_more, more, Labelled, Constant, Statement, equation, assertion, property, main_mark, ContractStatement, assume, guarantee, ghost_variable, constant, mode, «import», Component, Declaration, declared_constant, declared_node, declared_contract, Program}
+use Rattle.lus_tree.specs.Tree.{Expression, Expressions, truth, number, name, negation, minus, pre, arrow, binary, choice, sampled, merged, call, condact, mode_name, no_more, more, Statement, equation, assertion, property, main_mark, ContractStatement, assume, guarantee, ghost_variable, constant, mode, «import», Component, Declaration, declared_constant, declared_node, declared_contract, Program}
 
 -- the numbers from k on, as many as said
 abbrev pub counting : ℕ → ℕ → List ℕ
@@ -91,12 +91,6 @@ statement_expressions (main_mark p) = []
 
 abbrev pub body_expressions : List Statement → List Expression
 body_expressions ss = flat_map statement_expressions ss
-
-abbrev pub body_pres : List Statement → List ℕ
-body_pres ss = flat_map pres (body_expressions ss)
-
-abbrev pub body_arrows : List Statement → List ℕ
-body_arrows ss = flat_map arrows (body_expressions ss)
 
 -- ---- in a declaration
 

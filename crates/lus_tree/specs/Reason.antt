@@ -3,7 +3,7 @@ use Rattle.std.specs.Prelude.{ℕ}
 use Rattle.std.specs.String.{string_bytes}
 use Rattle.lus_tree.specs.declared.place.Pos.{Pos}
 use Rattle.lus_tree.specs.declared.refusal.What.{What}
-use Rattle.lus_tree.specs.declared.refusal.What.TheVariants.{TooLong, BadByte, UnclosedComment, WideLiteral, Unexpected, TooLarge, LeftOut, NameTwice, NameUnknown, TypeClash, ArityClash, NotLinear, ZeroDivisor, NotConstant, Heavy, ClockClash, EquationTwice, InputDefined, Cycle, NodeRecursion, NotStateless, AssumeReadsOutput, NoNode, MainUnknown, ModeUnknown, TooMany, NotBuilt, Memory}
+use Rattle.lus_tree.specs.declared.refusal.What.TheVariants.{TooLong, BadByte, UnclosedComment, WideLiteral, Unexpected, TooLarge, LeftOut, NameTwice, NameUnknown, TypeClash, ArityClash, NotLinear, ZeroDivisor, NotConstant, Heavy, ClockClash, EquationTwice, InputDefined, Cycle, NodeRecursion, NotStateless, AssumeReadsOutput, NoNode, MainUnknown, ModeUnknown, TooMany, Memory}
 use Rattle.lus_tree.specs.declared.refusal.Refusal.{Refusal}
 use Rattle.lus_tree.specs.Tree.{Name}
 
@@ -36,7 +36,6 @@ pub data Reason : Type 0 where
   mode_unknown : Reason
   -- with the limit
   too_many : ℕ → Reason
-  not_built : Reason
   memory : Reason
 
 pub record Refused : Type 0 where
@@ -70,7 +69,6 @@ what_view NoNode = no_node
 what_view MainUnknown = main_unknown
 what_view ModeUnknown = mode_unknown
 what_view (TooMany limit) = too_many limit
-what_view NotBuilt = not_built
 what_view Memory = memory
 
 abbrev pub refusal_view : Refusal → Refused

@@ -88,9 +88,6 @@ pub enum What {
     /// A declaration past a limit, and that limit.
     #[error("TooMany {0}")]
     TooMany(u64),
-    /// A part of the language that is not built yet.
-    #[error("NotBuilt")]
-    NotBuilt,
     /// Want of memory. The place then says nothing.
     #[error("Memory")]
     Memory,
@@ -136,7 +133,6 @@ impl What {
             What::MainUnknown => Ok(What::MainUnknown),
             What::ModeUnknown => Ok(What::ModeUnknown),
             What::TooMany(limit) => Ok(What::TooMany(*limit)),
-            What::NotBuilt => Ok(What::NotBuilt),
             What::Memory => Ok(What::Memory),
         }
     }

@@ -1,3 +1,3 @@
-pub mod BooleanRows
+pub mod PairRows
 pub mod Ways
 pub mod EquationOrders

@@ -3,7 +3,7 @@ pub mod BodyRows
 pub mod ClockRows
 pub mod ContractRows
 pub mod Loops
-pub mod BooleanRows
+pub mod PairRows
 pub mod Written
 pub mod OperatorRows
 pub mod SamplingRows

@@ -3,7 +3,6 @@
 #![tactic(auto)]
 
 mod body_rows;
-mod boolean_rows;
 mod call_rows;
 mod clock_rows;
 mod constant_rows;
@@ -15,6 +14,7 @@ mod need_rows;
 mod number_rows;
 mod operator_rows;
 mod owed_rows;
+mod pair_rows;
 mod refusal_rows;
 mod run_rows;
 mod sampling_rows;
@@ -24,7 +24,6 @@ mod squeeze_rows;
 mod trace_rows;
 
 pub use body_rows::{assertion_row, broken_row, free_name_row, toggle_alternates, toggle_row};
-pub use boolean_rows::{against_row, circle_row};
 pub use call_rows::{
     calls_everywhere_row, deep_call_row, inner_condact_row, merge_branches_row, sampled_call_row,
     several_outputs_row, slow_operands_row,
@@ -42,6 +41,7 @@ pub use owed_rows::{
     breaks_row, deep_assertion_row, direct_caller_row, end_row, first_break_row, impossible_row,
     lawless_row, two_calls_row,
 };
+pub use pair_rows::{against_row, circle_row};
 pub use refusal_rows::{equation_rows, limit_rows, name_rows, type_rows};
 pub use run_rows::{run_row, unbalanced_row, unshaped_row, untyped_row};
 pub use sampling_rows::{clock_of_clock_row, sampling_row};

@@ -6,7 +6,7 @@ use Rattle.lus_tree.specs.Tree.{Name}
 use Rattle.lus_meaning.specs.Scene.{base, Manner, as_import, Site, Instance, Instances, instance, no_instances, with_instance, instance_at}
 use Rattle.lus_meaning.specs.Depends.{Need, the_beat, a_name, inside, clock_needs, site_needs, modes_need}
 use Rattle.lus_meaning.specs.Cycle.{Place, place_of, deeper, caller_needs, at_top, next_places, next_in_call, IsWay, last_place}
-use Rattle.lus_meaning.proofs.BooleanOrder.{IsIn, in_mapped}
+use Rattle.lus_meaning.proofs.Members.{IsIn, in_mapped}
 use Rattle.lus_meaning.proofs.Lists.{append_none, map_append}
 use Rattle.clock_laws.proofs.Reaching.{at_in, in_either, in_image}
 use Rattle.sys_meaning.specs.Defaults.{site_at}

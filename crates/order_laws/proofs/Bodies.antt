@@ -21,7 +21,7 @@ use Rattle.lus_meaning.specs.Order.{is_listed}
 use Rattle.lus_meaning.specs.Trace.{same_numbers}
 use Rattle.lus_meaning.specs.ClockFaults.{components}
 use Rattle.lus_meaning.specs.Refusals.{IsChecked}
-use Rattle.lus_meaning.proofs.BooleanOrder.{IsIn, in_left, in_right}
+use Rattle.lus_meaning.proofs.Members.{IsIn, in_left, in_right}
 use Rattle.lus_meaning.proofs.InOrder.{in_order_all}
 use Rattle.lus_meaning.proofs.Lists.{append_none, all_from, all_from_three, both_parts, or_left, or_true}
 use Rattle.rule_laws.specs.Laws.{IsUnfolded, AreUnfolded}

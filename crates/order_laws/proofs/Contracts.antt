@@ -16,7 +16,7 @@ use Rattle.lus_meaning.specs.Cycle.{Place as NeededPlace}
 use Rattle.lus_meaning.specs.Verdict.{throughout}
 use Rattle.lus_meaning.specs.ClockFaults.{components}
 use Rattle.lus_meaning.specs.Refusals.{IsChecked}
-use Rattle.lus_meaning.proofs.BooleanOrder.{IsIn, in_left, in_right}
+use Rattle.lus_meaning.proofs.Members.{IsIn, in_left, in_right}
 use Rattle.lus_meaning.proofs.EachPart.{Each}
 use Rattle.lus_meaning.proofs.Lists.{append_none, map_append, all_from, both_parts}
 use Rattle.rule_laws.specs.Laws.{IsUnfolded}

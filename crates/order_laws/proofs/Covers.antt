@@ -9,7 +9,7 @@ use Rattle.lus_meaning.specs.Meaning.{mode_key}
 use Rattle.lus_meaning.specs.Occurrences.{Standing, on_clock, within, moved}
 use Rattle.lus_meaning.specs.Depends.{Need, a_name, ModeNeeds, known_needs, clock_needs, needs, needs_each}
 use Rattle.lus_meaning.specs.Cycle.{Place, IsWay, last_place}
-use Rattle.lus_meaning.proofs.BooleanOrder.{IsIn, in_left, in_right, in_mapped, at_some}
+use Rattle.lus_meaning.proofs.Members.{IsIn, in_left, in_right, in_mapped, at_some}
 use Rattle.lus_meaning.proofs.EachPart.{Each, EachAmong}
 use Rattle.clock_laws.proofs.Reaching.{at_in, in_image}
 use Rattle.sys_meaning.specs.Items.{Key}

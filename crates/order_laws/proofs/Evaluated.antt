@@ -15,7 +15,7 @@ use Rattle.lus_meaning.specs.Depends.{named_in, left_names}
 use Rattle.lus_meaning.specs.Trace.{same_numbers}
 use Rattle.lus_meaning.specs.Cycle.{Place, next_places, IsAt, IsWay, last_place, Lowers}
 use Rattle.lus_meaning.specs.Order.{is_listed, IsLeastOrder, AreNext}
-use Rattle.lus_meaning.proofs.BooleanOrder.{IsIn, at_some}
+use Rattle.lus_meaning.proofs.Members.{IsIn, at_some}
 use Rattle.lus_meaning.proofs.Lists.{append_none}
 use Rattle.clock_laws.proofs.Reaching.{at_in}
 use Rattle.sys_meaning.proofs.Shows.{same_ways}

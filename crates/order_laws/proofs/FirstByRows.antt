@@ -15,7 +15,7 @@ use Rattle.lus_meaning.specs.Run.{IsRun}
 use Rattle.lus_meaning.specs.Verdict.{throughout}
 use Rattle.lus_meaning.specs.ClockFaults.{components}
 use Rattle.lus_meaning.specs.Refusals.{IsChecked}
-use Rattle.lus_meaning.proofs.BooleanOrder.{IsIn}
+use Rattle.lus_meaning.proofs.Members.{IsIn}
 use Rattle.lus_meaning.proofs.Lists.{append_none, all_from, both_parts}
 use Rattle.rule_laws.specs.Laws.{IsUnfolded}
 use Rattle.rule_laws.proofs.Unfolded.{component_within, each_unfolded}

@@ -14,7 +14,7 @@ use Rattle.lus_meaning.specs.Program.{instance_of}
 use Rattle.lus_meaning.specs.Verdict.{throughout}
 use Rattle.lus_meaning.specs.ClockFaults.{components}
 use Rattle.lus_meaning.specs.Refusals.{IsChecked}
-use Rattle.lus_meaning.proofs.BooleanOrder.{IsIn, in_left, in_right, in_mapped, at_some}
+use Rattle.lus_meaning.proofs.Members.{IsIn, in_left, in_right, in_mapped, at_some}
 use Rattle.lus_meaning.proofs.Exists.{self_bytes}
 use Rattle.lus_meaning.proofs.Lists.{append_none, map_append, all_from}
 use Rattle.sys_meaning.specs.Defaults.{site_at, site_of}

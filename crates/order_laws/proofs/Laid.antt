@@ -13,7 +13,7 @@ use Rattle.lus_meaning.specs.Cycle.{Place as NeededPlace}
 use Rattle.lus_meaning.specs.ClockFaults.{components}
 use Rattle.lus_meaning.specs.Refusals.{IsChecked}
 use Rattle.lus_meaning.specs.Program.{listed}
-use Rattle.lus_meaning.proofs.BooleanOrder.{IsIn, in_left, in_right}
+use Rattle.lus_meaning.proofs.Members.{IsIn, in_left, in_right}
 use Rattle.lus_meaning.proofs.EachPart.{Each, EachAmong}
 use Rattle.lus_meaning.proofs.Lists.{all_from}
 use Rattle.rule_laws.specs.Laws.{IsUnfolded}

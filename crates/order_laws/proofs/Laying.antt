@@ -8,7 +8,7 @@ use Rattle.lus_meaning.specs.Scene.{Clock, sampled_by, Instance, component_of, c
 use Rattle.lus_meaning.specs.Occurrences.{Standing, within, moved}
 use Rattle.lus_meaning.specs.Depends.{Need, a_name, known_needs, clock_needs, output_needs, needs, needs_each, modes_need}
 use Rattle.lus_meaning.specs.Cycle.{Place as NeededPlace}
-use Rattle.lus_meaning.proofs.BooleanOrder.{IsIn, in_left, in_right}
+use Rattle.lus_meaning.proofs.Members.{IsIn, in_left, in_right}
 use Rattle.lus_meaning.proofs.EachPart.{Each}
 use Rattle.lus_meaning.proofs.Lists.{all_from}
 use Rattle.sys_meaning.specs.Items.{Key}

@@ -15,7 +15,7 @@ use Rattle.lus_meaning.specs.Trace.{same_numbers}
 use Rattle.lus_meaning.specs.Verdict.{throughout}
 use Rattle.lus_meaning.specs.ClockFaults.{components}
 use Rattle.lus_meaning.specs.Refusals.{IsChecked}
-use Rattle.lus_meaning.proofs.BooleanOrder.{IsIn}
+use Rattle.lus_meaning.proofs.Members.{IsIn}
 use Rattle.lus_meaning.proofs.Lists.{all_from}
 use Rattle.clock_laws.proofs.AllPlaces.{all_places}
 use Rattle.clock_laws.proofs.Circles.{no_circle}

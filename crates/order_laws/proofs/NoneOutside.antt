@@ -12,7 +12,7 @@ use Rattle.lus_meaning.specs.Trace.{same_numbers}
 use Rattle.lus_meaning.specs.Verdict.{throughout}
 use Rattle.lus_meaning.specs.ClockFaults.{components}
 use Rattle.lus_meaning.specs.Refusals.{IsChecked}
-use Rattle.lus_meaning.proofs.BooleanOrder.{IsIn}
+use Rattle.lus_meaning.proofs.Members.{IsIn}
 use Rattle.sys_meaning.specs.Items.{Key}
 use Rattle.sys_meaning.specs.WellTyped.{IsKnown, Stands}
 use Rattle.sys_meaning.proofs.Shows.{same_ways}

@@ -8,7 +8,7 @@ use Rattle.lus_meaning.specs.Frame.{Frame}
 use Rattle.lus_meaning.specs.Scene.{Clock, while_true, Instance, component_of, is_on}
 use Rattle.lus_meaning.specs.Depends.{named_in, left_names, needs, modes_need}
 use Rattle.lus_meaning.specs.Cycle.{Place as NeededPlace}
-use Rattle.lus_meaning.proofs.BooleanOrder.{IsIn, in_left, in_right}
+use Rattle.lus_meaning.proofs.Members.{IsIn, in_left, in_right}
 use Rattle.lus_meaning.proofs.Lists.{append_none, all_from, both_parts}
 use Rattle.sys_meaning.specs.Defaults.{site_of}
 use Rattle.sys_meaning.specs.WellTyped.{IsKnown, Stands}

@@ -10,7 +10,7 @@ use Rattle.lus_meaning.specs.Occurrences.{Standing, within, before, moved, Occur
 use Rattle.lus_meaning.specs.ClockFaults.{components}
 use Rattle.lus_meaning.specs.Cycle.{Place as NeededPlace}
 use Rattle.lus_meaning.specs.Refusals.{IsChecked}
-use Rattle.lus_meaning.proofs.BooleanOrder.{IsIn, in_left, in_right}
+use Rattle.lus_meaning.proofs.Members.{IsIn, in_left, in_right}
 use Rattle.lus_meaning.proofs.EachPart.{Each, EachAmong, each_of_both}
 use Rattle.lus_meaning.proofs.InOrder.{in_order_all}
 use Rattle.lus_meaning.proofs.Lists.{all_from, both_parts}

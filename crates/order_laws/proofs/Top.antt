@@ -11,7 +11,7 @@ use Rattle.lus_meaning.specs.Run.{Equation, equations, ghost_equations, body_equ
 use Rattle.lus_meaning.specs.Depends.{ModeNeeds, modes_need, modes_need_each}
 use Rattle.lus_meaning.specs.Order.{IsLeastEquationOrder}
 use Rattle.lus_meaning.specs.Refusals.{IsChecked}
-use Rattle.lus_meaning.proofs.BooleanOrder.{IsIn, in_left, in_right}
+use Rattle.lus_meaning.proofs.Members.{IsIn, in_left, in_right}
 use Rattle.lus_meaning.proofs.InOrder.{in_order_all}
 use Rattle.lus_meaning.proofs.Lists.{all_from, both_parts}
 use Rattle.std.proofs.Math.Logic.{inl, inr}

@@ -36,7 +36,7 @@ use Rattle.sys_meaning.specs.System.{below_call}
 use Rattle.sys_meaning.specs.WellTyped.{IsKnown}
 use Rattle.sys_meaning.proofs.Backward.{callee_entry}
 use Rattle.sys_meaning.proofs.Cells.{Apart}
-use Rattle.sys_meaning.proofs.CheckedFits.{listed_each}
+use Rattle.sys_meaning.proofs.Cells.{listed_each}
 use Rattle.sys_meaning.proofs.Shows.{same_both, same_ways}
 use Rattle.sys_meaning.proofs.Tracing.{same_subjects, self_subject, self_way}
 use Rattle.path_laws.proofs.Numbers.{CountedFrom, in_order_counted}

@@ -12,7 +12,7 @@ use Rattle.lus_meaning.specs.Program.{all_sites, instance_of}
 use Rattle.lus_meaning.specs.Run.{Equation, equations, inputs_of, first_sorts, have_sorts}
 use Rattle.lus_meaning.specs.Depends.{outputs_given, from_caller}
 use Rattle.lus_meaning.specs.WellMade.{AreDistinct, IsWellMade, CallsWellMade}
-use Rattle.lus_meaning.specs.Laws.{ChoicesFrom, CallsFit}
+use Rattle.lus_meaning.specs.Choices.{ChoicesFrom, CallsFit}
 use Rattle.lus_meaning.specs.ClockFaults.{components}
 use Rattle.lus_meaning.specs.Refusals.{IsChecked}
 use Rattle.lus_meaning.proofs.Lists.{map_append}
@@ -32,9 +32,9 @@ use Rattle.sys_meaning.specs.System as system
 use Rattle.sys_meaning.specs.Law.{TreeDistinct, CallsDistinct}
 use Rattle.sys_meaning.specs.WellTyped.{IsKnown, TreeFits}
 use Rattle.sys_meaning.proofs.Cells.{everywhere}
-use Rattle.sys_meaning.proofs.CheckedRuns.{breaks_at_last}
-use Rattle.sys_meaning.proofs.CheckedTrace.{trace_of_path}
-use Rattle.sys_meaning.proofs.CheckedVerdicts.{holds_where_bounded, holds_where_reachable}
+use Rattle.sys_meaning.proofs.Breaks.{breaks_at_last}
+use Rattle.sys_meaning.proofs.Traces.{trace_of_path}
+use Rattle.sys_meaning.proofs.Verdicts.{holds_where_bounded, holds_where_reachable}
 use Rattle.sys_meaning.proofs.Follows.{lemma_law, property_law}
 use Rattle.sys_meaning.proofs.OneRun.{runs_are_paths}
 use Rattle.path_laws.specs.Laws.{EachIsWellTyped, EachRunsArePaths, EachLemmas, EachProperties, EachTraces, EachHolds, EachBounds, EachBreaks}

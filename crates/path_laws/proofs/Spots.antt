@@ -24,7 +24,7 @@ use Rattle.sys_meaning.specs.Defaults.{site_of}
 use Rattle.sys_meaning.specs.Defaults as defaults
 use Rattle.sys_meaning.specs.WellTyped.{HasPlaceIn, IsKnown, count_of, slot_sort, HasSpot, HasPlace, OwnFits, CallFits, TreeFits, CallsFit, MemoryFits, StartFits, StreamFits, IsHeldCall, OutputFits}
 use Rattle.sys_meaning.proofs.Cells.{same_place_self, Apart, all_mapped}
-use Rattle.sys_meaning.proofs.CheckedFits.{listed_each}
+use Rattle.sys_meaning.proofs.Cells.{listed_each}
 use Rattle.sys_meaning.proofs.Found.{found, found_number, found_in_order}
 use Rattle.sys_meaning.proofs.Owned.{found_one}
 use Rattle.path_laws.proofs.OnePlace.{behind, tree_slots, tree_calls, slots_are, own_all, slots_apart}

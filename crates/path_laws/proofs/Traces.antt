@@ -28,8 +28,8 @@ use Rattle.sys_terms.specs.Meaning.{as_number}
 use Rattle.sys_terms.specs.Paths.{IsPath}
 use Rattle.sys_meaning.specs.Path.{course_of, frame_of_path, name_lines, first_lines, lines_from, lines_below, trace_of}
 use Rattle.sys_meaning.specs.System.{number_of, system_of}
-use Rattle.sys_meaning.specs.Checked.{HasTrace}
-use Rattle.sys_meaning.proofs.CheckedTrace.{input_given}
+use Rattle.sys_meaning.specs.Verdicts.{HasTrace}
+use Rattle.sys_meaning.proofs.Traces.{input_given}
 use Rattle.sys_meaning.proofs.PathStates.{some_length}
 use Rattle.sys_meaning.proofs.Tracing.{any_left}
 use Rattle.path_laws.specs.Laws.{is_small_entry, HasSmallNumbers, EachHasTraces}

@@ -16,7 +16,7 @@ use Rattle.sys_terms.specs.Paths.{IsPath}
 use Rattle.sys_meaning.specs.System.{number_of, system_of}
 use Rattle.sys_meaning.specs.Path.{TraceOfPath}
 use Rattle.sys_meaning.specs.WellTyped.{IsKnown, ClockFits, WellTyped}
-use Rattle.sys_meaning.specs.Checked.{HasTrace, HoldsWhereReachable, HoldsWhereBounded, BreaksAtLast}
+use Rattle.sys_meaning.specs.Verdicts.{HasTrace, HoldsWhereReachable, HoldsWhereBounded, BreaksAtLast}
 use Rattle.sys_meaning.specs.Law.{TreeDistinct, RunsArePaths, LemmaLaw, PropertyLaw}
 
 -- the clocks of a declaration's streams come to the base clock

@@ -10,7 +10,7 @@ ghost use Rattle.lus_meaning.specs.TraceView.{trace_view};
 ghost use Rattle.lus_streams.specs.Owner.{owner_view};
 ghost use Rattle.sys_terms.specs.Paths.{IsPath};
 ghost use Rattle.sys_terms.specs.View.{states_view};
-ghost use Rattle.sys_meaning.specs.Checked.{IsTraceOf};
+ghost use Rattle.sys_meaning.specs.Verdicts.{IsTraceOf};
 ghost use Rattle.sys_meaning.specs.System.{system_of};
 
 use crate::free::inputs_and_free;

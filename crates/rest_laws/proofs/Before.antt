@@ -19,7 +19,7 @@ use Rattle.lus_meaning.specs.Trace.{same_numbers}
 use Rattle.lus_meaning.specs.Verdict.{throughout}
 use Rattle.lus_meaning.specs.ClockFaults.{components}
 use Rattle.lus_meaning.specs.Refusals.{IsChecked}
-use Rattle.lus_meaning.proofs.BooleanOrder.{IsIn, in_left, in_right, in_mapped}
+use Rattle.lus_meaning.proofs.Members.{IsIn, in_left, in_right, in_mapped}
 use Rattle.lus_meaning.proofs.Lists.{all_from}
 use Rattle.lus_meaning.proofs.Ranked.{all_named}
 use Rattle.sys_meaning.specs.Slot.{Spot, beat, named, memory, starting, so_far, held, Place, own}

@@ -15,7 +15,7 @@ use Rattle.lus_meaning.specs.Trace.{same_numbers}
 use Rattle.lus_meaning.specs.Verdict.{throughout}
 use Rattle.lus_meaning.specs.ClockFaults.{components}
 use Rattle.lus_meaning.specs.Refusals.{IsChecked}
-use Rattle.lus_meaning.proofs.BooleanOrder.{IsIn, in_left}
+use Rattle.lus_meaning.proofs.Members.{IsIn, in_left}
 use Rattle.lus_meaning.proofs.Lists.{all_from}
 use Rattle.sys_meaning.specs.Defaults.{site_of}
 use Rattle.sys_meaning.specs.WellTyped.{IsKnown, WellTyped}

@@ -13,7 +13,7 @@ use Rattle.lus_meaning.specs.Trace.{same_numbers}
 use Rattle.lus_meaning.specs.Cycle.{Place as NeededPlace}
 use Rattle.lus_meaning.specs.Verdict.{throughout}
 use Rattle.lus_meaning.specs.WellMade.{AreDistinct}
-use Rattle.lus_meaning.proofs.BooleanOrder.{IsIn, in_right}
+use Rattle.lus_meaning.proofs.Members.{IsIn, in_right}
 use Rattle.lus_meaning.proofs.Lists.{all_from, both_parts, named_append, or_left, or_true}
 use Rattle.lus_meaning.proofs.Unique.{same_bytes}
 use Rattle.sys_meaning.specs.Defaults.{site_at, site_of}

@@ -10,7 +10,7 @@ use Rattle.lus_meaning.specs.Run.{IsRun}
 use Rattle.lus_meaning.specs.Verdict.{throughout}
 use Rattle.lus_meaning.specs.ClockFaults.{components}
 use Rattle.lus_meaning.specs.Refusals.{IsChecked}
-use Rattle.lus_meaning.proofs.BooleanOrder.{IsIn, in_right}
+use Rattle.lus_meaning.proofs.Members.{IsIn, in_right}
 use Rattle.lus_evaluation.specs.Part.{Part}
 use Rattle.lus_evaluation.specs.Evaluation.{IsEvaluation}
 use Rattle.lus_evaluation.specs.Past.{NonePast}

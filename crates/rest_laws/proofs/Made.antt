@@ -14,7 +14,7 @@ use Rattle.lus_meaning.specs.Scene.{Instance, Instances, instance, no_instances,
 use Rattle.lus_meaning.specs.Contract.{scene}
 use Rattle.lus_meaning.specs.Run.{IsRun, have_sorts, first_sorts, active}
 use Rattle.lus_meaning.specs.Depends.{named_in, from_caller, left_names}
-use Rattle.lus_meaning.specs.Laws.{ChoicesFrom, CallsFit}
+use Rattle.lus_meaning.specs.Choices.{ChoicesFrom, CallsFit}
 use Rattle.lus_meaning.specs.Verdict.{throughout}
 use Rattle.lus_meaning.specs.WellMade.{AreDistinct, IsWellMade, CallsWellMade}
 use Rattle.lus_meaning.specs.Program.{instance_of}

@@ -12,7 +12,7 @@ use Rattle.lus_meaning.specs.Slots.{Slot, slots}
 use Rattle.lus_meaning.specs.Verdict.{throughout}
 use Rattle.lus_meaning.specs.ClockFaults.{components}
 use Rattle.lus_meaning.specs.Refusals.{IsChecked}
-use Rattle.lus_meaning.proofs.BooleanOrder.{IsIn}
+use Rattle.lus_meaning.proofs.Members.{IsIn}
 use Rattle.lus_meaning.proofs.Lists.{all_from}
 use Rattle.lus_meaning.proofs.Now.{right_part}
 use Rattle.sys_meaning.specs.Slot.{named, so_far, Place, own, place_of}

@@ -14,7 +14,7 @@ use Rattle.lus_meaning.specs.Run.{equations}
 use Rattle.lus_meaning.specs.Depends.{Need, the_beat, a_name, inside, ModeNeeds, known_needs, clock_needs, needs, asked_needs, imported_needs, modes_after, modes_need, modes_need_each, site_needs, named_in}
 use Rattle.lus_meaning.specs.Cycle.{Place, place_of, deeper, declared_needs, defined_needs, own_needs, matching, caller_needs, next_places, next_in_call, IsAt}
 use Rattle.lus_meaning.specs.Verdict.{throughout}
-use Rattle.lus_meaning.proofs.BooleanOrder.{IsIn, in_left, in_right, in_mapped, at_some}
+use Rattle.lus_meaning.proofs.Members.{IsIn, in_left, in_right, in_mapped, at_some}
 use Rattle.lus_meaning.proofs.Exists.{self_bytes}
 use Rattle.lus_meaning.proofs.Lists.{append_none, map_append}
 use Rattle.lus_meaning.proofs.Unique.{same_bytes}

@@ -45,7 +45,7 @@ use Rattle.rule_laws.proofs.Texts.{IsClean, AreClean, clean_flag, clean_side, cl
 use Rattle.rule_laws.proofs.TypedModes.{component, shown, TextPlaced, texts_placed}
 use Rattle.rule_laws.proofs.Unfolded.{typed_tree, each_unfolded}
 use Rattle.rule_laws.proofs.Truths.{not_false, first_false, second_false, both_true, same_some}
-use Rattle.lus_meaning.proofs.BooleanTypes.{at_named}
+use Rattle.lus_meaning.proofs.Members.{at_named}
 
 no_constant : (r : Role) → is_output_role r ≡ true → is_constant_role r ≡ false
 no_constant an_output e = refl

@@ -15,7 +15,7 @@ use Rattle.lus_meaning.specs.Run.{equations, is_typed, active, IsRun}
 use Rattle.lus_meaning.specs.Depends.{named_in, left_names, from_caller, SameChoices, CallsChoices}
 use Rattle.lus_meaning.specs.Recompute.{sample, Pool, equation_pool, source, call_pool, recompute, recompute_calls}
 use Rattle.lus_meaning.specs.WellMade.{AreDistinct, HasTypes, CallsHaveTypes}
-use Rattle.lus_meaning.specs.Laws.{ChoicesFrom, CallsFit}
+use Rattle.lus_meaning.specs.Choices.{ChoicesFrom, CallsFit}
 use Rattle.lus_meaning.specs.ClockFaults.{components}
 use Rattle.lus_meaning.specs.Refusals.{IsChecked}
 use Rattle.lus_meaning.proofs.Choices.{same_choices}

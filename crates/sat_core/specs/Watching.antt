@@ -174,3 +174,7 @@ IsEntered old new clause watched = (only : Option Literal) × IsOnly clause only
 abbrev pub CanWatch : List Literal → Option (Literal × Literal) → Type 0
 CanWatch clause None = IsShort clause
 CanWatch clause (Some p) = IsPair clause p
+
+-- there may be more pairs at the end
+abbrev pub IsLonger : List (Option (Literal × Literal)) → List (Option (Literal × Literal)) → Type 0
+IsLonger old new = (more : List (Option (Literal × Literal))) × (new ≡ old ++ more)

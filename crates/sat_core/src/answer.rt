@@ -7,9 +7,9 @@ ghost use Rattle.sat_core.specs.Held.{Covers, IsWithin, IsPlain};
 ghost use Rattle.sat_core.specs.Shown.{AreTrueBeside, Grows};
 ghost use Rattle.sat_core.specs.Analysis.{IsLast};
 ghost use Rattle.sat_core.specs.Propagation.{IsFalseAt};
-ghost use Rattle.sat_core.specs.Watching.{IsWatched, IsWatching};
+ghost use Rattle.sat_core.specs.Watching.{IsLonger, IsWatched, IsWatching};
 ghost use Rattle.sat_core.specs.Looking.{weight};
-ghost use Rattle.sat_core.specs.Charged.{IsKept};
+ghost use Rattle.sat_core.specs.Charged.{AnswerCosts, IsKept, cost};
 ghost use Rattle.sat_core.specs.Waiting.{IsReady};
 ghost use Rattle.sat_core.specs.Answer.{IsEnded, IsAnswered};
 ghost use Rattle.sat_core.specs.declared.answer.Answer.TheVariants.{Full};
@@ -58,6 +58,7 @@ fn end(
     ensures log { OnErr result (log.new.items ≡ log.old.items) }
     ensures watched { IsWatched clauses.new trail.now watches.new head }
     ensures pairs { OnErr result (watches.new.pairs ≡ watches.old.pairs) }
+    ensures longer { OnOk result (IsLonger watches.old.pairs watches.new.pairs) }
 {
     if ended {
         return Ok(());
@@ -104,6 +105,8 @@ pub fn answered(
     ensures kept { OnErr result (IsKept assignment.old (length assignment.old) watches.old watches.new) }
     ensures looks { IfOk result (λ a. (looks.new + weight clauses.old assignment.old
         ≤ looks.old + weight clauses.old assignment.new) × (looks.old ≤ looks.new)) }
+    ensures cost { IfOk result (AnswerCosts clauses.old assignment.old
+        (cost clauses.old assignment.old assignment.new watches.old.pairs watches.new.pairs) looks.old looks.new) }
 {
     let Some(number) = run(
         alloc, clauses, looks, variables, watches, assignment, head, order, waiting, stuck,

@@ -96,6 +96,7 @@ impl Order {
     /// Lets the variable at a place rise to where it belongs.
     fn rise(&mut self, from: usize) {
         let variable = number_at(&self.heap, from);
+        let activity = activity_at(&self.activities, variable);
         let mut at = from;
         for _ in 0..64 {
             if at == 0 {
@@ -103,7 +104,7 @@ impl Order {
             }
             let above = (at - 1) / 2;
             let other = number_at(&self.heap, above);
-            if !self.is_above(variable, other) {
+            if activity <= activity_at(&self.activities, other) {
                 break;
             }
             self.put(at, other);
@@ -128,11 +129,12 @@ impl Order {
     /// Lets the variable at a place sink to where it belongs.
     fn sink(&mut self, from: usize) {
         let variable = number_at(&self.heap, from);
+        let activity = activity_at(&self.activities, variable);
         let mut at = from;
         for _ in 0..64 {
             let next = self.lower(at);
             let other = number_at(&self.heap, next);
-            if next >= self.heap.len() || !self.is_above(other, variable) {
+            if next >= self.heap.len() || activity_at(&self.activities, other) <= activity {
                 break;
             }
             self.put(at, other);
@@ -257,7 +259,7 @@ impl Order {
         for literal in literals {
             self.bump(*literal);
         }
-        self.step = self.step.saturating_add(self.step / 16);
+        self.step = self.step.saturating_add(self.step / 20);
     }
 
     /// Counts a conflict, and says whether the search begins anew: after 1, 1, 2, 1, 1, 2, 4, ..

@@ -1,7 +1,7 @@
 ghost use Rattle.std.specs.Prelude.{◌≡◌, ◌⊎◌, ◌++◌, ◌∷◌, ◌<◌, ◌≤◌, ◌^◌, [], OnOk, OnErr, IfOk, IsTrue, true, false, map, length, take, option_to_list, vec_len, vec_capacity, List, ℕ};
 ghost use Rattle.proof_steps.specs.View.{clause_view, step_view};
 ghost use Rattle.sat_core.specs.Shown.{Begins, IsAsBefore, Adds, Learns, Finds, IsWatchedPair, IsTold, learnt_count};
-ghost use Rattle.sat_core.specs.Looking.{LooksAtHints, LooksAtHolders};
+ghost use Rattle.sat_core.specs.Looking.{LooksAtHints, LooksAtHolders, LooksAtWork};
 ghost use Rattle.sat_core.specs.Trail.{value_of};
 ghost use Rattle.cnf_maker.specs.View.{form_view};
 ghost use Rattle.proof_steps.specs.declared.Literal.{Literal as SignedLiteral};
@@ -322,10 +322,13 @@ impl Search {
     }
 
     /// Goes on with what is assigned until every variable has a value, or a clause is false. For each
-    /// literal that becomes false looks at no more clauses than hold it.
+    /// literal that becomes false looks at no more clauses than hold it, and at least once for each
+    /// literal that a clause implies, each clause that comes to watch others, and a false clause, where
+    /// these clauses had more than one literal left.
     pub fn decide_or_conflict(&mut self, alloc: Global) -> Result<Found, SearchFault>
         ensures ok { IfOk result (λ f. Finds self.old self.new f) }
         ensures looks { IfOk result (λ f. LooksAtHolders self.old self.new) }
+        ensures work { IfOk result (λ f. LooksAtWork self.old self.new) }
         ensures err { OnErr result (IsAsBefore self.old self.new) }
     {
         let before = self.assignment.entries().len();

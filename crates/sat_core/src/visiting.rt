@@ -1,11 +1,12 @@
 //! Propagation by the clauses that watch a literal.
 
-ghost use Rattle.std.specs.Prelude.{◌≡◌, ◌+◌, ◌<◌, ◌≤◌, OnErr, IfOk, All, map, length, slice_get, Some};
+ghost use Rattle.std.specs.Prelude.{◌≡◌, ◌+◌, ◌<◌, ◌≤◌, List, OnErr, IfOk, All, map, length, slice_get, Some};
+ghost use Rattle.sat_core.specs.declared.assigned.Assigned.{Assigned as Entry};
 ghost use Rattle.sat_core.specs.Trail.{IsTrail};
 ghost use Rattle.sat_core.specs.Held.{Covers, IsWithin};
 ghost use Rattle.sat_core.specs.Watching.{list_at, IsOther, IsVisiting, IsWatched};
 ghost use Rattle.sat_core.specs.Looking.{holders, spent, weight};
-ghost use Rattle.sat_core.specs.Charged.{due, IsCharged, IsKept};
+ghost use Rattle.sat_core.specs.Charged.{due, IsCharged, IsKept, IsWorked, failed_by, false_by};
 ghost use Rattle.sat_core.specs.Visiting.{CanStand, IsReplacement, IsAdvance, IsVisit, IsVisitedAll, IsGoneThrough};
 
 use crate::analysis::opposite;
@@ -30,13 +31,16 @@ fn can_stand(assignment: &Assignment, literal: Literal, other: Literal) -> bool
     !assignment.is_false(literal) && !same(literal, other)
 }
 
-/// A literal of the clause that is not false, beside another one.
+/// A literal of the clause that is not false, beside another one. A learnt clause's last literals became
+/// false first, so they are tried first: what is true among them stays so for longest.
 pub fn replacement(assignment: &Assignment, clause: &[Literal], other: Literal) -> Option<Literal>
     ensures { IsReplacement assignment.now clause.now other result }
 {
-    for literal in clause {
-        if can_stand(assignment, *literal, other) {
-            return Some(*literal);
+    let mut i = clause.len();
+    while i > 0 {
+        i -= 1;
+        if can_stand(assignment, clause[i], other) {
+            return Some(clause[i]);
         }
     }
     None
@@ -69,6 +73,8 @@ fn look(
     ensures kept { IsKept assignment.old head watches.old watches.new }
     ensures looks { IfOk result (λ v. IsCharged (due assignment.old watches.old literal)
         (due assignment.new watches.new literal) looks.old looks.new v) }
+    ensures worked { IfOk result (λ v. (before : List Entry) → IsWorked clauses.now before assignment.old assignment.new
+        watches.old watches.new looks.old looks.new (failed_by v)) }
 {
     if assignment.is_true(other) {
         return Ok(Visit::Next(next));
@@ -117,6 +123,8 @@ fn visit_entry(
     ensures kept { IsKept assignment.old head watches.old watches.new }
     ensures looks { IfOk result (λ v. IsCharged (due assignment.old watches.old literal)
         (due assignment.new watches.new literal) looks.old looks.new v) }
+    ensures worked { IfOk result (λ v. (before : List Entry) → IsWorked clauses.now before assignment.old assignment.new
+        watches.old watches.new looks.old looks.new (failed_by v)) }
 {
     let number = watches.entry(literal, at);
     match watches.other(number, literal) {
@@ -148,6 +156,8 @@ fn visit_all(
     ensures shorts { watches.new.shorts ≡ watches.old.shorts }
     ensures kept { IsKept assignment.old head watches.old watches.new }
     ensures looks { IfOk result (λ r. (looks.new ≤ looks.old + holders clauses.now literal) × (looks.old ≤ looks.new)) }
+    ensures worked { IfOk result (λ r. (before : List Entry) → IsWorked clauses.now before assignment.old assignment.new
+        watches.old watches.new looks.old looks.new (false_by r)) }
 {
     let mut at = 0;
     while at < watches.count(literal) {
@@ -191,6 +201,8 @@ pub fn propagate(
     ensures kept { IsKept assignment.old head.old watches.old watches.new }
     ensures looks { IfOk result (λ r. (looks.new + spent clauses.now assignment.old head.old
         ≤ looks.old + weight clauses.now assignment.new) × (looks.old ≤ looks.new)) }
+    ensures worked { IfOk result (λ r. (before : List Entry) → IsWorked clauses.now before assignment.old assignment.new
+        watches.old watches.new looks.old looks.new (false_by r)) }
 {
     while *head < assignment.entries().len() {
         let literal = opposite(assignment.entries()[*head].literal);

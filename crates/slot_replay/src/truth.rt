@@ -9,7 +9,7 @@ ghost use Rattle.slot_replay.specs.Conditions.{all_true, any_outside, is_true};
 
 use lus_meaning::Value;
 use slot_sources::Switch;
-use slot_values::{Resolved, evaluate};
+use slot_values::{Outcome, Resolved, value_within};
 
 /// Whether a clock is on.
 pub(crate) fn is_on(clock: &Switch, row: &[Option<Value>]) -> bool
@@ -28,11 +28,10 @@ pub(crate) fn truth_in(condition: &Resolved, row: &[Option<Value>]) -> (bool, bo
     ensures truth { result.0 ≡ is_true (slots_in row.now) (resolved_view condition.now) }
     ensures outside { result.1 ≡ is_any (outside (slots_in row.now) true (resolved_view condition.now)) }
 {
-    match evaluate(condition, true, row) {
-        Ok(Some(Value::Truth(b))) => (b, false),
-        Ok(Some(Value::Whole(_))) => (false, false),
-        Ok(None) => (false, false),
-        Err(_) => (false, true),
+    match value_within(condition, true, row) {
+        Outcome::Truth(b) => (b, false),
+        Outcome::Absent | Outcome::Whole(_) => (false, false),
+        Outcome::Outside => (false, true),
     }
 }
 

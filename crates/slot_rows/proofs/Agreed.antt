@@ -10,7 +10,7 @@ use Rattle.slot_sources.specs.Source.{Source, always, runs, runs_while, same, gi
 use Rattle.slot_sources.specs.Rows.{Choices, brought, brought_first, brought_next, is_read, outside_next, outside_now, reads_before, value_now}
 use Rattle.slot_rows.specs.Order.{IsSlotOrder}
 use Rattle.slot_rows.specs.Table.{Row, brought_to, closed as closed_row, filled, first_values, is_any, listed_or, next_outside, next_value, next_values, no_row, row_at, row_from, rows, slots_of, unless}
-use Rattle.slot_rows.specs.Agreement.{DoneAgrees, FollowIn, IsClosed, IsDone, NoneMetWithin, NoneOutside, ReadAgree, RowsAgree, UnmetAgree, UnmetWithin, is_read_at, read_slots}
+use Rattle.slot_rows.specs.Agreement.{DoneAgrees, FollowIn, IsClosed, NoneMetWithin, NoneOutside, ReadAgree, RowsAgree, UnmetAgree, UnmetWithin, is_read_at, read_slots}
 use Rattle.slot_rows.proofs.Dependence.{SameOn, next_same, outside_next_same}
 use Rattle.slot_rows.proofs.Filled.{Filling, IsClosedNow, fills, none_of, stays_within, were_within}
 use Rattle.slot_rows.proofs.RowAt.{row_is}

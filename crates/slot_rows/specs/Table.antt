@@ -1,6 +1,6 @@
 -- The table of a declaration's slots: row after row, an instant each. A row begins with what is brought to its instant, and its slots get their values in an
 -- order.
-use Rattle.std.specs.Prelude.{ℕ, zero, suc, Bool, true, false, ◌||◌, List, [], ◌∷◌, ◌++◌, map, Option, Some, None, Result, Ok, Err, slice_get, get_or, set}
+use Rattle.std.specs.Prelude.{ℕ, zero, suc, Bool, true, false, ◌||◌, List, [], ◌∷◌, ◌++◌, map, Option, Some, None, slice_get, get_or, set}
 use Rattle.lus_meaning.specs.Value.{Value, absent}
 use Rattle.lus_meaning.specs.TraceView.{entry_view}
 use Rattle.slot_values.specs.declared.resolved.PastAt.{PastAt}
@@ -23,15 +23,6 @@ abbrev pub unless : List PastAt → Value → Value
 unless [] v = v
 unless (p ∷ ps) v = absent
 
--- the same of an answer
-abbrev pub kept_value : Result Value PastAt → Value
-kept_value (Ok v) = v
-kept_value (Err p) = absent
-
-abbrev pub was_outside : Result Value PastAt → Bool
-was_outside (Ok v) = false
-was_outside (Err p) = true
-
 -- the values of an instant, and whether an operation was outside 128 bits
 pub record Row : Type 0 where
   pub values : List Value
@@ -52,6 +43,14 @@ listed_or c t k v (remembered w e) = v
 listed_or c t k v (starting w) = v
 listed_or c t k v (held b o d) = v
 listed_or c t k v unread = v
+
+-- whether a slot has what was brought to it
+abbrev pub is_brought : Source → Bool
+is_brought (remembered w e) = true
+is_brought (starting w) = true
+is_brought (held b o d) = true
+is_brought unread = true
+is_brought _ = false
 
 -- the value of a slot by the row so far
 abbrev pub value_by : Choices → ℕ → ℕ → SlotValues → Source → Value

@@ -1,28 +1,31 @@
 //! Filling the table.
 
-ghost use Rattle.std.specs.Prelude.{◌≡◌, ◌++◌, ◌∷◌, ◌||◌, [], false, length, map, suc, set, slice_get, IfOk, OnOk, Some};
+ghost use Rattle.std.specs.Prelude.{◌≡◌, ◌++◌, ◌∷◌, ◌||◌, [], false, length, map, suc, set, slice_get, IfOk, OnOk, Some, is_none, unwrap_or};
+ghost use Rattle.lus_meaning.specs.Value.{absent};
 ghost use Rattle.lus_meaning.specs.TraceView.{entry_view};
-ghost use Rattle.slot_values.specs.Evaluated.{answer_view};
+ghost use Rattle.slot_values.specs.Outcome.{outcome_view};
 ghost use Rattle.slot_sources.specs.Source.{source_view};
 ghost use Rattle.slot_sources.specs.Rows.{brought_first, outside_next};
-ghost use Rattle.slot_rows.specs.Table.{brought_to, closed, filled, first_values, is_any, kept_value, listed_or, next_value, next_values, next_outside, row_at, row_view, rows, slots_of, table_view, was_outside, with_value};
+ghost use Rattle.slot_rows.specs.Table.{brought_to, closed, filled, first_values, is_any, is_brought, listed_or, next_value, next_values, next_outside, row_at, row_view, rows, slots_of, table_view, with_value};
 
 use crate::chosen::Chosen;
 use crate::slot::{slot_value, value_next, value_now};
 use crate::table::{Row, Table};
 use lus_meaning::Value;
 use slot_sources::Source;
-use slot_values::PastAt;
+use slot_values::Outcome;
 use std::alloc::{AllocError, Global};
 
 /// A value, none where an operation is outside 128 bits; and whether one is.
-fn kept(answer: Result<Option<Value>, PastAt>) -> (Option<Value>, bool)
-    ensures value { entry_view result.0 ≡ kept_value (answer_view answer) }
-    ensures outside { result.1 ≡ was_outside (answer_view answer) }
+fn kept(outcome: Outcome) -> (Option<Value>, bool)
+    ensures value { entry_view result.0 ≡ unwrap_or (outcome_view outcome) absent }
+    ensures outside { result.1 ≡ is_none (outcome_view outcome) }
 {
-    match answer {
-        Ok(value) => (value, false),
-        Err(_) => (None, true),
+    match outcome {
+        Outcome::Outside => (None, true),
+        Outcome::Absent => (None, false),
+        Outcome::Truth(b) => (Some(Value::Truth(b)), false),
+        Outcome::Whole(n) => (Some(Value::Whole(n)), false),
     }
 }
 
@@ -60,10 +63,30 @@ fn write(values: &mut Vec<Option<Value>>, slot: usize, value: Option<Value>)
     }
 }
 
+/// Whether a slot has what was brought to it.
+fn is_brought(source: &Source) -> bool
+    ensures { result ≡ is_brought (source_view source.now) }
+{
+    match source {
+        Source::Remembered(_, _) | Source::Starting(_) | Source::Held { .. } | Source::Unread =>
+            true,
+        Source::Always
+        | Source::Runs(_)
+        | Source::RunsWhile(_, _)
+        | Source::Same(_)
+        | Source::Given(_, _)
+        | Source::Argument(_, _, _)
+        | Source::Listed(_) => false,
+    }
+}
+
 /// Gives a slot the value of its source by the row so far.
 fn give_value<C: Chosen>(source: &Source, chosen: &C, instant: u32, row: &mut Row, slot: usize)
     ensures { row_view row.new ≡ with_value (C.choices chosen.now) instant slot (Some (source_view source.now)) (row_view row.old) }
 {
+    if is_brought(source) {
+        return;
+    }
     let brought = listed_or(source, chosen, instant, slot, slot_value(&row.values, slot));
     let (value, outside) = kept(value_now(source, &row.values, brought));
     write(&mut row.values, slot, value);
@@ -116,7 +139,7 @@ fn first_values<C: Chosen>(
 ) -> Result<Vec<Option<Value>>, AllocError>
     ensures { IfOk result (λ v. map entry_view v.items ≡ first_values (C.choices chosen.now) 0 (map source_view sources.now)) }
 {
-    let mut values = Vec::new(alloc);
+    let mut values = Vec::with_capacity(alloc, sources.len())?;
     for source in sources {
         let value = first_value(source, chosen, values.len());
         values.push(value)?;
@@ -150,7 +173,7 @@ fn next_values(
         ≡ next_values (slots_of (row_view row.old).values) 0 (map source_view sources.now)) }
     ensures outside { OnOk result (row_view row.new ≡ closed (map source_view sources.now) (row_view row.old)) }
 {
-    let mut values = Vec::new(alloc);
+    let mut values = Vec::with_capacity(alloc, sources.len())?;
     for source in sources {
         let outside = push_next(source, &row.values, &mut values)?;
         row.outside |= outside;

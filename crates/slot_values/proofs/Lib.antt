@@ -1,4 +1,5 @@
 pub mod Stepwise
+pub mod Quickly
 pub mod Mismatched
 pub mod ByZero
 pub mod WorthSeen

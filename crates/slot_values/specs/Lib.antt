@@ -1,6 +1,8 @@
 pub mod Resolution
 pub mod Evaluated
+pub mod Outcome
 pub mod Stepwise
+pub mod Quickly
 pub mod Resolved
 pub mod Clocked
 pub mod FrameRow

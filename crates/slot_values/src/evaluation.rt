@@ -3,39 +3,22 @@
 ghost use Rattle.std.specs.Prelude.{◌≡◌};
 ghost use Rattle.lus_meaning.specs.TraceView.{entry_view};
 ghost use Rattle.slot_values.specs.Resolution.{resolved_view};
-ghost use Rattle.slot_values.specs.Evaluated.{answer_view, slots_in, only_where, is_there, evaluated};
+ghost use Rattle.slot_values.specs.Evaluated.{answer_view, slots_in, only_where, evaluated};
+ghost use Rattle.slot_values.specs.Outcome.{outcome_view, value_within};
 ghost use Rattle.slot_values.specs.Stepwise.{stepwise};
 
 use crate::operation::{chosen, combined, is_truth, negated, opposite};
+use crate::outcome::Outcome;
+use crate::quick::quick;
 use crate::resolved::{PastAt, Resolved};
+use crate::slot::{is_present, slot_value};
 use lus_meaning::Value;
-
-/// The value of a slot; none behind the end of the row.
-fn slot_value(row: &[Option<Value>], slot: u32) -> Option<Value>
-    ensures { entry_view result ≡ slots_in row.now slot }
-{
-    match row.get(slot as usize) {
-        Some(value) => *value,
-        None => None,
-    }
-}
 
 /// The value where that is wanted.
 fn value_if(on: bool, value: Option<Value>) -> Option<Value>
     ensures { entry_view result ≡ only_where on (entry_view value) }
 {
     if on { value } else { None }
-}
-
-/// Whether there is a value.
-fn is_present(value: Option<Value>) -> bool
-    ensures { result ≡ is_there (entry_view value) }
-{
-    match value {
-        Some(Value::Truth(_)) => true,
-        Some(Value::Whole(_)) => true,
-        None => false,
-    }
 }
 
 #[cycle(walk)]
@@ -103,5 +86,18 @@ fn walk(e: &Resolved, on: bool, row: &[Option<Value>]) -> Result<Option<Value>, 
 pub fn evaluate(e: &Resolved, on: bool, row: &[Option<Value>]) -> Result<Option<Value>, PastAt>
     ensures { answer_view result ≡ evaluated (slots_in row.now) on (resolved_view e.now) }
 {
-    walk(e, on, row)
+    match value_within(e, on, row) {
+        Outcome::Outside => walk(e, on, row),
+        Outcome::Absent => Ok(None),
+        Outcome::Truth(b) => Ok(Some(Value::Truth(b))),
+        Outcome::Whole(n) => Ok(Some(Value::Whole(n))),
+    }
+}
+
+/// The value alone, where no operation has a result outside 128 bits.
+#[tactic(auto, using(crate::proofs::Quickly::quickly_is))]
+pub fn value_within(e: &Resolved, on: bool, row: &[Option<Value>]) -> Outcome
+    ensures { outcome_view result ≡ value_within (slots_in row.now) on (resolved_view e.now) }
+{
+    quick(e, on, row)
 }

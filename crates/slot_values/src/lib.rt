@@ -7,7 +7,12 @@
 mod evaluation;
 pub mod laws;
 mod operation;
+mod outcome;
+mod quick;
+mod quick_operation;
 mod resolved;
+mod slot;
 
-pub use evaluation::evaluate;
+pub use evaluation::{evaluate, value_within};
+pub use outcome::Outcome;
 pub use resolved::{PastAt, Resolved};

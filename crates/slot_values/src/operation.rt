@@ -93,14 +93,14 @@ pub(crate) fn opposite(at: Pos, value: Option<Value>) -> Result<Option<Value>, P
 }
 
 /// What the definition of `div` gives for the divisor 0, by which no program that follows the rules divides.
-fn quotient_by_zero(a: i128) -> i128
+pub(crate) fn quotient_by_zero(a: i128) -> i128
     ensures { result ≡ int_div_euclid a (pos 0) }
 {
     if a < 0 { -1 } else { 0 }
 }
 
 /// The same of `mod`.
-fn remainder_by_zero(a: i128) -> i128
+pub(crate) fn remainder_by_zero(a: i128) -> i128
     ensures { result ≡ int_rem_euclid a (pos 0) }
 {
     if a < 0 { 0 } else { a }

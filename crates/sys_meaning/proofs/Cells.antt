@@ -14,7 +14,7 @@ use Rattle.lus_meaning.specs.Trace.{same_numbers}
 use Rattle.lus_meaning.specs.Depends.{named_in}
 use Rattle.lus_meaning.specs.WellMade.{AreDistinct}
 use Rattle.lus_meaning.specs.Slots.{Cell, name_cell, memory_cell, start_cell, Slot, cell_sort, slot}
-use Rattle.lus_meaning.proofs.Lists.{both_parts}
+use Rattle.lus_meaning.proofs.Lists.{all_from, both_parts, or_true}
 use Rattle.lus_meaning.proofs.Exists.{self_bytes}
 use Rattle.lus_meaning.proofs.Unique.{same_bytes}
 use Rattle.sys_meaning.specs.Slot.{Spot, beat, named, memory, starting, so_far, held, Place, spot_of, place_of, same_spot, same_place, number_in}
@@ -112,6 +112,17 @@ starts_apart [] a = tt
 starts_apart (s ∷ ss) a = (
   all_mapped (λ r. same_spot (spot_of r) (starting s.number) ≡ false) start_cell ss a.0,
   starts_apart ss a.1,
+)
+
+-- each of a list is listed
+pub listed_each : (vs : List Variable) →
+    AllByRecursion (λ v. named_in v.name.text (map (λ v. v.name.text) vs) ≡ true) vs
+listed_each [] = tt
+listed_each (v ∷ vs) = (
+  rw (self_bytes v.name.text) refl,
+  all_from (λ w. named_in w.name.text (map (λ v. v.name.text) vs) ≡ true)
+      (λ w. named_in w.name.text (v.name.text ∷ map (λ v. v.name.text) vs) ≡ true)
+      (λ w e. or_true (bytes_eq w.name.text v.name.text) _ e) vs (listed_each vs),
 )
 
 -- ---- the type at a place

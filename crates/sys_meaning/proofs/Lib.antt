@@ -35,11 +35,7 @@ pub mod PathStates
 pub mod OneRun
 pub mod Found
 pub mod Cells
-pub mod BooleanText
-pub mod CheckedFits
-pub mod CheckedRuns
 pub mod Tracing
-pub mod CheckedTrace
-pub mod CheckedReplay
-pub mod CheckedVerdicts
-pub mod CheckedLines
+pub mod Breaks
+pub mod Traces
+pub mod Verdicts

@@ -9,4 +9,4 @@ pub mod Seen
 pub mod WellTyped
 pub mod Law
 pub mod Path
-pub mod Checked
+pub mod Verdicts

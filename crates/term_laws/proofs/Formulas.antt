@@ -13,7 +13,7 @@ use Rattle.sys_meaning.specs.Slot.{Place}
 use Rattle.sys_meaning.specs.Items.{ModeItem, Items, no_items, known, mode_item, imported_item, items, items_each, items_after}
 use Rattle.sys_meaning.specs.Translate.{Stage}
 use Rattle.sys_meaning.specs.System.{Written, written, contract_of, assumed, stage, body_properties, one_mode, owed_by_site, owed_by_calls, below_call, number_of}
-use Rattle.sys_meaning.specs.Checked.{HasFormulas}
+use Rattle.sys_meaning.specs.Verdicts.{HasFormulas}
 use Rattle.term_laws.specs.Laws.{EachFormulas}
 
 -- ---- contracts

@@ -19,7 +19,7 @@ use Rattle.lus_meaning.specs.Run.{Takes, sort_of, sort_of_name}
 use Rattle.lus_meaning.specs.Depends.{named_in}
 use Rattle.lus_meaning.specs.Sizes.{Size, leaf, above, beside, one, two, three, ModeSizes, is_fixed, operator_size, unless_fixed, size_in, presence_within, presence}
 use Rattle.lus_meaning.specs.Sizes as sizes
-use Rattle.lus_meaning.proofs.BooleanTypes.{at_named}
+use Rattle.lus_meaning.proofs.Members.{at_named}
 use Rattle.sys_terms.specs.View.{Formula, Amount}
 use Rattle.sys_terms.specs.View as t
 use Rattle.sys_terms.specs.Meaning.{Values}

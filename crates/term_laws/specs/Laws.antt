@@ -8,7 +8,7 @@ use Rattle.lus_meaning.specs.Sizes.{Size, term_sizes}
 use Rattle.sys_terms.specs.View.{Formula, Machine}
 use Rattle.sys_terms.specs.Fits.{IsMild, levels, parts}
 use Rattle.sys_meaning.specs.System.{system_of}
-use Rattle.sys_meaning.specs.Checked.{HasFormulas}
+use Rattle.sys_meaning.specs.Verdicts.{HasFormulas}
 use Rattle.path_laws.specs.Laws.{OfEachInstance}
 
 -- Its terms fit its shapes, those of a state and the next alone speak of a next state, no divisor is 0, and no number and

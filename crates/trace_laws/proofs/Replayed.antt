@@ -18,7 +18,7 @@ use Rattle.lus_meaning.specs.Refusals.{IsChecked}
 use Rattle.lus_meaning.specs.Replay.{Shown, Replays, ReplaysTrace}
 use Rattle.sys_terms.specs.declared.term.Entry.{Entry}
 use Rattle.sys_terms.specs.Paths as paths
-use Rattle.sys_meaning.specs.Checked.{HasTrace, IsTraceOf, BreaksAtLast}
+use Rattle.sys_meaning.specs.Verdicts.{HasTrace, IsTraceOf, BreaksAtLast}
 use Rattle.sys_meaning.specs.Path.{frame_of_path, trace_of}
 use Rattle.sys_meaning.specs.System.{system_of}
 use Rattle.path_laws.specs.Laws.{EachBreaks, EachHasTraces, HasSmallNumbers}

@@ -12,7 +12,7 @@ use Rattle.trace_text.specs.Traces.{IsTraceText, trace_text}
 use Rattle.sys_terms.specs.declared.term.Entry.{Entry}
 use Rattle.sys_terms.specs.Fits.{is_narrow}
 use Rattle.sys_terms.specs.Paths as paths
-use Rattle.sys_meaning.specs.Checked.{IsTraceOf}
+use Rattle.sys_meaning.specs.Verdicts.{IsTraceOf}
 use Rattle.sys_meaning.specs.System.{system_of}
 use Rattle.path_laws.specs.Laws.{HasSmallNumbers}
 

@@ -1,4 +1,4 @@
--- A path of a Boolean program breaks a property.
+-- A path of a program breaks a property.
 use Rattle.std.proofs.Common.{◌≡◌, Bool, true, false, List, [], ◌∷◌, refl, ap}
 use Rattle.std.proofs.lemmas.Bool.{false≢true}
 use Rattle.sys_terms.specs.declared.term.Entry.{Entry}
@@ -7,7 +7,7 @@ use Rattle.sys_terms.specs.Meaning.{values_of, truth_of}
 use Rattle.sys_terms.specs.Paths.{IsState}
 use Rattle.sys_meaning.specs.System.{system_of}
 use Rattle.sys_meaning.proofs.RunPath.{positioned}
-use Rattle.meaning_rows.specs.BooleanRows.{against}
+use Rattle.meaning_rows.specs.PairRows.{against}
 use Rattle.translation_rows.specs.AgainstRow.{against_first, against_second, against_states, AgainstBreaks}
 
 abbrev IsTrueOver : List Entry → List Entry → Formula → Type 0

@@ -1,4 +1,4 @@
--- A Boolean program, a path of it that breaks a property, and the path's trace.
+-- A program, a path of it that breaks a property, and the path's trace.
 use Rattle.std.specs.Prelude.{◌≡◌, true, false, List, [], ◌∷◌, codes}
 use Rattle.lus_meaning.specs.Value.{flag}
 use Rattle.lus_meaning.specs.Trace.{of_name, of_first}
@@ -7,7 +7,7 @@ use Rattle.sys_terms.specs.declared.term.Entry.TheVariants as entries
 use Rattle.sys_terms.specs.Paths.{Breaks}
 use Rattle.sys_meaning.specs.Path.{trace_of}
 use Rattle.sys_meaning.specs.System.{system_of}
-use Rattle.meaning_rows.specs.BooleanRows.{against}
+use Rattle.meaning_rows.specs.PairRows.{against}
 
 -- whether the frame is active, a, x, y, z, and the memory of `pre x`
 abbrev pub against_first : List Entry

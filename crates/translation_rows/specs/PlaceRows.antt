@@ -11,7 +11,7 @@ use Rattle.sys_terms.specs.declared.term.Entry.{Entry}
 use Rattle.sys_terms.specs.declared.term.Entry.TheVariants as entries
 use Rattle.sys_meaning.specs.Path.{trace_of}
 use Rattle.path_traces.specs.Printed.{PrintedPlace, printed_place}
-use Rattle.meaning_rows.specs.BooleanRows.{against}
+use Rattle.meaning_rows.specs.PairRows.{against}
 use Rattle.meaning_rows.specs.CallRows.{held_pair}
 use Rattle.meaning_rows.specs.OwedRows.{two_calls}
 use Rattle.translation_rows.specs.AgainstRow.{against_first}

@@ -1,4 +1,4 @@
-//! A path of a Boolean program of the other rows, and its trace.
+//! A path of a program of the other rows, and its trace.
 
 ghost use Rattle.translation_rows.specs.AgainstRow.{AgainstBreaks, AgainstTrace};
 

@@ -11,7 +11,7 @@ use Rattle.sys_terms.specs.View.{Machine}
 use Rattle.sys_terms.specs.Fits.{IsFit}
 use Rattle.sys_meaning.specs.System.{system_of}
 use Rattle.sys_meaning.specs.Path.{frame_of_path}
-use Rattle.sys_meaning.specs.Checked.{HoldsUpTo, BreaksAtLast}
+use Rattle.sys_meaning.specs.Verdicts.{HoldsUpTo, BreaksAtLast}
 use Rattle.path_laws.specs.Laws.{EachHolds, EachBounds, EachBreaks}
 use Rattle.board_core.specs.declared.plan.Plan.{Plan}
 use Rattle.board_core.specs.Entries.{Posting, AreSound}

@@ -9,7 +9,7 @@ use Rattle.sys_terms.specs.declared.term.Entry.{Entry}
 use Rattle.sys_terms.specs.Fits.{IsFit}
 use Rattle.sys_meaning.specs.System.{system_of}
 use Rattle.sys_meaning.specs.Path.{frame_of_path}
-use Rattle.sys_meaning.specs.Checked.{HoldsUpTo}
+use Rattle.sys_meaning.specs.Verdicts.{HoldsUpTo}
 use Rattle.path_laws.specs.Laws.{OfEachInstance}
 use Rattle.board_core.specs.declared.plan.Plan.{Plan}
 use Rattle.board_core.specs.Entries.{broken, depth, Posting, AreSound}

@@ -9,7 +9,7 @@ use Rattle.lus_meaning.specs.Scene.{Clock, base, as_import, Site, Instance}
 use Rattle.lus_meaning.specs.Program.{listed}
 use Rattle.lus_meaning.specs.Depends.{Need, a_name, needs, modes_need, site_needs, named_in}
 use Rattle.lus_meaning.specs.Cycle.{place_of, matching, shared_needs}
-use Rattle.lus_meaning.proofs.BooleanOrder.{IsIn, in_left, in_right, named_either}
+use Rattle.lus_meaning.proofs.Members.{IsIn, in_left, in_right, named_either}
 use Rattle.lus_meaning.proofs.Exists.{self_bytes}
 use Rattle.lus_meaning.proofs.Lists.{named_append, or_left, or_true}
 use Rattle.lus_meaning.proofs.Unique.{same_bytes}

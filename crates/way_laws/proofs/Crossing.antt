@@ -6,7 +6,7 @@ use Rattle.lus_tree.specs.Tree.{Name}
 use Rattle.lus_meaning.specs.Scene.{Site, Instance, Instances, instance, no_instances, with_instance, instance_at, calls_of}
 use Rattle.lus_meaning.specs.Depends.{Need, the_beat, a_name, inside, named_in}
 use Rattle.lus_meaning.specs.Cycle.{Place, place_of, deeper, at_top, caller_needs, next_places, next_in_call}
-use Rattle.lus_meaning.proofs.BooleanOrder.{IsIn, in_left, in_right, in_mapped}
+use Rattle.lus_meaning.proofs.Members.{IsIn, in_left, in_right, in_mapped}
 use Rattle.clock_laws.proofs.Reaching.{in_either, in_image}
 use Rattle.rule_laws.specs.Laws.{site_at}
 use Rattle.way_laws.specs.Summaries.{Needs, HoldsOf}

@@ -22,7 +22,7 @@ use Rattle.lus_meaning.specs.EquationFaults.{clock_names}
 use Rattle.lus_meaning.specs.Grammatical.{has_left_name, have_no_clock, ghost_names, IsGrammatical, IsGrammaticalComponent}
 use Rattle.lus_meaning.specs.Refusals.{IsTyped}
 use Rattle.lus_meaning.specs.WellMade.{AreDistinct}
-use Rattle.lus_meaning.proofs.BooleanOrder.{IsIn, in_right}
+use Rattle.lus_meaning.proofs.Members.{IsIn, in_right}
 use Rattle.lus_meaning.proofs.EachPart.{each_part}
 use Rattle.lus_meaning.proofs.Exists.{self_bytes}
 use Rattle.lus_meaning.proofs.Lists.{all_from, both_parts, or_left, or_true}

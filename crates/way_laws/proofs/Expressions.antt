@@ -13,7 +13,7 @@ use Rattle.lus_meaning.specs.Cycle.{place_of, declared_needs, defined_needs, own
 use Rattle.lus_meaning.specs.Rules.{names_of}
 use Rattle.lus_meaning.specs.Run.{equations}
 use Rattle.lus_meaning.specs.EquationFaults.{clock_names}
-use Rattle.lus_meaning.proofs.BooleanOrder.{IsIn, in_left, in_mapped, named_either}
+use Rattle.lus_meaning.proofs.Members.{IsIn, in_left, in_mapped, named_either}
 use Rattle.lus_meaning.proofs.EachPart.{Each, EachAmong}
 use Rattle.clock_laws.proofs.Reaching.{in_either, next_top}
 use Rattle.way_laws.specs.OwnGraph.{Summaries, ModeReads, known_reads, reads, reads_each, arguments_read}

@@ -15,7 +15,7 @@ use Rattle.lus_meaning.specs.ClockFaults.{components}
 use Rattle.lus_meaning.specs.EquationFaults.{last_name}
 use Rattle.lus_meaning.specs.Grammatical.{has_left_name, IsGrammaticalComponent}
 use Rattle.lus_meaning.specs.WellMade.{AreDistinct}
-use Rattle.lus_meaning.proofs.BooleanOrder.{named_either}
+use Rattle.lus_meaning.proofs.Members.{named_either}
 use Rattle.lus_meaning.proofs.Exists.{self_bytes}
 use Rattle.lus_meaning.proofs.Lists.{both_parts, or_left}
 use Rattle.lus_meaning.proofs.NamesOnce.{at_one}

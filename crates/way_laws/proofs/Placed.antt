@@ -17,7 +17,7 @@ use Rattle.lus_meaning.specs.NameFaults.{is_declared}
 use Rattle.lus_meaning.specs.ClockFaults.{components}
 use Rattle.lus_meaning.specs.Grammatical.{IsGrammatical, IsGrammaticalComponent, have_no_clock, ghost_names}
 use Rattle.lus_meaning.specs.Refusals.{IsTyped}
-use Rattle.lus_meaning.proofs.BooleanOrder.{IsIn, in_left, in_right, in_mapped}
+use Rattle.lus_meaning.proofs.Members.{IsIn, in_left, in_right, in_mapped}
 use Rattle.lus_meaning.proofs.Exists.{self_bytes}
 use Rattle.lus_meaning.proofs.Lists.{all_from_both, map_append}
 use Rattle.lus_meaning.proofs.NamesOnce.{at_one}

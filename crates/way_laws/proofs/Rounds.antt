@@ -12,7 +12,7 @@ use Rattle.lus_meaning.specs.Depends.{named_in, left_names}
 use Rattle.lus_meaning.specs.EquationFaults.{clock_names, last_name, sides, ghost_sides, body_sides}
 use Rattle.lus_meaning.specs.Faults.{fault}
 use Rattle.lus_meaning.specs.WellMade.{AreDistinct}
-use Rattle.lus_meaning.proofs.BooleanOrder.{IsIn, in_left, in_right, named_either}
+use Rattle.lus_meaning.proofs.Members.{IsIn, in_left, in_right, named_either}
 use Rattle.lus_meaning.proofs.Exists.{self_bytes}
 use Rattle.lus_meaning.proofs.Lists.{named_append, or_left, or_true}
 use Rattle.lus_meaning.proofs.NamesOnce.{not_nil}

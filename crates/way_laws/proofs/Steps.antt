@@ -10,7 +10,7 @@ use Rattle.lus_meaning.specs.Scene.{Clock, base, sampled_by, Instance}
 use Rattle.lus_meaning.specs.Depends.{Need, the_beat, a_name, clock_needs, named_in}
 use Rattle.lus_meaning.specs.Cycle.{Place, place_of, next_places, IsAt, IsWay, last_place}
 use Rattle.lus_meaning.specs.EquationFaults.{clock_names}
-use Rattle.lus_meaning.proofs.BooleanOrder.{IsIn, in_left, in_right, at_some, named_either}
+use Rattle.lus_meaning.proofs.Members.{IsIn, in_left, in_right, at_some, named_either}
 use Rattle.lus_meaning.proofs.Lists.{named_append, or_left, or_true}
 use Rattle.lus_meaning.proofs.Exists.{self_bytes}
 use Rattle.lus_meaning.proofs.Unique.{same_bytes}

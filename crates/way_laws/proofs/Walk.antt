@@ -18,7 +18,7 @@ use Rattle.lus_meaning.specs.Meaning.{mode_key}
 use Rattle.lus_meaning.specs.Scope.{Scope, node_named, contract_named, mode_names, import_names, contract_statement_scope}
 use Rattle.lus_meaning.specs.ExpressionFaults.{expression_faults, flag_faults, needs_sort, sides_fit, has_mode, mode_is_known, part_faults, form_faults, weight_faults}
 use Rattle.lus_meaning.specs.NameFaults.{home, flags_of, contract_statement_faults, contract_faults}
-use Rattle.lus_meaning.proofs.BooleanOrder.{IsIn, in_left, in_right, named_either}
+use Rattle.lus_meaning.proofs.Members.{IsIn, in_left, in_right, named_either}
 use Rattle.lus_meaning.proofs.Exists.{self_bytes}
 use Rattle.lus_meaning.proofs.Lists.{append_none}
 use Rattle.lus_meaning.proofs.NamesOnce.{no_parts, not_so}

@@ -12,7 +12,7 @@ use Rattle.lus_meaning.specs.ClockFaults.{components}
 use Rattle.lus_meaning.specs.EquationFaults.{last_name}
 use Rattle.lus_meaning.specs.Grammatical.{IsGrammatical}
 use Rattle.lus_meaning.specs.Refusals.{IsTyped}
-use Rattle.lus_meaning.proofs.BooleanOrder.{IsIn, in_mapped, at_some}
+use Rattle.lus_meaning.proofs.Members.{IsIn, in_mapped, at_some}
 use Rattle.clock_laws.proofs.Reaching.{at_in, in_image, next_top}
 use Rattle.rule_laws.proofs.Unfolded.{component_within}
 use Rattle.way_laws.specs.OwnGraph.{Summary, Summaries, known_reads, mode_reads, own_edges, Edges, IsOwnWay, LeadsTo, Finds}

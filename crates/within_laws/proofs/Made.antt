@@ -9,7 +9,7 @@ use Rattle.lus_meaning.specs.Frame.{Frame, Frames, frame, no_frames, with_frame,
 use Rattle.lus_meaning.specs.Scene.{Instance, Instances, instance, no_instances, with_instance, variables}
 use Rattle.lus_meaning.specs.Run.{have_sorts, first_sorts}
 use Rattle.lus_meaning.specs.Depends.{from_caller}
-use Rattle.lus_meaning.specs.Laws.{ChoicesFrom, CallsFit}
+use Rattle.lus_meaning.specs.Choices.{ChoicesFrom, CallsFit}
 use Rattle.lus_meaning.specs.WellMade.{IsWellMade}
 use Rattle.lus_meaning.specs.Program.{instance_of}
 use Rattle.lus_meaning.specs.ClockFaults.{components}

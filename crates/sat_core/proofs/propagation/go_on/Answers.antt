@@ -1,13 +1,31 @@
-use Rattle.std.specs.Prelude.{◌≡◌, ◌≤◌, ◌+◌, All, length, true}
-use Rattle.std.proofs.Common.{sym, subst, arith}
+use Rattle.std.specs.Prelude.{[], ◌≡◌, ◌≤◌, ◌+◌, All, length, refl, true}
+use Rattle.std.proofs.Common.{sym, ◌∙◌, ap, subst, arith}
+use Rattle.std.proofs.lemmas.List.{append-nil}
 use Rattle.sat_core.specs.declared.short.Short.{Short}
 use Rattle.sat_core.specs.Visiting.{IsGoneThrough, IsImpliedShort}
 use Rattle.sat_core.proofs.Bounded.{falls, grown}
 use Rattle.sat_core.proofs.Shorts.{hold_more, all_done, grows_more}
 use Rattle.sat_core.proofs.Guards.{all_beside}
 use Rattle.sat_core.proofs.Holders.{spent_grown, spent_all}
-use Rattle.sat_core.proofs.Kept.{kept_on}
+use Rattle.sat_core.specs.Looking.{late}
+use Rattle.sat_core.specs.Charged.{IsWorked, false_by}
+use Rattle.sat_core.proofs.Kept.{kept_same, kept_on}
+use Rattle.sat_core.proofs.Worked.{late_decided, worked_none, worked_more}
 use Rattle.sat_core.proofs.propagation.go_on.Goals as goal
+
+pub loop-number-init : goal.loop-number-init
+loop-number-init c = let t = c.args.assignment.now in let w = c.args.watches.now in (
+  c.requires.is_trail,
+  c.requires.within,
+  ([], sym (append-nil t)),
+  c.requires.watched,
+  c.requires.shorts,
+  omega arith,
+  kept_same t c.args.head.now w,
+  omega arith,
+  omega arith,
+  (λ before. worked_none t t w w refl refl),
+)
 
 pub returns-in-None-clause-still : goal.returns-in-None-clause-still
 returns-in-None-clause-still c = (
@@ -53,6 +71,17 @@ loop-number-preserved c = let k = c.args.clauses.now in (
       let x = spent_grown k c.propagate.new.assignment c.decide.new.assignment c.propagate.new.head c.decide.ensures.grows (omega arith) in
       let y = spent_all k c.propagate.new.assignment c.propagate.new.head e in omega arith),
   (let a = c.loop-number.invariant.8 in let b = c.in_ok-number.ensures.looks.1 in omega arith),
+  (λ before.
+      let p = worked_more c.args.assignment.now c.loop-number.assignment c.propagate.new.assignment c.args.watches.now c.loop-number.watches
+      c.propagate.new.watches (c.loop-number.invariant.9 before)
+      (subst (λ r. IsWorked k before c.loop-number.assignment c.propagate.new.assignment c.loop-number.watches c.propagate.new.watches
+      c.loop-number.looks c.propagate.new.looks (false_by r)) c.in_default.is (c.in_ok-number.ensures.worked before))
+      c.in_ok-number.ensures.looks.1 in
+      worked_more c.args.assignment.now c.propagate.new.assignment c.decide.new.assignment c.args.watches.now c.propagate.new.watches
+      c.propagate.new.watches p
+      (worked_none c.propagate.new.assignment c.decide.new.assignment c.propagate.new.watches c.propagate.new.watches
+      (ap (late k before) c.in_ok-decide-in-Some-next_open.ensures.pushed ∙ late_decided k before c.propagate.new.assignment c.side-side.result) refl)
+      (omega arith)),
 )
 
 pub loop-number-smaller : goal.loop-number-smaller
@@ -100,3 +129,19 @@ pub returns-in_err-decide-in-Some-next_open-clause-kept : goal.returns-in_err-de
 returns-in_err-decide-in-Some-next_open-clause-kept c =
     kept_on c.args.assignment.now c.loop-number.assignment c.args.head.now c.loop-number.head c.args.watches.now c.loop-number.watches
     c.propagate.new.watches c.loop-number.invariant.2 c.loop-number.invariant.5 c.loop-number.invariant.6 c.propagate.ensures.kept
+
+pub returns-in-Some-clause-worked : goal.returns-in-Some-clause-worked
+returns-in-Some-clause-worked c = λ before.
+    worked_more c.args.assignment.now c.loop-number.assignment c.propagate.new.assignment c.args.watches.now c.loop-number.watches
+    c.propagate.new.watches (c.loop-number.invariant.9 before)
+    (subst (λ r. IsWorked c.args.clauses.now before c.loop-number.assignment c.propagate.new.assignment c.loop-number.watches
+    c.propagate.new.watches c.loop-number.looks c.propagate.new.looks (false_by r)) c.in-Some.is (c.in_ok-number.ensures.worked before))
+    c.in_ok-number.ensures.looks.1
+
+pub returns-in-None-clause-worked : goal.returns-in-None-clause-worked
+returns-in-None-clause-worked c = λ before.
+    worked_more c.args.assignment.now c.loop-number.assignment c.propagate.new.assignment c.args.watches.now c.loop-number.watches
+    c.propagate.new.watches (c.loop-number.invariant.9 before)
+    (subst (λ r. IsWorked c.args.clauses.now before c.loop-number.assignment c.propagate.new.assignment c.loop-number.watches
+    c.propagate.new.watches c.loop-number.looks c.propagate.new.looks (false_by r)) c.in_default.is (c.in_ok-number.ensures.worked before))
+    c.in_ok-number.ensures.looks.1

@@ -1,10 +1,12 @@
 use Rattle.std.specs.Prelude.{true}
-use Rattle.std.proofs.Common.{sym, subst}
+use Rattle.std.proofs.Common.{sym, ◌∙◌, ap, subst}
+use Rattle.sat_core.specs.Looking.{late}
 use Rattle.sat_core.specs.Watching.{IsWatched}
 use Rattle.sat_core.specs.Visiting.{IsImpliedShort}
 use Rattle.sat_core.proofs.Standings.{value_none}
 use Rattle.sat_core.proofs.Visits.{advance_none, advance_as}
 use Rattle.sat_core.proofs.Shorts.{empty_false, short_value, unit_advance, unit_watched, unit_holds}
+use Rattle.sat_core.proofs.Worked.{late_short}
 use Rattle.sat_core.proofs.propagation.imply_short.Goals as goal
 
 pub returns-in_default-clause-holds : goal.returns-in_default-clause-holds
@@ -32,3 +34,10 @@ returns-in-Ok-clause-advance c = advance_as c.args.clauses.now c.args.assignment
 pub returns-in-Err-clause-advance : goal.returns-in-Err-clause-advance
 returns-in-Err-clause-advance c = advance_as c.args.clauses.now c.args.assignment.now _ _ c.in-Err.ensures.err
     (advance_none c.args.clauses.now c.args.assignment.now c.requires.is_trail)
+
+pub returns-in-Ok-clause-quiet : goal.returns-in-Ok-clause-quiet
+returns-in-Ok-clause-quiet c = λ before. ap (late c.args.clauses.now before) c.in-Ok.ensures.ok
+    ∙ late_short c.args.clauses.now before c.args.short c.requires.short c.args.assignment.now c.in-Some.literal c.in-Some.is
+
+pub returns-in-Err-clause-quiet : goal.returns-in-Err-clause-quiet
+returns-in-Err-clause-quiet c = λ before. ap (late c.args.clauses.now before) c.in-Err.ensures.err

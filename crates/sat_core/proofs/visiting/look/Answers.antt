@@ -1,4 +1,4 @@
-use Rattle.std.specs.Prelude.{suc, ◌≤◌, ◌++◌, ◌∷◌, [], Some, None}
+use Rattle.std.specs.Prelude.{suc, ◌≤◌, ◌++◌, ◌∷◌, [], Some, None, refl}
 use Rattle.std.proofs.Common.{sym, subst, arith}
 use Rattle.proof_steps.specs.View.{clause_view}
 use Rattle.sat_core.specs.declared.visiting.Visit.TheVariants.{Next}
@@ -8,6 +8,7 @@ use Rattle.sat_core.proofs.Visits.{other_is, entry_number, found_apart, replaced
 use Rattle.sat_core.specs.Charged.{due}
 use Rattle.sat_core.proofs.Holders.{charged_next, charged_failed}
 use Rattle.sat_core.proofs.Kept.{kept_same, kept_pairs}
+use Rattle.sat_core.proofs.Worked.{worked_none, worked_moved, worked_failed, worked_pushed}
 use Rattle.sat_core.proofs.visiting.look.Goals as goal
 
 pub returns-then-is_true-clause-visit : goal.returns-then-is_true-clause-visit
@@ -134,3 +135,17 @@ returns-in-Ok-push-clause-looks c = charged_next c.args.next c.look-clause.ensur
     (sym c.in-Ok-push.ensures.ok)
     (due_pushed c.args.clauses.now c.args.assignment.now c.requires.is_trail c.args.watches.now c.args.head c.args.literal c.args.at c.requires.visiting
     c.args.number c.requires.entry c.args.other c.requires.other (sym c.if-is_true.ensures)))
+
+pub returns-then-is_true-clause-worked : goal.returns-then-is_true-clause-worked
+returns-then-is_true-clause-worked c = λ before. worked_none c.args.assignment.now c.args.assignment.now c.args.watches.now c.args.watches.now refl refl
+
+pub returns-in-Ok-clause-worked : goal.returns-in-Ok-clause-worked
+returns-in-Ok-clause-worked c = λ before. worked_moved c.args.assignment.now c.args.watches.now c.replace.new.self c.args.literal c.args.at
+    c.args.number c.args.other c.in-Some.found c.look-clause.ensures.looked c.in-Ok.ensures.ok
+
+pub returns-then-is_false-clause-worked : goal.returns-then-is_false-clause-worked
+returns-then-is_false-clause-worked c = λ before. worked_failed c.args.assignment.now c.args.watches.now c.look-clause.ensures.looked
+
+pub returns-in-Ok-push-clause-worked : goal.returns-in-Ok-push-clause-worked
+returns-in-Ok-push-clause-worked c = λ before. worked_pushed c.args.assignment.now _ c.args.watches.now
+    record { literal = c.args.other; reason = c.args.number } c.in-Ok-push.ensures.ok c.look-clause.ensures.looked

@@ -1,7 +1,8 @@
-use Rattle.std.specs.Prelude.{◌≡◌, count_by}
+use Rattle.std.specs.Prelude.{◌≡◌, count_by, refl}
 use Rattle.std.proofs.Common.{ap, arith}
 use Rattle.sat_core.specs.Charged.{due, is_due}
 use Rattle.sat_core.proofs.Kept.{kept_pairs}
+use Rattle.sat_core.proofs.Worked.{worked_none}
 use Rattle.sat_core.proofs.Visits.{forgotten, entry_number}
 use Rattle.sat_core.proofs.visiting.visit_entry.Goals as goal
 
@@ -28,3 +29,7 @@ pub returns-in-None-clause-looks : goal.returns-in-None-clause-looks
 returns-in-None-clause-looks c =
     let e : due c.args.assignment.now c.forget.new.self c.args.literal ≡ due c.args.assignment.now c.args.watches.now c.args.literal =
     ap (count_by (is_due c.args.assignment.now c.args.literal)) c.forget.ensures.pairs in (omega arith, omega arith)
+
+pub returns-in-None-clause-worked : goal.returns-in-None-clause-worked
+returns-in-None-clause-worked c = λ before. worked_none c.args.assignment.now c.args.assignment.now c.args.watches.now c.forget.new.self refl
+    c.forget.ensures.pairs

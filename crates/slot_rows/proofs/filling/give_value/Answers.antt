@@ -1,8 +1,8 @@
-use Rattle.std.proofs.Common.{◌||◌, map, set, ap, ◌∙◌}
+use Rattle.std.proofs.Common.{rules, ◌||◌, map, set, ap, ◌∙◌}
 use Rattle.lus_meaning.specs.TraceView.{entry_view}
-use Rattle.slot_values.specs.Evaluated.{answer_view}
+use Rattle.slot_values.specs.Outcome.{outcome_view}
 use Rattle.slot_sources.specs.Source.{source_view}
-use Rattle.slot_rows.proofs.Slots.{now_outside_is, now_value_is, same_row}
+use Rattle.slot_rows.proofs.Slots.{now_outside_is, now_value_is, same_row, stays}
 use Rattle.slot_rows.proofs.filling.give_value.Goals as goal
 
 pub returns : goal.returns
@@ -13,7 +13,12 @@ returns g c =
     let answer = rw c.deref-2.ensures.value at c.value_now.ensures in
     let own = rw c.deref.ensures.value at c.slot_value.ensures in
     let value = now_value_is (g.C.Chosen.choices c.args.chosen.now) c.args.instant c.args.slot (entry_view c.kept-value.result.0)
-    (answer_view c.value_now.result) vs brought (entry_view c.slot_value.result) e c.kept-value.ensures.value answer
+    (outcome_view c.value_now.result) vs brought (entry_view c.slot_value.result) e c.kept-value.ensures.value answer
     c.listed_or-brought.ensures own in
-    let outside = now_outside_is c.kept-value.result.1 (answer_view c.value_now.result) vs brought e c.kept-value.ensures.outside answer in
+    let outside = now_outside_is c.kept-value.result.1 (outcome_view c.value_now.result) vs brought e c.kept-value.ensures.outside answer in
     same_row _ _ _ _ (c.write.ensures ∙ ap (set (map entry_view vs) c.args.slot) value) (ap (λ b. c.args.row.now.outside || b) outside)
+
+pub returns-then-is_brought : goal.returns-then-is_brought
+returns-then-is_brought g c =
+    stays (g.C.Chosen.choices c.args.chosen.now) c.args.instant c.args.slot (source_view c.args.source.now)
+    (map entry_view c.args.row.now.values.items) c.args.row.now.outside (search rules)

@@ -1,4 +1,4 @@
-use Rattle.sys_meaning.proofs.CheckedTrace.{trace_of_path}
+use Rattle.sys_meaning.proofs.Traces.{trace_of_path}
 use Rattle.sys_meaning.proofs.laws.traces_of_paths.Goals as goal
 
 pub returns : goal.returns

@@ -1,0 +1,10 @@
+pub mod Replaced
+pub mod Crossed
+pub mod Pivoted
+pub mod Summed
+pub mod Rowed
+pub mod Within
+pub mod WorkedRow
+pub mod WorkedSmall
+pub mod WorkedStops
+pub mod Complete

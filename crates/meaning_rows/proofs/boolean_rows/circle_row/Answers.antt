@@ -1,8 +1,0 @@
-use Rattle.meaning_rows.proofs.BooleanRows.{circle_stuck, circle_refused}
-use Rattle.meaning_rows.proofs.boolean_rows.circle_row.Goals as goal
-
-pub returns-clause-stuck : goal.returns-clause-stuck
-returns-clause-stuck c = circle_stuck
-
-pub returns-clause-circle : goal.returns-clause-circle
-returns-clause-circle c = circle_refused

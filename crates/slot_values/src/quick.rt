@@ -1,0 +1,136 @@
+//! Evaluation by values alone.
+
+ghost use Rattle.std.specs.Prelude.{◌≡◌, Some};
+ghost use Rattle.lus_meaning.specs.Value.{choose};
+ghost use Rattle.lus_meaning.specs.TraceView.{entry_view};
+ghost use Rattle.slot_values.specs.Resolution.{resolved_view};
+ghost use Rattle.slot_values.specs.Evaluated.{slots_in, only_where};
+ghost use Rattle.slot_values.specs.Outcome.{outcome_view};
+ghost use Rattle.slot_values.specs.Quickly.{beside, quickly};
+
+use crate::operation::{chosen, is_truth};
+use crate::outcome::Outcome;
+use crate::quick_operation::{
+    chosen_of, kept_where, minus_of, not_of, with_number, with_truth, within_both,
+};
+use crate::resolved::Resolved;
+use crate::slot::{is_present, slot_value};
+use lus_meaning::Value;
+
+/// What a value comes to where it is wanted.
+fn outcome_if(on: bool, value: Option<Value>) -> Outcome
+    ensures { outcome_view result ≡ Some (only_where on (entry_view value)) }
+{
+    if !on {
+        return Outcome::Absent;
+    }
+    match value {
+        Some(Value::Truth(b)) => Outcome::Truth(b),
+        Some(Value::Whole(n)) => Outcome::Whole(n),
+        None => Outcome::Absent,
+    }
+}
+
+/// What a slot comes to where that is wanted.
+fn slot_outcome(on: bool, row: &[Option<Value>], slot: u32) -> Outcome
+    ensures { outcome_view result ≡ Some (only_where on (slots_in row.now slot)) }
+{
+    outcome_if(on, slot_value(row, slot))
+}
+
+/// The value of what is held, unless the condition of its call has an operation outside 128 bits.
+fn latest(
+    condition: Outcome,
+    on: bool,
+    row: &[Option<Value>],
+    beat: u32,
+    output: u32,
+    held: u32,
+) -> Outcome
+    ensures { outcome_view result ≡ beside (outcome_view condition)
+        (only_where on (choose (slots_in row.now beat) (slots_in row.now output) (slots_in row.now held))) }
+{
+    match condition {
+        Outcome::Outside => Outcome::Outside,
+        Outcome::Absent | Outcome::Truth(_) | Outcome::Whole(_) => outcome_if(
+            on,
+            chosen(
+                slot_value(row, beat),
+                slot_value(row, output),
+                slot_value(row, held),
+            ),
+        ),
+    }
+}
+
+/// What an expression comes to. Most operands are slots and literals, for which no walk begins.
+#[cycle(quick)]
+#[inline(always)]
+pub(crate) fn quick(e: &Resolved, on: bool, row: &[Option<Value>]) -> Outcome
+    ensures { outcome_view result ≡ quickly (slots_in row.now) on (resolved_view e.now) }
+{
+    match e {
+        Resolved::Slot(slot) => slot_outcome(on, row, *slot),
+        Resolved::Known(value) => outcome_if(on, *value),
+        Resolved::Not(_)
+        | Resolved::Minus(_, _)
+        | Resolved::Binary(_, _, _, _)
+        | Resolved::If(_, _, _)
+        | Resolved::Arrow(_, _, _)
+        | Resolved::When(_, _, _)
+        | Resolved::Merge(_, _, _)
+        | Resolved::Latest(_, _, _, _) => walk(e, on, row),
+    }
+}
+
+#[cycle(quick)]
+#[tactic(auto, using(crate::proofs::Mismatched::mismatched))]
+fn walk(e: &Resolved, on: bool, row: &[Option<Value>]) -> Outcome
+    ensures { outcome_view result ≡ quickly (slots_in row.now) on (resolved_view e.now) }
+{
+    match e {
+        Resolved::Known(value) => outcome_if(on, *value),
+        Resolved::Slot(slot) => slot_outcome(on, row, *slot),
+        Resolved::Not(a) => not_of(quick(a, on, row)),
+        Resolved::Minus(_, a) => minus_of(quick(a, on, row)),
+        // What comes next is chosen by the first operand before the second one is read: so little is kept meanwhile.
+        Resolved::Binary(_, operator, a, b) => match quick(a, on, row) {
+            Outcome::Truth(a) => with_truth(*operator, a, quick(b, on, row)),
+            Outcome::Whole(a) => with_number(*operator, a, quick(b, on, row)),
+            Outcome::Absent => kept_where(false, quick(b, on, row)),
+            Outcome::Outside => Outcome::Outside,
+        },
+        Resolved::If(c, a, b) => match quick(c, on, row) {
+            Outcome::Truth(true) => within_both(quick(a, on, row), quick(b, on, row)),
+            Outcome::Truth(false) => within_both(quick(b, on, row), quick(a, on, row)),
+            Outcome::Absent => chosen_of(None, quick(a, on, row), quick(b, on, row)),
+            Outcome::Whole(n) => {
+                chosen_of(Some(Value::Whole(n)), quick(a, on, row), quick(b, on, row))
+            }
+            Outcome::Outside => Outcome::Outside,
+        },
+        Resolved::Arrow(start, a, b) => match slot_value(row, *start) {
+            Some(Value::Truth(true)) => within_both(quick(a, on, row), quick(b, on, row)),
+            Some(Value::Truth(false)) => within_both(quick(b, on, row), quick(a, on, row)),
+            Some(Value::Whole(n)) => {
+                chosen_of(Some(Value::Whole(n)), quick(a, on, row), quick(b, on, row))
+            }
+            None => chosen_of(None, quick(a, on, row), quick(b, on, row)),
+        },
+        Resolved::When(slot, wanted, a) => {
+            let clock = slot_value(row, *slot);
+            let a = quick(a, is_present(clock), row);
+            kept_where(is_truth(*wanted, clock), a)
+        }
+        Resolved::Merge(slot, a, b) => {
+            let clock = slot_value(row, *slot);
+            let a = quick(a, is_truth(true, clock), row);
+            let b = quick(b, is_truth(false, clock), row);
+            chosen_of(clock, a, b)
+        }
+        Resolved::Latest(condition, beat, output, held) => {
+            let condition = quick(condition, on, row);
+            latest(condition, on, row, *beat, *output, *held)
+        }
+    }
+}

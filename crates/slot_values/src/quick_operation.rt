@@ -1,0 +1,205 @@
+//! The operators on what expressions come to.
+
+ghost use Rattle.std.specs.Prelude.{◌≡◌, Some, false, is_none, option_map, true};
+ghost use Rattle.lus_tree.specs.declared.expression.Operator.TheVariants.{Add, Sub, Mul, Div, Mod};
+ghost use Rattle.lus_meaning.specs.Value.{flag, whole, apply, not_value};
+ghost use Rattle.lus_meaning.specs.TraceView.{entry_view};
+ghost use Rattle.slot_values.specs.Evaluated.{only_where};
+ghost use Rattle.slot_values.specs.Outcome.{outcome_view};
+ghost use Rattle.slot_values.specs.Quickly.{applied, chosen_of, minus_of};
+
+use crate::operation::{quotient_by_zero, remainder_by_zero};
+use crate::outcome::Outcome;
+use kind_num::{add, euclid, mul, sub};
+use lus_meaning::Value;
+use lus_tree::Operator;
+
+/// The opposite truth value.
+pub(crate) fn not_of(a: Outcome) -> Outcome
+    ensures { outcome_view result ≡ option_map not_value (outcome_view a) }
+{
+    match a {
+        Outcome::Truth(b) => Outcome::Truth(!b),
+        Outcome::Absent | Outcome::Whole(_) => Outcome::Absent,
+        Outcome::Outside => Outcome::Outside,
+    }
+}
+
+/// The opposite number.
+pub(crate) fn minus_of(a: Outcome) -> Outcome
+    ensures { outcome_view result ≡ minus_of (outcome_view a) }
+{
+    match a {
+        Outcome::Whole(n) => match sub(0, n) {
+            Ok(m) => Outcome::Whole(m),
+            Err(_) => Outcome::Outside,
+        },
+        Outcome::Absent | Outcome::Truth(_) => Outcome::Absent,
+        Outcome::Outside => Outcome::Outside,
+    }
+}
+
+/// Whether an operation is outside 128 bits.
+fn is_outside(a: Outcome) -> bool
+    ensures { result ≡ is_none (outcome_view a) }
+{
+    match a {
+        Outcome::Outside => true,
+        Outcome::Absent | Outcome::Truth(_) | Outcome::Whole(_) => false,
+    }
+}
+
+/// The outcome where that is wanted, else none; but outside 128 bits where it is that.
+pub(crate) fn kept_where(on: bool, a: Outcome) -> Outcome
+    ensures { outcome_view result ≡ option_map (only_where on) (outcome_view a) }
+{
+    if on || is_outside(a) {
+        a
+    } else {
+        Outcome::Absent
+    }
+}
+
+/// One of two outcomes, by a truth value.
+pub(crate) fn chosen_of(condition: Option<Value>, first: Outcome, second: Outcome) -> Outcome
+    ensures { outcome_view result ≡ chosen_of (entry_view condition) (outcome_view first) (outcome_view second) }
+{
+    if is_outside(first) || is_outside(second) {
+        return Outcome::Outside;
+    }
+    match condition {
+        Some(Value::Truth(true)) => first,
+        Some(Value::Truth(false)) => second,
+        Some(Value::Whole(_)) => Outcome::Absent,
+        None => Outcome::Absent,
+    }
+}
+
+/// The first outcome, unless the second one is outside 128 bits.
+pub(crate) fn within_both(chosen: Outcome, other: Outcome) -> Outcome
+    ensures first { outcome_view result ≡ chosen_of (flag true) (outcome_view chosen) (outcome_view other) }
+    ensures second { outcome_view result ≡ chosen_of (flag false) (outcome_view other) (outcome_view chosen) }
+{
+    if is_outside(other) {
+        Outcome::Outside
+    } else {
+        chosen
+    }
+}
+
+fn sum(a: i128, b: i128) -> Outcome
+    ensures { outcome_view result ≡ applied Add (Some (whole a)) (Some (whole b)) }
+{
+    match add(a, b) {
+        Ok(n) => Outcome::Whole(n),
+        Err(_) => Outcome::Outside,
+    }
+}
+
+fn difference(a: i128, b: i128) -> Outcome
+    ensures { outcome_view result ≡ applied Sub (Some (whole a)) (Some (whole b)) }
+{
+    match sub(a, b) {
+        Ok(n) => Outcome::Whole(n),
+        Err(_) => Outcome::Outside,
+    }
+}
+
+fn product(a: i128, b: i128) -> Outcome
+    ensures { outcome_view result ≡ applied Mul (Some (whole a)) (Some (whole b)) }
+{
+    match mul(a, b) {
+        Ok(n) => Outcome::Whole(n),
+        Err(_) => Outcome::Outside,
+    }
+}
+
+fn quotient(a: i128, b: i128) -> Outcome
+    ensures { outcome_view result ≡ applied Div (Some (whole a)) (Some (whole b)) }
+{
+    if b == 0 {
+        return Outcome::Whole(quotient_by_zero(a));
+    }
+    match euclid(a, b) {
+        Ok((q, _)) => Outcome::Whole(q),
+        Err(_) => Outcome::Outside,
+    }
+}
+
+fn remainder(a: i128, b: i128) -> Outcome
+    ensures { outcome_view result ≡ applied Mod (Some (whole a)) (Some (whole b)) }
+{
+    if b == 0 {
+        return Outcome::Whole(remainder_by_zero(a));
+    }
+    match euclid(a, b) {
+        Ok((_, r)) => Outcome::Whole(r),
+        Err(_) => Outcome::Outside,
+    }
+}
+
+fn numbers(operator: Operator, a: i128, b: i128) -> Outcome
+    ensures { outcome_view result ≡ applied operator (Some (whole a)) (Some (whole b)) }
+{
+    match operator {
+        Operator::Implies | Operator::Or | Operator::Xor | Operator::And => Outcome::Absent,
+        Operator::Less => Outcome::Truth(a < b),
+        Operator::AtMost => Outcome::Truth(a <= b),
+        Operator::Equal => Outcome::Truth(a == b),
+        Operator::Differs => Outcome::Truth(a != b),
+        Operator::AtLeast => Outcome::Truth(a >= b),
+        Operator::More => Outcome::Truth(a > b),
+        Operator::Add => sum(a, b),
+        Operator::Sub => difference(a, b),
+        Operator::Mul => product(a, b),
+        Operator::Div => quotient(a, b),
+        Operator::Mod => remainder(a, b),
+    }
+}
+
+fn truths(operator: Operator, a: bool, b: bool) -> Outcome
+    ensures { outcome_view result ≡ applied operator (Some (flag a)) (Some (flag b)) }
+{
+    match operator {
+        Operator::Implies => Outcome::Truth(!a || b),
+        Operator::Or => Outcome::Truth(a || b),
+        Operator::Xor => Outcome::Truth(a != b),
+        Operator::And => Outcome::Truth(a && b),
+        Operator::Equal => Outcome::Truth(a == b),
+        Operator::Differs => Outcome::Truth(a != b),
+        Operator::Less
+        | Operator::AtMost
+        | Operator::AtLeast
+        | Operator::More
+        | Operator::Add
+        | Operator::Sub
+        | Operator::Mul
+        | Operator::Div
+        | Operator::Mod => Outcome::Absent,
+    }
+}
+
+/// An operator whose first operand is a truth value: absent where the second one is absent or has another type than it
+/// takes; outside 128 bits where that is, or the result.
+#[tactic(auto, using(crate::proofs::Mismatched::mismatched))]
+pub(crate) fn with_truth(operator: Operator, a: bool, right: Outcome) -> Outcome
+    ensures { outcome_view result ≡ applied operator (Some (flag a)) (outcome_view right) }
+{
+    match right {
+        Outcome::Truth(b) => truths(operator, a, b),
+        Outcome::Absent | Outcome::Whole(_) => Outcome::Absent,
+        Outcome::Outside => Outcome::Outside,
+    }
+}
+
+/// The same where that is a whole number.
+#[tactic(auto, using(crate::proofs::Mismatched::mismatched))]
+pub(crate) fn with_number(operator: Operator, a: i128, right: Outcome) -> Outcome
+    ensures { outcome_view result ≡ applied operator (Some (whole a)) (outcome_view right) }
+{
+    match right {
+        Outcome::Whole(b) => numbers(operator, a, b),
+        Outcome::Absent | Outcome::Truth(_) => Outcome::Absent,
+        Outcome::Outside => Outcome::Outside,
+    }
+}
