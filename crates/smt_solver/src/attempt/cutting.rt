@@ -1,7 +1,7 @@
 //! Cuts, with the steps that they follow by.
 
 ghost use Rattle.std.specs.Prelude.{◌≡◌, ◌<◌, ◌-◌, ◌^◌, ◌++◌, ◌∷◌, [], true, map, length, IfOk};
-ghost use Rattle.proof_steps.specs.declared.Literal.TheVariants.{Atom};
+ghost use Rattle.proof_steps.specs.declared.Literal.TheVariants.{Atom as OfAtom};
 ghost use Rattle.proof_steps.specs.View.{atom_view, clause_view, line_view, step_view};
 ghost use Rattle.smt_solver.specs.Cutting.{numbered_in, used_in, closing_line, cut_move, move_of_cut};
 ghost use Rattle.smt_solver.specs.Used.{denied_by};
@@ -87,7 +87,7 @@ fn numbered(alloc: Global, parts: &[(i128, Source)]) -> Result<Vec<(i128, u32)>,
 
 // A literal of these is false, or the numbered atom is true.
 fn cut_clause(alloc: Global, used: &[Used], number: u32) -> Result<Clause, AllocError>
-    ensures { IfOk result (λ c. clause_view c ≡ map denied_by used.now ++ Atom number true ∷ []) }
+    ensures { IfOk result (λ c. clause_view c ≡ map denied_by used.now ++ OfAtom number true ∷ []) }
 {
     let mut clause = clause_of(alloc, used)?;
     clause.literals.push(Literal::Atom(number, true))?;
