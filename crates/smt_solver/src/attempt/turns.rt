@@ -354,7 +354,9 @@ pub fn attempted(
 ) -> Result<Option<Attempt>, SolveFault>
     requires few { AreFew (form_view cnf.now) }
 {
-    let truth = shapes.len() as u32;
+    let Ok(truth) = u32::try_from(shapes.len()) else {
+        return Ok(None);
+    };
     let definitions = definitions_of(alloc, &cnf.clauses, cnf.shapes.len(), truth)?;
     let mut work = match begun(alloc, cnf, budgets)? {
         Some(work) => work,

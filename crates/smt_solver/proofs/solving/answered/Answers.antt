@@ -15,7 +15,7 @@ pub returns-in-Some-clause-answer : goal.returns-in-Some-clause-answer
 returns-in-Some-clause-answer c =
     let q = query_view c.args.query.now in
     let v : IsVerdict q c.args.size c.args.count (form_view c.in_ok-cnf.cnf) (answer_view c.in-Some.answer) =
-        subst (IsVerdictIf q c.args.size c.args.count (form_view c.in_ok-cnf.cnf)) c.in-Some.is c.in_ok-verdict.ensures.verdict in
+    subst (IsVerdictIf q c.args.size c.args.count (form_view c.in_ok-cnf.cnf)) c.in-Some.is c.in_ok-verdict.ensures.verdict in
     verdict-true q c.args.size c.args.count (form_view c.in_ok-cnf.cnf) c.args.budgets (answer_view c.in-Some.answer)
     c.in_ok-cnf.ensures.exact v
 
@@ -23,5 +23,5 @@ pub returns-in-Some-clause-stops : goal.returns-in-Some-clause-stops
 returns-in-Some-clause-stops c = λ none.
     let q = query_view c.args.query.now in
     let v : IsVerdict q c.args.size c.args.count (form_view c.in_ok-cnf.cnf) (answer_view c.in-Some.answer) =
-        subst (IsVerdictIf q c.args.size c.args.count (form_view c.in_ok-cnf.cnf)) c.in-Some.is c.in_ok-verdict.ensures.verdict in
+    subst (IsVerdictIf q c.args.size c.args.count (form_view c.in_ok-cnf.cnf)) c.in-Some.is c.in_ok-verdict.ensures.verdict in
     verdict-stops q c.args.size c.args.count (form_view c.in_ok-cnf.cnf) (answer_view c.in-Some.answer) v
