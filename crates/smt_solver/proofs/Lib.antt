@@ -27,3 +27,5 @@ pub mod Forms
 pub mod Kept
 pub mod Ends
 pub mod Answering
+pub mod Elements
+pub mod Judged

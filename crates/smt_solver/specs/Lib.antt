@@ -3,8 +3,10 @@ pub mod Answered
 pub mod Asserting
 pub mod Boolean
 pub mod Conflicting
+pub mod Cutting
 pub mod Ending
 pub mod Growing
+pub mod Judging
 pub mod Kept
 pub mod Looking
 pub mod Near

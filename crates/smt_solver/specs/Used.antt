@@ -1,11 +1,11 @@
 -- A theory step in the words of the code that makes it.
-use Rattle.std.specs.Prelude.{ℕ, suc, true, List, [], ◌∷◌, Option, Some, None}
+use Rattle.std.specs.Prelude.{ℕ, suc, true, List, [], ◌∷◌, ◌++◌, map, Option, Some, None}
 use lib.IntN.{ℤ, pos}
 use Rattle.proof_steps.specs.declared.Literal.{Literal}
 use Rattle.proof_steps.specs.declared.Literal.TheVariants.{Atom}
 use Rattle.proof_steps.specs.declared.Source.{Source}
 use Rattle.proof_steps.specs.declared.Source.TheVariants as s
-use Rattle.proof_steps.specs.View.{Sum}
+use Rattle.proof_steps.specs.View.{Sum, Move, theory}
 use Rattle.proof_steps.specs.Meaning.{at, opposite}
 use Rattle.sat_core.specs.declared.assigned.Assigned.{Assigned}
 use Rattle.sat_core.specs.Trail.{value_of}
@@ -38,8 +38,16 @@ abbrev pub line_parts_by : ℕ → List Used → List (ℤ × Source)
 line_parts_by n [] = []
 line_parts_by n (u ∷ rest) = (u.multiplier, s.Line n) ∷ line_parts_by (suc n) rest
 
+-- their sum, divided
+abbrev pub line_by : List Used → ℤ → Sum
+line_by used d = record { parts = line_parts_by 1 used; divisor = d }
+
 abbrev pub sum_by : List Used → Sum
-sum_by used = record { parts = line_parts_by 1 used; divisor = pos 1 }
+sum_by used = line_by used (pos 1)
+
+-- one of the literals is false
+abbrev pub refuting_move : List Used → Move
+refuting_move used = theory (map denied_by used) (own_lines_by 1 used ++ sum_by used ∷ [])
 
 abbrev pub divisor_at : Option Meaning → ℤ
 divisor_at None = pos 1

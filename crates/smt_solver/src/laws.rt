@@ -7,6 +7,7 @@ ghost use Rattle.smt_solver.specs.Boolean.{BooleanQueriesHaveNoAtoms};
 ghost use Rattle.smt_solver.specs.Conflicting.{RefutedBoundsConflict};
 ghost use Rattle.smt_solver.specs.Ending.{ListedAreOfTheQuery, RefutationsAreOfTheQuery};
 ghost use Rattle.smt_solver.specs.Growing.{RunsGrow, RunsTakeSteps, SplitsAreTaken};
+ghost use Rattle.smt_solver.specs.Judging.{MetValuesMeet};
 ghost use Rattle.smt_solver.specs.NumberStates.{WholeValuesMeet};
 ghost use Rattle.smt_solver.specs.Run.{ClausesFit};
 ghost use Rattle.smt_solver.specs.Stops.{BrokenNumbersSplit, ChecksKeepTableaus, LongChecksAreLong, PastChecksArePast};
@@ -17,6 +18,7 @@ use line_laws::laws::{
     refutations_give_steps, split_steps_fit,
 };
 use sat_core::laws::new_clauses_are_few;
+use sys_terms::laws::evaluation_is_the_truth;
 
 /// Where no term compares numbers, the query has no atom.
 pub fn boolean_queries_have_no_atoms()
@@ -119,3 +121,10 @@ pub fn listed_are_of_the_query()
 pub fn refutations_are_of_the_query()
     ensures { RefutationsAreOfTheQuery }
 {}
+
+/// Values of which each condition of a query is evaluated as true meet the query.
+pub fn met_values_meet()
+    ensures { MetValuesMeet }
+{
+    evaluation_is_the_truth();
+}

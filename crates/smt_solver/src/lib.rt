@@ -6,8 +6,10 @@
 #![tactic(auto)]
 
 mod answer;
+mod attempt;
 mod boolean;
 mod fault;
+mod judging;
 pub mod laws;
 mod numbers;
 mod run;

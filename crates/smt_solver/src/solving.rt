@@ -3,7 +3,7 @@
 ghost use Rattle.std.specs.Prelude.{◌≡◌, ◌≢◌, ◌<◌, ◌≤◌, ◌*◌, ◌^◌, Ok, Err, suc, true, map, length, IfOk};
 ghost use Rattle.kind_num.specs.declared.Past.{Past as Operands};
 ghost use Rattle.proof_steps.specs.Bounds.{split_atom as atom_of_split};
-ghost use Rattle.proof_steps.specs.View.{atom_view};
+ghost use Rattle.proof_steps.specs.View.{atom_view, proof_view};
 ghost use Rattle.sys_terms.specs.View.{terms_view, system_view, obligation_view, query_view};
 ghost use Rattle.sys_terms.specs.Fits.{IsMild, is_asked, is_light_task, has_states, all_fit_one, all_light};
 ghost use Rattle.sys_terms.specs.Queries.{query_of, last_of};
@@ -12,11 +12,15 @@ ghost use Rattle.cnf_maker.specs.Plain.{IsMadeSmall};
 ghost use Rattle.cnf_maker.specs.View.{AreFew, form_view};
 ghost use Rattle.smt_solver.specs.View.{answer_view};
 ghost use Rattle.smt_solver.specs.Answered.{IsAnswered, IsTrueOver, HasNoAtoms, StopsByConflicts};
+ghost use Rattle.smt_solver.specs.Judging.{IsVerdictIf, Judges, JudgesProof, JudgesValues};
 ghost use Rattle.smt_solver.specs.Kept.{HasEnded, solver_view};
 
 use crate::answer::Answer;
+use crate::attempt::outcome::Attempt;
+use crate::attempt::turns::attempted;
 use crate::fault::SolveFault;
-use crate::laws::{clauses_fit_their_form, stops_need_atoms, whole_values_meet};
+use crate::judging::{is_met, is_refuted};
+use crate::laws::{clauses_fit_their_form, met_values_meet, stops_need_atoms, whole_values_meet};
 use crate::numbers::turns::split_atom;
 use crate::run::{End, run};
 use crate::solver::{Solver, ordered};
@@ -26,7 +30,7 @@ use cnf_maker::laws::mild_queries_have_small_forms;
 use cnf_maker::{Cnf, CnfFault, clauses};
 use proof_steps::{Atom, Budgets, Proof, Stop};
 use std::alloc::{AllocError, Global};
-use sys_terms::{Obligation, Query, System, Term, obligation};
+use sys_terms::{Entry, Obligation, Query, State, System, Term, obligation};
 
 /// How many states the obligation speaks of.
 fn state_count(what: &Obligation) -> u64
@@ -113,6 +117,81 @@ fn ended(
     }
 }
 
+// The answer of a run over the query's form.
+fn ran(
+    alloc: Global,
+    query: &Query,
+    cnf: Cnf,
+    size: usize,
+    count: u64,
+    budgets: Budgets,
+) -> Result<Answer, SolveFault>
+    requires few { length (query_view query.now).shapes < 2 ^ 32 }
+    requires room { count * size ≤ length (query_view query.now).shapes }
+    requires fit { all_fit_one (query_view query.now).shapes (query_view query.now).conditions ≡ true }
+    requires small { IsMadeSmall (query_view query.now) }
+    requires form { clause_form (query_view query.now) ≡ Ok (form_view cnf) }
+    requires few_in_form { AreFew (form_view cnf) }
+    ensures answer { IfOk result (λ a. IsTrueOver (query_view query.now) size count budgets (answer_view a)) }
+    ensures stops { IfOk result (λ a. HasNoAtoms (query_view query.now) → StopsByConflicts (answer_view a)) }
+{
+    clauses_fit_their_form();
+    let mut solver = ordered(alloc, cnf)?;
+    let end = run(alloc, &mut solver, budgets)?;
+    ended(alloc, query, size, count, budgets, solver, end)
+}
+
+// The proof, where the checker accepts it for exactly this form.
+fn judged_proof(alloc: Global, cnf: &Cnf, proof: Proof) -> Result<Option<Answer>, SolveFault>
+    ensures { IfOk result (JudgesProof (form_view cnf.now) (proof_view proof)) }
+{
+    if is_refuted(alloc, cnf, &proof)? {
+        return Ok(Some(Answer::Unsat(proof)));
+    }
+    Ok(None)
+}
+
+// The states that the values make, where they meet the query.
+fn judged_values(
+    alloc: Global,
+    query: &Query,
+    size: usize,
+    count: u64,
+    values: Vec<Entry>,
+) -> Result<Option<Answer>, SolveFault>
+    requires room { count * size ≤ length (query_view query.now).shapes }
+    requires fit { all_fit_one (query_view query.now).shapes (query_view query.now).conditions ≡ true }
+    ensures { IfOk result (JudgesValues (query_view query.now) size count values.items) }
+{
+    let values = State { values };
+    if !is_met(query, &values) {
+        return Ok(None);
+    }
+    Ok(Some(Answer::Sat(states(alloc, &values.values, size, count)?)))
+}
+
+// What was found, where it is what it is said to be.
+fn judged(
+    alloc: Global,
+    query: &Query,
+    cnf: &Cnf,
+    size: usize,
+    count: u64,
+    found: Option<Attempt>,
+) -> Result<Option<Answer>, SolveFault>
+    requires room { count * size ≤ length (query_view query.now).shapes }
+    requires fit { all_fit_one (query_view query.now).shapes (query_view query.now).conditions ≡ true }
+    ensures exact { IfOk result (Judges (query_view query.now) size count (form_view cnf.now) found) }
+    ensures verdict { IfOk result (IsVerdictIf (query_view query.now) size count (form_view cnf.now)) }
+{
+    met_values_meet();
+    match found {
+        None => Ok(None),
+        Some(Attempt::Refuted(proof)) => judged_proof(alloc, cnf, proof),
+        Some(Attempt::Found(values)) => judged_values(alloc, query, size, count, values),
+    }
+}
+
 /// Answers a query over `count` states of `size` variables each.
 fn answered(
     alloc: Global,
@@ -128,11 +207,13 @@ fn answered(
     ensures answer { IfOk result (λ a. IsTrueOver (query_view query.now) size count budgets (answer_view a)) }
     ensures stops { IfOk result (λ a. HasNoAtoms (query_view query.now) → StopsByConflicts (answer_view a)) }
 {
-    clauses_fit_their_form();
     let cnf = made(alloc, query)?;
-    let mut solver = ordered(alloc, cnf)?;
-    let end = run(alloc, &mut solver, budgets)?;
-    ended(alloc, query, size, count, budgets, solver, end)
+    let attempt = attempted(alloc, &cnf, &query.shapes, budgets)?;
+    let verdict = judged(alloc, query, &cnf, size, count, attempt)?;
+    match verdict {
+        Some(answer) => Ok(answer),
+        None => ran(alloc, query, cnf, size, count, budgets),
+    }
 }
 
 /// Answers the obligation with the cited lemmas.

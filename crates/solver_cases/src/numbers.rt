@@ -156,7 +156,7 @@ fn is_odd_sum(alloc: Global) -> Result<Term, AllocError> {
 }
 
 /// Two equal numbers from 0 to 3 have a sum that is one more than twice another: no state. Fractions meet it,
-/// and nothing has a divisor, so that it takes splits to see that.
+/// and nothing has a divisor, so that it takes a cut or splits to see that.
 pub fn twins(alloc: Global) -> Result<System, AllocError> {
     let mut system = in_ranges(alloc, Term::Truth(false))?;
     system.shapes.push(Shape::Number)?;
@@ -208,4 +208,39 @@ pub fn division(alloc: Global) -> Result<System, AllocError> {
 pub fn total(alloc: Global) -> Result<System, AllocError> {
     let sum = plus(alloc, number(0), number(1))?;
     in_ranges(alloc, at_most(alloc, sum, constant(0))?)
+}
+
+/// Three times the sum of the first two numbers is one more than four times the third.
+fn is_third_of_fours(alloc: Global) -> Result<Term, AllocError> {
+    let sum = plus(alloc, number(0), number(1))?;
+    let fours = plus(alloc, multiple(alloc, 4, number(2))?, constant(1))?;
+    equal(alloc, multiple(alloc, 3, sum)?, fours)
+}
+
+/// Their sum is twice the fourth.
+fn is_even_sum(alloc: Global) -> Result<Term, AllocError> {
+    let sum = plus(alloc, number(0), number(1))?;
+    equal(alloc, sum, multiple(alloc, 2, number(3))?)
+}
+
+/// Four numbers from 0 to 3, three times the sum of the first two being one more than four times the third, and
+/// this sum twice the fourth: no state, since six times the fourth is even.
+pub fn fours(alloc: Global) -> Result<System, AllocError> {
+    let mut system = in_ranges(alloc, Term::Truth(false))?;
+    for variable in 2..4 {
+        system.shapes.push(Shape::Number)?;
+        push_range(alloc, &mut system.here, variable)?;
+    }
+    system.here.push(is_third_of_fours(alloc)?)?;
+    system.here.push(is_even_sum(alloc)?)?;
+    Ok(system)
+}
+
+/// The same two equal numbers and the third without ranges: the least number that is not whole depends on one
+/// that stands at no bound, so that there is no cut, and splits go on for ever.
+pub fn open_twins(alloc: Global) -> Result<System, AllocError> {
+    let mut system = system(alloc, 3, Term::Truth(false))?;
+    system.here.push(equal(alloc, number(0), number(2))?)?;
+    system.here.push(is_odd_sum(alloc)?)?;
+    Ok(system)
 }

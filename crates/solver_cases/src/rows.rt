@@ -2,7 +2,9 @@
 
 use crate::asked::{bases, step};
 use crate::latches::ring;
-use crate::numbers::{counting, division, halves, lagging, limited, thirds, total, twins};
+use crate::numbers::{
+    counting, division, fours, halves, lagging, limited, open_twins, thirds, total, twins,
+};
 use crate::pigeons::pigeons;
 use crate::small::{crossing, latched, loose, three_way, turning, without_paths};
 use anyhow::Result;
@@ -35,6 +37,8 @@ enum Which {
     Thirds,
     Division,
     Total,
+    Fours,
+    OpenTwins,
 }
 
 #[derive(Clone, Copy)]
@@ -144,6 +148,16 @@ fn rows(alloc: Global) -> Result<Vec<Case>, AllocError> {
         row("division", Which::Division, Question::Bases(0)),
         row("a sum", Which::Total, Question::Bases(0)),
         within_pivots(0, row("a sum, 0 pivots", Which::Total, Question::Bases(0))),
+        row("fours", Which::Fours, Question::Bases(0)),
+        within_splits(0, row("fours, 0 splits", Which::Fours, Question::Bases(0))),
+        within_splits(
+            0,
+            row("open twins, 0 splits", Which::OpenTwins, Question::Bases(0))
+        ),
+        within_splits(
+            1,
+            row("open twins, 1 split", Which::OpenTwins, Question::Bases(0))
+        ),
     ]?)
 }
 
@@ -165,6 +179,8 @@ fn system_of(alloc: Global, which: Which) -> Result<System, AllocError> {
         Which::Thirds => thirds(alloc),
         Which::Division => division(alloc),
         Which::Total => total(alloc),
+        Which::Fours => fours(alloc),
+        Which::OpenTwins => open_twins(alloc),
     }
 }
 

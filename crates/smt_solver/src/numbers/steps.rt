@@ -4,7 +4,7 @@ ghost use Rattle.std.specs.Prelude.{◌≡◌, ◌<◌, ◌^◌, List, map, leng
 ghost use Rattle.proof_steps.specs.View.{clause_view, line_view, step_view};
 ghost use Rattle.line_laws.specs.Lines.{Part};
 ghost use Rattle.line_laws.specs.Steps.{conflict_step as conflict_move};
-ghost use Rattle.smt_solver.specs.Used.{used_of, used_by, denied_by, literal_line, own_lines_by, sum_by};
+ghost use Rattle.smt_solver.specs.Used.{used_of, used_by, denied_by, literal_line, own_lines_by, line_by, refuting_move};
 
 use crate::numbers::meanings::Meaning;
 use proof_steps::{Clause, Line, Literal, Source, Step};
@@ -57,8 +57,8 @@ pub fn uses(
     Ok(used)
 }
 
-// One of the literals is false.
-fn clause_of(alloc: Global, used: &[Used]) -> Result<Clause, AllocError>
+/// One of the literals is false.
+pub fn clause_of(alloc: Global, used: &[Used]) -> Result<Clause, AllocError>
     ensures { IfOk result (λ c. clause_view c ≡ map denied_by used.now) }
 {
     let mut literals = SmallVec::new(alloc);
@@ -76,8 +76,8 @@ fn own_line(alloc: Global, number: u32, divisor: i128) -> Result<Line, AllocErro
     Ok(Line { parts, divisor })
 }
 
-// A line for each literal.
-fn own_lines(alloc: Global, used: &[Used]) -> Result<Vec<Line>, AllocError>
+/// A line for each literal.
+pub fn own_lines(alloc: Global, used: &[Used]) -> Result<Vec<Line>, AllocError>
     requires { length used.now < 2 ^ 32 }
     ensures { IfOk result (λ v. map line_view v.items ≡ own_lines_by 1 used.now) }
 {
@@ -88,25 +88,34 @@ fn own_lines(alloc: Global, used: &[Used]) -> Result<Vec<Line>, AllocError>
     Ok(lines)
 }
 
-// The sum of these lines, each times its multiplier.
-fn sum_line(alloc: Global, used: &[Used]) -> Result<Line, AllocError>
+/// The sum of these lines, each times its multiplier, divided.
+pub fn sum_line(alloc: Global, used: &[Used], divisor: i128) -> Result<Line, AllocError>
     requires { length used.now < 2 ^ 32 }
-    ensures { IfOk result (λ l. line_view l ≡ sum_by used.now) }
+    ensures { IfOk result (λ l. line_view l ≡ line_by used.now divisor) }
 {
     let mut parts = Vec::new(alloc);
     for i in 0..used.len() {
         parts.push((used[i].multiplier, Source::Line(i as u32 + 1)))?;
     }
-    Ok(Line { parts, divisor: 1 })
+    Ok(Line { parts, divisor })
 }
 
 /// The step that one of the literals is false: a line for each of them, and then the sum of these.
+pub fn refuting_step(alloc: Global, used: &[Used]) -> Result<Step, AllocError>
+    requires { length used.now < 2 ^ 32 }
+    ensures { IfOk result (λ s. step_view s ≡ refuting_move used.now) }
+{
+    let clause = clause_of(alloc, used)?;
+    let mut lines = own_lines(alloc, used)?;
+    lines.push(sum_line(alloc, used, 1)?)?;
+    Ok(Step::Theory { clause, lines })
+}
+
+/// The same, of parts that have these literals.
 pub fn conflict_step(alloc: Global, used: &[Used]) -> Result<Step, AllocError>
     requires { length used.now < 2 ^ 32 }
     ensures { IfOk result (λ s. (parts : List Part) → map used_of parts ≡ used.now → step_view s ≡ conflict_move parts) }
 {
-    let clause = clause_of(alloc, used)?;
-    let mut lines = own_lines(alloc, used)?;
-    lines.push(sum_line(alloc, used)?)?;
-    Ok(Step::Theory { clause, lines })
+    let step = refuting_step(alloc, used)?;
+    Ok(step)
 }

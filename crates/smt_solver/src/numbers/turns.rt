@@ -89,8 +89,8 @@ pub fn crossed(
     count_step(alloc, work, step)
 }
 
-// That the numbered atom or its opposite is true.
-fn split_step(alloc: Global, number: u32) -> Result<Step, AllocError>
+/// That the numbered atom or its opposite is true.
+pub fn split_step(alloc: Global, number: u32) -> Result<Step, AllocError>
     ensures { IfOk result (λ s. (x : ℕ) (c : ℤ) → step_view s ≡ split_move number x c) }
 {
     let opposite = Used {

@@ -1,40 +1,27 @@
-use Rattle.std.proofs.Common.{subst, sym}
-use Rattle.proof_steps.specs.Rows.{Form}
+use Rattle.std.specs.Prelude.{Some}
+use Rattle.std.proofs.Common.{subst}
 use Rattle.sys_terms.specs.View.{query_view}
 use Rattle.cnf_maker.specs.View.{form_view}
-use Rattle.smt_solver.specs.Kept.{IsKept, IsEnd, solver_view}
-use Rattle.smt_solver.proofs.Answering.{never-err, small-form}
-use Rattle.smt_solver.proofs.Kept.{own}
+use Rattle.smt_solver.specs.View.{answer_view}
+use Rattle.smt_solver.specs.Judging.{IsVerdict, IsVerdictIf}
+use Rattle.smt_solver.proofs.Answering.{never-err}
+use Rattle.smt_solver.proofs.Judged.{verdict-true, verdict-stops}
 use Rattle.smt_solver.proofs.solving.answered.Goals as goal
 
 pub made-requires : goal.made-requires
 made-requires c = λ past. never-err (query_view c.args.query.now) c.requires.small past
 
-pub ordered-requires-clause-fit : goal.ordered-requires-clause-fit
-ordered-requires-clause-fit c =
-    c.clauses_fit_their_form.ensures (query_view c.args.query.now) c.requires.fit (form_view c.in_ok-cnf.cnf) c.in_ok-cnf.ensures.exact
+pub returns-in-Some-clause-answer : goal.returns-in-Some-clause-answer
+returns-in-Some-clause-answer c =
+    let q = query_view c.args.query.now in
+    let v : IsVerdict q c.args.size c.args.count (form_view c.in_ok-cnf.cnf) (answer_view c.in-Some.answer) =
+    subst (IsVerdictIf q c.args.size c.args.count (form_view c.in_ok-cnf.cnf)) c.in-Some.is c.in_ok-verdict.ensures.verdict in
+    verdict-true q c.args.size c.args.count (form_view c.in_ok-cnf.cnf) c.args.budgets (answer_view c.in-Some.answer)
+    c.in_ok-cnf.ensures.exact v
 
-pub ordered-requires-clause-plain : goal.ordered-requires-clause-plain
-ordered-requires-clause-plain c =
-    (small-form (query_view c.args.query.now) c.requires.small (form_view c.in_ok-cnf.cnf) c.in_ok-cnf.ensures.exact).0
-
-pub ordered-requires-clause-small : goal.ordered-requires-clause-small
-ordered-requires-clause-small c =
-    (small-form (query_view c.args.query.now) c.requires.small (form_view c.in_ok-cnf.cnf) c.in_ok-cnf.ensures.exact).1
-
-pub run-requires-clause-kept : goal.run-requires-clause-kept
-run-requires-clause-kept c =
-    let f : Form = form_view c.in_ok-cnf.cnf in
-    let s = solver_view c.in_ok-solver.solver in
-    subst (λ g. IsKept g s) (sym (own f s c.in_ok-solver.ensures.kept)) c.in_ok-solver.ensures.kept
-
-pub ended-requires-clause-ended : goal.ended-requires-clause-ended
-ended-requires-clause-ended c =
-    let f : Form = form_view c.in_ok-cnf.cnf in
-    let s = solver_view c.in_ok-solver.solver in
-    record {
-      form = f;
-      is_form = c.in_ok-cnf.ensures.exact;
-      is_end = subst (λ g. IsEnd g c.args.budgets (solver_view c.run.new.solver) c.in_ok-end.end) (own f s c.in_ok-solver.ensures.kept)
-          c.in_ok-end.ensures;
-    }
+pub returns-in-Some-clause-stops : goal.returns-in-Some-clause-stops
+returns-in-Some-clause-stops c = λ none.
+    let q = query_view c.args.query.now in
+    let v : IsVerdict q c.args.size c.args.count (form_view c.in_ok-cnf.cnf) (answer_view c.in-Some.answer) =
+    subst (IsVerdictIf q c.args.size c.args.count (form_view c.in_ok-cnf.cnf)) c.in-Some.is c.in_ok-verdict.ensures.verdict in
+    verdict-stops q c.args.size c.args.count (form_view c.in_ok-cnf.cnf) (answer_view c.in-Some.answer) v
