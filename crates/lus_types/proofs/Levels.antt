@@ -1,8 +1,7 @@
 -- The first of the links to numbers of equal rank, where no number leads to one of a greater rank.
-use Rattle.std.proofs.Common.{◌≡◌, ℕ, ◌+◌, ◌<◌, Bool, true, false, ◌&&◌, ◌||◌, cond, List, [], ◌∷◌, ◌++◌, map, flat_map, drop, length, get_or, refl, ap, ◌∙◌, sym, subst, inl, inr, arith, Option, Some, None}
+use Rattle.std.proofs.Common.{◌≡◌, ℕ, ◌+◌, ◌<◌, Bool, true, false, ◌&&◌, ◌||◌, List, [], ◌∷◌, ◌++◌, map, flat_map, drop, length, get_or, refl, ap, ◌∙◌, sym, subst, inl, inr, arith, Option, Some, None}
 use Rattle.std.specs.Prelude.{◌==◌, nat_lt, option_map, slice_get, Contains}
 use Rattle.std.specs.List.{AllByRecursion}
-use Rattle.std.proofs.Math.Logic.{◌⊎◌}
 use Rattle.std.proofs.lemmas.Bool.{false≢true, eqb-true, and_parts}
 use Rattle.std.proofs.lemmas.Bool.Decides.{nat_tests}
 use Rattle.std.proofs.lemmas.List.Elements.{All-contains, All-from_recursion, All-contains_itself, All-weaker, recursion_from_All, Contains-append_cases, Contains-append_left, Contains-append_right, Contains-push, Contains-push_cases}
@@ -12,8 +11,7 @@ use Rattle.lus_tree.specs.Tree.{Component, Spelled, Program}
 use Rattle.lus_tree.specs.Reason.{Reason, Refused, node_recursion}
 use Rattle.lus_meaning.specs.ClockFaults.{components}
 use Rattle.lus_meaning.specs.Faults.{IsFirst, comes_before, fault, if_so, is_at, number_of}
-use Rattle.lus_meaning.specs.NameFaults.{callees, graph_of, reached, recursion_faults}
-use Rattle.lus_meaning.specs.Depends.{named_in}
+use Rattle.lus_meaning.specs.NameFaults.{recursion_faults}
 use Rattle.lus_meaning.specs.Refusals.{HasNone}
 use Rattle.lus_meaning.specs.Scene.{no_component}
 use Rattle.lus_types.specs.declared.marks.Row.{Row as CodeRow}

@@ -1,5 +1,5 @@
 -- The first of the calls and imports that are on circles.
-use Rattle.std.specs.Prelude.{◌≡◌, Bool, false, true, List, flat_map, Option, Some, None, Contains}
+use Rattle.std.specs.Prelude.{Bool, false, List, flat_map, Option, Some, None, Contains}
 use Rattle.lus_tree.specs.declared.place.Pos.{Pos}
 use Rattle.lus_tree.specs.Reason.{Refused, node_recursion}
 use Rattle.lus_tree.specs.Tree.{Program}

@@ -125,7 +125,6 @@ fn body<'a>(
 /// # Errors
 ///
 /// Want of memory.
-#[tactic(auto, using(lus_scopes::proofs::Noting::both_noted))]
 pub(crate) fn contract_and_body(
     alloc: Global,
     home: &Home<'_>,
@@ -135,5 +134,6 @@ pub(crate) fn contract_and_body(
         (inner_faults (home_view home.now))) }
 {
     let mut before = contract(alloc, home, least, home.owner.contract())?;
-    body(alloc, home, &mut before, least)
+    body(alloc, home, &mut before, least)?;
+    Ok(())
 }
