@@ -67,9 +67,11 @@ pub fn column_among(
     if let Some(place) = place_of(sums, &sum) {
         return Ok(first.wrapping_add(place));
     }
-    let column = first.wrapping_add(sums.len() as u32);
+    let Ok(place) = u32::try_from(sums.len()) else {
+        return Err(AllocError);
+    };
     sums.push(sum)?;
-    Ok(column)
+    Ok(first.wrapping_add(place))
 }
 
 // The multipliers of a line's bounds, each with the number of the bound's atom.
