@@ -6,7 +6,7 @@ ghost use Rattle.proof_steps.specs.View.{atom_view, clause_view, line_view, step
 ghost use Rattle.smt_solver.specs.Cutting.{numbered_in, used_in, closing_line, cut_move, move_of_cut};
 ghost use Rattle.smt_solver.specs.Used.{denied_by};
 
-use crate::attempt::columns::{is_same_sum, meaning_over, normal_sum, only_variable};
+use crate::attempt::columns::{column_at, is_same_sum, meaning_over, normal_sum, only_variable};
 use crate::attempt::record::{Record, add};
 use crate::attempt::splitting::{add_neighbours, next_number};
 use crate::fault::SolveFault;
@@ -67,7 +67,7 @@ pub fn column_among(
     if let Some(place) = place_of(sums, &sum) {
         return Ok(first.wrapping_add(place));
     }
-    let column = first.wrapping_add(sums.len() as u32);
+    let column = column_at(first, sums.len());
     sums.push(sum)?;
     Ok(column)
 }
