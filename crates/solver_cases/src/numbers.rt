@@ -236,8 +236,8 @@ pub fn fours(alloc: Global) -> Result<System, AllocError> {
     Ok(system)
 }
 
-/// The same two equal numbers and the third without ranges: the least number that is not whole depends on one
-/// that stands at no bound, so that there is no cut, and splits go on for ever.
+/// The same without ranges. A number that is not whole depends on one that stands at no bound, so that there is no
+/// cut; after one split of the second number it stands at the split's end, and a cut says that there is no state.
 pub fn open_twins(alloc: Global) -> Result<System, AllocError> {
     let mut system = system(alloc, 3, Term::Truth(false))?;
     system.here.push(equal(alloc, number(0), number(2))?)?;
