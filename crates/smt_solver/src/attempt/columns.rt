@@ -100,8 +100,8 @@ fn by_sum(alloc: Global, atoms: &[Atom]) -> Result<Vec<(i128, u32)>, AllocError>
     Ok(places)
 }
 
-/// The column of the sum at this place, where the first one has that column.
-pub fn column_at(first: u32, place: usize) -> u32 {
+// The column of the sum at this place, where the first one has that column.
+fn column_at(first: u32, place: usize) -> u32 {
     match u32::try_from(place) {
         Ok(place) => first.wrapping_add(place),
         Err(_) => u32::MAX,
