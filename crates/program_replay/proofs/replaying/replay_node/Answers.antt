@@ -10,7 +10,7 @@ use Rattle.program_replay.proofs.Joined.{trace_shown}
 use Rattle.program_replay.proofs.replaying.replay_node.Goals as goal
 
 pub frame_names-requires : goal.frame_names-requires
-frame_names-requires c = subst IsChecked (sym c.program-program.ensures.same) c.program-program.ensures.rules
+frame_names-requires c = record { checked = subst IsChecked (sym c.program-program.ensures.same) c.program-program.ensures.rules }
 
 pub returns : goal.returns
 returns c =
