@@ -2,5 +2,6 @@ pub mod Numbers
 pub mod Values
 pub mod Joined
 pub mod Shown
+pub mod Room
 pub mod Evaluated
 pub mod Defaults

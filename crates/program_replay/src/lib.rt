@@ -7,6 +7,7 @@ mod fault;
 mod fitted;
 mod instant;
 mod named;
+mod names;
 mod replaying;
 mod shapes;
 mod slots;
