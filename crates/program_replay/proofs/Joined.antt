@@ -1,25 +1,20 @@
 -- What is told or shown of slots is so of the one frame of the trace.
-use Rattle.std.proofs.Common.{◌≡◌, ℕ, ◌<◌, List, [], ◌∷◌, Some, None, slice_get, refl, sym, ap, ◌∙◌, subst}
+use Rattle.std.proofs.Common.{◌≡◌, ℕ, ◌<◌, List, [], Option, Some, None, slice_get, refl, sym, ap, ◌∙◌, subst}
 use Rattle.std.specs.Prelude.{Contains}
-use Rattle.std.specs.List.{AllByRecursion}
 use Rattle.lus_tree.specs.Lookup.{nodes_of}
-use Rattle.lus_tree.specs.Tree.{Name, Variable, Component, Program}
+use Rattle.lus_tree.specs.Tree.{Name, Component, Program}
 use Rattle.lus_meaning.specs.ClockFaults.{components}
 use Rattle.lus_meaning.specs.Fits.{FitsInstance, FitsProgram, first_failed, misfit, node_tests}
 use Rattle.lus_meaning.specs.Frame.{entry}
 use Rattle.lus_meaning.specs.Program.{instance_of}
 use Rattle.lus_meaning.specs.Refusals.{IsChecked, IsWithinLimits}
 use Rattle.lus_meaning.specs.Replay.{frame_on}
-use Rattle.lus_meaning.specs.Scene.{Instance, component_of, plain, variables}
+use Rattle.lus_meaning.specs.Scene.{Instance}
 use Rattle.lus_meaning.specs.Slots.{width}
 use Rattle.lus_meaning.specs.TraceView.{Listing, lines_of}
 use Rattle.lus_layouts.proofs.Fits.{nodes_fit}
-use Rattle.lus_limits.proofs.Instances.{component_called}
-use Rattle.lus_streams.specs.Streams.{names_of}
-use Rattle.sys_meaning.specs.Slot.{named, own}
-use Rattle.sys_meaning.specs.System.{number_of}
-use Rattle.sys_places.specs.Own.{OwnStands, name_number}
-use Rattle.sys_places.specs.Places.{StandsAtRoot}
+use Rattle.frame_names.specs.Slots.{KnowsSlots, slot_there}
+use Rattle.slot_values.specs.Evaluated.{SlotValues}
 use Rattle.slot_rows.specs.Table.{Row, rows, value_in}
 use Rattle.slot_sources.specs.Sources.{sources_of}
 use Rattle.slot_replay.specs.Answer.{AreBreaks, AreLawful, GoesThrough, IsToldOf, seen_in}
@@ -36,7 +31,7 @@ use Rattle.program_replay.specs.Named.{Numbered, numbers_from}
 use Rattle.program_replay.specs.Slots.{IsTable, ShowsSlots, TellsSlots}
 use Rattle.program_replay.specs.Told.{of_slots}
 use Rattle.program_replay.proofs.Numbers.{IsFound, declared_there, first_none, found_from, from_first}
-use Rattle.program_replay.proofs.Values.{all_values}
+use Rattle.program_replay.proofs.Values.{no_value, same_in_all, same_values}
 
 some_same : {A : Type 0} (x y : A) → Some x ≡ Some y → x ≡ y
 some_same x y e = cc
@@ -111,17 +106,17 @@ module _ (p : Program) (t : Listing) (c : IsChecked p) (fits : FitsProgram p t) 
   pub declared : Contains (components p) d
   declared = declared_there (components p) m.place d place_is
 
-  stands : StandsAtRoot → OwnStands → (x : Name) → number_of i (own (named x)) ≡ name_number (width i) 1 (variables d) x
-  stands root own_stands x = (own_stands p c d declared plain (number_of i) (width i) 0 (root i)).streams x
+  pub small : IsWithinLimits p None → width i < 20001
+  small h = node_small p t.node m is_found h
 
   abbrev Says : Shown → List Row → Type 0
   Says r table = GoesThrough (seen_in table) (conditions_over i) (AreDeclaredParts p m.place) t.length
       × AreBreaks (value_in table) (conditions_over i) t.length r.breaks × AreLawful (value_in table) (conditions_over i) t.length r.lawful
 
-  pub trace_shown : AnswerIsShown → StandsAtRoot → OwnStands → (r : Shown) → ShowsSlots i (lines_of t) t.length (AreNamedParts p t.node) r
-      → (names : List Name) → names ≡ names_of (variables d) → (n : ℕ) → n ≡ m.number
-      → ShowsTrace p t (record { breaks = r.breaks; lawful = r.lawful; value = value_of names r.value; node = n })
-  trace_shown answered root own_stands r h names e n k = record {
+  pub trace_shown : AnswerIsShown → IsWithinLimits p None → (r : Shown) → ShowsSlots i (lines_of t) t.length (AreNamedParts p t.node) r
+      → (slot : List ℕ → Name → Option ℕ) → KnowsSlots p m.place slot → (n : ℕ) → n ≡ m.number
+      → ShowsTrace p t (record { breaks = r.breaks; lawful = r.lawful; value = value_of slot r.value; node = n })
+  trace_shown answered limits r h slot known n k = record {
     shown = record { breaks = r.breaks; lawful = r.lawful; value = λ path x u. entry (frame_on q.frame path) x u };
     replays = record {
       node = d;
@@ -139,8 +134,9 @@ module _ (p : Program) (t : Listing) (c : IsChecked p) (fits : FitsProgram p t) 
     node = ap (slice_get (nodes_of p)) (k ∙ from_first m.number found.number found.behind_nodes) ∙ found.node;
     breaks = λ k. refl;
     lawful = refl;
-    values = subst (λ vs. AllByRecursion (λ v. (u : ℕ) → value_of names r.value [] v.name.text u ≡ entry q.frame v.name.text u) vs)
-        (ap variables (sym same)) values;
+    values = same_values i slot knows r.value filled_rows in_table q.frame [] q.so.names;
+    frames = same_in_all i slot knows r.value filled_rows in_table q.frame q.so.within.parts q.so.frames;
+    others = no_value i slot knows r.value filled_rows in_table;
   }
     where
       x : IsTable i (lines_of t) t.length h.table
@@ -152,27 +148,14 @@ module _ (p : Program) (t : Listing) (c : IsChecked p) (fits : FitsProgram p t) 
       moved : Says r (rows x.choices (sources_of i) x.order t.length)
       moved = subst (Says r) x.filled (gone, h.breaks, h.lawful)
 
-      q : OfOneFrame (lines_of t) i t.length (λ f. IsShown i f t.length (value_in (rows x.choices (sources_of i) x.order t.length)) r.breaks r.lawful)
+      filled_rows : ℕ → SlotValues
+      filled_rows = value_in (rows x.choices (sources_of i) x.order t.length)
+
+      q : OfOneFrame (lines_of t) i t.length (λ f. IsShown i f t.length filled_rows r.breaks r.lawful)
       q = answered p m.place d (lines_of t) t.length x.choices x.order (replayable h.table x) moved.0 r.breaks r.lawful moved.1 moved.2
 
-      same : component_of i ≡ d
-      same = component_called p d
+      knows : (w : List ℕ) (y : Name) → slot w y ≡ slot_there i w y
+      knows = known d place_is (small limits)
 
-      in_table : (k u : ℕ) → r.value k u ≡ value_in (rows x.choices (sources_of i) x.order t.length) u k
+      in_table : (k u : ℕ) → r.value k u ≡ filled_rows u k
       in_table k u = h.value k u ∙ ap (λ table. value_in table u k) x.filled
-
-      has : AllByRecursion (λ v. (u : ℕ) → value_in (rows x.choices (sources_of i) x.order t.length) u (number_of i (own (named v.name.text)))
-          ≡ entry q.frame v.name.text u) (variables d)
-      has = subst (λ n. AllByRecursion (λ v. (u : ℕ) → value_in (rows x.choices (sources_of i) x.order t.length) u
-          (number_of i (own (named v.name.text))) ≡ entry q.frame v.name.text u) (variables n)) same q.so.names
-
-      by_slots : (vs : List Variable) → AllByRecursion (λ v. (u : ℕ) → value_in (rows x.choices (sources_of i) x.order t.length) u
-          (number_of i (own (named v.name.text))) ≡ entry q.frame v.name.text u) vs
-          → AllByRecursion (λ v. (u : ℕ) → r.value (number_of i (own (named v.name.text))) u ≡ entry q.frame v.name.text u) vs
-      by_slots [] a = tt
-      by_slots (v ∷ vs) a = (λ u. in_table (number_of i (own (named v.name.text))) u ∙ a.0 u, by_slots vs a.1)
-
-      values : AllByRecursion (λ v. (u : ℕ) → value_of names r.value [] v.name.text u ≡ entry q.frame v.name.text u) (variables d)
-      values = subst (λ xs. AllByRecursion (λ v. (u : ℕ) → value_of xs r.value [] v.name.text u ≡ entry q.frame v.name.text u) (variables d)) (sym e)
-          (all_values (variables d) r.value (width i) (λ x. number_of i (own (named x))) (entry q.frame)
-          (stands root own_stands) (by_slots (variables d) has))

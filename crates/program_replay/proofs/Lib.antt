@@ -2,6 +2,5 @@ pub mod Numbers
 pub mod Values
 pub mod Joined
 pub mod Shown
-pub mod Room
 pub mod Evaluated
 pub mod Defaults

@@ -1,19 +1,26 @@
--- The names of a node by the slots of its table.
-use Rattle.std.proofs.Common.{◌≡◌, ℕ, suc, ◌+◌, Bool, true, false, cond, ◌||◌, List, [], ◌∷◌, refl, sym, ap, ◌∙◌, arith}
+-- The names of frames by the slots of a table.
+use Rattle.std.proofs.Common.{◌≡◌, ℕ, Bool, true, false, cond, ◌||◌, List, [], ◌∷◌, append-nil, Option, Some, None, refl, sym, ap, ◌∙◌}
 use Rattle.std.specs.List.{AllByRecursion}
+use Rattle.std.specs.Option.{option_map_or}
 use Rattle.std.specs.Str.{bytes_eq}
 use Rattle.std.proofs.lemmas.Bool.{false≢true}
 use Rattle.lus_tree.specs.Tree.{Name, Variable}
 use Rattle.lus_meaning.specs.Depends.{named_in}
+use Rattle.lus_meaning.specs.Frame.{Frame, entry}
+use Rattle.lus_meaning.specs.Replay.{frame_on}
+use Rattle.lus_meaning.specs.Scene.{Instance, component_of, variables}
 use Rattle.lus_meaning.specs.Value.{Stream, absent}
 use Rattle.lus_streams.specs.Streams.{names_of}
-use Rattle.name_table.specs.Names.{number_of}
+use Rattle.lus_evaluation.specs.Evaluation.{instance_on}
+use Rattle.lus_evaluation.specs.Part.{Part}
 use Rattle.name_table.proofs.Names.{itself}
-use Rattle.sys_places.specs.Own.{name_number}
-use Rattle.program_replay.specs.Answer.{value_of}
-
-next_one : (a : ℕ) → suc a ≡ 1 + a
-next_one a = omega arith
+use Rattle.sys_meaning.specs.Slot.{named, own}
+use Rattle.sys_meaning.specs.System.{number_of}
+use Rattle.slot_values.specs.Evaluated.{SlotValues}
+use Rattle.evaluation_laws.specs.Rows.{numbers_there}
+use Rattle.frame_names.specs.Slots.{slot_there}
+use Rattle.replay_laws.specs.Replayed.{HaveNames}
+use Rattle.program_replay.specs.Answer.{SameValues, value_of}
 
 -- what is so of each name of these is so of each of the variables, since each is named
 module _ (vs : List Variable) where
@@ -33,30 +40,40 @@ module _ (vs : List Variable) where
       there true b e = refl
       there false b e = e
 
-  all_named : AllByRecursion (λ v. named_in v.name.text (names_of vs) ≡ true) vs
+  pub all_named : AllByRecursion (λ v. named_in v.name.text (names_of vs) ≡ true) vs
   all_named = named_there vs (λ x e. e)
 
-  -- the slot of a name is that behind the beat with the name's number
-  value_there : (slots : ℕ → Stream) (missing : ℕ) (x : Name) (t : ℕ) → named_in x (names_of vs) ≡ true
-      → value_of (names_of vs) slots [] x t ≡ slots (name_number missing 1 vs x) t
-  value_there slots missing x t e = go (named_in x (names_of vs)) e
-    where
-      go : (b : Bool) → b ≡ true → cond b (slots (suc (number_of (names_of vs) x)) t) absent
-          ≡ slots (cond b (1 + number_of (names_of vs) x) missing) t
-      go true e = ap (λ k. slots k t) (next_one (number_of (names_of vs) x))
-      go false e = absurd (false≢true e)
+-- slots are known by their names, and what is shown of slots is what these rows have
+module _ (i : Instance) (slot : List ℕ → Name → Option ℕ) (knows : (w : List ℕ) (x : Name) → slot w x ≡ slot_there i w x) (slots : ℕ → Stream)
+    (values : ℕ → SlotValues) (in_rows : (k t : ℕ) → slots k t ≡ values t k) where
+  abbrev names_at : List ℕ → List Name
+  names_at w = names_of (variables (component_of (instance_on i w)))
 
-  pub values_there : (slots : ℕ → Stream) (missing : ℕ) (at : Name → ℕ) (says : Name → Stream) → ((x : Name) → at x ≡ name_number missing 1 vs x)
-      → (us : List Variable) → AllByRecursion (λ v. named_in v.name.text (names_of vs) ≡ true) us
-      → AllByRecursion (λ v. (t : ℕ) → slots (at v.name.text) t ≡ says v.name.text t) us
-      → AllByRecursion (λ v. (t : ℕ) → value_of (names_of vs) slots [] v.name.text t ≡ says v.name.text t) us
-  values_there slots missing at says stands [] a h = tt
-  values_there slots missing at says stands (u ∷ us) a h = (
-    λ t. value_there slots missing u.name.text t a.0 ∙ (ap (λ k. slots k t) (sym (stands u.name.text)) ∙ h.0 t),
-    values_there slots missing at says stands us a.1 h.1,
-  )
+  value_at : (w : List ℕ) (x : Name) (t : ℕ) → named_in x (names_at w) ≡ true → value_of slot slots w x t ≡ values t (numbers_there i w (own (named x)))
+  value_at w x t e =
+      ap (λ o. option_map_or (λ k. slots k t) o absent) (knows w x)
+      ∙ ap (λ b. option_map_or (λ k. slots k t) (cond b (Some (number_of i (w, named x))) None) absent) e
+      ∙ in_rows (number_of i (w, named x)) t
+      ∙ ap (λ v. values t (number_of i (v, named x))) (sym (append-nil w))
 
-  pub all_values : (slots : ℕ → Stream) (missing : ℕ) (at : Name → ℕ) (says : Name → Stream) → ((x : Name) → at x ≡ name_number missing 1 vs x)
-      → AllByRecursion (λ v. (t : ℕ) → slots (at v.name.text) t ≡ says v.name.text t) vs
-      → AllByRecursion (λ v. (t : ℕ) → value_of (names_of vs) slots [] v.name.text t ≡ says v.name.text t) vs
-  all_values slots missing at says stands h = values_there slots missing at says stands vs all_named h
+  pub no_value : (w : List ℕ) (x : Name) → named_in x (names_at w) ≡ false → (t : ℕ) → value_of slot slots w x t ≡ absent
+  no_value w x e t =
+      ap (λ o. option_map_or (λ k. slots k t) o absent) (knows w x)
+      ∙ ap (λ b. option_map_or (λ k. slots k t) (cond b (Some (number_of i (w, named x))) None) absent) e
+
+  module _ (f : Frame) where
+    each_value : (w : List ℕ) (vs : List Variable) → AllByRecursion (λ v. named_in v.name.text (names_at w) ≡ true) vs
+        → AllByRecursion (λ v. (t : ℕ) → values t (numbers_there i w (own (named v.name.text))) ≡ entry (frame_on f w) v.name.text t) vs
+        → AllByRecursion (λ v. (t : ℕ) → value_of slot slots w v.name.text t ≡ entry (frame_on f w) v.name.text t) vs
+    each_value w [] a h = tt
+    each_value w (v ∷ vs) a h = (λ t. value_at w v.name.text t a.0 ∙ h.0 t, each_value w vs a.1 h.1)
+
+    -- rows with the names of a frame have them in the answer
+    pub same_values : (w : List ℕ) → HaveNames i f values w → SameValues i (value_of slot slots) (λ path x t. entry (frame_on f path) x t) w
+    same_values w h =
+        each_value w (variables (component_of (instance_on i w))) (all_named (variables (component_of (instance_on i w)))) h
+
+    pub same_in_all : (qs : List Part) → AllByRecursion (λ q. HaveNames i f values q.way) qs
+        → AllByRecursion (λ q. SameValues i (value_of slot slots) (λ path x t. entry (frame_on f path) x t) q.way) qs
+    same_in_all [] h = tt
+    same_in_all (q ∷ qs) h = (same_values q.way h.0, same_in_all qs h.1)

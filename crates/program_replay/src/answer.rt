@@ -1,19 +1,19 @@
 //! What a replay shows.
 
-ghost use Rattle.std.specs.Prelude.{◌≡◌, ◌<◌, length};
+ghost use Rattle.std.specs.Prelude.{◌≡◌};
 ghost use Rattle.lus_meaning.specs.TraceView.{entry_view};
 
+use frame_names::FrameNames;
 use lus_meaning::Value;
-use name_table::NameTable;
 use slot_replay::Replayed;
 
-/// At which instants properties break, how many instants are lawful, and the values of the node's names.
+/// At which instants properties break, how many instants are lawful, and the values of the names of the node and of the
+/// frames of its calls.
 #[derive(Drop)]
 pub struct Replay {
     pub(crate) replayed: Replayed,
-    pub(crate) names: NameTable,
+    pub(crate) frames: FrameNames,
     pub(crate) node: u32,
-    ghost few: { length names < 20001 },
 }
 
 impl Replay {
@@ -40,16 +40,14 @@ impl Replay {
         self.node
     }
 
-    /// The value of a name at an instant in the frame at the end of a way of calls; none where it is absent. It knows the
-    /// names of the node itself, whose way is empty, and of other frames none.
+    /// The value of a name at an instant in the frame at the end of a way of calls, which are counted from 1; none where it
+    /// is absent, where the way leads to no frame, and where the name is none of that frame. What it has of a frame in
+    /// which nothing is evaluated need not be the frame's.
     pub fn value(&self, path: &[u32], name: &str, instant: u32) -> Option<Value>
         ensures { entry_view result ≡ (replay_view self.now).value path.now name.now instant }
     {
-        if !path.is_empty() {
-            return None;
-        }
-        match self.names.number(name) {
-            Some(number) => self.replayed.value(number as u32 + 1, instant),
+        match self.frames.slot(path, name) {
+            Some(slot) => self.replayed.value(slot, instant),
             None => None,
         }
     }

@@ -7,7 +7,6 @@ mod fault;
 mod fitted;
 mod instant;
 mod named;
-mod names;
 mod replaying;
 mod shapes;
 mod slots;

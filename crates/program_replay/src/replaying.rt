@@ -22,15 +22,13 @@ use crate::fault::ReplayFault;
 use crate::fitted::fitted;
 use crate::instant::Instant;
 use crate::named::{Named, find_named};
-use crate::names::name_table;
 use crate::slots::replay_slots;
+use frame_names::frame_names;
 use lus_checked::Checked;
 use lus_meaning::Trace;
-use lus_streams::owner::Owner;
 use replay_laws::laws::replays_tell_frames;
 use slot_replay::{ReplayFault as SlotFault, Replayed};
 use std::alloc::{AllocError, Global};
-use sys_places::laws::{own_variables_stand, stands_at_root};
 use trace_fits::Fitted;
 
 /// A number as the answer has it.
@@ -100,15 +98,13 @@ fn replay_node(
     ensures fault { IfErr result (IsFault (tree_of checked.now) (trace_view trace.now)) }
 {
     replays_tell_frames();
-    stands_at_root();
-    own_variables_stand();
     let node = narrowed(named.number)?;
     let program = checked.program();
-    let names = name_table(alloc, program, Owner::Node(named.node))?;
+    let frames = frame_names(alloc, program, named.place)?;
     let replayed = replayed(alloc, checked, named, fitted, trace)?;
     Ok(Replay {
         replayed,
-        names,
+        frames,
         node,
     })
 }

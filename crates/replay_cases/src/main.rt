@@ -11,7 +11,7 @@ mod texts;
 use escape::unescaped;
 use lus_checked::Checked;
 use program::source;
-use replays::{fits, shown};
+use replays::{fits, framed, shown};
 use std::alloc::{AllocError, Global};
 use std::{fs, io};
 use texts::{places, read, rebuilt, written};
@@ -28,7 +28,7 @@ const TEXTS: [(&str, Ask); 4] = [
 ];
 
 /// The same for traces that are replayed on the program of the name.
-const REPLAYS: [(&str, Replayed); 9] = [
+const REPLAYS: [(&str, Replayed); 10] = [
     ("fitting", Replayed::Fits),
     ("free_names", Replayed::Fits),
     ("two_instants", Replayed::Fits),
@@ -38,6 +38,7 @@ const REPLAYS: [(&str, Replayed); 9] = [
     ("order", Replayed::Shown),
     ("chain", Replayed::Shown),
     ("nothing", Replayed::Shown),
+    ("frames", Replayed::Frames),
 ];
 
 /// What is asked of the text of a trace.
@@ -54,6 +55,7 @@ enum Ask {
 enum Replayed {
     Fits,
     Shown,
+    Frames,
 }
 
 fn text_answer(alloc: Global, ask: Ask, case: &str) -> Result<String, AllocError> {
@@ -82,6 +84,7 @@ fn replay_answer(
     match ask {
         Replayed::Fits => fits(alloc, checked, &bytes),
         Replayed::Shown => shown(alloc, checked, &bytes),
+        Replayed::Frames => framed(alloc, checked, &bytes),
     }
 }
 

@@ -129,3 +129,65 @@ pub fn shown(alloc: Global, checked: &Checked, bytes: &[u8]) -> Result<String, A
         Err(e) => fault(alloc, e),
     }
 }
+
+fn push_value(out: &mut String, value: Option<Value>) -> Result<(), AllocError> {
+    match value {
+        Some(Value::Truth(truth)) => write!(out, " {truth}"),
+        Some(Value::Whole(number)) => write!(out, " {number}"),
+        None => out.push_str(" -"),
+    }
+}
+
+/// A name of the frame at the end of a way of calls and its values, with one more instant than there are.
+fn show_stream(
+    out: &mut String,
+    replay: &Replay,
+    way: &[u32],
+    name: &str,
+    instants: u32,
+) -> Result<(), AllocError> {
+    write!(out, " {name}")?;
+    for t in 0..=instants {
+        push_value(out, replay.value(way, name, t))?;
+    }
+    out.push_str(",")
+}
+
+/// The names of a frame with their values, and one that it hasn't.
+fn show_frame(
+    out: &mut String,
+    replay: &Replay,
+    way: &[u32],
+    instants: u32,
+) -> Result<(), AllocError> {
+    for number in way {
+        write!(out, "{number}.")?;
+    }
+    for name in ["a", "b", "last", "twice", "y"] {
+        show_stream(out, replay, way, name, instants)?;
+    }
+    out.push_str(";")
+}
+
+fn show_frames(alloc: Global, replay: &Replay, instants: u32) -> Result<String, AllocError> {
+    let mut out = String::new(alloc);
+    show_frame(&mut out, replay, &[], instants)?;
+    show_frame(&mut out, replay, &[1], instants)?;
+    show_frame(&mut out, replay, &[1, 1], instants)?;
+    show_frame(&mut out, replay, &[1, 1, 1], instants)?;
+    show_frame(&mut out, replay, &[2], instants)?;
+    show_frame(&mut out, replay, &[2, 1], instants)?;
+    show_frame(&mut out, replay, &[1, 2], instants)?;
+    show_frame(&mut out, replay, &[0], instants)?;
+    Ok(out)
+}
+
+/// The values of names in the frames of calls, or where the trace doesn't fit.
+pub fn framed(alloc: Global, checked: &Checked, bytes: &[u8]) -> Result<String, AllocError>
+    requires { length bytes.now ≤ 1048576 }
+{
+    match replayed(alloc, checked, bytes) {
+        Ok((replay, instants)) => show_frames(alloc, &replay, instants),
+        Err(e) => fault(alloc, e),
+    }
+}
