@@ -6,7 +6,7 @@
 # valgrind is there. What is done once, whatever the number of instants, is what a run on one instant
 # takes more than on the same trace with a word behind its `end`, which is refused once all its lines
 # are read; the replay of a trace is what its run takes more than that; the reading is what a refused
-# run takes more than where the trace has no lines. Ends with status 1 where a replay takes 2,000
+# run takes more than where the trace has no lines. Ends with status 1 where a replay takes 1,000
 # instructions or more for each equation at an instant, does not double with the instants or with the
 # equations, or where the reading takes 60 instructions a byte or more.
 #
@@ -174,7 +174,7 @@ for equations in 50 100; do
             by_instants = p ? sprintf("%.3f", c / p) : "-"
             by_equations = f ? sprintf("%.3f", c / f) : "-"
             printf "%d %d %d %d %.1f %s %s\n", e, n, o, c, each, by_instants, by_equations
-            if (each >= 2000 || (p && (c / p < 1.8 || c / p > 2.2)) || (f && (c / f < 1.8 || c / f > 2.2))) exit 1
+            if (each >= 1000 || (p && (c / p < 1.8 || c / p > 2.2)) || (f && (c / f < 1.8 || c / f > 2.2))) exit 1
         }' || { echo "too slow, or not linear"; exit 1; }
         earlier=$count
     done
