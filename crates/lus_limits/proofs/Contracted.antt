@@ -1,5 +1,5 @@
 -- The sizes of a contract's terms in code, item after item.
-use Rattle.std.proofs.Common.{◌≡◌, ℕ, zero, suc, pred, slice_index_or, arith, ◌+◌, ◌<◌, length, take, get_or, List, [], ◌∷◌, ◌++◌, map, refl, sym, ap, ◌∙◌}
+use Rattle.std.proofs.Common.{◌≡◌, ℕ, zero, suc, Bool, true, false, cond, pred, slice_index_or, arith, ◌+◌, ◌<◌, length, take, get_or, List, [], ◌∷◌, ◌++◌, map, refl, sym, ap, ◌∙◌}
 use Rattle.std.proofs.lemmas.List.{map_more}
 use Rattle.lus_tree.specs.Tree.{Name, Labelled, ContractStatement, assume, guarantee, ghost_variable, constant, mode, «import», Component}
 use Rattle.lus_meaning.specs.Sizes.{Size, one, two, all_of, imported_size, asked_size, sizes_of}
@@ -107,3 +107,14 @@ contract_placed zs i k z h e = placed zs i h ∙ ap (λ j. slice_index_or (map (
   placed [] i h = absurd (omega arith)
   placed (x ∷ zs) zero h = refl
   placed (x ∷ zs) (suc i) h = placed zs i (omega arith)
+
+-- of one mode of an import, and of those behind it
+pub imported_first : (c : Name) (m : (List Name × Name) × Size) (ms : List ((List Name × Name) × Size)) →
+    cut_modes (map (imported_size c) (those_with is_own (m ∷ []))) ++ cut_modes (map (imported_size c) (those_with is_own ms))
+    ≡ cut_modes (map (imported_size c) (those_with is_own (m ∷ ms)))
+imported_first c m ms = go (is_own m.0.0)
+  where
+    go : (b : Bool) → cut_modes (map (imported_size c) (cond b (m ∷ []) [])) ++ cut_modes (map (imported_size c) (those_with is_own ms))
+        ≡ cut_modes (map (imported_size c) (cond b (m ∷ those_with is_own ms) (those_with is_own ms)))
+    go true = refl
+    go false = refl

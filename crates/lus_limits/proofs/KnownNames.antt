@@ -1,5 +1,5 @@
 -- Names that are added to a table.
-use Rattle.std.proofs.Common.{◌≡◌, ℕ, ◌+◌, ◌<◌, length, take, get_or, map, append_assoc, Bool, true, false, ◌||◌, cond, List, [], ◌∷◌, ◌++◌, refl, sym, ap, ◌∙◌, subst}
+use Rattle.std.proofs.Common.{◌≡◌, ℕ, ◌+◌, ◌<◌, length, take, get_or, map, Bool, true, false, ◌||◌, cond, List, [], ◌∷◌, ◌++◌, refl, sym, ap, ◌∙◌, subst}
 use Rattle.std.specs.Str.{bytes_eq}
 use Rattle.std.proofs.lemmas.List.{map_more}
 use Rattle.std.proofs.lemmas.Grind.{flat_map-append}
@@ -83,11 +83,8 @@ ghost_lefts cs ds = ap lefts_of (ghosts_both cs ds) ∙ lefts_both (ghost_equati
 pub body_lefts : (ss ts : List Statement) → lefts_of (body_equations (ss ++ ts)) ≡ lefts_of (body_equations ss) ++ lefts_of (body_equations ts)
 body_lefts ss ts = ap lefts_of (bodies_both ss ts) ∙ lefts_both (body_equations ss) (body_equations ts)
 
-pub all_known : (a b c : List Name) (n : Component) (xs : List Name) → HasThese [] a xs → HasThese a b (lefts_of (ghost_equations (contract_statements n)))
-    → HasThese b c (lefts_of (body_equations n.body)) → HasThese [] c (xs ++ left_names n)
-all_known a b c n xs h g k =
-    subst (HasThese [] c)
-    (append_assoc xs (lefts_of (ghost_equations (contract_statements n))) (lefts_of (body_equations n.body))
-    ∙ ap (λ z. xs ++ z) (sym (lefts_both (ghost_equations (contract_statements n)) (body_equations n.body))))
-    (these_more [] b c (xs ++ lefts_of (ghost_equations (contract_statements n))) (lefts_of (body_equations n.body))
-    (these_more [] a b xs (lefts_of (ghost_equations (contract_statements n))) h g) k)
+pub defined_more : (a b c : List Name) (n : Component) → HasThese a b (lefts_of (ghost_equations (contract_statements n)))
+    → HasThese b c (lefts_of (body_equations n.body)) → HasThese a c (left_names n)
+defined_more a b c n h g =
+    subst (HasThese a c) (sym (lefts_both (ghost_equations (contract_statements n)) (body_equations n.body)))
+    (these_more a b c (lefts_of (ghost_equations (contract_statements n))) (lefts_of (body_equations n.body)) h g)

@@ -61,7 +61,7 @@ fn add_assumption<'a>(names: Names<'a, '_>, contract: &mut ContractSize, e: &'a 
         names,
         modes: &contract.modes,
     };
-    let size = measure(scope, e).size;
+    let size = measure(&scope, e).size;
     contract.assumes = cut(greater(contract.assumes, size));
     contract.assumed = followed(contract.assumed, asked(size));
 }
@@ -76,9 +76,9 @@ fn add_promises(contract: &mut ContractSize, size: Size)
 }
 
 /// All requires of a mode, joined.
-fn required<'a>(scope: Scope<'a, '_>, labelled: &'a [Named]) -> Size
-    ensures { size_view result ≡ cut_term (all_of (sizes_of (names_view scope.entry.names)
-        (modes_view scope.entry.modes.now) (map named_view labelled.now))) }
+fn required<'a>(scope: &Scope<'a, '_>, labelled: &'a [Named]) -> Size
+    ensures { size_view result ≡ cut_term (all_of (sizes_of (names_view scope.now.names)
+        (modes_view scope.now.modes.now) (map named_view labelled.now))) }
 {
     let mut chain = no_chain();
     for named in labelled {
@@ -89,19 +89,19 @@ fn required<'a>(scope: Scope<'a, '_>, labelled: &'a [Named]) -> Size
 
 /// Of a promise under requires of that size.
 #[tactic(auto, using(crate::proofs::Contracted::asked_cut))]
-fn promised<'a>(scope: Scope<'a, '_>, asked: Size, e: &'a Expr) -> Size
-    ensures { size_view result ≡ cut_term (asked_size (size_view asked) (size_in (names_view scope.entry.names)
-        (modes_view scope.entry.modes.now) (expr_view e.now))) }
+fn promised<'a>(scope: &Scope<'a, '_>, asked: Size, e: &'a Expr) -> Size
+    ensures { size_view result ≡ cut_term (asked_size (size_view asked) (size_in (names_view scope.now.names)
+        (modes_view scope.now.modes.now) (expr_view e.now))) }
 {
     one(two(asked, one(measure(scope, e).size)))
 }
 
 /// The greatest of what a mode ensures under requires of that size.
 #[tactic(auto, using(crate::proofs::Greatest::greatest_on, crate::proofs::Greatest::greatest_cut, crate::proofs::Greatest::greatest_end))]
-fn ensured<'a>(scope: Scope<'a, '_>, asked: Size, labelled: &'a [Named]) -> Size
+fn ensured<'a>(scope: &Scope<'a, '_>, asked: Size, labelled: &'a [Named]) -> Size
     ensures { size_view result ≡ cut_term (peak
-        (map (asked_size (size_view asked)) (sizes_of (names_view scope.entry.names)
-        (modes_view scope.entry.modes.now) (map named_view labelled.now)))) }
+        (map (asked_size (size_view asked)) (sizes_of (names_view scope.now.names)
+        (modes_view scope.now.modes.now) (map named_view labelled.now)))) }
 {
     let mut size = no_size();
     for named in labelled {
@@ -210,8 +210,8 @@ fn add_mode_item<'a>(
         names,
         modes: &contract.modes,
     };
-    let asked = required(scope, conditions);
-    let promised = ensured(scope, asked, promises);
+    let asked = required(&scope, conditions);
+    let promised = ensured(&scope, asked, promises);
     add_promises(contract, promised);
     add_mode(alloc, contract, mode, asked)?;
     Ok(())
@@ -255,7 +255,7 @@ fn add_item<'a>(
                 names,
                 modes: &contract.modes,
             };
-            let size = measure(scope, &named.value).size;
+            let size = measure(&scope, &named.value).size;
             add_promises(contract, size);
         }
         ContractItem::Mode(mode, conditions, promises) => {

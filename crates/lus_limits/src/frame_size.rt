@@ -112,9 +112,9 @@ fn own_terms<'a>(names: Names<'a, '_>, contract: &ContractSize, known: &NameTabl
         names,
         modes: &contract.modes,
     };
-    let contract_terms = all_contract_terms(scope, names.owner.contract());
-    let constants = constant_terms(scope, names.owner.constants());
-    let body = body_terms(scope, names.owner.body());
+    let contract_terms = all_contract_terms(&scope, names.owner.contract());
+    let constants = constant_terms(&scope, names.owner.constants());
+    let body = body_terms(&scope, names.owner.body());
     let free = all_free(known, names);
     let sofar = sofar_terms(names.owner, contract.assumed.whole);
     greater(

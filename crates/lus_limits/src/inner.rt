@@ -17,8 +17,8 @@ use lus_streams::clock::Clock;
 use lus_tree::{Expr, Form};
 
 /// Of what `pre` keeps of an operand on that clock.
-fn memory_size<'a>(scope: Scope<'a, '_>, clock: Clock<'a>, operand: &'a Expr) -> Size
-    ensures { size_view result ≡ cut_term (memory_of (names_view scope.entry.names) (modes_view scope.entry.modes.now)
+fn memory_size<'a>(scope: &Scope<'a, '_>, clock: Clock<'a>, operand: &'a Expr) -> Size
+    ensures { size_view result ≡ cut_term (memory_of (names_view scope.now.names) (modes_view scope.now.modes.now)
         (clock_seen clock.entry) (expr_view operand.now)) }
 {
     let operand = measure(scope, operand).size;
@@ -26,8 +26,8 @@ fn memory_size<'a>(scope: Scope<'a, '_>, clock: Clock<'a>, operand: &'a Expr) ->
 }
 
 /// Of what `->` keeps on that clock.
-fn start_size<'a>(scope: Scope<'a, '_>, clock: Clock<'a>) -> Size
-    ensures { size_view result ≡ cut_term (start_of (names_view scope.entry.names) (clock_seen clock.entry)) }
+fn start_size<'a>(scope: &Scope<'a, '_>, clock: Clock<'a>) -> Size
+    ensures { size_view result ≡ cut_term (start_of (names_view scope.now.names) (clock_seen clock.entry)) }
 {
     two(leaf(), two(leaf(), one(presence(scope.names, clock))))
 }
@@ -41,9 +41,9 @@ pub(crate) fn given(presence: Size, value: Size) -> Size
 
 /// Of the arguments of a call.
 #[tactic(auto, using(crate::proofs::Greatest::greatest_on, crate::proofs::Greatest::greatest_cut, crate::proofs::Greatest::greatest_end))]
-fn argument_terms<'a>(scope: Scope<'a, '_>, arguments: &'a [Expr]) -> Size
-    ensures { size_view result ≡ cut_term (argument_terms (names_view scope.entry.names)
-        (modes_view scope.entry.modes.now) (map expr_view arguments.now)) }
+fn argument_terms<'a>(scope: &Scope<'a, '_>, arguments: &'a [Expr]) -> Size
+    ensures { size_view result ≡ cut_term (argument_terms (names_view scope.now.names)
+        (modes_view scope.now.modes.now) (map expr_view arguments.now)) }
 {
     let mut size = no_size();
     for argument in arguments {
@@ -54,9 +54,9 @@ fn argument_terms<'a>(scope: Scope<'a, '_>, arguments: &'a [Expr]) -> Size
 
 /// Of a call on that clock.
 #[tactic(auto, using(crate::proofs::Greatest::greater_cuts, crate::proofs::Greatest::listed_view))]
-fn call_terms<'a>(scope: Scope<'a, '_>, clock: Clock<'a>, arguments: &'a [Expr]) -> Size
-    ensures { size_view result ≡ cut_term (call_terms (names_view scope.entry.names)
-        (modes_view scope.entry.modes.now) (clock_seen clock.entry) (listed (joined (exprs_view arguments.now)))) }
+fn call_terms<'a>(scope: &Scope<'a, '_>, clock: Clock<'a>, arguments: &'a [Expr]) -> Size
+    ensures { size_view result ≡ cut_term (call_terms (names_view scope.now.names)
+        (modes_view scope.now.modes.now) (clock_seen clock.entry) (listed (joined (exprs_view arguments.now)))) }
 {
     let beat = two(leaf(), presence(scope.names, clock));
     greater(beat, argument_terms(scope, arguments))
@@ -65,13 +65,13 @@ fn call_terms<'a>(scope: Scope<'a, '_>, clock: Clock<'a>, arguments: &'a [Expr])
 /// Of a call on that clock where a condition is true.
 #[tactic(auto, using(crate::proofs::Greatest::greater_cuts, crate::proofs::Greatest::listed_view))]
 fn condition_terms<'a>(
-    scope: Scope<'a, '_>,
+    scope: &Scope<'a, '_>,
     clock: Clock<'a>,
     condition: &'a Expr,
     arguments: &'a [Expr],
 ) -> Size
-    ensures { size_view result ≡ cut_term (condition_terms (names_view scope.entry.names)
-        (modes_view scope.entry.modes.now) (clock_seen clock.entry) (expr_view condition.now)
+    ensures { size_view result ≡ cut_term (condition_terms (names_view scope.now.names)
+        (modes_view scope.now.modes.now) (clock_seen clock.entry) (expr_view condition.now)
         (listed (joined (exprs_view arguments.now)))) }
 {
     let active = two(presence(scope.names, clock), measure(scope, condition).size);
@@ -85,9 +85,9 @@ fn condition_terms<'a>(
 
 /// Of an import.
 #[tactic(auto, using(crate::proofs::Greatest::greater_cuts))]
-pub(crate) fn import_terms<'a>(scope: Scope<'a, '_>, arguments: &'a [Expr]) -> Size
-    ensures { size_view result ≡ cut_term (import_terms (names_view scope.entry.names)
-        (modes_view scope.entry.modes.now) (map expr_view arguments.now)) }
+pub(crate) fn import_terms<'a>(scope: &Scope<'a, '_>, arguments: &'a [Expr]) -> Size
+    ensures { size_view result ≡ cut_term (import_terms (names_view scope.now.names)
+        (modes_view scope.now.modes.now) (map expr_view arguments.now)) }
 {
     greater(given(leaf(), leaf()), argument_terms(scope, arguments))
 }
@@ -96,9 +96,9 @@ pub(crate) fn import_terms<'a>(scope: Scope<'a, '_>, arguments: &'a [Expr]) -> S
 /// keep, and what stands for calls.
 #[cycle(inner)]
 #[tactic(auto, using(lus_tree::proofs::Views::form_views))]
-pub(crate) fn inner<'a>(scope: Scope<'a, '_>, clock: Clock<'a>, e: &'a Expr) -> Size
-    ensures { size_view result ≡ cut_term (inner_in (names_view scope.entry.names)
-        (modes_view scope.entry.modes.now) (clock_seen clock.entry) (expr_view e.now)) }
+pub(crate) fn inner<'a>(scope: &Scope<'a, '_>, clock: Clock<'a>, e: &'a Expr) -> Size
+    ensures { size_view result ≡ cut_term (inner_in (names_view scope.now.names)
+        (modes_view scope.now.modes.now) (clock_seen clock.entry) (expr_view e.now)) }
 {
     match &e.form {
         Form::Not(a) | Form::Minus(a) => inner(scope, clock, a),
@@ -136,9 +136,9 @@ pub(crate) fn inner<'a>(scope: Scope<'a, '_>, clock: Clock<'a>, e: &'a Expr) -> 
 /// The greatest of the terms for what stands in these expressions.
 #[cycle(inner)]
 #[tactic(auto, using(crate::proofs::Greatest::greatest_on, crate::proofs::Greatest::greatest_cut, crate::proofs::Greatest::greatest_end))]
-fn inner_among<'a>(scope: Scope<'a, '_>, clock: Clock<'a>, values: &'a [Expr]) -> Size
-    ensures { size_view result ≡ cut_term (inner_among (names_view scope.entry.names)
-        (modes_view scope.entry.modes.now) (clock_seen clock.entry) (joined (exprs_view values.now))) }
+fn inner_among<'a>(scope: &Scope<'a, '_>, clock: Clock<'a>, values: &'a [Expr]) -> Size
+    ensures { size_view result ≡ cut_term (inner_among (names_view scope.now.names)
+        (modes_view scope.now.modes.now) (clock_seen clock.entry) (joined (exprs_view values.now))) }
 {
     let mut size = no_size();
     for value in values {

@@ -90,19 +90,29 @@ fn add_lefts(alloc: Global, names: &mut NameTable, items: &[Item]) -> Result<(),
     Ok(())
 }
 
+/// Adds the names that an equation gives.
+#[tactic(auto, using(crate::proofs::KnownNames::defined_more))]
+fn add_defined(alloc: Global, names: &mut NameTable, owner: Owner<'_>) -> Result<(), AllocError>
+    ensures { OnOk result (HasThese names.old names.new (left_names (owner_view owner.entry))) }
+{
+    add_ghosts(alloc, names, owner.contract())?;
+    add_lefts(alloc, names, owner.body())?;
+    Ok(())
+}
+
 /// The names that an equation gives, or the caller, where it gives the inputs.
 ///
 /// # Errors
 ///
 /// Want of memory.
+#[tactic(auto, using(crate::proofs::KnownNames::these_more))]
 pub(crate) fn known_when_called(alloc: Global, owner: Owner<'_>) -> Result<NameTable, AllocError>
     ensures { IfOk result (λ t. HasThese [] t (inputs_given (owner_view owner.entry) ++ left_names
         (owner_view owner.entry))) }
 {
     let mut names = NameTable::new(alloc);
     add_streams(alloc, &mut names, owner.inputs())?;
-    add_ghosts(alloc, &mut names, owner.contract())?;
-    add_lefts(alloc, &mut names, owner.body())?;
+    add_defined(alloc, &mut names, owner)?;
     Ok(names)
 }
 
@@ -111,6 +121,7 @@ pub(crate) fn known_when_called(alloc: Global, owner: Owner<'_>) -> Result<NameT
 /// # Errors
 ///
 /// Want of memory.
+#[tactic(auto, using(crate::proofs::KnownNames::these_more))]
 pub(crate) fn known_when_imported(alloc: Global, owner: Owner<'_>) -> Result<NameTable, AllocError>
     ensures { IfOk result (λ t. HasThese [] t (all_given (owner_view owner.entry) ++ left_names
         (owner_view owner.entry))) }
@@ -118,7 +129,6 @@ pub(crate) fn known_when_imported(alloc: Global, owner: Owner<'_>) -> Result<Nam
     let mut names = NameTable::new(alloc);
     add_streams(alloc, &mut names, owner.inputs())?;
     add_streams(alloc, &mut names, owner.outputs())?;
-    add_ghosts(alloc, &mut names, owner.contract())?;
-    add_lefts(alloc, &mut names, owner.body())?;
+    add_defined(alloc, &mut names, owner)?;
     Ok(names)
 }

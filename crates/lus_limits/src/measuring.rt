@@ -1,6 +1,6 @@
 //! The sizes of the terms of expressions.
 
-ghost use Rattle.std.specs.Prelude.{◌≡◌, ◌&&◌, cond, not, length, map, option_map, option_to_list, unwrap_or};
+ghost use Rattle.std.specs.Prelude.{◌≡◌, ◌&&◌, cond, false, not, length, map, option_map, option_to_list, unwrap_or};
 ghost use Rattle.std.specs.Map.{lookup};
 ghost use Rattle.lus_tree.specs.Tree.{Place, text_of};
 ghost use Rattle.lus_tree.specs.View.{expr_view, form_view, word_view};
@@ -114,13 +114,32 @@ fn operated(operator: Operator, fixed: bool, left: Size, right: Size) -> Size
     }
 }
 
+/// What is a constant or not, of a term of that size where it is none.
+fn judged(fixed: bool, size: Size) -> Measured
+    ensures fixed { result.fixed ≡ fixed }
+    ensures size { size_view result.size ≡ cond fixed leaf (size_view size) }
+{
+    Measured {
+        fixed,
+        size: unless_fixed(fixed, size),
+    }
+}
+
+/// What is no constant.
+fn varying(size: Size) -> Measured
+    ensures fixed { result.fixed ≡ false }
+    ensures size { size_view result.size ≡ size_view size }
+{
+    Measured { fixed: false, size }
+}
+
 /// Whether an expression is a constant, and the size of its term.
 #[cycle(measure)]
 #[tactic(auto, using(lus_tree::proofs::Views::form_views))]
-pub(crate) fn measure(scope: Scope<'_, '_>, e: &Expr) -> Measured
-    ensures fixed { result.fixed ≡ is_fixed (names_view scope.entry.names) (expr_view e.now) }
+pub(crate) fn measure(scope: &Scope<'_, '_>, e: &Expr) -> Measured
+    ensures fixed { result.fixed ≡ is_fixed (names_view scope.now.names) (expr_view e.now) }
     ensures size { size_view result.size
-        ≡ cut_term (size_in (names_view scope.entry.names) (modes_view scope.entry.modes.now) (expr_view e.now)) }
+        ≡ cut_term (size_in (names_view scope.now.names) (modes_view scope.now.modes.now) (expr_view e.now)) }
 {
     match &e.form {
         Form::Truth(_) | Form::Number(_) => Measured {
@@ -133,50 +152,27 @@ pub(crate) fn measure(scope: Scope<'_, '_>, e: &Expr) -> Measured
         },
         Form::Not(a) | Form::Minus(a) => {
             let inner = measure(scope, a);
-            Measured {
-                fixed: inner.fixed,
-                size: unless_fixed(inner.fixed, one(inner.size)),
-            }
+            judged(inner.fixed, one(inner.size))
         }
         Form::Binary(operator, a, b) => {
             let left = measure(scope, a);
             let right = measure(scope, b);
-            let fixed = left.fixed && right.fixed;
             let size = operated(*operator, left.fixed, left.size, right.size);
-            Measured {
-                fixed,
-                size: unless_fixed(fixed, size),
-            }
+            judged(left.fixed && right.fixed, size)
         }
         Form::If(a, b, c) => {
             let condition = measure(scope, a);
             let chosen = measure(scope, b);
             let otherwise = measure(scope, c);
             let fixed = condition.fixed && chosen.fixed && otherwise.fixed;
-            Measured {
-                fixed,
-                size: unless_fixed(fixed, three(condition.size, chosen.size, otherwise.size)),
-            }
+            judged(fixed, three(condition.size, chosen.size, otherwise.size))
         }
-        Form::When(a, _, _) => Measured {
-            fixed: false,
-            size: measure(scope, a).size,
-        },
-        Form::Arrow(_, a, b) | Form::Merge(_, a, b) => Measured {
-            fixed: false,
-            size: three(leaf(), measure(scope, a).size, measure(scope, b).size),
-        },
-        Form::Pre(_, _) | Form::Call(_, _, _) => Measured {
-            fixed: false,
-            size: leaf(),
-        },
-        Form::Condact(_, _, _, _, _) => Measured {
-            fixed: false,
-            size: three(leaf(), leaf(), leaf()),
-        },
-        Form::ModeName(contract, mode) => Measured {
-            fixed: false,
-            size: mode_size(scope.modes, contract, mode),
-        },
+        Form::When(a, _, _) => varying(measure(scope, a).size),
+        Form::Arrow(_, a, b) | Form::Merge(_, a, b) => {
+            varying(three(leaf(), measure(scope, a).size, measure(scope, b).size))
+        }
+        Form::Pre(_, _) | Form::Call(_, _, _) => varying(leaf()),
+        Form::Condact(_, _, _, _, _) => varying(three(leaf(), leaf(), leaf())),
+        Form::ModeName(contract, mode) => varying(mode_size(scope.modes, contract, mode)),
     }
 }

@@ -20,9 +20,9 @@ use lus_tree::Item;
 use name_table::NameTable;
 
 /// Of an item, where it is a property.
-fn property_term<'a>(scope: Scope<'a, '_>, item: &'a Item) -> Size
-    ensures { size_view result ≡ cut_term (property_term (names_view scope.entry.names)
-        (modes_view scope.entry.modes.now) (item_view item.now)) }
+fn property_term<'a>(scope: &Scope<'a, '_>, item: &'a Item) -> Size
+    ensures { size_view result ≡ cut_term (property_term (names_view scope.now.names)
+        (modes_view scope.now.modes.now) (item_view item.now)) }
 {
     match item {
         Item::Property(named) => measure(scope, &named.value).size,
@@ -32,9 +32,9 @@ fn property_term<'a>(scope: Scope<'a, '_>, item: &'a Item) -> Size
 
 /// The greatest of the properties of a body.
 #[tactic(auto, using(crate::proofs::Greatest::greatest_on, crate::proofs::Greatest::greatest_cut, crate::proofs::Greatest::greatest_end))]
-fn property_terms<'a>(scope: Scope<'a, '_>, items: &'a [Item]) -> Size
-    ensures { size_view result ≡ cut_term (property_terms (names_view scope.entry.names)
-        (modes_view scope.entry.modes.now) (map item_view items.now)) }
+fn property_terms<'a>(scope: &Scope<'a, '_>, items: &'a [Item]) -> Size
+    ensures { size_view result ≡ cut_term (property_terms (names_view scope.now.names)
+        (modes_view scope.now.modes.now) (map item_view items.now)) }
 {
     let mut size = no_size();
     for item in items {
@@ -100,7 +100,7 @@ pub(crate) fn node_terms<'a>(
         names,
         modes: &contract.modes,
     };
-    let properties = property_terms(scope, names.owner.body());
+    let properties = property_terms(&scope, names.owner.body());
     let owed = owed_terms(numbers, known, calls);
     let promised = greater(contract.promises, greater(contract.active.whole, owed));
     cut(greater(

@@ -26,8 +26,8 @@ use name_table::NameTable;
 
 /// Of an equation of names on a clock, and of what stands in its right side, on another.
 #[tactic(auto, using(crate::proofs::Greatest::greater_cuts, crate::proofs::Greatest::given_cut))]
-fn side_terms<'a>(scope: Scope<'a, '_>, own: Clock<'a>, clock: Clock<'a>, e: &'a Expr) -> Size
-    ensures { size_view result ≡ cut_term (side_on (names_view scope.entry.names) (modes_view scope.entry.modes.now)
+fn side_terms<'a>(scope: &Scope<'a, '_>, own: Clock<'a>, clock: Clock<'a>, e: &'a Expr) -> Size
+    ensures { size_view result ≡ cut_term (side_on (names_view scope.now.names) (modes_view scope.now.modes.now)
         (clock_seen own.entry) (clock_seen clock.entry) (expr_view e.now)) }
 {
     let value = measure(scope, e).size;
@@ -39,9 +39,9 @@ fn side_terms<'a>(scope: Scope<'a, '_>, own: Clock<'a>, clock: Clock<'a>, e: &'a
 
 /// Of what stands in labelled expressions.
 #[tactic(auto, using(crate::proofs::Greatest::greatest_on, crate::proofs::Greatest::greatest_cut, crate::proofs::Greatest::greatest_end))]
-fn inner_labelled<'a>(scope: Scope<'a, '_>, labelled: &'a [Named]) -> Size
-    ensures { size_view result ≡ cut_term (inner_labelled (names_view scope.entry.names)
-        (modes_view scope.entry.modes.now) (map named_view labelled.now)) }
+fn inner_labelled<'a>(scope: &Scope<'a, '_>, labelled: &'a [Named]) -> Size
+    ensures { size_view result ≡ cut_term (inner_labelled (names_view scope.now.names)
+        (modes_view scope.now.modes.now) (map named_view labelled.now)) }
 {
     let mut size = no_size();
     for named in labelled {
@@ -52,9 +52,9 @@ fn inner_labelled<'a>(scope: Scope<'a, '_>, labelled: &'a [Named]) -> Size
 
 /// Of what stands in expressions.
 #[tactic(auto, using(crate::proofs::Greatest::greatest_on, crate::proofs::Greatest::greatest_cut, crate::proofs::Greatest::greatest_end))]
-fn inner_each<'a>(scope: Scope<'a, '_>, values: &'a [Expr]) -> Size
-    ensures { size_view result ≡ cut_term (inner_each (names_view scope.entry.names)
-        (modes_view scope.entry.modes.now) (map expr_view values.now)) }
+fn inner_each<'a>(scope: &Scope<'a, '_>, values: &'a [Expr]) -> Size
+    ensures { size_view result ≡ cut_term (inner_each (names_view scope.now.names)
+        (modes_view scope.now.modes.now) (map expr_view values.now)) }
 {
     let mut size = no_size();
     for value in values {
@@ -65,9 +65,9 @@ fn inner_each<'a>(scope: Scope<'a, '_>, values: &'a [Expr]) -> Size
 
 /// Of an item of a contract.
 #[tactic(auto, using(crate::proofs::Greatest::greater_cuts))]
-fn contract_terms<'a>(scope: Scope<'a, '_>, item: &'a ContractItem) -> Size
-    ensures { size_view result ≡ cut_term (contract_terms (names_view scope.entry.names)
-        (modes_view scope.entry.modes.now) (contract_item_view item.now)) }
+fn contract_terms<'a>(scope: &Scope<'a, '_>, item: &'a ContractItem) -> Size
+    ensures { size_view result ≡ cut_term (contract_terms (names_view scope.now.names)
+        (modes_view scope.now.modes.now) (contract_item_view item.now)) }
 {
     match item {
         ContractItem::Assume(named) | ContractItem::Guarantee(named) => {
@@ -92,9 +92,9 @@ fn contract_terms<'a>(scope: Scope<'a, '_>, item: &'a ContractItem) -> Size
 
 /// Of the items of a contract.
 #[tactic(auto, using(crate::proofs::Greatest::greatest_on, crate::proofs::Greatest::greatest_cut, crate::proofs::Greatest::greatest_end))]
-pub(crate) fn all_contract_terms<'a>(scope: Scope<'a, '_>, items: &'a [ContractItem]) -> Size
-    ensures { size_view result ≡ cut_term (all_contract_terms (names_view scope.entry.names)
-        (modes_view scope.entry.modes.now) (map contract_item_view items.now)) }
+pub(crate) fn all_contract_terms<'a>(scope: &Scope<'a, '_>, items: &'a [ContractItem]) -> Size
+    ensures { size_view result ≡ cut_term (all_contract_terms (names_view scope.now.names)
+        (modes_view scope.now.modes.now) (map contract_item_view items.now)) }
 {
     let mut size = no_size();
     for item in items {
@@ -105,9 +105,9 @@ pub(crate) fn all_contract_terms<'a>(scope: Scope<'a, '_>, items: &'a [ContractI
 
 /// Of what stands in constants.
 #[tactic(auto, using(crate::proofs::Greatest::greatest_on, crate::proofs::Greatest::greatest_cut, crate::proofs::Greatest::greatest_end))]
-pub(crate) fn constant_terms<'a>(scope: Scope<'a, '_>, constants: &'a [Definition]) -> Size
-    ensures { size_view result ≡ cut_term (constant_terms (names_view scope.entry.names)
-        (modes_view scope.entry.modes.now) (map definition_view constants.now)) }
+pub(crate) fn constant_terms<'a>(scope: &Scope<'a, '_>, constants: &'a [Definition]) -> Size
+    ensures { size_view result ≡ cut_term (constant_terms (names_view scope.now.names)
+        (modes_view scope.now.modes.now) (map definition_view constants.now)) }
 {
     let mut size = no_size();
     for constant in constants {
@@ -118,9 +118,9 @@ pub(crate) fn constant_terms<'a>(scope: Scope<'a, '_>, constants: &'a [Definitio
 
 /// Of an item of a body.
 #[tactic(auto, using(crate::proofs::Greatest::greater_cuts))]
-fn statement_terms<'a>(scope: Scope<'a, '_>, item: &'a Item) -> Size
-    ensures { size_view result ≡ cut_term (statement_terms (names_view scope.entry.names)
-        (modes_view scope.entry.modes.now) (item_view item.now)) }
+fn statement_terms<'a>(scope: &Scope<'a, '_>, item: &'a Item) -> Size
+    ensures { size_view result ≡ cut_term (statement_terms (names_view scope.now.names)
+        (modes_view scope.now.modes.now) (item_view item.now)) }
 {
     match item {
         Item::Equation(words, value) => {
@@ -138,9 +138,9 @@ fn statement_terms<'a>(scope: Scope<'a, '_>, item: &'a Item) -> Size
 
 /// Of the items of a body.
 #[tactic(auto, using(crate::proofs::Greatest::greatest_on, crate::proofs::Greatest::greatest_cut, crate::proofs::Greatest::greatest_end))]
-pub(crate) fn body_terms<'a>(scope: Scope<'a, '_>, items: &'a [Item]) -> Size
-    ensures { size_view result ≡ cut_term (body_terms (names_view scope.entry.names)
-        (modes_view scope.entry.modes.now) (map item_view items.now)) }
+pub(crate) fn body_terms<'a>(scope: &Scope<'a, '_>, items: &'a [Item]) -> Size
+    ensures { size_view result ≡ cut_term (body_terms (names_view scope.now.names)
+        (modes_view scope.now.modes.now) (map item_view items.now)) }
 {
     let mut size = no_size();
     for item in items {

@@ -15,17 +15,17 @@ use Rattle.lus_limits.proofs.contract_size.required.Goals as goal
 
 pub loop-named-preserved : goal.loop-named-preserved
 loop-named-preserved c =
-    joined_more (λ x. size_in (names_view c.args.scope.names) (modes_view c.args.scope.modes.now) (named_view x).value) c.args.labelled.now
+    joined_more (λ x. size_in (names_view c.args.scope.now.names) (modes_view c.args.scope.now.modes.now) (named_view x).value) c.args.labelled.now
     c.loop-named.named-index c.named-item.result (chain_view c.loop-named.chain) (chain_view c.followed-chain.result) (size_view c.measure.result.size)
     c.loop-named-test.true c.named-item.is c.loop-named.invariant c.measure.ensures.size
     (c.followed-chain.ensures ∙ ap (λ d. cut_chain (followed (chain_view c.loop-named.chain) d)) c.asked.ensures)
 
 pub returns : goal.returns
 returns c =
-    let view : Named → Size = λ x. size_in (names_view c.args.scope.names) (modes_view c.args.scope.modes.now) (named_view x).value in
+    let view : Named → Size = λ x. size_in (names_view c.args.scope.now.names) (modes_view c.args.scope.now.modes.now) (named_view x).value in
     let xs : List Named = c.args.labelled.now in
     ap (λ d. d.whole) c.loop-named.invariant
     ∙ ap (λ ys. cut_term (chain by_and (map view ys)).whole) (take_all c.loop-named.named-index xs c.loop-named-test.false)
     ∙ ap cut_term (sym (all_chained (map view xs)))
     ∙ ap (λ ss. cut_term (all_of ss))
-    (sym (mapped_twice (λ l. size_in (names_view c.args.scope.names) (modes_view c.args.scope.modes.now) l.value) named_view xs))
+    (sym (mapped_twice (λ l. size_in (names_view c.args.scope.now.names) (modes_view c.args.scope.now.modes.now) l.value) named_view xs))
