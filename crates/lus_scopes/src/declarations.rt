@@ -1,8 +1,7 @@
 //! The declarations of a program, by their names.
 
-ghost use Rattle.std.specs.Prelude.{◌≡◌, ◌∷◌, [], Some, None, cond, option_map, IfOk, OnOk};
+ghost use Rattle.std.specs.Prelude.{◌≡◌, ◌∷◌, [], option_map, IfOk, OnOk, map};
 ghost use Rattle.std.specs.Option.{option_or};
-ghost use Rattle.std.specs.Str.{bytes_eq};
 ghost use Rattle.lus_tree.specs.Tree.{Name};
 ghost use Rattle.lus_tree.specs.View.{contract_node_view, decl_view, node_view, program_view};
 ghost use Rattle.lus_meaning.specs.Scope.{contract_named, node_named};
@@ -10,6 +9,7 @@ ghost use Rattle.lus_meaning.specs.ExpressionFaults.{has_mode};
 ghost use Rattle.lus_scopes.specs.Meanings.{by_name, callee_view, first_named};
 
 use crate::callee::Callee;
+use crate::firsts::note;
 use crate::with_modes::WithModes;
 use indexmap::IndexMap;
 use lus_tree::{ContractNode, Decl, Node, Program};
@@ -46,21 +46,6 @@ impl<'a> Model for Declarations<'a> {
         × ((x : Name) → contract_named (program_view d.program.now) x ≡ option_and_then as_contract (by_name d.table x)) };
 }
 
-/// Notes a declaration of a name that has none yet.
-fn note<'a>(
-    table: &mut IndexMap<&'a str, Callee<'a>>,
-    name: &'a str,
-    callee: Callee<'a>,
-) -> Result<(), AllocError>
-    ensures { OnOk result ((x : Name) → by_name table.new x ≡ option_or (by_name table.old x)
-        (cond (bytes_eq x name.now) (Some callee.entry) None)) }
-{
-    if !table.contains_key(name) {
-        table.insert(name, callee)?;
-    }
-    Ok(())
-}
-
 /// Notes a declaration with parts.
 fn note_declaration<'a>(
     alloc: Global,
@@ -80,15 +65,28 @@ fn note_declaration<'a>(
     }
 }
 
+/// Notes the declarations with parts.
+fn note_declarations<'a>(
+    alloc: Global,
+    table: &mut IndexMap<&'a str, Callee<'a>>,
+    decls: &'a [Decl],
+) -> Result<(), AllocError>
+    ensures { OnOk result ((x : Name) → option_map callee_view (by_name table.new x)
+        ≡ option_or (option_map callee_view (by_name table.old x)) (first_named (map decl_view decls.now) x)) }
+{
+    for decl in decls {
+        note_declaration(alloc, table, decl)?;
+    }
+    Ok(())
+}
+
 /// A table of the declarations with parts.
 fn table_of(alloc: Global, program: &Program) -> Result<IndexMap<&str, Callee<'_>>, AllocError>
     ensures { IfOk result (λ m. (x : Name) → option_map callee_view (by_name m x)
         ≡ first_named (program_view program.now) x) }
 {
     let mut table = IndexMap::new(alloc);
-    for decl in &program.decls {
-        note_declaration(alloc, &mut table, decl)?;
-    }
+    note_declarations(alloc, &mut table, &program.decls)?;
     Ok(table)
 }
 

@@ -9,6 +9,7 @@ pub mod counted;
 pub mod declarations;
 mod equation;
 pub mod expression;
+mod firsts;
 mod forms;
 pub mod found;
 mod imports;

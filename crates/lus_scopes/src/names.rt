@@ -1,12 +1,10 @@
 //! Names with what they mean, as they are made.
 
-ghost use Rattle.std.specs.Prelude.{◌≡◌, ◌++◌, ◌∷◌, [], Some, None, cond, false, IfOk, OnErr, OnOk};
-ghost use Rattle.std.specs.Option.{option_or};
-ghost use Rattle.std.specs.Str.{bytes_eq};
-ghost use Rattle.lus_tree.specs.Tree.{Name};
+ghost use Rattle.std.specs.Prelude.{◌≡◌, ◌++◌, ◌∷◌, [], false, IfOk, OnErr};
 ghost use Rattle.lus_tree.specs.View.{word_view};
-ghost use Rattle.lus_scopes.specs.Meanings.{by_name, meaning_view};
+ghost use Rattle.lus_scopes.specs.Meanings.{meaning_view};
 
+use crate::firsts::note;
 use crate::layer::Layer;
 use crate::scope::{Entry, Extent, Meaning};
 use indexmap::IndexMap;
@@ -47,22 +45,6 @@ pub fn word<'a>(meaning: &Meaning<'a>) -> &'a PlacedName
         Meaning::Stream(_, param) => &param.name,
         Meaning::Constant(definition, _, _) => &definition.name,
     }
-}
-
-/// Notes what a name means that means nothing yet.
-fn note<'a>(
-    table: &mut IndexMap<&'a str, Entry<'a>>,
-    name: &'a str,
-    entry: Entry<'a>,
-) -> Result<(), AllocError>
-    ensures noted { OnOk result ((x : Name) → by_name table.new x ≡ option_or (by_name table.old x)
-        (cond (bytes_eq x name.now) (Some entry.entry) None)) }
-    ensures kept { OnErr result ((x : Name) → by_name table.new x ≡ by_name table.old x) }
-{
-    if !table.contains_key(name) {
-        table.insert(name, entry)?;
-    }
-    Ok(())
 }
 
 impl<'a> Names<'a> {

@@ -26,15 +26,14 @@ fn push_mode<'a>(modes: &mut Counted<'a>, item: &'a ContractItem) -> Result<(), 
     Ok(())
 }
 
-/// The modes of a contract.
-fn modes_of(alloc: Global, items: &[ContractItem]) -> Result<Counted<'_>, AllocError>
-    ensures { IfOk result (λ m. m ≡ mode_names (map contract_item_view items.now)) }
+/// The modes, and behind them those of these items.
+fn push_modes<'a>(modes: &mut Counted<'a>, items: &'a [ContractItem]) -> Result<(), AllocError>
+    ensures { IfOk result (λ _. modes.new ≡ modes.old ++ mode_names (map contract_item_view items.now)) }
 {
-    let mut modes = Counted::new(alloc);
     for item in items {
-        push_mode(&mut modes, item)?;
+        push_mode(modes, item)?;
     }
-    Ok(modes)
+    Ok(())
 }
 
 impl<'a> WithModes<'a> {
@@ -46,7 +45,8 @@ impl<'a> WithModes<'a> {
     pub(crate) fn of(alloc: Global, contract: &'a ContractNode) -> Result<Self, AllocError>
         ensures { IfOk result (λ c. c.contract.now ≡ contract.now) }
     {
-        let modes = modes_of(alloc, &contract.items)?;
+        let mut modes = Counted::new(alloc);
+        push_modes(&mut modes, &contract.items)?;
         Ok(WithModes { contract, modes })
     }
 }
