@@ -9,6 +9,7 @@ ghost use Rattle.lus_meaning.specs.Grammatical.{IsGrammatical};
 ghost use Rattle.lus_meaning.specs.NameFaults.{start_of_text};
 ghost use Rattle.lus_meaning.specs.Refusals.{IsChecked, IsClocked, IsWithinLimits};
 ghost use Rattle.lus_order.specs.Checked.{AreLeastOrders};
+ghost use Rattle.lus_order.specs.Dependences.{orders_seen};
 ghost use Rattle.lus_bounds.specs.Passed.{name_seen};
 ghost use Rattle.lus_checked.specs.Main.{main_node};
 ghost use Rattle.lus_checked.specs.Program.{IsCheckedWith, main_of, tree_of};
@@ -19,7 +20,7 @@ use crate::main_node::main_number;
 use crate::orders::all_narrowed;
 use lus_bounds::limits;
 use lus_clocks::Clocked;
-use lus_order::equations;
+use lus_order::{Dependence, equations};
 use lus_tree::{Pos, Program, Refusal, What};
 use std::alloc::{AllocError, Global};
 
@@ -41,17 +42,17 @@ struct Found {
     main: u32,
 }
 
-/// What is found of a program, by its orders, where it is within the limits.
+/// What is found of a program, by what is found of its declarations, where it is within the limits.
 fn with_main(
     alloc: Global,
     program: &Program,
-    orders: &[Vec<usize>],
+    found: &[Dependence],
     main: Option<&str>,
 ) -> Result<Found, AllocError>
     requires checked { IsChecked (program_view program.now) }
     requires within { IsWithinLimits (program_view program.now) (name_seen main) }
     requires orders { AreLeastOrders (program_view program.now) (components (program_view program.now))
-        (map (λ o. o.items) orders.now) }
+        (orders_seen found.now) }
     ensures found { IfOk result (λ f. IsCheckedWith (program_view program.now) f.main
         (map (λ o. o.items) f.orders.items)) }
     ensures main { IfOk result (λ f. main_node (program_view program.now) (name_seen main.entry) ≡ Some f.main) }
@@ -62,7 +63,7 @@ fn with_main(
     let Ok(main) = u32::try_from(number) else {
         return Err(AllocError);
     };
-    let orders = all_narrowed(alloc, orders)?;
+    let orders = all_narrowed(alloc, found)?;
     Ok(Found { orders, main })
 }
 
@@ -77,9 +78,9 @@ fn judged(alloc: Global, program: &Program, main: Option<&str>) -> Result<Found,
     ensures main { IfOk result (λ f. main_node (program_view program.now) (name_seen main.entry) ≡ Some f.main) }
     ensures refused { IfErr result (λ e. IsRefusal (program_view program.now) (name_seen main.entry) (refusal_view e)) }
 {
-    let orders = equations(alloc, program)?;
+    let found = equations(alloc, program)?;
     limits(alloc, program, main)?;
-    match with_main(alloc, program, orders.as_slice(), main) {
+    match with_main(alloc, program, found.as_slice(), main) {
         Ok(found) => Ok(found),
         Err(_) => Err(no_memory()),
     }

@@ -1,7 +1,9 @@
 //! The orders of equations by numbers of 32 bits.
 
 ghost use Rattle.std.specs.Prelude.{◌≡◌, IfOk, map};
+ghost use Rattle.lus_order.specs.Dependences.{orders_seen};
 
+use lus_order::Dependence;
 use std::alloc::{AllocError, Global};
 
 /// A list of numbers, in 32 bits.
@@ -22,20 +24,17 @@ fn narrowed(alloc: Global, order: &[usize]) -> Result<Vec<u32>, AllocError>
     Ok(numbers)
 }
 
-/// Lists of numbers, in 32 bits.
+/// The orders of declarations, in 32 bits.
 ///
 /// # Errors
 ///
 /// Want of memory, or a number that 32 bits can't hold.
-pub(crate) fn all_narrowed(
-    alloc: Global,
-    orders: &[Vec<usize>],
-) -> Result<Vec<Vec<u32>>, AllocError>
-    ensures { IfOk result (λ v. map (λ o. o.items) v.items ≡ map (λ o. o.items) orders.now) }
+pub(crate) fn all_narrowed(alloc: Global, found: &[Dependence]) -> Result<Vec<Vec<u32>>, AllocError>
+    ensures { IfOk result (λ v. map (λ o. o.items) v.items ≡ orders_seen found.now) }
 {
     let mut all = Vec::new(alloc);
-    for order in orders {
-        all.push(narrowed(alloc, order.as_slice())?)?;
+    for dependence in found {
+        all.push(narrowed(alloc, dependence.order.as_slice())?)?;
     }
     Ok(all)
 }

@@ -3,20 +3,22 @@ use Rattle.std.proofs.Common.{◌≡◌, ℕ, zero, suc, Bool, true, false, cond
 use Rattle.std.specs.Prelude.{find}
 use Rattle.std.specs.Str.{bytes_eq}
 use Rattle.std.proofs.lemmas.Bool.{false≢true}
-use Rattle.std.proofs.lemmas.List.{append-nil, length-map}
+use Rattle.std.proofs.lemmas.List.{append-nil, length-map, map-append}
 use Rattle.lus_tree.specs.Tree.{Name, Variable, Component}
-use Rattle.lus_meaning.specs.Scene.{Clock, clock_from, clock_of, clock_of_names, variables}
+use Rattle.lus_meaning.specs.Scene.{Clock, clock_from, clock_of, clock_of_names, contract_statements, ghosts, variables}
 use Rattle.lus_meaning.specs.Depends.{named_in}
 use Rattle.lus_meaning.specs.EquationFaults.{clock_names}
 use Rattle.lus_meaning.specs.WellMade.{AreDistinct}
 use Rattle.lus_meaning.proofs.Unique.{same_bytes}
 use Rattle.name_table.specs.Names.{number_of}
+use Rattle.name_table.proofs.Names.{in_joined}
 use Rattle.way_laws.specs.OwnGraph.{Summaries, declared_reads}
 use Rattle.lus_order.specs.declared.setting.Clocks.{Clocks}
 use Rattle.lus_order.specs.Reads.{clock_seen, clock_at, clocks_view}
 use Rattle.lus_order.specs.OwnReads.{AreClocksOf}
 use Rattle.lus_order.specs.Rows.{side_clock}
 use Rattle.lus_order.specs.Streams.{AreTabled, names_of, stream_clock}
+use Rattle.lus_order.proofs.Stands.{or_left}
 
 abbrev named : Name → List Variable → Clock
 named x vs = clock_from (unwrap_or (option_map (λ (v : Variable). v.clock) (find (λ v. bytes_eq x v.name.text) vs)) None)
@@ -94,3 +96,22 @@ undeclared n g x e = no_clock x (variables n) e
 pub tabled_side : (n : Component) (s : Clocks) → AreTabled (variables n) s → (xs : List Name) → side_clock s xs ≡ clock_names (clock_of_names n xs)
 tabled_side n s a [] = refl
 tabled_side n s a (x ∷ xs) = tabled_clocks n s a x
+
+-- inputs and outputs have numbers
+pub given_number : (n : Component) (s : Clocks) → AreTabled (variables n) s → (y : Name)
+    → named_in y (names_of n.inputs ++ names_of n.outputs) ≡ true → named_in y s.names ≡ true
+given_number n s tabled y e =
+    let a : named_in y (given ++ names_of n.locals) ≡ true = in_joined y given (names_of n.locals) ∙ or_left _ _ e in
+    let b : named_in y ((given ++ names_of n.locals) ++ names_of (ghosts (contract_statements n))) ≡ true =
+    in_joined y (given ++ names_of n.locals) (names_of (ghosts (contract_statements n))) ∙ or_left _ _ a in
+    subst (λ z. named_in y z ≡ true) (sym tabled.names)
+    (in_joined y (names_of (variables n)) tabled.others ∙ or_left _ _ (subst (λ z. named_in y z ≡ true) (sym parts) b))
+  where
+    given : List Name
+    given = names_of n.inputs ++ names_of n.outputs
+
+    parts : names_of (variables n) ≡ (given ++ names_of n.locals) ++ names_of (ghosts (contract_statements n))
+    parts =
+        map-append (λ (v : Variable). v.name.text) (n.inputs ++ n.outputs ++ n.locals) (ghosts (contract_statements n))
+        ∙ ap (λ z. z ++ names_of (ghosts (contract_statements n))) (map-append (λ (v : Variable). v.name.text) (n.inputs ++ n.outputs) n.locals
+        ∙ ap (λ z. z ++ names_of n.locals) (map-append (λ (v : Variable). v.name.text) n.inputs n.outputs))

@@ -26,3 +26,6 @@ pub mod FreeClocks
 pub mod OwnCircles
 pub mod WholeOrders
 pub mod AllOrdered
+pub mod Turns
+pub mod MarkedBelow
+pub mod OutputReads

@@ -34,6 +34,7 @@ use Rattle.lus_order.specs.Rows.{ModeRows, mode_view, known_row, mode_rows_after
 use Rattle.number_graphs.specs.Visits.{once}
 use Rattle.lus_order.specs.Stands.{Stands}
 use Rattle.lus_order.specs.Streams.{AreTabled, names_of}
+use Rattle.lus_order.proofs.Declared.{given_number}
 use Rattle.lus_order.proofs.FoundNodes.{rows_find}
 use Rattle.lus_order.proofs.ModeRows.{known_stands, modes_stand}
 use Rattle.number_graphs.proofs.Searches.{or_cases, or_right}
@@ -155,19 +156,8 @@ module _ (n : Component) (g : Summaries) (s : Clocks) (t : Callees) (rows : Rows
   abbrev given : List Name
   given = names_of n.inputs ++ names_of n.outputs
 
-  parts : names_of (variables n) ≡ (given ++ names_of n.locals) ++ names_of (ghosts (contract_statements n))
-  parts =
-      map-append (λ (v : Variable). v.name.text) (n.inputs ++ n.outputs ++ n.locals) (ghosts (contract_statements n))
-      ∙ ap (λ z. z ++ names_of (ghosts (contract_statements n))) (map-append (λ (v : Variable). v.name.text) (n.inputs ++ n.outputs) n.locals
-      ∙ ap (λ z. z ++ names_of n.locals) (map-append (λ (v : Variable). v.name.text) n.inputs n.outputs))
-
   has_number : (y : Name) → named_in y given ≡ true → named_in y s.names ≡ true
-  has_number y e =
-      let a : named_in y (given ++ names_of n.locals) ≡ true = in_joined y given (names_of n.locals) ∙ or_left _ _ e in
-      let b : named_in y ((given ++ names_of n.locals) ++ names_of (ghosts (contract_statements n))) ≡ true =
-      in_joined y (given ++ names_of n.locals) (names_of (ghosts (contract_statements n))) ∙ or_left _ _ a in
-      subst (λ z. named_in y z ≡ true) (sym tabled.names)
-      (in_joined y (names_of (variables n)) tabled.others ∙ or_left _ _ (subst (λ z. named_in y z ≡ true) (sym parts) b))
+  has_number y e = given_number n s tabled y e
 
   by_row : (row : List ℕ) (xs list : List Name) (y : Name) → Stands s.names row xs → AreFound rows s.names row given list
       → named_in y given ≡ true → (named_in y list ≡ true) ↔ Finds (own_edges n g) xs y

@@ -24,3 +24,6 @@ pub mod ClockCircles
 pub mod Ordered
 pub mod WholeOrders
 pub mod Checked
+pub mod OutputReads
+pub mod MarkedBelow
+pub mod Dependences

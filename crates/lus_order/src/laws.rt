@@ -9,7 +9,7 @@ ghost use Rattle.lus_order.specs.OwnNodes.{RowsAreNodes};
 ghost use Rattle.lus_order.specs.OwnOrders.{OrdersAreLeast};
 ghost use Rattle.lus_order.specs.OwnReads.{ReadsAreOwn};
 ghost use Rattle.lus_order.specs.SameCallees.{ReadsByCallees};
-ghost use Rattle.lus_order.specs.WholeOrders.{CirclesByLibrary, LibraryExact, OrdersByLibrary};
+ghost use Rattle.lus_order.specs.WholeOrders.{CirclesByLibrary, LibraryExact, OrdersByLibrary, ReadsByLibrary};
 
 /// What an expression reads by the own graph of its declaration is what is read in it, with each mode replaced by
 /// what that reads.
@@ -61,11 +61,13 @@ pub fn flagged_are_circles()
 
 /// By the library of all declarations the summaries of what a declaration calls and imports are exact, the circles by
 /// its own graph are its faults of circles, and where the program has no fault of equations the order that is made of a
-/// declaration is the least order of its equations in the tree of instances.
+/// declaration is the least order of its equations in the tree of instances. The inputs to which its outputs lead by its
+/// own graph are those on which they depend at the same instant in the tree of instances.
 pub fn libraries_are_exact()
     ensures exact { LibraryExact }
     ensures circles { CirclesByLibrary }
     ensures orders { OrdersByLibrary }
+    ensures reads { ReadsByLibrary }
 {}
 
 /// What a declaration reads goes by the summaries of those alone that it calls at the same instant and imports:

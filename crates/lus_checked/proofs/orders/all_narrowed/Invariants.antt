@@ -1,5 +1,6 @@
 use Rattle.std.proofs.Common.{◌≡◌, map, take}
+use Rattle.lus_order.specs.Dependences.{orders_seen}
 use Rattle.lus_checked.proofs.orders.all_narrowed.Given as goal
 
-abbrev pub invariant-loop-order : goal.invariant-loop-order
-invariant-loop-order l = map (λ o. o.items) l.all.items ≡ map (λ o. o.items) (take l.order-index l.orders)
+abbrev pub invariant-loop-dependence : goal.invariant-loop-dependence
+invariant-loop-dependence l = map (λ o. o.items) l.all.items ≡ orders_seen (take l.dependence-index l.found)
