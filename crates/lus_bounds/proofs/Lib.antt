@@ -1,2 +1,3 @@
 pub mod NameCounts
 pub mod FirstPassed
+pub mod Widths

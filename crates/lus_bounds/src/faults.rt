@@ -1,17 +1,19 @@
-//! The faults of passed limits.
+//! The faults of passed limits, and the numbers of variables.
 
-ghost use Rattle.std.specs.Prelude.{◌≡◌, ◌+◌, ◌^◌, ◌<◌, ◌∷◌, [], is_none, map, not};
+ghost use Rattle.std.specs.Prelude.{◌≡◌, ◌+◌, ◌^◌, ◌<◌, ◌∷◌, ◌++◌, [], IfOk, is_none, map, not};
 ghost use Rattle.lus_tree.specs.Lookup.{number_of};
 ghost use Rattle.lus_tree.specs.View.{decl_view, program_view, word_view};
 ghost use Rattle.lus_meaning.specs.Limits.{main_faults};
 ghost use Rattle.lus_scopes.specs.Least.{least_view, noted_all};
 ghost use Rattle.lus_bounds.specs.Passed.{declaration_faults, fault_of, limit_faults_by, name_seen, parts_after};
+ghost use Rattle.lus_bounds.specs.Widths.{declaration_widths, widths_by};
 
 use crate::passed::{node_passed, size_at, text_passed};
 use lus_limits::SystemSize;
 use lus_scopes::least::Least;
 use lus_streams::owner::Owner;
 use lus_tree::{Decl, PlacedName, Pos, Program, What};
+use std::alloc::{AllocError, Global};
 
 /// Notes a limit that the declaration of that name passes, where there is one.
 fn note_limit(least: &mut Least, word: &PlacedName, limit: Option<u64>)
@@ -62,6 +64,40 @@ pub(crate) fn note_limits(least: &mut Least, sizes: &[SystemSize], decls: &[Decl
         note_declaration(least, sizes, before, decl);
         before = parts_after(before, decl);
     }
+}
+
+/// Adds how many variables a declaration's system has, where it is a node or function, behind so many declarations with
+/// parts.
+fn push_width(
+    widths: &mut Vec<usize>,
+    sizes: &[SystemSize],
+    before: usize,
+    decl: &Decl,
+) -> Result<(), AllocError>
+    ensures { IfOk result (λ _. widths.new.items
+        ≡ widths.old.items ++ declaration_widths sizes.now before (decl_view decl.now)) }
+{
+    if let Decl::Node(_) = decl {
+        widths.push(size_at(sizes, before).variables)?;
+    }
+    Ok(())
+}
+
+/// How many variables the systems of nodes and functions have, by the sizes of all systems in text order.
+pub(crate) fn node_widths(
+    alloc: Global,
+    sizes: &[SystemSize],
+    decls: &[Decl],
+) -> Result<Vec<usize>, AllocError>
+    ensures { IfOk result (λ v. v.items ≡ widths_by sizes.now 0 (map decl_view decls.now)) }
+{
+    let mut widths = Vec::new(alloc);
+    let mut before = 0;
+    for decl in decls {
+        push_width(&mut widths, sizes, before, decl)?;
+        before = parts_after(before, decl);
+    }
+    Ok(widths)
 }
 
 /// Whether a declaration is a node or function of that name.

@@ -1,14 +1,15 @@
-use Rattle.std.proofs.Common.{map, ap, ◌∙◌}
+use Rattle.std.proofs.Common.{ap, map, ◌∙◌}
 use Rattle.lus_tree.specs.View.{decl_view, program_view}
-use Rattle.lus_scopes.specs.Least.{least_view, noted_all}
-use Rattle.lus_bounds.specs.Passed.{limit_faults_by, name_seen}
-use Rattle.lus_bounds.proofs.FirstPassed.{least_of_sizes}
+use Rattle.lus_bounds.specs.Widths.{widths_by}
+use Rattle.lus_bounds.proofs.Widths.{all_cut}
 use Rattle.lus_bounds.proofs.checks.checked.Goals as goal
 
-pub returns : goal.returns
-returns c =
-    least_of_sizes (program_view c.args.program.now) (name_seen c.args.main) c.deref.result.now (least_view c.new-least.result)
-    (least_view c.note_main.new.least) (least_view c.note_limits.new.least) (c.deref.ensures.value ∙ c.in_ok-sizes.ensures) c.new-least.ensures
-    c.note_main.ensures
-    (c.note_limits.ensures
-    ∙ ap (λ ds. noted_all (least_view c.note_main.new.least) (limit_faults_by c.deref.result.now 0 (map decl_view ds))) c.deref-2.ensures.value)
+pub least_fault-least-requires : goal.least_fault-least-requires
+least_fault-least-requires c = c.deref.ensures.value ∙ c.in_ok-sizes.ensures
+
+pub returns-clause-widths : goal.returns-clause-widths
+returns-clause-widths c =
+    c.in_ok-widths.ensures
+    ∙ ap (λ ds. widths_by c.deref-2.result.now 0 (map decl_view ds)) c.deref-3.ensures.value
+    ∙ all_cut (program_view c.args.program.now) c.deref-2.result.now 0 (program_view c.args.program.now)
+    (c.deref-2.ensures.value ∙ c.in_ok-sizes.ensures)
