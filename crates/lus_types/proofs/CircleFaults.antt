@@ -22,7 +22,7 @@ use Rattle.name_table.proofs.Numbers.{name_of_number, number_below}
 use Rattle.lus_types.specs.Marks.{Link, has_open, is_backed, is_free, is_marked, is_open, leads_on}
 use Rattle.lus_types.specs.Called.{all_level_faults, level_faults, link_of, marked_faults, names_behind, none_rises, rank_of, row_of, stays_below}
 use Rattle.lus_types.specs.Circles.{IsLeading}
-use Rattle.lus_types.proofs.Callees.{split}
+use Rattle.lus_types.proofs.Occurring.{split}
 use Rattle.lus_types.proofs.Reached.{AreWithin, IsBack, reached_below, reaches}
 
 pub or_left : (a b : Bool) → a ≡ true → (a || b) ≡ true

@@ -23,7 +23,7 @@ use Rattle.lus_scopes.specs.Least.{IsLeast, noted_all}
 use Rattle.lus_scopes.proofs.Leasts.{least_noted_all}
 use Rattle.lus_types.specs.Marks.{Link, has_open, is_backed, is_free, is_marked, is_open, leads_on}
 use Rattle.lus_types.specs.Reads.{Reading, added, ghost_readings, is_given, names_read, read_among, read_faults, read_in, reading_row, seeded}
-use Rattle.lus_types.proofs.Callees.{split}
+use Rattle.lus_types.proofs.Occurring.{split}
 use Rattle.lus_types.proofs.CircleFaults.{add_has, add_keeps, and_parts, either_end, free_false, or_false, or_left, or_right}
 use Rattle.lus_types.proofs.Grown.{AllOf, all_grown, closed_after, grown, starts_grown}
 use Rattle.lus_types.proofs.Reached.{IsBack}

@@ -4,13 +4,14 @@ pub mod Earlier
 pub mod Spread
 pub mod Grown
 pub mod Reached
-pub mod Callees
+pub mod Steps
+pub mod Firsts
+pub mod Occurring
 pub mod CircleFaults
 pub mod RowFaults
 pub mod Levels
 pub mod GivenNow
 pub mod RepeatedWords
-pub mod Stateless
 pub mod RepeatedLabels
 pub mod Circled
 pub mod Noted

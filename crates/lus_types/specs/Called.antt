@@ -1,7 +1,7 @@
 -- What a declaration calls and imports, by the numbers of names.
 use Rattle.std.specs.Prelude.{ℕ, ◌==◌, Bool, cond, nat_le, List, [], ◌∷◌, ◌++◌, map, flat_map, filter, get_or}
 use Rattle.std.specs.List.{list_all}
-use Rattle.lus_tree.specs.Tree.{Name, Spelled, Expression, Expressions, truth, number, name, negation, minus, pre, arrow, binary, choice, sampled, merged, call, condact, mode_name, no_more, more, Constant, Labelled, Statement, equation, assertion, property, main_mark, ContractStatement, assume, guarantee, ghost_variable, constant, mode, «import», Component, declared_constant, declared_node, declared_contract, Program}
+use Rattle.lus_tree.specs.Tree.{Name, Spelled, Expression, call, condact, Constant, Labelled, Statement, equation, assertion, property, main_mark, ContractStatement, assume, guarantee, ghost_variable, constant, mode, «import», Component, declared_constant, declared_node, declared_contract, Program}
 use Rattle.lus_tree.specs.Reason.{Refused, node_recursion}
 use Rattle.lus_meaning.specs.Depends.{named_in}
 use Rattle.lus_meaning.specs.Faults.{if_so}
@@ -12,30 +12,11 @@ use Rattle.lus_meaning.specs.NameFaults.{callee_in, import_words, is_declared}
 use Rattle.name_table.specs.Names.{add, number_of}
 use Rattle.lus_types.specs.Marks.{Link, Row, is_marked}
 
--- the callees' names of an expression
-abbrev mutual
-  pub called : Expression → List Spelled
-  called (truth p b) = []
-  called (number p n) = []
-  called (name p x) = []
-  called (negation p a) = called a
-  called (minus p a) = called a
-  called (pre p k a) = called a
-  called (arrow p k a b) = called a ++ called b
-  called (binary p o a b) = called a ++ called b
-  called (choice p a b c) = called a ++ (called b ++ called c)
-  called (sampled p a b x) = called a
-  called (merged p x a b) = called a ++ called b
-  called (call p k f as_) = f ∷ called_among as_
-  called (condact p k a f as_ ds) = f ∷ called a ++ (called_among as_ ++ called_among ds)
-  called (mode_name p c m) = []
-
-  pub called_among : Expressions → List Spelled
-  called_among no_more = []
-  called_among (more a as_) = called a ++ called_among as_
-
-abbrev pub called_in : List Expression → List Spelled
-called_in es = flat_map called es
+-- the callee's name of an expression, its parts left aside
+abbrev pub callee_of : Expression → List Spelled
+callee_of (call p k f as_) = f ∷ []
+callee_of (condact p k a f as_ ds) = f ∷ []
+callee_of _ = []
 
 -- the expressions of items
 abbrev pub values_of : List Labelled → List Expression

@@ -4,6 +4,7 @@ pub mod Before
 pub mod Marks
 pub mod Words
 pub mod Called
+pub mod Sides
 pub mod Circles
 pub mod Firsts
 pub mod Reads

@@ -39,6 +39,13 @@ abbrev mutual
   read_among no_more = []
   read_among (more a as_) = read_in a ++ read_among as_
 
+-- the name that it reads, its parts left aside
+abbrev pub read_of : Expression → List Spelled
+read_of (name p x) = record { text = x; at = p.at } ∷ []
+read_of (sampled p a b x) = x ∷ []
+read_of (merged p x a b) = x ∷ []
+read_of _ = []
+
 -- a ghost variable with what it reads
 abbrev pub Reading : Type 0
 Reading = Name × List Spelled

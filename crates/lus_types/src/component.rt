@@ -30,12 +30,12 @@ use std::alloc::{AllocError, Global};
 /// Notes the names of a declaration that stand twice, and those that are constants of the program.
 fn names_twice(
     alloc: Global,
-    setting: Setting<'_, '_>,
+    setting: &Setting<'_, '_>,
     least: &mut Least,
     owner: Owner<'_>,
 ) -> Result<(), AllocError>
     ensures { IfOk result (λ _. Notes (least_view least.old) (least_view least.new)
-        (own_twice (constant_words (program_view setting.entry.declarations.now)) (owner_view owner.entry))) }
+        (own_twice (constant_words (program_view setting.now.declarations.now)) (owner_view owner.entry))) }
 {
     let own = own_words(alloc, owner)?;
     words_twice(alloc, least, &own)?;
@@ -58,15 +58,15 @@ fn marks_twice(alloc: Global, least: &mut Least, owner: Owner<'_>) -> Result<(),
 /// table of its names.
 fn inner(
     alloc: Global,
-    setting: Setting<'_, '_>,
+    setting: &Setting<'_, '_>,
     least: &mut Least,
     known: usize,
     owner: Owner<'_>,
 ) -> Result<Table, AllocError>
     ensures noted { IfOk result (λ _. Notes (least_view least.old) (least_view least.new)
-        (inner_faults (home (program_view setting.entry.declarations.now) known (owner_view owner.entry)))) }
+        (inner_faults (home (program_view setting.now.declarations.now) known (owner_view owner.entry)))) }
     ensures names { IfOk result (λ t. Finds t
-        (own_names (home (program_view setting.entry.declarations.now) known (owner_view owner.entry)))) }
+        (own_names (home (program_view setting.now.declarations.now) known (owner_view owner.entry)))) }
 {
     let outer = setting.constants_before(known);
     let declared = declared_in(alloc, owner)?;
@@ -80,16 +80,16 @@ fn inner(
 /// Notes the faults of a declaration with parts, and gives a table of its names.
 fn component(
     alloc: Global,
-    setting: Setting<'_, '_>,
+    setting: &Setting<'_, '_>,
     least: &mut Least,
     known: usize,
     owner: Owner<'_>,
 ) -> Result<Table, AllocError>
     ensures noted { IfOk result (λ _. Notes (least_view least.old) (least_view least.new)
-        (alone_faults (home (program_view setting.entry.declarations.now) known (owner_view owner.entry))
-        (constant_words (program_view setting.entry.declarations.now)))) }
+        (alone_faults (home (program_view setting.now.declarations.now) known (owner_view owner.entry))
+        (constant_words (program_view setting.now.declarations.now)))) }
     ensures names { IfOk result (λ t. Finds t
-        (own_names (home (program_view setting.entry.declarations.now) known (owner_view owner.entry)))) }
+        (own_names (home (program_view setting.now.declarations.now) known (owner_view owner.entry)))) }
 {
     names_twice(alloc, setting, least, owner)?;
     marks_twice(alloc, least, owner)?;
@@ -106,15 +106,15 @@ fn component(
 /// Want of memory.
 pub(crate) fn declaration(
     alloc: Global,
-    setting: Setting<'_, '_>,
+    setting: &Setting<'_, '_>,
     least: &mut Least,
     known: usize,
     decl: &Decl,
 ) -> Result<Table, AllocError>
     ensures noted { IfOk result (λ _. Notes (least_view least.old) (least_view least.new)
-        (alone_of (program_view setting.entry.declarations.now) known (decl_view decl.now))) }
+        (alone_of (program_view setting.now.declarations.now) known (decl_view decl.now))) }
     ensures names { IfOk result (λ t. Finds t
-        (names_of (program_view setting.entry.declarations.now) known (decl_view decl.now))) }
+        (names_of (program_view setting.now.declarations.now) known (decl_view decl.now))) }
 {
     match decl {
         Decl::Constant(constant) => {

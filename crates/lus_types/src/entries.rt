@@ -53,6 +53,28 @@ fn behind(meaning: &Meaning<'_>, order: usize) -> usize
     }
 }
 
+/// The names of a list, behind none, each with what it means by those before it and by outer ones.
+fn push_entries<'a>(
+    own: &mut Names<'a>,
+    declarations: &'a Declarations<'a>,
+    outer: Layer<'a>,
+    names: &[Declared<'a>],
+) -> Result<(), AllocError>
+    requires { own.old ≡ [] }
+    ensures entries { IfOk result (λ _. map (entry_view All false) own.new
+        ≡ entries_from (program_view declarations.now) (layer_view outer.entry false) []
+        (map declared_view names.now)) }
+    ensures order { IfOk result (λ _. AreOrdered 0 own.new) }
+{
+    let mut order = 0;
+    for name in names {
+        let meaning = meant(&names_only(&*declarations, own.layer(), outer), *name);
+        own.push(Entry { meaning, order })?;
+        order = behind(&meaning, order);
+    }
+    Ok(())
+}
+
 /// The names of a list, each with what it means by those before it and by outer ones.
 ///
 /// # Errors
@@ -70,11 +92,6 @@ pub(crate) fn entries<'a>(
     ensures order { IfOk result (λ n. AreOrdered 0 n) }
 {
     let mut own = Names::new(alloc);
-    let mut order = 0;
-    for name in names {
-        let meaning = meant(&names_only(&*declarations, own.layer(), outer), *name);
-        own.push(Entry { meaning, order })?;
-        order = behind(&meaning, order);
-    }
+    push_entries(&mut own, declarations, outer, names)?;
     Ok(own)
 }

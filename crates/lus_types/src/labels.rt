@@ -146,15 +146,20 @@ fn push_assumed<'a>(labels: &mut Vec<Label<'a>>, item: &'a ContractItem) -> Resu
     Ok(())
 }
 
-/// The labels of assumptions.
-fn assumed(alloc: Global, items: &[ContractItem]) -> Result<Vec<Label<'_>>, AllocError>
-    ensures { IfOk result (λ v. labels_view v.items ≡ flat_map assume_tags (map contract_item_view items.now)) }
+/// Notes the labels of assumptions that stand twice.
+fn assumptions_twice(
+    alloc: Global,
+    least: &mut Least,
+    items: &[ContractItem],
+) -> Result<(), AllocError>
+    ensures { IfOk result (λ _. Notes (least_view least.old) (least_view least.new)
+        (tags_twice (flat_map assume_tags (map contract_item_view items.now)))) }
 {
     let mut labels = Vec::new(alloc);
     for item in items {
         push_assumed(&mut labels, item)?;
     }
-    Ok(labels)
+    note_twice(alloc, least, &labels)
 }
 
 /// The labels, and behind them that of a guarantee.
@@ -171,15 +176,20 @@ fn push_guaranteed<'a>(
     Ok(())
 }
 
-/// The labels of guarantees.
-fn guaranteed(alloc: Global, items: &[ContractItem]) -> Result<Vec<Label<'_>>, AllocError>
-    ensures { IfOk result (λ v. labels_view v.items ≡ flat_map guarantee_tags (map contract_item_view items.now)) }
+/// Notes the labels of guarantees that stand twice.
+fn guarantees_twice(
+    alloc: Global,
+    least: &mut Least,
+    items: &[ContractItem],
+) -> Result<(), AllocError>
+    ensures { IfOk result (λ _. Notes (least_view least.old) (least_view least.new)
+        (tags_twice (flat_map guarantee_tags (map contract_item_view items.now)))) }
 {
     let mut labels = Vec::new(alloc);
     for item in items {
         push_guaranteed(&mut labels, item)?;
     }
-    Ok(labels)
+    note_twice(alloc, least, &labels)
 }
 
 /// The labels, and behind them those of what a mode ensures.
@@ -193,15 +203,16 @@ fn push_ensured<'a>(labels: &mut Vec<Label<'a>>, item: &'a ContractItem) -> Resu
     Ok(())
 }
 
-/// The labels of what modes ensure.
-fn ensured(alloc: Global, items: &[ContractItem]) -> Result<Vec<Label<'_>>, AllocError>
-    ensures { IfOk result (λ v. labels_view v.items ≡ flat_map ensure_tags (map contract_item_view items.now)) }
+/// Notes the labels of what modes ensure that stand twice.
+fn effects_twice(alloc: Global, least: &mut Least, items: &[ContractItem]) -> Result<(), AllocError>
+    ensures { IfOk result (λ _. Notes (least_view least.old) (least_view least.new)
+        (tags_twice (flat_map ensure_tags (map contract_item_view items.now)))) }
 {
     let mut labels = Vec::new(alloc);
     for item in items {
         push_ensured(&mut labels, item)?;
     }
-    Ok(labels)
+    note_twice(alloc, least, &labels)
 }
 
 /// The labels, and behind them that of a property.
@@ -214,15 +225,16 @@ fn push_property<'a>(labels: &mut Vec<Label<'a>>, item: &'a Item) -> Result<(), 
     Ok(())
 }
 
-/// The labels of properties.
-fn properties(alloc: Global, items: &[Item]) -> Result<Vec<Label<'_>>, AllocError>
-    ensures { IfOk result (λ v. labels_view v.items ≡ flat_map property_tags (map item_view items.now)) }
+/// Notes the labels of properties that stand twice.
+fn properties_twice(alloc: Global, least: &mut Least, items: &[Item]) -> Result<(), AllocError>
+    ensures { IfOk result (λ _. Notes (least_view least.old) (least_view least.new)
+        (tags_twice (flat_map property_tags (map item_view items.now)))) }
 {
     let mut labels = Vec::new(alloc);
     for item in items {
         push_property(&mut labels, item)?;
     }
-    Ok(labels)
+    note_twice(alloc, least, &labels)
 }
 
 /// Notes the labels of a declaration that stand twice: among assumptions, among guarantees, among
@@ -239,12 +251,8 @@ pub(crate) fn labels_twice(
     ensures { IfOk result (λ _. Notes (least_view least.old) (least_view least.new)
         (labels_twice (owner_view owner.entry))) }
 {
-    let assumptions = assumed(alloc, owner.contract())?;
-    note_twice(alloc, least, &assumptions)?;
-    let guarantees = guaranteed(alloc, owner.contract())?;
-    note_twice(alloc, least, &guarantees)?;
-    let effects = ensured(alloc, owner.contract())?;
-    note_twice(alloc, least, &effects)?;
-    let checks = properties(alloc, owner.body())?;
-    note_twice(alloc, least, &checks)
+    assumptions_twice(alloc, least, owner.contract())?;
+    guarantees_twice(alloc, least, owner.contract())?;
+    effects_twice(alloc, least, owner.contract())?;
+    properties_twice(alloc, least, owner.body())
 }

@@ -4,47 +4,23 @@ ghost use Rattle.std.specs.Prelude.{◌≡◌, ℕ, ◌++◌, [], IfOk, List, fa
 ghost use Rattle.lus_tree.specs.Reason.{Refused};
 ghost use Rattle.lus_tree.specs.View.{contract_item_view, expr_view, param_view};
 ghost use Rattle.lus_meaning.specs.NameFaults.{assumption_faults};
-ghost use Rattle.lus_meaning.specs.Scene.{contract_statements};
 ghost use Rattle.lus_types.specs.Called.{link_of};
 ghost use Rattle.lus_types.specs.Given.{IsGiven, output_names};
 ghost use Rattle.lus_scopes.specs.Least.{least_view, noted_all};
 ghost use Rattle.lus_scopes.specs.Notes.{Notes};
 ghost use Rattle.lus_types.specs.Marks.{is_marked, link_view, row_view};
 ghost use Rattle.lus_types.specs.Reads.{added, ghost_readings, is_given, names_read, read_faults, read_in, read_view, reading_row, seeded};
-ghost use Rattle.lus_scopes.specs.Scopes.{owner_view, scope_view};
-ghost use Rattle.name_table.specs.Names.{number_of};
+ghost use Rattle.lus_scopes.specs.Scopes.{scope_view};
 
-use crate::called::contract_items;
 use crate::marks::{Link, Row, is_marked, mark, no_marks, spread};
 use crate::reads::{Read, push_reads, restricted_reads};
+use crate::recursion::number_of;
 use lus_scopes::least::Least;
 use lus_scopes::lookup::is_ghost;
-use lus_scopes::scope::{Owner, Scope};
+use lus_scopes::scope::Scope;
 use lus_tree::{ContractItem, Expr, Param, What};
 use name_table::NameTable;
 use std::alloc::{AllocError, Global};
-
-/// The items of a declaration's contract.
-fn owner_items<'a>(owner: Owner<'a>) -> &'a [ContractItem]
-    ensures { map contract_item_view result.now ≡ contract_statements (owner_view owner.entry) }
-{
-    match owner {
-        Owner::Nothing => &[],
-        Owner::Node(node) => contract_items(node),
-        Owner::Contract(contract) => &contract.items,
-    }
-}
-
-/// The outputs of a declaration.
-fn owner_outputs<'a>(owner: Owner<'a>) -> &'a [Param]
-    ensures { map param_view result.now ≡ (owner_view owner.entry).outputs }
-{
-    match owner {
-        Owner::Nothing => &[],
-        Owner::Node(node) => &node.outputs,
-        Owner::Contract(contract) => &contract.outputs,
-    }
-}
 
 /// The names, and behind them those of the outputs that are new.
 fn add_outputs(alloc: Global, names: &mut NameTable, outputs: &[Param]) -> Result<(), AllocError>
@@ -117,23 +93,12 @@ fn read_links(alloc: Global, names: &NameTable, reads: &[Read<'_>]) -> Result<Ve
     Ok(links)
 }
 
-/// The number of a name, and how many names there are where it has none.
-#[tactic(auto, using(crate::proofs::CircleFaults::number_past))]
-fn number_of(names: &NameTable, name: &str) -> usize
-    ensures { result ≡ number_of names.now name.now }
-{
-    match names.number(name) {
-        Some(number) => number,
-        None => names.len(),
-    }
-}
-
 /// The row of a ghost variable.
 fn ghost_row(alloc: Global, names: &NameTable, name: &str, value: &Expr) -> Result<Row, AllocError>
     ensures { IfOk result (λ r. row_view r ≡ reading_row names.now (name.now, read_in (expr_view value.now))) }
 {
     let mut reads = Vec::new(alloc);
-    push_reads(&mut reads, value)?;
+    push_reads(alloc, &mut reads, value)?;
     let links = read_links(alloc, names, &reads)?;
     Ok(Row {
         from: number_of(names, name),
@@ -262,8 +227,8 @@ pub(crate) fn assumption(
     ensures { IfOk result (λ _. Notes (least_view least.old) (least_view least.new)
         (assumption_faults (scope_view scope.now))) }
 {
-    let items = owner_items(scope.owner);
-    let outputs = owner_outputs(scope.owner);
+    let items = scope.owner.contract();
+    let outputs = scope.owner.outputs();
     let given = given_of(alloc, scope, items, outputs)?;
     let reads = restricted_reads(alloc, items)?;
     note_reads(least, &given, &reads);

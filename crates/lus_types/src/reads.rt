@@ -1,10 +1,12 @@
 //! The names that expressions read at their own instant, in text order.
 
 ghost use Rattle.std.specs.Prelude.{◌≡◌, ◌∷◌, [], IfOk, map, flat_map};
-ghost use Rattle.lus_tree.specs.View.{contract_item_view, expr_view, exprs_view, form_view, joined, word_view};
+ghost use Rattle.lus_tree.specs.View.{contract_item_view, expr_view, word_view};
 ghost use Rattle.lus_meaning.specs.NameFaults.{restricted};
-ghost use Rattle.lus_types.specs.Reads.{ReadsOn, read_among, read_in, read_view};
+ghost use Rattle.lus_types.specs.Reads.{ReadsOn, read_in, read_of, read_view};
+ghost use Rattle.lus_types.specs.Sides.{sides_view};
 
+use crate::parts::parts_now;
 use lus_tree::{ContractItem, Expr, Form, PlacedName, Pos};
 use std::alloc::{AllocError, Global};
 
@@ -27,77 +29,61 @@ fn push_word<'a>(reads: &mut Vec<Read<'a>>, word: &'a PlacedName) -> Result<(), 
     Ok(())
 }
 
-/// The reads, and behind them those of an expression.
-#[cycle(reads)]
-pub(crate) fn push_reads<'a>(reads: &mut Vec<Read<'a>>, e: &'a Expr) -> Result<(), AllocError>
-    ensures { IfOk result (λ _. ReadsOn reads.old.items reads.new.items (read_in (expr_view e.now))) }
-{
-    push_form_reads(reads, e.from, e.at, &e.form)
-}
-
-/// The reads, and behind them those of a form.
-#[cycle(reads)]
+/// The reads, and behind them that of an expression itself.
 #[tactic(auto, using(lus_tree::proofs::Views::form_views))]
-fn push_form_reads<'a>(
-    reads: &mut Vec<Read<'a>>,
-    from: Pos,
-    at: Pos,
-    form: &'a Form,
-) -> Result<(), AllocError>
-    ensures { IfOk result
-        (λ _. ReadsOn reads.old.items reads.new.items (read_in (form_view form.now record { from = from; at = at }))) }
+fn push_read<'a>(reads: &mut Vec<Read<'a>>, e: &'a Expr) -> Result<(), AllocError>
+    ensures { IfOk result (λ _. ReadsOn reads.old.items reads.new.items (read_of (expr_view e.now))) }
 {
-    match form {
+    match &e.form {
         Form::Name(x) => {
             let read = Read {
                 text: x.as_str(),
-                at,
+                at: e.at,
             };
             reads.push(read)?;
             Ok(())
         }
-        Form::Not(a) | Form::Minus(a) => push_reads(reads, a),
-        Form::Arrow(_, a, b) | Form::Binary(_, a, b) => {
-            push_reads(reads, a)?;
-            push_reads(reads, b)
-        }
-        Form::If(a, b, c) => {
-            push_reads(reads, a)?;
-            push_reads(reads, b)?;
-            push_reads(reads, c)
-        }
-        Form::When(a, _, clock) => {
-            push_reads(reads, a)?;
-            push_word(reads, clock)
-        }
-        Form::Merge(clock, a, b) => {
-            push_word(reads, clock)?;
-            push_reads(reads, a)?;
-            push_reads(reads, b)
-        }
-        Form::Call(_, _, arguments) => push_reads_among(reads, arguments),
-        Form::Condact(_, a, _, arguments, defaults) => {
-            push_reads(reads, a)?;
-            push_reads_among(reads, arguments)?;
-            push_reads_among(reads, defaults)
-        }
-        Form::Truth(_) | Form::Number(_) | Form::Pre(_, _) | Form::ModeName(_, _) => Ok(()),
+        Form::When(_, _, clock) | Form::Merge(clock, _, _) => push_word(reads, clock),
+        Form::Truth(_)
+        | Form::Number(_)
+        | Form::Not(_)
+        | Form::Minus(_)
+        | Form::Pre(_, _)
+        | Form::Arrow(_, _, _)
+        | Form::Binary(_, _, _)
+        | Form::If(_, _, _)
+        | Form::Call(_, _, _)
+        | Form::Condact(_, _, _, _, _)
+        | Form::ModeName(_, _) => Ok(()),
     }
 }
 
-/// The reads, and behind them those of these expressions.
-#[cycle(reads)]
-fn push_reads_among<'a>(reads: &mut Vec<Read<'a>>, values: &'a [Expr]) -> Result<(), AllocError>
-    ensures { IfOk result (λ _. ReadsOn reads.old.items reads.new.items (read_among (joined (exprs_view values.now)))) }
+/// The reads, and behind them those of these expressions, their parts left aside.
+fn push_reads_of<'a>(reads: &mut Vec<Read<'a>>, all: &[&'a Expr]) -> Result<(), AllocError>
+    ensures { IfOk result (λ _. ReadsOn reads.old.items reads.new.items (flat_map read_of (sides_view all.now))) }
 {
-    for value in values {
-        push_reads(reads, value)?;
+    for e in all {
+        push_read(reads, e)?;
     }
     Ok(())
 }
 
+/// The reads, and behind them those of an expression.
+#[tactic(auto, using(crate::proofs::Occurring::reads_are))]
+pub(crate) fn push_reads<'a>(
+    alloc: Global,
+    reads: &mut Vec<Read<'a>>,
+    e: &'a Expr,
+) -> Result<(), AllocError>
+    ensures { IfOk result (λ _. ReadsOn reads.old.items reads.new.items (read_in (expr_view e.now))) }
+{
+    let all = parts_now(alloc, e)?;
+    push_reads_of(reads, &all)
+}
+
 /// The reads, and behind them those of the arguments of an import.
 fn push_argument_reads<'a>(
+    alloc: Global,
     reads: &mut Vec<Read<'a>>,
     arguments: &'a [Expr],
 ) -> Result<(), AllocError>
@@ -105,19 +91,23 @@ fn push_argument_reads<'a>(
         (λ _. ReadsOn reads.old.items reads.new.items (flat_map read_in (map expr_view arguments.now))) }
 {
     for argument in arguments {
-        push_reads(reads, argument)?;
+        push_reads(alloc, reads, argument)?;
     }
     Ok(())
 }
 
 /// The reads, and behind them those of an item that restricts inputs: an assumption, or an import.
-fn push_restricted<'a>(reads: &mut Vec<Read<'a>>, item: &'a ContractItem) -> Result<(), AllocError>
+fn push_restricted<'a>(
+    alloc: Global,
+    reads: &mut Vec<Read<'a>>,
+    item: &'a ContractItem,
+) -> Result<(), AllocError>
     ensures { IfOk result
         (λ _. ReadsOn reads.old.items reads.new.items (flat_map read_in (restricted (contract_item_view item.now)))) }
 {
     match item {
-        ContractItem::Assume(named) => push_reads(reads, &named.value),
-        ContractItem::Import(_, _, arguments, _) => push_argument_reads(reads, arguments),
+        ContractItem::Assume(named) => push_reads(alloc, reads, &named.value),
+        ContractItem::Import(_, _, arguments, _) => push_argument_reads(alloc, reads, arguments),
         ContractItem::Guarantee(_)
         | ContractItem::Ghost(_, _)
         | ContractItem::Constant(_)
@@ -135,7 +125,7 @@ pub(crate) fn restricted_reads(
 {
     let mut reads = Vec::new(alloc);
     for item in items {
-        push_restricted(&mut reads, item)?;
+        push_restricted(alloc, &mut reads, item)?;
     }
     Ok(reads)
 }

@@ -1,25 +1,29 @@
 //! Circles of declarations.
 
-ghost use Rattle.std.specs.Prelude.{◌≡◌, ◌++◌, ◌<◌, ◌∷◌, [], IfOk, List, Some, false, true, map, length, slice_get, cond, set};
+ghost use Rattle.std.specs.Prelude.{◌≡◌, ◌++◌, ◌<◌, ◌∷◌, [], IfOk, List, Some, false, true, map, length, slice_get, cond, set, flat_map};
 ghost use Rattle.lus_tree.specs.Tree.{Component, Program as ProgramTree};
 ghost use Rattle.lus_tree.specs.Reason.{Refused};
-ghost use Rattle.lus_tree.specs.View.{contract_node_view, decl_view, node_view, program_view, word_view};
+ghost use Rattle.lus_tree.specs.View.{decl_view, program_view, word_view};
 ghost use Rattle.lus_meaning.specs.ClockFaults.{components};
-ghost use Rattle.lus_meaning.specs.NameFaults.{recursion_faults};
+ghost use Rattle.lus_meaning.specs.NameFaults.{callee_in, import_words, recursion_faults};
+ghost use Rattle.lus_meaning.specs.Occurrences.{gathered};
+ghost use Rattle.lus_meaning.specs.Scene.{contract_statements};
 ghost use Rattle.lus_types.specs.Called.{contract_links, link_of, marked_faults, names_behind, node_links, row_by, row_of};
 ghost use Rattle.lus_types.specs.Circles.{IsGraph, IsLeading, IsOne};
 ghost use Rattle.lus_scopes.specs.Least.{least_view, noted_all};
 ghost use Rattle.lus_scopes.specs.Notes.{Notes};
+ghost use Rattle.lus_scopes.specs.Scopes.{owner_view};
 ghost use Rattle.lus_types.specs.Marks.{is_marked, link_view, row_view};
 ghost use Rattle.lus_types.specs.Words.{words_view};
 ghost use Rattle.name_table.specs.Names.{number_of};
 
-use crate::called::{contract_calls, contract_items, imports_of, node_calls};
+use crate::called::{calls_of, imports_of};
 use crate::marks::{Link, Row, is_marked, spread_by};
 use crate::ways::{Ways, places_to, ways_of};
 use lus_scopes::declarations::Declarations;
 use lus_scopes::least::Least;
-use lus_tree::{ContractNode, Decl, Node, PlacedName, Program, What};
+use lus_scopes::scope::Owner;
+use lus_tree::{Decl, PlacedName, Program, What};
 use name_table::NameTable;
 use std::alloc::{AllocError, Global};
 
@@ -63,7 +67,7 @@ fn add_name(alloc: Global, names: &mut NameTable, decl: &Decl) -> Result<(), All
 
 /// The number of a name, and how many names there are where it has none.
 #[tactic(auto, using(crate::proofs::CircleFaults::number_past))]
-fn number_of(names: &NameTable, name: &str) -> usize
+pub(crate) fn number_of(names: &NameTable, name: &str) -> usize
     ensures { result ≡ number_of names.now name.now }
 {
     match names.number(name) {
@@ -169,47 +173,20 @@ fn row_by(
     })
 }
 
-/// The row of a node or function.
-fn node_row(
+/// The row of a declaration of this name.
+fn row_of(
     alloc: Global,
     declarations: &Declarations<'_>,
     names: &NameTable,
-    node: &Node,
+    name: &str,
+    owner: Owner<'_>,
 ) -> Result<Row, AllocError>
-    ensures { IfOk result (λ r. row_view r ≡ row_of (program_view declarations.now) names.now (node_view node.now)) }
+    ensures { IfOk result (λ r. row_view r ≡ row_by (program_view declarations.now) names.now name.now
+        (gathered callee_in (owner_view owner.entry)) (flat_map import_words (contract_statements (owner_view owner.entry)))) }
 {
-    let calls = node_calls(alloc, node)?;
-    let imports = imports_of(alloc, contract_items(node))?;
-    row_by(
-        alloc,
-        declarations,
-        names,
-        &node.name.text,
-        &calls,
-        &imports,
-    )
-}
-
-/// The row of a contract node.
-fn contract_row(
-    alloc: Global,
-    declarations: &Declarations<'_>,
-    names: &NameTable,
-    contract: &ContractNode,
-) -> Result<Row, AllocError>
-    ensures { IfOk result (λ r. row_view r
-        ≡ row_of (program_view declarations.now) names.now (contract_node_view contract.now)) }
-{
-    let calls = contract_calls(alloc, contract)?;
-    let imports = imports_of(alloc, &contract.items)?;
-    row_by(
-        alloc,
-        declarations,
-        names,
-        &contract.name.text,
-        &calls,
-        &imports,
-    )
+    let calls = calls_of(alloc, owner)?;
+    let imports = imports_of(alloc, owner.contract())?;
+    row_by(alloc, declarations, names, name, &calls, &imports)
 }
 
 /// The rows, and behind them that of a declaration with parts.
@@ -226,11 +203,13 @@ fn push_row(
     match decl {
         Decl::Constant(_) => {}
         Decl::Node(node) => {
-            let row = node_row(alloc, declarations, names, node)?;
+            let owner = Owner::Node(node);
+            let row = row_of(alloc, declarations, names, &node.name.text, owner)?;
             rows.push(row)?;
         }
         Decl::Contract(contract) => {
-            let row = contract_row(alloc, declarations, names, contract)?;
+            let owner = Owner::Contract(contract);
+            let row = row_of(alloc, declarations, names, &contract.name.text, owner)?;
             rows.push(row)?;
         }
     }

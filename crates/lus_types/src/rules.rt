@@ -40,22 +40,22 @@ fn next_item<'a>(
     before.push_item(item)
 }
 
-/// Notes the faults of the items of a contract, and gives them as those before the body.
-fn contract<'a>(
-    alloc: Global,
+/// Notes the faults of the items of a contract, and takes them to those before.
+fn next_items<'a>(
     home: &Home<'_>,
+    before: &mut Before<'a>,
     least: &mut Least,
     items: &'a [ContractItem],
-) -> Result<Before<'a>, AllocError>
+) -> Result<(), AllocError>
+    requires { earlier_view before.old ≡ earlier [] [] }
     ensures noted { IfOk result (λ _. Notes (least_view least.old) (least_view least.new)
         (contract_faults (home_view home.now) [] (map contract_item_view items.now))) }
-    ensures before { IfOk result (λ b. earlier_view b ≡ earlier (map contract_item_view items.now) []) }
+    ensures before { IfOk result (λ _. earlier_view before.new ≡ earlier (map contract_item_view items.now) []) }
 {
-    let mut before = Before::new(alloc);
     for item in items {
-        next_item(home, &mut before, least, item)?;
+        next_item(home, before, least, item)?;
     }
-    Ok(before)
+    Ok(())
 }
 
 /// Notes the faults of a constant of a body, and takes it to those before.
@@ -133,7 +133,8 @@ pub(crate) fn contract_and_body(
     ensures { IfOk result (λ _. Notes (least_view least.old) (least_view least.new)
         (inner_faults (home_view home.now))) }
 {
-    let mut before = contract(alloc, home, least, home.owner.contract())?;
+    let mut before = Before::new(alloc);
+    next_items(home, &mut before, least, home.owner.contract())?;
     body(alloc, home, &mut before, least)?;
     Ok(())
 }

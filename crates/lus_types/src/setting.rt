@@ -60,15 +60,15 @@ impl<'a, 's> Setting<'a, 's> {
     }
 
     /// The constants of the program as they are known behind so many.
-    pub(crate) fn constants_before(self, count: usize) -> Layer<'a>
-        ensures { layer_view result false ≡ outer_names (program_view self.entry.declarations.now) count }
+    pub(crate) fn constants_before(&self, count: usize) -> Layer<'a>
+        ensures { layer_view result false ≡ outer_names (program_view self.now.declarations.now) count }
     {
         self.constants.within(Extent::First(count))
     }
 
     /// The scope of a constant of the program behind so many.
-    pub(crate) fn constant_scope(self, count: usize) -> Scope<'a>
-        ensures { scope_view result ≡ outer_scope (program_view self.entry.declarations.now) count }
+    pub(crate) fn constant_scope(&self, count: usize) -> Scope<'a>
+        ensures { scope_view result ≡ outer_scope (program_view self.now.declarations.now) count }
     {
         Scope {
             declarations: self.declarations,

@@ -8,7 +8,7 @@ ghost use Rattle.lus_tree.specs.Tree.{Name};
 ghost use Rattle.lus_tree.specs.View.{decl_view};
 ghost use Rattle.lus_scopes.specs.declared.scope.Extent.TheVariants.{All};
 ghost use Rattle.lus_scopes.specs.Scopes.{entry_view, meaning_view, role_view};
-ghost use Rattle.lus_types.specs.Names.{Finds, declaration_named, declared_from, found_in, found_view, kind_view, known_from};
+ghost use Rattle.lus_types.specs.Names.{Finds, declaration_named, declared_from, found_in, found_view, kind_view, known_among, known_from};
 
 use crate::found::{Found, Kind, note};
 use indexmap::IndexMap;
@@ -85,6 +85,17 @@ fn note_name(
     Ok(())
 }
 
+/// Notes the names that are new, with their numbers.
+fn note_names(alloc: Global, table: &mut Table, names: &[Entry<'_>]) -> Result<(), AllocError>
+    ensures { OnOk result ((x : Name) → found_in table.new x ≡ option_or (found_in table.old x)
+        (known_among (map (entry_view All false) names.now) x)) }
+{
+    for (number, entry) in names.iter().enumerate() {
+        note_name(alloc, table, entry, number)?;
+    }
+    Ok(())
+}
+
 /// A table of these names.
 ///
 /// # Errors
@@ -94,9 +105,7 @@ pub(crate) fn table_of(alloc: Global, names: &[Entry<'_>]) -> Result<Table, Allo
     ensures { IfOk result (λ t. Finds t (map (entry_view All false) names.now)) }
 {
     let mut table = IndexMap::new(alloc);
-    for (number, entry) in names.iter().enumerate() {
-        note_name(alloc, &mut table, entry, number)?;
-    }
+    note_names(alloc, &mut table, names)?;
     Ok(table)
 }
 
@@ -117,6 +126,21 @@ fn note_declaration(
     }
 }
 
+/// Notes the declarations with parts.
+fn note_declarations(
+    alloc: Global,
+    declared: &mut IndexMap<String, usize>,
+    decls: &[Decl],
+) -> Result<(), AllocError>
+    ensures { OnOk result ((x : Name) → get_by_text declared.new x ≡ option_or (get_by_text declared.old x)
+        (declaration_named (map decl_view decls.now) x)) }
+{
+    for (number, decl) in decls.iter().enumerate() {
+        note_declaration(alloc, declared, decl, number)?;
+    }
+    Ok(())
+}
+
 /// The numbers of the declarations with parts, of each name the first.
 ///
 /// # Errors
@@ -129,8 +153,6 @@ pub(crate) fn declared_names(
     ensures { IfOk result (λ m. (x : Name) → get_by_text m x ≡ declaration_named (map decl_view decls.now) x) }
 {
     let mut declared = IndexMap::new(alloc);
-    for (number, decl) in decls.iter().enumerate() {
-        note_declaration(alloc, &mut declared, decl, number)?;
-    }
+    note_declarations(alloc, &mut declared, decls)?;
     Ok(declared)
 }

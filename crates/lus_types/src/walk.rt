@@ -54,30 +54,49 @@ fn constants_declared(alloc: Global, program: &Program) -> Result<Vec<Declared<'
     Ok(names)
 }
 
-/// Notes the faults of declarations, but for those of circles, and gives tables of their names.
-fn all_declarations(
+/// Notes the faults of declarations, but for those of circles, and adds tables of their names to none.
+fn push_tables(
     alloc: Global,
-    setting: Setting<'_, '_>,
+    setting: &Setting<'_, '_>,
     least: &mut Least,
+    tables: &mut Vec<Table>,
     decls: &[Decl],
-) -> Result<Vec<Table>, AllocError>
+) -> Result<(), AllocError>
+    requires { tables.old.items ≡ [] }
     ensures noted { IfOk result (λ _. Notes (least_view least.old) (least_view least.new)
-        (alone_from (program_view setting.entry.declarations.now) 0 (map decl_view decls.now))) }
-    ensures names { IfOk result (λ ts. (x : Name) → map (λ t. found_in t x) ts.items
+        (alone_from (program_view setting.now.declarations.now) 0 (map decl_view decls.now))) }
+    ensures names { IfOk result (λ _. (x : Name) → map (λ t. found_in t x) tables.new.items
         ≡ map (λ es. known_among es x)
-        (names_from (program_view setting.entry.declarations.now) 0 (map decl_view decls.now))) }
+        (names_from (program_view setting.now.declarations.now) 0 (map decl_view decls.now))) }
 {
     let mut known = 0;
-    let mut tables = Vec::new(alloc);
     for decl in decls {
         tables.push(declaration(alloc, setting, least, known, decl)?)?;
         known = constants_after(known, decl);
     }
+    Ok(())
+}
+
+/// Notes the faults of declarations, but for those of circles, and gives tables of their names.
+fn all_declarations(
+    alloc: Global,
+    setting: &Setting<'_, '_>,
+    least: &mut Least,
+    decls: &[Decl],
+) -> Result<Vec<Table>, AllocError>
+    ensures noted { IfOk result (λ _. Notes (least_view least.old) (least_view least.new)
+        (alone_from (program_view setting.now.declarations.now) 0 (map decl_view decls.now))) }
+    ensures names { IfOk result (λ ts. (x : Name) → map (λ t. found_in t x) ts.items
+        ≡ map (λ es. known_among es x)
+        (names_from (program_view setting.now.declarations.now) 0 (map decl_view decls.now))) }
+{
+    let mut tables = Vec::new(alloc);
+    push_tables(alloc, setting, least, &mut tables, decls)?;
     Ok(tables)
 }
 
 /// Notes the faults of all declarations of a program, but for those of circles, by what its
-/// constants mean, and gives tables of their names.
+/// constants mean, and gives a table of the names of each.
 fn with_constants<'a>(
     alloc: Global,
     declarations: &'a Declarations<'a>,
@@ -97,7 +116,7 @@ fn with_constants<'a>(
     let words = constant_words(alloc, declarations.program())?;
     let seen = texts_of(alloc, &words)?;
     let setting = Setting::new(declarations, constants, nothing, &words, &seen);
-    all_declarations(alloc, setting, least, &declarations.program().decls)
+    all_declarations(alloc, &setting, least, &declarations.program().decls)
 }
 
 /// What the constants of a program mean.
@@ -115,6 +134,33 @@ fn constants_of<'a>(
     entries(alloc, declarations, nothing, &declared)
 }
 
+/// Notes the faults of all declarations of a program, but for those of circles, by what its
+/// constants mean, and gives tables of its names.
+fn with_tables<'a>(
+    alloc: Global,
+    declarations: &'a Declarations<'a>,
+    constants: &'a Names<'a>,
+    nothing: Layer<'a>,
+    least: &mut Least,
+) -> Result<Tables, AllocError>
+    requires entries { map (entry_view All false) constants.now
+        ≡ entries_from (program_view declarations.now) [] [] (constants_declared (program_view declarations.now)) }
+    requires order { AreOrdered 0 constants.now }
+    requires nothing { layer_view nothing false ≡ [] }
+    ensures names { IfOk result (λ t. HaveNames (program_view declarations.now) t) }
+    ensures noted { IfOk result (λ _. Notes (least_view least.old) (least_view least.new)
+        (alone_from (program_view declarations.now) 0 (program_view declarations.now))) }
+{
+    let own = with_constants(alloc, declarations, constants.layer(), nothing, least)?;
+    let declared = declared_names(alloc, &declarations.program().decls)?;
+    let constants = table_of(alloc, constants.entries())?;
+    Ok(Tables {
+        own,
+        constants,
+        declared,
+    })
+}
+
 /// Notes the faults of all declarations of a program, but for those of circles, and gives tables of its
 /// names.
 fn alone(
@@ -129,11 +175,7 @@ fn alone(
     let none = Names::new(alloc);
     let nothing = none.layer();
     let constants = constants_of(alloc, declarations, nothing)?;
-    Ok(Tables {
-        own: with_constants(alloc, declarations, constants.layer(), nothing, least)?,
-        constants: table_of(alloc, constants.entries())?,
-        declared: declared_names(alloc, &declarations.program().decls)?,
-    })
+    with_tables(alloc, declarations, &constants, nothing, least)
 }
 
 /// Notes the calls and imports that are on circles, those of each declaration by themselves.

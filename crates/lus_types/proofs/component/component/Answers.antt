@@ -10,10 +10,10 @@ pub returns-clause-noted : goal.returns-clause-noted
 returns-clause-noted c =
     four_noted (least_view c.args.least.now) (least_view c.names_twice.new.least) (least_view c.marks_twice.new.least)
     (least_view c.state.new.least) (least_view c.inner.new.least)
-    (own_twice (constant_words (program_view c.args.setting.declarations.now)) (owner_view c.args.owner)) (marks_twice (owner_view c.args.owner))
-    (state_faults (program_view c.args.setting.declarations.now) (owner_view c.args.owner))
-    (inner_faults (home (program_view c.args.setting.declarations.now) c.args.known (owner_view c.args.owner)))
+    (own_twice (constant_words (program_view c.args.setting.now.declarations.now)) (owner_view c.args.owner)) (marks_twice (owner_view c.args.owner))
+    (state_faults (program_view c.args.setting.now.declarations.now) (owner_view c.args.owner))
+    (inner_faults (home (program_view c.args.setting.now.declarations.now) c.args.known (owner_view c.args.owner)))
     c.in_ok-names_twice.ensures c.in_ok-marks_twice.ensures
     (all_noted (least_view c.marks_twice.new.least) (least_view c.state.new.least)
-    (state_faults (program_view c.args.setting.declarations.now) (owner_view c.args.owner)) c.in_ok-state.ensures)
+    (state_faults (program_view c.args.setting.now.declarations.now) (owner_view c.args.owner)) c.in_ok-state.ensures)
     c.in_ok-names.ensures.noted

@@ -11,6 +11,6 @@ pub returns-clause-noted : goal.returns-clause-noted
 returns-clause-noted c =
     subst (λ h. Notes (least_view c.args.least.now) (least_view c.contract_and_body.new.least) (inner_faults h))
     (c.with_names-home.ensures
-    ∙ ap (λ (es : List Entry). let h : Home = record { program = program_view c.args.setting.declarations.now; owner = owner_view c.args.owner; outer = es } in h)
+    ∙ ap (λ (es : List Entry). let h : Home = record { program = program_view c.args.setting.now.declarations.now; owner = owner_view c.args.owner; outer = es } in h)
     c.constants_before-outer.ensures)
     c.in_ok-contract_and_body.ensures
