@@ -18,7 +18,19 @@ use Rattle.lus_meaning.specs.Run.{equations}
 use Rattle.lus_meaning.proofs.NamesOnce.{not_nil, no_parts, empty_of}
 use Rattle.lus_order.specs.Checked.{AreLeastOrders}
 use Rattle.lus_checked.specs.Main.{is_marked, first_marked, last_number, unless_found, main_node}
-use Rattle.lus_checked.specs.Program.{IsCheckedWith}
+use Rattle.lus_meaning.specs.Slots.{width}
+use Rattle.lus_bounds.specs.Widths.{widths}
+use Rattle.lus_checked.specs.declared.kept.Kept.{Kept}
+use Rattle.lus_checked.specs.Program.{IsCheckedWith, width_of}
+use Rattle.std.proofs.lemmas.List.{length-map}
+use Rattle.std.proofs.lemmas.Option.{slice_get-map}
+use Rattle.std.proofs.lemmas.Simd.{map-map}
+use Rattle.std.proofs.Common.{IfOk, Result, Ok, Err}
+use Rattle.std.specs.declared.alloc.AllocError.{AllocError}
+use Rattle.lus_meaning.specs.Property.{properties}
+use Rattle.lus_properties.specs.Marks.{Mark, mark_of}
+use Rattle.lus_checked.specs.declared.property.Property.{Property}
+use Rattle.lus_checked.specs.Properties.{listed_in, listed_mark, listed_of, lists_seen, property_seen}
 
 none_some : {A : Type 0} (x : A) → None ≡ Some x → ⊥
 none_some x e = cc
@@ -52,6 +64,30 @@ items_at (u ∷ us) (suc k) v e = items_at us k v e
 pub order_of : (p : Program) (ns : List Component) (vs : List (Vec ℕ Global)) → AreLeastOrders p ns (map (λ v. v.items) vs) → (k : ℕ) (v : Vec ℕ Global)
     → slice_get vs k ≡ Some v → (n : Component) → slice_get ns k ≡ Some n → IsLeastEquationOrder (instance_of p n) (equations n) v.items
 order_of p ns vs o k v e = order_at p ns (map (λ x. x.items) vs) o k v.items (items_at vs k v e)
+
+-- ---- widths
+
+pub as_many_widths : (p : Program) (ws : List ℕ) → ws ≡ widths p → length ws ≡ length (nodes_of p)
+as_many_widths p ws e = ap length e ∙ length-map (nodes_of p) (λ n. width (instance_of p n))
+
+pub width_at : (p : Program) (ws : List ℕ) → ws ≡ widths p → (k : ℕ) → width_of p k ≡ slice_get ws k
+width_at p ws e k = sym (slice_get-map (λ n. width (instance_of p n)) (nodes_of p) k) ∙ ap (λ vs. slice_get vs k) (sym e)
+
+-- ---- properties
+
+pub as_many_lists : (p : Program) (vs : List (Vec Property Global)) → lists_seen vs ≡ map (listed_in p) (nodes_of p) → length vs ≡ length (nodes_of p)
+as_many_lists p vs e = sym (length-map vs (λ v. map property_seen v.items)) ∙ ap length e ∙ length-map (nodes_of p) (listed_in p)
+
+pub list_at : (p : Program) (vs : List (Vec Property Global)) → lists_seen vs ≡ map (listed_in p) (nodes_of p) → (k : ℕ)
+    → listed_of p k ≡ option_map (λ v. map property_seen v.items) (slice_get vs k)
+list_at p vs e k =
+    sym (slice_get-map (listed_in p) (nodes_of p) k) ∙ ap (λ ls. slice_get ls k) (sym e) ∙ slice_get-map (λ v. map property_seen v.items) vs k
+
+-- by all of them but their truth
+pub listed_by : (p : Program) (n : Component) (r : Result (Vec Property Global) AllocError) (ms : List Mark) → IfOk r (λ v. map property_seen v.items ≡ map listed_mark ms)
+    → ms ≡ map mark_of (properties (instance_of p n)) → IfOk r (λ v. map property_seen v.items ≡ listed_in p n)
+listed_by p n (Ok v) ms h e = h ∙ ap (map listed_mark) e ∙ map-map listed_mark mark_of (properties (instance_of p n))
+listed_by p n (Err x) ms h e = tt
 
 -- ---- the main node
 
@@ -115,13 +151,16 @@ within_unnamed p main h =
     let faults : limit_faults p 0 p ≡ [] = (no_parts (main_faults p main) (limit_faults p 0 p) (empty_of (size_faults p main) h)).1 in
     λ r c. let none : Contains [] r = subst (λ (fs : List Refused). Contains fs r) faults c in let (k, l, q) = none in absurd (omega (arith, l))
 
-pub checked_with : (p : Program) (main : Option Name) (k : ℕ) (kss : List (List ℕ)) → IsChecked p → IsWithinLimits p main → main_node p main ≡ Some k
-    → AreLeastOrders p (components p) kss → IsCheckedWith p k kss
-checked_with p main k kss c w m o = record {
+pub checked_with : (p : Program) (main : Option Name) (k : Kept) → IsChecked p → IsWithinLimits p main → main_node p main ≡ Some k.main
+    → AreLeastOrders p (components p) (map (λ o. o.items) k.orders.items) → k.widths.items ≡ widths p
+    → lists_seen k.properties.items ≡ map (listed_in p) (nodes_of p) → IsCheckedWith p k
+checked_with p main k c w m o ws qs = record {
   checked = c;
   within = within_unnamed p main w;
-  node = main_below p main k m;
+  node = main_below p main k.main m;
   ordered = o;
+  counted = ws;
+  listed = qs;
 }
 
 -- a tree of the grammar without faults of clocks and equations is checked

@@ -1,3 +1,4 @@
 pub mod Main
 pub mod Program
 pub mod Refusals
+pub mod Properties

@@ -1,27 +1,28 @@
 //! A program that breaks no rule and passes no limit.
 
-ghost use Rattle.std.specs.Prelude.{◌≡◌, ◌<◌, None, length, map};
+ghost use Rattle.std.specs.Prelude.{◌≡◌, ◌<◌, None, Some, length, map};
 ghost use Rattle.lus_tree.specs.Lookup.{nodes_of};
 ghost use Rattle.lus_tree.specs.View.{program_view};
 ghost use Rattle.lus_meaning.specs.ClockFaults.{components};
 ghost use Rattle.lus_meaning.specs.Refusals.{IsChecked, IsWithinLimits};
-ghost use Rattle.lus_checked.specs.Program.{IsCheckedWith, IsOrderOf, main_of, tree_of};
+ghost use Rattle.lus_checked.specs.Program.{IsCheckedWith, IsOrderOf, main_of, tree_of, width_of};
+ghost use Rattle.lus_checked.specs.Properties.{listed_of, property_seen};
 
+use crate::kept::Kept;
+use crate::property::Property;
 use lus_clocks::Clocked;
 use lus_tree::Program;
 use std::marker::Model;
 
-/// A program that breaks no rule and passes no limit, as `checked` makes it, with the orders of its equations and its main
-/// node. Contracts see the program and the number of the main node.
+/// A program that breaks no rule and passes no limit, as `checked` makes it, with its main node, the orders of its
+/// equations, and the widths and properties of its systems. Contracts see the program and the number of the main node.
 #[derive(Drop)]
 pub struct Checked {
     clocked: Clocked,
-    orders: Vec<Vec<u32>>,
-    main: u32,
+    kept: Kept,
 }
 
 impl Model for Checked {
-    ghost use Rattle.std.specs.Prelude.{map};
     ghost use Rattle.lus_tree.specs.contracts.declaration.Program as e;
     ghost use Rattle.std.specs.Coded.{codes};
     ghost use Rattle.lus_tree.specs.View.{program_view};
@@ -31,23 +32,19 @@ impl Model for Checked {
 
     ghost coded = { Prim.hlevel (codes, e.the_row.coded) };
 
-    ghost view = { λ c. (c.clocked, c.main) };
+    ghost view = { λ c. (c.clocked, c.kept.main) };
 
-    ghost invariant = { λ c. IsCheckedWith (program_view c.clocked) c.main (map (λ o. o.items) c.orders.items) };
+    ghost invariant = { λ c. IsCheckedWith (program_view c.clocked) c.kept };
 }
 
 impl Checked {
     /// The program, of which the caller knows that it breaks no rule and passes no limit.
-    pub(crate) fn of(clocked: Clocked, orders: Vec<Vec<u32>>, main: u32) -> Self
-        requires { IsCheckedWith (program_view clocked) main (map (λ o. o.items) orders.items) }
+    pub(crate) fn of(clocked: Clocked, kept: Kept) -> Self
+        requires { IsCheckedWith (program_view clocked) kept }
         ensures tree { tree_of result ≡ program_view clocked }
-        ensures main { main_of result ≡ main }
+        ensures main { main_of result ≡ kept.main }
     {
-        Checked {
-            clocked,
-            orders,
-            main,
-        }
+        Checked { clocked, kept }
     }
 
     /// The program. It breaks no rule and passes no limit.
@@ -78,14 +75,14 @@ impl Checked {
         ensures same { result ≡ main_of self.now }
         ensures node { result < length (nodes_of (tree_of self.now)) }
     {
-        self.main
+        self.kept.main
     }
 
     /// How many declarations with parts there are: nodes, functions and contract nodes.
     pub fn parts(&self) -> usize
         ensures { result ≡ length (components (tree_of self.now)) }
     {
-        self.orders.len()
+        self.kept.orders.len()
     }
 
     /// The equations of a declaration with parts by its number, constants left out, counted from 0 in text order:
@@ -95,6 +92,24 @@ impl Checked {
         requires { number < length (components (tree_of self.now)) }
         ensures { IsOrderOf (tree_of self.now) number result.now }
     {
-        self.orders[number].as_slice()
+        self.kept.orders[number].as_slice()
+    }
+
+    /// How many variables the system of the node or function with that number has.
+    pub fn width(&self, node: u32) -> u32
+        requires { node < length (nodes_of (tree_of self.now)) }
+        ensures { width_of (tree_of self.now) node ≡ Some result }
+    {
+        self.kept.widths[node as usize]
+    }
+
+    /// The properties of the node or function with that number, in order: those of its body, its guarantees, the ensures
+    /// of its modes, that one mode is active, where it has a mode, and for each call by number the assumptions of the
+    /// callee.
+    pub fn properties(&self, node: u32) -> &[Property]
+        requires { node < length (nodes_of (tree_of self.now)) }
+        ensures { listed_of (tree_of self.now) node ≡ Some (map property_seen result.now) }
+    {
+        self.kept.properties[node as usize].as_slice()
     }
 }

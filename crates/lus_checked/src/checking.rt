@@ -11,13 +11,16 @@ ghost use Rattle.lus_meaning.specs.Refusals.{IsChecked, IsClocked, IsWithinLimit
 ghost use Rattle.lus_order.specs.Checked.{AreLeastOrders};
 ghost use Rattle.lus_order.specs.Dependences.{orders_seen};
 ghost use Rattle.lus_bounds.specs.Passed.{name_seen};
+ghost use Rattle.lus_bounds.specs.Widths.{widths as widths_of};
 ghost use Rattle.lus_checked.specs.Main.{main_node};
 ghost use Rattle.lus_checked.specs.Program.{IsCheckedWith, main_of, tree_of};
 ghost use Rattle.lus_checked.specs.Refusals.{IsRefusal};
 
 use crate::checked_program::Checked;
+use crate::kept::Kept;
+use crate::listing::all_properties;
 use crate::main_node::main_number;
-use crate::orders::all_narrowed;
+use crate::orders::{all_orders, narrowed};
 use lus_bounds::limits;
 use lus_clocks::Clocked;
 use lus_order::{Dependence, equations};
@@ -34,54 +37,67 @@ fn no_memory() -> Refusal
     }
 }
 
-/// What is found of a program that breaks no rule and passes no limit: the orders of its equations, and the number of its
-/// main node.
-#[derive(Drop)]
-struct Found {
-    orders: Vec<Vec<u32>>,
-    main: u32,
-}
-
-/// What is found of a program, by what is found of its declarations, where it is within the limits.
-fn with_main(
-    alloc: Global,
-    program: &Program,
-    found: &[Dependence],
-    main: Option<&str>,
-) -> Result<Found, AllocError>
+/// The number of the main node of a program within the limits.
+///
+/// # Errors
+///
+/// A number that 32 bits can't hold.
+fn checked_main(program: &Program, main: Option<&str>) -> Result<u32, AllocError>
     requires checked { IsChecked (program_view program.now) }
     requires within { IsWithinLimits (program_view program.now) (name_seen main) }
-    requires orders { AreLeastOrders (program_view program.now) (components (program_view program.now))
-        (orders_seen found.now) }
-    ensures found { IfOk result (λ f. IsCheckedWith (program_view program.now) f.main
-        (map (λ o. o.items) f.orders.items)) }
-    ensures main { IfOk result (λ f. main_node (program_view program.now) (name_seen main.entry) ≡ Some f.main) }
+    ensures { IfOk result (λ k. main_node (program_view program.now) (name_seen main.entry) ≡ Some k) }
 {
     let Some(number) = main_number(program, main) else {
         unreachable!();
     };
-    let Ok(main) = u32::try_from(number) else {
-        return Err(AllocError);
-    };
-    let orders = all_narrowed(alloc, found)?;
-    Ok(Found { orders, main })
+    match u32::try_from(number) {
+        Ok(number) => Ok(number),
+        Err(_) => Err(AllocError),
+    }
 }
 
-/// What is found of a program, where it breaks no rule of equations and passes no limit.
+/// What is kept of a program within the limits, by what its declarations depend on, and its widths.
+fn kept(
+    alloc: Global,
+    program: &Program,
+    found: &[Dependence],
+    widths: &[usize],
+    main: Option<&str>,
+) -> Result<Kept, AllocError>
+    requires checked { IsChecked (program_view program.now) }
+    requires within { IsWithinLimits (program_view program.now) (name_seen main) }
+    requires orders { AreLeastOrders (program_view program.now) (components (program_view program.now))
+        (orders_seen found.now) }
+    requires widths { widths.now ≡ widths_of (program_view program.now) }
+    ensures kept { IfOk result (λ k. IsCheckedWith (program_view program.now) k) }
+    ensures main { IfOk result (λ k. main_node (program_view program.now) (name_seen main.entry) ≡ Some k.main) }
+{
+    let main = checked_main(program, main)?;
+    let orders = all_orders(alloc, found)?;
+    let widths = narrowed(alloc, widths)?;
+    let properties = all_properties(alloc, program)?;
+    Ok(Kept {
+        main,
+        orders,
+        widths,
+        properties,
+    })
+}
+
+/// What is kept of a program, where it breaks no rule of equations and passes no limit.
 #[tactic(auto, using(crate::proofs::Joined::followed, crate::proofs::Joined::whole))]
-fn judged(alloc: Global, program: &Program, main: Option<&str>) -> Result<Found, Refusal>
+fn judged(alloc: Global, program: &Program, main: Option<&str>) -> Result<Kept, Refusal>
     requires grammatical { IsGrammatical (program_view program.now) }
     requires clocked { IsClocked (program_view program.now) }
-    ensures found { IfOk result (λ f. IsCheckedWith (program_view program.now) f.main
-        (map (λ o. o.items) f.orders.items)) }
+    ensures kept { IfOk result (λ k. IsCheckedWith (program_view program.now) k) }
     ensures within { IfOk result (λ _. IsWithinLimits (program_view program.now) (name_seen main.entry)) }
-    ensures main { IfOk result (λ f. main_node (program_view program.now) (name_seen main.entry) ≡ Some f.main) }
+    ensures main { IfOk result (λ k. main_node (program_view program.now) (name_seen main.entry) ≡ Some k.main) }
     ensures refused { IfErr result (λ e. IsRefusal (program_view program.now) (name_seen main.entry) (refusal_view e)) }
 {
     let found = equations(alloc, program)?;
-    limits(alloc, program, main)?;
-    match with_main(alloc, program, found.as_slice(), main) {
-        Ok(found) => Ok(found),
+    let widths = limits(alloc, program, main)?;
+    match kept(alloc, program, &found, &widths, main) {
+        Ok(kept) => Ok(kept),
         Err(_) => Err(no_memory()),
     }
 }
@@ -103,7 +119,7 @@ pub fn checked(alloc: Global, clocked: Clocked, main: Option<&str>) -> Result<Ch
     ensures refused { IfErr result (λ e. IsRefusal (program_view clocked) (name_seen main.entry) (refusal_view e)) }
 {
     match judged(alloc, clocked.program(), main) {
-        Ok(found) => Ok(Checked::of(clocked, found.orders, found.main)),
+        Ok(kept) => Ok(Checked::of(clocked, kept)),
         Err(refusal) => Err(refusal),
     }
 }

@@ -3,8 +3,12 @@
 
 mod checked_program;
 mod checking;
+mod kept;
+mod listing;
 mod main_node;
 mod orders;
+mod property;
 
 pub use checked_program::Checked;
 pub use checking::checked;
+pub use property::{Property, PropertyKind};

@@ -1,4 +1,4 @@
-//! The orders of equations by numbers of 32 bits.
+//! Lists of numbers in 32 bits.
 
 ghost use Rattle.std.specs.Prelude.{◌≡◌, IfOk, map};
 ghost use Rattle.lus_order.specs.Dependences.{orders_seen};
@@ -11,11 +11,11 @@ use std::alloc::{AllocError, Global};
 /// # Errors
 ///
 /// Want of memory, or a number that 32 bits can't hold.
-fn narrowed(alloc: Global, order: &[usize]) -> Result<Vec<u32>, AllocError>
-    ensures { IfOk result (λ v. v.items ≡ order.now) }
+pub(crate) fn narrowed(alloc: Global, list: &[usize]) -> Result<Vec<u32>, AllocError>
+    ensures { IfOk result (λ v. v.items ≡ list.now) }
 {
     let mut numbers = Vec::new(alloc);
-    for number in order {
+    for number in list {
         let Ok(number) = u32::try_from(*number) else {
             return Err(AllocError);
         };
@@ -24,17 +24,17 @@ fn narrowed(alloc: Global, order: &[usize]) -> Result<Vec<u32>, AllocError>
     Ok(numbers)
 }
 
-/// The orders of declarations, in 32 bits.
+/// The orders of the equations of declarations, in 32 bits.
 ///
 /// # Errors
 ///
 /// Want of memory, or a number that 32 bits can't hold.
-pub(crate) fn all_narrowed(alloc: Global, found: &[Dependence]) -> Result<Vec<Vec<u32>>, AllocError>
+pub(crate) fn all_orders(alloc: Global, found: &[Dependence]) -> Result<Vec<Vec<u32>>, AllocError>
     ensures { IfOk result (λ v. map (λ o. o.items) v.items ≡ orders_seen found.now) }
 {
     let mut all = Vec::new(alloc);
     for dependence in found {
-        all.push(narrowed(alloc, dependence.order.as_slice())?)?;
+        all.push(narrowed(alloc, &dependence.order)?)?;
     }
     Ok(all)
 }

@@ -2,4 +2,4 @@ use Rattle.std.proofs.Common.{◌≡◌, take}
 use Rattle.lus_checked.proofs.orders.narrowed.Given as goal
 
 abbrev pub invariant-loop-number : goal.invariant-loop-number
-invariant-loop-number l = l.numbers.items ≡ take l.number-index l.order
+invariant-loop-number l = l.numbers.items ≡ take l.number-index l.list

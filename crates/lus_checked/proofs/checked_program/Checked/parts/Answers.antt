@@ -7,7 +7,7 @@ use Rattle.lus_checked.proofs.checked_program.Checked.parts.Goals as goal
 
 pub returns : goal.returns
 returns c =
-    let len : c.len.result ≡ length c.self.inside.orders.items = search rules in
-    len ∙ sym (as_many c.self.inside.orders.items)
+    let len : c.len.result ≡ length c.self.inside.kept.orders.items = search rules in
+    len ∙ sym (as_many c.self.inside.kept.orders.items)
     ∙ as_many_orders (program_view c.self.inside.clocked) _ _ c.self.invariant.ordered
     ∙ ap (λ (m : Marked). length (components (tree_of m))) c.self.view_is
