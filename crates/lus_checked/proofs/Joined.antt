@@ -30,6 +30,8 @@ use Rattle.std.specs.declared.alloc.AllocError.{AllocError}
 use Rattle.lus_meaning.specs.Property.{properties}
 use Rattle.lus_properties.specs.Marks.{Mark, mark_of}
 use Rattle.lus_checked.specs.declared.property.Property.{Property}
+use Rattle.lus_order.specs.OutputReads.{AreAllReads}
+use Rattle.lus_checked.specs.Reads.{kept_reads}
 use Rattle.lus_checked.specs.Properties.{listed_in, listed_mark, listed_of, lists_seen, property_seen}
 
 none_some : {A : Type 0} (x : A) → None ≡ Some x → ⊥
@@ -153,14 +155,15 @@ within_unnamed p main h =
 
 pub checked_with : (p : Program) (main : Option Name) (k : Kept) → IsChecked p → IsWithinLimits p main → main_node p main ≡ Some k.main
     → AreLeastOrders p (components p) (map (λ o. o.items) k.orders.items) → k.widths.items ≡ widths p
-    → lists_seen k.properties.items ≡ map (listed_in p) (nodes_of p) → IsCheckedWith p k
-checked_with p main k c w m o ws qs = record {
+    → lists_seen k.properties.items ≡ map (listed_in p) (nodes_of p) → AreAllReads p (nodes_of p) (kept_reads k.reads.items) → IsCheckedWith p k
+checked_with p main k c w m o ws qs rs = record {
   checked = c;
   within = within_unnamed p main w;
   node = main_below p main k.main m;
   ordered = o;
   counted = ws;
   listed = qs;
+  read = rs;
 }
 
 -- a tree of the grammar without faults of clocks and equations is checked

@@ -13,7 +13,9 @@ use Rattle.lus_meaning.specs.Slots.{width}
 use Rattle.lus_order.specs.Checked.{AreLeastOrders}
 use Rattle.lus_bounds.specs.Widths.{widths}
 use Rattle.lus_checked.specs.declared.kept.Kept.{Kept}
+use Rattle.lus_order.specs.OutputReads.{AreAllReads}
 use Rattle.lus_checked.specs.Properties.{listed_in, lists_seen}
+use Rattle.lus_checked.specs.Reads.{kept_reads}
 
 -- the tree, and the number of the main node
 abbrev pub Marked : Type 0
@@ -33,6 +35,7 @@ pub record IsCheckedWith (p : Program) (kept : Kept) : Type 0 where
   pub ordered : AreLeastOrders p (components p) (map (λ o. o.items) kept.orders.items)
   pub counted : kept.widths.items ≡ widths p
   pub listed : lists_seen kept.properties.items ≡ map (listed_in p) (nodes_of p)
+  pub read : AreAllReads p (nodes_of p) (kept_reads kept.reads.items)
 
 -- the least order of the equations of the declaration with parts of that number, constants left out
 abbrev pub IsOrderOf : Program → ℕ → List ℕ → Type 0

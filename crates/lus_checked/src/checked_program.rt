@@ -7,6 +7,7 @@ ghost use Rattle.lus_meaning.specs.ClockFaults.{components};
 ghost use Rattle.lus_meaning.specs.Refusals.{IsChecked, IsWithinLimits};
 ghost use Rattle.lus_checked.specs.Program.{IsCheckedWith, IsOrderOf, main_of, tree_of, width_of};
 ghost use Rattle.lus_checked.specs.Properties.{listed_of, property_seen};
+ghost use Rattle.lus_checked.specs.Reads.{AreReadNow, AreReadsOf, outputs_of};
 
 use crate::kept::Kept;
 use crate::property::Property;
@@ -15,7 +16,7 @@ use lus_tree::Program;
 use std::marker::Model;
 
 /// A program that breaks no rule and passes no limit, as `checked` makes it, with its main node, the orders of its
-/// equations, and the widths and properties of its systems. Contracts see the program and the number of the main node.
+/// equations, the widths and properties of its systems, and what its outputs depend on. Contracts see the program and the number of the main node.
 #[derive(Drop)]
 pub struct Checked {
     clocked: Clocked,
@@ -111,5 +112,24 @@ impl Checked {
         ensures { listed_of (tree_of self.now) node ≡ Some (map property_seen result.now) }
     {
         self.kept.properties[node as usize].as_slice()
+    }
+
+    /// Output by output on which inputs those of the node or function with that number depend.
+    fn reads(&self, node: u32) -> &[Vec<u32>]
+        requires { node < length (nodes_of (tree_of self.now)) }
+        ensures { AreReadsOf (tree_of self.now) node (map (λ r. r.items) result.now) }
+    {
+        self.kept.reads[node as usize].as_slice()
+    }
+
+    /// On which inputs an output of the node or function with that number depends at the same instant, by the rule that no
+    /// equation depends on itself there: the numbers of these inputs, ascending. Inputs and outputs count from 0 in text
+    /// order.
+    pub fn reads_now(&self, node: u32, output: u32) -> &[u32]
+        requires node { node < length (nodes_of (tree_of self.now)) }
+        requires output { output < length (outputs_of (tree_of self.now) node) }
+        ensures { AreReadNow (tree_of self.now) node output result.now }
+    {
+        self.reads(node)[output as usize].as_slice()
     }
 }

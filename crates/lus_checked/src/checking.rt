@@ -9,7 +9,8 @@ ghost use Rattle.lus_meaning.specs.Grammatical.{IsGrammatical};
 ghost use Rattle.lus_meaning.specs.NameFaults.{start_of_text};
 ghost use Rattle.lus_meaning.specs.Refusals.{IsChecked, IsClocked, IsWithinLimits};
 ghost use Rattle.lus_order.specs.Checked.{AreLeastOrders};
-ghost use Rattle.lus_order.specs.Dependences.{orders_seen};
+ghost use Rattle.lus_order.specs.Dependences.{orders_seen, reads_seen};
+ghost use Rattle.lus_order.specs.OutputReads.{AreAllReads};
 ghost use Rattle.lus_bounds.specs.Passed.{name_seen};
 ghost use Rattle.lus_bounds.specs.Widths.{widths as widths_of};
 ghost use Rattle.lus_checked.specs.Main.{main_node};
@@ -21,6 +22,7 @@ use crate::kept::Kept;
 use crate::listing::all_properties;
 use crate::main_node::main_number;
 use crate::orders::{all_orders, narrowed};
+use crate::reads::all_reads;
 use lus_bounds::limits;
 use lus_clocks::Clocked;
 use lus_order::{Dependence, equations};
@@ -68,6 +70,8 @@ fn kept(
     requires within { IsWithinLimits (program_view program.now) (name_seen main) }
     requires orders { AreLeastOrders (program_view program.now) (components (program_view program.now))
         (orders_seen found.now) }
+    requires reads { AreAllReads (program_view program.now) (components (program_view program.now))
+        (reads_seen found.now) }
     requires widths { widths.now ≡ widths_of (program_view program.now) }
     ensures kept { IfOk result (λ k. IsCheckedWith (program_view program.now) k) }
     ensures main { IfOk result (λ k. main_node (program_view program.now) (name_seen main.entry) ≡ Some k.main) }
@@ -76,11 +80,13 @@ fn kept(
     let orders = all_orders(alloc, found)?;
     let widths = narrowed(alloc, widths)?;
     let properties = all_properties(alloc, program)?;
+    let reads = all_reads(alloc, found, &program.decls)?;
     Ok(Kept {
         main,
         orders,
         widths,
         properties,
+        reads,
     })
 }
 

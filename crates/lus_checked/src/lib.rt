@@ -8,6 +8,7 @@ mod listing;
 mod main_node;
 mod orders;
 mod property;
+mod reads;
 
 pub use checked_program::Checked;
 pub use checking::checked;

@@ -24,6 +24,21 @@ pub(crate) fn narrowed(alloc: Global, list: &[usize]) -> Result<Vec<u32>, AllocE
     Ok(numbers)
 }
 
+/// Lists of numbers, in 32 bits.
+///
+/// # Errors
+///
+/// Want of memory, or a number that 32 bits can't hold.
+pub(crate) fn all_narrowed(alloc: Global, lists: &[Vec<usize>]) -> Result<Vec<Vec<u32>>, AllocError>
+    ensures { IfOk result (λ v. map (λ o. o.items) v.items ≡ map (λ o. o.items) lists.now) }
+{
+    let mut all = Vec::new(alloc);
+    for list in lists {
+        all.push(narrowed(alloc, list)?)?;
+    }
+    Ok(all)
+}
+
 /// The orders of the equations of declarations, in 32 bits.
 ///
 /// # Errors
