@@ -114,8 +114,9 @@ impl Checked {
         self.kept.properties[node as usize].as_slice()
     }
 
-    /// Output by output on which inputs those of the node or function with that number depend.
-    fn reads(&self, node: u32) -> &[Vec<u32>]
+    /// For each output of the node or function with that number, in text order, on which inputs it depends at the same
+    /// instant, as `reads_now` has them one by one.
+    pub fn reads(&self, node: u32) -> &[Vec<u32>]
         requires { node < length (nodes_of (tree_of self.now)) }
         ensures { AreReadsOf (tree_of self.now) node (map (λ r. r.items) result.now) }
     {
