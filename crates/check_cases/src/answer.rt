@@ -2,6 +2,8 @@
 
 ghost use Rattle.std.specs.Prelude.{◌≤◌, length};
 
+use crate::node::node_text;
+use crate::orders::orders_text;
 use contract_reader::read_program;
 use lus_checked::{Checked, checked};
 use lus_clocks::clocks;
@@ -9,6 +11,15 @@ use lus_tree::Refusal;
 use lus_types::types;
 use source_laws::laws::grammatical_sources;
 use std::alloc::{AllocError, Global};
+
+/// What is asked of a source that is taken.
+#[derive(Clone, Copy)]
+pub enum Asked {
+    /// The number of its main node, and the orders of its declarations.
+    Orders,
+    /// What is known of its main node.
+    Node,
+}
 
 /// The most bytes of a source.
 const MOST_BYTES: usize = 1_048_576;
@@ -24,29 +35,18 @@ fn checked_source(alloc: Global, bytes: &[u8], main: Option<&str>) -> Result<Che
     checked(alloc, clocked, main)
 }
 
-/// Adds the numbers of an order.
-fn push_order(alloc: Global, text: &mut String, order: &[u32]) -> Result<(), AllocError> {
-    text.push_str(" |")?;
-    for number in order {
-        let item = format!(in alloc; " {number}")?;
-        text.push_str(item.as_str())?;
+/// What is asked of a program.
+fn asked_text(alloc: Global, asked: Asked, program: &Checked) -> Result<String, AllocError> {
+    match asked {
+        Asked::Orders => orders_text(alloc, program),
+        Asked::Node => node_text(alloc, program),
     }
-    Ok(())
 }
 
-/// The number of the main node, and the orders of all declarations with parts.
-fn orders_text(alloc: Global, program: &Checked) -> Result<String, AllocError> {
-    let main = program.main();
-    let mut text = format!(in alloc; "main {main}")?;
-    for number in 0..program.parts() {
-        push_order(alloc, &mut text, program.order(number))?;
-    }
-    Ok(text)
-}
-
-/// The main node and the orders of a source, or why and where it is refused.
-pub fn orders_or_refusal(
+/// What is asked of a source, or why and where it is refused.
+pub fn told(
     alloc: Global,
+    asked: Asked,
     source: &str,
     main: Option<&str>,
 ) -> Result<String, AllocError> {
@@ -55,7 +55,7 @@ pub fn orders_or_refusal(
         return String::from_str(alloc, "too long");
     }
     match checked_source(alloc, bytes, main) {
-        Ok(program) => orders_text(alloc, &program),
+        Ok(program) => asked_text(alloc, asked, &program),
         Err(refusal) => format!(in alloc; "{refusal}"),
     }
 }

@@ -1,19 +1,26 @@
 //! Checks each source of the files in data/ and prints it with its refusal, or with the number of its main node and the
-//! orders of the equations of its declarations; and sources that are made of numbers, or that stand in a file each, near
-//! the limits, with whether they are taken.
+//! orders of the equations of its declarations, or with what is known of its main node; and sources that are made of
+//! numbers, or that stand in a file each, near the limits, with whether they are taken.
 //!
 //! For the benchmark, the words `checked FILE` have it read and check that source alone.
 #![tactic(auto)]
 
 mod answer;
 mod made;
+mod node;
+mod orders;
 
-use answer::{is_taken, orders_or_refusal};
+use answer::{Asked, is_taken, told};
 use made::source_of;
 use std::{env, fs, io};
 
-/// The tables of sources: each line of a file is one.
-const TABLES: [&str; 3] = ["lefts", "circles", "orders"];
+/// The tables of sources, each line of which is one, and what is asked of them.
+const TABLES: [(&str, Asked); 4] = [
+    ("lefts", Asked::Orders),
+    ("circles", Asked::Orders),
+    ("orders", Asked::Orders),
+    ("nodes", Asked::Node),
+];
 
 /// The sources that stand in a file each.
 const FILES: [&str; 14] = [
@@ -34,18 +41,18 @@ const FILES: [&str; 14] = [
 ];
 
 /// What is said of a source of a table.
-fn print_case(rt: &HostRuntime, source: &str) -> io::Result<()> {
-    let text = orders_or_refusal(rt.alloc(), source, None)?;
+fn print_case(rt: &HostRuntime, asked: Asked, source: &str) -> io::Result<()> {
+    let text = told(rt.alloc(), asked, source, None)?;
     println!(rt; "{source}\n    {text}")
 }
 
 /// What is said of the sources of a table.
-fn print_table(rt: &HostRuntime, name: &str) -> io::Result<()> {
+fn print_table(rt: &HostRuntime, name: &str, asked: Asked) -> io::Result<()> {
     println!(rt; "== {name}")?;
     let file = format!(in rt.alloc(); "{name}.cases")?;
     let cases = fs::read_to_string(rt, file.as_str())?;
     for source in cases.lines() {
-        print_case(rt, source)?;
+        print_case(rt, asked, source)?;
     }
     Ok(())
 }
@@ -54,7 +61,7 @@ fn print_table(rt: &HostRuntime, name: &str) -> io::Result<()> {
 fn print_main(rt: &HostRuntime, case: &str) -> io::Result<()> {
     let (name, source) = case.split_once(' ').unwrap_or((case, ""));
     let main = if name == "-" { None } else { Some(name) };
-    let text = orders_or_refusal(rt.alloc(), source, main)?;
+    let text = told(rt.alloc(), Asked::Orders, source, main)?;
     println!(rt; "{case}\n    {text}")
 }
 
@@ -85,8 +92,8 @@ fn main(rt: HostRuntime) -> io::Result<()> {
     if let [_, _, file] = words.as_slice() {
         return print_source(&rt, file.as_str());
     }
-    for name in TABLES {
-        print_table(&rt, name)?;
+    for (name, asked) in TABLES {
+        print_table(&rt, name, asked)?;
     }
     println!(rt; "== mains")?;
     let mains = fs::read_to_string(&rt, "mains.cases")?;
