@@ -110,6 +110,7 @@ pub(crate) fn post_halted<B: BoardSeat>(
     ensures seat { (B.number seat.new ≡ B.number seat.old) × (B.machine seat.new ≡ B.machine seat.old)
         × (B.plan seat.new ≡ B.plan seat.old) × (B.lent seat.new ≡ B.lent seat.old) }
     ensures front { B.front seat.new ≡ B.front seat.old }
+    ensures reads { B.reads seat.new ≡ B.reads seat.old }
     ensures seen { OnOk result (Begins (B.seen seat.old) (B.seen seat.new)) }
     ensures cause { OnOk result (has_cause (B.number seat.old) engine property (B.seen seat.new) ≡ true) }
 {

@@ -1,11 +1,13 @@
 //! Induction over several states.
 
-ghost use Rattle.std.specs.Prelude.{◌≡◌, ◌<◌, ◌≤◌, ◌^◌, List, [], length, Some, IfOk};
+ghost use Rattle.std.specs.Prelude.{◌≡◌, ◌<◌, ◌≤◌, ◌^◌, ◌+◌, List, [], length, take, Some, Ok, IfOk, OnOk};
 ghost use Rattle.sys_terms.specs.View.{Machine, system_view};
 ghost use Rattle.sys_terms.specs.Fits.{IsMild};
 ghost use Rattle.board_core.specs.declared.plan.Plan.{Plan as Options};
 ghost use Rattle.board_core.specs.Plans.{IsPlan};
 ghost use Rattle.board_core.specs.Entries.{Posting};
+ghost use Rattle.board_core.specs.Seats.{Begins, DecidesAll, HasCauses};
+ghost use Rattle.board_core.specs.declared.engine.Progress.TheVariants.{More, Spent, Decided};
 ghost use Rattle.kind_engine.specs.Tasks.{AreTasks};
 ghost use Rattle.kind_engine.specs.Engines.{worker_machine, worker_plan, worker_known, worker_steps};
 
@@ -79,6 +81,7 @@ impl StepEngine {
         ensures system { IfOk result (λ e. worker_machine e ≡ system_view system) }
         ensures plan { IfOk result (λ e. worker_plan e ≡ plan) }
         ensures known { IfOk result (λ e. worker_known e ≡ []) }
+        ensures left { IfOk result (λ e. worker_steps e ≡ plan.depth + 1) }
     {
         let Ok(count) = u32::try_from(system.properties.len()) else {
             return Err(EngineFault::Memory(AllocError));
@@ -116,7 +119,30 @@ impl Engine for StepEngine {
 
     ghost steps = { λ e. worker_steps e };
 
-    fn turn<B: BoardSeat>(&mut self, alloc: Global, seat: &mut B) -> Result<Progress, EngineFault> {
+    /// As `Engine` says; besides, a turn reads once.
+    fn turn<B: BoardSeat>(&mut self, alloc: Global, seat: &mut B) -> Result<Progress, EngineFault>
+        requires machine { worker_machine self.old ≡ B.machine seat.old }
+        requires plan { worker_plan self.old ≡ B.plan seat.old }
+        requires known { Begins (worker_known self.old) (B.seen seat.old) }
+        requires front { B.front seat.old ≤ length (worker_known self.old) }
+        ensures same { (worker_machine self.new ≡ worker_machine self.old) × (worker_plan self.new ≡ worker_plan self.old) }
+        ensures seat { (B.number seat.new ≡ B.number seat.old) × (B.machine seat.new ≡ B.machine seat.old)
+            × (B.plan seat.new ≡ B.plan seat.old) × (B.lent seat.new ≡ B.lent seat.old) }
+        ensures seen { OnOk result (Begins (B.seen seat.old) (B.seen seat.new)) }
+        ensures known { OnOk result (Begins (worker_known self.new) (B.seen seat.new)) }
+        ensures front { OnOk result (B.front seat.new ≤ length (worker_known self.new)) }
+        ensures decided { result ≡ Ok Decided
+            → DecidesAll (take (B.front seat.new) (B.seen seat.new)) (length (B.machine seat.new).properties) }
+        ensures at_once { OnOk result (
+            DecidesAll (take (B.front seat.new) (B.seen seat.new)) (length (B.machine seat.new).properties)
+            → result ≡ Ok Decided) }
+        ensures spent { result ≡ Ok Spent
+            → HasCauses (take (B.front seat.new) (B.seen seat.new)) (B.seen seat.new) (B.number seat.new)
+            (Some 1) (length (B.machine seat.new).properties) }
+        ensures falls { result ≡ Ok More → worker_steps self.new < worker_steps self.old }
+
+        ensures reads { OnOk result (B.reads seat.new ≡ B.reads seat.old + 1) }
+    {
         let Some(search) = self.search.take() else {
             return Err(EngineFault::Memory(AllocError));
         };

@@ -1,6 +1,6 @@
 //! The lemmas that an engine cites.
 
-ghost use Rattle.std.specs.Prelude.{◌≡◌, List, length, map, option_map, IfOk, OnOk};
+ghost use Rattle.std.specs.Prelude.{◌≡◌, ◌+◌, List, length, map, option_map, IfOk, OnOk};
 ghost use Rattle.sys_terms.specs.View.{Machine, term_view, terms_view};
 ghost use Rattle.cert_rules.specs.View.{cites_view, cited_terms};
 ghost use Rattle.board_core.specs.declared.plan.Plan.{Plan as Options};
@@ -98,6 +98,7 @@ pub(crate) fn read_lemmas<B: BoardSeat>(
     ensures seat { (B.number seat.new ≡ B.number seat.old) × (B.machine seat.new ≡ B.machine seat.old)
         × (B.plan seat.new ≡ B.plan seat.old) × (B.lent seat.new ≡ B.lent seat.old) }
     ensures front { OnOk result (B.front seat.new ≡ length (B.seen seat.new)) }
+    ensures reads { OnOk result (B.reads seat.new ≡ B.reads seat.old + 1) }
     ensures seen { OnOk result (Begins (B.seen seat.old) (B.seen seat.new)) }
     ensures lemmas { IfOk result (λ r. AreLemmas (B.machine seat.new) (B.seen seat.new) r.front
         (cites_view r.cites.items)) }

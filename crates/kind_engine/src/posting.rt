@@ -22,6 +22,7 @@ pub(crate) fn post_broken<B: BoardSeat>(
     ensures seat { (B.number seat.new ≡ B.number seat.old) × (B.machine seat.new ≡ B.machine seat.old)
         × (B.plan seat.new ≡ B.plan seat.old) × (B.lent seat.new ≡ B.lent seat.old) }
     ensures front { B.front seat.new ≡ B.front seat.old }
+    ensures reads { B.reads seat.new ≡ B.reads seat.old }
     ensures seen { OnOk result (Begins (B.seen seat.old) (B.seen seat.new)) }
     ensures decided { OnOk result (Decides (B.seen seat.new) property) }
 {
@@ -36,6 +37,7 @@ pub(crate) fn post_base<B: BoardSeat>(seat: &mut B, base: Base) -> Result<u64, E
     ensures seat { (B.number seat.new ≡ B.number seat.old) × (B.machine seat.new ≡ B.machine seat.old)
         × (B.plan seat.new ≡ B.plan seat.old) × (B.lent seat.new ≡ B.lent seat.old) }
     ensures front { B.front seat.new ≡ B.front seat.old }
+    ensures reads { B.reads seat.new ≡ B.reads seat.old }
     ensures seen { OnOk result (Begins (B.seen seat.old) (B.seen seat.new)) }
     ensures base { IfOk result (λ place. IsBaseTo (base_property base) (base_instant base)
         (slice_get (facts_in (B.seen seat.new)) place)) }
@@ -57,6 +59,7 @@ pub(crate) fn post_spent<B: BoardSeat>(
     ensures seat { (B.number seat.new ≡ B.number seat.old) × (B.machine seat.new ≡ B.machine seat.old)
         × (B.plan seat.new ≡ B.plan seat.old) × (B.lent seat.new ≡ B.lent seat.old) }
     ensures front { B.front seat.new ≡ B.front seat.old }
+    ensures reads { B.reads seat.new ≡ B.reads seat.old }
     ensures seen { OnOk result (Begins (B.seen seat.old) (B.seen seat.new)) }
     ensures cause { OnOk result (has_cause (B.number seat.old) engine property (B.seen seat.new) ≡ true) }
 {
@@ -71,6 +74,7 @@ pub(crate) fn post_step<B: BoardSeat>(seat: &mut B, step: Step) -> Result<u64, E
     ensures seat { (B.number seat.new ≡ B.number seat.old) × (B.machine seat.new ≡ B.machine seat.old)
         × (B.plan seat.new ≡ B.plan seat.old) × (B.lent seat.new ≡ B.lent seat.old) }
     ensures front { B.front seat.new ≡ B.front seat.old }
+    ensures reads { B.reads seat.new ≡ B.reads seat.old }
     ensures seen { OnOk result (Begins (B.seen seat.old) (B.seen seat.new)) }
     ensures step { IfOk result (λ place. IsStepOf (step_property step) (step_k step)
         (slice_get (facts_in (B.seen seat.new)) place)) }
@@ -93,6 +97,7 @@ pub(crate) fn post_held<B: BoardSeat>(
     ensures seat { (B.number seat.new ≡ B.number seat.old) × (B.machine seat.new ≡ B.machine seat.old)
         × (B.plan seat.new ≡ B.plan seat.old) × (B.lent seat.new ≡ B.lent seat.old) }
     ensures front { B.front seat.new ≡ B.front seat.old }
+    ensures reads { B.reads seat.new ≡ B.reads seat.old }
     ensures seen { OnOk result (Begins (B.seen seat.old) (B.seen seat.new)) }
     ensures decided { OnOk result (Decides (B.seen seat.new) property) }
 {
@@ -112,6 +117,7 @@ pub(crate) fn post_stuck<B: BoardSeat>(
     ensures seat { (B.number seat.new ≡ B.number seat.old) × (B.machine seat.new ≡ B.machine seat.old)
         × (B.plan seat.new ≡ B.plan seat.old) × (B.lent seat.new ≡ B.lent seat.old) }
     ensures front { B.front seat.new ≡ B.front seat.old }
+    ensures reads { B.reads seat.new ≡ B.reads seat.old }
     ensures seen { OnOk result (Begins (B.seen seat.old) (B.seen seat.new)) }
     ensures depth { OnOk result (IsDepth (B.seen seat.new) 1 property (B.plan seat.old).depth) }
 {

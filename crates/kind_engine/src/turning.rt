@@ -54,6 +54,7 @@ fn advanced<B: BoardSeat>(
     ensures seat { (B.number seat.new ≡ B.number seat.old) × (B.machine seat.new ≡ B.machine seat.old)
         × (B.plan seat.new ≡ B.plan seat.old) × (B.lent seat.new ≡ B.lent seat.old) }
     ensures front { B.front seat.new ≡ B.front seat.old }
+    ensures reads { B.reads seat.new ≡ B.reads seat.old }
     ensures seen { OnOk result (Begins (B.seen seat.old) (B.seen seat.new)) }
     ensures task { IfOk result (λ t. IsTask (system_view subject.now.system) subject.now.plan (B.seen seat.new)
         subject.now.engine (suc turn) property t) }
@@ -89,6 +90,7 @@ fn all_advanced<B: BoardSeat>(
     ensures seat { (B.number seat.new ≡ B.number seat.old) × (B.machine seat.new ≡ B.machine seat.old)
         × (B.plan seat.new ≡ B.plan seat.old) × (B.lent seat.new ≡ B.lent seat.old) }
     ensures front { B.front seat.new ≡ B.front seat.old }
+    ensures reads { B.reads seat.new ≡ B.reads seat.old }
     ensures seen { OnOk result (Begins (B.seen seat.old) (B.seen seat.new)) }
     ensures count { IfOk result (λ ts. length ts.items ≡ length (system_view subject.now.system).properties) }
     ensures tasks { IfOk result (λ ts. AreTasks (system_view subject.now.system) subject.now.plan (B.seen seat.new)
@@ -117,6 +119,7 @@ fn report<B: BoardSeat>(
     ensures seat { (B.number seat.new ≡ B.number seat.old) × (B.machine seat.new ≡ B.machine seat.old)
         × (B.plan seat.new ≡ B.plan seat.old) × (B.lent seat.new ≡ B.lent seat.old) }
     ensures front { B.front seat.new ≡ B.front seat.old }
+    ensures reads { B.reads seat.new ≡ B.reads seat.old }
     ensures seen { OnOk result (Begins (B.seen seat.old) (B.seen seat.new)) }
     ensures cause { OnOk result (has_cause (B.number seat.old) subject.now.engine property (B.seen seat.new) ≡ true) }
 {
@@ -152,6 +155,7 @@ fn report_all<B: BoardSeat>(
     ensures seat { (B.number seat.new ≡ B.number seat.old) × (B.machine seat.new ≡ B.machine seat.old)
         × (B.plan seat.new ≡ B.plan seat.old) × (B.lent seat.new ≡ B.lent seat.old) }
     ensures front { B.front seat.new ≡ B.front seat.old }
+    ensures reads { B.reads seat.new ≡ B.reads seat.old }
     ensures seen { OnOk result (Begins (B.seen seat.old) (B.seen seat.new)) }
     ensures causes { OnOk result (HasCauses (B.seen seat.old) (B.seen seat.new) (B.number seat.old)
         (Some subject.now.engine) (length (system_view subject.now.system).properties)) }
@@ -186,6 +190,7 @@ pub(crate) fn after_read<B: BoardSeat>(
     ensures seat { (B.number seat.new ≡ B.number seat.old) × (B.machine seat.new ≡ B.machine seat.old)
         × (B.plan seat.new ≡ B.plan seat.old) × (B.lent seat.new ≡ B.lent seat.old) }
     ensures front { B.front seat.new ≡ B.front seat.old }
+    ensures reads { B.reads seat.new ≡ B.reads seat.old }
     ensures seen { OnOk result (Begins (B.seen seat.old) (B.seen seat.new)) }
     ensures search { IfOk result (λ r. IsSearch (system_view subject.now.system) subject.now.plan
         (B.seen seat.new) subject.now.engine r.search) }

@@ -47,4 +47,5 @@ loop-task-preserved g c =
       plan = c.in_ok-advanced.ensures.seat.2 ∙ v.plan;
       lent = c.in_ok-advanced.ensures.seat.3 ∙ v.lent;
       front = c.in_ok-advanced.ensures.front ∙ v.front;
+      reads = c.in_ok-advanced.ensures.reads ∙ v.reads;
     }

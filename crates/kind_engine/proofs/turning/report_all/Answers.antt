@@ -49,6 +49,7 @@ loop-property-preserved g c =
             plan = e.seat.2 ∙ v.plan;
             lent = e.seat.3 ∙ v.lent;
             front = e.front ∙ v.front;
+            reads = e.reads ∙ v.reads;
           }))
       | else-not-decided w ↦
           (let front = read-front read before (b.front at.seat) v.seen (v.front ∙ c.requires.read) in
@@ -64,5 +65,6 @@ loop-property-preserved g c =
             plan = v.plan;
             lent = v.lent;
             front = v.front;
+            reads = v.reads;
           }))
     ]

@@ -16,4 +16,5 @@ invariant-loop-property g l =
       plan : b.plan l.seat ≡ b.plan l.fn.seat;
       lent : b.lent l.seat ≡ b.lent l.fn.seat;
       front : b.front l.seat ≡ b.front l.fn.seat;
+      reads : b.reads l.seat ≡ b.reads l.fn.seat;
     }

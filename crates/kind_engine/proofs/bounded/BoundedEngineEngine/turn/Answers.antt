@@ -56,7 +56,7 @@ returns-clause-at_once g c =
     (sym c.self.view_is) c.requires.machine in
     let machine = e.seat.1 ∙ (c.in_ok-news.ensures.same.1 ∙ sym own) in
     let front = read-front read seen (b.front c.after_read.new.seat) e.seen (e.front ∙ c.in_ok-news.ensures.front) in
-    λ numbered all.
+    λ all.
     ap Ok (e.at_once (λ p l.
     subst (λ h. Decides h p) front (all p (subst (λ (k : Machine). p < length k.properties) (sym machine) l))))
 
