@@ -2,13 +2,17 @@
 
 #![tactic(auto)]
 
+mod entries;
 mod flags;
 mod numbers;
 mod plays;
+mod ready;
 mod rows;
 mod sleeper;
 mod systems;
+mod teacher;
 mod terms;
+mod wide;
 
 use std::io;
 

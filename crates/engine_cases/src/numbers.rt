@@ -1,6 +1,6 @@
 //! Systems of numbers, each with one property.
 
-use crate::systems::system;
+use crate::systems::{Which, system};
 use crate::terms::{
     at_most, choose, choose_number, constant, equal, flag, multiple, next_number, number, plus,
 };
@@ -9,7 +9,7 @@ use std::alloc::{AllocError, Global};
 use sys_terms::{Num, System, Term};
 
 /// 2^63 - 1, the greatest number that may be shown.
-const GREATEST: i128 = 9_223_372_036_854_775_807;
+pub const GREATEST: i128 = 9_223_372_036_854_775_807;
 
 /// 2^62, half of the least number that may not.
 const HALF: i128 = 4_611_686_018_427_387_904;
@@ -31,7 +31,7 @@ fn is(alloc: Global, variable: u32, value: i128) -> Result<Term, AllocError> {
 }
 
 /// The number is at most this.
-fn up_to(alloc: Global, variable: u32, most: i128) -> Result<Term, AllocError> {
+pub fn up_to(alloc: Global, variable: u32, most: i128) -> Result<Term, AllocError> {
     at_most(alloc, number(variable), constant(most))
 }
 
@@ -115,6 +115,33 @@ pub fn lagging(alloc: Global) -> Result<System, AllocError> {
     Ok(system)
 }
 
+/// The second number becomes the sum of both.
+fn adds(alloc: Global) -> Result<Term, AllocError> {
+    let sum = plus(alloc, number(1), number(0))?;
+    becomes(alloc, 1, sum)
+}
+
+/// A number that counts from 0 on, and a second one, 0 at first, to which it is added at each step. That the second is
+/// at least 0 follows from no number of states, since what is added may be below 0; where it may not, it follows from
+/// one.
+pub fn adding(alloc: Global) -> Result<System, AllocError> {
+    let mut system = free(alloc, from(alloc, 1, 0)?)?;
+    system.shapes.push(Shape::Number)?;
+    push_zeros(alloc, &mut system.first)?;
+    system.next.push(grows(alloc)?)?;
+    system.next.push(adds(alloc)?)?;
+    Ok(system)
+}
+
+/// What is taught of the system: of the lagging one that the counter is at most 3, and of the others that it is at
+/// least 0.
+pub fn lemma_for(alloc: Global, which: Which) -> Result<Term, AllocError> {
+    match which {
+        Which::Lagging => up_to(alloc, 0, 3),
+        _ => from(alloc, 0, 0),
+    }
+}
+
 /// The first number doubles.
 fn doubles(alloc: Global) -> Result<Term, AllocError> {
     let twice = multiple(alloc, 2, number(0))?;
@@ -185,6 +212,25 @@ pub fn halves(alloc: Global) -> Result<System, AllocError> {
     system.shapes.push(Shape::Number)?;
     system.shapes.push(Shape::Number)?;
     system.here.push(equal(alloc, number(0), number(2))?)?;
+    system.here.push(is_odd_sum(alloc)?)?;
+    Ok(system)
+}
+
+/// The first number is the third and twice the fourth.
+fn is_even_difference(alloc: Global) -> Result<Term, AllocError> {
+    let twice = multiple(alloc, 2, number(3))?;
+    equal(alloc, number(0), plus(alloc, number(2), twice)?)
+}
+
+/// Two numbers have a difference that is twice another one, and a sum that is one more than twice yet another, which no
+/// state meets. Fractions meet it. A number that is not whole there depends on ones at no bound, so that there is no
+/// cut, and behind each split, upwards, another number is not whole.
+pub fn odd_and_even(alloc: Global) -> Result<System, AllocError> {
+    let mut system = free(alloc, Term::Truth(false))?;
+    for _ in 1..4 {
+        system.shapes.push(Shape::Number)?;
+    }
+    system.here.push(is_even_difference(alloc)?)?;
     system.here.push(is_odd_sum(alloc)?)?;
     Ok(system)
 }

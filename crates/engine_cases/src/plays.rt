@@ -1,68 +1,48 @@
 //! Plays of the engines, and what their books say.
 
-ghost use Rattle.std.specs.Prelude.{IsTrue, IfSome};
 ghost use Rattle.sys_terms.specs.View.{system_view};
 ghost use Rattle.board_core.specs.Plans.{IsPlan};
 ghost use Rattle.engine_cases.specs.Playable.{IsPlayable};
 
+use crate::entries::{asked_text, entries_text};
+use crate::numbers::lemma_for;
+use crate::ready::{is_playable, plan};
 use crate::rows::{Case, Order};
 use crate::sleeper::Sleeper;
 use crate::systems::{name_of, system_of};
+use crate::teacher::Teacher;
 use anyhow::Result;
 use board_core::{Book, Cause, Plan, Statement, Verdict, play};
 use kind_engine::{BoundedEngine, StepEngine};
 use proof_steps::Stop;
 use std::alloc::Global;
-use sys_terms::System;
+use sys_terms::{System, Term};
 
-/// The largest budget.
-const MOST: u64 = 1_000_000_000;
-
-/// The plan of the case, where its numbers are within the ranges.
-fn plan(case: Case) -> Option<Plan>
-    ensures { IfSome result IsPlan }
-{
-    let depth = case.depth;
-    let budgets = case.budgets;
-    if depth == 0 || depth > 1_000 || budgets.splits == 0 || budgets.splits > MOST {
-        return None;
+/// The numbers that were split, each with the value below the split.
+fn splits_text(alloc: Global, pairs: &[(u32, i128)]) -> Result<String> {
+    let mut text = String::new(alloc);
+    for (number, below) in pairs {
+        text = format!(in alloc; "{text}, of number {number} at {below}")?;
     }
-    if budgets.conflicts == 0 || budgets.conflicts > MOST {
-        return None;
-    }
-    if budgets.pivots == 0 || budgets.pivots > MOST {
-        return None;
-    }
-    Some(Plan {
-        depth,
-        frames: 30,
-        blocked: 5_000,
-        budgets,
-    })
+    Ok(text)
 }
 
-/// Whether the engines can work on the system.
-fn is_playable(system: &System) -> bool
-    ensures { IsTrue result → IsPlayable (system_view system.now) }
-{
-    system.is_mild() && system.shapes.len() < 100
-}
-
-fn stop_text(alloc: Global, stop: &Stop, name: &str) -> Result<String> {
+fn stop_text(alloc: Global, stop: &Stop, name: &str, asked: &str) -> Result<String> {
     Ok(match stop {
         Stop::Conflicts(clauses, _) => {
             let count = clauses.len();
-            format!(in alloc; ", {name} stopped after conflicts: {count}")?
+            format!(in alloc; ", {name} stopped {asked} after conflicts: {count}")?
         }
         Stop::Splits(pairs) => {
             let count = pairs.len();
-            format!(in alloc; ", {name} stopped after splits: {count}")?
+            let splits = splits_text(alloc, pairs)?;
+            format!(in alloc; ", {name} stopped {asked} after splits: {count}{splits}")?
         }
         Stop::Pivots(start, _) => {
             let count = start.pivots;
-            format!(in alloc; ", {name} stopped after pivots: {count}")?
+            format!(in alloc; ", {name} stopped {asked} after pivots: {count}")?
         }
-        Stop::Past(_, _) => format!(in alloc; ", {name} came past 128 bits")?,
+        Stop::Past(_, _) => format!(in alloc; ", {name} came past 128 bits {asked}")?,
     })
 }
 
@@ -70,7 +50,10 @@ fn stop_text(alloc: Global, stop: &Stop, name: &str) -> Result<String> {
 fn cause_text(alloc: Global, book: &Book, engine: u32, name: &str) -> Result<String> {
     match book.spent(engine, 0) {
         Some(Cause::Depth(depth)) => Ok(format!(in alloc; ", {name} went to depth {depth}")?),
-        Some(Cause::Stop(stop)) => stop_text(alloc, stop, name),
+        Some(Cause::Stop(stop)) => {
+            let asked = asked_text(alloc, book, engine)?;
+            stop_text(alloc, stop, name, &asked)
+        }
         Some(
             Cause::Wide {
                 number,
@@ -121,12 +104,14 @@ fn verdict_text(alloc: Global, book: &Book) -> Result<String> {
     }
 }
 
-/// Who plays, one beside an engine that does nothing.
+/// Who plays. One alone plays beside an engine that does nothing, and a taught one beside an engine that posts the
+/// case's lemma.
 #[derive(Clone, Copy)]
 pub enum Cast {
     Bounded,
     Step,
     Both,
+    Taught,
 }
 
 fn cast_name(cast: Cast) -> &'static str {
@@ -134,6 +119,7 @@ fn cast_name(cast: Cast) -> &'static str {
         Cast::Bounded => "bounded search",
         Cast::Step => "induction",
         Cast::Both => "both",
+        Cast::Taught => "taught induction",
     }
 }
 
@@ -179,22 +165,48 @@ fn both(alloc: Global, system: System, plan: Plan, order: &[u32]) -> Result<Book
     Ok(play(alloc, system, plan, &mut bounded, &mut step, order)?)
 }
 
-fn played(alloc: Global, cast: Cast, system: System, plan: Plan, order: &[u32]) -> Result<Book>
+fn taught(alloc: Global, lemma: Term, system: System, plan: Plan, order: &[u32]) -> Result<Book>
     requires system { IsPlayable (system_view system) }
     requires plan { IsPlan plan }
 {
-    match cast {
+    let mut teacher = Teacher {
+        system: system.copied(alloc)?,
+        lemma,
+        budgets: plan.budgets,
+    };
+    let mut step = StepEngine::new(alloc, system.copied(alloc)?, plan)?;
+    Ok(play(alloc, system, plan, &mut teacher, &mut step, order)?)
+}
+
+fn played(alloc: Global, case: Case, system: System, plan: Plan, order: &[u32]) -> Result<Book>
+    requires system { IsPlayable (system_view system) }
+    requires plan { IsPlan plan }
+{
+    match case.cast {
         Cast::Bounded => bounded_alone(alloc, system, plan, order),
         Cast::Step => step_alone(alloc, system, plan, order),
         Cast::Both => both(alloc, system, plan, order),
+        Cast::Taught => {
+            let lemma = lemma_for(alloc, case.which)?;
+            taught(alloc, lemma, system, plan, order)
+        }
+    }
+}
+
+/// The entries of a taught play, and nothing of another.
+fn told(alloc: Global, cast: Cast, book: &Book) -> Result<String> {
+    match cast {
+        Cast::Taught => entries_text(alloc, book),
+        Cast::Bounded | Cast::Step | Cast::Both => Ok(String::new(alloc)),
     }
 }
 
 /// What the book of a play says.
-fn book_text(alloc: Global, book: &Book) -> Result<String> {
+fn book_text(alloc: Global, cast: Cast, book: &Book) -> Result<String> {
     let count = book.count();
     let verdict = verdict_text(alloc, book)?;
-    Ok(format!(in alloc; "{verdict}; entries: {count}")?)
+    let told = told(alloc, cast, book)?;
+    Ok(format!(in alloc; "{verdict}; entries: {count}{told}")?)
 }
 
 /// What comes of the case.
@@ -207,7 +219,8 @@ fn text(alloc: Global, case: Case) -> Result<String> {
         return Ok(format!(in alloc; "NOT PLAYABLE")?);
     }
     let order = order(alloc, case.order, case.depth)?;
-    book_text(alloc, &played(alloc, case.cast, system, plan, &order)?)
+    let book = played(alloc, case, system, plan, &order)?;
+    book_text(alloc, case.cast, &book)
 }
 
 /// The line of the case.

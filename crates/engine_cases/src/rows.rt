@@ -29,7 +29,7 @@ fn ample() -> Budgets {
 /// The first turns.
 #[derive(Clone, Copy)]
 pub enum Order {
-    /// One of bounded search, and then each engine goes to its end.
+    /// One of the first engine, bounded search or the one that teaches, and then each goes to its end.
     First,
     /// One of induction, and then each engine goes to its end.
     Second,
@@ -60,6 +60,17 @@ fn step(which: Which, depth: u32) -> Case {
 fn both(which: Which, depth: u32, order: Order) -> Case {
     Case {
         cast: Cast::Both,
+        which,
+        depth,
+        budgets: ample(),
+        order,
+    }
+}
+
+/// Induction beside an engine that posts the system's lemma.
+fn taught(which: Which, depth: u32, order: Order) -> Case {
+    Case {
+        cast: Cast::Taught,
         which,
         depth,
         budgets: ample(),
@@ -142,6 +153,22 @@ fn cases(alloc: Global) -> Result<Vec<Case>, AllocError> {
         with_pivots(1, step(Which::Stairs, 1)),
         bounded(Which::Steep, 1),
         step(Which::Steep, 1),
+        with_splits(1, bounded(Which::OddAndEven, 1)),
+        with_splits(3, bounded(Which::OddAndEven, 1)),
+        with_splits(1, step(Which::OddAndEven, 1)),
+        bounded(Which::ParityOrBig, 1),
+        with_conflicts(1, bounded(Which::ParityOrBig, 1)),
+        with_splits(1, bounded(Which::OddAndEvenOrBig, 1)),
+        with_splits(1, step(Which::OddAndEvenOrBig, 1)),
+        bounded(Which::StairsOrBig, 1),
+        with_pivots(1, bounded(Which::StairsOrBig, 1)),
+        bounded(Which::SteepOrBig, 1),
+        step(Which::Adding, 2),
+        taught(Which::Adding, 1, Order::First),
+        taught(Which::Adding, 3, Order::Second),
+        taught(Which::Lagging, 1, Order::First),
+        taught(Which::Limited, 5, Order::First),
+        taught(Which::Limited, 6, Order::First),
     ]?)
 }
 

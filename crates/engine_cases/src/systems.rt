@@ -2,9 +2,10 @@
 
 use crate::flags::{bits, latch, parity, register, toggle};
 use crate::numbers::{
-    big_or_five, counting, doubling, five_or_big, halves, kept, lagging, limited, natural, stairs,
-    steep,
+    adding, big_or_five, counting, doubling, five_or_big, halves, kept, lagging, limited, natural,
+    odd_and_even, stairs, steep,
 };
+use crate::wide::or_big;
 use kind_num::Shape;
 use std::alloc::{AllocError, Global};
 use sys_terms::{System, Term};
@@ -28,6 +29,12 @@ pub enum Which {
     Parity,
     Stairs,
     Steep,
+    Adding,
+    OddAndEven,
+    ParityOrBig,
+    OddAndEvenOrBig,
+    StairsOrBig,
+    SteepOrBig,
 }
 
 /// A system of these shapes, first states and steps, with one property.
@@ -67,6 +74,12 @@ pub fn system_of(alloc: Global, which: Which) -> Result<System, AllocError> {
         Which::Parity => parity(alloc),
         Which::Stairs => stairs(alloc),
         Which::Steep => steep(alloc),
+        Which::Adding => adding(alloc),
+        Which::OddAndEven => odd_and_even(alloc),
+        Which::ParityOrBig => or_big(alloc, parity(alloc)?),
+        Which::OddAndEvenOrBig => or_big(alloc, odd_and_even(alloc)?),
+        Which::StairsOrBig => or_big(alloc, stairs(alloc)?),
+        Which::SteepOrBig => or_big(alloc, steep(alloc)?),
     }
 }
 
@@ -89,5 +102,11 @@ pub fn name_of(which: Which) -> &'static str {
         Which::Parity => "parity",
         Which::Stairs => "stairs",
         Which::Steep => "steep stairs",
+        Which::Adding => "adding",
+        Which::OddAndEven => "odd and even",
+        Which::ParityOrBig => "parity or big",
+        Which::OddAndEvenOrBig => "odd and even or big",
+        Which::StairsOrBig => "stairs or big",
+        Which::SteepOrBig => "steep stairs or big",
     }
 }
