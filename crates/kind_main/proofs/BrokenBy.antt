@@ -21,6 +21,8 @@ use Rattle.sys_meaning.specs.System.{system_of}
 use Rattle.sys_meaning.specs.Path.{frame_of_path, trace_of}
 use Rattle.sys_meaning.specs.Verdicts.{HasTrace, IsTraceOf}
 use Rattle.path_laws.specs.Laws.{EachBreaks, EachHasTraces, HasSmallNumbers}
+use Rattle.lus_evaluation.specs.Outcome.{StaysWithin}
+use Rattle.within_laws.specs.Small.{SmallPathsStayWithin}
 use Rattle.trace_laws.specs.Laws.{EachReadBack, EachReplays}
 use Rattle.trace_laws.proofs.Named.{node_component}
 use Rattle.kind_main.specs.declared.options.Options.{Options}
@@ -41,7 +43,7 @@ replays_as p s t e w r = record {
       (subst (λ ls. Replays (instance_of p r.node) ls s.length w) e.lines r.replays);
 }
 
-module _ (traces : EachHasTraces) (breaks : EachBreaks) (replays : EachReplays) (read_back : EachReadBack)
+module _ (traces : EachHasTraces) (breaks : EachBreaks) (replays : EachReplays) (read_back : EachReadBack) (stays : SmallPathsStayWithin)
     (p : Program) (d : Component) (a : IsAnalysed p d) (k : ℕ) (states : List (List Entry)) (short : length states ≤ 1001)
     (broken : paths.Breaks (system_of (instance_of p d)) k states) (small : HasSmallNumbers states)
     (t : Listing) (is : IsTraceOf p d states t) where
@@ -74,6 +76,7 @@ module _ (traces : EachHasTraces) (breaks : EachBreaks) (replays : EachReplays) 
               (subst (λ n. IsFrameOf (lines_of read) (instance_of p d) n other) many h));
           breaks = subst (λ n. Breaks (instance_of p d) q frame n) end
               (subst (λ r. Breaks (instance_of p d) r frame (pred (length states))) this at_last.2);
+          within = subst (λ n. StaysWithin (instance_of p d) frame n) (sym many) (stays p rules d at states broken.path small);
           replays = λ s h. replayed.1 s (replays_as p read t same s h) ∙ ap Some end;
         },
       )

@@ -15,6 +15,7 @@ use Rattle.lus_meaning.specs.Trace.{IsFrameOf}
 use Rattle.lus_meaning.specs.TraceView.{Listing, lines_of}
 use Rattle.lus_meaning.specs.Fits.{FitsProgram}
 use Rattle.lus_meaning.specs.Replay.{Shown, ReplaysTrace}
+use Rattle.lus_evaluation.specs.Outcome.{StaysWithin}
 use Rattle.source_laws.specs.Laws.{AreIdentified}
 use Rattle.path_traces.specs.Printed.{PrintedPlace, printed_place}
 use Rattle.trace_text.specs.Traces.{IsTraceText}
@@ -57,8 +58,8 @@ pub data Cuts (b : ℕ) (old : List Line) (line : List ℕ) (new : List Line) (r
   ends : b ≡ 10 → new ≡ old ++ (line ++ b ∷ []) ∷ [] → rest ≡ [] → Cuts b old line new rest
   goes_on : b ≢ 10 → new ≡ old → rest ≡ line ++ b ∷ [] → Cuts b old line new rest
 
--- The text is a trace that fits the program. Its one frame breaks the property first at this instant, and each replay
--- of the trace shows that break.
+-- The text is a trace that fits the program. Its one frame breaks the property first at this instant, the evaluation of
+-- that frame stays within 128 bits, and each replay of the trace shows that break.
 pub record BreaksBy (p : Program) (d : Component) (k : ℕ) (q : Property) (last : ℕ) (text : List ℕ) : Type 0 where
   pub trace : Listing
   pub read : IsTraceText text trace
@@ -68,6 +69,7 @@ pub record BreaksBy (p : Program) (d : Component) (k : ℕ) (q : Property) (last
   pub is_frame : IsFrameOf (lines_of trace) (instance_of p d) trace.length frame
   pub only : (other : Frame) → IsFrameOf (lines_of trace) (instance_of p d) trace.length other → other ≡ frame
   pub breaks : Breaks (instance_of p d) q frame last
+  pub within : StaysWithin (instance_of p d) frame trace.length
   pub replays : (s : Shown) → ReplaysTrace p trace s → s.breaks k ≡ Some last
 
 -- one cause of each engine of the options, in their order, each of them true of the property of number k of the system

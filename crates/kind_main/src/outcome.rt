@@ -32,6 +32,7 @@ use sys_terms::{State, System};
 use term_laws::laws::{as_many_formulas, small_systems};
 use trace_laws::laws::{each_read_back, each_replays, narrow_are_small};
 use trace_text::write_trace;
+use within_laws::laws::small_runs_stay_within;
 
 /// What is said of a property.
 #[derive(Drop)]
@@ -70,6 +71,7 @@ fn broken(
     each_verdicts();
     each_replays();
     each_read_back();
+    small_runs_stay_within();
     let trace = trace_of(alloc, program, Owner::Node(node), path)?;
     let Ok(text) = write_trace(alloc, &trace) else {
         return Err(AllocError);

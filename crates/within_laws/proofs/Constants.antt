@@ -135,7 +135,7 @@ module _ (row : SlotValues) (g : Numbering) (on : Bool) where
   name_worth x None e = absurd (false≢true e)
   name_worth x (Some v) e = refl
 
-  constant_worth : (e : Expression) → Constant e → Worth e ≡ only_where on (Here e)
+  pub constant_worth : (e : Expression) → Constant e → Worth e ≡ only_where on (Here e)
   constant_worth (truth p b) c = refl
   constant_worth (number p n) c = refl
   constant_worth (name p x) c = name_worth x (lookup (bytes_eq x) (constants_of i)) c

@@ -13,3 +13,6 @@ pub mod Contracts
 pub mod Bodies
 pub mod Trees
 pub mod Instants
+pub mod Lit
+pub mod Sized
+pub mod Small

@@ -3,3 +3,4 @@ pub mod Texts
 pub mod Sources
 pub mod Frames
 pub mod Instants
+pub mod Small

@@ -3,6 +3,7 @@
 ghost use Rattle.within_laws.specs.Laws.{QuietPartsAreWithin, PartsWithinAreQuiet};
 ghost use Rattle.within_laws.specs.Frames.{AllSidesAreQuiet, AllTextsAreQuiet};
 ghost use Rattle.within_laws.specs.Instants.{InstantsAreWithin, PartsStandAtCalls, PartsAreOverSlots, QuietRunsStayWithin};
+ghost use Rattle.within_laws.specs.Small.{SmallPathsStayWithin, SmallRunsStayWithin};
 ghost use Rattle.within_laws.specs.Sources.{FramesAreQuiet};
 ghost use Rattle.within_laws.specs.Texts.{TextsAreQuiet};
 
@@ -48,4 +49,12 @@ pub fn parts_over_slots()
 pub fn instants_are_within()
     ensures within { InstantsAreWithin }
     ensures stays { QuietRunsStayWithin }
+{}
+
+/// No expression of a checked program weighs more than 2^63. So where the values of the slots of a run of a declaration are
+/// of sizes of at most 2^63 - 1, its evaluation stays within 128 bits; and so does that of the frame of a path with such
+/// numbers.
+pub fn small_runs_stay_within()
+    ensures runs { SmallRunsStayWithin }
+    ensures paths { SmallPathsStayWithin }
 {}

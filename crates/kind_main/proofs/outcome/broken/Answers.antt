@@ -24,7 +24,7 @@ returns c =
     let many : length (states_view c.args.path.now) ≡ length c.args.path.now = as_long state_view c.args.path.now in
     let short = c.requires.broken.short in
     let some = some_there (states_view c.args.path.now) c.requires.broken.breaks.path.loose.some in
-    broken_by c.each_has_traces.ensures c.each_verdicts.ensures.broken c.each_replays.ensures c.each_read_back.ensures
+    broken_by c.each_has_traces.ensures c.each_verdicts.ensures.broken c.each_replays.ensures c.each_read_back.ensures c.small_runs_stay_within.ensures.paths
     (program_view c.args.program.now) (node_view c.args.node.now) c.requires.analysed c.args.property (states_view c.args.path.now) short
     c.requires.broken.breaks (c.narrow_are_small.ensures (states_view c.args.path.now) c.requires.broken.narrow)
     (trace_view c.in_ok-trace.trace) (c.in_ok-trace.ensures.exact c.requires.broken.breaks.path)
