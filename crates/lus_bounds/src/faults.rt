@@ -43,7 +43,7 @@ fn note_declaration(least: &mut Least, sizes: &[SystemSize], before: usize, decl
 }
 
 /// How many declarations with parts there are with one declaration more.
-fn parts_after(before: usize, decl: &Decl) -> usize
+pub fn parts_after(before: usize, decl: &Decl) -> usize
     requires { before + 1 < 2 ^ 64 }
     ensures { result ≡ parts_after before (decl_view decl.now) }
 {

@@ -7,3 +7,4 @@ mod names;
 mod passed;
 
 pub use checks::limits;
+pub use faults::parts_after;

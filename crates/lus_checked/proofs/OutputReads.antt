@@ -16,12 +16,6 @@ use Rattle.lus_checked.specs.Reads.{AreReadNow, AreReadsOf, declaration_reads, n
 
 -- ---- by all declarations
 
--- with one declaration more there are at most as many with parts as there are all together
-pub few_after : (k i : ℕ) (d : Declaration) (j : ℕ) → k ≤ i → j ≡ parts_after k d → j ≤ i + 1
-few_after k i (declared_constant c) j h e = omega (arith, h, e)
-few_after k i (declared_node n) j h e = omega (arith, h, e)
-few_after k i (declared_contract n) j h e = omega (arith, h, e)
-
 -- one declaration more
 pub one_more : (rs : List (List (List ℕ))) (ds : List Decl) (k i : ℕ) (d : Decl) (o q : List (List (List ℕ))) → i < length ds → d ≡ get_or ds i d
     → q ≡ o ++ declaration_reads rs k (decl_view d)

@@ -3,10 +3,10 @@
 ghost use Rattle.std.specs.Prelude.{◌≡◌, ◌+◌, ◌^◌, ◌<◌, ◌++◌, IfOk, map, option_map, option_to_list, slice_get};
 ghost use Rattle.lus_tree.specs.View.{decl_view};
 ghost use Rattle.lus_order.specs.Dependences.{inputs_seen, reads_seen};
-ghost use Rattle.lus_bounds.specs.Passed.{parts_after};
 ghost use Rattle.lus_checked.specs.Reads.{declaration_reads, node_reads, kept_reads};
 
 use crate::orders::all_narrowed;
+use lus_bounds::parts_after;
 use lus_order::Dependence;
 use lus_tree::Decl;
 use std::alloc::{AllocError, Global};
@@ -56,17 +56,6 @@ fn push_reads(
         push_found(alloc, all, found_at(found, before))?;
     }
     Ok(())
-}
-
-/// How many declarations with parts there are with one declaration more.
-fn parts_after(before: usize, decl: &Decl) -> usize
-    requires { before + 1 < 2 ^ 64 }
-    ensures { result ≡ parts_after before (decl_view decl.now) }
-{
-    match decl {
-        Decl::Constant(_) => before,
-        Decl::Node(_) | Decl::Contract(_) => before + 1,
-    }
 }
 
 /// On which inputs the outputs of nodes and functions depend, by what is found of all declarations with parts.

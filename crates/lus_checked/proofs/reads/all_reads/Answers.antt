@@ -2,7 +2,8 @@ use Rattle.std.proofs.Common.{◌+◌, ◌++◌, map, drop, ap, ◌∙◌}
 use Rattle.lus_tree.specs.View.{decl_view}
 use Rattle.lus_order.specs.Dependences.{reads_seen}
 use Rattle.lus_checked.specs.Reads.{node_reads, kept_reads}
-use Rattle.lus_checked.proofs.OutputReads.{few_after, one_more}
+use Rattle.lus_bounds.proofs.FirstPassed.{few_after}
+use Rattle.lus_checked.proofs.OutputReads.{one_more}
 use Rattle.lus_checked.proofs.reads.all_reads.Goals as goal
 
 pub loop-decl-preserved : goal.loop-decl-preserved
