@@ -1,3 +1,5 @@
+pub mod Steps
+pub mod Firsts
 pub mod Added
 pub mod RepeatedLefts
 pub mod LeftFaults

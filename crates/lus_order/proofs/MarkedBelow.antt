@@ -74,3 +74,7 @@ module _ (rows : Rows) (names : List Name) (count : ℕ) where
   led_more [] (j ∷ kss) o ks a b = absurd a
   led_more (p ∷ os) [] o ks a b = absurd a
   led_more (p ∷ os) (j ∷ kss) o ks a b = (a.0, led_more os kss o ks a.1 b)
+
+pub below_more : (marks : List Bool) (k : ℕ) (old new : List ℕ) → old ≡ marked_below marks k
+    → new ≡ old ++ cond (is_marked marks k) (k ∷ []) [] → new ≡ marked_below marks (k + 1)
+below_more marks k old new e f = rw add-one (f ∙ ap (λ ks. ks ++ cond (is_marked marks k) (k ∷ []) []) e)

@@ -1,5 +1,5 @@
 -- What is known of a declaration is its summary.
-use Rattle.std.proofs.Common.{◌≡◌, ◌↔◌, ℕ, Bool, true, false, cond, ◌||◌, List, [], ◌∷◌, ◌++◌, length, refl, ap, ◌∙◌, sym, subst, Some, None, option_to_list, unwrap_or, Bor}
+use Rattle.std.proofs.Common.{◌≡◌, ◌↔◌, ℕ, ◌<◌, ◌+◌, Bool, true, false, cond, ◌||◌, List, [], ◌∷◌, ◌++◌, length, take, get_or, refl, ap, ◌∙◌, sym, subst, Some, None, option_to_list, unwrap_or, Bor}
 use Rattle.std.specs.List.{list_any}
 use Rattle.std.specs.Map.{lookup}
 use Rattle.std.specs.Str.{bytes_eq}
@@ -30,7 +30,7 @@ use Rattle.lus_order.specs.OwnNodes.{AreNodes, own_modes}
 use Rattle.lus_order.specs.OwnReads.{AreFlagsOf}
 use Rattle.lus_order.specs.OwnRows.{numbers_of}
 use Rattle.lus_order.specs.Reads.{callees_view, text_seen}
-use Rattle.lus_order.specs.Rows.{ModeRows, mode_view, known_row, mode_rows_after, asked_row, imported_rows}
+use Rattle.lus_order.specs.Rows.{ModeRows, mode_view, modes_view, known_row, mode_rows_after, asked_row, imported_rows}
 use Rattle.number_graphs.specs.Visits.{once}
 use Rattle.lus_order.specs.Stands.{Stands}
 use Rattle.lus_order.specs.Streams.{AreTabled, names_of}
@@ -39,6 +39,7 @@ use Rattle.lus_order.proofs.FoundNodes.{rows_find}
 use Rattle.lus_order.proofs.ModeRows.{known_stands, modes_stand}
 use Rattle.number_graphs.proofs.Searches.{or_cases, or_right}
 use Rattle.lus_order.proofs.Stands.{names_stand, or_left}
+use Rattle.lus_order.proofs.Turns.{one_more}
 
 -- ---- mode by mode
 
@@ -194,3 +195,13 @@ module _ (n : Component) (g : Summaries) (s : Clocks) (t : Callees) (rows : Rows
 
 pub known_summaries : KnownAreSummaries
 known_summaries n g s t rows k tabled d u flags nodes is = summary_is n g s t rows k tabled d u flags nodes is
+
+-- one more mode, as the code goes
+pub known_next : (g h : Rows) (names given : List Name) (ms : List Mode) (i : ℕ) (m : Mode) (ks js : List (Name × List Name)) → i < length ms
+    → m ≡ get_or ms i m → g ≡ h → AreKnown h names given (modes_view (take i ms)) ks
+    → (AreKnown g names given (modes_view (take i ms)) ks → AreKnown g names given (modes_view (take i ms) ++ mode_view m ∷ []) js)
+    → AreKnown h names given (modes_view (take (i + 1) ms)) js
+known_next g h names given ms i m ks js l is e a f =
+    subst (λ r. AreKnown r names given (modes_view (take (i + 1) ms)) js) e
+    (subst (λ z. AreKnown g names given z js) (sym (one_more mode_view ms i m l is))
+    (f (subst (λ r. AreKnown r names given (modes_view (take i ms)) ks) (sym e) a)))

@@ -11,7 +11,8 @@ ghost use Rattle.lus_meaning.specs.WellMade.{AreDistinct};
 ghost use Rattle.lus_limits.specs.Calls.{call_view};
 ghost use Rattle.lus_order.specs.Declarations.{are_known, declared_view, is_next};
 ghost use Rattle.lus_order.specs.Learned.{IsAdded, IsConsistent, IsLearned, IsLibraryOf, flags_of, names_known};
-ghost use Rattle.lus_order.specs.Library.{known_view};
+ghost use Rattle.lus_order.specs.Library.{known_view, library_view};
+ghost use Rattle.way_laws.specs.Summaries.{IsSummary};
 ghost use Rattle.lus_streams.specs.Owner.{owner_view};
 ghost use Rattle.lus_order.specs.Streams.{names_of};
 
@@ -96,6 +97,21 @@ fn next_of<'a>(names: &NameTable, all: &[Declaration<'a>]) -> Option<Owner<'a>>
     None
 }
 
+/// What is to be known of a declaration, by what is known of those that it calls and imports.
+fn known_by<'a>(
+    alloc: Global,
+    library: &Library<'a>,
+    owner: Owner<'a>,
+) -> Result<Known<'a>, AllocError>
+    requires consistent { IsConsistent library.now }
+    requires distinct { AreDistinct (names_of (variables (owner_view owner))) }
+    ensures { IfOk result (λ k. IsSummary (owner_view owner.entry) (library_view library.now) (known_view k)) }
+{
+    let mut own = own_of(alloc, library, owner)?;
+    let known = known_of(alloc, &mut own, owner)?;
+    Ok(known)
+}
+
 /// Adds a declaration that is new, by what is known of those that it calls and imports.
 fn learn<'a>(alloc: Global, library: &mut Library<'a>, owner: Owner<'a>) -> Result<(), AllocError>
     requires consistent { IsConsistent library.old }
@@ -103,8 +119,7 @@ fn learn<'a>(alloc: Global, library: &mut Library<'a>, owner: Owner<'a>) -> Resu
     requires new { named_in (owner_view owner).name.text (names_known library.old) ≡ false }
     ensures { IfOk result (λ _. IsLearned (owner_view owner.entry) library.old library.new) }
 {
-    let mut own = own_of(alloc, library, owner)?;
-    let known = known_of(alloc, &mut own, owner)?;
+    let known = known_by(alloc, library, owner)?;
     library.add(alloc, owner.name(), known)?;
     Ok(())
 }

@@ -6,6 +6,7 @@ ghost use Rattle.number_graphs.specs.Graphs.{graph_view};
 ghost use Rattle.lus_order.specs.KnownModes.{AreKnown, IsKnown};
 ghost use Rattle.lus_order.specs.Library.{known_modes, texts_seen};
 ghost use Rattle.lus_order.specs.MarkedNames.{AreFound};
+ghost use Rattle.lus_order.specs.OwnRows.{numbers_of};
 ghost use Rattle.lus_streams.specs.Owner.{owner_view};
 ghost use Rattle.lus_order.specs.Rows.{ModeRows, mode_view, modes_view};
 ghost use Rattle.lus_order.specs.Streams.{names_of};
@@ -105,6 +106,43 @@ fn known_modes<'a>(
     Ok(known)
 }
 
+/// Those of the inputs and outputs to which the outputs lead by one step or several. The graph is as it was.
+fn output_names(
+    alloc: Global,
+    graph: &mut Graph,
+    names: &NameTable,
+    inputs: &[&str],
+    outputs: &[&str],
+) -> Result<NameTable, AllocError>
+    requires { length names.now ≤ length (graph_view graph.old) }
+    ensures same { IfOk result (λ _. graph_view graph.new ≡ graph_view graph.old) }
+    ensures found { IfOk result (λ t. AreFound (graph_view graph.old) names.now (numbers_of names.now (texts_seen outputs.now))
+        (texts_seen inputs.now ++ texts_seen outputs.now) t) }
+{
+    let row = numbers_of(alloc, names, outputs)?;
+    found_names(alloc, graph, names, row, inputs, outputs)
+}
+
+/// What the outputs of a declaration lead to, and its modes. The graph is as it was.
+fn found_in<'a>(
+    alloc: Global,
+    own: &mut Own<'a>,
+    inputs: &[&str],
+    outputs: &[&str],
+) -> Result<(NameTable, Vec<KnownMode<'a>>), AllocError>
+    requires { length own.old.clocks.names ≤ length (graph_view own.old.graph) }
+    ensures same { IfOk result (λ _. graph_view own.new.graph ≡ graph_view own.old.graph) }
+    ensures reads { IfOk result (λ k. AreFound (graph_view own.old.graph) own.old.clocks.names
+        (numbers_of own.old.clocks.names (texts_seen outputs.now)) (texts_seen inputs.now ++ texts_seen outputs.now) k.0) }
+    ensures modes { IfOk result (λ k. AreKnown (graph_view own.old.graph) own.old.clocks.names
+        (texts_seen inputs.now ++ texts_seen outputs.now) (modes_view own.old.modes.items) (known_modes k.1.items)) }
+{
+    let names = &own.clocks.names;
+    let reads = output_names(alloc, &mut own.graph, names, inputs, outputs)?;
+    let modes = known_modes(alloc, &mut own.graph, names, &own.modes, inputs, outputs)?;
+    Ok((reads, modes))
+}
+
 /// What the callers of a declaration have to know of it. The graph is as it was.
 ///
 /// # Errors
@@ -122,23 +160,7 @@ pub(crate) fn known_of<'a>(
 {
     let inputs = texts_of(alloc, owner.inputs())?;
     let outputs = texts_of(alloc, owner.outputs())?;
-    let row = numbers_of(alloc, &own.clocks.names, &outputs)?;
-    let reads = found_names(
-        alloc,
-        &mut own.graph,
-        &own.clocks.names,
-        row,
-        &inputs,
-        &outputs,
-    )?;
-    let modes = known_modes(
-        alloc,
-        &mut own.graph,
-        &own.clocks.names,
-        &own.modes,
-        &inputs,
-        &outputs,
-    )?;
+    let (reads, modes) = found_in(alloc, own, &inputs, &outputs)?;
     Ok(Known {
         inputs,
         outputs,
