@@ -3,9 +3,11 @@ pub mod CallNumbers
 pub mod Called
 pub mod ContractItems
 pub mod Declares
+pub mod Firsts
 pub mod Framed
 pub mod Modes
 pub mod Operands
 pub mod Picked
+pub mod Steps
 pub mod There
 pub mod Turns

@@ -216,6 +216,32 @@ fn asserted_of<'a>(
     Ok(all)
 }
 
+/// The text of the frame of that place.
+fn text_of<'a>(
+    alloc: Global,
+    bare: &Setting<'a, '_, '_>,
+    order: &[u32],
+) -> Result<FrameText<'a>, AllocError>
+    ensures { IfOk result (λ t. frame_text_view t ≡ text_over (calls_view bare.now) order.now bare.now.way.now
+        (frame_instance bare.now.frame)) }
+{
+    let contract = contract_text(alloc, bare, bare.frame.names().owner.contract())?;
+    let setting = Setting {
+        frame: bare.frame,
+        way: bare.way,
+        needs: bare.needs,
+        texts: bare.texts,
+        modes: &contract.modes,
+    };
+    let body = body_of(alloc, &setting, order)?;
+    let asserted = asserted_of(alloc, &setting)?;
+    Ok(FrameText {
+        body,
+        contract,
+        asserted,
+    })
+}
+
 /// The text of a frame at the end of a way of calls, with those of the frames of its calls.
 pub(crate) fn text_over<'a>(
     alloc: Global,
@@ -235,21 +261,7 @@ pub(crate) fn text_over<'a>(
         texts,
         modes: &[],
     };
-    let contract = contract_text(alloc, &bare, frame.names().owner.contract())?;
-    let setting = Setting {
-        frame,
-        way,
-        needs: &needs,
-        texts,
-        modes: &contract.modes,
-    };
-    let body = body_of(alloc, &setting, order)?;
-    let asserted = asserted_of(alloc, &setting)?;
-    Ok(FrameText {
-        body,
-        contract,
-        asserted,
-    })
+    text_of(alloc, &bare, order)
 }
 
 /// The order of the equations of the declaration of that place.

@@ -3,12 +3,14 @@
 
 ghost use Rattle.std.specs.Prelude.{◌≡◌, ◌∷◌, ◌++◌, [], IfOk, OnOk, map};
 ghost use Rattle.lus_tree.specs.View.{item_view, program_view};
+ghost use Rattle.lus_meaning.specs.Depends.{modes_need};
 ghost use Rattle.lus_meaning.specs.Scene.{base};
 ghost use Rattle.lus_evaluation.specs.Frame.{text_at};
 ghost use Rattle.lus_evaluation.specs.Part.{wholes};
 ghost use Rattle.lus_evaluation.specs.Turn.{condition_parts, owed, property_texts};
 ghost use Rattle.evaluation_parts.specs.Conditions.{calls_view, text_or_none};
 ghost use Rattle.evaluation_parts.specs.Framed.{orders_view, turn_within};
+ghost use Rattle.evaluation_parts.specs.Needed.{modes_needs_view};
 ghost use Rattle.evaluation_parts.specs.PartViews.{parts_view};
 ghost use Rattle.evaluation_parts.specs.Texts.{frame_text_view, frame_texts_view, mode_texts_view, setting_view};
 ghost use Rattle.evaluation_parts.specs.Turns.{ensured_each, owed_each, required_each, top};
@@ -17,6 +19,7 @@ ghost use Rattle.evaluation_parts.specs.Views.{all_view, frame_declared, frame_i
 use crate::contracts::{push_all, text_there};
 use crate::frame::{Frame, Link, Manner, from_zero};
 use crate::frames::{order_at, text_over, texts_below};
+use crate::mode_need::ModeNeeds;
 use crate::mode_needs::modes_need;
 use crate::part::{Gives, Part};
 use crate::parts::push_whole;
@@ -165,6 +168,30 @@ fn push_conditions_of<'a>(
     Ok(())
 }
 
+/// The parts, and behind them those of the conditions of the analysed declaration, by what its modes need and the texts of
+/// its frame and of the frames of its calls.
+fn push_conditions_by<'a>(
+    alloc: Global,
+    all: &mut Vec<Part<'a>>,
+    frame: Frame<'a, '_>,
+    needs: &[ModeNeeds<'a>],
+    texts: &[FrameText<'a>],
+    text: &FrameText<'a>,
+) -> Result<(), AllocError>
+    requires { modes_needs_view needs.now ≡ modes_need (frame_instance frame) }
+    ensures { OnOk result (parts_view all.new.items ≡ parts_view all.old.items
+        ++ condition_parts (text_at (frame_texts_view texts.now)) (frame_text_view text.now) (frame_instance frame.entry)) }
+{
+    let setting = Setting {
+        frame,
+        way: &[],
+        needs,
+        texts,
+        modes: &text.contract.modes,
+    };
+    push_conditions_of(alloc, all, &setting, text)
+}
+
 /// The parts, and behind them those of the conditions of the analysed declaration, by the texts of its frame and of the
 /// frames of its calls.
 fn push_conditions<'a>(
@@ -178,15 +205,7 @@ fn push_conditions<'a>(
         ++ condition_parts (text_at (frame_texts_view texts.now)) (frame_text_view text.now) (frame_instance frame.entry)) }
 {
     let needs = modes_need(alloc, frame)?;
-    let setting = Setting {
-        frame,
-        way: &[],
-        needs: &needs,
-        texts,
-        modes: &text.contract.modes,
-    };
-    push_conditions_of(alloc, all, &setting, text)?;
-    Ok(())
+    push_conditions_by(alloc, all, frame, &needs, texts, text)
 }
 
 /// All that is evaluated at an instant of a declaration, which is that of that place among those of its program, in the
