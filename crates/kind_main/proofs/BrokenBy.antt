@@ -1,11 +1,13 @@
 -- The trace of a path that breaks a property, as it is written and read back.
-use Rattle.std.proofs.Common.{◌≡◌, ◌≤◌, ℕ, suc, pred, List, length, Some, None, sym, ap, ◌∙◌, subst}
+use Rattle.std.proofs.Common.{◌≡◌, ◌≤◌, ℕ, suc, pred, List, length, slice_get, Some, None, sym, ap, ◌∙◌, subst}
 use Rattle.std.specs.Prelude.{Contains}
 use Rattle.std.specs.List.{AllByRecursion}
 use Rattle.lus_tree.specs.Tree.{Program, Component}
 use Rattle.lus_tree.specs.Lookup.{nodes_of}
 use Rattle.lus_meaning.specs.Frame.{Frame}
+use Rattle.lus_meaning.specs.Contract.{Property}
 use Rattle.lus_meaning.specs.Program.{instance_of}
+use Rattle.lus_meaning.specs.Property.{properties}
 use Rattle.lus_meaning.specs.Verdict.{Breaks}
 use Rattle.lus_meaning.specs.Trace.{IsFrameOf}
 use Rattle.lus_meaning.specs.TraceView.{Listing, lines_of}
@@ -25,9 +27,9 @@ use Rattle.lus_evaluation.specs.Outcome.{StaysWithin}
 use Rattle.within_laws.specs.Small.{SmallPathsStayWithin}
 use Rattle.trace_laws.specs.Laws.{EachReadBack, EachReplays}
 use Rattle.trace_laws.proofs.Named.{node_component}
-use Rattle.kind_main.specs.declared.options.Options.{Options}
 use Rattle.kind_main.specs.Lines.{Line, text_of}
-use Rattle.kind_main.specs.Verdicts.{falsifiable, IsAnalysed, IsOneLine, IsTrueOfNumber}
+use Rattle.kind_main.specs.Played.{IsBreakOf}
+use Rattle.kind_main.specs.Verdicts.{falsifiable, IsAnalysed, IsOneLine}
 
 -- what is so of a trace is so of one that is the same but for its places
 fits_as : (p : Program) (s t : Listing) → SameButPlaces s t → FitsProgram p t → FitsProgram p s
@@ -43,13 +45,16 @@ replays_as p s t e w r = record {
       (subst (λ ls. Replays (instance_of p r.node) ls s.length w) e.lines r.replays);
 }
 
+same_property : (qs : List Property) (k : ℕ) (q r : Property) → slice_get qs k ≡ Some q → slice_get qs k ≡ Some r → q ≡ r
+same_property qs k q r e f = cc
+
 module _ (traces : EachHasTraces) (breaks : EachBreaks) (replays : EachReplays) (read_back : EachReadBack) (stays : SmallPathsStayWithin)
     (p : Program) (d : Component) (a : IsAnalysed p d) (k : ℕ) (states : List (List Entry)) (short : length states ≤ 1001)
     (broken : paths.Breaks (system_of (instance_of p d)) k states) (small : HasSmallNumbers states)
     (t : Listing) (is : IsTraceOf p d states t) where
   pub broken_by : (lines : List Line) → AllByRecursion IsOneLine lines → text_of lines ≡ trace_text t → (last : ℕ) → suc last ≡ length states
-      → (o : Options) → IsTrueOfNumber o p d k (falsifiable last lines)
-  broken_by lines each text last count o q found =
+      → IsBreakOf p d k states (falsifiable last lines)
+  broken_by lines each text last count =
       let rules : IsChecked p = a.follows.rules in
       let at : Contains (components p) d = node_component p d a.declared in
       let has : HasTrace (instance_of p d) states = traces p rules d at states broken.path small in
@@ -61,12 +66,14 @@ module _ (traces : EachHasTraces) (breaks : EachBreaks) (replays : EachReplays) 
       let listed : lines_of read ≡ trace_of (instance_of p d) states = same.lines ∙ is.lines in
       let end : pred (length states) ≡ last = ap pred (sym count) in
       let at_last = breaks p rules d at k states broken in
-      let this : at_last.0 ≡ q = let e = at_last.1 in cc in
-      let frame : Frame = frame_of_path (instance_of p d) states in (
-        each,
-        record {
+      let readable : IsTraceText (text_of lines) read = subst (λ x. IsTraceText x read) (sym text) written.1 in
+      let frame : Frame = frame_of_path (instance_of p d) states in
+      record {
+        lines = each;
+        text = record { trace = read; read = readable; lists = record { node = same.node ∙ is.node; length = many; lines = listed } };
+        breaks = λ q found. record {
           trace = read;
-          read = subst (λ x. IsTraceText x read) (sym text) written.1;
+          read = readable;
           fits = fits_as p read t same replayed.0;
           length = many ∙ sym count;
           frame = frame;
@@ -75,8 +82,8 @@ module _ (traces : EachHasTraces) (breaks : EachBreaks) (replays : EachReplays) 
           only = λ other h. has.only other (subst (λ ls. IsFrameOf ls (instance_of p d) (length states) other) listed
               (subst (λ n. IsFrameOf (lines_of read) (instance_of p d) n other) many h));
           breaks = subst (λ n. Breaks (instance_of p d) q frame n) end
-              (subst (λ r. Breaks (instance_of p d) r frame (pred (length states))) this at_last.2);
+              (subst (λ r. Breaks (instance_of p d) r frame (pred (length states))) (same_property (properties (instance_of p d)) k at_last.0 q at_last.1 found) at_last.2);
           within = subst (λ n. StaysWithin (instance_of p d) frame n) (sym many) (stays p rules d at states broken.path small);
           replays = λ s h. replayed.1 s (replays_as p read t same s h) ∙ ap Some end;
-        },
-      )
+        };
+      }

@@ -97,12 +97,10 @@ cause-stands e p (i ∷ history) why h =
 
 module _ (m : Machine) (plan : Plan) (history : List Posting) (sound : AreSound m plan history) (e p : ℕ) (why : Why)
     (is : cause_of e p history ≡ Some why) where
-  pub cause-true : IsTrueCause m plan p (record { engine = e; why = why })
+  pub cause-true : IsTrueCause m plan history p (record { engine = e; why = why })
   cause-true =
       let r = cause-stands e p history why is in
       record {
-        history = history;
-        sound = sound;
         answered = is;
         place = r.place;
         entry = r.entry;

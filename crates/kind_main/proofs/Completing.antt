@@ -16,7 +16,7 @@ use Rattle.sys_terms.specs.Fits.{IsFit}
 use Rattle.sys_meaning.specs.System.{system_of}
 use Rattle.sys_meaning.specs.Verdicts.{HoldsUpTo}
 use Rattle.board_core.specs.declared.plan.Plan.{Plan}
-use Rattle.board_core.specs.Entries.{depth}
+use Rattle.board_core.specs.Entries.{depth, Posting, AreSound}
 use Rattle.board_core.specs.Verdicts.{cause_of}
 use Rattle.depth_laws.specs.Depths.{IsInductive}
 use Rattle.depth_laws.specs.Laws.{DepthOfStep, WholeCausesAreDepths}
@@ -71,7 +71,8 @@ never-breaks i q f t h b =
 -- ---- verdicts
 
 module _ (whole : WholeCausesAreDepths) (bounded : DepthsHold) (induction : DepthOfStep) (inductive : InductiveHold)
-    (o : Options) (p : Program) (d : Component) (a : IsAnalysed p d) (fit : IsFit (system_of (instance_of p d))) where
+    (o : Options) (p : Program) (d : Component) (a : IsAnalysed p d) (fit : IsFit (system_of (instance_of p d))) (book : List Posting)
+    (sound : AreSound (system_of (instance_of p d)) (options_plan o) book) where
   abbrev pub i : Instance
   i = instance_of p d
 
@@ -82,48 +83,46 @@ module _ (whole : WholeCausesAreDepths) (bounded : DepthsHold) (induction : Dept
   plan = options_plan o
 
   -- the engine's cause is the depth
-  went : (k e : ℕ) (b : Because) (t : IsTrueCause m plan k b) → b.engine ≡ e → IsUncutOf e b
-      → cause_of e k t.history ≡ Some (depth plan.depth)
+  went : (k e : ℕ) (b : Because) (t : IsTrueCause m plan book k b) → b.engine ≡ e → IsUncutOf e b
+      → cause_of e k book ≡ Some (depth plan.depth)
   went k e b t is uncut =
-      let at : cause_of e k t.history ≡ Some b.why = subst (λ f. cause_of f k t.history ≡ Some b.why) is t.answered in
-      at ∙ ap Some (whole m plan t.history fit t.sound e k b.why at (uncut is))
+      let at : cause_of e k book ≡ Some b.why = subst (λ f. cause_of f k book ≡ Some b.why) is t.answered in
+      at ∙ ap Some (whole m plan book fit sound e k b.why at (uncut is))
 
   bounded-of : (k : ℕ) (q : Property) → slice_get (properties i) k ≡ Some q
-      → Found (λ b. IsTrueCause m plan k b × IsUncutOf 0 b) 0 → HoldsUpTo i q plan.depth
+      → Found (λ b. IsTrueCause m plan book k b × IsUncutOf 0 b) 0 → HoldsUpTo i q plan.depth
   bounded-of k q at r =
-      let t = r.holds.0 in
-      bounded p a.follows.rules d (node_component p d a.declared) plan t.history fit t.sound k q at plan.depth
-      (went k 0 r.cause t r.engine r.holds.1)
+      bounded p a.follows.rules d (node_component p d a.declared) plan book fit sound k q at plan.depth
+      (went k 0 r.cause r.holds.0 r.engine r.holds.1)
 
-  not-inductive : (k : ℕ) → Found (λ b. IsTrueCause m plan k b × IsUncutOf 1 b) 1 → (states : ℕ) → states ≤ plan.depth
+  not-inductive : (k : ℕ) → Found (λ b. IsTrueCause m plan book k b × IsUncutOf 1 b) 1 → (states : ℕ) → states ≤ plan.depth
       → IsInductive m k states → ⊥
   not-inductive k r states le h =
-      let t = r.holds.0 in
-      induction m plan t.history fit t.sound k plan.depth (went k 1 r.cause t r.engine r.holds.1) states le h
+      induction m plan book fit sound k plan.depth (went k 1 r.cause r.holds.0 r.engine r.holds.1) states le h
 
-  breaks-of : (k : ℕ) (q : Property) → slice_get (properties i) k ≡ Some q → (v : Verdict) → IsTrueVerdict o p d k q v
+  breaks-of : (k : ℕ) (q : Property) → slice_get (properties i) k ≡ Some q → (v : Verdict) → IsTrueVerdict o p d book k q v
       → Contains (numbers_of o.engines) 0 → IsUncut 0 v → (f : Frame) (t : ℕ) → Breaks i q f t → t ≤ o.depth → IsFalsifiable v
-  breaks-of k q at valid h c u f t b le = absurd (never-breaks i q f t h b)
+  breaks-of k q at valid h c u f t b le = absurd (never-breaks i q f t h.0 b)
   breaks-of k q at (falsifiable last trace) h c u f t b le = tt
   breaks-of k q at (unknown causes) h c u f t b le =
       absurd (no-break i q f t plan.depth
-      (bounded-of k q at (found _ 0 (numbers_of o.engines) c causes h.engines (both _ _ causes h.each u))) b le)
+      (bounded-of k q at (found _ 0 (numbers_of o.engines) c causes h.0.engines (both _ _ causes h.0.each u))) b le)
 
-  inductive-of : (k : ℕ) (q : Property) → slice_get (properties i) k ≡ Some q → (v : Verdict) → IsTrueVerdict o p d k q v
+  inductive-of : (k : ℕ) (q : Property) → slice_get (properties i) k ≡ Some q → (v : Verdict) → IsTrueVerdict o p d book k q v
       → Contains (numbers_of o.engines) 1 → IsUncut 1 v → (states : ℕ) → states ≤ o.depth → IsInductive m k states → IsValid v
   inductive-of k q at valid h c u states le s = tt
   inductive-of k q at (falsifiable last trace) h c u states le s =
       absurd (never-breaks i q h.1.frame last (inductive p a.follows.rules d (node_component p d a.declared) k states q at s) h.1.breaks)
   inductive-of k q at (unknown causes) h c u states le s =
-      absurd (not-inductive k (found _ 1 (numbers_of o.engines) c causes h.engines (both _ _ causes h.each u)) states le s)
+      absurd (not-inductive k (found _ 1 (numbers_of o.engines) c causes h.0.engines (both _ _ causes h.0.each u)) states le s)
 
-  complete-one : (k : ℕ) (q : Property) → slice_get (properties i) k ≡ Some q → (v : Verdict) → IsTrueVerdict o p d k q v
+  complete-one : (k : ℕ) (q : Property) → slice_get (properties i) k ≡ Some q → (v : Verdict) → IsTrueVerdict o p d book k q v
       → IsComplete o i k q v
   complete-one k q at v h = record { breaks = breaks-of k q at v h; inductive = inductive-of k q at v h }
 
   complete-from : (k : ℕ) (qs : List Property) (vs : List Verdict)
       → ((j : ℕ) (q : Property) → slice_get qs j ≡ Some q → slice_get (properties i) (k + j) ≡ Some q)
-      → AreTrueVerdicts o p d k qs vs → AreComplete o i k qs vs
+      → AreTrueVerdicts o p d book k qs vs → AreComplete o i k qs vs
   complete-from k [] [] at h = tt
   complete-from k [] (v ∷ vs) at h = tt
   complete-from k (q ∷ qs) [] at h = tt
@@ -133,6 +132,6 @@ module _ (whole : WholeCausesAreDepths) (bounded : DepthsHold) (induction : Dept
         (λ j r e. subst (λ n. slice_get (properties i) n ≡ Some r) (omega arith) (at (suc j) r e)) h.1,
   )
 
-  pub complete : (vs : List Verdict) → AreTrueVerdicts o p d 0 (properties i) vs → AreComplete o i 0 (properties i) vs
+  pub complete : (vs : List Verdict) → AreTrueVerdicts o p d book 0 (properties i) vs → AreComplete o i 0 (properties i) vs
   complete vs h =
       complete-from 0 (properties i) vs (λ j q e. subst (λ n. slice_get (properties i) n ≡ Some q) (omega arith) e) h

@@ -16,7 +16,7 @@ use Rattle.board_core.specs.Verdicts.{Judged, valid_by, falsifiable_by, unknown,
 use Rattle.kind_main.specs.declared.options.Options.{Options}
 use Rattle.kind_main.specs.Verdicts as V
 use Rattle.kind_main.specs.Verdicts.{Verdict, AreTrueCauses, IsAnalysed, IsTrueOfNumber}
-use Rattle.kind_main.specs.Played.{AreCausesOf, IsBrokenAt, IsBrokenEntry}
+use Rattle.kind_main.specs.Played.{AreCausesOf, IsBreakAt, IsBreakOf, IsTraced, IsBrokenAt, IsBrokenEntry}
 
 -- ---- a property of which nothing is known
 
@@ -52,15 +52,26 @@ open-property p history h = open-from p 0 history h
 -- ---- what is said of the program
 
 pub valid_by_book : (p : Program) (d : Component) → IsAnalysed p d → (m : Machine) → m ≡ system_of (instance_of p d) → (k : ℕ) → EachHolds
-    → (o : Options) → TrueReachable m (property_term m k) → IsTrueOfNumber o p d k V.valid
-valid_by_book p d a m of k law o h q found =
-    law p a.follows.rules d (node_component p d a.declared) k q found (subst (λ (n : Machine). TrueReachable n (property_term n k)) of h)
+    → (o : Options) (history : List Posting) (place : ℕ) → judged k history ≡ valid_by place → TrueReachable m (property_term m k)
+    → IsTrueOfNumber o p d history k V.valid
+valid_by_book p d a m of k law o history place says h q found = (
+  law p a.follows.rules d (node_component p d a.declared) k q found (subst (λ (n : Machine). TrueReachable n (property_term n k)) of h),
+  record { place = place; verdict = says },
+)
 
-pub causes_by : (p : Program) (d : Component) (o : Options) (b : Contents) → machine_of b ≡ system_of (instance_of p d) → (k : ℕ) (v : Verdict)
-    → AreCausesOf o b k v → IsTrueOfNumber o p d k v
-causes_by p d o b of k V.valid h q found = absurd h
-causes_by p d o b of k (V.falsifiable last trace) h q found = absurd h
-causes_by p d o b of k (V.unknown causes) h q found = subst (λ n. AreTrueCauses n o k causes) of h
+pub broken_by_book : (p : Program) (d : Component) (o : Options) (b : Contents) (k place : ℕ) → judged k (history_of b) ≡ falsifiable_by place
+    → (v : Verdict) → IsBreakAt b p d k place v → IsTrueOfNumber o p d (history_of b) k v
+broken_by_book p d o b k place says V.valid h q found = absurd h.break
+broken_by_book p d o b k place says (V.falsifiable last trace) h q found =
+    let t : IsTraced p d k h.states last trace = h.break in
+    (t.lines, t.breaks q found, record { place = place; verdict = says; states = h.states; says = h.says; text_of_path = t.text })
+broken_by_book p d o b k place says (V.unknown causes) h q found = absurd h.break
+
+pub causes_by : (p : Program) (d : Component) (o : Options) (b : Contents) → machine_of b ≡ system_of (instance_of p d) → (k : ℕ)
+    → judged k (history_of b) ≡ unknown → (v : Verdict) → AreCausesOf o b k v → IsTrueOfNumber o p d (history_of b) k v
+causes_by p d o b of k said V.valid h q found = absurd h
+causes_by p d o b of k said (V.falsifiable last trace) h q found = absurd h
+causes_by p d o b of k said (V.unknown causes) h q found = (subst (λ n. AreTrueCauses n o (history_of b) k causes) of h, said)
 
 -- ---- an entry that breaks the property
 
@@ -97,6 +108,16 @@ pub entry-says : (b : Contents) (k place : ℕ) (says : Claim) → IsBrokenAt b 
     → option_map (λ (i : Posting). i.says) (slice_get (history_of b) place) ≡ Some says
     → (states : List (List Entry)) × (says ≡ broken k states) × IsBroken (machine_of b) k states
 entry-says b k place says h e = says-entry (machine_of b) k (slice_get (history_of b) place) says h e
+
+-- what is said of its path
+pub break-at : (p : Program) (d : Component) (b : Contents) (k place q : ℕ) (states : List (List Entry)) → IsBrokenAt b k place
+    → option_map (λ (i : Posting). i.says) (slice_get (history_of b) place) ≡ Some (broken q states) → (v : Verdict) → IsBreakOf p d k states v
+    → IsBreakAt b p d k place v
+break-at p d b k place q states h e v i =
+    let r = entry-says b k place (broken q states) h e in
+    let f : broken q states ≡ broken k r.0 = r.1 in
+    let g : states ≡ r.0 = cc in
+    record { states = states; says = e ∙ ap Some (f ∙ ap (broken k) (sym g)); break = i }
 
 -- what is so of what is answered
 pub ok_as : {X E : Type 0} (P Q : X → Type 0) → ((x : X) → P x → Q x) → (r : Result X E) → IfOk r P → IfOk r Q

@@ -15,7 +15,7 @@ use Rattle.lus_properties.specs.Texts.{mark_text}
 use Rattle.source_laws.specs.Laws.{IdentifiedSources}
 use Rattle.kind_main.specs.declared.options.Options.{Options}
 use Rattle.kind_main.specs.Lines.{Line}
-use Rattle.kind_main.specs.Verdicts.{Verdict, AreTrueVerdicts, Tally, tally_of, tally_code, summary_line, verdict_report, IsAnalysed}
+use Rattle.kind_main.specs.Verdicts.{Verdict, AreOfOneBook, Tally, tally_of, tally_code, summary_line, verdict_report, IsAnalysed}
 use Rattle.kind_main.specs.Proof.{IsProofOf}
 use Rattle.kind_main.specs.Complete.{AreComplete}
 use Rattle.kind_main.specs.Ending.{Ending, usage, unread, refused, done}
@@ -29,7 +29,7 @@ use Rattle.kind_main.proofs.Lists.{map_map}
 pub labels_so : (ms : List Mark) (qs : List Property) → ms ≡ map mark_of qs → map mark_text ms ≡ map label_of qs
 labels_so ms qs e = ap (map mark_text) e ∙ map_map mark_of mark_text qs
 
-pub proof_made : (o : Options) (p : Program) (d : Component) (vs : List Verdict) → AreTrueVerdicts o p d 0 (properties (instance_of p d)) vs
+pub proof_made : (o : Options) (p : Program) (d : Component) (vs : List Verdict) → AreOfOneBook o p d vs
     → AreComplete o (instance_of p d) 0 (properties (instance_of p d)) vs → {X : Type 0} (mark : X → Mark) (xs : List X) → map mark xs ≡ map mark_of (properties (instance_of p d))
     → (report lines : List Line) → report ≡ verdict_report (instance_of p d) (map (λ x. mark_text (mark x)) xs) vs
     → (t : Tally) → t ≡ tally_of vs → (summary : Line) → summary ≡ summary_line t → lines ≡ report ++ summary ∷ [] → (code : ℕ)

@@ -2,7 +2,7 @@
 use Rattle.std.specs.Prelude.{◌≡◌, ℕ, List, Some, take, slice_get}
 use Rattle.sys_terms.specs.View.{Machine}
 use Rattle.board_core.specs.declared.plan.Plan.{Plan}
-use Rattle.board_core.specs.Entries.{Why, Grounds, Posting, spent, AreSound, IsWhy}
+use Rattle.board_core.specs.Entries.{Why, Grounds, Posting, spent, IsWhy}
 use Rattle.board_core.specs.Verdicts.{cause_of}
 use Rattle.board_core.specs.View.{cause_view}
 use Rattle.kind_main.specs.declared.cause.Because.{Because as Reason}
@@ -13,11 +13,9 @@ pub record Because : Type 0 where
   pub engine : ℕ
   pub why : Why
 
--- A sound book of the system with this plan has the cause of the engine for the property of number k: it is the one that
--- the book answers, and it is true after the entries before it.
-pub record IsTrueCause (m : Machine) (plan : Plan) (k : ℕ) (b : Because) : Type 0 where
-  pub history : List Posting
-  pub sound : AreSound m plan history
+-- A book of the system with this plan has the cause of the engine for the property of number k: it is the one that the book
+-- answers, and it is true after the entries before it.
+pub record IsTrueCause (m : Machine) (plan : Plan) (history : List Posting) (k : ℕ) (b : Because) : Type 0 where
   pub answered : cause_of b.engine k history ≡ Some b.why
   pub place : ℕ
   pub entry : Posting

@@ -8,14 +8,14 @@ use Rattle.lus_meaning.specs.Label.{label_of}
 use Rattle.lus_checked.specs.Main.{main_node}
 use Rattle.kind_main.specs.declared.options.Options.{Options}
 use Rattle.kind_main.specs.Lines.{Line}
-use Rattle.kind_main.specs.Verdicts.{Verdict, AreTrueVerdicts, verdict_report, summary_line, tally_of, tally_code}
+use Rattle.kind_main.specs.Verdicts.{Verdict, AreOfOneBook, verdict_report, summary_line, tally_of, tally_code}
 use Rattle.kind_main.specs.Complete.{AreComplete}
 
--- Each property of the node has its verdict, in order, printed with its label, and then comes the summary. What an engine
--- that was not cut short can decide up to the depth is decided.
+-- Each property of the node has the verdict of one book, in order, printed with its label, and then comes the summary. What
+-- an engine that was not cut short can decide up to the depth is decided.
 pub record IsProofOf (o : Options) (p : Program) (d : Component) (lines : List Line) (code : ℕ) : Type 0 where
   pub verdicts : List Verdict
-  pub right : AreTrueVerdicts o p d 0 (properties (instance_of p d)) verdicts
+  pub right : AreOfOneBook o p d verdicts
   pub complete : AreComplete o (instance_of p d) 0 (properties (instance_of p d)) verdicts
   pub printed : lines ≡ verdict_report (instance_of p d) (map label_of (properties (instance_of p d))) verdicts
       ++ summary_line (tally_of verdicts) ∷ []

@@ -20,9 +20,13 @@ use Rattle.source_laws.specs.Laws.{AreIdentified}
 use Rattle.path_traces.specs.Printed.{PrintedPlace, printed_place}
 use Rattle.trace_text.specs.Traces.{IsTraceText}
 use Rattle.trace_text.specs.Words.{subject_text}
+use Rattle.sys_terms.specs.declared.term.Entry.{Entry}
 use Rattle.sys_terms.specs.View.{Machine}
 use Rattle.sys_meaning.specs.System.{system_of}
-use Rattle.board_core.specs.Entries.{Why, depth, frames, blocked, done, stopped, wide}
+use Rattle.sys_meaning.specs.Verdicts.{IsTraceOf}
+use Rattle.board_core.specs.Entries.{Why, depth, frames, blocked, done, stopped, wide, broken, Posting, AreSound}
+use Rattle.board_core.specs.Verdicts.{valid_by, falsifiable_by, judged}
+use Rattle.board_core.specs.Verdicts.{unknown as undecided}
 use Rattle.kind_main.specs.declared.options.Options.{Options}
 use Rattle.kind_main.specs.Options.{numbers_of, options_plan}
 use Rattle.kind_main.specs.Source.{FollowsAll}
@@ -72,23 +76,54 @@ pub record BreaksBy (p : Program) (d : Component) (k : ℕ) (q : Property) (last
   pub within : StaysWithin (instance_of p d) frame trace.length
   pub replays : (s : Shown) → ReplaysTrace p trace s → s.breaks k ≡ Some last
 
--- one cause of each engine of the options, in their order, each of them true of the property of number k of the system
-pub record AreTrueCauses (m : Machine) (o : Options) (k : ℕ) (causes : List Because) : Type 0 where
+-- one cause of each engine of the options, in their order, each of them the book's, and true, for the property of number k
+pub record AreTrueCauses (m : Machine) (o : Options) (book : List Posting) (k : ℕ) (causes : List Because) : Type 0 where
   pub engines : map (λ (b : Because). b.engine) causes ≡ numbers_of o.engines
-  pub each : AllByRecursion (IsTrueCause m (options_plan o) k) causes
+  pub each : AllByRecursion (IsTrueCause m (options_plan o) book k) causes
 
--- of property q, the one of number k of the node d
-abbrev pub IsTrueVerdict : Options → Program → Component → ℕ → Property → Verdict → Type 0
-IsTrueVerdict o p d k q valid = Holds (instance_of p d) q
-IsTrueVerdict o p d k q (falsifiable last trace) = AllByRecursion IsOneLine trace × BreaksBy p d k q last (text_of trace)
-IsTrueVerdict o p d k q (unknown causes) = AreTrueCauses (system_of (instance_of p d)) o k causes
+-- ---- when it is the book's
+
+-- The text is a trace that lists what the trace of this path does.
+pub record IsTextOf (p : Program) (d : Component) (states : List (List Entry)) (text : List ℕ) : Type 0 where
+  pub trace : Listing
+  pub read : IsTraceText text trace
+  pub lists : IsTraceOf p d states trace
+
+-- the book's verdict is that an entry holds the property
+pub record IsHeldIn (book : List Posting) (k : ℕ) : Type 0 where
+  pub place : ℕ
+  pub verdict : judged k book ≡ valid_by place
+
+-- or that an entry breaks it, of whose path this text is the trace
+pub record IsBrokenIn (p : Program) (d : Component) (book : List Posting) (k : ℕ) (text : List ℕ) : Type 0 where
+  pub place : ℕ
+  pub verdict : judged k book ≡ falsifiable_by place
+  pub states : List (List Entry)
+  pub says : option_map (λ (i : Posting). i.says) (slice_get book place) ≡ Some (broken k states)
+  pub text_of_path : IsTextOf p d states text
+
+-- ---- together
+
+-- of property q, the one of number k of the node d, by a book
+abbrev pub IsTrueVerdict : Options → Program → Component → List Posting → ℕ → Property → Verdict → Type 0
+IsTrueVerdict o p d book k q valid = Holds (instance_of p d) q × IsHeldIn book k
+IsTrueVerdict o p d book k q (falsifiable last trace) =
+    AllByRecursion IsOneLine trace × BreaksBy p d k q last (text_of trace) × IsBrokenIn p d book k (text_of trace)
+IsTrueVerdict o p d book k q (unknown causes) =
+    AreTrueCauses (system_of (instance_of p d)) o book k causes × (judged k book ≡ undecided)
 
 -- of each property from number k on
-abbrev pub AreTrueVerdicts : Options → Program → Component → ℕ → List Property → List Verdict → Type 0
-AreTrueVerdicts o p d k [] [] = Unit {0}
-AreTrueVerdicts o p d k (q ∷ qs) (s ∷ ss) = IsTrueVerdict o p d k q s × AreTrueVerdicts o p d (suc k) qs ss
-AreTrueVerdicts o p d k [] (s ∷ ss) = ⊥
-AreTrueVerdicts o p d k (q ∷ qs) [] = ⊥
+abbrev pub AreTrueVerdicts : Options → Program → Component → List Posting → ℕ → List Property → List Verdict → Type 0
+AreTrueVerdicts o p d book k [] [] = Unit {0}
+AreTrueVerdicts o p d book k (q ∷ qs) (s ∷ ss) = IsTrueVerdict o p d book k q s × AreTrueVerdicts o p d book (suc k) qs ss
+AreTrueVerdicts o p d book k [] (s ∷ ss) = ⊥
+AreTrueVerdicts o p d book k (q ∷ qs) [] = ⊥
+
+-- The verdicts on all properties of the node are those of one book of its system, which is sound with the options' plan.
+pub record AreOfOneBook (o : Options) (p : Program) (d : Component) (ss : List Verdict) : Type 0 where
+  pub book : List Posting
+  pub sound : AreSound (system_of (instance_of p d)) (options_plan o) book
+  pub each : AreTrueVerdicts o p d book 0 (properties (instance_of p d)) ss
 
 -- ---- the lines
 
@@ -175,8 +210,8 @@ tally_code t = cond (t.falsifiable == 0) (cond (t.unknown == 0) 0 4) 1
 -- ---- as clauses see it
 
 -- what the property of this number is said to be
-abbrev pub IsTrueOfNumber : Options → Program → Component → ℕ → Verdict → Type 0
-IsTrueOfNumber o p d k s = (q : Property) → slice_get (properties (instance_of p d)) k ≡ Some q → IsTrueVerdict o p d k q s
+abbrev pub IsTrueOfNumber : Options → Program → Component → List Posting → ℕ → Verdict → Type 0
+IsTrueOfNumber o p d book k s = (q : Property) → slice_get (properties (instance_of p d)) k ≡ Some q → IsTrueVerdict o p d book k q s
 
 abbrev pub outcome_view : Outcome → Verdict
 outcome_view Valid = valid

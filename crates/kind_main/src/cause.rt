@@ -26,8 +26,8 @@ pub fn cause_in(
 ) -> Result<Because, AllocError>
     requires posted { has_cause (number_of engine) (number_of engine) property (history_of book.now) ≡ true }
     ensures engine { IfOk result (λ b. b.engine ≡ engine) }
-    ensures is_true { IfOk result (λ b. IsTrueCause (machine_of book.now) (plan_of book.now) property
-        (because_view b)) }
+    ensures is_true { IfOk result (λ b. IsTrueCause (machine_of book.now) (plan_of book.now) (history_of book.now)
+        property (because_view b)) }
 {
     let _entries = book.count();
     let Some(cause) = book.spent(engine.number(), property) else {

@@ -13,9 +13,8 @@ ghost use Rattle.board_core.specs.Verdicts.{decides};
 ghost use Rattle.kind_engine.specs.Ready.{IsReady};
 ghost use Rattle.kind_main.specs.Options.{numbers_of, options_plan};
 ghost use Rattle.kind_main.specs.Causes.{because_view};
-ghost use Rattle.kind_main.specs.Played.{AreCausesOf, IsBrokenAt, IsPlayed};
-ghost use Rattle.kind_main.specs.declared.options.Options.{Options as Choices};
-ghost use Rattle.kind_main.specs.Verdicts.{AreTrueVerdicts, IsAnalysed, IsTrueOfNumber, outcome_view, outcomes_view};
+ghost use Rattle.kind_main.specs.Played.{AreCausesOf, IsBreakAt, IsBreakOf, IsBrokenAt, IsPlayed};
+ghost use Rattle.kind_main.specs.Verdicts.{AreOfOneBook, AreTrueVerdicts, IsAnalysed, IsTrueOfNumber, outcome_view, outcomes_view};
 
 use crate::cause::{Because, cause_in};
 use crate::options::Options;
@@ -62,8 +61,8 @@ fn broken(
     requires analysed { IsAnalysed (program_view program.now) (node_view node.now) }
     requires broken { IsBroken (system_of (instance_of (program_view program.now) (node_view node.now))) property
         (states_view path.now) }
-    ensures { IfOk result (λ o. (options : Choices) → IsTrueOfNumber options (program_view program.now)
-        (node_view node.now) property (outcome_view o)) }
+    ensures { IfOk result (λ o. IsBreakOf (program_view program.now) (node_view node.now) property (states_view path.now)
+        (outcome_view o)) }
 {
     narrow_are_small();
     small_systems();
@@ -95,8 +94,8 @@ fn broken_at(
     requires analysed { IsAnalysed (program_view program.now) (node_view node.now) }
     requires system { machine_of book.now ≡ system_of (instance_of (program_view program.now) (node_view node.now)) }
     requires broken { IsBrokenAt book.now property place }
-    ensures { IfOk result (λ o. (options : Choices) → IsTrueOfNumber options (program_view program.now)
-        (node_view node.now) property (outcome_view o)) }
+    ensures { IfOk result (λ o. IsBreakAt book.now (program_view program.now) (node_view node.now) property place
+        (outcome_view o)) }
 {
     match book.entry(place) {
         Fact::Broken(_, path) => broken(alloc, program, node, path, property),
@@ -138,8 +137,8 @@ fn said_of(
     requires system { machine_of book.now ≡ system_of (instance_of (program_view program.now) (node_view node.now)) }
     requires played { IsPlayed options book.now }
     requires named { property < length (machine_of book.now).properties }
-    ensures { IfOk result (λ o. IsTrueOfNumber options (program_view program.now) (node_view node.now) property
-        (outcome_view o)) }
+    ensures { IfOk result (λ o. IsTrueOfNumber options (program_view program.now) (node_view node.now)
+        (history_of book.now) property (outcome_view o)) }
 {
     each_verdicts();
     verdicts_are_true();
@@ -150,7 +149,32 @@ fn said_of(
     }
 }
 
-/// What is said of each property of a node or function of a program, in order, by its system.
+/// What is said of each property, in order, by the book of the node's system, which has so many.
+fn outcomes_of(
+    alloc: Global,
+    program: &Program,
+    node: &Node,
+    book: &Book,
+    options: Options,
+    count: usize,
+) -> Result<Vec<Outcome>, AllocError>
+    requires analysed { IsAnalysed (program_view program.now) (node_view node.now) }
+    requires system { machine_of book.now ≡ system_of (instance_of (program_view program.now) (node_view node.now)) }
+    requires played { IsPlayed options book.now }
+    requires counted { count ≡ length (machine_of book.now).properties }
+    ensures { IfOk result (λ v. AreTrueVerdicts options (program_view program.now) (node_view node.now)
+        (history_of book.now) 0 (properties (instance_of (program_view program.now) (node_view node.now)))
+        (outcomes_view v.items)) }
+{
+    as_many_formulas();
+    let mut outcomes = Vec::new(alloc);
+    for i in 0..count {
+        outcomes.push(said_of(alloc, program, node, book, options, i as u32)?)?;
+    }
+    Ok(outcomes)
+}
+
+/// What is said of each property of a node or function of a program, in order, by one book of its system.
 pub fn outcomes(
     alloc: Global,
     program: &Program,
@@ -161,15 +185,10 @@ pub fn outcomes(
     requires analysed { IsAnalysed (program_view program.now) (node_view node.now) }
     requires system { system_view system ≡ system_of (instance_of (program_view program.now) (node_view node.now)) }
     requires ready { IsReady (system_view system) (options_plan options) }
-    ensures { IfOk result (λ v. AreTrueVerdicts options (program_view program.now) (node_view node.now) 0
-        (properties (instance_of (program_view program.now) (node_view node.now))) (outcomes_view v.items)) }
+    ensures { IfOk result (λ v. AreOfOneBook options (program_view program.now) (node_view node.now)
+        (outcomes_view v.items)) }
 {
-    as_many_formulas();
     let count = system.properties.len();
     let book = played(alloc, system, options)?;
-    let mut outcomes = Vec::new(alloc);
-    for i in 0..count {
-        outcomes.push(said_of(alloc, program, node, &book, options, i as u32)?)?;
-    }
-    Ok(outcomes)
+    outcomes_of(alloc, program, node, &book, options, count)
 }

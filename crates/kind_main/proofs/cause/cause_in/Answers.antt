@@ -19,5 +19,5 @@ returns-clause-is_true c =
     sym (rw (c.in-Some.is, c.number.ensures) at c.spent.ensures) in
     let h = cause-true (machine_of c.args.book.now) (plan_of c.args.book.now) (history_of c.args.book.now) c.count-entries.ensures.sound
     (number_of c.args.engine) c.args.property (cause_view c.in-Some.cause.now) some in
-    subst (λ w. IsTrueCause (machine_of c.args.book.now) (plan_of c.args.book.now) c.args.property (record { engine = number_of c.args.engine; why = w }))
+    subst (λ w. IsTrueCause (machine_of c.args.book.now) (plan_of c.args.book.now) (history_of c.args.book.now) c.args.property (record { engine = number_of c.args.engine; why = w }))
     (sym c.in_ok-cause.ensures) h

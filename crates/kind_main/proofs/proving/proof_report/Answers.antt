@@ -37,7 +37,7 @@ verdict_report-requires-clause-many c =
     let marks : length (map property_view c.in_ok-properties.properties.items) ≡ length (map mark_of (properties (instance_of p d))) =
     ap length c.in_ok-properties.ensures in
     let many : length (properties (instance_of p d)) ≡ length (outcomes_view c.in_ok-outcomes.outcomes.items) =
-    as_many_verdicts c.args.options p d 0 _ _ c.in_ok-outcomes.ensures in
+    as_many_verdicts c.args.options p d c.in_ok-outcomes.ensures.book 0 _ _ c.in_ok-outcomes.ensures.each in
     rw (c.deref.ensures.value, c.deref-2.ensures.value)
     (sym (as_long property_view c.in_ok-properties.properties.items)
     ∙ (marks ∙ (as_long mark_of (properties (instance_of p d)) ∙ (many ∙ as_long outcome_view c.in_ok-outcomes.outcomes.items))))
@@ -47,7 +47,7 @@ of-tally-requires c =
     let p = program_view c.args.program.now in
     let d = node_view c.args.node.now in
     let many : length (properties (instance_of p d)) ≡ length c.in_ok-outcomes.outcomes.items =
-    as_many_verdicts c.args.options p d 0 _ _ c.in_ok-outcomes.ensures ∙ as_long outcome_view c.in_ok-outcomes.outcomes.items in
+    as_many_verdicts c.args.options p d c.in_ok-outcomes.ensures.book 0 _ _ c.in_ok-outcomes.ensures.each ∙ as_long outcome_view c.in_ok-outcomes.outcomes.items in
     rw c.deref-3.ensures.value
     (subst (λ n. n ≤ 500) many (few_properties p d c.requires.analysed c.small_systems.ensures c.as_many_formulas.ensures))
 
@@ -60,7 +60,8 @@ returns c =
     (ready_system p d c.requires.analysed c.mild_systems.ensures c.small_systems.ensures c.args.options c.requires.range).mild.fit in
     let decided =
     complete c.whole_causes_are_depths.ensures c.depths_of_runs.ensures.depths c.depth_of_step.ensures.inductive c.inductive_runs_hold.ensures
-    c.args.options p d c.requires.analysed fit (outcomes_view c.in_ok-outcomes.outcomes.items) c.in_ok-outcomes.ensures in
+    c.args.options p d c.requires.analysed fit c.in_ok-outcomes.ensures.book c.in_ok-outcomes.ensures.sound
+    (outcomes_view c.in_ok-outcomes.outcomes.items) c.in_ok-outcomes.ensures.each in
     let report : lines_view c.in_ok-lines.lines.items
     ≡ verdict_report (instance_of p d) (map (λ q. mark_text (property_view q)) c.in_ok-properties.properties.items)
     (outcomes_view c.in_ok-outcomes.outcomes.items) =

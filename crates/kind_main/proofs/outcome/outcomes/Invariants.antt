@@ -1,7 +1,0 @@
-use Rattle.lus_tree.specs.View.{node_view, program_view}
-use Rattle.kind_main.specs.Verdicts.{outcomes_view}
-use Rattle.kind_main.proofs.Deciding.{DecidingUpTo}
-use Rattle.kind_main.proofs.outcome.outcomes.Given as goal
-
-abbrev pub invariant-loop-i : goal.invariant-loop-i
-invariant-loop-i l = DecidingUpTo l.options (program_view l.program) (node_view l.node) l.i (outcomes_view l.outcomes.items)
