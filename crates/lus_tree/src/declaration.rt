@@ -1,11 +1,13 @@
 //! Declarations and programs.
 
-ghost use Rattle.std.specs.Prelude.{◌≡◌, IfOk, map, option_map};
+ghost use Rattle.std.specs.Prelude.{◌≡◌, IfOk, option_map};
 ghost use Rattle.std.specs.String.{string_bytes};
+ghost use Rattle.lus_tree.specs.Tree.{Constant, ContractStatement, Declaration, Labelled, Statement};
 ghost use Rattle.lus_tree.specs.View.{contract_item_view, contract_node_view, contract_view, decl_view, definition_view, item_view, named_view, node_view, program_view};
 
+use crate::copies::{Copied, copied_list};
 use crate::expression::{Expr, copied_exprs};
-use crate::place::{Param, PlacedName, Pos, Sort, copied_params, copied_words};
+use crate::place::{Param, PlacedName, Pos, Sort};
 use std::alloc::{AllocError, Global};
 
 /// A constant's definition, `const NAME [: sort] = value;`.
@@ -103,17 +105,14 @@ impl Definition {
     }
 }
 
-fn copied_definitions(
-    definitions: &[Definition],
-    alloc: Global,
-) -> Result<Vec<Definition>, AllocError>
-    ensures { IfOk result (λ v. map definition_view v.items ≡ map definition_view definitions.now) }
-{
-    let mut copies = Vec::with_capacity(alloc, definitions.len())?;
-    for definition in definitions {
-        copies.push(definition.copied(alloc)?)?;
+impl Copied for Definition {
+    ghost View = { Constant };
+
+    ghost view = { definition_view };
+
+    fn copy(&self, alloc: Global) -> Result<Definition, AllocError> {
+        self.copied(alloc)
     }
-    Ok(copies)
 }
 
 impl Named {
@@ -138,14 +137,14 @@ fn copied_label(label: &Option<String>, alloc: Global) -> Result<Option<String>,
     }
 }
 
-fn copied_named(all: &[Named], alloc: Global) -> Result<Vec<Named>, AllocError>
-    ensures { IfOk result (λ v. map named_view v.items ≡ map named_view all.now) }
-{
-    let mut copies = Vec::with_capacity(alloc, all.len())?;
-    for named in all {
-        copies.push(named.copied(alloc)?)?;
+impl Copied for Named {
+    ghost View = { Labelled };
+
+    ghost view = { named_view };
+
+    fn copy(&self, alloc: Global) -> Result<Named, AllocError> {
+        self.copied(alloc)
     }
-    Ok(copies)
 }
 
 impl Item {
@@ -155,7 +154,7 @@ impl Item {
     {
         match self {
             Item::Equation(left, right) => {
-                let left = copied_words(left, alloc)?;
+                let left = copied_list(left, alloc)?;
                 Ok(Item::Equation(left, right.copied(alloc)?))
             }
             Item::Assert(condition) => Ok(Item::Assert(condition.copied(alloc)?)),
@@ -165,14 +164,14 @@ impl Item {
     }
 }
 
-fn copied_items(items: &[Item], alloc: Global) -> Result<Vec<Item>, AllocError>
-    ensures { IfOk result (λ v. map item_view v.items ≡ map item_view items.now) }
-{
-    let mut copies = Vec::with_capacity(alloc, items.len())?;
-    for item in items {
-        copies.push(item.copied(alloc)?)?;
+impl Copied for Item {
+    ghost View = { Statement };
+
+    ghost view = { item_view };
+
+    fn copy(&self, alloc: Global) -> Result<Item, AllocError> {
+        self.copied(alloc)
     }
-    Ok(copies)
 }
 
 impl ContractItem {
@@ -194,30 +193,27 @@ impl ContractItem {
             }
             ContractItem::Mode(name, required, ensured) => Ok(ContractItem::Mode(
                 name.copied(alloc)?,
-                copied_named(required, alloc)?,
-                copied_named(ensured, alloc)?,
+                copied_list(required, alloc)?,
+                copied_list(ensured, alloc)?,
             )),
             ContractItem::Import(number, contract, arguments, outputs) => Ok(ContractItem::Import(
                 *number,
                 contract.copied(alloc)?,
                 copied_exprs(arguments, alloc)?,
-                copied_words(outputs, alloc)?,
+                copied_list(outputs, alloc)?,
             )),
         }
     }
 }
 
-fn copied_contract_items(
-    items: &[ContractItem],
-    alloc: Global,
-) -> Result<Vec<ContractItem>, AllocError>
-    ensures { IfOk result (λ v. map contract_item_view v.items ≡ map contract_item_view items.now) }
-{
-    let mut copies = Vec::with_capacity(alloc, items.len())?;
-    for item in items {
-        copies.push(item.copied(alloc)?)?;
+impl Copied for ContractItem {
+    ghost View = { ContractStatement };
+
+    ghost view = { contract_item_view };
+
+    fn copy(&self, alloc: Global) -> Result<ContractItem, AllocError> {
+        self.copied(alloc)
     }
-    Ok(copies)
 }
 
 impl Node {
@@ -228,12 +224,12 @@ impl Node {
         Ok(Node {
             name: self.name.copied(alloc)?,
             function: self.function,
-            inputs: copied_params(&self.inputs, alloc)?,
-            outputs: copied_params(&self.outputs, alloc)?,
-            locals: copied_params(&self.locals, alloc)?,
-            consts: copied_definitions(&self.consts, alloc)?,
+            inputs: copied_list(&self.inputs, alloc)?,
+            outputs: copied_list(&self.outputs, alloc)?,
+            locals: copied_list(&self.locals, alloc)?,
+            consts: copied_list(&self.consts, alloc)?,
             contract: copied_contract(&self.contract, alloc)?,
-            items: copied_items(&self.items, alloc)?,
+            items: copied_list(&self.items, alloc)?,
         })
     }
 }
@@ -245,7 +241,7 @@ fn copied_contract(
     ensures { IfOk result (λ c. contract_view c ≡ contract_view contract.now) }
 {
     match contract {
-        Some(items) => Ok(Some(copied_contract_items(items, alloc)?)),
+        Some(items) => Ok(Some(copied_list(items, alloc)?)),
         None => Ok(None),
     }
 }
@@ -257,9 +253,9 @@ impl ContractNode {
     {
         Ok(ContractNode {
             name: self.name.copied(alloc)?,
-            inputs: copied_params(&self.inputs, alloc)?,
-            outputs: copied_params(&self.outputs, alloc)?,
-            items: copied_contract_items(&self.items, alloc)?,
+            inputs: copied_list(&self.inputs, alloc)?,
+            outputs: copied_list(&self.outputs, alloc)?,
+            items: copied_list(&self.items, alloc)?,
         })
     }
 }
@@ -277,14 +273,14 @@ impl Decl {
     }
 }
 
-fn copied_decls(decls: &[Decl], alloc: Global) -> Result<Vec<Decl>, AllocError>
-    ensures { IfOk result (λ v. map decl_view v.items ≡ map decl_view decls.now) }
-{
-    let mut copies = Vec::with_capacity(alloc, decls.len())?;
-    for decl in decls {
-        copies.push(decl.copied(alloc)?)?;
+impl Copied for Decl {
+    ghost View = { Declaration };
+
+    ghost view = { decl_view };
+
+    fn copy(&self, alloc: Global) -> Result<Decl, AllocError> {
+        self.copied(alloc)
     }
-    Ok(copies)
 }
 
 impl Program {
@@ -293,7 +289,7 @@ impl Program {
         ensures { IfOk result (λ c. program_view c ≡ program_view self.now) }
     {
         Ok(Program {
-            decls: copied_decls(&self.decls, alloc)?,
+            decls: copied_list(&self.decls, alloc)?,
         })
     }
 }

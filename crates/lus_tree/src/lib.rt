@@ -1,6 +1,7 @@
 //! The syntax tree of a Lustre program with contracts, and the refusal of a source.
 #![tactic(auto)]
 
+mod copies;
 mod declaration;
 mod expression;
 mod lookup;

@@ -1,8 +1,10 @@
 //! Places of the source, names and declared streams.
 
-ghost use Rattle.std.specs.Prelude.{◌≡◌, IfOk, map, option_map};
+ghost use Rattle.std.specs.Prelude.{◌≡◌, IfOk, option_map};
+ghost use Rattle.lus_tree.specs.Tree.{Spelled, Variable};
 ghost use Rattle.lus_tree.specs.View.{clock_view, param_view, word_view};
 
+use crate::copies::Copied;
 use std::alloc::{AllocError, Global};
 
 /// A place of the source: a line, and a byte of that line. Both count from 1.
@@ -57,17 +59,14 @@ pub(crate) fn copied_word_or_none(
     }
 }
 
-pub(crate) fn copied_words(
-    words: &[PlacedName],
-    alloc: Global,
-) -> Result<Vec<PlacedName>, AllocError>
-    ensures { IfOk result (λ v. map word_view v.items ≡ map word_view words.now) }
-{
-    let mut copies = Vec::with_capacity(alloc, words.len())?;
-    for word in words {
-        copies.push(word.copied(alloc)?)?;
+impl Copied for PlacedName {
+    ghost View = { Spelled };
+
+    ghost view = { word_view };
+
+    fn copy(&self, alloc: Global) -> Result<PlacedName, AllocError> {
+        self.copied(alloc)
     }
-    Ok(copies)
 }
 
 impl Param {
@@ -95,12 +94,12 @@ fn copied_clock(
     }
 }
 
-pub(crate) fn copied_params(params: &[Param], alloc: Global) -> Result<Vec<Param>, AllocError>
-    ensures { IfOk result (λ v. map param_view v.items ≡ map param_view params.now) }
-{
-    let mut copies = Vec::with_capacity(alloc, params.len())?;
-    for param in params {
-        copies.push(param.copied(alloc)?)?;
+impl Copied for Param {
+    ghost View = { Variable };
+
+    ghost view = { param_view };
+
+    fn copy(&self, alloc: Global) -> Result<Param, AllocError> {
+        self.copied(alloc)
     }
-    Ok(copies)
 }

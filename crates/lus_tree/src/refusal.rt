@@ -5,91 +5,65 @@ ghost use Rattle.lus_tree.specs.Reason.{refusal_view, what_view};
 
 use crate::place::Pos;
 use std::alloc::{AllocError, Global};
+use std::{error, fmt};
 use thiserror::Error;
 
 /// The rule that a source breaks. Its text is the name that is printed.
-#[derive(Debug, Drop, Error)]
+#[derive(Debug, Drop)]
 pub enum What {
     /// More than 1,048,576 bytes.
-    #[error("TooLong")]
     TooLong,
     /// A byte that stands in no token and no comment, or a text that is not closed.
-    #[error("BadByte")]
     BadByte,
     /// A comment without its end.
-    #[error("UnclosedComment")]
     UnclosedComment,
     /// A number above 2^63 - 1.
-    #[error("WideLiteral")]
     WideLiteral,
     /// A token, or the end, after which no text of the grammar can follow.
-    #[error("Unexpected")]
     Unexpected,
     /// An expression with more than 1,000 tokens.
-    #[error("TooLarge")]
     TooLarge,
     /// A word or sign of Lustre that this language leaves out.
-    #[error("LeftOut {0}")]
     LeftOut(String),
     /// A name, mode or label that is declared a second time.
-    #[error("NameTwice")]
     NameTwice,
     /// A name, callee or import that is not declared.
-    #[error("NameUnknown")]
     NameUnknown,
     /// An expression of another type than is needed.
-    #[error("TypeClash")]
     TypeClash,
     /// A wrong number of arguments, outputs, left names or defaults.
-    #[error("ArityClash")]
     ArityClash,
     /// A product of two expressions that are not constant.
-    #[error("NotLinear")]
     NotLinear,
     /// A constant divisor 0.
-    #[error("ZeroDivisor")]
     ZeroDivisor,
     /// A constant, default or divisor that is not constant.
-    #[error("NotConstant")]
     NotConstant,
     /// An integer expression that could pass 128 bits.
-    #[error("Heavy")]
     Heavy,
     /// An expression on another clock than is needed.
-    #[error("ClockClash")]
     ClockClash,
     /// A name with two equations.
-    #[error("EquationTwice")]
     EquationTwice,
     /// An equation for an input, a ghost variable or a constant.
-    #[error("InputDefined")]
     InputDefined,
     /// An equation that depends on itself at one instant.
-    #[error("Cycle")]
     Cycle,
     /// A call or an import on a circle of declarations.
-    #[error("NodeRecursion")]
     NodeRecursion,
     /// State in a function.
-    #[error("NotStateless")]
     NotStateless,
     /// An assumption that reads an output of this instant.
-    #[error("AssumeReadsOutput")]
     AssumeReadsOutput,
     /// No node and no function.
-    #[error("NoNode")]
     NoNode,
     /// The chosen main node is not there.
-    #[error("MainUnknown")]
     MainUnknown,
     /// A mode that is not declared before its use.
-    #[error("ModeUnknown")]
     ModeUnknown,
     /// A declaration past a limit, and that limit.
-    #[error("TooMany {0}")]
     TooMany(u64),
     /// Want of memory. The place then says nothing.
-    #[error("Memory")]
     Memory,
 }
 
@@ -100,6 +74,19 @@ pub struct Refusal {
     pub at: Pos,
     pub what: What,
 }
+
+impl fmt::Display for What {
+    fn fmt<W: fmt::Write>(&self, f: &mut fmt::Formatter<W>) -> fmt::Result {
+        match self {
+            What::LeftOut(word) => write!(f, "LeftOut {word}"),
+            What::TooMany(limit) => write!(f, "TooMany {limit}"),
+            // A rule with no field: its name.
+            plain => fmt::Debug::fmt(plain, f),
+        }
+    }
+}
+
+impl error::Error for What {}
 
 impl What {
     /// The same rule, with an equal word or limit.

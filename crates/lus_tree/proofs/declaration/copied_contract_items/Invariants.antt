@@ -1,6 +1,0 @@
-use Rattle.std.proofs.Common.{◌≡◌, take, map}
-use Rattle.lus_tree.specs.View.{contract_item_view}
-use Rattle.lus_tree.proofs.declaration.copied_contract_items.Given as goal
-
-abbrev pub invariant-loop-item : goal.invariant-loop-item
-invariant-loop-item l = map contract_item_view l.copies.items ≡ map contract_item_view (take l.item-index l.items)
