@@ -7,7 +7,7 @@ ghost use Rattle.sys_parts.specs.Parts.{part_view};
 
 use crate::amounts::{chosen, equal, multiple, quotient, remainder};
 use crate::formulas::{choice, negation, same};
-use crate::parts::{Part, no_part};
+use crate::parts::{Part, flag_part, no_part, number_part};
 use std::alloc::{AllocError, Global};
 use sys_terms::Term;
 
@@ -20,7 +20,7 @@ pub fn not_part(alloc: Global, part: Part) -> Result<Part, AllocError>
     ensures { IfOk result (λ r. part_view r ≡ not_part (part_view part)) }
 {
     match part {
-        Part::Flag(term) => Ok(Part::Flag(negation(alloc, term)?)),
+        Part::Flag(term) => flag_part(negation(alloc, term)),
         Part::Number(_) => Ok(no_part()),
     }
 }
@@ -46,7 +46,7 @@ pub fn scaled(alloc: Global, factor: i128, part: Part) -> Result<Part, AllocErro
 {
     match part {
         Part::Flag(_) => Ok(no_part()),
-        Part::Number(number) => Ok(Part::Number(multiple(alloc, factor, number)?)),
+        Part::Number(number) => number_part(multiple(alloc, factor, number)),
     }
 }
 
@@ -60,7 +60,7 @@ pub fn divided(alloc: Global, part: Part, divisor: i128) -> Result<Part, AllocEr
 {
     match part {
         Part::Flag(_) => Ok(no_part()),
-        Part::Number(number) => Ok(Part::Number(quotient(alloc, number, divisor)?)),
+        Part::Number(number) => number_part(quotient(alloc, number, divisor)),
     }
 }
 
@@ -74,7 +74,7 @@ pub fn rest_of(alloc: Global, part: Part, divisor: i128) -> Result<Part, AllocEr
 {
     match part {
         Part::Flag(_) => Ok(no_part()),
-        Part::Number(number) => Ok(Part::Number(remainder(alloc, number, divisor)?)),
+        Part::Number(number) => number_part(remainder(alloc, number, divisor)),
     }
 }
 
@@ -93,10 +93,10 @@ pub fn choose_part(
 {
     match (first, second) {
         (Part::Flag(first), Part::Flag(second)) => {
-            Ok(Part::Flag(choice(alloc, condition, first, second)?))
+            flag_part(choice(alloc, condition, first, second))
         }
         (Part::Number(first), Part::Number(second)) => {
-            Ok(Part::Number(chosen(alloc, condition, first, second)?))
+            number_part(chosen(alloc, condition, first, second))
         }
         (Part::Flag(_), Part::Number(_)) | (Part::Number(_), Part::Flag(_)) => Ok(no_part()),
     }

@@ -8,6 +8,13 @@ ghost use Rattle.sys_terms.specs.View as t;
 use std::alloc::{AllocError, Global};
 use sys_terms::{Term, Var};
 
+/// A term in a box.
+pub fn boxed(alloc: Global, term: Term) -> Result<Box<Term>, AllocError>
+    ensures { IfOk result (λ b. term_view b.value ≡ term_view term) }
+{
+    Ok(Box::new(alloc, term)?)
+}
+
 /// A variable of this state.
 pub fn flag(number: u32) -> Term
     ensures { term_view result ≡ t.flag record { number = number; next = false } }
@@ -26,7 +33,7 @@ pub fn flag(number: u32) -> Term
 pub fn negation(alloc: Global, a: Term) -> Result<Term, AllocError>
     ensures { IfOk result (λ r. term_view r ≡ t.negation (term_view a)) }
 {
-    Ok(Term::Not(Box::new(alloc, a)?))
+    Ok(Term::Not(boxed(alloc, a)?))
 }
 
 /// That both are true.
@@ -37,9 +44,10 @@ pub fn negation(alloc: Global, a: Term) -> Result<Term, AllocError>
 pub fn both(alloc: Global, a: Term, b: Term) -> Result<Term, AllocError>
     ensures { IfOk result (λ r. term_view r ≡ both (term_view a) (term_view b)) }
 {
-    let a = Box::new(alloc, a)?;
-    let b = Box::new(alloc, b)?;
-    Ok(Term::And(a, b))
+    match (boxed(alloc, a), boxed(alloc, b)) {
+        (Ok(a), Ok(b)) => Ok(Term::And(a, b)),
+        _ => Err(AllocError),
+    }
 }
 
 /// That the two are equal.
@@ -50,9 +58,10 @@ pub fn both(alloc: Global, a: Term, b: Term) -> Result<Term, AllocError>
 pub fn same(alloc: Global, a: Term, b: Term) -> Result<Term, AllocError>
     ensures { IfOk result (λ r. term_view r ≡ same (term_view a) (term_view b)) }
 {
-    let a = Box::new(alloc, a)?;
-    let b = Box::new(alloc, b)?;
-    Ok(Term::Same(a, b))
+    match (boxed(alloc, a), boxed(alloc, b)) {
+        (Ok(a), Ok(b)) => Ok(Term::Same(a, b)),
+        _ => Err(AllocError),
+    }
 }
 
 /// The second where the first is true, else the third.
@@ -63,10 +72,18 @@ pub fn same(alloc: Global, a: Term, b: Term) -> Result<Term, AllocError>
 pub fn choice(alloc: Global, c: Term, a: Term, b: Term) -> Result<Term, AllocError>
     ensures { IfOk result (λ r. term_view r ≡ t.choice (term_view c) (term_view a) (term_view b)) }
 {
-    let c = Box::new(alloc, c)?;
-    let a = Box::new(alloc, a)?;
-    let b = Box::new(alloc, b)?;
-    Ok(Term::Choose(c, a, b))
+    match (boxed(alloc, c), boxed(alloc, a), boxed(alloc, b)) {
+        (Ok(c), Ok(a), Ok(b)) => Ok(Term::Choose(c, a, b)),
+        _ => Err(AllocError),
+    }
+}
+
+/// That the two are not both true.
+fn not_both(alloc: Global, a: Term, b: Term) -> Result<Term, AllocError>
+    ensures { IfOk result (λ r. term_view r ≡ t.negation (both (term_view a) (term_view b))) }
+{
+    let all = both(alloc, a, b)?;
+    negation(alloc, all)
 }
 
 /// That one of the two is true.
@@ -77,10 +94,10 @@ pub fn choice(alloc: Global, c: Term, a: Term, b: Term) -> Result<Term, AllocErr
 pub fn either(alloc: Global, a: Term, b: Term) -> Result<Term, AllocError>
     ensures { IfOk result (λ r. term_view r ≡ either (term_view a) (term_view b)) }
 {
-    let a = negation(alloc, a)?;
-    let b = negation(alloc, b)?;
-    let neither = both(alloc, a, b)?;
-    negation(alloc, neither)
+    match (negation(alloc, a), negation(alloc, b)) {
+        (Ok(a), Ok(b)) => not_both(alloc, a, b),
+        _ => Err(AllocError),
+    }
 }
 
 /// That the second is true where the first is.
@@ -92,8 +109,7 @@ pub fn implies(alloc: Global, a: Term, b: Term) -> Result<Term, AllocError>
     ensures { IfOk result (λ r. term_view r ≡ implies (term_view a) (term_view b)) }
 {
     let b = negation(alloc, b)?;
-    let broken = both(alloc, a, b)?;
-    negation(alloc, broken)
+    not_both(alloc, a, b)
 }
 
 /// That the two are not equal.

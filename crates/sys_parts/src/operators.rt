@@ -8,7 +8,7 @@ ghost use Rattle.sys_parts.specs.Parts.{operate_unlike, part_view};
 
 use crate::amounts::{at_most, equal, minus, more, plus};
 use crate::formulas::{both, different, either, implies, negation, same};
-use crate::parts::{Part, no_part};
+use crate::parts::{Part, flag_part, no_part, number_part};
 use lus_tree::Operator;
 use std::alloc::{AllocError, Global};
 use sys_terms::{Num, Term};
@@ -18,11 +18,11 @@ fn on_flags(alloc: Global, operator: Operator, a: Term, b: Term) -> Result<Part,
     ensures { IfOk result (λ r. part_view r ≡ operate operator (a_flag (term_view a)) (a_flag (term_view b))) }
 {
     match operator {
-        Operator::Implies => Ok(Part::Flag(implies(alloc, a, b)?)),
-        Operator::Or => Ok(Part::Flag(either(alloc, a, b)?)),
-        Operator::And => Ok(Part::Flag(both(alloc, a, b)?)),
-        Operator::Equal => Ok(Part::Flag(same(alloc, a, b)?)),
-        Operator::Xor | Operator::Differs => Ok(Part::Flag(different(alloc, a, b)?)),
+        Operator::Implies => flag_part(implies(alloc, a, b)),
+        Operator::Or => flag_part(either(alloc, a, b)),
+        Operator::And => flag_part(both(alloc, a, b)),
+        Operator::Equal => flag_part(same(alloc, a, b)),
+        Operator::Xor | Operator::Differs => flag_part(different(alloc, a, b)),
         Operator::Less
         | Operator::AtMost
         | Operator::AtLeast
@@ -49,14 +49,14 @@ fn on_numbers(alloc: Global, operator: Operator, a: Num, b: Num) -> Result<Part,
     ensures { IfOk result (λ r. part_view r ≡ operate operator (a_number (num_view a)) (a_number (num_view b))) }
 {
     match operator {
-        Operator::Less => Ok(Part::Flag(more(alloc, b, a)?)),
-        Operator::AtMost => Ok(Part::Flag(at_most(alloc, a, b)?)),
-        Operator::Equal => Ok(Part::Flag(equal(alloc, a, b)?)),
-        Operator::Differs => Ok(Part::Flag(unequal(alloc, a, b)?)),
-        Operator::AtLeast => Ok(Part::Flag(at_most(alloc, b, a)?)),
-        Operator::More => Ok(Part::Flag(more(alloc, a, b)?)),
-        Operator::Add => Ok(Part::Number(plus(alloc, a, b)?)),
-        Operator::Sub => Ok(Part::Number(minus(alloc, a, b)?)),
+        Operator::Less => flag_part(more(alloc, b, a)),
+        Operator::AtMost => flag_part(at_most(alloc, a, b)),
+        Operator::Equal => flag_part(equal(alloc, a, b)),
+        Operator::Differs => flag_part(unequal(alloc, a, b)),
+        Operator::AtLeast => flag_part(at_most(alloc, b, a)),
+        Operator::More => flag_part(more(alloc, a, b)),
+        Operator::Add => number_part(plus(alloc, a, b)),
+        Operator::Sub => number_part(minus(alloc, a, b)),
         Operator::Implies
         | Operator::Or
         | Operator::Xor
@@ -72,7 +72,7 @@ fn on_unlike(alloc: Global, operator: Operator) -> Result<Part, AllocError>
     ensures { IfOk result (λ r. part_view r ≡ operate_unlike operator) }
 {
     match operator {
-        Operator::Differs => Ok(Part::Flag(negation(alloc, Term::Truth(false))?)),
+        Operator::Differs => flag_part(negation(alloc, Term::Truth(false))),
         Operator::Implies
         | Operator::Or
         | Operator::Xor

@@ -1,14 +1,15 @@
 //! A part of a term.
 
-ghost use Rattle.std.specs.Prelude.{◌≡◌};
-ghost use Rattle.sys_meaning.specs.Part.{amount_of, fixed, formula_of, no_part, variable, variable_in, zero_of};
-ghost use Rattle.sys_terms.specs.View.{num_view, term_view};
+ghost use Rattle.std.specs.Prelude.{◌≡◌, IfOk};
+ghost use Rattle.sys_meaning.specs.Part.{a_flag, a_number, amount_of, fixed, formula_of, no_part, variable, variable_in, zero_of};
+ghost use Rattle.sys_terms.specs.View.{Amount, Formula, num_view, term_view};
 ghost use Rattle.sys_parts.specs.Constants.{constant_view};
 ghost use Rattle.sys_parts.specs.Parts.{part_view};
 
 use crate::constant::Constant;
 use lus_meaning::Value;
 use lus_tree::Sort;
+use std::alloc::AllocError;
 use sys_terms::{Num, Term, Var};
 
 /// A term of either type.
@@ -23,6 +24,20 @@ pub fn no_part() -> Part
     ensures { part_view result ≡ no_part }
 {
     Part::Flag(Term::Truth(false))
+}
+
+/// A formula as a part, where there is one.
+pub fn flag_part(term: Result<Term, AllocError>) -> Result<Part, AllocError>
+    ensures { (f : Formula) → IfOk term (λ t. term_view t ≡ f) → IfOk result (λ r. part_view r ≡ a_flag f) }
+{
+    Ok(Part::Flag(term?))
+}
+
+/// A number as a part, where there is one.
+pub fn number_part(num: Result<Num, AllocError>) -> Result<Part, AllocError>
+    ensures { (a : Amount) → IfOk num (λ n. num_view n ≡ a) → IfOk result (λ r. part_view r ≡ a_number a) }
+{
+    Ok(Part::Number(num?))
 }
 
 /// A part as a formula; a number is false.
