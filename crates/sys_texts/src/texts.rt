@@ -1,11 +1,14 @@
 //! The terms of expressions.
 
-ghost use Rattle.std.specs.Prelude.{◌≡◌, ◌∷◌, [], IfOk, map};
-ghost use Rattle.lus_tree.specs.View.{expr_view};
-ghost use Rattle.sys_meaning.specs.Part.{choose_part};
+ghost use Rattle.std.specs.Prelude.{◌≡◌, ◌∷◌, [], IfOk, map, option_map};
+ghost use Rattle.lus_tree.specs.Tree.{text_of};
+ghost use Rattle.lus_tree.specs.View.{expr_view, word_view};
+ghost use Rattle.sys_meaning.specs.Part.{a_flag, choose_part, variable};
+ghost use Rattle.sys_meaning.specs.Translate.{head_part};
 ghost use Rattle.sys_terms.specs.View.{term_view};
 ghost use Rattle.sys_parts.specs.Parts.{part_view};
-ghost use Rattle.sys_texts.specs.Texts.{as_part, folded, folded_name, formula, left_open, part_of, right_parts};
+ghost use Rattle.sys_texts.specs.Sights.{asked_of, latest_at, number_at};
+ghost use Rattle.sys_texts.specs.Texts.{as_part, chosen, folded, folded_name, formula, left_open, operated, part_of, right_parts, sort_by};
 ghost use Rattle.sys_texts.specs.Views.{folded_view, modes_view, sight_view};
 
 use crate::folding::{Folded, as_part, chosen, negated, operated, opposite};
@@ -13,7 +16,7 @@ use crate::modes::asked_of;
 use crate::outputs::{first_latest, first_output, latest_at, outputs_at};
 use crate::sight::{Mode, Sight, constant, memory, name_flag, name_part, start};
 use crate::sorts::sort_of;
-use lus_tree::{Expr, Form};
+use lus_tree::{Expr, Form, Operator, PlacedName};
 use std::alloc::{AllocError, Global};
 use sys_parts::choices::choose_part;
 use sys_parts::formulas::flag;
@@ -32,21 +35,113 @@ fn folded_name(sight: &Sight<'_>, name: &str) -> Folded
     }
 }
 
-/// One of two parts, by a condition, as what an expression comes to.
-fn open_choice(
+/// What `pre` of an expression comes to, by the number of the `pre`.
+fn folded_pre(sight: &Sight<'_>, number: u32, e: &Expr) -> Folded
+    ensures { folded_view result ≡ left_open (variable (sort_by (sight_view sight.now) (expr_view e.now))
+        (number_at (sight_view sight.now).memories (sight_view sight.now).missing number)) }
+{
+    Folded::Open(variable(sort_of(sight, e), memory(sight, number)))
+}
+
+/// What the first output of a condact comes to.
+fn folded_condact(alloc: Global, sight: &Sight<'_>, number: u32) -> Result<Folded, AllocError>
+    ensures { IfOk result (λ r. folded_view r ≡ left_open (head_part (latest_at (sight_view sight.now) number))) }
+{
+    Ok(Folded::Open(first_latest(alloc, sight, number)?))
+}
+
+/// What a mode's name comes to.
+fn folded_mode(
     alloc: Global,
+    modes: &[Mode<'_>],
+    contract: &Option<PlacedName>,
+    mode: &PlacedName,
+) -> Result<Folded, AllocError>
+    ensures { IfOk result (λ r. folded_view r ≡ left_open (a_flag (asked_of (modes_view modes.now)
+        (option_map text_of (option_map word_view contract.now)) (word_view mode.now).text))) }
+{
+    let asked = asked_of(alloc, modes, contract, mode)?;
+    Ok(Folded::Open(Part::Flag(asked)))
+}
+
+/// What two expressions come to.
+#[cycle(folded)]
+fn folded_pair(
+    alloc: Global,
+    sight: &Sight<'_>,
+    modes: &[Mode<'_>],
+    a: &Expr,
+    b: &Expr,
+) -> Result<(Folded, Folded), AllocError>
+    ensures first { IfOk result (λ r. folded_view r.0 ≡ folded (sight_view sight.now) (modes_view modes.now)
+        (expr_view a.now)) }
+    ensures second { IfOk result (λ r. folded_view r.1 ≡ folded (sight_view sight.now) (modes_view modes.now)
+        (expr_view b.now)) }
+{
+    let a = folded(alloc, sight, modes, a)?;
+    let b = folded(alloc, sight, modes, b)?;
+    Ok((a, b))
+}
+
+/// What one of two expressions comes to, by a condition.
+#[cycle(folded)]
+fn one_of(
+    alloc: Global,
+    sight: &Sight<'_>,
+    modes: &[Mode<'_>],
     condition: Term,
-    first: Folded,
-    second: Folded,
+    a: &Expr,
+    b: &Expr,
 ) -> Result<Folded, AllocError>
     ensures { IfOk result (λ r. folded_view r ≡ left_open (choose_part (term_view condition)
-        (as_part (folded_view first)) (as_part (folded_view second)))) }
+        (as_part (folded (sight_view sight.now) (modes_view modes.now) (expr_view a.now)))
+        (as_part (folded (sight_view sight.now) (modes_view modes.now) (expr_view b.now))))) }
 {
-    let part = choose_part(alloc, condition, as_part(first), as_part(second))?;
+    let (a, b) = folded_pair(alloc, sight, modes, a, b)?;
+    let part = choose_part(alloc, condition, as_part(a), as_part(b))?;
     Ok(Folded::Open(part))
 }
 
+/// What an operator makes of two expressions.
+#[cycle(folded)]
+fn folded_binary(
+    alloc: Global,
+    sight: &Sight<'_>,
+    modes: &[Mode<'_>],
+    operator: Operator,
+    a: &Expr,
+    b: &Expr,
+) -> Result<Folded, AllocError>
+    ensures { IfOk result (λ r. folded_view r ≡ operated operator
+        (folded (sight_view sight.now) (modes_view modes.now) (expr_view a.now))
+        (folded (sight_view sight.now) (modes_view modes.now) (expr_view b.now))) }
+{
+    let (a, b) = folded_pair(alloc, sight, modes, a, b)?;
+    operated(alloc, operator, a, b)
+}
+
+/// What a choice comes to.
+#[cycle(folded)]
+fn folded_if(
+    alloc: Global,
+    sight: &Sight<'_>,
+    modes: &[Mode<'_>],
+    c: &Expr,
+    a: &Expr,
+    b: &Expr,
+) -> Result<Folded, AllocError>
+    ensures { IfOk result (λ r. folded_view r ≡ chosen
+        (folded (sight_view sight.now) (modes_view modes.now) (expr_view c.now))
+        (folded (sight_view sight.now) (modes_view modes.now) (expr_view a.now))
+        (folded (sight_view sight.now) (modes_view modes.now) (expr_view b.now))) }
+{
+    let c = folded(alloc, sight, modes, c)?;
+    let (a, b) = folded_pair(alloc, sight, modes, a, b)?;
+    chosen(alloc, c, a, b)
+}
+
 /// What an expression comes to.
+#[cycle(folded)]
 #[tactic(auto, using(lus_tree::proofs::Views::form_views))]
 pub fn folded(
     alloc: Global,
@@ -69,38 +164,18 @@ pub fn folded(
             let a = folded(alloc, sight, modes, a)?;
             opposite(alloc, a)
         }
-        Form::Pre(k, a) => Ok(Folded::Open(variable(sort_of(sight, a), memory(sight, *k)))),
-        Form::Arrow(k, a, b) => {
-            let a = folded(alloc, sight, modes, a)?;
-            let b = folded(alloc, sight, modes, b)?;
-            open_choice(alloc, flag(start(sight, *k)), a, b)
-        }
-        Form::Binary(operator, a, b) => {
-            let a = folded(alloc, sight, modes, a)?;
-            let b = folded(alloc, sight, modes, b)?;
-            operated(alloc, *operator, a, b)
-        }
-        Form::If(c, a, b) => {
-            let c = folded(alloc, sight, modes, c)?;
-            let a = folded(alloc, sight, modes, a)?;
-            let b = folded(alloc, sight, modes, b)?;
-            chosen(alloc, c, a, b)
-        }
+        Form::Pre(k, a) => Ok(folded_pre(sight, *k, a)),
+        Form::Arrow(k, a, b) => one_of(alloc, sight, modes, flag(start(sight, *k)), a, b),
+        Form::Binary(operator, a, b) => folded_binary(alloc, sight, modes, *operator, a, b),
+        Form::If(c, a, b) => folded_if(alloc, sight, modes, c, a, b),
         Form::When(a, _, _) => {
             let a = folded(alloc, sight, modes, a)?;
             Ok(Folded::Open(as_part(a)))
         }
-        Form::Merge(x, a, b) => {
-            let a = folded(alloc, sight, modes, a)?;
-            let b = folded(alloc, sight, modes, b)?;
-            open_choice(alloc, name_flag(sight, &x.text), a, b)
-        }
+        Form::Merge(x, a, b) => one_of(alloc, sight, modes, name_flag(sight, &x.text), a, b),
         Form::Call(k, _, _) => Ok(Folded::Open(first_output(sight, *k))),
-        Form::Condact(k, _, _, _, _) => Ok(Folded::Open(first_latest(alloc, sight, *k)?)),
-        Form::ModeName(contract, mode) => {
-            let asked = asked_of(alloc, modes, contract, mode)?;
-            Ok(Folded::Open(Part::Flag(asked)))
-        }
+        Form::Condact(k, _, _, _, _) => folded_condact(alloc, sight, *k),
+        Form::ModeName(contract, mode) => folded_mode(alloc, modes, contract, mode),
     }
 }
 
