@@ -3,14 +3,13 @@
 #
 # Run at the top of the repository. Makes sources of 128 KB to 1 MB, of nodes with contracts, each of which calls the
 # one before it but for the first of each ten, and counts the instructions of the program check_cases where it reads and
-# checks the source, less those of type_cases where it reads it alone; and those of a node of 2,000 equations in the
+# checks the source, less those where it reads it alone; and those of a node of 2,000 equations in the
 # worst order, each of which needs the one behind it. Ends with status 1 where a source is refused, where the checks
 # take 700 instructions a byte or more, or where they do not double with the size.
 set -eu
 
 top=$(pwd)
 program=$top/crates/check_cases/out/check_cases
-reader=$top/crates/type_cases/out/type_cases
 work=$(mktemp -d)
 trap 'rm -rf "$work"' EXIT
 
@@ -61,17 +60,15 @@ worst() {
     }'
 }
 
-# The instructions of a program on a source, where it does `$2`.
+# The instructions of the program on the source, where it does `$1`.
 counted() {
     valgrind --tool=callgrind --callgrind-out-file="$work/counts" \
-        "$1" "$2" "$work/source" >"$work/printed" 2>"$work/log"
+        "$program" "$1" "$work/source" >"$work/printed" 2>"$work/log"
     awk '/Collected/ { print $4 }' "$work/log"
 }
 
 source_of 4096 >"$work/source"
-for crate in type_cases check_cases; do
-    (cd crates/$crate && rt run -- read "$work/source" >"$work/build" 2>&1) || { cat "$work/build"; exit 1; }
-done
+(cd crates/check_cases && rt run -- read "$work/source" >"$work/build" 2>&1) || { cat "$work/build"; exit 1; }
 if ! command -v valgrind >/dev/null; then
     echo "valgrind is not there: nothing is counted"
     exit 0
@@ -84,8 +81,8 @@ before=0
 for kilobytes in 128 256 512 1024; do
     bytes=$((kilobytes * 1024))
     source_of $bytes >"$work/source"
-    alone=$(counted "$reader" read)
-    checked=$(counted "$program" checked)
+    alone=$(counted read)
+    checked=$(counted checked)
     [ "$(cat "$work/printed")" = taken ] || { cat "$work/printed"; exit 1; }
     awk -v b=$bytes -v c=$((checked - alone)) -v p="$before" 'BEGIN {
         growth = p ? sprintf("%.3f", c / p) : "-"
@@ -95,10 +92,10 @@ for kilobytes in 128 256 512 1024; do
     before=$((checked - alone))
 done
 worst >"$work/source"
-alone=$(counted "$reader" read)
+alone=$(counted read)
 start=$(date +%s.%N)
 "$program" checked "$work/source" >"$work/printed"
 end=$(date +%s.%N)
-checked=$(counted "$program" checked)
+checked=$(counted checked)
 [ "$(cat "$work/printed")" = taken ] || { cat "$work/printed"; exit 1; }
 echo "worst order: $start $end $((checked - alone))" | awk '{ printf "%s %s %.2f seconds %d instructions\n", $1, $2, $4 - $3, $5 }'

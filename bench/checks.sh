@@ -3,14 +3,14 @@
 # source.
 #
 # Run at the top of the repository. Makes sources of 128 KB to 1 MB, of nodes with contracts, each of
-# which calls the one before it, and counts the instructions of the program type_cases on each where
+# which calls the one before it, and counts the instructions of the program check_cases on each where
 # it checks the source, less those where it reads it alone, where valgrind is there. Ends with status
 # 1 where a source is refused, where they are 400 a byte or more, or where they do not double with
 # the size.
 set -eu
 
 top=$(pwd)
-program=$top/crates/type_cases/out/type_cases
+program=$top/crates/check_cases/out/check_cases
 work=$(mktemp -d)
 trap 'rm -rf "$work"' EXIT
 
@@ -51,7 +51,7 @@ counted() {
 }
 
 source_of 4096 >"$work/source"
-(cd crates/type_cases && rt run -- types "$work/source" >"$work/build" 2>&1) || { cat "$work/build"; exit 1; }
+(cd crates/check_cases && rt run -- types "$work/source" >"$work/build" 2>&1) || { cat "$work/build"; exit 1; }
 if ! command -v valgrind >/dev/null; then
     echo "valgrind is not there: nothing is counted"
     exit 0

@@ -6,23 +6,47 @@ use crate::node::node_text;
 use crate::orders::orders_text;
 use contract_reader::read_program;
 use lus_checked::{Checked, checked};
-use lus_clocks::clocks;
+use lus_clocks::{Clocked, clocks};
 use lus_tree::Refusal;
-use lus_types::types;
+use lus_types::{Typed, types};
 use source_laws::laws::grammatical_sources;
 use std::alloc::{AllocError, Global};
 
-/// What is asked of a source that is taken.
+/// How far a source is read and checked, and what is asked of one that is taken.
 #[derive(Clone, Copy)]
 pub enum Asked {
-    /// The number of its main node, and the orders of its declarations.
+    /// It is read alone.
+    Read,
+    /// Its names, types and numbers are checked.
+    Types,
+    /// Its clocks are checked besides.
+    Clocks,
+    /// All is checked.
+    Checked,
+    /// All is checked: the number of its main node, and the orders of its declarations.
     Orders,
-    /// What is known of its main node.
+    /// All is checked: what is known of its main node.
     Node,
 }
 
 /// The most bytes of a source.
 const MOST_BYTES: usize = 1_048_576;
+
+/// The program of a source that breaks no rule of names, types and numbers.
+fn typed_source(alloc: Global, bytes: &[u8]) -> Result<Typed, Refusal>
+    requires { length bytes.now ≤ 1048576 }
+{
+    let program = read_program(alloc, bytes)?;
+    types(alloc, program)
+}
+
+/// The program of a source that breaks no rule of clocks either.
+fn clocked_source(alloc: Global, bytes: &[u8]) -> Result<Clocked, Refusal>
+    requires { length bytes.now ≤ 1048576 }
+{
+    let typed = typed_source(alloc, bytes)?;
+    clocks(alloc, typed)
+}
 
 /// The program of a source that breaks no rule and passes no limit.
 fn checked_source(alloc: Global, bytes: &[u8], main: Option<&str>) -> Result<Checked, Refusal>
@@ -35,11 +59,27 @@ fn checked_source(alloc: Global, bytes: &[u8], main: Option<&str>) -> Result<Che
     checked(alloc, clocked, main)
 }
 
-/// What is asked of a program.
-fn asked_text(alloc: Global, asked: Asked, program: &Checked) -> Result<String, AllocError> {
-    match asked {
-        Asked::Orders => orders_text(alloc, program),
-        Asked::Node => node_text(alloc, program),
+/// That a source is taken, or why and where it is refused.
+fn taken_or_refusal<T: Drop>(
+    alloc: Global,
+    found: Result<T, Refusal>,
+) -> Result<String, AllocError> {
+    match found {
+        Ok(_) => String::from_str(alloc, "taken"),
+        Err(refusal) => format!(in alloc; "{refusal}"),
+    }
+}
+
+/// What is asked of a program, or why and where its source is refused.
+fn asked_or_refusal(
+    alloc: Global,
+    asked: Asked,
+    found: Result<Checked, Refusal>,
+) -> Result<String, AllocError> {
+    match (asked, found) {
+        (Asked::Orders, Ok(program)) => orders_text(alloc, &program),
+        (Asked::Node, Ok(program)) => node_text(alloc, &program),
+        (_, found) => taken_or_refusal(alloc, found),
     }
 }
 
@@ -54,20 +94,10 @@ pub fn told(
     if bytes.len() > MOST_BYTES {
         return String::from_str(alloc, "too long");
     }
-    match checked_source(alloc, bytes, main) {
-        Ok(program) => asked_text(alloc, asked, &program),
-        Err(refusal) => format!(in alloc; "{refusal}"),
-    }
-}
-
-/// Whether a source is taken, or why and where it is refused.
-pub fn is_taken(alloc: Global, source: &str) -> Result<String, AllocError> {
-    let bytes = source.as_bytes();
-    if bytes.len() > MOST_BYTES {
-        return String::from_str(alloc, "too long");
-    }
-    match checked_source(alloc, bytes, None) {
-        Ok(_) => String::from_str(alloc, "taken"),
-        Err(refusal) => format!(in alloc; "{refusal}"),
+    match asked {
+        Asked::Read => taken_or_refusal(alloc, read_program(alloc, bytes)),
+        Asked::Types => taken_or_refusal(alloc, typed_source(alloc, bytes)),
+        Asked::Clocks => taken_or_refusal(alloc, clocked_source(alloc, bytes)),
+        _ => asked_or_refusal(alloc, asked, checked_source(alloc, bytes, main)),
     }
 }

@@ -1,4 +1,5 @@
-//! Bounded search and induction play on small systems of flags and of numbers, with one property each.
+//! Small systems of flags and of numbers, with one property each: queries about them are solved, and bounded search and
+//! induction play on them.
 
 #![tactic(auto)]
 
@@ -6,6 +7,7 @@ mod entries;
 mod flags;
 mod numbers;
 mod plays;
+mod queries;
 mod ready;
 mod rows;
 mod sleeper;
@@ -14,10 +16,19 @@ mod teacher;
 mod terms;
 mod wide;
 
+use anyhow::Result;
+use std::alloc::Global;
 use std::io;
 
+/// What comes of the queries, and of the plays.
+fn all_lines(alloc: Global) -> Result<Vec<String>> {
+    let mut lines = queries::rows::lines(alloc)?;
+    lines.append(&mut rows::lines(alloc)?)?;
+    Ok(lines)
+}
+
 fn main(rt: HostRuntime) -> io::Result<()> {
-    match rows::lines(rt.alloc()) {
+    match all_lines(rt.alloc()) {
         Ok(lines) => {
             for line in lines {
                 println!(rt; "{line}")?;
