@@ -2,7 +2,7 @@
 
 ghost use Rattle.std.specs.Prelude.{◌≡◌, IfOk};
 ghost use Rattle.lus_tree.specs.View.{expr_view};
-ghost use Rattle.slot_values.specs.Resolution.{resolved_view};
+ghost use Rattle.slot_values.specs.Resolution.{chosen, resolved_view};
 ghost use Rattle.slot_values.specs.Resolved.{resolution};
 ghost use Rattle.slot_resolver.specs.Found.{found_view, called_as, latest_as};
 
@@ -44,11 +44,55 @@ fn latest(alloc: Global, condition: Resolved, found: Option<Held>) -> Result<Res
     }
 }
 
+/// The resolution of an expression, in a box.
+#[cycle(resolve)]
+fn boxed<S: Slots>(alloc: Global, slots: &S, e: &Expr) -> Result<Box<Resolved>, AllocError>
+    ensures { IfOk result (λ b. resolved_view b.value ≡ resolution (S.numbering slots.now) (expr_view e.now)) }
+{
+    let resolved = resolve(alloc, slots, e)?;
+    Ok(Box::new(alloc, resolved)?)
+}
+
+/// The resolutions of two expressions.
+#[cycle(resolve)]
+fn pair<S: Slots>(
+    alloc: Global,
+    slots: &S,
+    a: &Expr,
+    b: &Expr,
+) -> Result<(Box<Resolved>, Box<Resolved>), AllocError>
+    ensures first { IfOk result (λ r. resolved_view r.0.value ≡ resolution (S.numbering slots.now) (expr_view a.now)) }
+    ensures second { IfOk result (λ r. resolved_view r.1.value ≡ resolution (S.numbering slots.now) (expr_view b.now)) }
+{
+    let a = boxed(alloc, slots, a)?;
+    let b = boxed(alloc, slots, b)?;
+    Ok((a, b))
+}
+
+/// The resolution of a choice.
+#[cycle(resolve)]
+fn choice<S: Slots>(
+    alloc: Global,
+    slots: &S,
+    c: &Expr,
+    a: &Expr,
+    b: &Expr,
+) -> Result<Resolved, AllocError>
+    ensures { IfOk result (λ r. resolved_view r ≡ chosen (resolution (S.numbering slots.now) (expr_view c.now))
+        (resolution (S.numbering slots.now) (expr_view a.now))
+        (resolution (S.numbering slots.now) (expr_view b.now))) }
+{
+    let c = boxed(alloc, slots, c)?;
+    let (a, b) = pair(alloc, slots, a, b)?;
+    Ok(Resolved::If(c, a, b))
+}
+
 /// The resolution of an expression, its names by the numbers of their slots.
 ///
 /// # Errors
 ///
 /// Only want of memory.
+#[cycle(resolve)]
 #[tactic(auto, using(lus_tree::proofs::Views::form_views))]
 pub fn resolve<S: Slots>(alloc: Global, slots: &S, e: &Expr) -> Result<Resolved, AllocError>
     ensures { IfOk result (λ r. resolved_view r ≡ resolution (S.numbering slots.now) (expr_view e.now)) }
@@ -57,47 +101,25 @@ pub fn resolve<S: Slots>(alloc: Global, slots: &S, e: &Expr) -> Result<Resolved,
         Form::Truth(b) => Ok(Resolved::Known(Some(Value::Truth(*b)))),
         Form::Number(n) => Ok(Resolved::Known(Some(Value::Whole(*n as i128)))),
         Form::Name(x) => Ok(named(slots.name(x))),
-        Form::Not(a) => {
-            let a = resolve(alloc, slots, a)?;
-            Ok(Resolved::Not(Box::new(alloc, a)?))
-        }
-        Form::Minus(a) => {
-            let a = resolve(alloc, slots, a)?;
-            Ok(Resolved::Minus(e.at, Box::new(alloc, a)?))
-        }
+        Form::Not(a) => Ok(Resolved::Not(boxed(alloc, slots, a)?)),
+        Form::Minus(a) => Ok(Resolved::Minus(e.at, boxed(alloc, slots, a)?)),
         Form::Pre(k, _) => Ok(Resolved::Slot(slots.memory(*k))),
         Form::Arrow(k, a, b) => {
-            let a = resolve(alloc, slots, a)?;
-            let b = resolve(alloc, slots, b)?;
-            Ok(Resolved::Arrow(slots.start(*k), Box::new(alloc, a)?, Box::new(alloc, b)?))
+            let (a, b) = pair(alloc, slots, a, b)?;
+            Ok(Resolved::Arrow(slots.start(*k), a, b))
         }
         Form::Binary(operator, a, b) => {
-            let a = resolve(alloc, slots, a)?;
-            let b = resolve(alloc, slots, b)?;
-            Ok(Resolved::Binary(e.at, *operator, Box::new(alloc, a)?, Box::new(alloc, b)?))
+            let (a, b) = pair(alloc, slots, a, b)?;
+            Ok(Resolved::Binary(e.at, *operator, a, b))
         }
-        Form::If(c, a, b) => {
-            let c = resolve(alloc, slots, c)?;
-            let a = resolve(alloc, slots, a)?;
-            let b = resolve(alloc, slots, b)?;
-            Ok(Resolved::If(
-                Box::new(alloc, c)?,
-                Box::new(alloc, a)?,
-                Box::new(alloc, b)?,
-            ))
-        }
+        Form::If(c, a, b) => choice(alloc, slots, c, a, b),
         Form::When(a, wanted, x) => {
-            let a = resolve(alloc, slots, a)?;
-            Ok(Resolved::When(slots.stream(&x.text), *wanted, Box::new(alloc, a)?))
+            let a = boxed(alloc, slots, a)?;
+            Ok(Resolved::When(slots.stream(&x.text), *wanted, a))
         }
         Form::Merge(x, a, b) => {
-            let a = resolve(alloc, slots, a)?;
-            let b = resolve(alloc, slots, b)?;
-            Ok(Resolved::Merge(
-                slots.stream(&x.text),
-                Box::new(alloc, a)?,
-                Box::new(alloc, b)?,
-            ))
+            let (a, b) = pair(alloc, slots, a, b)?;
+            Ok(Resolved::Merge(slots.stream(&x.text), a, b))
         }
         Form::Call(k, _, _) => Ok(called(slots.output(*k))),
         Form::Condact(k, condition, _, _, _) => {
