@@ -220,3 +220,24 @@ scaled-next n m terms i z products new c h e k =
     let f : exact Mul m t.1 ≡ Ok z = ap (λ y. exact Mul y t.1) c ∙ e in
     scaled-on m t.0 t.1 z products new (drop (i + 1) terms) f k
     ∙ ap (λ ts. and_then (scaled_terms m ts) (λ us. Ok (products ++ us))) (sym (head_of Mul i terms h))
+
+pub scaled-fails : (n m : ℤ) (terms : List (ℕ × ℤ)) (i : ℕ) (products : List (ℕ × ℤ)) (e : CnfFault) → m ≡ n
+    → i < length terms
+    → Fails (exact Mul n (slice_index_or terms i (0, pos 0)).1) e
+    → and_then (scaled_terms m (drop i terms)) (λ us. Ok (products ++ us)) ≡ scaled_terms m terms
+    → Fails (scaled_terms n terms) e
+scaled-fails n m terms i products (PastBits p) c h e k =
+    let t = slice_index_or terms i (0, pos 0) in
+    let f : exact Mul m t.1 ≡ Err p = ap (λ y. exact Mul y t.1) c ∙ e in
+    ap (λ y. scaled_terms y terms) (sym c)
+    ∙ sym k
+    ∙ ap (λ ts. and_then (scaled_terms m ts) (λ us. Ok (products ++ us))) (head_of Mul i terms h)
+    ∙ ap (λ r. and_then (and_then r (λ y. and_then (scaled_terms m (drop (i + 1) terms)) (λ us. Ok (put t.0 y us))))
+    (λ us. Ok (products ++ us))) f
+scaled-fails n m terms i products (Memory a) c h e k = tt
+
+-- what comes after the first of increasing terms increases too
+pub rest-increasing : (terms : List (ℕ × ℤ)) (j : ℕ) → j < length terms → is_increasing (drop j terms) ≡ true
+    → is_increasing (drop (j + 1) terms) ≡ true
+rest-increasing terms j h e =
+    (both_true _ _ (subst (λ us. is_increasing us ≡ true) (head_of Mul j terms h) e)).1

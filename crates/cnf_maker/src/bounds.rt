@@ -1,7 +1,9 @@
 //! Comparisons of sums: their literals, and clauses that bound new numbers by them.
 
-ghost use Rattle.std.specs.Prelude.{◌≡◌, suc, true, [], ◌∷◌, IfOk, length};
-ghost use Rattle.cnf_maker.specs.Linear.{is_increasing};
+ghost use Rattle.std.specs.Prelude.{◌≡◌, suc, true, [], ◌∷◌, IfOk, length, unsigned_abs};
+ghost use lib.IntN.{pos, ◌-ℤ◌};
+ghost use Rattle.sys_terms.specs.Evaluated.{and_then};
+ghost use Rattle.cnf_maker.specs.Linear.{is_increasing, of_constant as constant_of, of_variable as variable_of};
 ghost use Rattle.cnf_maker.specs.ClauseForm.{with_at_most, with_equal, with_bound, with_chosen, with_division};
 ghost use Rattle.cnf_maker.specs.View.{Leaves, Reaches, itself, linear_view, made};
 
@@ -122,16 +124,31 @@ impl Maker {
     {
         let (q, r) = self.two_numbers()?;
         let whole = of_division(alloc, q, r, d)?;
-        let remainder = of_variable(alloc, r)?;
         self.bound(alloc, truth, &whole, sum)?;
         self.bound(alloc, truth, sum, &whole)?;
+        self.bound_remainder(alloc, truth, r, d)?;
+        Ok((q, r))
+    }
+
+    /// The clauses by which r is from 0 to the size of d less 1.
+    fn bound_remainder(
+        &mut self,
+        alloc: Global,
+        truth: u32,
+        r: u32,
+        d: i128,
+    ) -> Result<(), CnfFault>
+        ensures { Reaches (and_then (with_bound truth [] (made self.old) (constant_of (pos 0)) (variable_of r))
+            (λ f. with_bound truth [] f (variable_of r) (constant_of (pos (unsigned_abs d) -ℤ pos 1))))
+            result (made self.new) }
+    {
+        let remainder = of_variable(alloc, r)?;
         self.bound(alloc, truth, &of_constant(alloc, 0), &remainder)?;
         self.bound(
             alloc,
             truth,
             &remainder,
             &of_constant(alloc, size_less_one(d)),
-        )?;
-        Ok((q, r))
+        )
     }
 }

@@ -17,16 +17,24 @@ use smallvec::SmallVec;
 use std::alloc::{AllocError, Global};
 use sys_terms::{Query, Term};
 
+/// The atom of an inequality.
+fn atom_of(alloc: Global, key: &AtomKey) -> Result<Atom, AllocError>
+    ensures { IfOk result (λ a. atom_view a ≡ key_view key.now) }
+{
+    let (terms, bound) = key;
+    let terms = SmallVec::from_slice(alloc, terms)?;
+    Ok(Atom {
+        terms,
+        bound: *bound,
+    })
+}
+
 fn atoms_of(alloc: Global, keys: &[AtomKey]) -> Result<Vec<Atom>, AllocError>
     ensures { IfOk result (λ v. map atom_view v.items ≡ map key_view keys.now) }
 {
     let mut atoms = Vec::with_capacity(alloc, keys.len())?;
-    for (terms, bound) in keys {
-        let terms = SmallVec::from_slice(alloc, terms)?;
-        atoms.push(Atom {
-            terms,
-            bound: *bound,
-        })?;
+    for key in keys {
+        atoms.push(atom_of(alloc, key)?)?;
     }
     Ok(atoms)
 }

@@ -3,7 +3,7 @@ use lib.IntN.{pos}
 use Rattle.sys_terms.specs.Evaluated.{exact}
 use Rattle.cnf_maker.specs.Linear.{put}
 use Rattle.cnf_maker.specs.View.{op_of, Fails}
-use Rattle.cnf_maker.proofs.Merged.{step-passes, step-meets, step-outside}
+use Rattle.cnf_maker.proofs.Merged.{step-passes, step-meets, step-outside, rest-increasing}
 use Rattle.cnf_maker.proofs.linear.step.Goals as goal
 
 pub returns-then-left-i-clause-exact : goal.returns-then-left-i-clause-exact
@@ -32,3 +32,6 @@ returns-clause-exact c =
     step-meets (op_of c.args.sign) c.args.sum.now.items c.put.new.sum.items (drop c.args.i c.args.left.now)
     (drop a.1 c.args.left.now) c.args.right.now c.args.j u.0 u.1 a.0
     z c.requires.more c.requires.increasing refl (c.coefficient-a.ensures.found (op_of c.args.sign) u.1) e n
+
+pub returns-clause-increasing : goal.returns-clause-increasing
+returns-clause-increasing c = rest-increasing c.args.right.now c.args.j c.requires.more c.requires.increasing

@@ -3,5 +3,5 @@ use Rattle.proof_steps.specs.View.{atom_view}
 use Rattle.cnf_maker.specs.View.{key_view}
 use Rattle.cnf_maker.proofs.query.atoms_of.Given as goal
 
-abbrev pub invariant-loop-terms : goal.invariant-loop-terms
-invariant-loop-terms l = map atom_view l.atoms.items ≡ map key_view (take l.terms-index l.keys)
+abbrev pub invariant-loop-key : goal.invariant-loop-key
+invariant-loop-key l = map atom_view l.atoms.items ≡ map key_view (take l.key-index l.keys)
