@@ -9,7 +9,7 @@ ghost use Rattle.sys_conditions.specs.Conditioned.{assert_conditions, body_prope
 
 use lus_tree::{Expr, Item};
 use std::alloc::{AllocError, Global};
-use sys_parts::formulas::{both, flag, negation};
+use sys_parts::formulas::{flag, implies};
 use sys_terms::Term;
 use sys_texts::sight::{Mode, Sight};
 use sys_texts::texts::formula;
@@ -18,9 +18,7 @@ use sys_texts::texts::formula;
 pub(crate) fn where_active(alloc: Global, beat: u32, said: Term) -> Result<Term, AllocError>
     ensures { IfOk result (λ t. term_view t ≡ where_active beat (term_view said)) }
 {
-    let broken = negation(alloc, said)?;
-    let wrong = both(alloc, flag(beat), broken)?;
-    negation(alloc, wrong)
+    implies(alloc, flag(beat), said)
 }
 
 /// Where the frame is active an expression is true.

@@ -15,7 +15,7 @@ use lus_streams::clock::declared;
 use lus_tree::Param;
 use std::alloc::{AllocError, Global};
 use sys_parts::choices::{choose_part, equal_parts};
-use sys_parts::formulas::{both, negation};
+use sys_parts::formulas::either;
 use sys_parts::parts::{Part, no_part, variable, zero_of};
 use sys_terms::Term;
 use sys_texts::presence::present;
@@ -126,11 +126,8 @@ fn is_free(alloc: Global, sight: &Sight<'_>, stream: &Param) -> Result<Term, All
     ensures { IfOk result (λ t. term_view t ≡ is_free (sight_view sight.now) (param_view stream.now)) }
 {
     let on = present(alloc, sight, declared(&stream.clock))?;
-    let off = negation(alloc, on)?;
     let zero = is_zero(alloc, sight, stream)?;
-    let other = negation(alloc, zero)?;
-    let wrong = both(alloc, off, other)?;
-    negation(alloc, wrong)
+    either(alloc, on, zero)
 }
 
 /// The formulas, and behind them what holds of a stream, which this gives, or nothing. `free` says that it may then
