@@ -1,8 +1,9 @@
-//! Small systems of flags and of numbers, with one property each: queries about them are solved, and bounded search and
-//! induction play on them.
+//! Chairs over a book; and small systems of flags and of numbers, with one property each: queries about them are solved,
+//! and bounded search and induction play on them.
 
 #![tactic(auto)]
 
+mod book;
 mod entries;
 mod flags;
 mod numbers;
@@ -20,9 +21,10 @@ use anyhow::Result;
 use std::alloc::Global;
 use std::io;
 
-/// What comes of the queries, and of the plays.
+/// What comes of the chairs, of the queries, and of the plays.
 fn all_lines(alloc: Global) -> Result<Vec<String>> {
-    let mut lines = queries::rows::lines(alloc)?;
+    let mut lines = book::lines(alloc)?;
+    lines.append(&mut queries::rows::lines(alloc)?)?;
     lines.append(&mut rows::lines(alloc)?)?;
     Ok(lines)
 }
