@@ -59,17 +59,41 @@ fn first_next(alloc: Global) -> Result<Term, AllocError> {
     same(alloc, Term::Flag(next(3)), still)
 }
 
+/// `n < 3`
+fn below_3(alloc: Global) -> Result<Term, AllocError> {
+    let at_least_3 = at_most(alloc, Num::Constant(3), value(1))?;
+    not(alloc, at_least_3)
+}
+
+/// `n >= 0` and `n < 3`
+fn properties(alloc: Global) -> Result<Vec<Term>, AllocError> {
+    two(
+        alloc,
+        at_most(alloc, Num::Constant(0), value(1)),
+        below_3(alloc),
+    )
+}
+
 /// The counter as a system.
 pub fn counter(alloc: Global) -> Result<System, AllocError> {
-    let at_least_0 = at_most(alloc, Num::Constant(0), value(1))?;
-    let at_least_3 = at_most(alloc, Num::Constant(3), value(1))?;
-    let below_3 = not(alloc, at_least_3)?;
-    Ok(System {
-        shapes: vec![in alloc; Shape::Flag, Shape::Number, Shape::Number, Shape::Flag]?,
-        first: vec![in alloc; flag(3)]?,
-        here: vec![in alloc; flag(0), value_of_n(alloc)?]?,
-        next: vec![in alloc; kept_next(alloc)?, first_next(alloc)?]?,
-        legal: Vec::new(alloc),
-        properties: vec![in alloc; at_least_0, below_3]?,
-    })
+    let shapes = Vec::from_slice(
+        alloc,
+        &[Shape::Flag, Shape::Number, Shape::Number, Shape::Flag],
+    )?;
+    match (
+        single(alloc, Ok(flag(3))),
+        two(alloc, Ok(flag(0)), value_of_n(alloc)),
+        two(alloc, kept_next(alloc), first_next(alloc)),
+        properties(alloc),
+    ) {
+        (Ok(first), Ok(here), Ok(next), Ok(properties)) => Ok(System {
+            shapes,
+            first,
+            here,
+            next,
+            legal: Vec::new(alloc),
+            properties,
+        }),
+        _ => Err(AllocError),
+    }
 }

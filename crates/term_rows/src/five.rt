@@ -1,28 +1,34 @@
 //! The worked system `x = 5` with the property `x >= 3`, and its queries.
 
-use crate::build::{at_most, choose, equal, flag, value};
+use crate::build::*;
 use crate::form_text::form_text;
 use cnf_maker::clauses;
 use std::alloc::{AllocError, Global};
 use sys_terms::{Num, Obligation, QueryFault, Shape, System, Term, obligation};
 
+/// `x = if beat then 5 else 0`
+fn x_is_5(alloc: Global) -> Result<Term, AllocError> {
+    let chosen = choose(alloc, flag(0), Num::Constant(5), Num::Constant(0))?;
+    equal(alloc, value(1), chosen)
+}
+
 /// The variables are 0 `beat` and 1 `x`.
 fn five(alloc: Global) -> Result<System, AllocError> {
     let shapes = Vec::from_slice(alloc, &[Shape::Flag, Shape::Number])?;
-    let chosen = choose(alloc, flag(0), Num::Constant(5), Num::Constant(0))?;
-    let mut here = Vec::new(alloc);
-    here.push(flag(0))?;
-    here.push(equal(alloc, value(1), chosen)?)?;
-    let mut properties: Vec<Term> = Vec::new(alloc);
-    properties.push(at_most(alloc, Num::Constant(3), value(1))?)?;
-    Ok(System {
-        shapes,
-        first: Vec::new(alloc),
-        here,
-        next: Vec::new(alloc),
-        legal: Vec::new(alloc),
-        properties,
-    })
+    match (
+        two(alloc, Ok(flag(0)), x_is_5(alloc)),
+        single(alloc, at_most(alloc, Num::Constant(3), value(1))),
+    ) {
+        (Ok(here), Ok(properties)) => Ok(System {
+            shapes,
+            first: Vec::new(alloc),
+            here,
+            next: Vec::new(alloc),
+            legal: Vec::new(alloc),
+            properties,
+        }),
+        _ => Err(AllocError),
+    }
 }
 
 fn asked(alloc: Global, what: Obligation) -> Result<String, QueryFault> {

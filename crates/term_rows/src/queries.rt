@@ -6,41 +6,62 @@ use kind_num::Shape;
 use std::alloc::{AllocError, Global};
 use sys_terms::{Num, Obligation, Query, QueryFault, System, Term, obligation};
 
+/// y is not 7.
+fn not_seven(alloc: Global) -> Result<Term, AllocError> {
+    let seven = equal(alloc, value(1), Num::Constant(7))?;
+    not(alloc, seven)
+}
+
 /// A flag that starts true and a number that never falls and is never 7, below 3.
 fn small(alloc: Global) -> Result<System, AllocError> {
-    let positive = at_most(alloc, Num::Constant(0), Num::Value(now(1)))?;
-    let rises = at_most(alloc, Num::Value(now(1)), Num::Value(next(1)))?;
-    let seven = equal(alloc, Num::Value(now(1)), Num::Constant(7))?;
-    let below = at_most(alloc, Num::Value(now(1)), Num::Constant(2))?;
-    Ok(System {
-        shapes: vec![in alloc; Shape::Flag, Shape::Number]?,
-        first: vec![in alloc; Term::Flag(now(0))]?,
-        here: vec![in alloc; positive]?,
-        next: vec![in alloc; rises]?,
-        legal: vec![in alloc; not(alloc, seven)?]?,
-        properties: vec![in alloc; below]?,
+    let shapes = Vec::from_slice(alloc, &[Shape::Flag, Shape::Number])?;
+    match (
+        single(alloc, Ok(flag(0))),
+        single(alloc, at_most(alloc, Num::Constant(0), value(1))),
+        single(alloc, at_most(alloc, value(1), Num::Value(next(1)))),
+        single(alloc, not_seven(alloc)),
+        single(alloc, at_most(alloc, value(1), Num::Constant(2))),
+    ) {
+        (Ok(first), Ok(here), Ok(next), Ok(legal), Ok(properties)) => Ok(System {
+            shapes,
+            first,
+            here,
+            next,
+            legal,
+            properties,
+        }),
+        _ => Err(AllocError),
+    }
+}
+
+/// How many obligations there are.
+const OBLIGATIONS: u32 = 6;
+
+/// Two states, of which the second is one where the flag is true.
+fn open(alloc: Global) -> Result<Obligation, AllocError> {
+    Ok(Obligation::Open {
+        states: 2,
+        from_first: false,
+        at: vec![in alloc; (1, flag(0)), (0, Term::Truth(true))]?,
     })
 }
 
-fn obligations(alloc: Global) -> Result<Vec<Obligation>, AllocError> {
-    let mut all = Vec::new(alloc);
-    all.push(Obligation::Base {
-        property: 0,
-        instant: 1,
-    })?;
-    all.push(Obligation::Step { property: 0, k: 1 })?;
-    all.push(Obligation::LemmaFirst(Term::Flag(now(0))))?;
-    all.push(Obligation::LemmaNext(Term::Flag(now(0))))?;
-    all.push(Obligation::Implied {
-        lemma: Term::Flag(now(0)),
-        property: 0,
-    })?;
-    all.push(Obligation::Open {
-        states: 2,
-        from_first: false,
-        at: vec![in alloc; (1, Term::Flag(now(0))), (0, Term::Truth(true))]?,
-    })?;
-    Ok(all)
+/// The obligation of that number from 0 on.
+fn obligation_of(alloc: Global, number: u32) -> Result<Obligation, AllocError> {
+    match number {
+        0 => Ok(Obligation::Base {
+            property: 0,
+            instant: 1,
+        }),
+        1 => Ok(Obligation::Step { property: 0, k: 1 }),
+        2 => Ok(Obligation::LemmaFirst(flag(0))),
+        3 => Ok(Obligation::LemmaNext(flag(0))),
+        4 => Ok(Obligation::Implied {
+            lemma: flag(0),
+            property: 0,
+        }),
+        _ => open(alloc),
+    }
 }
 
 /// The conditions with one citation, where the system, the obligation and the citation fit.
@@ -70,7 +91,7 @@ fn conditions_text(alloc: Global, query: &Query) -> Result<String, AllocError> {
 }
 
 fn line(alloc: Global, system: &System, what: &Obligation) -> Result<String, AllocError> {
-    let cite = at_most(alloc, Num::Value(now(1)), Num::Constant(9))?;
+    let cite = at_most(alloc, value(1), Num::Constant(9))?;
     match query(alloc, system, what, cite) {
         Ok(Some(query)) => conditions_text(alloc, &query.copied(alloc)?),
         Ok(None) => format!(in alloc; "not asked"),
@@ -82,7 +103,8 @@ fn line(alloc: Global, system: &System, what: &Obligation) -> Result<String, All
 pub fn lines(alloc: Global) -> Result<Vec<String>, AllocError> {
     let system = small(alloc)?;
     let mut lines = Vec::new(alloc);
-    for what in obligations(alloc)? {
+    for number in 0..OBLIGATIONS {
+        let what = obligation_of(alloc, number)?;
         lines.push(line(alloc, &system, &what.copied(alloc)?)?)?;
     }
     let wide = Obligation::Step {

@@ -20,32 +20,47 @@ const DIVISIONS: [Division; 5] = [
 ];
 
 fn quotient_is(alloc: Global, n: i128, d: i128, q: i128) -> Result<Term, AllocError> {
-    let n = Box::new(alloc, Num::Constant(n))?;
-    equal(alloc, Num::Div(n, d), Num::Constant(q))
+    let quotient = quotient(alloc, Num::Constant(n), d)?;
+    equal(alloc, quotient, Num::Constant(q))
 }
 
 fn remainder_is(alloc: Global, n: i128, d: i128, r: i128) -> Result<Term, AllocError> {
-    let n = Box::new(alloc, Num::Constant(n))?;
-    equal(alloc, Num::Mod(n, d), Num::Constant(r))
+    let remainder = remainder(alloc, Num::Constant(n), d)?;
+    equal(alloc, remainder, Num::Constant(r))
 }
 
 /// That the quotient and the remainder are these.
 fn division_term(alloc: Global, division: Division) -> Result<Term, AllocError> {
     let (n, d, q, r) = division;
-    let first = quotient_is(alloc, n, d, q)?;
-    let second = remainder_is(alloc, n, d, r)?;
-    and(alloc, first, second)
+    match (quotient_is(alloc, n, d, q), remainder_is(alloc, n, d, r)) {
+        (Ok(quotient), Ok(remainder)) => and(alloc, quotient, remainder),
+        _ => Err(AllocError),
+    }
 }
 
 /// The numbers at which sums, products and branches are tried.
 const EDGES: [i128; 3] = [2, i128::MAX, i128::MIN];
 
+/// 0 where the flag is true, else the greatest number times y.
+fn zero_or_product(alloc: Global) -> Result<Num, AllocError> {
+    let product = times(alloc, i128::MAX, value(1))?;
+    choose(alloc, flag(0), Num::Constant(0), product)
+}
+
+/// y, 1 and that.
+fn edge_sum(alloc: Global) -> Result<Num, AllocError> {
+    match (
+        plus(alloc, value(1), Num::Constant(1)),
+        zero_or_product(alloc),
+    ) {
+        (Ok(sum), Ok(chosen)) => plus(alloc, sum, chosen),
+        _ => Err(AllocError),
+    }
+}
+
 /// Both branches of a choice are evaluated, and a product before the sum that it stands in.
 fn edge_term(alloc: Global) -> Result<Term, AllocError> {
-    let product = Num::Scale(i128::MAX, Box::new(alloc, Num::Value(now(1)))?);
-    let sum = plus(alloc, Num::Value(now(1)), Num::Constant(1))?;
-    let chosen = choose(alloc, Term::Flag(now(0)), Num::Constant(0), product)?;
-    let total = plus(alloc, sum, chosen)?;
+    let total = edge_sum(alloc)?;
     at_most(alloc, total, Num::Constant(3))
 }
 
@@ -68,14 +83,19 @@ fn value_line(alloc: Global, term: &Term, state: &State) -> Result<String, Alloc
 
 /// `y div 0 <= 0`
 fn divided_by_0(alloc: Global) -> Result<Term, AllocError> {
-    let y = Box::new(alloc, value(1))?;
-    at_most(alloc, Num::Div(y, 0), Num::Constant(0))
+    let quotient = quotient(alloc, value(1), 0)?;
+    at_most(alloc, quotient, Num::Constant(0))
+}
+
+/// `2^63 y + 1`
+fn heavier(alloc: Global) -> Result<Num, AllocError> {
+    let heaviest = times(alloc, 1 << 63, value(1))?;
+    plus(alloc, heaviest, Num::Constant(1))
 }
 
 /// `2^63 y + 1 <= y`
 fn too_heavy(alloc: Global) -> Result<Term, AllocError> {
-    let heaviest = times(alloc, 1 << 63, value(1))?;
-    let heavier = plus(alloc, heaviest, Num::Constant(1))?;
+    let heavier = heavier(alloc)?;
     at_most(alloc, heavier, value(1))
 }
 

@@ -12,33 +12,80 @@ fn var_text(alloc: Global, var: Var) -> Result<String, AllocError> {
     }
 }
 
+/// A word and the text of an operand.
+fn with_one(
+    alloc: Global,
+    word: &str,
+    a: Result<String, AllocError>,
+) -> Result<String, AllocError> {
+    let a = a?;
+    format!(in alloc; "({word} {a})")
+}
+
+/// A word and the texts of two operands.
+fn with_two(
+    alloc: Global,
+    word: &str,
+    a: Result<String, AllocError>,
+    b: Result<String, AllocError>,
+) -> Result<String, AllocError> {
+    match (a, b) {
+        (Ok(a), Ok(b)) => format!(in alloc; "({word} {a} {b})"),
+        _ => Err(AllocError),
+    }
+}
+
+/// The text of a choice, of those of its operands.
+fn choice_text(
+    alloc: Global,
+    c: Result<String, AllocError>,
+    a: Result<String, AllocError>,
+    b: Result<String, AllocError>,
+) -> Result<String, AllocError> {
+    match (c, a, b) {
+        (Ok(c), Ok(a), Ok(b)) => format!(in alloc; "(if {c} {a} {b})"),
+        _ => Err(AllocError),
+    }
+}
+
+/// A word, the text of an operand and a divisor.
+fn with_divisor(
+    alloc: Global,
+    word: &str,
+    a: Result<String, AllocError>,
+    divisor: i128,
+) -> Result<String, AllocError> {
+    let a = a?;
+    format!(in alloc; "({word} {a} {divisor})")
+}
+
+/// A factor and the text of an operand.
+fn with_factor(
+    alloc: Global,
+    factor: i128,
+    a: Result<String, AllocError>,
+) -> Result<String, AllocError> {
+    let a = a?;
+    format!(in alloc; "(* {factor} {a})")
+}
+
 /// The term as text.
 #[cycle(text)]
 pub fn term_text(alloc: Global, term: &Term) -> Result<String, AllocError> {
     match term {
         Term::Truth(b) => format!(in alloc; "{b}"),
         Term::Flag(v) => var_text(alloc, *v),
-        Term::Not(a) => format!(in alloc; "(not {})", term_text(alloc, a)?),
-        Term::And(a, b) => {
-            format!(in alloc; "(and {} {})", term_text(alloc, a)?, term_text(alloc, b)?)
-        }
-        Term::Same(a, b) => {
-            format!(in alloc; "(same {} {})", term_text(alloc, a)?, term_text(alloc, b)?)
-        }
-        Term::Choose(c, a, b) => {
-            let condition = term_text(alloc, c)?;
-            format!(in alloc;
-                "(if {condition} {} {})",
-                term_text(alloc, a)?,
-                term_text(alloc, b)?
-            )
-        }
-        Term::AtMost(a, b) => {
-            format!(in alloc; "(le {} {})", num_text(alloc, a)?, num_text(alloc, b)?)
-        }
-        Term::Equal(a, b) => {
-            format!(in alloc; "(eq {} {})", num_text(alloc, a)?, num_text(alloc, b)?)
-        }
+        Term::Not(a) => with_one(alloc, "not", term_text(alloc, a)),
+        Term::And(a, b) => with_two(alloc, "and", term_text(alloc, a), term_text(alloc, b)),
+        Term::Same(a, b) => with_two(alloc, "same", term_text(alloc, a), term_text(alloc, b)),
+        Term::Choose(c, a, b) => choice_text(
+            alloc,
+            term_text(alloc, c),
+            term_text(alloc, a),
+            term_text(alloc, b),
+        ),
+        Term::AtMost(a, b) => with_two(alloc, "le", num_text(alloc, a), num_text(alloc, b)),
+        Term::Equal(a, b) => with_two(alloc, "eq", num_text(alloc, a), num_text(alloc, b)),
     }
 }
 
@@ -47,18 +94,16 @@ fn num_text(alloc: Global, num: &Num) -> Result<String, AllocError> {
     match num {
         Num::Constant(n) => format!(in alloc; "{n}"),
         Num::Value(v) => var_text(alloc, *v),
-        Num::Add(a, b) => format!(in alloc; "(+ {} {})", num_text(alloc, a)?, num_text(alloc, b)?),
-        Num::Sub(a, b) => format!(in alloc; "(- {} {})", num_text(alloc, a)?, num_text(alloc, b)?),
-        Num::Scale(n, a) => format!(in alloc; "(* {n} {})", num_text(alloc, a)?),
-        Num::Choose(c, a, b) => {
-            let condition = term_text(alloc, c)?;
-            format!(in alloc;
-                "(if {condition} {} {})",
-                num_text(alloc, a)?,
-                num_text(alloc, b)?
-            )
-        }
-        Num::Div(a, d) => format!(in alloc; "(div {} {d})", num_text(alloc, a)?),
-        Num::Mod(a, d) => format!(in alloc; "(mod {} {d})", num_text(alloc, a)?),
+        Num::Add(a, b) => with_two(alloc, "+", num_text(alloc, a), num_text(alloc, b)),
+        Num::Sub(a, b) => with_two(alloc, "-", num_text(alloc, a), num_text(alloc, b)),
+        Num::Scale(n, a) => with_factor(alloc, *n, num_text(alloc, a)),
+        Num::Choose(c, a, b) => choice_text(
+            alloc,
+            term_text(alloc, c),
+            num_text(alloc, a),
+            num_text(alloc, b),
+        ),
+        Num::Div(a, d) => with_divisor(alloc, "div", num_text(alloc, a), *d),
+        Num::Mod(a, d) => with_divisor(alloc, "mod", num_text(alloc, a), *d),
     }
 }
