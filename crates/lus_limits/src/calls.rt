@@ -73,14 +73,9 @@ fn push_calls<'a>(calls: &mut Vec<Call<'a>>, e: &'a Expr) -> Result<(), AllocErr
             push_calls(calls, a)
         }
         Form::Arrow(_, a, b) | Form::Binary(_, a, b) | Form::Merge(_, a, b) => {
-            push_calls(calls, a)?;
-            push_calls(calls, b)
+            push_calls_of_two(calls, a, b)
         }
-        Form::If(a, b, c) => {
-            push_calls(calls, a)?;
-            push_calls(calls, b)?;
-            push_calls(calls, c)
-        }
+        Form::If(a, b, c) => push_calls_of_three(calls, a, b, c),
         Form::Call(number, callee, arguments) => {
             calls.push(Call {
                 number: *number,
@@ -98,6 +93,35 @@ fn push_calls<'a>(calls: &mut Vec<Call<'a>>, e: &'a Expr) -> Result<(), AllocErr
         }
         Form::Truth(_) | Form::Number(_) | Form::Name(_) | Form::ModeName(_, _) => Ok(()),
     }
+}
+
+/// The calls, and behind them those of two expressions.
+#[cycle(calls)]
+fn push_calls_of_two<'a>(
+    calls: &mut Vec<Call<'a>>,
+    first: &'a Expr,
+    second: &'a Expr,
+) -> Result<(), AllocError>
+    ensures { IfOk result (λ _. map call_view calls.new.items ≡ map call_view calls.old.items
+        ++ (calls_in (expr_view first.now) ++ calls_in (expr_view second.now))) }
+{
+    push_calls(calls, first)?;
+    push_calls(calls, second)
+}
+
+/// The calls, and behind them those of three expressions.
+#[cycle(calls)]
+fn push_calls_of_three<'a>(
+    calls: &mut Vec<Call<'a>>,
+    first: &'a Expr,
+    second: &'a Expr,
+    third: &'a Expr,
+) -> Result<(), AllocError>
+    ensures { IfOk result (λ _. map call_view calls.new.items ≡ map call_view calls.old.items
+        ++ (calls_in (expr_view first.now) ++ (calls_in (expr_view second.now) ++ calls_in (expr_view third.now)))) }
+{
+    push_calls(calls, first)?;
+    push_calls_of_two(calls, second, third)
 }
 
 /// The calls, and behind them those of these expressions.

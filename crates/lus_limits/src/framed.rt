@@ -80,6 +80,20 @@ fn framed(
     })
 }
 
+/// The frames of all declarations of a program's table.
+fn all_framed(alloc: Global, program: &Program, table: &Table<'_>) -> Result<Vec<Frame>, AllocError>
+    requires checked { IsChecked (program_view program.now) }
+    requires known { IsTableOf (program_view program.now) table.now }
+    ensures { IfOk result (λ v. map frame_view v.items
+        ≡ map (frame_of (program_view program.now)) (components (program_view program.now))) }
+{
+    let mut frames = Vec::with_capacity(alloc, table.parts.len())?;
+    for number in 0..table.parts.len() {
+        frames.push(framed(alloc, program, table, number)?)?;
+    }
+    Ok(frames)
+}
+
 /// The frames of a program's declarations, in text order, constants left out.
 ///
 /// # Errors
@@ -91,9 +105,5 @@ pub fn program_frames(alloc: Global, program: &Program) -> Result<Vec<Frame>, Al
         ≡ map (frame_of (program_view program.now)) (components (program_view program.now))) }
 {
     let table = all_needs(alloc, program)?;
-    let mut frames = Vec::with_capacity(alloc, table.parts.len())?;
-    for number in 0..table.parts.len() {
-        frames.push(framed(alloc, program, &table, number)?)?;
-    }
-    Ok(frames)
+    all_framed(alloc, program, &table)
 }

@@ -1,20 +1,22 @@
 //! The sizes of the terms for what stands in an expression.
 
-ghost use Rattle.std.specs.Prelude.{◌≡◌, map};
-ghost use Rattle.lus_tree.specs.View.{expr_view, exprs_view, form_view, joined};
+ghost use Rattle.std.specs.Prelude.{◌≡◌, false, true, map};
+ghost use Rattle.lus_tree.specs.View.{expr_view, exprs_view, form_view, joined, word_view};
 ghost use Rattle.lus_meaning.specs.Program.{listed};
+ghost use Rattle.lus_meaning.specs.Scene.{sampled_by};
 ghost use Rattle.lus_meaning.specs.Sizes.{given_size};
 ghost use Rattle.lus_streams.specs.Clocks.{clock_seen};
 ghost use Rattle.lus_limits.specs.Inner.{argument_terms, call_terms, condition_terms, import_terms, inner_among, inner_in, memory_of, start_of};
 ghost use Rattle.lus_limits.specs.Measured.{modes_view, size_view};
 ghost use Rattle.lus_streams.specs.Names.{names_view};
+ghost use Rattle.lus_limits.specs.Peaks.{greater};
 ghost use Rattle.lus_limits.specs.SizeCuts.{cut_term};
 
 use crate::measuring::{Scope, measure};
 use crate::presence::presence;
 use crate::term_size::{Size, greater, leaf, no_size, one, three, two};
 use lus_streams::clock::Clock;
-use lus_tree::{Expr, Form};
+use lus_tree::{Expr, Form, PlacedName};
 
 /// Of what `pre` keeps of an operand on that clock.
 fn memory_size<'a>(scope: &Scope<'a, '_>, clock: Clock<'a>, operand: &'a Expr) -> Size
@@ -103,20 +105,11 @@ pub(crate) fn inner<'a>(scope: &Scope<'a, '_>, clock: Clock<'a>, e: &'a Expr) ->
     match &e.form {
         Form::Not(a) | Form::Minus(a) => inner(scope, clock, a),
         Form::Pre(_, a) => greater(memory_size(scope, clock, a), inner(scope, clock, a)),
-        Form::Arrow(_, a, b) => {
-            let inner = greater(inner(scope, clock, a), inner(scope, clock, b));
-            greater(start_size(scope, clock), inner)
-        }
-        Form::Binary(_, a, b) => greater(inner(scope, clock, a), inner(scope, clock, b)),
-        Form::If(a, b, c) => {
-            let branches = greater(inner(scope, clock, b), inner(scope, clock, c));
-            greater(inner(scope, clock, a), branches)
-        }
+        Form::Arrow(_, a, b) => greater(start_size(scope, clock), inner_of_two(scope, clock, a, b)),
+        Form::Binary(_, a, b) => inner_of_two(scope, clock, a, b),
+        Form::If(a, b, c) => greater(inner(scope, clock, a), inner_of_two(scope, clock, b, c)),
         Form::When(a, _, word) => inner(scope, scope.names.clock_or_base(&word.text), a),
-        Form::Merge(word, a, b) => greater(
-            inner(scope, Clock::Sampled(true, word), a),
-            inner(scope, Clock::Sampled(false, word), b),
-        ),
+        Form::Merge(word, a, b) => merged(scope, word, a, b),
         Form::Call(_, _, arguments) => {
             let call = call_terms(scope, clock, arguments);
             greater(call, inner_among(scope, clock, arguments))
@@ -131,6 +124,42 @@ pub(crate) fn inner<'a>(scope: &Scope<'a, '_>, clock: Clock<'a>, e: &'a Expr) ->
         }
         Form::Truth(_) | Form::Number(_) | Form::Name(_) | Form::ModeName(_, _) => no_size(),
     }
+}
+
+/// The greatest of the terms for what stands in two expressions.
+#[cycle(inner)]
+fn inner_of_two<'a>(
+    scope: &Scope<'a, '_>,
+    clock: Clock<'a>,
+    first: &'a Expr,
+    second: &'a Expr,
+) -> Size
+    ensures { size_view result ≡ cut_term (greater
+        (inner_in (names_view scope.now.names) (modes_view scope.now.modes.now) (clock_seen clock.entry) (expr_view first.now))
+        (inner_in (names_view scope.now.names) (modes_view scope.now.modes.now) (clock_seen clock.entry) (expr_view second.now))) }
+{
+    greater(inner(scope, clock, first), inner(scope, clock, second))
+}
+
+/// The greatest of the terms for what stands in two expressions, one where a stream is true, the other where it is
+/// false.
+#[cycle(inner)]
+fn merged<'a>(
+    scope: &Scope<'a, '_>,
+    word: &'a PlacedName,
+    first: &'a Expr,
+    second: &'a Expr,
+) -> Size
+    ensures { size_view result ≡ cut_term (greater
+        (inner_in (names_view scope.now.names) (modes_view scope.now.modes.now)
+        (sampled_by true (word_view word.now).text) (expr_view first.now))
+        (inner_in (names_view scope.now.names) (modes_view scope.now.modes.now)
+        (sampled_by false (word_view word.now).text) (expr_view second.now))) }
+{
+    greater(
+        inner(scope, Clock::Sampled(true, word), first),
+        inner(scope, Clock::Sampled(false, word), second),
+    )
 }
 
 /// The greatest of the terms for what stands in these expressions.

@@ -154,8 +154,23 @@ fn sizes<'s>(
     Ok(sizes)
 }
 
-/// The needs of a declaration with these calls, which are linked so.
+/// The sizes of the terms of a declaration with these calls, whose callees' are those.
 #[tactic(auto, using(crate::proofs::Needed::ways_called))]
+fn made_sizes(
+    alloc: Global,
+    owner: Owner<'_>,
+    calls: &[Call<'_>],
+    sizes: &[&SizeSummary],
+) -> Result<SizeSummary, AllocError>
+    requires { map call_view calls.now ≡ map called_of (all_sites (owner_view owner)) }
+    ensures { IfOk result (λ s. summary_seen s ≡ cut_summary (summary_by_items
+        (ways_of (owner_view owner.entry)) (summaries_seen sizes.now) (owner_view owner.entry))) }
+{
+    let streams = streams_of(alloc, owner)?;
+    size_summary(alloc, with_streams(owner, &streams), calls, sizes)
+}
+
+/// The needs of a declaration with these calls, which are linked so.
 fn made(
     alloc: Global,
     owner: Owner<'_>,
@@ -168,10 +183,8 @@ fn made(
     ensures sizes { IfOk result (λ d. summary_seen d.sizes ≡ cut_summary (summary_by_items
         (ways_of (owner_view owner.entry)) (summaries_seen sizes.now) (owner_view owner.entry))) }
 {
-    let streams = streams_of(alloc, owner)?;
-    let names = with_streams(owner, &streams);
-    let sizes = size_summary(alloc, names, calls, sizes)?;
     let counts = summed(alloc, owner, links)?;
+    let sizes = made_sizes(alloc, owner, calls, sizes)?;
     Ok(Needs { counts, sizes })
 }
 

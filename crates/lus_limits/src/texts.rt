@@ -1,6 +1,6 @@
 //! The expressions of a declaration's items and constants.
 
-ghost use Rattle.std.specs.Prelude.{◌≡◌, ◌++◌, IfOk, map, flat_map};
+ghost use Rattle.std.specs.Prelude.{◌≡◌, ◌++◌, ◌∷◌, [], IfOk, map, flat_map};
 ghost use Rattle.lus_tree.specs.View.{contract_item_view, definition_view, expr_view, item_view, named_view};
 ghost use Rattle.lus_streams.specs.Owner.{owner_view};
 ghost use Rattle.lus_limits.specs.Parts.{Adds, constant_sides, contract_sides, sides, sides_view, statement_sides, values_of};
@@ -43,6 +43,27 @@ fn push_arguments<'a>(sides: &mut Vec<&'a Expr>, arguments: &'a [Expr]) -> Resul
     Ok(())
 }
 
+/// The expressions, and behind them that one.
+fn push_side<'a>(sides: &mut Vec<&'a Expr>, side: &'a Expr) -> Result<(), AllocError>
+    ensures { IfOk result (λ _. Adds sides.old.items sides.new.items (expr_view side.now ∷ [])) }
+{
+    sides.push(side)?;
+    Ok(())
+}
+
+/// The expressions, and behind them those with these labels, and then those.
+fn push_both_labelled<'a>(
+    sides: &mut Vec<&'a Expr>,
+    first: &'a [Named],
+    second: &'a [Named],
+) -> Result<(), AllocError>
+    ensures { IfOk result (λ _. Adds sides.old.items sides.new.items
+        (values_of (map named_view first.now) ++ values_of (map named_view second.now))) }
+{
+    push_labelled(sides, first)?;
+    push_labelled(sides, second)
+}
+
 /// The expressions, and behind them those of an item of a contract.
 fn push_contract_item<'a>(
     sides: &mut Vec<&'a Expr>,
@@ -53,21 +74,11 @@ fn push_contract_item<'a>(
 {
     match item {
         ContractItem::Assume(named) | ContractItem::Guarantee(named) => {
-            sides.push(&named.value)?;
-            Ok(())
+            push_side(sides, &named.value)
         }
-        ContractItem::Ghost(_, value) => {
-            sides.push(value)?;
-            Ok(())
-        }
-        ContractItem::Constant(constant) => {
-            sides.push(&constant.value)?;
-            Ok(())
-        }
-        ContractItem::Mode(_, required, ensured) => {
-            push_labelled(sides, required)?;
-            push_labelled(sides, ensured)
-        }
+        ContractItem::Ghost(_, value) => push_side(sides, value),
+        ContractItem::Constant(constant) => push_side(sides, &constant.value),
+        ContractItem::Mode(_, required, ensured) => push_both_labelled(sides, required, ensured),
         ContractItem::Import(_, _, arguments, _) => push_arguments(sides, arguments),
     }
 }
@@ -88,15 +99,10 @@ fn push_item<'a>(sides: &mut Vec<&'a Expr>, item: &'a Item) -> Result<(), AllocE
     ensures { IfOk result (λ _. Adds sides.old.items sides.new.items (statement_sides (item_view item.now))) }
 {
     match item {
-        Item::Equation(_, value) | Item::Assert(value) => {
-            sides.push(value)?;
-        }
-        Item::Property(named) => {
-            sides.push(&named.value)?;
-        }
-        Item::Main(_) => {}
+        Item::Equation(_, value) | Item::Assert(value) => push_side(sides, value),
+        Item::Property(named) => push_side(sides, &named.value),
+        Item::Main(_) => Ok(()),
     }
-    Ok(())
 }
 
 /// The expressions, and behind them those of the items of a body.

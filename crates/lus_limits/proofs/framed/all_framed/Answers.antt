@@ -6,14 +6,14 @@ use Rattle.lus_streams.specs.Owner.{owner_view}
 use Rattle.lus_limits.specs.Framed.{frame_of, frame_view}
 use Rattle.lus_limits.proofs.Needed.{many_mapped}
 use Rattle.lus_limits.proofs.SystemSizes.{one_more}
-use Rattle.lus_limits.proofs.framed.program_frames.Goals as goal
+use Rattle.lus_limits.proofs.framed.all_framed.Goals as goal
 
 pub loop-number-preserved : goal.loop-number-preserved
 loop-number-preserved c =
-    let m : length (map owner_view c.in_ok-table.table.parts.items) ≡ length c.in_ok-table.table.parts.items =
-    many_mapped owner_view c.in_ok-table.table.parts.items in
+    let m : length (map owner_view c.args.table.now.parts.items) ≡ length c.args.table.now.parts.items =
+    many_mapped owner_view c.args.table.now.parts.items in
     let l : c.loop-number.number < length (components (program_view c.args.program.now)) =
-    omega (arith, c.loop-number-test.true, c.len-number-end.ensures, m, ap length c.in_ok-table.ensures.parts) in
+    omega (arith, c.loop-number-test.true, c.len-number-end.ensures, m, ap length c.requires.known.parts) in
     one_more (frame_of (program_view c.args.program.now)) (components (program_view c.args.program.now)) c.loop-number.number
     (map frame_view c.loop-number.frames.items) (map frame_view c.push.new.self.items) (frame_view c.in_ok-framed.field-0)
     (map (frame_of (program_view c.args.program.now)) (components (program_view c.args.program.now))) l c.in_ok-framed.ensures
