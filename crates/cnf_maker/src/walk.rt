@@ -1,4 +1,5 @@
-//! The walk over a term: operands from left to right before their operator.
+//! The walk over a term: operands from left to right before their operator. What few terms need stands in functions that
+//! are not inlined, so that a level of a deep term takes little of the stack.
 
 ghost use Rattle.std.specs.Prelude.{◌≡◌, true, IfOk};
 ghost use Rattle.sys_terms.specs.View.{term_view, num_view, same, choice, equal, minus, chosen, remainder};
@@ -47,6 +48,7 @@ impl Maker {
 
     /// The literal that says whether the two terms are the same.
     #[cycle(literal)]
+    #[inline(never)]
     fn same_of(
         &mut self,
         alloc: Global,
@@ -64,6 +66,7 @@ impl Maker {
 
     /// The literal of the second term where the first is true, else of the third.
     #[cycle(literal)]
+    #[inline(never)]
     fn choice_of(
         &mut self,
         alloc: Global,
@@ -84,6 +87,7 @@ impl Maker {
 
     /// The literal that says whether the two numbers are equal.
     #[cycle(literal)]
+    #[inline(never)]
     fn equal_of(
         &mut self,
         alloc: Global,
@@ -130,6 +134,7 @@ impl Maker {
 
     /// The linear sum of the first number less the second.
     #[cycle(literal)]
+    #[inline(never)]
     fn difference_of(
         &mut self,
         alloc: Global,
@@ -149,6 +154,7 @@ impl Maker {
 
     /// The linear sum of the first number where the condition is true, else of the second.
     #[cycle(literal)]
+    #[inline(never)]
     fn chosen_of(
         &mut self,
         alloc: Global,
@@ -170,6 +176,7 @@ impl Maker {
 
     /// The linear sum of what a division by d leaves.
     #[cycle(literal)]
+    #[inline(never)]
     fn remainder_of(
         &mut self,
         alloc: Global,
