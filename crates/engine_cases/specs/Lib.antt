@@ -1,2 +1,1 @@
 pub mod Playable
-pub mod Ready

@@ -1,6 +1,6 @@
 //! Systems of numbers, each with one property.
 
-use crate::systems::{Which, free};
+use crate::systems::{Which, system};
 use crate::terms::{
     at_most, choose, choose_number, constant, equal, flag, multiple, next_number, number, plus,
 };
@@ -13,6 +13,12 @@ pub const GREATEST: i128 = 9_223_372_036_854_775_807;
 
 /// 2^62, half of the least number that may not.
 const HALF: i128 = 4_611_686_018_427_387_904;
+
+/// One number without conditions.
+fn free(alloc: Global, property: Term) -> Result<System, AllocError> {
+    let shapes = vec![in alloc; Shape::Number]?;
+    system(alloc, shapes, Vec::new(alloc), Vec::new(alloc), property)
+}
 
 /// The number at the next state is this.
 fn becomes(alloc: Global, variable: u32, value: Num) -> Result<Term, AllocError> {
@@ -30,7 +36,7 @@ pub fn up_to(alloc: Global, variable: u32, most: i128) -> Result<Term, AllocErro
 }
 
 /// The number is at least this.
-pub fn from(alloc: Global, variable: u32, least: i128) -> Result<Term, AllocError> {
+fn from(alloc: Global, variable: u32, least: i128) -> Result<Term, AllocError> {
     at_most(alloc, constant(least), number(variable))
 }
 
@@ -47,7 +53,7 @@ fn grows(alloc: Global) -> Result<Term, AllocError> {
 
 /// A number that counts from 0 on, with this property.
 fn counter(alloc: Global, property: Term) -> Result<System, AllocError> {
-    let mut system = free(alloc, Shape::Number, 1, property)?;
+    let mut system = free(alloc, property)?;
     system.first.push(is(alloc, 0, 0)?)?;
     system.next.push(grows(alloc)?)?;
     Ok(system)
@@ -102,7 +108,7 @@ fn push_lag(alloc: Global, terms: &mut Vec<Term>) -> Result<(), AllocError> {
 /// That the second is at most 3 does not follow from one state, whose first number may be greater; it
 /// follows from two.
 pub fn lagging(alloc: Global) -> Result<System, AllocError> {
-    let mut system = free(alloc, Shape::Number, 1, up_to(alloc, 1, 3)?)?;
+    let mut system = free(alloc, up_to(alloc, 1, 3)?)?;
     system.shapes.push(Shape::Number)?;
     push_zeros(alloc, &mut system.first)?;
     push_lag(alloc, &mut system.next)?;
@@ -119,7 +125,7 @@ fn adds(alloc: Global) -> Result<Term, AllocError> {
 /// at least 0 follows from no number of states, since what is added may be below 0; where it may not, it follows from
 /// one.
 pub fn adding(alloc: Global) -> Result<System, AllocError> {
-    let mut system = free(alloc, Shape::Number, 1, from(alloc, 1, 0)?)?;
+    let mut system = free(alloc, from(alloc, 1, 0)?)?;
     system.shapes.push(Shape::Number)?;
     push_zeros(alloc, &mut system.first)?;
     system.next.push(grows(alloc)?)?;
@@ -144,7 +150,7 @@ fn doubles(alloc: Global) -> Result<Term, AllocError> {
 
 /// A number that is 2^62 at first and doubles. It comes to 2^63 at instant 1, and not with less.
 pub fn doubling(alloc: Global) -> Result<System, AllocError> {
-    let mut system = free(alloc, Shape::Number, 1, up_to(alloc, 0, GREATEST)?)?;
+    let mut system = free(alloc, up_to(alloc, 0, GREATEST)?)?;
     system.first.push(is(alloc, 0, HALF)?)?;
     system.next.push(doubles(alloc)?)?;
     Ok(system)
@@ -153,14 +159,14 @@ pub fn doubling(alloc: Global) -> Result<System, AllocError> {
 /// A number that is any at first and stays. That it is below 2^63 follows from the state before, and
 /// breaks at instant 0 with a larger one alone.
 pub fn kept(alloc: Global) -> Result<System, AllocError> {
-    let mut system = free(alloc, Shape::Number, 1, up_to(alloc, 0, GREATEST)?)?;
+    let mut system = free(alloc, up_to(alloc, 0, GREATEST)?)?;
     system.next.push(becomes(alloc, 0, number(0))?)?;
     Ok(system)
 }
 
 /// A number and a flag that says which of two terms it meets. The property is false.
 fn one_of(alloc: Global, set: Term, clear: Term) -> Result<System, AllocError> {
-    let mut system = free(alloc, Shape::Number, 1, Term::Truth(false))?;
+    let mut system = free(alloc, Term::Truth(false))?;
     system.shapes.push(Shape::Flag)?;
     system.here.push(choose(alloc, flag(1), set, clear)?)?;
     Ok(system)
@@ -184,7 +190,7 @@ pub fn five_or_big(alloc: Global) -> Result<System, AllocError> {
 }
 
 /// Twice the second number and 1.
-pub fn odd(alloc: Global) -> Result<Num, AllocError> {
+fn odd(alloc: Global) -> Result<Num, AllocError> {
     plus(alloc, multiple(alloc, 2, number(1))?, constant(1))
 }
 
@@ -194,7 +200,7 @@ fn first_and_third(alloc: Global) -> Result<Num, AllocError> {
 }
 
 /// Their sum is that.
-pub fn is_odd_sum(alloc: Global) -> Result<Term, AllocError> {
+fn is_odd_sum(alloc: Global) -> Result<Term, AllocError> {
     let odd = odd(alloc)?;
     equal(alloc, first_and_third(alloc)?, odd)
 }
@@ -202,7 +208,7 @@ pub fn is_odd_sum(alloc: Global) -> Result<Term, AllocError> {
 /// Two equal numbers have a sum that is one more than twice another, which no state meets. The numbers have
 /// no ranges, so that no number of splits shows that.
 pub fn halves(alloc: Global) -> Result<System, AllocError> {
-    let mut system = free(alloc, Shape::Number, 1, Term::Truth(false))?;
+    let mut system = free(alloc, Term::Truth(false))?;
     system.shapes.push(Shape::Number)?;
     system.shapes.push(Shape::Number)?;
     system.here.push(equal(alloc, number(0), number(2))?)?;
@@ -220,7 +226,7 @@ fn is_even_difference(alloc: Global) -> Result<Term, AllocError> {
 /// state meets. Fractions meet it. A number that is not whole there depends on ones at no bound, so that there is no
 /// cut, and behind each split, upwards, another number is not whole.
 pub fn odd_and_even(alloc: Global) -> Result<System, AllocError> {
-    let mut system = free(alloc, Shape::Number, 1, Term::Truth(false))?;
+    let mut system = free(alloc, Term::Truth(false))?;
     for _ in 1..4 {
         system.shapes.push(Shape::Number)?;
     }
@@ -239,7 +245,7 @@ fn above(alloc: Global, lower: u32, factor: i128, higher: u32) -> Result<Term, A
 /// at least 3.
 fn climbing(alloc: Global, factor: i128, numbers: u32) -> Result<System, AllocError> {
     let property = at_most(alloc, constant(3), number(numbers))?;
-    let mut system = free(alloc, Shape::Number, 1, property)?;
+    let mut system = free(alloc, property)?;
     system.here.push(at_most(alloc, constant(1), number(0))?)?;
     for lower in 0..numbers {
         system.shapes.push(Shape::Number)?;

@@ -55,12 +55,6 @@ pub fn system(
     })
 }
 
-/// So many variables of a shape and one property, with no condition.
-pub fn free(alloc: Global, shape: Shape, count: u32, property: Term) -> Result<System, AllocError> {
-    let shapes = vec![in alloc; shape; count as usize]?;
-    system(alloc, shapes, Vec::new(alloc), Vec::new(alloc), property)
-}
-
 /// The system of that case.
 pub fn system_of(alloc: Global, which: Which) -> Result<System, AllocError> {
     match which {

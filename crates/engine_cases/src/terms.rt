@@ -16,43 +16,21 @@ pub fn next(number: u32) -> Term {
     Term::Flag(Var { number, next: true })
 }
 
-/// A term in a box.
-fn boxed(alloc: Global, term: Term) -> Result<Box<Term>, AllocError> {
-    Ok(Box::new(alloc, term)?)
-}
-
-/// A number in a box.
-fn boxed_num(alloc: Global, num: Num) -> Result<Box<Num>, AllocError> {
-    Ok(Box::new(alloc, num)?)
-}
-
 /// The opposite of a term.
 pub fn not(alloc: Global, a: Term) -> Result<Term, AllocError> {
-    Ok(Term::Not(boxed(alloc, a)?))
+    Ok(Term::Not(Box::new(alloc, a)?))
 }
 
 /// Both are true.
 pub fn and(alloc: Global, a: Term, b: Term) -> Result<Term, AllocError> {
-    match (boxed(alloc, a), boxed(alloc, b)) {
-        (Ok(a), Ok(b)) => Ok(Term::And(a, b)),
-        _ => Err(AllocError),
-    }
-}
-
-/// One is true, or both.
-pub fn or(alloc: Global, a: Term, b: Term) -> Result<Term, AllocError> {
-    match (not(alloc, a), not(alloc, b)) {
-        (Ok(a), Ok(b)) => apart(alloc, a, b),
-        _ => Err(AllocError),
-    }
+    let a = Box::new(alloc, a)?;
+    Ok(Term::And(a, Box::new(alloc, b)?))
 }
 
 /// The two are equal.
 pub fn same(alloc: Global, a: Term, b: Term) -> Result<Term, AllocError> {
-    match (boxed(alloc, a), boxed(alloc, b)) {
-        (Ok(a), Ok(b)) => Ok(Term::Same(a, b)),
-        _ => Err(AllocError),
-    }
+    let a = Box::new(alloc, a)?;
+    Ok(Term::Same(a, Box::new(alloc, b)?))
 }
 
 /// Exactly one is true.
@@ -62,15 +40,9 @@ pub fn xor(alloc: Global, a: Term, b: Term) -> Result<Term, AllocError> {
 
 /// The second where the first is true, else the third.
 pub fn choose(alloc: Global, c: Term, a: Term, b: Term) -> Result<Term, AllocError> {
-    match (boxed(alloc, c), boxed(alloc, a), boxed(alloc, b)) {
-        (Ok(c), Ok(a), Ok(b)) => Ok(Term::Choose(c, a, b)),
-        _ => Err(AllocError),
-    }
-}
-
-/// Not both.
-pub fn apart(alloc: Global, a: Term, b: Term) -> Result<Term, AllocError> {
-    not(alloc, and(alloc, a, b)?)
+    let c = Box::new(alloc, c)?;
+    let a = Box::new(alloc, a)?;
+    Ok(Term::Choose(c, a, Box::new(alloc, b)?))
 }
 
 /// The number of this variable.
@@ -96,47 +68,30 @@ pub fn constant(value: i128) -> Num {
 
 /// The sum of two numbers.
 pub fn plus(alloc: Global, a: Num, b: Num) -> Result<Num, AllocError> {
-    match (boxed_num(alloc, a), boxed_num(alloc, b)) {
-        (Ok(a), Ok(b)) => Ok(Num::Add(a, b)),
-        _ => Err(AllocError),
-    }
+    let a = Box::new(alloc, a)?;
+    Ok(Num::Add(a, Box::new(alloc, b)?))
 }
 
 /// A number times a factor.
 pub fn multiple(alloc: Global, factor: i128, a: Num) -> Result<Num, AllocError> {
-    Ok(Num::Scale(factor, boxed_num(alloc, a)?))
+    Ok(Num::Scale(factor, Box::new(alloc, a)?))
 }
 
 /// The second where the first is true, else the third.
 pub fn choose_number(alloc: Global, c: Term, a: Num, b: Num) -> Result<Num, AllocError> {
-    match (boxed(alloc, c), boxed_num(alloc, a), boxed_num(alloc, b)) {
-        (Ok(c), Ok(a), Ok(b)) => Ok(Num::Choose(c, a, b)),
-        _ => Err(AllocError),
-    }
+    let c = Box::new(alloc, c)?;
+    let a = Box::new(alloc, a)?;
+    Ok(Num::Choose(c, a, Box::new(alloc, b)?))
 }
 
 /// Whether the one is at most the other.
 pub fn at_most(alloc: Global, a: Num, b: Num) -> Result<Term, AllocError> {
-    match (boxed_num(alloc, a), boxed_num(alloc, b)) {
-        (Ok(a), Ok(b)) => Ok(Term::AtMost(a, b)),
-        _ => Err(AllocError),
-    }
+    let a = Box::new(alloc, a)?;
+    Ok(Term::AtMost(a, Box::new(alloc, b)?))
 }
 
 /// Whether the two are equal.
 pub fn equal(alloc: Global, a: Num, b: Num) -> Result<Term, AllocError> {
-    match (boxed_num(alloc, a), boxed_num(alloc, b)) {
-        (Ok(a), Ok(b)) => Ok(Term::Equal(a, b)),
-        _ => Err(AllocError),
-    }
-}
-
-/// The quotient by a divisor, which is not 0.
-pub fn quotient(alloc: Global, a: Num, divisor: i128) -> Result<Num, AllocError> {
-    Ok(Num::Div(boxed_num(alloc, a)?, divisor))
-}
-
-/// The remainder, from 0 to the divisor's size less 1.
-pub fn remainder(alloc: Global, a: Num, divisor: i128) -> Result<Num, AllocError> {
-    Ok(Num::Mod(boxed_num(alloc, a)?, divisor))
+    let a = Box::new(alloc, a)?;
+    Ok(Term::Equal(a, Box::new(alloc, b)?))
 }

@@ -1,7 +1,7 @@
 //! What is asked of the first property of a system, and what comes of it.
 
 ghost use Rattle.sys_terms.specs.View.{system_view};
-ghost use Rattle.engine_cases.specs.Ready.{IsReady};
+ghost use Rattle.solver_cases.specs.Ready.{IsReady};
 
 use anyhow::Result;
 use cert_rules::{check_base, check_step};

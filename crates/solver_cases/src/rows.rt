@@ -1,11 +1,12 @@
 //! The rows, each with what is asked of its system.
 
-use crate::numbers::{counting, halves as open_twins, lagging, limited};
-use crate::queries::asked::{bases, step};
-use crate::queries::latches::ring;
-use crate::queries::numbers::{division, fours, halves, thirds, total, twins};
-use crate::queries::pigeons::pigeons;
-use crate::queries::small::{crossing, latched, loose, three_way, turning, without_paths};
+use crate::asked::{bases, step};
+use crate::latches::ring;
+use crate::numbers::{
+    counting, division, fours, halves, lagging, limited, open_twins, thirds, total, twins,
+};
+use crate::pigeons::pigeons;
+use crate::small::{crossing, latched, loose, three_way, turning, without_paths};
 use anyhow::Result;
 use proof_steps::Budgets;
 use std::alloc::{AllocError, Global};

@@ -4,8 +4,8 @@ ghost use Rattle.std.specs.Prelude.{◌≡◌, []};
 ghost use Rattle.cert_rules.specs.Kept.{base_machine, base_cites, lemma_machine, lemma_cites};
 ghost use Rattle.board_core.specs.Books.{machine_of};
 
-use crate::book::always::{self, PLAN};
-use crate::book::texts::news_text;
+use crate::always::{self, PLAN};
+use crate::texts::news_text;
 use board_core::{BoardSeat, Book, Chair, Entry};
 use cert_rules::{Base, Lemma, RuleFault};
 use std::alloc::{AllocError, Global};

@@ -1,6 +1,6 @@
 //! A play of two engines that do nothing.
 
-use crate::book::always::{self, PLAN};
+use crate::always::{self, PLAN};
 use crate::sleeper::Sleeper;
 use board_core::play;
 use cert_rules::RuleFault;

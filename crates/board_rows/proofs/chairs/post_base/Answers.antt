@@ -2,8 +2,8 @@ use Rattle.std.proofs.Common.{subst, sym}
 use Rattle.cert_rules.specs.Facts.{AreCited}
 use Rattle.board_core.specs.Entries.{IsTrueAfter, facts_in}
 use Rattle.board_core.specs.View.{entry_view}
-use Rattle.engine_cases.proofs.Cited.{none-cited}
-use Rattle.engine_cases.proofs.book.chairs.post_base.Goals as goal
+use Rattle.board_rows.proofs.Cited.{none-cited}
+use Rattle.board_rows.proofs.chairs.post_base.Goals as goal
 
 pub post-requires-clause-true_one : goal.post-requires-clause-true_one
 post-requires-clause-true_one g c =
