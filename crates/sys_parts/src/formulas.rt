@@ -9,7 +9,7 @@ use std::alloc::{AllocError, Global};
 use sys_terms::{Term, Var};
 
 /// A term in a box.
-pub fn boxed(alloc: Global, term: Term) -> Result<Box<Term>, AllocError>
+pub(crate) fn boxed(alloc: Global, term: Term) -> Result<Box<Term>, AllocError>
     ensures { IfOk result (λ b. term_view b.value ≡ term_view term) }
 {
     Ok(Box::new(alloc, term)?)

@@ -27,14 +27,14 @@ pub fn no_part() -> Part
 }
 
 /// A formula as a part, where there is one.
-pub fn flag_part(term: Result<Term, AllocError>) -> Result<Part, AllocError>
+pub(crate) fn flag_part(term: Result<Term, AllocError>) -> Result<Part, AllocError>
     ensures { (f : Formula) → IfOk term (λ t. term_view t ≡ f) → IfOk result (λ r. part_view r ≡ a_flag f) }
 {
     Ok(Part::Flag(term?))
 }
 
 /// A number as a part, where there is one.
-pub fn number_part(num: Result<Num, AllocError>) -> Result<Part, AllocError>
+pub(crate) fn number_part(num: Result<Num, AllocError>) -> Result<Part, AllocError>
     ensures { (a : Amount) → IfOk num (λ n. num_view n ≡ a) → IfOk result (λ r. part_view r ≡ a_number a) }
 {
     Ok(Part::Number(num?))
