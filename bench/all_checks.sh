@@ -5,7 +5,7 @@
 # one before it but for the first of each ten, and counts the instructions of the program check_cases where it reads and
 # checks the source, less those where it reads it alone; and those of a node of 2,000 equations in the
 # worst order, each of which needs the one behind it. Ends with status 1 where a source is refused, where the checks
-# take 700 instructions a byte or more, or where they do not double with the size.
+# take 700 instructions a byte or more, where they do not double with the size, or where that node takes a second.
 set -eu
 
 top=$(pwd)
@@ -52,11 +52,11 @@ source_of() {
 # A node of 2,000 equations, each of which needs the one behind it.
 worst() {
     awk 'BEGIN {
-        print "node main(a : bool) returns (x_0 : bool);\nvar"
-        for (i = 1; i < 1990; i++) print "  x_" i " : bool;"
+        print "node main() returns (x_0 : bool);\nvar"
+        for (i = 1; i < 2000; i++) print "  x_" i " : bool;"
         print "let"
-        for (i = 0; i < 1989; i++) print "  x_" i " = not x_" i + 1 ";"
-        print "  x_1989 = a;\ntel"
+        for (i = 0; i < 1999; i++) print "  x_" i " = not x_" i + 1 ";"
+        print "  x_1999 = true;\ntel"
     }'
 }
 
@@ -98,4 +98,7 @@ start=$(date +%s.%N)
 end=$(date +%s.%N)
 checked=$(counted checked)
 [ "$(cat "$work/printed")" = taken ] || { cat "$work/printed"; exit 1; }
-echo "worst order: $start $end $((checked - alone))" | awk '{ printf "%s %s %.2f seconds %d instructions\n", $1, $2, $4 - $3, $5 }'
+echo "worst order: $start $end $((checked - alone))" | awk '{
+    printf "%s %s %.2f seconds %d instructions\n", $1, $2, $4 - $3, $5
+    if ($4 - $3 >= 1) exit 1
+}' || { echo "too slow"; exit 1; }

@@ -25,7 +25,7 @@ pub enum Asked {
     Checked,
     /// All is checked: the number of its main node, and the orders of its declarations.
     Orders,
-    /// All is checked: what is known of its main node.
+    /// All is checked: the same, and what is known of its main node.
     Node,
 }
 

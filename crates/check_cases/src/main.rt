@@ -2,8 +2,8 @@
 //! tables `types_` by the check of names, types and numbers, those of `clocks_` by that of clocks too, and the others by
 //! all. Of the others it prints the number of the main node and the orders of the equations of the declarations, or what
 //! is known of the main node. Sources that are made of numbers, or that stand in a file each, near the limits, are
-//! printed with whether they are taken; of one source the names of all properties are. In the tables of types and clocks
-//! a `^` stands for a line's end.
+//! printed with whether they are taken; of one source the names of all properties are. In the tables a `^`
+//! stands for a line's end.
 //!
 //! For the benchmarks, the words `read FILE`, `types FILE`, `clocks FILE` and `checked FILE` have it read that source,
 //! or read and check it so far.
@@ -54,7 +54,7 @@ const CLOCKS: [&str; 10] = [
 const ORDERS: [&str; 3] = ["lefts", "circles", "orders"];
 
 /// The sources that stand in a file each.
-const FILES: [&str; 14] = [
+const FILES: [&str; 16] = [
     "declarations_500",
     "declarations_501",
     "declarations_mixed",
@@ -66,6 +66,8 @@ const FILES: [&str; 14] = [
     "calls_30",
     "modes_10",
     "modes_30",
+    "levels_3600",
+    "levels_4950",
     "owed_500",
     "owed_501",
     "names_before_variables",

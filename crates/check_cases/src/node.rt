@@ -1,6 +1,6 @@
 //! What is known of a main node.
 
-use crate::orders::push_numbers;
+use crate::orders::{orders_text, push_numbers};
 use lus_checked::{Checked, Property, PropertyKind};
 use std::alloc::{AllocError, Global};
 
@@ -23,12 +23,14 @@ fn push_property(alloc: Global, text: &mut String, property: &Property) -> Resul
     text.push_str(item.as_str())
 }
 
-/// How many variables the main node's system has, for each output the inputs on which it depends at the same instant, and
-/// its properties.
+/// The orders of all declarations, how many variables the main node's system has, for each of its outputs the inputs on
+/// which it depends at the same instant, and its properties.
 pub fn node_text(alloc: Global, program: &Checked) -> Result<String, AllocError> {
     let main = program.main();
     let width = program.width(main);
-    let mut text = format!(in alloc; "width {width}, reads")?;
+    let mut text = orders_text(alloc, program)?;
+    let width = format!(in alloc; "; width {width}, reads")?;
+    text.push_str(width.as_str())?;
     for inputs in program.reads(main) {
         push_numbers(alloc, &mut text, inputs.as_slice())?;
     }
