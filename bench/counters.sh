@@ -61,10 +61,39 @@ queries() {
     }'
 }
 
-# The seconds that z3 takes for these queries; a dash where it is not there.
+# The queries of both engines on a register of `$1` flags of which each takes the value of the next, none of them true at
+# first: whether the first one is true at an instant below `$1`, or behind up to as many states in which it is not.
+register_queries() {
+    awk -v count="$1" '
+    function path(to,   i, s) {
+        for (s = 1; s <= to; s++)
+            for (i = 0; i < count; i++) print "(assert (= x" i "_" s " x" (i + 1) % count "_" (s - 1) "))"
+    }
+    function bounded(s,   i) {
+        print "(push)"
+        for (i = 0; i < count; i++) print "(assert (not x" i "_0))"
+        path(s)
+        print "(assert x0_" s ")\n(check-sat)\n(pop)"
+    }
+    function step(k,   s) {
+        print "(push)"
+        path(k)
+        for (s = 0; s < k; s++) print "(assert (not x0_" s "))"
+        print "(assert x0_" k ")\n(check-sat)\n(pop)"
+    }
+    BEGIN {
+        print "(set-logic QF_UF)"
+        for (s = 0; s <= count; s++)
+            for (i = 0; i < count; i++) print "(declare-const x" i "_" s " Bool)"
+        for (s = 0; s < count; s++) bounded(s)
+        for (s = 1; s <= count; s++) step(s)
+    }'
+}
+
+# The seconds that z3 takes for the queries that a command prints; a dash where it is not there.
 rival() {
     command -v z3 >/dev/null || { echo -; return; }
-    queries "$1" "$2" >"$work/queries"
+    "$@" >"$work/queries"
     from=$(date +%s.%N)
     z3 "$work/queries" >"$work/answers"
     echo "$from $(date +%s.%N)" | awk '{ printf "%.2f\n", $2 - $1 }'

@@ -5,7 +5,7 @@
 # after at most five instants, a counter that breaks a property at instant 200, and a shift register of ten
 # steps, whose property is inductive with ten states alone. Prints the seconds of a proof and, where valgrind
 # is there, its instructions; and where z3 is there the seconds that it takes for the queries of the same turns on
-# the counters, written in SMT-LIB: at each instant up to the break, and by induction with as many states. Ends with status 1
+# the counters and the register, written in SMT-LIB: at each instant up to the break, and by induction with as many states. Ends with status 1
 # where an answer is not the one worked out by hand. The word `quick` leaves 25 and 50 counters and the late break out.
 set -eu
 
@@ -49,9 +49,9 @@ if [ "${1-}" = quick ]; then sizes="5 10"; fi
 echo "source seconds instructions z3_seconds"
 for count in $sizes; do
     counters $count >"$work/counters"
-    row "summary valid $count falsifiable $count unknown 0" "counters_$count" "$(rival $count 20)" "$work/counters"
+    row "summary valid $count falsifiable $count unknown 0" "counters_$count" "$(rival queries $count 20)" "$work/counters"
 done
 printf 'node main() returns (n : int);\nlet\n  n = 0 -> pre n + 1;\n  --%%PROPERTY "below" n < 200;\ntel\n' >"$work/late"
-[ "${1-}" = quick ] || row "summary valid 0 falsifiable 1 unknown 0" breaks_at_200 "$(rival late 200)" --depth 200 "$work/late"
+[ "${1-}" = quick ] || row "summary valid 0 falsifiable 1 unknown 0" breaks_at_200 "$(rival queries late 200)" --depth 200 "$work/late"
 register >"$work/register"
-row "summary valid 1 falsifiable 0 unknown 0" register_10 - "$work/register"
+row "summary valid 1 falsifiable 0 unknown 0" register_10 "$(rival register_queries 10)" "$work/register"

@@ -81,7 +81,7 @@ for number in 5 10 25 50; do
     wanted=$(awk -v n=$number 'BEGIN { b = int(n / 5); print "summary valid " n " falsifiable " b " unknown " n - b }')
     [ "$(tail -n 1 "$work/printed")" = "$wanted" ] || { tail -n 1 "$work/printed"; echo "not the answer"; exit 1; }
     count=$(($(counted --depth 1 "$work/counters") - base))
-    awk -v n=$number -v c="$count" -v p="$earlier" -v from="$from" -v to="$to" -v z="$(rival $number 1)" 'BEGIN {
+    awk -v n=$number -v c="$count" -v p="$earlier" -v from="$from" -v to="$to" -v z="$(rival queries $number 1)" 'BEGIN {
         printf "%d %d %.1f %s %.2f %s\n", n, c, c / n, p ? sprintf("%.3f", c / p) : "-", to - from, z
     }'
     earlier=$count

@@ -15,6 +15,9 @@
 # clock that is on once in 1,000 instants, and with modes. A replay may take 2,500 instructions for
 # each equation, with those in callees, or mode at an instant, and is to double with the instants and
 # with the equations. What is done once may grow fourfold where the equations double.
+#
+# Last, the program of the slow clock with that clock on once in 1,000 instants may cost no more than with it always on;
+# and what a replay of a node of nearly 20,000 variables at 1,001 instants holds at most.
 set -eu
 
 top=$(pwd)
@@ -115,15 +118,15 @@ program_of() {
     }'
 }
 
-# A trace of `$1` instants for it, behind whose end line `$2` stands.
+# A trace of `$1` instants for it, behind whose end line `$2` stands; `rare` is true at every `$3`th instant.
 numbers_of() {
-    awk -v count="$1" -v behind="$2" 'BEGIN {
+    awk -v count="$1" -v behind="$2" -v every="$3" 'BEGIN {
         print "trace main " count
         seed = 1
         for (t = 0; t < count; t++) {
             seed = (seed * 16807) % 2147483647
             fast = fast " " (seed % 3 ? "true" : "false")
-            rare = rare " " (t % 1000 == 3 ? "true" : "false")
+            rare = rare " " (t % every == 3 % every ? "true" : "false")
             value = value " " seed % 199 - 99
         }
         print "fast" fast "\nrare" rare "\nvalue" value "\nend" behind
@@ -192,8 +195,8 @@ for instants in 250 500 1001; do
 done
 
 for instants in 1 250 500 1001; do
-    numbers_of $instants "" >"$work/numbers_$instants"
-    numbers_of $instants " x" >"$work/unread_$instants"
+    numbers_of $instants "" 1000 >"$work/numbers_$instants"
+    numbers_of $instants " x" 1000 >"$work/unread_$instants"
 done
 
 # What a replay of the kind's program of `$1` equations on `$2` instants takes more than the reading.
@@ -232,3 +235,38 @@ for kind in numbers clocks calls condacts slow modes; do
         done
     done
 done
+
+# The program of the slow clock where that clock is on once in 1,000 instants, and where it is always on.
+program_of slow 60 >"$work/kind_60"
+slow=$(($(replayed 60 1001) - $(replayed 60 1)))
+for instants in 1 1001; do
+    numbers_of $instants "" 1 >"$work/numbers_$instants"
+    numbers_of $instants " x" 1 >"$work/unread_$instants"
+done
+always=$(($(replayed 60 1001) - $(replayed 60 1)))
+echo "slow clock: $slow instructions, always on: $always"
+[ "$slow" -le "$always" ] || { echo "a slow clock costs more"; exit 1; }
+
+# The most that a replay may be asked for: a node with as many variables as a system may have, at as many instants as
+# a trace may have. Memory is what the program held at most, in MB.
+largest() {
+    awk 'BEGIN {
+        print "node part(a : bool) returns (x_0 : bool);\nvar"
+        for (i = 1; i < 1000; i++) print "  x_" i " : bool;"
+        print "let\n  x_0 = a;"
+        for (i = 1; i < 1000; i++) print "  x_" i " = not x_" i - 1 ";"
+        print "tel\nnode main(a : bool) returns (y : bool);\nlet\n  y = true"
+        for (i = 0; i < 19; i++) print "    and part(a)"
+        print "  ; --%PROPERTY \"some\" y or not y;\ntel"
+    }'
+}
+largest >"$work/largest"
+awk 'BEGIN {
+    print "trace main 1001"
+    printf "a"
+    for (t = 0; t < 1001; t++) printf " true"
+    print "\nend"
+}' >"$work/long"
+if [ -x /usr/bin/time ]; then
+    /usr/bin/time -f "largest: %M KB, %U seconds" "$program" replay "$work/largest" "$work/long"
+fi
