@@ -1,3 +1,4 @@
 pub mod PairRows
 pub mod Ways
 pub mod EquationOrders
+pub mod SlowLocal

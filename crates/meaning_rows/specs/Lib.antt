@@ -17,6 +17,7 @@ pub mod TraceRows
 pub mod SqueezeRows
 pub mod PlacedParts
 pub mod RefusalRows
+pub mod AcceptedRows
 pub mod NeedRows
 pub mod FitRows
 pub mod SortRows

@@ -2,6 +2,7 @@
 //! law, a function without a body whose contract is the row.
 #![tactic(auto)]
 
+mod accepted_rows;
 mod body_rows;
 mod call_rows;
 mod clock_rows;
@@ -23,6 +24,9 @@ mod sort_rows;
 mod squeeze_rows;
 mod trace_rows;
 
+pub use accepted_rows::{
+    accepted_equation_rows, accepted_limit_rows, accepted_name_rows, accepted_type_rows,
+};
 pub use body_rows::{assertion_row, broken_row, free_name_row, toggle_alternates, toggle_row};
 pub use call_rows::{
     calls_everywhere_row, deep_call_row, inner_condact_row, merge_branches_row, sampled_call_row,
