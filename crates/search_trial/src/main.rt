@@ -1,9 +1,10 @@
 //! Runs the search over forms of flags and prints what it answers.
 //!
-//! The first word is how many random forms are tried, each compared with all assignments. Then
-//! the looks of the first answer over a chain of implications are counted. The
+//! The first word is how many random forms are tried, each compared with all assignments and with the
+//! plain search. Then the looks of the first answer over a chain of implications are counted. The
 //! others are files of clauses, a clause a line, of numbers other than 0: n is the flag n - 1, and -n
-//! its opposite. The first file is searched once more at the end, as for the benchmark.
+//! its opposite; on each the plain search answers too. The first file is searched once more at the
+//! end, as for the benchmark.
 //!
 //! For the benchmark of the search, the words `FILE search` have it search through the form of the file and print the answer
 //! with the number of conflicts, and `FILE read` leaves the search out.
@@ -13,6 +14,7 @@
 mod brute;
 mod chain;
 mod clauses;
+mod plain;
 mod random;
 mod trial;
 
@@ -20,6 +22,7 @@ use anyhow::{Result, bail};
 use chain::chain_looks;
 use clauses::read_form;
 use cnf_maker::Cnf;
+use plain::plainly;
 use random::random_forms;
 use std::{env, fs};
 use trial::{Report, answered, tried};
@@ -40,10 +43,19 @@ fn form_of(rt: &HostRuntime, name: &str) -> Result<Cnf> {
     read_form(rt.alloc(), text.as_str())
 }
 
+/// The answer of the plain search, and how many clauses were false on its way.
+fn tell_plain(rt: &HostRuntime, name: &str, form: &Cnf) -> Result<()> {
+    let (met, conflicts) = plainly(rt.alloc(), form)?;
+    let answer = if met { "full" } else { "empty" };
+    println!(rt; "{name} by the plain search: {answer}, conflicts {conflicts}")?;
+    Ok(())
+}
+
 /// Tries the form of a file.
 fn try_file(rt: &HostRuntime, name: &str) -> Result<()> {
     let form = form_of(rt, name)?;
-    tell(rt, name, tried(rt.alloc(), &form)?)
+    tell(rt, name, tried(rt.alloc(), &form)?)?;
+    tell_plain(rt, name, &form)
 }
 
 /// Searches through the form of a file.
@@ -64,8 +76,9 @@ fn only_read(rt: &HostRuntime, name: &str) -> Result<()> {
 /// Tries so many random forms, and the files.
 fn try_all(rt: &HostRuntime, number: &str, names: &[String]) -> Result<()> {
     let count: u32 = number.parse()?;
-    let right = random_forms(rt.alloc(), count)?;
+    let (right, alike) = random_forms(rt.alloc(), count)?;
     println!(rt; "{right} of {count} random forms answered right")?;
+    println!(rt; "{alike} of {count} random forms answered alike by the plain search")?;
     let (first, looks) = chain_looks(rt.alloc())?;
     println!(rt; "chain of 9999 implications: {first} first, {looks} looks")?;
     for name in names {

@@ -1,5 +1,6 @@
 use crate::brute::solutions;
 use crate::clauses::form;
+use crate::plain::plainly;
 use crate::trial::{Report, counted, tried};
 use anyhow::Result;
 use cnf_maker::Cnf;
@@ -45,10 +46,11 @@ fn is_right(report: Report, solutions: u32) -> bool {
 }
 
 /// How many of so many random forms are answered as all assignments answer them, also where each
-/// solution that is found is excluded by a clause more.
-pub fn random_forms(alloc: Global, count: u32) -> Result<u32> {
+/// solution that is found is excluded by a clause more; and how many as the plain search answers them.
+pub fn random_forms(alloc: Global, count: u32) -> Result<(u32, u32)> {
     let mut state = 1;
     let mut right = 0u32;
+    let mut alike = 0u32;
     for _ in 0..count {
         let flags = next(&mut state) % 8 + 1;
         let form = random_form(alloc, &mut state, flags)?;
@@ -57,6 +59,10 @@ pub fn random_forms(alloc: Global, count: u32) -> Result<u32> {
         if is_right(report, solutions) && counted(alloc, &form, flags)? == solutions {
             right = right.saturating_add(1);
         }
+        let (met, _) = plainly(alloc, &form)?;
+        if met == (report.answer == "full") {
+            alike = alike.saturating_add(1);
+        }
     }
-    Ok(right)
+    Ok((right, alike))
 }
