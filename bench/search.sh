@@ -1,8 +1,9 @@
 #!/bin/sh
-# What the search costs, beside minisat on the same files where it is there: conflicts, seconds and
-# instructions by propagation, for pigeon holes, random clauses of three literals near the threshold of 4.26 clauses
-# a variable, ten seeds each, and a chain of 10,000 implications. Instructions need valgrind, and are
-# those of the search less those of reading the file alone. The word `quick` takes three seeds.
+# What the search costs, beside minisat on the same files where it is there: conflicts, seconds,
+# instructions by propagation, and conflicts and propagations a second, for pigeon holes, random
+# clauses of three literals near the threshold of 4.26 clauses a variable, ten seeds each, and a chain
+# of 10,000 implications. Instructions need valgrind, and are those of the search less those of reading
+# the file alone; seconds are those of a whole run. The word `quick` takes three seeds.
 set -eu
 cd "$(dirname "$0")/../crates/search_trial"
 rt run -- data/four.cnf search >/dev/null 2>&1
@@ -78,12 +79,15 @@ row() {
     answer=$(cat "$work/out")
     whole=$(counted "$program" "$2" search)
     read=$(counted "$program" "$2" read)
-    echo "$1 $answer $time" $whole $read $(theirs "$2") | awk '{
+    echo "$1 $answer $time" $whole $read $(theirs "$2") | awk '
+    function rate(count, seconds) { return seconds > 0 ? sprintf("%.0f", count / seconds) : "-" }
+    {
         spent = $5 - $7
         each = $6 > 0 ? spent / $6 : 0
         theirs = $12 > 0 ? $11 / $12 : 0
-        printf "%-14s %-13s %8s %8s %12.0f %8s %6.0f | %8s %8s %12s %8s %6.0f %5.2f\n",
-            $1, $2, $3, $4, spent, $6, each, $9, $10, $11, $12, theirs, (theirs > 0 ? each / theirs : 0)
+        printf "%-14s %-13s %8s %8s %12.0f %8s %6.0f | %8s %8s %12s %8s %6.0f %5.2f | %8s %9s %8s %9s\n",
+            $1, $2, $3, $4, spent, $6, each, $9, $10, $11, $12, theirs, (theirs > 0 ? each / theirs : 0),
+            rate($3, $4), rate($6, $4), rate($9, $10), rate($12, $10)
     }' | tee -a "$work/rows"
 }
 
@@ -98,7 +102,8 @@ medians() {
 }
 
 echo "file, answer, conflicts, seconds, instructions, literals put on the trail, instructions for each |"
-echo "minisat: conflicts, seconds, instructions, propagations, instructions for each; ratio of these"
+echo "minisat: conflicts, seconds, instructions, propagations, instructions for each; ratio of these |"
+echo "conflicts and propagations a second; those of minisat"
 for n in 6 7 8; do
     pigeons $n >"$work/pigeons$n"
     row "pigeons$n" "$work/pigeons$n"
