@@ -1,7 +1,7 @@
 -- The trace of a path that breaks a property, as it is written and read back.
-use Rattle.std.proofs.Common.{◌≡◌, ◌≤◌, ℕ, suc, pred, List, length, slice_get, Some, None, sym, ap, ◌∙◌, subst}
-use Rattle.std.specs.Prelude.{Contains}
-use Rattle.std.specs.List.{AllByRecursion}
+use Rattle.std.proofs.Common.{◌≡◌, ◌≤◌, ℕ, suc, pred, List, [], ◌∷◌, ◌++◌, map, length, slice_get, Some, None, refl, sym, ap, ◌∙◌, subst}
+use Rattle.std.specs.Prelude.{Contains, codes, decimal}
+use Rattle.std.specs.List.{AllByRecursion, flat_map}
 use Rattle.lus_tree.specs.Tree.{Program, Component}
 use Rattle.lus_tree.specs.Lookup.{nodes_of}
 use Rattle.lus_meaning.specs.Frame.{Frame}
@@ -9,13 +9,13 @@ use Rattle.lus_meaning.specs.Contract.{Property}
 use Rattle.lus_meaning.specs.Program.{instance_of}
 use Rattle.lus_meaning.specs.Property.{properties}
 use Rattle.lus_meaning.specs.Verdict.{Breaks}
-use Rattle.lus_meaning.specs.Trace.{IsFrameOf}
-use Rattle.lus_meaning.specs.TraceView.{Listing, lines_of}
+use Rattle.lus_meaning.specs.Trace.{BareLine, IsFrameOf}
+use Rattle.lus_meaning.specs.TraceView.{Listing, PlacedLine, bare_line, lines_of}
 use Rattle.lus_meaning.specs.Fits.{FitsProgram, FitsNode, first_named}
 use Rattle.lus_meaning.specs.Replay.{Shown, Replays, ReplaysTrace}
 use Rattle.lus_meaning.specs.ClockFaults.{components}
 use Rattle.lus_meaning.specs.Refusals.{IsChecked}
-use Rattle.trace_text.specs.Traces.{IsTraceText, trace_text}
+use Rattle.trace_text.specs.Traces.{IsTraceText, line_text, trace_text}
 use Rattle.trace_text.specs.Laws.{SameButPlaces}
 use Rattle.sys_terms.specs.declared.term.Entry.{Entry}
 use Rattle.sys_terms.specs.Paths as paths
@@ -45,6 +45,22 @@ replays_as p s t e w r = record {
       (subst (λ ls. Replays (instance_of p r.node) ls s.length w) e.lines r.replays);
 }
 
+-- what is written of a trace is the same, too
+text_by : List ℕ → ℕ → List BareLine → List ℕ
+text_by x n ls = codes "trace " ++ (x ++ 32 ∷ (decimal n ++ 10 ∷ (flat_map line_text ls ++ codes "end\n")))
+
+lines_text : (ls : List PlacedLine) → flat_map (λ l. line_text (bare_line l)) ls ≡ flat_map line_text (map bare_line ls)
+lines_text [] = refl
+lines_text (l ∷ ls) = ap (λ z. line_text (bare_line l) ++ z) (lines_text ls)
+
+by_lines : (t : Listing) → trace_text t ≡ text_by t.node t.length (lines_of t)
+by_lines t = ap (λ z. codes "trace " ++ (t.node ++ 32 ∷ (decimal t.length ++ 10 ∷ (z ++ codes "end\n")))) (lines_text t.lines)
+
+text_as : (s t : Listing) → SameButPlaces s t → trace_text s ≡ trace_text t
+text_as s t e =
+    by_lines s ∙ ap (λ x. text_by x s.length (lines_of s)) e.node ∙ ap (λ n. text_by t.node n (lines_of s)) e.length
+    ∙ ap (text_by t.node t.length) e.lines ∙ sym (by_lines t)
+
 same_property : (qs : List Property) (k : ℕ) (q r : Property) → slice_get qs k ≡ Some q → slice_get qs k ≡ Some r → q ≡ r
 same_property qs k q r e f = cc
 
@@ -70,7 +86,7 @@ module _ (traces : EachHasTraces) (breaks : EachBreaks) (replays : EachReplays) 
       let frame : Frame = frame_of_path (instance_of p d) states in
       record {
         lines = each;
-        text = record { trace = read; read = readable; lists = record { node = same.node ∙ is.node; length = many; lines = listed } };
+        text = record { trace = read; read = readable; written = text ∙ sym (text_as read t same); lists = record { node = same.node ∙ is.node; length = many; lines = listed } };
         breaks = λ q found. record {
           trace = read;
           read = readable;

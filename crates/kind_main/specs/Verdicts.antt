@@ -18,7 +18,7 @@ use Rattle.lus_meaning.specs.Replay.{Shown, ReplaysTrace}
 use Rattle.lus_evaluation.specs.Outcome.{StaysWithin}
 use Rattle.source_laws.specs.Laws.{AreIdentified}
 use Rattle.path_traces.specs.Printed.{PrintedPlace, printed_place}
-use Rattle.trace_text.specs.Traces.{IsTraceText}
+use Rattle.trace_text.specs.Traces.{IsTraceText, trace_text}
 use Rattle.trace_text.specs.Words.{subject_text}
 use Rattle.sys_terms.specs.declared.term.Entry.{Entry}
 use Rattle.sys_terms.specs.View.{Machine}
@@ -83,10 +83,11 @@ pub record AreTrueCauses (m : Machine) (o : Options) (book : List Posting) (k : 
 
 -- ---- when it is the book's
 
--- The text is a trace that lists what the trace of this path does.
+-- The text is a trace that lists what the trace of this path does, written as traces are.
 pub record IsTextOf (p : Program) (d : Component) (states : List (List Entry)) (text : List ℕ) : Type 0 where
   pub trace : Listing
   pub read : IsTraceText text trace
+  pub written : text ≡ trace_text trace
   pub lists : IsTraceOf p d states trace
 
 -- the book's verdict is that an entry holds the property

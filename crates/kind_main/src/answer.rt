@@ -1,5 +1,5 @@
 //! The answer to the words: how their command ends, where memory is found, and what is printed of it.
-ghost use Rattle.std.specs.Prelude.{◌≡◌, ◌∷◌, [], map, IfOk, IsSomeAnd};
+ghost use Rattle.std.specs.Prelude.{◌≡◌, ◌∷◌, [], List, map, IfOk, IsSomeAnd, ℕ};
 ghost use Rattle.std.specs.String.{string_bytes};
 ghost use Rattle.kind_main.specs.Ending.{IfEnded, ending_of, lines_view, Shows};
 ghost use Rattle.kind_main.specs.Answer.{EndsSo, IsAnswer};
@@ -13,10 +13,11 @@ use crate::words::{Command, read_words};
 use kind_io::Shelf;
 use std::alloc::{AllocError, Global};
 
-/// Carries out the command of the words. The shelf is left as the calls on it left it.
+/// Carries out the command of the words. What the shelf tells of each name stays the same.
 fn carried_out<H: Shelf>(alloc: Global, words: &[String], shelf: &mut H) -> Result<Report, Stopped>
-    ensures { IfEnded (EndsSo (H.told shelf.old) (H.faults shelf.old) (H.faults shelf.new)
+    ensures ended { IfEnded (EndsSo (H.told shelf.old) (H.faults shelf.old) (H.faults shelf.new)
         (map string_bytes words.now)) result }
+    ensures names { (name : List ℕ) → H.told shelf.new name ≡ H.told shelf.old name }
 {
     match read_words(words) {
         None => Err(Stopped::Usage),
@@ -66,8 +67,9 @@ pub fn answer_to<H: Shelf>(
     words: &[String],
     shelf: &mut H,
 ) -> Result<Report, AllocError>
-    ensures { IfOk result (λ r. IsAnswer (H.told shelf.old) (H.faults shelf.old) (H.faults shelf.new) (map string_bytes words.now)
+    ensures answer { IfOk result (λ r. IsAnswer (H.told shelf.old) (H.faults shelf.old) (H.faults shelf.new) (map string_bytes words.now)
         (lines_view r.lines.items) r.status.code) }
+    ensures names { (name : List ℕ) → H.told shelf.new name ≡ H.told shelf.old name }
 {
     let ended = carried_out(alloc, words, shelf);
     printed(alloc, ended)

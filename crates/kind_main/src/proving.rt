@@ -1,5 +1,5 @@
 //! The command `prove`.
-ghost use Rattle.std.specs.Prelude.{◌≡◌, ◌≤◌, IfOk, Some};
+ghost use Rattle.std.specs.Prelude.{◌≡◌, ◌≤◌, IfOk, List, Some, ℕ};
 ghost use Rattle.lus_tree.specs.Lookup.{node_at};
 ghost use Rattle.lus_tree.specs.View.{node_view, program_view};
 ghost use Rattle.lus_checked.specs.Program.{main_of, tree_of};
@@ -70,7 +70,7 @@ fn main_node(checked: &Checked) -> &Node
     }
 }
 
-/// Decides the properties of a source.
+/// Decides the properties of a source. What the shelf tells of each name stays the same.
 pub fn prove_file<H: Shelf>(
     alloc: Global,
     source: &str,
@@ -78,7 +78,8 @@ pub fn prove_file<H: Shelf>(
     shelf: &mut H,
 ) -> Result<Report, Stopped>
     requires { IsInRange options }
-    ensures { IfEnded (EndsProof options (H.told shelf.old) (H.faults shelf.old) (H.faults shelf.new) source.now) result }
+    ensures ended { IfEnded (EndsProof options (H.told shelf.old) (H.faults shelf.old) (H.faults shelf.new) source.now) result }
+    ensures names { (name : List ℕ) → H.told shelf.new name ≡ H.told shelf.old name }
 {
     identified_sources();
     let bytes = fetch(alloc, source, shelf)?;

@@ -1,5 +1,5 @@
 //! The command `replay`.
-ghost use Rattle.std.specs.Prelude.{◌≡◌, ◌≤◌, ◌<◌, ◌∷◌, [], Some, length, IfOk, MatchResult};
+ghost use Rattle.std.specs.Prelude.{◌≡◌, ◌≤◌, ◌<◌, ◌∷◌, [], List, Some, length, IfOk, MatchResult, ℕ};
 ghost use Rattle.lus_tree.specs.Lookup.{node_at, nodes_of};
 ghost use Rattle.lus_tree.specs.View.{node_view};
 ghost use Rattle.lus_meaning.specs.Fits.{FitsProgram};
@@ -132,15 +132,16 @@ fn replay_report(alloc: Global, checked: &Checked, trace: &Trace) -> Result<Repo
     }
 }
 
-/// Replays a trace on a source.
+/// Replays a trace on a source. What the shelf tells of each name stays the same.
 pub fn replay_files<H: Shelf>(
     alloc: Global,
     source: &str,
     trace: &str,
     shelf: &mut H,
 ) -> Result<Report, Stopped>
-    ensures { IfEnded (EndsReplay (H.told shelf.old) (H.faults shelf.old)
+    ensures ended { IfEnded (EndsReplay (H.told shelf.old) (H.faults shelf.old)
         (H.faults shelf.new) source.now trace.now) result }
+    ensures names { (name : List ℕ) → H.told shelf.new name ≡ H.told shelf.old name }
 {
     let bytes = fetch(alloc, source, shelf)?;
     let checked = read_source(alloc, &bytes)?;

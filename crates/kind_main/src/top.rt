@@ -13,8 +13,9 @@ use std::alloc::Global;
 
 /// Answers the words and prints the answer.
 fn run<H: Shelf, K: Sink>(alloc: Global, words: &[String], shelf: &mut H, out: &mut K) -> Status
-    ensures { Leaves (H.told shelf.old) (H.faults shelf.old) (H.faults shelf.new) (map string_bytes words.now)
+    ensures leaves { Leaves (H.told shelf.old) (H.faults shelf.old) (H.faults shelf.new) (map string_bytes words.now)
         (K.faults out.old) (K.faults out.new) (K.written out.old) (K.written out.new) result.code }
+    ensures names { (name : List ℕ) → H.told shelf.new name ≡ H.told shelf.old name }
 {
     match answer_to(alloc, words, shelf) {
         Ok(answer) => print(&answer.lines, answer.status, out),
@@ -29,8 +30,8 @@ fn run<H: Shelf, K: Sink>(alloc: Global, words: &[String], shelf: &mut H, out: &
 /// some is unknown. The words
 /// `replay FILE TRACE` replay a trace on a source: the status is 1 where some property breaks, 10
 /// where none does, and 9 where a value is outside 128 bits. It is 2 for all other words, 3 where the source or the trace is refused, 5 where
-/// a file could not be read, 6 where a line could not be written, and 7 for want of memory. The shelf
-/// and the sink are left as the calls on them left them.
+/// a file could not be read, 6 where a line could not be written, and 7 for want of memory. What the
+/// shelf tells of each name stays the same; the sink is left as the calls on it left it.
 pub fn kind_top<H: Shelf, K: Sink>(
     alloc: Global,
     words: &[String],
@@ -67,6 +68,8 @@ pub fn kind_top<H: Shelf, K: Sink>(
         (map string_bytes words.now) (K.written out.old) (K.written out.new) }
     // There is no other status, and those of a proof or of a replay come for it alone.
     ensures known { IsKnown (map string_bytes words.now) result.code }
+    // No file is changed: what the shelf tells of each name stays the same.
+    ensures names { (name : List ℕ) → H.told shelf.new name ≡ H.told shelf.old name }
 {
     run(alloc, words, shelf, out)
 }

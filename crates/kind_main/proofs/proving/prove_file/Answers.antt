@@ -4,8 +4,8 @@ use Rattle.kind_main.proofs.Answering.{stop_as, handed_on, held_source}
 use Rattle.kind_main.proofs.Proofs.{analysed_main, proof_of_bad_source, proof_done}
 use Rattle.kind_main.proofs.proving.prove_file.Goals as goal
 
-pub returns-in_err-checked : goal.returns-in_err-checked
-returns-in_err-checked g c =
+pub returns-in_err-checked-clause-ended : goal.returns-in_err-checked-clause-ended
+returns-in_err-checked-clause-ended g c =
     let held = c.in_ok-bytes.ensures.fetched in
     let stopped = rw c.deref.ensures.value at c.in_err-checked.ensures in
     handed_on _ _ _ c.from_residual-in_err-checked.ensures.1
@@ -18,8 +18,8 @@ proof_report-requires-clause-analysed g c =
     rw same (analysed_main c.identified_sources.ensures c.in_ok-bytes.bytes.items (tree_of c.in_ok-checked.checked) read.0 read.1
     (main_of c.in_ok-checked.checked) (node_view c.main_node-node.result.now) c.main_node-node.ensures)
 
-pub returns : goal.returns
-returns g c =
+pub returns-clause-ended : goal.returns-clause-ended
+returns-clause-ended g c =
     let held = c.in_ok-bytes.ensures.fetched in
     let read = rw c.deref.ensures.value at c.in_ok-checked.ensures in
     let same = c.program-program.ensures.same in

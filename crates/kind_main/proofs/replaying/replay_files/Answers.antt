@@ -3,15 +3,15 @@ use Rattle.lus_meaning.specs.TraceView.{trace_view}
 use Rattle.kind_main.proofs.Answering.{stop_as, handed_on, held_source, bad_source, no_trace, bad_trace, replay_ends}
 use Rattle.kind_main.proofs.replaying.replay_files.Goals as goal
 
-pub returns-in_err-checked : goal.returns-in_err-checked
-returns-in_err-checked g c =
+pub returns-in_err-checked-clause-ended : goal.returns-in_err-checked-clause-ended
+returns-in_err-checked-clause-ended g c =
     let held = c.in_ok-bytes.ensures.fetched in
     let stopped = rw c.deref.ensures.value at c.in_err-checked.ensures in
     handed_on _ _ _ c.from_residual-in_err-checked.ensures.1
     (stop_as _ _ (bad_source (g.H.Shelf.told c.args.shelf.now) _ _ c.args.source.now c.args.trace.now c.in_ok-bytes.bytes.items held.0 held.1) _ stopped)
 
-pub returns-in_err-bytes-2 : goal.returns-in_err-bytes-2
-returns-in_err-bytes-2 g c =
+pub returns-in_err-bytes-2-clause-ended : goal.returns-in_err-bytes-2-clause-ended
+returns-in_err-bytes-2-clause-ended g c =
     let held = c.in_ok-bytes.ensures.fetched in
     let read = rw c.deref.ensures.value at c.in_ok-checked.ensures in
     handed_on _ _ _ c.from_residual-in_err-bytes-2.ensures.1
@@ -19,8 +19,8 @@ returns-in_err-bytes-2 g c =
     (held_source _ (tree_of c.in_ok-checked.checked) c.in_ok-bytes.bytes.items held.0 held.1 read.0 read.1)
     _ c.in_ok-bytes.ensures.later _ (c.in_ok-bytes.ensures.names c.args.trace.now)) _ c.in_err-bytes-2.ensures.fetched)
 
-pub returns-in_err-trace : goal.returns-in_err-trace
-returns-in_err-trace g c =
+pub returns-in_err-trace-clause-ended : goal.returns-in_err-trace-clause-ended
+returns-in_err-trace-clause-ended g c =
     let held = c.in_ok-bytes.ensures.fetched in
     let read = rw c.deref.ensures.value at c.in_ok-checked.ensures in
     let listed = c.in_ok-bytes-2.ensures.fetched in
@@ -30,8 +30,8 @@ returns-in_err-trace g c =
     (held_source _ (tree_of c.in_ok-checked.checked) c.in_ok-bytes.bytes.items held.0 held.1 read.0 read.1)
     _ (c.in_ok-bytes.ensures.names c.args.trace.now) c.in_ok-bytes-2.bytes.items listed.0 listed.1) _ stopped)
 
-pub returns : goal.returns
-returns g c =
+pub returns-clause-ended : goal.returns-clause-ended
+returns-clause-ended g c =
     let held = c.in_ok-bytes.ensures.fetched in
     let read = rw c.deref.ensures.value at c.in_ok-checked.ensures in
     let listed = c.in_ok-bytes-2.ensures.fetched in
