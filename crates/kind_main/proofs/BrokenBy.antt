@@ -46,7 +46,7 @@ replays_as p s t e w r = record {
 }
 
 -- what is written of a trace is the same, too
-text_by : List ℕ → ℕ → List BareLine → List ℕ
+abbrev text_by : List ℕ → ℕ → List BareLine → List ℕ
 text_by x n ls = codes "trace " ++ (x ++ 32 ∷ (decimal n ++ 10 ∷ (flat_map line_text ls ++ codes "end\n")))
 
 lines_text : (ls : List PlacedLine) → flat_map (λ l. line_text (bare_line l)) ls ≡ flat_map line_text (map bare_line ls)
