@@ -10,7 +10,8 @@ use Rattle.sys_terms.specs.Paths.{AreTrue, IsTrueAt}
 use Rattle.cert_rules.specs.Facts.{Fact, base_fact, step_fact, lemma_fact, held_fact, held_by_fact, other_fact, Citation, IsTerm, IsLemmaOf, AreCited, terms_of}
 use Rattle.board_core.specs.declared.plan.Plan.{Plan}
 use Rattle.board_core.specs.Entries.{Claim, proved, broken, stuck, spent, Posting, facts_in, fact_in, AreSound, AreTermsAt, IsTrueAfter, term_at, LemmasTrueOn}
-use Rattle.board_core.specs.View.{Told, said_by, told_from}
+use Rattle.board_core.specs.declared.statement.News.{News}
+use Rattle.board_core.specs.View.{Told, said_by, told_from, news_view}
 use Rattle.board_core.specs.Seats.{Begins}
 use Rattle.kind_engine.specs.Lemmas.{AreLemmas, IsToldOf, told_term}
 use Rattle.cert_rules.specs.declared.cited.Cited.{Cited}
@@ -281,3 +282,61 @@ told-each history from (i ∷ rest) same = (
 pub all-told : (history : List Posting) (front : ℕ)
     → AllByRecursion (IsToldOf history) (told_from front (drop front history))
 all-told history front = told-each history front (drop front history) (dropped front history)
+
+-- What is left of what is told: entries in order, the first at most at the front, the last at the end of the history.
+pub record IsLeft (long front : ℕ) (told : List Told) : Type 0 where
+  pub place : ℕ
+  pub rest : List Posting
+  pub same : told ≡ told_from place rest
+  pub ends : long ≤ place + length rest
+  pub taken : place ≤ front
+
+pub left-all : (history : List Posting) (from front : ℕ) → from ≤ front
+    → IsLeft (length history) front (told_from from (drop from history))
+left-all history from front l = record {
+  place = from;
+  rest = drop from history;
+  same = refl;
+  ends = reach from history;
+  taken = l;
+} where
+  reach : (k : ℕ) (xs : List Posting) → length xs ≤ k + length (drop k xs)
+  reach zero xs = omega arith
+  reach (suc k) [] = omega arith
+  reach (suc k) (x ∷ xs) = let r = reach k xs in omega arith
+
+-- the next one is not behind the front; where it is taken up, the rest is left
+pub left-next : (long front : ℕ) (t : Told) (ts : List Told) → IsLeft long front (t ∷ ts)
+    → (t.place ≤ front) × ((after : ℕ) → t.place < after → IsLeft long after ts)
+left-next long front t ts h = by h.rest h.same h.ends where
+  by : (rest : List Posting) → t ∷ ts ≡ told_from h.place rest → long ≤ h.place + length rest
+      → (t.place ≤ front) × ((after : ℕ) → t.place < after → IsLeft long after ts)
+  by [] e l = absurd cc
+  by (i ∷ rest) e l =
+      let at : t.place ≡ h.place = ap first e in
+      let same : ts ≡ told_from (suc h.place) rest = ap others e in (
+        subst (λ n. n ≤ front) (sym at) h.taken,
+        λ after b. record {
+          place = suc h.place;
+          rest = rest;
+          same = same;
+          ends = omega arith;
+          taken = omega (arith, at, b);
+        },
+      )
+    where
+      first : List Told → ℕ
+      first [] = 0
+      first (x ∷ xs) = x.place
+
+      others : List Told → List Told
+      others [] = []
+      others (x ∷ xs) = xs
+
+pub left-none : (long front : ℕ) (news : List News) → length news ≡ 0 → IsLeft long front (map news_view news)
+    → long ≤ front
+left-none long front (n ∷ news) e h = absurd cc
+left-none long front [] e h = by h.rest h.same h.ends where
+  by : (rest : List Posting) → [] ≡ told_from h.place rest → long ≤ h.place + length rest → long ≤ front
+  by [] e l = let t = h.taken in omega arith
+  by (i ∷ rest) e l = absurd cc

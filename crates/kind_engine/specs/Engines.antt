@@ -37,6 +37,14 @@ turns_of plan (Some s) = (plan.depth + 2) - s.turn
 abbrev pub worker_steps : Worker → ℕ
 worker_steps w = turns_of (worker_plan w) w.1
 
+-- the front of the lemmas that it has taken up; 0 where it does not search
+abbrev pub front_in : Option Search → ℕ
+front_in None = 0
+front_in (Some s) = s.lemmas.front
+
+abbrev pub worker_front : Worker → ℕ
+worker_front w = front_in w.1
+
 abbrev pub IsSearchIf : Machine → Plan → List Posting → ℕ → Option Search → Type 0
 IsSearchIf m plan known engine None = Unit
 IsSearchIf m plan known engine (Some s) = IsSearch m plan known engine s

@@ -1,12 +1,13 @@
 //! Searches that ended before their depth.
 
-ghost use Rattle.std.specs.Prelude.{◌≡◌, true, IfOk, OnOk};
+ghost use Rattle.std.specs.Prelude.{◌≡◌, ℕ, true, IfOk, OnOk};
 ghost use Rattle.sys_terms.specs.View.{states_view};
 ghost use Rattle.cert_rules.specs.View.{proofs_view};
 ghost use Rattle.board_core.specs.Entries.{IsTrueAfter, spent};
 ghost use Rattle.board_core.specs.View.{cause_view, grounds_view};
 ghost use Rattle.board_core.specs.Seats.{Begins, has_cause};
 ghost use Rattle.kind_engine.specs.Halts.{paths_view, halted_grounds, open_grounds};
+ghost use Rattle.kind_engine.specs.Stucks.{Grows};
 
 use crate::looking::Open;
 use crate::posting::post_spent;
@@ -112,6 +113,7 @@ pub(crate) fn post_halted<B: BoardSeat>(
     ensures front { B.front seat.new ≡ B.front seat.old }
     ensures reads { B.reads seat.new ≡ B.reads seat.old }
     ensures seen { OnOk result (Begins (B.seen seat.old) (B.seen seat.new)) }
+    ensures stuck { OnOk result ((least : ℕ) → Grows (B.number seat.old) least (B.seen seat.old) (B.seen seat.new)) }
     ensures cause { OnOk result (has_cause (B.number seat.old) engine property (B.seen seat.new) ≡ true) }
 {
     let kept = kept(alloc, halted)?;

@@ -9,7 +9,8 @@ ghost use Rattle.board_core.specs.Entries.{Posting};
 ghost use Rattle.board_core.specs.Seats.{Begins, DecidesAll, HasCauses};
 ghost use Rattle.board_core.specs.declared.engine.Progress.TheVariants.{More, Spent, Decided};
 ghost use Rattle.kind_engine.specs.Tasks.{AreTasks};
-ghost use Rattle.kind_engine.specs.Engines.{worker_machine, worker_plan, worker_known, worker_steps};
+ghost use Rattle.kind_engine.specs.Stucks.{Grows};
+ghost use Rattle.kind_engine.specs.Engines.{worker_machine, worker_plan, worker_known, worker_steps, worker_front};
 
 use crate::lemmas::{Lemmas, read_lemmas};
 use crate::subject::Subject;
@@ -82,6 +83,7 @@ impl StepEngine {
         ensures plan { IfOk result (λ e. worker_plan e ≡ plan) }
         ensures known { IfOk result (λ e. worker_known e ≡ []) }
         ensures left { IfOk result (λ e. worker_steps e ≡ plan.depth + 1) }
+        ensures front { IfOk result (λ e. worker_front e ≡ 0) }
     {
         let Ok(count) = u32::try_from(system.properties.len()) else {
             return Err(EngineFault::Memory(AllocError));
@@ -119,7 +121,9 @@ impl Engine for StepEngine {
 
     ghost steps = { λ e. worker_steps e };
 
-    /// As `Engine` says; besides, a turn reads once.
+    /// As `Engine` says; besides, a turn reads once. Where the engine has taken up all that the reads at
+    /// this seat have answered, as a new engine has at a new seat, it has so after the turn, and a path at
+    /// which it is stuck has a front no less than the length of what the seat had seen before the turn.
     fn turn<B: BoardSeat>(&mut self, alloc: Global, seat: &mut B) -> Result<Progress, EngineFault>
         requires machine { worker_machine self.old ≡ B.machine seat.old }
         requires plan { worker_plan self.old ≡ B.plan seat.old }
@@ -142,6 +146,9 @@ impl Engine for StepEngine {
         ensures falls { result ≡ Ok More → worker_steps self.new < worker_steps self.old }
 
         ensures reads { OnOk result (B.reads seat.new ≡ B.reads seat.old + 1) }
+        ensures stuck { OnOk result (B.front seat.old ≤ worker_front self.old
+            → Grows (B.number seat.old) (length (B.seen seat.old)) (B.seen seat.old) (B.seen seat.new)) }
+        ensures taken { OnOk result (B.front seat.old ≤ worker_front self.old → B.front seat.new ≤ worker_front self.new) }
     {
         let Some(search) = self.search.take() else {
             return Err(EngineFault::Memory(AllocError));

@@ -1,6 +1,6 @@
 //! The lemmas that an engine cites.
 
-ghost use Rattle.std.specs.Prelude.{◌≡◌, ◌+◌, List, length, map, option_map, IfOk, OnOk};
+ghost use Rattle.std.specs.Prelude.{◌≡◌, ◌<◌, ◌≤◌, ◌+◌, ℕ, List, length, map, option_map, IfOk, OnOk};
 ghost use Rattle.sys_terms.specs.View.{Machine, term_view, terms_view};
 ghost use Rattle.cert_rules.specs.View.{cites_view, cited_terms};
 ghost use Rattle.board_core.specs.declared.plan.Plan.{Plan as Options};
@@ -8,6 +8,7 @@ ghost use Rattle.board_core.specs.Entries.{Posting, AreSound};
 ghost use Rattle.board_core.specs.View.{news_view, statement_view};
 ghost use Rattle.board_core.specs.Seats.{Begins};
 ghost use Rattle.kind_engine.specs.Lemmas.{AreLemmas, IsToldOf, told_term};
+ghost use Rattle.kind_engine.specs.Stucks.{Grows};
 
 use board_core::{BoardSeat, EngineFault, News, Statement};
 use cert_rules::Cited;
@@ -58,11 +59,14 @@ fn told_lemma(statement: Statement) -> Option<Term>
     }
 }
 
-/// With the entry that is told. An entry that is not the next one leaves them as they are.
+/// With the entry that is told. One that is not the next leaves them as they are.
 fn with_news(lemmas: Lemmas, news: News) -> Result<Lemmas, AllocError>
-    ensures { IfOk result (λ r. (m : Machine) (plan : Options) (history : List Posting) → AreSound m plan history
-        → IsToldOf history (news_view news) → AreLemmas m history lemmas.front (cites_view lemmas.cites.items)
+    ensures lemmas { IfOk result (λ r. (m : Machine) (plan : Options) (history : List Posting)
+        → AreSound m plan history → IsToldOf history (news_view news)
+        → AreLemmas m history lemmas.front (cites_view lemmas.cites.items)
         → AreLemmas m history r.front (cites_view r.cites.items)) }
+    ensures stays { IfOk result (λ r. lemmas.front ≤ r.front) }
+    ensures taken { IfOk result (λ r. news.place ≤ lemmas.front → news.place < r.front) }
 {
     let Lemmas { front, mut cites } = lemmas;
     let News {
@@ -70,8 +74,11 @@ fn with_news(lemmas: Lemmas, news: News) -> Result<Lemmas, AllocError>
         statement,
         ..
     } = news;
-    if place != front || front == u64::MAX {
+    if place != front {
         return Ok(Lemmas { front, cites });
+    }
+    if front == u64::MAX {
+        return Err(AllocError);
     }
     match told_lemma(statement) {
         Some(term) => {
@@ -88,7 +95,7 @@ fn with_news(lemmas: Lemmas, news: News) -> Result<Lemmas, AllocError>
     }
 }
 
-/// Reads, and takes up each lemma that is told.
+/// Reads, and takes up each lemma that is told. Where they have all below the read front, they have then all that is seen.
 pub(crate) fn read_lemmas<B: BoardSeat>(
     alloc: Global,
     seat: &mut B,
@@ -100,8 +107,10 @@ pub(crate) fn read_lemmas<B: BoardSeat>(
     ensures front { OnOk result (B.front seat.new ≡ length (B.seen seat.new)) }
     ensures reads { OnOk result (B.reads seat.new ≡ B.reads seat.old + 1) }
     ensures seen { OnOk result (Begins (B.seen seat.old) (B.seen seat.new)) }
+    ensures stuck { OnOk result ((least : ℕ) → Grows (B.number seat.old) least (B.seen seat.old) (B.seen seat.new)) }
     ensures lemmas { IfOk result (λ r. AreLemmas (B.machine seat.new) (B.seen seat.new) r.front
         (cites_view r.cites.items)) }
+    ensures taken { IfOk result (λ r. B.front seat.old ≤ lemmas.front → length (B.seen seat.new) ≤ r.front) }
 {
     let news = seat.read(alloc)?;
     let mut lemmas = lemmas;

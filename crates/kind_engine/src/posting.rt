@@ -1,12 +1,13 @@
 //! Posts at a seat.
 
-ghost use Rattle.std.specs.Prelude.{◌≡◌, slice_get, true, IfOk, OnOk};
+ghost use Rattle.std.specs.Prelude.{◌≡◌, ℕ, slice_get, true, IfOk, OnOk};
 ghost use Rattle.sys_terms.specs.View.{states_view};
 ghost use Rattle.cert_rules.specs.Facts.{AreCited, AreNamed, IsStepOf, held_fact};
 ghost use Rattle.cert_rules.specs.Kept.{base_machine, base_property, base_instant, base_cites, step_machine, step_property, step_k, step_cites, held_machine, held_at};
 ghost use Rattle.board_core.specs.Entries.{IsBroken, IsBaseTo, IsDepth, IsTrueAfter, facts_in, spent, stuck};
 ghost use Rattle.board_core.specs.View.{cause_view, grounds_view};
 ghost use Rattle.board_core.specs.Seats.{Begins, Decides, has_cause};
+ghost use Rattle.kind_engine.specs.Stucks.{Grows};
 
 use board_core::{BoardSeat, Cause, EngineFault, Entry, Kept};
 use cert_rules::{Base, Held, Step};
@@ -24,6 +25,7 @@ pub(crate) fn post_broken<B: BoardSeat>(
     ensures front { B.front seat.new ≡ B.front seat.old }
     ensures reads { B.reads seat.new ≡ B.reads seat.old }
     ensures seen { OnOk result (Begins (B.seen seat.old) (B.seen seat.new)) }
+    ensures stuck { OnOk result ((least : ℕ) → Grows (B.number seat.old) least (B.seen seat.old) (B.seen seat.new)) }
     ensures decided { OnOk result (Decides (B.seen seat.new) property) }
 {
     seat.post(Entry::broken(property, path))?;
@@ -39,6 +41,7 @@ pub(crate) fn post_base<B: BoardSeat>(seat: &mut B, base: Base) -> Result<u64, E
     ensures front { B.front seat.new ≡ B.front seat.old }
     ensures reads { B.reads seat.new ≡ B.reads seat.old }
     ensures seen { OnOk result (Begins (B.seen seat.old) (B.seen seat.new)) }
+    ensures stuck { OnOk result ((least : ℕ) → Grows (B.number seat.old) least (B.seen seat.old) (B.seen seat.new)) }
     ensures base { IfOk result (λ place. IsBaseTo (base_property base) (base_instant base)
         (slice_get (facts_in (B.seen seat.new)) place)) }
 {
@@ -61,6 +64,7 @@ pub(crate) fn post_spent<B: BoardSeat>(
     ensures front { B.front seat.new ≡ B.front seat.old }
     ensures reads { B.reads seat.new ≡ B.reads seat.old }
     ensures seen { OnOk result (Begins (B.seen seat.old) (B.seen seat.new)) }
+    ensures stuck { OnOk result ((least : ℕ) → Grows (B.number seat.old) least (B.seen seat.old) (B.seen seat.new)) }
     ensures cause { OnOk result (has_cause (B.number seat.old) engine property (B.seen seat.new) ≡ true) }
 {
     seat.post(Entry::spent(engine, property, cause, kept))?;
@@ -76,6 +80,7 @@ pub(crate) fn post_step<B: BoardSeat>(seat: &mut B, step: Step) -> Result<u64, E
     ensures front { B.front seat.new ≡ B.front seat.old }
     ensures reads { B.reads seat.new ≡ B.reads seat.old }
     ensures seen { OnOk result (Begins (B.seen seat.old) (B.seen seat.new)) }
+    ensures stuck { OnOk result ((least : ℕ) → Grows (B.number seat.old) least (B.seen seat.old) (B.seen seat.new)) }
     ensures step { IfOk result (λ place. IsStepOf (step_property step) (step_k step)
         (slice_get (facts_in (B.seen seat.new)) place)) }
 {
@@ -99,6 +104,7 @@ pub(crate) fn post_held<B: BoardSeat>(
     ensures front { B.front seat.new ≡ B.front seat.old }
     ensures reads { B.reads seat.new ≡ B.reads seat.old }
     ensures seen { OnOk result (Begins (B.seen seat.old) (B.seen seat.new)) }
+    ensures stuck { OnOk result ((least : ℕ) → Grows (B.number seat.old) least (B.seen seat.old) (B.seen seat.new)) }
     ensures decided { OnOk result (Decides (B.seen seat.new) property) }
 {
     seat.post(Entry::held(held, first, second))?;
@@ -119,6 +125,7 @@ pub(crate) fn post_stuck<B: BoardSeat>(
     ensures front { B.front seat.new ≡ B.front seat.old }
     ensures reads { B.reads seat.new ≡ B.reads seat.old }
     ensures seen { OnOk result (Begins (B.seen seat.old) (B.seen seat.new)) }
+    ensures stuck { OnOk result (Grows (B.number seat.old) front (B.seen seat.old) (B.seen seat.new)) }
     ensures depth { OnOk result (IsDepth (B.seen seat.new) 1 property (B.plan seat.old).depth) }
 {
     seat.post(Entry::stuck(property, path, front))?;

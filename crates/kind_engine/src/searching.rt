@@ -1,11 +1,12 @@
 //! Bounded search: one instant further.
 
-ghost use Rattle.std.specs.Prelude.{◌≡◌, ◌<◌, ◌≤◌, [], length, suc, IfOk, OnOk};
+ghost use Rattle.std.specs.Prelude.{◌≡◌, ◌<◌, ◌≤◌, ℕ, [], length, suc, IfOk, OnOk};
 ghost use Rattle.sys_terms.specs.View.{system_view};
 ghost use Rattle.cert_rules.specs.View.{proofs_view};
 ghost use Rattle.cert_rules.specs.Facts.{AreBases};
 ghost use Rattle.board_core.specs.Seats.{Begins};
 ghost use Rattle.kind_engine.specs.Ready.{IsReady};
+ghost use Rattle.kind_engine.specs.Stucks.{Grows};
 ghost use Rattle.kind_engine.specs.Tasks.{IsTask};
 
 use crate::checking::base_of;
@@ -39,6 +40,7 @@ fn refuted<B: BoardSeat>(
     ensures front { B.front seat.new ≡ B.front seat.old }
     ensures reads { B.reads seat.new ≡ B.reads seat.old }
     ensures seen { OnOk result (Begins (B.seen seat.old) (B.seen seat.new)) }
+    ensures stuck { OnOk result ((least : ℕ) → Grows (B.number seat.old) least (B.seen seat.old) (B.seen seat.new)) }
     ensures task { IfOk result (λ t. IsTask (system_view subject.now.system) subject.now.plan (B.seen seat.new)
         subject.now.engine (length proofs.items) property t) }
 {
@@ -69,6 +71,7 @@ pub(crate) fn at_next_instant<B: BoardSeat>(
     ensures front { B.front seat.new ≡ B.front seat.old }
     ensures reads { B.reads seat.new ≡ B.reads seat.old }
     ensures seen { OnOk result (Begins (B.seen seat.old) (B.seen seat.new)) }
+    ensures stuck { OnOk result ((least : ℕ) → Grows (B.number seat.old) least (B.seen seat.old) (B.seen seat.new)) }
     ensures task { IfOk result (λ t. IsTask (system_view subject.now.system) subject.now.plan (B.seen seat.new)
         subject.now.engine (suc (length proofs.items)) property t) }
 {

@@ -1,6 +1,6 @@
 //! Induction: one state more.
 
-ghost use Rattle.std.specs.Prelude.{◌≡◌, ◌<◌, ◌≤◌, length, suc, IfOk, OnOk};
+ghost use Rattle.std.specs.Prelude.{◌≡◌, ◌<◌, ◌≤◌, ℕ, length, suc, IfOk, OnOk};
 ghost use Rattle.proof_steps.specs.View.{proof_view};
 ghost use Rattle.sys_terms.specs.View.{system_view, states_view, step};
 ghost use Rattle.cert_rules.specs.View.{cites_view, cited_terms, proofs_view};
@@ -9,6 +9,7 @@ ghost use Rattle.board_core.specs.Seats.{Begins, Decides};
 ghost use Rattle.kind_engine.specs.Ready.{IsReady};
 ghost use Rattle.kind_engine.specs.Lemmas.{AreLemmas};
 ghost use Rattle.kind_engine.specs.Steps.{IsAtStep};
+ghost use Rattle.kind_engine.specs.Stucks.{Grows};
 ghost use Rattle.kind_engine.specs.Tasks.{IsTask};
 
 use crate::asking::step_after;
@@ -53,6 +54,7 @@ fn hold<B: BoardSeat>(
     ensures front { B.front seat.new ≡ B.front seat.old }
     ensures reads { B.reads seat.new ≡ B.reads seat.old }
     ensures seen { OnOk result (Begins (B.seen seat.old) (B.seen seat.new)) }
+    ensures stuck { OnOk result ((least : ℕ) → Grows (B.number seat.old) least (B.seen seat.old) (B.seen seat.new)) }
     ensures decided { OnOk result (Decides (B.seen seat.new) property) }
 {
     let base = base_of(alloc, subject, &lemmas.cites, property, k - 1, proofs)?;
@@ -88,6 +90,7 @@ fn founded<B: BoardSeat>(
     ensures front { B.front seat.new ≡ B.front seat.old }
     ensures reads { B.reads seat.new ≡ B.reads seat.old }
     ensures seen { OnOk result (Begins (B.seen seat.old) (B.seen seat.new)) }
+    ensures stuck { OnOk result ((least : ℕ) → Grows (B.number seat.old) least (B.seen seat.old) (B.seen seat.new)) }
     ensures task { IfOk result (λ t. IsTask (system_view subject.now.system) subject.now.plan (B.seen seat.new)
         subject.now.engine (suc k) property t) }
 {
@@ -134,6 +137,7 @@ pub(crate) fn at_next_step<B: BoardSeat>(
     ensures front { B.front seat.new ≡ B.front seat.old }
     ensures reads { B.reads seat.new ≡ B.reads seat.old }
     ensures seen { OnOk result (Begins (B.seen seat.old) (B.seen seat.new)) }
+    ensures stuck { OnOk result (Grows (B.number seat.old) lemmas.now.front (B.seen seat.old) (B.seen seat.new)) }
     ensures task { IfOk result (λ t. IsTask (system_view subject.now.system) subject.now.plan (B.seen seat.new)
         subject.now.engine (suc k) property t) }
 {

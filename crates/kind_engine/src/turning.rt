@@ -1,6 +1,6 @@
 //! A turn after its read.
 
-ghost use Rattle.std.specs.Prelude.{◌≡◌, ◌<◌, ◌≤◌, length, suc, take, true, false, Some, IfOk, OnOk};
+ghost use Rattle.std.specs.Prelude.{◌≡◌, ◌<◌, ◌≤◌, ℕ, length, suc, take, true, false, Some, IfOk, OnOk};
 ghost use Rattle.sys_terms.specs.View.{system_view};
 ghost use Rattle.cert_rules.specs.View.{cites_view};
 ghost use Rattle.board_core.specs.Seats.{Begins, DecidesAll, HasCauses, has_cause};
@@ -8,6 +8,7 @@ ghost use Rattle.board_core.specs.Verdicts.{decides};
 ghost use Rattle.board_core.specs.declared.engine.Progress.TheVariants.{More, Spent, Decided};
 ghost use Rattle.kind_engine.specs.Ready.{IsReady};
 ghost use Rattle.kind_engine.specs.Lemmas.{AreLemmas};
+ghost use Rattle.kind_engine.specs.Stucks.{Grows};
 ghost use Rattle.kind_engine.specs.Tasks.{IsTask, AreTasks, IsSearch};
 ghost use Rattle.kind_engine.specs.Engines.{turns_of};
 
@@ -56,6 +57,7 @@ fn advanced<B: BoardSeat>(
     ensures front { B.front seat.new ≡ B.front seat.old }
     ensures reads { B.reads seat.new ≡ B.reads seat.old }
     ensures seen { OnOk result (Begins (B.seen seat.old) (B.seen seat.new)) }
+    ensures stuck { OnOk result (Grows (B.number seat.old) lemmas.now.front (B.seen seat.old) (B.seen seat.new)) }
     ensures task { IfOk result (λ t. IsTask (system_view subject.now.system) subject.now.plan (B.seen seat.new)
         subject.now.engine (suc turn) property t) }
 {
@@ -92,6 +94,7 @@ fn all_advanced<B: BoardSeat>(
     ensures front { B.front seat.new ≡ B.front seat.old }
     ensures reads { B.reads seat.new ≡ B.reads seat.old }
     ensures seen { OnOk result (Begins (B.seen seat.old) (B.seen seat.new)) }
+    ensures stuck { OnOk result (Grows (B.number seat.old) lemmas.now.front (B.seen seat.old) (B.seen seat.new)) }
     ensures count { IfOk result (λ ts. length ts.items ≡ length (system_view subject.now.system).properties) }
     ensures tasks { IfOk result (λ ts. AreTasks (system_view subject.now.system) subject.now.plan (B.seen seat.new)
         subject.now.engine (suc turn) 0 ts.items) }
@@ -121,6 +124,7 @@ fn report<B: BoardSeat>(
     ensures front { B.front seat.new ≡ B.front seat.old }
     ensures reads { B.reads seat.new ≡ B.reads seat.old }
     ensures seen { OnOk result (Begins (B.seen seat.old) (B.seen seat.new)) }
+    ensures stuck { OnOk result ((least : ℕ) → Grows (B.number seat.old) least (B.seen seat.old) (B.seen seat.new)) }
     ensures cause { OnOk result (has_cause (B.number seat.old) subject.now.engine property (B.seen seat.new) ≡ true) }
 {
     match task {
@@ -157,6 +161,7 @@ fn report_all<B: BoardSeat>(
     ensures front { B.front seat.new ≡ B.front seat.old }
     ensures reads { B.reads seat.new ≡ B.reads seat.old }
     ensures seen { OnOk result (Begins (B.seen seat.old) (B.seen seat.new)) }
+    ensures stuck { OnOk result ((least : ℕ) → Grows (B.number seat.old) least (B.seen seat.old) (B.seen seat.new)) }
     ensures causes { OnOk result (HasCauses (B.seen seat.old) (B.seen seat.new) (B.number seat.old)
         (Some subject.now.engine) (length (system_view subject.now.system).properties)) }
 {
@@ -192,8 +197,10 @@ pub(crate) fn after_read<B: BoardSeat>(
     ensures front { B.front seat.new ≡ B.front seat.old }
     ensures reads { B.reads seat.new ≡ B.reads seat.old }
     ensures seen { OnOk result (Begins (B.seen seat.old) (B.seen seat.new)) }
+    ensures stuck { OnOk result (Grows (B.number seat.old) search.lemmas.front (B.seen seat.old) (B.seen seat.new)) }
     ensures search { IfOk result (λ r. IsSearch (system_view subject.now.system) subject.now.plan
         (B.seen seat.new) subject.now.engine r.search) }
+    ensures lemmas { IfOk result (λ r. r.search.lemmas.front ≡ search.lemmas.front) }
     ensures decided { IfOk result (λ r. r.progress ≡ Decided
         → DecidesAll (B.seen seat.old) (length (system_view subject.now.system).properties)) }
     ensures at_once { IfOk result (λ r.

@@ -5,7 +5,7 @@ use Rattle.cert_rules.specs.View.{cites_view}
 use Rattle.board_core.specs.Entries.{AreSound}
 use Rattle.board_core.specs.View.{news_view}
 use Rattle.kind_engine.specs.Lemmas.{AreLemmas, IsToldOf}
-use Rattle.kind_engine.proofs.Citing.{all-told, lemmas-later}
+use Rattle.kind_engine.proofs.Citing.{all-told, lemmas-later, IsLeft, left-all, left-next, left-none}
 use Rattle.kind_engine.proofs.lemmas.read_lemmas.Goals as goal
 
 pub loop-entry-init : goal.loop-entry-init
@@ -25,6 +25,9 @@ loop-entry-init g c =
           (lemmas-later (b.machine c.args.seat.now) before after c.args.lemmas.front cites (e.seen.others, e.seen.all)
           c.requires.known);
       told = subst (AllByRecursion (IsToldOf after)) (sym (ap (map news_view) items ∙ e.news)) (all-told after front);
+      left = λ l.
+          subst (IsLeft (length after) c.args.lemmas.front) (sym (ap (map news_view) items ∙ e.news))
+          (left-all after front c.args.lemmas.front l);
       rest = long;
     }
 
@@ -42,8 +45,20 @@ loop-entry-preserved g c =
     let told = subst (λ l. AllByRecursion (IsToldOf seen) (map news_view l)) steps v.told in
     let long : length (into_iter_items at.entry-iterator) ≡ suc (length rest) = ap length steps in
     record {
-      lemmas = c.in_ok-lemmas.ensures m (b.plan c.args.seat.now) seen
+      lemmas = c.in_ok-lemmas.ensures.lemmas m (b.plan c.args.seat.now) seen
           (subst (λ k. AreSound k (b.plan c.args.seat.now) seen) (sym e.same.1) e.sound) told.0 v.lemmas;
       told = told.1;
+      left = λ l.
+          let now' = subst (λ es. IsLeft (length seen) at.lemmas.front (map news_view es)) steps (v.left l) in
+          let next = left-next (length seen) at.lemmas.front (news_view c.in-Some.entry) (map news_view rest) now' in
+          next.1 c.in_ok-lemmas.lemmas.front (c.in_ok-lemmas.ensures.taken next.0);
       rest = let k = v.rest in let s = c.in-Some.ensures.steps.1 in omega (arith, long, k, s);
     }
+
+pub returns-clause-taken : goal.returns-clause-taken
+returns-clause-taken g c =
+    let seen = g.B.BoardSeat.seen c.read.new.self in
+    let at = c.loop-entry in
+    let v = at.invariant in
+    let none : length (into_iter_items at.entry-iterator) ≡ 0 = let k = v.rest in search (rules, arith) in
+    λ l. left-none (length seen) at.lemmas.front (into_iter_items at.entry-iterator) none (v.left l)

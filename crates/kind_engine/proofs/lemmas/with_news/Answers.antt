@@ -9,8 +9,8 @@ use Rattle.kind_engine.proofs.Lists.{map-push}
 use Rattle.kind_engine.proofs.Citing.{lemmas-skip, lemmas-take}
 use Rattle.kind_engine.proofs.lemmas.with_news.Goals as goal
 
-pub returns-in_ok-push-in-Some : goal.returns-in_ok-push-in-Some
-returns-in_ok-push-in-Some c =
+pub returns-in_ok-push-in-Some-clause-lemmas : goal.returns-in_ok-push-in-Some-clause-lemmas
+returns-in_ok-push-in-Some-clause-lemmas c =
     let front = c.args.lemmas.front in
     let cites = c.args.lemmas.cites.items in
     let term = c.in-Some.term in
@@ -26,8 +26,8 @@ returns-in_ok-push-in-Some c =
     (sym (ap cites_view e ∙ (map-push cited_view cites one ∙ ap (λ x. cites_view cites ++ x ∷ []) same)))
     (lemmas-take m plan history sound front (cites_view cites) h (news_view c.args.news) told at (term_view term) said)
 
-pub returns-in-None : goal.returns-in-None
-returns-in-None c =
+pub returns-in-None-clause-lemmas : goal.returns-in-None-clause-lemmas
+returns-in-None-clause-lemmas c =
     let front = c.args.lemmas.front in
     let at : c.args.news.place ≡ front = search rules in
     let said : told_term (statement_view c.args.news.statement) ≡ None =

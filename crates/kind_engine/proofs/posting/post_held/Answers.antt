@@ -2,6 +2,9 @@ use Rattle.std.proofs.Common.{subst, sym, ap, ◌∙◌}
 use Rattle.board_core.specs.Entries.{IsTrueAfter, proved}
 use Rattle.board_core.specs.Seats.{HasPosted}
 use Rattle.kind_engine.proofs.Histories.{held-by}
+use Rattle.board_core.specs.View.{entry_view}
+use Rattle.kind_engine.specs.Stucks.{IsBehind}
+use Rattle.kind_engine.proofs.Stucks.{grows-posted}
 use Rattle.kind_engine.proofs.posting.post_held.Goals as goal
 
 pub post-requires-clause-true_one : goal.post-requires-clause-true_one
@@ -19,3 +22,11 @@ returns-clause-decided g c =
     held-by (b.number c.args.seat.now) c.args.property c.args.first c.args.second seen after c.in_ok-post.field-0
     (subst (λ s. HasPosted (b.number c.args.seat.now) seen after s c.in_ok-post.field-0)
     (c.held.ensures.says ∙ ap proved c.requires.says) c.in_ok-post.ensures.ok)
+
+pub returns-clause-stuck : goal.returns-clause-stuck
+returns-clause-stuck g c =
+    let b = g.B.BoardSeat in
+    λ least.
+    grows-posted (b.number c.args.seat.now) least (b.seen c.args.seat.now) (b.seen c.post.new.self)
+    (entry_view c.held.result) c.in_ok-post.field-0 c.in_ok-post.ensures.ok
+    (subst (IsBehind least) (sym c.held.ensures.says) tt)

@@ -8,6 +8,7 @@ use Rattle.board_core.proofs.Turns.{begins-begins}
 use Rattle.kind_engine.proofs.Citing.{cited-later}
 use Rattle.kind_engine.proofs.Histories.{named-by}
 use Rattle.kind_engine.proofs.Lists.{on-ok}
+use Rattle.kind_engine.proofs.Stucks.{grows-then}
 use Rattle.kind_engine.proofs.stepping.hold.Goals as goal
 
 pub post_step-requires-clause-cited : goal.post_step-requires-clause-cited
@@ -49,3 +50,20 @@ returns-clause-seen g c =
     (begins-begins before second after
     (begins-begins before first second c.in_ok-first.ensures.seen c.in_ok-second.ensures.seen))
     c.post_held.ensures.seen
+
+pub returns-clause-stuck : goal.returns-clause-stuck
+returns-clause-stuck g c =
+    let b = g.B.BoardSeat in
+    let number = b.number c.args.seat.now in
+    let before = b.seen c.args.seat.now in
+    let first = b.seen c.post_base.new.seat in
+    let second = b.seen c.post_step.new.seat in
+    let after = b.seen c.post_held.new.seat in
+    let f = c.in_ok-first.ensures in
+    let s = c.in_ok-second.ensures in
+    on-ok c.post_held.result
+    (λ h least.
+    grows-then number (b.number c.post_step.new.seat) least before second after (s.seat.0 ∙ f.seat.0)
+    (grows-then number (b.number c.post_base.new.seat) least before first second f.seat.0 (f.stuck least) (s.stuck least))
+    (h least))
+    c.post_held.ensures.stuck

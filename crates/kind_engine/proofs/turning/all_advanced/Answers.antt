@@ -7,6 +7,7 @@ use Rattle.cert_rules.specs.View.{cites_view}
 use Rattle.kind_engine.proofs.Citing.{lemmas-later}
 use Rattle.kind_engine.proofs.Lists.{length-push}
 use Rattle.kind_engine.proofs.Tasks.{all-push, tasks-later}
+use Rattle.kind_engine.proofs.Stucks.{grows-then, grows-self}
 use Rattle.kind_engine.proofs.turning.all_advanced.Goals as goal
 
 pub loop-task-preserved : goal.loop-task-preserved
@@ -42,6 +43,8 @@ loop-task-preserved g c =
       count = let k = v.count in omega (arith, n, long, k);
       rest = let k = v.rest in let s = c.in-Some.ensures.steps.1 in omega (arith, long, k, s);
       seen = begins-begins (b.seen c.args.seat.now) before after v.seen grown;
+      grown = grows-then (b.number c.args.seat.now) (b.number at.seat) c.args.lemmas.now.front (b.seen c.args.seat.now)
+          before after v.number v.grown c.in_ok-advanced.ensures.stuck;
       number = c.in_ok-advanced.ensures.seat.0 ∙ v.number;
       machine = c.in_ok-advanced.ensures.seat.1 ∙ v.machine;
       plan = c.in_ok-advanced.ensures.seat.2 ∙ v.plan;

@@ -8,6 +8,7 @@ use Rattle.kind_engine.proofs.Lists.{below-next}
 use Rattle.kind_engine.proofs.Histories.{read-front, cause-later}
 use Rattle.kind_engine.proofs.Tasks.{task-of}
 use Rattle.kind_engine.proofs.turning.report_all.Goals as goal
+use Rattle.kind_engine.proofs.Stucks.{grows-then}
 use Rattle.kind_engine.proofs.turning.report_all.Goals.{then-not-decided+in_ok-report, else-not-decided}
 
 pub report-requires-clause-task : goal.report-requires-clause-task
@@ -44,6 +45,8 @@ loop-property-preserved g c =
                 (λ q l d. cause-later number engine q before after e.seen (v.causes q l d))
                 (λ d. subst (λ n. has_cause n engine at.property after ≡ true) v.number e.cause);
             seen = begins-begins read before after v.seen e.seen;
+            grown = λ least. grows-then number (b.number at.seat) least read before after v.number (v.grown least)
+                (e.stuck least);
             number = e.seat.0 ∙ v.number;
             machine = e.seat.1 ∙ v.machine;
             plan = e.seat.2 ∙ v.plan;
@@ -60,6 +63,7 @@ loop-property-preserved g c =
             causes = below-next at.property (λ q. decides q read ≡ false → has_cause number engine q before ≡ true)
                 v.causes (λ f. absurd cc);
             seen = v.seen;
+            grown = v.grown;
             number = v.number;
             machine = v.machine;
             plan = v.plan;

@@ -1,18 +1,19 @@
-use Rattle.std.proofs.Common.{rules, ◌≡◌, ◌<◌, true, false, length, ◌∙◌, ap, subst, sym}
+use Rattle.std.proofs.Common.{rules, ◌≡◌, ◌<◌, true, false, length, ◌∙◌, ap, subst, sym, arith, ◌≤◌}
 use Rattle.std.specs.Prelude.{Some, Ok}
 use Rattle.sys_terms.specs.View.{Machine, system_view}
 use Rattle.board_core.specs.Seats.{Begins, Decides, has_cause}
 use Rattle.board_core.specs.Verdicts.{decides}
-use Rattle.board_core.proofs.Turns.{begins-begins, begins-self}
+use Rattle.board_core.proofs.Turns.{begins-begins, begins-self, begins-length}
 use Rattle.cert_rules.specs.View.{cites_view}
 use Rattle.kind_engine.specs.declared.task.Search.{Search}
 use Rattle.kind_engine.specs.Lemmas.{AreLemmas}
-use Rattle.kind_engine.specs.Engines.{Worker, IsSearchIf, worker_known, worker_machine, known_in}
+use Rattle.kind_engine.specs.Engines.{Worker, IsSearchIf, worker_known, worker_machine, known_in, worker_front, front_in}
 use Rattle.kind_engine.specs.Tasks.{IsSearch}
 use Rattle.kind_engine.proofs.Citing.{lemmas-later}
 use Rattle.kind_engine.proofs.Histories.{read-front}
 use Rattle.kind_engine.proofs.Lists.{ok-same}
 use Rattle.kind_engine.proofs.Tasks.{tasks-later}
+use Rattle.kind_engine.proofs.Stucks.{grows-then, grows-less}
 use Rattle.kind_engine.proofs.induction.StepEngineEngine.turn.Goals as goal
 
 pub read_lemmas-requires : goal.read_lemmas-requires
@@ -110,3 +111,25 @@ returns-clause-spent g c =
     (subst (λ k. has_cause (b.number c.read_lemmas.new.seat) k p seen ≡ true) c.self.invariant.number
     (e.spent (ok-same _ _ ok) p (subst (λ (k : Machine). p < length k.properties) machine l)
     (subst (λ h. decides p h ≡ false) front u)))
+
+pub returns-clause-stuck : goal.returns-clause-stuck
+returns-clause-stuck g c =
+    let b = g.B.BoardSeat in
+    let number = b.number c.args.seat.now in
+    let before = b.seen c.args.seat.now in
+    let read = b.seen c.read_lemmas.new.seat in
+    let after = b.seen c.after_read.new.seat in
+    let was = c.in-Some.search in
+    let lemmas = c.in_ok-lemmas.lemmas in
+    let l = c.in_ok-lemmas.ensures in
+    let e : c.self.inside.search ≡ Some was = search rules in
+    λ h.
+    let at : b.front c.args.seat.now ≤ was.lemmas.front =
+    subst (λ o. b.front c.args.seat.now ≤ front_in o) e
+    (subst (λ (w : Worker). b.front c.args.seat.now ≤ worker_front w) (sym c.self.view_is) h) in
+    let long = begins-length before read l.seen in
+    let taken = l.taken at in
+    grows-then number (b.number c.read_lemmas.new.seat) (length before) before read after l.seat.0
+    (l.stuck (length before))
+    (grows-less (b.number c.read_lemmas.new.seat) lemmas.front (length before) read after (omega (arith, long, taken))
+    c.in_ok-progress.ensures.stuck)
