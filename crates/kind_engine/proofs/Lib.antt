@@ -1,5 +1,6 @@
 pub mod Lists
 pub mod Narrowing
+pub mod Least
 pub mod Breaking
 pub mod Refuting
 pub mod Histories

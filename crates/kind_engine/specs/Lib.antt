@@ -1,5 +1,6 @@
 pub mod Ready
 pub mod Looks
+pub mod Larges
 pub mod Lemmas
 pub mod Steps
 pub mod Stucks

@@ -6,7 +6,7 @@ ghost use Rattle.sys_terms.specs.Answers.{IsAnswer};
 ghost use Rattle.cert_rules.specs.Facts.{IsTerm};
 ghost use Rattle.board_core.specs.Entries.{IsWideAt};
 ghost use Rattle.kind_engine.specs.Ready.{IsReady};
-ghost use Rattle.kind_engine.specs.Looks.{IsLook, IsOpen};
+ghost use Rattle.kind_engine.specs.Looks.{IsLook, IsOpen, IsFirstWide};
 
 use crate::asking::{asked, base_at};
 use crate::large::{Large, large_value};
@@ -55,6 +55,7 @@ fn narrowed(
     requires answer { IsAnswer (system_view subject.now.system) (base property instant) (terms_view cites.now)
         (states_view path.items) }
     requires large { IsWideAt (states_view path.items) large.number large.instant large.value }
+    requires first { IsFirstWide (states_view path.items) large.number large.instant }
     ensures { IfOk result (IsLook (system_view subject.now.system) subject.now.plan property instant
         (terms_view cites.now)) }
 {

@@ -1,8 +1,9 @@
 use Rattle.std.proofs.Common.{rules, arith, ◌≡◌, ◌<◌, ◌^◌, true, length, subst, sym}
-use Rattle.std.specs.Prelude.{List, All}
+use Rattle.std.specs.Prelude.{List, All, Some}
 use Rattle.sys_terms.specs.declared.term.State.{State}
 use Rattle.sys_terms.specs.View.{system_view, state_view, states_view}
 use Rattle.kind_engine.specs.Looks.{are_narrow}
+use Rattle.kind_engine.specs.Larges.{IsLeast}
 use Rattle.kind_engine.proofs.Lists.{length-map}
 use Rattle.kind_engine.proofs.Narrowing.{all-narrow, few-values}
 use Rattle.kind_engine.proofs.looking.broken.Goals as goal
@@ -30,5 +31,19 @@ returns-in-None c =
     let same : c.deref.result.now ≡ path = search rules in (
       c.requires.answer,
       all-narrow (states_view path)
-          (subst (λ (l : List State). are_narrow (states_view l) ≡ true) same c.in-None.ensures.none),
+          (subst (λ (l : List State). are_narrow (states_view l) ≡ true) same (rw c.in-None.is at c.large_value.ensures)),
     )
+
+pub narrowed-requires-clause-large : goal.narrowed-requires-clause-large
+narrowed-requires-clause-large c =
+    let path = c.args.path.items in
+    let same : c.deref.result.now ≡ path = search rules in
+    (subst (λ (l : List State). IsLeast (states_view l) (Some c.in-Some.large)) same
+    (rw c.in-Some.is at c.large_value.ensures)).0
+
+pub narrowed-requires-clause-first : goal.narrowed-requires-clause-first
+narrowed-requires-clause-first c =
+    let path = c.args.path.items in
+    let same : c.deref.result.now ≡ path = search rules in
+    (subst (λ (l : List State). IsLeast (states_view l) (Some c.in-Some.large)) same
+    (rw c.in-Some.is at c.large_value.ensures)).1

@@ -47,6 +47,7 @@ returns-in_ok-push-in-Unsat c =
             (subst (λ (t : Task). IsAnswered m t cites budgets (unsat (proof_view proof))) c.in_ok-what.ensures
             (rw c.in-Unsat.is at c.in_ok-proof.ensures)),
       ),
+      c.requires.first,
     )
 
 pub returns-in-Sat : goal.returns-in-Sat
