@@ -1,6 +1,6 @@
 -- The first of the large numbers of a path.
-use Rattle.std.specs.Prelude.{ℕ, ℤ, zero, suc, ◌≡◌, ◌≤◌, ◌<◌, ◌+◌, ◌++◌, ◌&&◌, Bool, true, false, List, [], ◌∷◌, length, take, map, Option, Some, None, slice_get, slice_index_or, refl}
-use Rattle.std.proofs.Common.{ap, sym, subst, ◌∙◌, arith}
+use Rattle.std.specs.Prelude.{ℕ, ℤ, zero, suc, ◌≡◌, ◌≤◌, ◌<◌, ◌+◌, ◌++◌, ◌&&◌, Bool, true, false, List, [], ◌∷◌, length, take, Option, Some, None, slice_get, slice_index_or, refl}
+use Rattle.std.proofs.Common.{ap, sym, subst, arith}
 use Rattle.sys_terms.specs.declared.term.Entry.{Entry as Cell}
 use Rattle.sys_terms.specs.declared.term.Entry.TheVariants as c
 use Rattle.sys_terms.specs.Fits.{is_narrow_number, is_narrow_entry, is_narrow}

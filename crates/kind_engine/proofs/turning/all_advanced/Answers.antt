@@ -7,7 +7,7 @@ use Rattle.cert_rules.specs.View.{cites_view}
 use Rattle.kind_engine.proofs.Citing.{lemmas-later}
 use Rattle.kind_engine.proofs.Lists.{length-push}
 use Rattle.kind_engine.proofs.Tasks.{all-push, tasks-later}
-use Rattle.kind_engine.proofs.Stucks.{grows-then, grows-self}
+use Rattle.kind_engine.proofs.Stucks.{grows-then}
 use Rattle.kind_engine.proofs.turning.all_advanced.Goals as goal
 
 pub loop-task-preserved : goal.loop-task-preserved
