@@ -63,7 +63,7 @@ for latches in 25 50 100 200; do
     count=$(($(counted "$work/ring") - base))
     grep -q '^valid property "one at most"' "$work/printed" || { cat "$work/printed"; echo "not shown"; exit 1; }
     awk -v n=$latches -v c="$count" -v p="$earlier" 'BEGIN {
-        printf "%d %d %.1f %s\n", n, c, c / n, p ? sprintf("%.3f", c / p) : "-"
+        printf "%d %.0f %.1f %s\n", n, c, c / n, p ? sprintf("%.3f", c / p) : "-"
         if (p && c / p >= 5) exit 1
     }' || { echo "too slow"; exit 1; }
     earlier=$count
@@ -82,7 +82,7 @@ for number in 5 10 25 50; do
     [ "$(tail -n 1 "$work/printed")" = "$wanted" ] || { tail -n 1 "$work/printed"; echo "not the answer"; exit 1; }
     count=$(($(counted --depth 1 "$work/counters") - base))
     awk -v n=$number -v c="$count" -v p="$earlier" -v from="$from" -v to="$to" -v z="$(rival queries $number 1)" 'BEGIN {
-        printf "%d %d %.1f %s %.2f %s\n", n, c, c / n, p ? sprintf("%.3f", c / p) : "-", to - from, z
+        printf "%d %.0f %.1f %s %.2f %s\n", n, c, c / n, p ? sprintf("%.3f", c / p) : "-", to - from, z
     }'
     earlier=$count
 done

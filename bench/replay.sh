@@ -248,7 +248,7 @@ echo "slow clock: $slow instructions, always on: $always"
 [ "$slow" -le "$always" ] || { echo "a slow clock costs more"; exit 1; }
 
 # The most that a replay may be asked for: a node with as many variables as a system may have, at as many instants as
-# a trace may have. Memory is what the program held at most, in MB.
+# a trace may have. Memory is what the program held at most.
 largest() {
     awk 'BEGIN {
         print "node part(a : bool) returns (x_0 : bool);\nvar"
