@@ -22,7 +22,7 @@ use Rattle.rule_laws.specs.Laws.{IsUnfolded, AreUnfolded, placed, site_at, HasIt
 use Rattle.rule_laws.proofs.Callees.{GoesDown, each_site}
 use Rattle.rule_laws.proofs.Places.{calls_in_place}
 use Rattle.clock_laws.proofs.AllPlaces.{same_spot, spots_equal, member_in, is_member}
-use Rattle.clock_laws.proofs.Clocks.{placed_of, IsFaultless, faultless, unfolded_same, imports_placed, sub_named_of, declared_at, sub_of}
+use Rattle.clock_laws.proofs.Clocks.{placed_of, clocked_tree, IsFaultless, faultless, unfolded_same, imports_placed, sub_named_of, declared_at, sub_of}
 use Rattle.clock_laws.proofs.LightWalk.{weights_after, keys_of, EachPlaced, walk_light, SiteLight, sites_light, caller_light}
 use Rattle.rule_laws.proofs.Covered.{all_contained}
 use Rattle.rule_laws.proofs.Goods.{all_of_each}
@@ -264,29 +264,28 @@ module _ (p : Program) (c : IsChecked p) where
         let i : Instance = instance n cs is in
         let same : i ≡ instance_of p n = unfolded_same p c i u j in
         let at : (k : ℕ) × Contains (placed 0 p) (k, n) = placed_of 0 p n j in
-        let f : IsFaultless p at.0 n = faultless p c at.0 n j at.1 in
+        let f : IsFaultless p at.0 n = faultless p (clocked_tree p c) at.0 n j at.1 in
         let sub_needs : ℕ → ModeNeeds = λ k. slice_index_or (modes_need_each is) (pred k) [] in
         let all : Weights = weights_after sub_needs [] (contract_statements n) in
         let weigh : ℕ → ℕ = heft_at all is in
         let weighed : (d : Site) (named : Option Component) → HasItsPlace i named d → weigh (pred d.number) ≡ site_heft all d = λ d named h. heft_there all is
         (pred d.number) d h.site in
-        let placed_here : AllByRecursion (EachPlaced p at.0 i (sub_of p c is) sub_needs (λ k. each_keys is (pred k)) (sub_named_of p c i) all weigh
+        let placed_here : AllByRecursion (EachPlaced p at.0 i (sub_of is) sub_needs (λ k. each_keys is (pred k)) (sub_named_of i) all weigh
         weighed) (texts n) =
         placed_texts i j same in
-        let pairs : PairsLight weigh (modes_need i) all = walk_light p at.0 i (sub_of p c is) sub_needs (λ k. each_keys is (pred k)) (sub_named_of p c
-        i) all weigh
+        let pairs : PairsLight weigh (modes_need i) all = walk_light p at.0 i (sub_of is) sub_needs (λ k. each_keys is (pred k)) (sub_named_of i) all weigh
         weighed [] (contract_statements n) [] [] [] f.contract (left_part _ (flat_map contract_statement_texts (contract_statements n)) _ placed_here)
         (imports_placed p c i j same) refl refl
         record { by_name = λ x e. absurd (false≢true e); by_import = λ d x e h. absurd (false≢true e) } tt in
-        let sites = sites_light p at.0 i (sub_of p c is) sub_needs (λ k. each_keys is (pred k)) (sub_named_of p c i) all weigh weighed (modes_need i) pairs
+        let sites = sites_light p at.0 i (sub_of is) sub_needs (λ k. each_keys is (pred k)) (sub_named_of i) all weigh weighed (modes_need i) pairs
         placed_here in
         never i is weigh (λ l ks x. refl)
         (λ l d e ks x. (
           with_condition all d.manner (heft_all all d.arguments),
           below_heft all is weigh l d (heft_there all is l d e),
           at_top_light weigh (with_condition all d.manner (heft_all all d.arguments)) ks (caller_needs i d (instance_at is l) x)
-              (caller_light p at.0 i (sub_of p c is) sub_needs (λ k. each_keys is (pred k)) (sub_named_of p c i) all weigh weighed (modes_need i) pairs d
-              (site_of (SiteLight p at.0 i (sub_of p c is) sub_needs (λ k. each_keys is (pred k)) (sub_named_of p c i) all weigh weighed (modes_need i) pairs)
+              (caller_light p at.0 i (sub_of is) sub_needs (λ k. each_keys is (pred k)) (sub_named_of i) all weigh weighed (modes_need i) pairs d
+              (site_of (SiteLight p at.0 i (sub_of is) sub_needs (λ k. each_keys is (pred k)) (sub_named_of i) all weigh weighed (modes_need i) pairs)
               (all_sites n) is u.1 sites l d e) (instance_at is l) refl x),
         ))
         (top_circle p c i same j)

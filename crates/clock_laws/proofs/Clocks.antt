@@ -1,5 +1,6 @@
--- In a checked program, in a frame whose names are on their clocks, each occurrence of an expression has its value
--- exactly on the clock of its place: contracts with their imports first, and then constants and bodies.
+-- Where no rule of names, types and clocks is broken, in a frame whose names are on their clocks, each occurrence of an
+-- expression has its value exactly on the clock of its place: contracts with their imports first, and then constants
+-- and bodies.
 use Rattle.std.proofs.Common.{◌≡◌, ℕ, zero, suc, pred, ◌<◌, ◌≤◌, Bool, true, false, ◌&&◌, ◌||◌, List, [], ◌∷◌, ◌++◌, map, flat_map, length, slice_index_or, refl, sym, ap, ◌∙◌, subst, arith, Option, Some, None}
 use Rattle.std.specs.Prelude.{Contains}
 use Rattle.std.specs.List.{AllByRecursion, list_all}
@@ -28,21 +29,21 @@ use Rattle.lus_meaning.proofs.Lists.{all_from, all_from_both, both_parts, or_lef
 use Rattle.lus_meaning.proofs.NamesOnce.{no_parts, empty_of, at_one}
 use Rattle.lus_meaning.proofs.Now.{left_part, right_part}
 use Rattle.lus_meaning.proofs.RulesFit.{none_mapped}
-use Rattle.rule_laws.specs.Laws.{IsUnfolded, AreUnfolded, placed, site_at, HasItsPlace}
-use Rattle.rule_laws.proofs.Callees.{GoesDown, each_site}
+use Rattle.rule_laws.specs.Laws.{IsTypedTree, IsUnfolded, AreUnfolded, placed, site_at, HasItsPlace}
+use Rattle.rule_laws.proofs.Callees.{GoesDown}
 use Rattle.rule_laws.proofs.Cleaned.{CleanHome, homes_clean}
 use Rattle.rule_laws.proofs.Known.{constant_shows}
 use Rattle.rule_laws.proofs.Lists.{all_flat}
-use Rattle.rule_laws.proofs.Places.{calls_in_place, imports_in_place, firsts_in_place}
-use Rattle.rule_laws.proofs.Unfolded.{component_within, each_unfolded}
-use Rattle.clock_laws.specs.Laws.{IsOnClocks, HasItsValue, ExpressionsOnClocks, IsContractSaid, ContractsOnClocks}
+use Rattle.rule_laws.proofs.Places.{each_call_placed, imports_in_place, firsts_placed}
+use Rattle.rule_laws.proofs.Unfolded.{component_within, unfolded_typed}
+use Rattle.clock_laws.specs.Laws.{IsClockedTree, IsOnClocks, HasItsValue, ExpressionsOnClocks, IsContractSaid, ContractsOnClocks}
 use Rattle.clock_laws.proofs.Contracts.{side_top, Extends, extends}
 use Rattle.clock_laws.proofs.Fixed.{constant_clocks}
 use Rattle.clock_laws.proofs.Modes.{has_key, key_before, key_behind}
-use Rattle.rule_laws.proofs.Covered.{all_contained}
+use Rattle.rule_laws.proofs.Covered.{all_contained, found_declared, typed_instance, one_instance, imports_placed as imports_there}
 use Rattle.rule_laws.proofs.Goods.{all_of_each}
 use Rattle.rule_laws.proofs.Parts.{all_parts}
-use Rattle.clock_laws.proofs.Same.{some_same, same_instance}
+use Rattle.clock_laws.proofs.Same.{some_same}
 use Rattle.clock_laws.proofs.Texts.{TopFits, IsNumberedIn, constant_apart, firsts_right, all_grammatical, all_pass}
 use Rattle.clock_laws.proofs.Walk.{Known, Walked, walk, clean_has}
 
@@ -93,6 +94,13 @@ placed_of j (declared_contract m ∷ ds) n (suc k, l, e) =
     let q : r.1.0 < length (placed j ds) = r.1.1 in
     (r.0, (suc r.1.0, omega arith, r.1.2))
 
+-- a checked program is such a tree, whose names and types are right too
+pub clocked_tree : (p : Program) → IsChecked p → IsClockedTree p
+clocked_tree p c = record { grammatical = c.grammatical; clocked = c.rules.clocked }
+
+abbrev typed_part : (p : Program) → IsClockedTree p → IsTypedTree p
+typed_part p c = record { grammatical = c.grammatical; typed = c.clocked.typed }
+
 -- a declaration whose items have no faults
 pub record IsFaultless (p : Program) (k : ℕ) (n : Component) : Type 0 where
   pub contract : contract_faults (home p k n) [] (contract_statements n) ≡ []
@@ -102,10 +110,10 @@ pub record IsFaultless (p : Program) (k : ℕ) (n : Component) : Type 0 where
   pub statement_clocks : flat_map (statement_clock_faults n) n.body ≡ []
   pub lefts : list_all has_left_name n.body ≡ true
 
-pub faultless : (p : Program) → IsChecked p → (k : ℕ) (n : Component) → Contains (components p) n → Contains (placed 0 p) (k, n) → IsFaultless p k n
+pub faultless : (p : Program) → IsClockedTree p → (k : ℕ) (n : Component) → Contains (components p) n → Contains (placed 0 p) (k, n) → IsFaultless p k n
 faultless p c k n j h =
     let e : component_faults (home p k n) (constant_words p) ≡ [] = at_one (CleanHome p) (placed 0 p) (k, n) (homes_clean p 0 p
-    (no_parts _ (declaration_faults p 0 p) (no_parts _ _ (empty_of (typing_faults p) c.rules.clocked.typed)).1).1) h in
+    (no_parts _ (declaration_faults p 0 p) (no_parts _ _ (empty_of (typing_faults p) c.clocked.typed)).1).1) h in
     let rest = (no_parts (labels_twice n) _ (no_parts (words_twice name_twice (mode_words (contract_statements n))) _
     (no_parts (outer_twice (constant_words p) (own_words n)) _ (no_parts (words_twice name_twice (own_words n)) _ e).1).1).1).1 in
     let contract = no_parts (contract_faults (home p k n) [] (contract_statements n)) _ rest in
@@ -116,7 +124,7 @@ faultless p c k n j h =
     let clocks : (flat_map (contract_statement_clock_faults n) (contract_statements n) ≡ []) × (flat_map (statement_clock_faults n) n.body ≡ []) =
     no_parts (flat_map (contract_statement_clock_faults n) (contract_statements n)) (flat_map (statement_clock_faults n) n.body)
     (at_one (λ m. component_clock_faults m ≡ []) (components p) n (none_mapped component_clock_faults (components p)
-    (empty_of (clock_faults p) c.rules.clocked.clocks)) j) in
+    (empty_of (clock_faults p) c.clocked.clocks)) j) in
     record {
       contract = contract.0;
       constants = parts.0;
@@ -128,11 +136,50 @@ faultless p c k n j h =
 
 -- ---- instances
 
+abbrev pub sub_of : Instances → ℕ → Terms
+sub_of is j = slice_index_or (terms_each is) (pred j) no_terms
+
+is_called : (i : Instance) (d : Site) (named : Option Component) → HasItsPlace i named d
+    → instance_at (calls_of i) (pred d.number) ≡ call_instance i d.number
+is_called i d named h = go d.number h.number
+  where
+    go : (k : ℕ) → 1 ≤ k → instance_at (calls_of i) (pred k) ≡ call_instance i k
+    go zero l = absurd (omega arith)
+    go (suc k) l = refl
+
+abbrev is_site : Option Site → Bool
+is_site None = false
+is_site (Some d) = true
+
+sub_is : (is : Instances) (j : ℕ) (d : Site) → site_at is j ≡ Some d → slice_index_or (terms_each is) j no_terms ≡ terms (instance_at is j)
+sub_is no_instances j d e = absurd (false≢true (ap is_site e))
+sub_is (with_instance s k is) zero d e = refl
+sub_is (with_instance s k is) (suc j) d e = sub_is is j d e
+
+pub sub_named_of : (i : Instance) (d : Site) (named : Option Component) → HasItsPlace i named d → (x : Name) → has_mode x named ≡ true → has_key ([], x)
+    (sub_of (calls_of i) d.number).modes ≡ true
+sub_named_of i d named h x e =
+    let its : sub_of (calls_of i) d.number ≡ terms (call_instance i d.number) = sub_is (calls_of i) (pred d.number) d h.site
+    ∙ ap terms (is_called i d named h) in
+    subst (λ r. has_key ([], x) r.modes ≡ true) (sym its) (own_keys (call_instance i d.number) x (subst (λ o. has_mode x o ≡ true) h.callee e))
+
+-- of a checked program
 module _ (p : Program) (c : IsChecked p) where
   pub unfolded_same : (i : Instance) → IsUnfolded p i → Contains (components p) (component_of i) → i ≡ instance_of p (component_of i)
-  unfolded_same i u j = same_instance p i (instance_of p (component_of i)) u (each_unfolded p c (component_of i) j)
-      (sym (component_within _ p (component_of i)))
+  unfolded_same i u j = sym (one_instance p c i u j)
 
+  pub imports_placed : (i : Instance) → Contains (components p) (component_of i) → i ≡ instance_of p (component_of i) → AllByRecursion
+      (λ d. HasItsPlace i (contract_named p d.callee) d) (flat_map import_site (contract_statements (component_of i)))
+  imports_placed i j same = all_contained (λ d. HasItsPlace i (contract_named p d.callee) d) (flat_map import_site (contract_statements (component_of i)))
+      (λ d h. subst (λ k. HasItsPlace k (contract_named p d.callee) d) (sym same) (imports_in_place p c (component_of i) j d h))
+
+  pub declared_at : (n : Component) (s : Site) (k : Instance) → GoesDown p n s.callee → component_named p s.callee ≡ Some (component_of k)
+      → Contains (components p) (component_of k)
+  declared_at n s k g e = subst (Contains (components p)) (some_same g.is_callee.callee (component_of k) (sym g.is_callee.named ∙ e)) g.is_callee.declared
+
+-- ---- contracts
+
+module _ (p : Program) (c : IsClockedTree p) where
   numbered_texts : (i : Instance) → Contains (components p) (component_of i) → i ≡ instance_of p (component_of i) → (m : ℕ) (b : Instants) (f : Frame)
       → IsOnClocks i m b f → AllByRecursion (λ x. Each (IsNumberedIn p i f) (component_of i) x.0 x.1) (texts (component_of i))
   numbered_texts i j same m b f on =
@@ -140,12 +187,12 @@ module _ (p : Program) (c : IsChecked p) where
       let calls : AllByRecursion (λ o. AllByRecursion (λ d. HasItsPlace i (node_named p d.callee) d) (site_in o.standing o.expression)) (all_occurrences n) =
       all_of_each (λ d. HasItsPlace i (node_named p d.callee) d) (λ o. site_in o.standing o.expression) (all_occurrences n)
       (all_contained (λ d. HasItsPlace i (node_named p d.callee) d) (gathered site_in n)
-      (λ d h. subst (λ k. HasItsPlace k (node_named p d.callee) d) (sym same) (calls_in_place p c n j d h))) in
+      (λ d h. subst (λ k. HasItsPlace k (node_named p d.callee) d) (sym same) (each_call_placed p (typed_part p c) n j d h))) in
       let firsts : AllByRecursion (λ o. AllByRecursion (λ x. has_sort (sort_of i x.operand) (first_value f x.number) ≡ true)
       (memory_in o.standing o.expression)) (all_occurrences n) =
       all_of_each (λ x. has_sort (sort_of i x.operand) (first_value f x.number) ≡ true) (λ o. memory_in o.standing o.expression) (all_occurrences n)
       (all_contained (λ x. has_sort (sort_of i x.operand) (first_value f x.number) ≡ true) (memories n)
-      (λ x h. subst (λ k. has_sort (sort_of k x.operand) (first_value f x.number) ≡ true) (sym same) (firsts_in_place p c n j f
+      (λ x h. subst (λ k. has_sort (sort_of k x.operand) (first_value f x.number) ≡ true) (sym same) (firsts_placed p c.grammatical n j f
       (subst (λ k. have_sorts (first_sorts k) (firsts_of f) ≡ true) same (firsts_right i m b f on)) x h))) in
       let each : AllByRecursion (IsNumberedIn p i f) (all_occurrences n) = all_from_both
       (λ o. AllByRecursion (λ d. HasItsPlace i (node_named p d.callee) d) (site_in o.standing o.expression))
@@ -154,11 +201,6 @@ module _ (p : Program) (c : IsChecked p) where
       all_from (λ x. AllByRecursion (IsNumberedIn p i f) (occurrences n x.0 x.1)) (λ x. Each (IsNumberedIn p i f) n x.0 x.1)
       (λ x a. each_part (IsNumberedIn p i f) n x.0 x.1 a) (texts n)
       (all_of_each (IsNumberedIn p i f) (λ x. occurrences n x.0 x.1) (texts n) each)
-
-  pub imports_placed : (i : Instance) → Contains (components p) (component_of i) → i ≡ instance_of p (component_of i) → AllByRecursion
-      (λ d. HasItsPlace i (contract_named p d.callee) d) (flat_map import_site (contract_statements (component_of i)))
-  imports_placed i j same = all_contained (λ d. HasItsPlace i (contract_named p d.callee) d) (flat_map import_site (contract_statements (component_of i)))
-      (λ d h. subst (λ k. HasItsPlace k (contract_named p d.callee) d) (sym same) (imports_in_place p c (component_of i) j d h))
 
   -- what a walk through a contract gives
   pub record IsContractOn (i : Instance) (m : ℕ) (b : Instants) (f : Frame) (on : IsOnClocks i m b f) : Type 0 where
@@ -171,55 +213,24 @@ module _ (p : Program) (c : IsChecked p) where
         (flat_map contract_statement_texts (contract_statements (component_of i)))
     its_terms : IsContractSaid m b f (terms i)
 
-  abbrev pub sub_of : Instances → ℕ → Terms
-  sub_of is j = slice_index_or (terms_each is) (pred j) no_terms
-
-  is_called : (i : Instance) (d : Site) (named : Option Component) → HasItsPlace i named d
-      → instance_at (calls_of i) (pred d.number) ≡ call_instance i d.number
-  is_called i d named h = go d.number h.number
-    where
-      go : (k : ℕ) → 1 ≤ k → instance_at (calls_of i) (pred k) ≡ call_instance i k
-      go zero l = absurd (omega arith)
-      go (suc k) l = refl
-
-  abbrev is_site : Option Site → Bool
-  is_site None = false
-  is_site (Some d) = true
-
-  sub_is : (is : Instances) (j : ℕ) (d : Site) → site_at is j ≡ Some d → slice_index_or (terms_each is) j no_terms ≡ terms (instance_at is j)
-  sub_is no_instances j d e = absurd (false≢true (ap is_site e))
-  sub_is (with_instance s k is) zero d e = refl
-  sub_is (with_instance s k is) (suc j) d e = sub_is is j d e
-
-  pub sub_named_of : (i : Instance) (d : Site) (named : Option Component) → HasItsPlace i named d → (x : Name) → has_mode x named ≡ true → has_key ([], x)
-      (sub_of (calls_of i) d.number).modes ≡ true
-  sub_named_of i d named h x e =
-      let its : sub_of (calls_of i) d.number ≡ terms (call_instance i d.number) = sub_is (calls_of i) (pred d.number) d h.site
-      ∙ ap terms (is_called i d named h) in
-      subst (λ r. has_key ([], x) r.modes ≡ true) (sym its) (own_keys (call_instance i d.number) x (subst (λ o. has_mode x o ≡ true) h.callee e))
-
-  pub declared_at : (n : Component) (s : Site) (k : Instance) → GoesDown p n s.callee → component_named p s.callee ≡ Some (component_of k)
-      → Contains (components p) (component_of k)
-  declared_at n s k g e = subst (Contains (components p)) (some_same g.is_callee.callee (component_of k) (sym g.is_callee.named ∙ e)) g.is_callee.declared
-
   mutual
     pub contract_on : (i : Instance) → IsUnfolded p i → Contains (components p) (component_of i) → (m : ℕ) (b : Instants) (f : Frame)
         → (on : IsOnClocks i m b f)
         → IsContractOn i m b f on
     contract_on (instance n cs is) u j m b f on =
         let i : Instance = instance n cs is in
-        let same : i ≡ instance_of p n = unfolded_same i u j in
+        let same : i ≡ instance_of p n = sym (typed_instance p (typed_part p c) i u j) in
         let at : (k : ℕ) × Contains (placed 0 p) (k, n) = placed_of 0 p n j in
         let q : IsFaultless p at.0 n = faultless p c at.0 n j at.1 in
         let sub_have : (d : Site) (named : Option Component) → HasItsPlace i named d → IsOnClocks (call_instance i d.number) m b (call_frame f d.number)
-        → IsContractSaid m b (call_frame f d.number) (sub_of is d.number) = λ d named h o. calls_terms_on n (all_sites n) is u.1
-        (each_site p c.rules.clocked.typed n j) (pred d.number) d h.site m b (call_frame f d.number)
+        → IsContractSaid m b (call_frame f d.number) (sub_of is d.number) = λ d named h o. calls_terms_on (all_sites n) is u.1
+        (pred d.number) d h.site m b (call_frame f d.number)
         (subst (λ k. IsOnClocks k m b (call_frame f d.number)) (sym (is_called i d named h)) o) in
         let w : Walked p c at.0 i at.1 same m b f on (sub_of is) sub_have (sub_named_of i) [] (contract_statements n) [] =
         walk p c at.0 i at.1 same m b f on (sub_of is) sub_have (sub_named_of i) [] (contract_statements n) [] q.contract q.contract_clocks
         (left_part (λ x. Each (IsNumberedIn p i f) n x.0 x.1) (flat_map contract_statement_texts (contract_statements n)) _ (numbered_texts i j
         same m b f on))
-        (imports_placed i j same) refl record {
+        (imports_there p (typed_part p c) i u j) refl record {
           extended = extends i (sub_of is) [] (contract_statements n);
           have = tt;
           ensures_each = tt;
@@ -235,14 +246,14 @@ module _ (p : Program) (c : IsChecked p) where
           its_terms = record { assumes = w.assumes; guarantees = w.guarantees; modes = w.known.have; ensures_each = w.known.ensures_each };
         }
 
-    calls_terms_on : (n : Component) (ss : List Site) (is : Instances) → AreUnfolded p ss is → AllByRecursion (λ s. GoesDown p n s.callee) ss
-        → (j : ℕ) (d : Site) → site_at is j ≡ Some d → (m : ℕ) (b : Instants) (g : Frame) → IsOnClocks (instance_at is j) m b g → IsContractSaid m b g
+    calls_terms_on : (ss : List Site) (is : Instances) → AreUnfolded p ss is → (j : ℕ) (d : Site) → site_at is j ≡ Some d → (m : ℕ) (b : Instants) (g : Frame) → IsOnClocks (instance_at is j) m b g → IsContractSaid m b g
         (slice_index_or (terms_each is) j no_terms)
-    calls_terms_on n [] no_instances u a j d e m b g o = absurd (false≢true (ap is_site e))
-    calls_terms_on n [] (with_instance s k is) u a j d e m b g o = absurd u
-    calls_terms_on n (s ∷ ss) no_instances u a j d e m b g o = absurd u
-    calls_terms_on n (s ∷ ss) (with_instance r k is) u a zero d e m b g o = (contract_on k u.2 (declared_at n s k a.0 u.1) m b g o).its_terms
-    calls_terms_on n (s ∷ ss) (with_instance r k is) u a (suc j) d e m b g o = calls_terms_on n ss is u.3 a.1 j d e m b g o
+    calls_terms_on [] no_instances u j d e m b g o = absurd (false≢true (ap is_site e))
+    calls_terms_on [] (with_instance s k is) u j d e m b g o = absurd u
+    calls_terms_on (s ∷ ss) no_instances u j d e m b g o = absurd u
+    calls_terms_on (s ∷ ss) (with_instance r k is) u zero d e m b g o =
+        (contract_on k u.2 (found_declared p s.callee (component_of k) u.1) m b g o).its_terms
+    calls_terms_on (s ∷ ss) (with_instance r k is) u (suc j) d e m b g o = calls_terms_on ss is u.3 j d e m b g o
 
   -- ---- constants and bodies
 
@@ -348,9 +359,9 @@ module _ (p : Program) (c : IsChecked p) where
 instance_declared : (p : Program) (n : Component) → Contains (components p) n → Contains (components p) (component_of (instance_of p n))
 instance_declared p n j = subst (Contains (components p)) (sym (component_within _ p n)) j
 
-of_instance : (p : Program) (c : IsChecked p) (n : Component) → Contains (components p) n → (m : ℕ) (b : Instants) (f : Frame) →
+of_instance : (p : Program) (c : IsClockedTree p) (n : Component) → Contains (components p) n → (m : ℕ) (b : Instants) (f : Frame) →
     (on : IsOnClocks (instance_of p n) m b f) → IsContractOn p c (instance_of p n) m b f on
-of_instance p c n j m b f on = contract_on p c (instance_of p n) (each_unfolded p c n j) (instance_declared p n j) m b f on
+of_instance p c n j m b f on = contract_on p c (instance_of p n) (unfolded_typed p (typed_part p c) n j) (instance_declared p n j) m b f on
 
 pub expressions_on_clocks : ExpressionsOnClocks
 expressions_on_clocks p c n j m b f on o h t l =

@@ -38,7 +38,7 @@ use Rattle.rule_laws.proofs.Unfolded.{component_within, each_unfolded}
 use Rattle.clock_laws.specs.Laws.{EachWellMade}
 use Rattle.clock_laws.proofs.Circles.{placed_texts}
 use Rattle.clock_laws.proofs.CleanAll.{clean_texts}
-use Rattle.clock_laws.proofs.Clocks.{placed_of, IsFaultless, faultless, unfolded_same, declared_at}
+use Rattle.clock_laws.proofs.Clocks.{placed_of, clocked_tree, IsFaultless, faultless, unfolded_same, declared_at}
 use Rattle.clock_laws.proofs.Lefts.{distinct_parts, not_in_both, lefts_apart, left_definable, variables_apart, lefts_distinct}
 use Rattle.clock_laws.proofs.OrderLaws.{names_distinct, no_left_fault}
 use Rattle.rule_laws.proofs.Goods.{all_of_each}
@@ -325,7 +325,7 @@ module _ (p : Program) (c : IsChecked p) where
     made (instance n cs is) u j given g m x h =
         let i : Instance = instance n cs is in
         let at : (k : ℕ) × Contains (placed 0 p) (k, n) = placed_of 0 p n j in
-        let f : IsFaultless p at.0 n = faultless p c at.0 n j at.1 in (
+        let f : IsFaultless p at.0 n = faultless p (clocked_tree p c) at.0 n j at.1 in (
           g.once,
           g.declared,
           equations_made p at.0 i f (placed_texts p c i j (unfolded_same p c i u j)),

@@ -1,5 +1,5 @@
 -- What holds of each occurrence in an expression follows from what holds of it, and of whole right sides from the whole.
-use Rattle.std.proofs.Common.{◌≡◌, true, false, sym, ◌∙◌}
+use Rattle.std.proofs.Common.{◌≡◌, true, sym, ◌∙◌}
 use Rattle.std.proofs.lemmas.Bool.{false≢true}
 use Rattle.lus_tree.specs.Tree.{Expression, Component}
 use Rattle.lus_meaning.specs.Occurrences.{Standing, Occurrence}

@@ -1,5 +1,5 @@
--- In a frame whose names are on their clocks, an expression of a checked program without faults has its value exactly
--- on its clock, and so has each part of it, where the modes in it have theirs.
+-- In a frame whose names are on their clocks, an expression without faults of types and clocks has its value exactly on
+-- its clock, and so has each part of it, where the modes in it have theirs.
 use Rattle.std.proofs.Common.{option_map, ◌≡◌, ℕ, zero, suc, pred, ◌<◌, ◌≤◌, Bool, true, false, cond, not, ◌&&◌, ◌||◌, List, [], ◌∷◌, ◌++◌, map, flat_map, unwrap_or, refl, sym, ap, ◌∙◌, subst, arith, Option, Some, None}
 use Rattle.std.specs.Prelude.{Contains, find, is_none}
 use Rattle.std.specs.List.{AllByRecursion, list_all}
@@ -20,7 +20,6 @@ use Rattle.lus_meaning.specs.Scope.{Scope, Entry, entry_of, is_constant_role, is
 use Rattle.lus_meaning.specs.ExpressionFaults.{expression_faults, part_faults, form_faults, weight_faults, used_as_clock, needs_sort, call_faults, default_faults, not_allowed, has_one, mode_is_known}
 use Rattle.lus_meaning.specs.ClockFaults.{components, clock_in, name_clock, stands_on, clock_form_faults, clock_faults_of}
 use Rattle.lus_meaning.specs.Grammatical.{have_no_clock, ghost_names, IsGrammaticalComponent, IsGrammaticalDeclaration}
-use Rattle.lus_meaning.specs.Refusals.{IsChecked}
 use Rattle.lus_meaning.proofs.EachPart.{Each, each_part, each_of_both, each_elsewhere}
 use Rattle.lus_meaning.proofs.Flexible.{constant_flexible}
 use Rattle.lus_meaning.proofs.Lists.{all_from}
@@ -33,7 +32,7 @@ use Rattle.rule_laws.specs.Laws.{placed, table, Agrees, site_at, HasItsPlace}
 use Rattle.rule_laws.proofs.Constants.{is_word}
 use Rattle.rule_laws.proofs.Known.{SameFound, Shows, agrees}
 use Rattle.rule_laws.proofs.Tables.{typed_tables}
-use Rattle.clock_laws.specs.Laws.{IsOnClocks, CallsOnClocks, HasItsValue}
+use Rattle.clock_laws.specs.Laws.{IsClockedTree, IsOnClocks, CallsOnClocks, HasItsValue}
 use Rattle.rule_laws.proofs.Parts.{Whole, nested}
 use Rattle.clock_laws.proofs.Parts.{each_from, AtTop, each_at_top}
 use Rattle.clock_laws.proofs.Stands.{stands_there, ClockRight, StandsThere, DefaultsFlexible, each_stands}
@@ -225,7 +224,7 @@ declared_stream i m b f o x e u l = go (find (λ v. bytes_eq x v.name.text) (var
         subst (λ y. is_typed v.sort (is_on (scene i b f) (clock_from v.clock) u) (entry f y u) ≡ true) (sym q.1) (q.0 u l) in
         rw h here
 
--- ---- one expression of a checked program
+-- ---- one expression
 
 -- a scope in which the expression has no fault, and which knows the names of the declaration
 pub record IsCleanIn (p : Program) (h : ℕ × Component) (sc : Scope) (t : Standing) (e : Expression) : Type 0 where
@@ -247,7 +246,7 @@ ModesOn s m sc = (d : Option Spelled) (x : Spelled) → mode_is_known sc d x ≡
     (mode_stream s (option_map text_of d) x.text t) ≡ true
 
 -- the name of a constant is no stream
-pub constant_apart : (p : Program) → IsChecked p → (k : ℕ) (i : Instance) → Contains (placed 0 p) (k, component_of i) → i ≡ instance_of p (component_of i)
+pub constant_apart : (p : Program) → IsClockedTree p → (k : ℕ) (i : Instance) → Contains (placed 0 p) (k, component_of i) → i ≡ instance_of p (component_of i)
     → (sc : Scope) → Shows p (k, component_of i) sc → (x : Name) → is_constant_name sc x ≡ true → name_clock (component_of i) x ≡ None
 constant_apart p c k i placed_here same sc shows x h = go (entry_of sc x) (find (is_word x) (table p (k, component_of i))) refl (shows x) h
   where
@@ -260,11 +259,11 @@ constant_apart p c k i placed_here same sc shows x h = go (entry_of sc x) (find 
     go None r q u h = absurd (false≢true h)
     go (Some d) None q u h = absurd (false≢true (sym (ap is_entry u.role)))
     go (Some d) (Some g) q u h =
-        let a : Agrees i x g = subst (λ j. Agrees j x g) (sym same) (typed_tables p c.rules.clocked.typed (k, component_of i) placed_here x g q) in
+        let a : Agrees i x g = subst (λ j. Agrees j x g) (sym same) (typed_tables p c.clocked.typed (k, component_of i) placed_here x g q) in
         let r : is_constant_role g.role ≡ true = sym (ap (λ o. unwrap_or (option_map is_constant_role o) false) u.role) ∙ h in
         a.stream ∙ ap (λ (q : Bool). cond q None (Some g.clock)) r
 
-module _ (p : Program) (c : IsChecked p) (k : ℕ) (i : Instance) (placed_here : Contains (placed 0 p) (k, component_of i)) (same : i ≡ instance_of p
+module _ (p : Program) (c : IsClockedTree p) (k : ℕ) (i : Instance) (placed_here : Contains (placed 0 p) (k, component_of i)) (same : i ≡ instance_of p
     (component_of i))
     (m : ℕ) (b : Instants) (f : Frame) (on : IsOnClocks i m b f) where
   abbrev pub here : Component
@@ -275,7 +274,7 @@ module _ (p : Program) (c : IsChecked p) (k : ℕ) (i : Instance) (placed_here :
 
   module _ (sc : Scope) (t : Standing) (e : Expression) (clean : IsCleanIn p (k, component_of i) sc t e) (modes : ModesOn (scene i b f) m sc) where
     known : (x : Name) → is_known sc x ≡ true → (sort_of_entry sc x ≡ Some (sort_of_name i x)) × KnownName sc full x
-    known x h = agrees p c.rules.clocked.typed (k, here) placed_here sc clean.shows full same x h
+    known x h = agrees p c.clocked.typed (k, here) placed_here sc clean.shows full same x h
 
     apart : (x : Name) → is_constant_name sc x ≡ true → name_clock here x ≡ None
     apart = constant_apart p c k i placed_here same sc clean.shows

@@ -23,7 +23,6 @@ use Rattle.lus_meaning.specs.Faults.{differ}
 use Rattle.lus_meaning.specs.ExpressionFaults.{expression_faults, part_faults, form_faults, weight_faults, flag_faults, needs_sort, not_allowed, sides_fit, has_mode, mode_is_known}
 use Rattle.lus_meaning.specs.NameFaults.{home, flags_of, contract_statement_faults, contract_faults}
 use Rattle.lus_meaning.specs.ClockFaults.{clock_faults_of, all_on_base, contract_statement_clock_faults}
-use Rattle.lus_meaning.specs.Refusals.{IsChecked}
 use Rattle.lus_meaning.proofs.EachPart.{Each, each_part}
 use Rattle.lus_meaning.proofs.Lists.{both_parts, append_none}
 use Rattle.lus_meaning.proofs.NamesOnce.{no_parts, not_so}
@@ -33,7 +32,7 @@ use Rattle.lus_meaning.proofs.Typed.{flags_has}
 use Rattle.rule_laws.specs.Laws.{placed, HasItsPlace}
 use Rattle.rule_laws.proofs.Known.{contract_statement_shows}
 use Rattle.rule_laws.proofs.Worths.{same_sorts}
-use Rattle.clock_laws.specs.Laws.{IsOnClocks, HasItsValue, IsContractSaid}
+use Rattle.clock_laws.specs.Laws.{IsClockedTree, IsOnClocks, HasItsValue, IsContractSaid}
 use Rattle.clock_laws.proofs.Contracts.{side_top, CoversAll, known_key, covers_more, covers_plain, covers_mode, covers_import, covers_names, covers_imports, Extends, extends}
 use Rattle.clock_laws.proofs.Fixed.{constant_clocks}
 use Rattle.clock_laws.proofs.Modes.{has_key, ModesHave, found_mode, found_before, SaysHave, mode_has, mode_named, imported_have, imported_named}
@@ -95,7 +94,7 @@ pub and_true : (q : Bool) → (q && true) ≡ q
 and_true true = refl
 and_true false = refl
 
-module _ (p : Program) (c : IsChecked p) (k : ℕ) (i : Instance) (placed_here : Contains (placed 0 p) (k, component_of i)) (same : i ≡ instance_of p
+module _ (p : Program) (c : IsClockedTree p) (k : ℕ) (i : Instance) (placed_here : Contains (placed 0 p) (k, component_of i)) (same : i ≡ instance_of p
     (component_of i))
     (m : ℕ) (b : Instants) (f : Frame) (on : IsOnClocks i m b f) where
   abbrev here : Component

@@ -1,4 +1,4 @@
--- The laws of a checked program: clocks, orders of equations, and runs.
+-- The laws of programs that follow the rules: clocks, orders of equations, and runs.
 use Rattle.std.specs.Prelude.{◌≡◌, ◌↔◌, ℕ, ◌<◌, true, suc, List, [], ◌∷◌, Contains, Some}
 use Rattle.std.specs.List.{AllByRecursion}
 use Rattle.lus_tree.specs.declared.place.Sort.TheVariants.{Bool as Flags}
@@ -19,8 +19,18 @@ use Rattle.lus_meaning.specs.Cycle.{Place, IsWay, last_place}
 use Rattle.lus_meaning.specs.Order.{IsEquationOrder, IsLeastEquationOrder}
 use Rattle.lus_meaning.specs.ClockFaults.{components}
 use Rattle.lus_meaning.specs.EquationFaults.{left_faults, DependsOnItself}
-use Rattle.lus_meaning.specs.Refusals.{IsTyped}
+use Rattle.lus_meaning.specs.Grammatical.{IsGrammatical}
+use Rattle.lus_meaning.specs.Refusals.{IsTyped, IsClocked}
 use Rattle.lus_meaning.specs.RuleLaws.{OfEach}
+
+-- a tree of the grammar that breaks no rule of names, types, numbers and clocks, whatever its equations and circles
+pub record IsClockedTree (p : Program) : Type 0 where
+  pub grammatical : IsGrammatical p
+  pub clocked : IsClocked p
+
+-- what holds of each declaration of such a tree
+abbrev pub OfEachClocked : (Program → Component → Type 0) → Type 0
+OfEachClocked P = (p : Program) → IsClockedTree p → (n : Component) → Contains (components p) n → P p n
 
 -- A frame whose names are on their clocks, and so are those of its calls, each on the instants at which it is active:
 -- a name has a value of its type exactly where its clock is on, and first values have their types.
@@ -44,7 +54,7 @@ HasItsValue i b f t o =
 
 abbrev pub ExpressionsOnClocks : Type 0
 ExpressionsOnClocks =
-    OfEach (λ p n. (m : ℕ) (b : Instants) (f : Frame) → IsOnClocks (instance_of p n) m b f →
+    OfEachClocked (λ p n. (m : ℕ) (b : Instants) (f : Frame) → IsOnClocks (instance_of p n) m b f →
     (o : Occurrence) → Contains (all_occurrences n) o → (t : ℕ) → t < m → HasItsValue (instance_of p n) b f t o)
 
 -- what an item of a contract or a mode says: a truth value exactly where the frame is active
@@ -60,7 +70,7 @@ pub record IsContractSaid (m : ℕ) (b : Instants) (f : Frame) (r : Terms) : Typ
 
 abbrev pub ContractsOnClocks : Type 0
 ContractsOnClocks =
-    OfEach (λ p n. (m : ℕ) (b : Instants) (f : Frame) → IsOnClocks (instance_of p n) m b f → IsContractSaid m b f (terms (instance_of p n)))
+    OfEachClocked (λ p n. (m : ℕ) (b : Instants) (f : Frame) → IsOnClocks (instance_of p n) m b f → IsContractSaid m b f (terms (instance_of p n)))
 
 -- each run is such a frame
 abbrev pub RunsOnClocks : Type 0

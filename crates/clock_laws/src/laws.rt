@@ -13,10 +13,11 @@ ghost use Rattle.clock_laws.specs.Laws.{
   ComputedRuns,
 };
 
-/// In a checked program, in a frame whose names have their values exactly on their clocks, at every depth of calls,
-/// each occurrence of an expression has a value of its type exactly where the clock of its place is on, and what an
-/// item of its contract says, or the requires of a mode, a truth value exactly where the frame is active; so have those
-/// of imports. Each run is such a frame.
+/// Of a tree of the grammar in which no rule of names, types, numbers and clocks is broken, whatever its equations and
+/// circles: in a frame whose names have their values exactly on their clocks, at every depth of calls, each occurrence
+/// of an expression has a value of its type exactly where the clock of its place is on, and what an item of its contract
+/// says, or the requires of a mode, a truth value exactly where the frame is active; so have those of imports. Each run
+/// is such a frame.
 pub fn expressions_on_clocks()
     ensures expressions { ExpressionsOnClocks }
     ensures contracts { ContractsOnClocks }

@@ -223,10 +223,16 @@ sorts_within : (P : List Sort → Type 0) (p : Program) (n : Component) → P (f
 sorts_within P p n h =
     subst (λ k. P (map (λ x. sort_of (instance_of p n) x.operand) (in_order (λ x. x.number) (memories k)))) (component_within _ p n) h
 
-pub firsts_in_place : FirstsInPlace
-firsts_in_place p c n i f h m j =
+-- first values that have the types of the instance
+pub firsts_placed : (p : Program) → IsGrammatical p → (n : Component) → Contains (components p) n → (f : Frame)
+    → have_sorts (first_sorts (instance_of p n)) (firsts_of f) ≡ true → (m : Memory) → Contains (memories n) m
+    → has_sort (sort_of (instance_of p n) m.operand) (first_value f m.number) ≡ true
+firsts_placed p g n i f h m j =
     sorted_at (λ x. sort_of (instance_of p n) x.operand) (in_order (λ x. x.number) (memories n)) (firsts_of f) (pred m.number) m
-    (sorts_within (λ qs. have_sorts qs (firsts_of f) ≡ true) p n h) (sorted_place p c.grammatical n i m j)
+    (sorts_within (λ qs. have_sorts qs (firsts_of f) ≡ true) p n h) (sorted_place p g n i m j)
+
+pub firsts_in_place : FirstsInPlace
+firsts_in_place p c = firsts_placed p c.grammatical
 
 sort_there : (sort : Memory → Sort) (ms : List Memory) (vs : List Value) (k : ℕ) (m : Memory) → FirstsHaveSorts (map sort ms) vs
     → At ms k m → has_sort_if_there (sort m) (slice_index_or vs k absent) ≡ true
