@@ -5,11 +5,10 @@ ghost use Rattle.cert_rules.specs.Kept.{held_at};
 ghost use Rattle.board_core.specs.View.{made_view, statement_view, fact_said, said_by, news_view, told_from};
 ghost use Rattle.board_core.specs.Books.{history_in};
 
-use crate::cause::copied_states;
 use crate::entry::Made;
 use crate::fault::BookFault;
 use crate::posted::Posted;
-use crate::statement::{News, Statement};
+use crate::statement::{News, Statement, broken, spent, stuck};
 use cert_rules::Held;
 use std::alloc::{AllocError, Global};
 
@@ -37,29 +36,9 @@ fn statement_of(alloc: Global, made: &Made) -> Result<Statement, AllocError>
             Ok(Statement::Lemma(term))
         }
         Made::Held(held, first, second) => Ok(held_statement(held, *first, *second)),
-        Made::Broken(property, path) => {
-            let path = copied_states(alloc, path)?;
-            Ok(Statement::Broken {
-                property: *property,
-                path,
-            })
-        }
-        Made::Stuck(property, path, front) => {
-            let path = copied_states(alloc, path)?;
-            Ok(Statement::Stuck {
-                property: *property,
-                path,
-                front: *front,
-            })
-        }
-        Made::Spent(engine, property, cause, _) => {
-            let cause = cause.copied(alloc)?;
-            Ok(Statement::Spent {
-                engine: *engine,
-                property: *property,
-                cause,
-            })
-        }
+        Made::Broken(property, path) => broken(alloc, *property, path),
+        Made::Stuck(property, path, front) => stuck(alloc, *property, path, *front),
+        Made::Spent(engine, property, cause, _) => spent(alloc, *engine, *property, cause),
     }
 }
 
