@@ -45,11 +45,12 @@ pub trait Engine {
     /// Reads, works and posts. It asks for a seat whose book has its system and its plan, at which
     /// all that it knows has been seen and nothing else has been read.
     ///
-    /// What the seat has seen only grows. The engine then knows a front of it, no shorter than what
-    /// was read. `Decided` comes only where what was read decides all properties, and of an engine
-    /// with a number nothing else comes there. At `Spent` such an engine has posted, at this seat, a
-    /// cause for each property that what was read leaves undecided. At `More` fewer turns are left.
-    /// After want of memory the engine is only dropped.
+    /// What the seat has seen only grows, whatever the turn answers, and the engine knows a front of
+    /// it. After an `Ok` this front is no shorter than what was read. `Decided` comes only where what
+    /// was read decides all properties, and of an engine with a number nothing else comes there. At
+    /// `Spent` such an engine has posted, at this seat, a cause for each property that what was read
+    /// leaves undecided. At `More` fewer turns are left. After want of memory the engine is only
+    /// dropped; the seat keeps what was read and posted.
     fn turn<B: BoardSeat>(&mut self, alloc: Global, seat: &mut B) -> Result<Progress, EngineFault>
         requires machine { Fits (machine self.old) (B.machine seat.old) }
         requires plan { Fits (plan self.old) (B.plan seat.old) }
@@ -59,8 +60,8 @@ pub trait Engine {
             × (plan self.new ≡ plan self.old) }
         ensures seat { (B.number seat.new ≡ B.number seat.old) × (B.machine seat.new ≡ B.machine seat.old)
             × (B.plan seat.new ≡ B.plan seat.old) × (B.lent seat.new ≡ B.lent seat.old) }
-        ensures seen { OnOk result (Begins (B.seen seat.old) (B.seen seat.new)) }
-        ensures known { OnOk result (Begins (known self.new) (B.seen seat.new)) }
+        ensures seen { Begins (B.seen seat.old) (B.seen seat.new) }
+        ensures known { Begins (known self.new) (B.seen seat.new) }
         ensures front { OnOk result (B.front seat.new ≤ length (known self.new)) }
         ensures paid { OnOk result ((owed self.new ≡ []) × All (Decides (B.seen seat.new)) (owed self.old)) }
         ensures decided { result ≡ Ok Decided

@@ -1,6 +1,6 @@
 //! An engine that posts a lemma.
 
-ghost use Rattle.std.specs.Prelude.{◌≡◌, [], None, Some, true, IfOk, IfSome, OnOk};
+ghost use Rattle.std.specs.Prelude.{◌≡◌, [], None, Some, true, IfOk, IfSome};
 ghost use Rattle.sys_terms.specs.View.{system_view, obligation_view};
 ghost use Rattle.sys_terms.specs.Fits.{is_asked, is_light_task};
 ghost use Rattle.cert_rules.specs.Kept.{lemma_machine, lemma_cites};
@@ -91,7 +91,7 @@ fn post_lemma<B: BoardSeat>(seat: &mut B, lemma: Lemma) -> Result<(), EngineFaul
     ensures seat { (B.number seat.new ≡ B.number seat.old) × (B.machine seat.new ≡ B.machine seat.old)
         × (B.plan seat.new ≡ B.plan seat.old) × (B.lent seat.new ≡ B.lent seat.old) }
     ensures front { B.front seat.new ≡ B.front seat.old }
-    ensures seen { OnOk result (Begins (B.seen seat.old) (B.seen seat.new)) }
+    ensures seen { Begins (B.seen seat.old) (B.seen seat.new) }
 {
     seat.post(Entry::lemma(lemma))?;
     Ok(())

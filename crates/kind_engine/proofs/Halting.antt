@@ -20,11 +20,24 @@ use Rattle.kind_engine.specs.declared.looking.Open.{Open}
 use Rattle.kind_engine.specs.Halts.{halted_grounds, open_grounds}
 use Rattle.kind_engine.specs.Lemmas.{AreLemmas}
 use Rattle.kind_engine.specs.Looks.{IsOpen}
+use Rattle.kind_engine.specs.Posts.{NamesFirstWide}
 use Rattle.kind_engine.specs.Steps.{IsAtStep}
 use Rattle.kind_engine.proofs.Lists.{none-of}
 use Rattle.kind_engine.proofs.Refuting.{refuted-before, by-front, by-back, by-last}
 use Rattle.kind_engine.proofs.Breaking.{breaks-at}
 use Rattle.kind_engine.proofs.Citing.{terms-there, true-on}
+
+-- an instant that is left open names the first large value, where it names one
+pub open-first : (m : Machine) (plan : Plan) (p i : ℕ) (cites : List Formula) (task : Task) (proofs : List Refutation)
+    (why named : Why) → named ≡ why → IsOpen m plan p i cites task proofs why → NamesFirstWide named
+open-first m plan p i cites task proofs why named e o = subst NamesFirstWide (sym e) (first why o) where
+  first : (why : Why) → IsOpen m plan p i cites task proofs why → NamesFirstWide why
+  first (depth n) o = tt
+  first (frames n) o = tt
+  first (blocked n) o = tt
+  first (done n) o = tt
+  first (stopped h) o = tt
+  first (wide path variable instant value) o = o.4
 
 -- the instants below, among more proofs
 before-more : (m : Machine) (p : ℕ) (cites : List Formula) (proofs more : List Refutation) (i : ℕ) → length proofs ≡ i

@@ -6,5 +6,5 @@ pub mod Refuting
 pub mod Histories
 pub mod Citing
 pub mod Halting
-pub mod Stucks
+pub mod Posts
 pub mod Tasks

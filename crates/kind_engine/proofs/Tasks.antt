@@ -26,7 +26,7 @@ module _ (m : Machine) (plan : Plan) where
   task-later known all engine i p (t.Refuted proofs) b h = h
   task-later known all engine i p (t.Run run) b h = h
   task-later known all engine i p (t.Halted halted) b h =
-      true-later m plan known all (spent engine p (cause_view halted.cause) (halted_grounds halted)) b h
+      (true-later m plan known all (spent engine p (cause_view halted.cause) (halted_grounds halted)) b h.0, h.1)
   task-later known all engine i p t.Ended b h = (h.0, depth-later known all engine p plan.depth b h.1)
   task-later known all engine i p t.Decided b h = decides-later p known all b h
 

@@ -1,5 +1,5 @@
 -- An engine as clauses see it.
-use Rattle.std.specs.Prelude.{ℕ, ◌≡◌, ◌-◌, ◌+◌, List, [], Option, Some, None}
+use Rattle.std.specs.Prelude.{ℕ, ◌≡◌, ◌-◌, ◌+◌, Bool, List, [], Option, Some, None, is_none}
 use Rattle.std.specs.declared.snapshot.Snapshot.{Snapshot}
 use Rattle.sys_terms.specs.View.{Machine, system_view}
 use Rattle.board_core.specs.declared.plan.Plan.{Plan}
@@ -36,6 +36,10 @@ turns_of plan (Some s) = (plan.depth + 2) - s.turn
 
 abbrev pub worker_steps : Worker → ℕ
 worker_steps w = turns_of (worker_plan w) w.1
+
+-- whether want of memory ended it, so that it does not search any more
+abbrev pub is_over : Worker → Bool
+is_over w = is_none w.1
 
 -- the front of the lemmas that it has taken up; 0 where it does not search
 abbrev pub front_in : Option Search → ℕ

@@ -3,7 +3,7 @@ pub mod Looks
 pub mod Larges
 pub mod Lemmas
 pub mod Steps
-pub mod Stucks
+pub mod Posts
 pub mod Halts
 pub mod Tasks
 pub mod Engines

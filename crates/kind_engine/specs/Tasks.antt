@@ -11,6 +11,7 @@ use Rattle.board_core.specs.Seats.{Decides}
 use Rattle.kind_engine.specs.Lemmas.{AreLemmas}
 use Rattle.kind_engine.specs.Steps.{IsAtStep}
 use Rattle.kind_engine.specs.Halts.{halted_grounds}
+use Rattle.kind_engine.specs.Posts.{NamesFirstWide}
 use Rattle.kind_engine.specs.declared.task.Task.{Task}
 use Rattle.kind_engine.specs.declared.task.Task.TheVariants as t
 use Rattle.kind_engine.specs.declared.task.Search.{Search}
@@ -21,14 +22,14 @@ pub record IsRefutedBelow (m : Machine) (plan : Plan) (i p : ℕ) (proofs : List
   pub count : length proofs ≡ i
   pub refuted : AreBases m p [] 0 proofs
 
--- before turn i of the engine: it is at the property; or it halted, and its cause may be posted; or the
--- history shows that it went to its depth; or it holds or breaks the property
+-- before turn i of the engine: it is at the property; or it halted, and its cause may be posted, which names the first
+-- large value where it names one; or the history shows that it went to its depth; or it holds or breaks the property
 abbrev pub IsTask : Machine → Plan → List Posting → (engine i p : ℕ) → Task → Type 0
 IsTask m plan known engine i p (t.Refuted proofs) =
     (engine ≡ 0) × IsRefutedBelow m plan i p (proofs_view proofs.items)
 IsTask m plan known engine i p (t.Run run) = (engine ≡ 1) × IsAtStep m plan i p (states_view run.items)
 IsTask m plan known engine i p (t.Halted h) =
-    IsTrueAfter m plan known (spent engine p (cause_view h.cause) (halted_grounds h))
+    IsTrueAfter m plan known (spent engine p (cause_view h.cause) (halted_grounds h)) × NamesFirstWide (cause_view h.cause)
 IsTask m plan known engine i p t.Ended = (p < length m.properties) × IsDepth known engine p plan.depth
 IsTask m plan known engine i p t.Decided = Decides known p
 

@@ -1,6 +1,6 @@
 //! Bounded search.
 
-ghost use Rattle.std.specs.Prelude.{◌≡◌, ◌<◌, ◌≤◌, ◌^◌, ◌+◌, List, [], length, take, Some, Ok, IfOk, OnOk};
+ghost use Rattle.std.specs.Prelude.{◌≡◌, ◌<◌, ◌≤◌, ◌^◌, ◌+◌, List, [], length, take, true, false, Some, Ok, IfOk, OnOk, IsErr, is_err};
 ghost use Rattle.sys_terms.specs.View.{Machine, system_view};
 ghost use Rattle.sys_terms.specs.Fits.{IsMild};
 ghost use Rattle.board_core.specs.declared.plan.Plan.{Plan as Options};
@@ -9,7 +9,8 @@ ghost use Rattle.board_core.specs.Entries.{Posting};
 ghost use Rattle.board_core.specs.Seats.{Begins, DecidesAll, HasCauses};
 ghost use Rattle.board_core.specs.declared.engine.Progress.TheVariants.{More, Spent, Decided};
 ghost use Rattle.kind_engine.specs.Tasks.{AreTasks};
-ghost use Rattle.kind_engine.specs.Engines.{worker_machine, worker_plan, worker_known, worker_steps};
+ghost use Rattle.kind_engine.specs.Posts.{Grows, TellsFirstWide};
+ghost use Rattle.kind_engine.specs.Engines.{worker_machine, worker_plan, worker_known, worker_steps, is_over};
 
 use crate::lemmas::Lemmas;
 use crate::subject::Subject;
@@ -78,6 +79,7 @@ impl BoundedEngine {
         ensures system { IfOk result (λ e. worker_machine e ≡ system_view system) }
         ensures plan { IfOk result (λ e. worker_plan e ≡ plan) }
         ensures known { IfOk result (λ e. worker_known e ≡ []) }
+        ensures searches { IfOk result (λ e. is_over e ≡ false) }
         ensures left { IfOk result (λ e. worker_steps e ≡ plan.depth + 2) }
     {
         let Ok(count) = u32::try_from(system.properties.len()) else {
@@ -116,7 +118,9 @@ impl Engine for BoundedEngine {
 
     ghost steps = { λ e. worker_steps e };
 
-    /// As `Engine` says; besides, a turn reads once.
+    /// As `Engine` says; besides, a turn reads once, and a cause `wide` names, of the values of size 2^63 or more
+    /// in its path, that of the variable of the smallest number, at its first such instant. After want of memory
+    /// the engine is over: each further turn answers it again.
     fn turn<B: BoardSeat>(&mut self, alloc: Global, seat: &mut B) -> Result<Progress, EngineFault>
         requires machine { worker_machine self.old ≡ B.machine seat.old }
         requires plan { worker_plan self.old ≡ B.plan seat.old }
@@ -125,8 +129,8 @@ impl Engine for BoundedEngine {
         ensures same { (worker_machine self.new ≡ worker_machine self.old) × (worker_plan self.new ≡ worker_plan self.old) }
         ensures seat { (B.number seat.new ≡ B.number seat.old) × (B.machine seat.new ≡ B.machine seat.old)
             × (B.plan seat.new ≡ B.plan seat.old) × (B.lent seat.new ≡ B.lent seat.old) }
-        ensures seen { OnOk result (Begins (B.seen seat.old) (B.seen seat.new)) }
-        ensures known { OnOk result (Begins (worker_known self.new) (B.seen seat.new)) }
+        ensures seen { Begins (B.seen seat.old) (B.seen seat.new) }
+        ensures known { Begins (worker_known self.new) (B.seen seat.new) }
         ensures front { OnOk result (B.front seat.new ≤ length (worker_known self.new)) }
         ensures decided { result ≡ Ok Decided
             → DecidesAll (take (B.front seat.new) (B.seen seat.new)) (length (B.machine seat.new).properties) }
@@ -139,6 +143,9 @@ impl Engine for BoundedEngine {
         ensures falls { result ≡ Ok More → worker_steps self.new < worker_steps self.old }
 
         ensures reads { OnOk result (B.reads seat.new ≡ B.reads seat.old + 1) }
+        ensures wide { OnOk result (Grows TellsFirstWide (B.number seat.old) (B.seen seat.old) (B.seen seat.new)) }
+        ensures over { is_over self.new ≡ is_err result }
+        ensures stays_over { is_over self.old ≡ true → IsErr result }
     {
         let Some(search) = self.search.take() else {
             return Err(EngineFault::Memory(AllocError));

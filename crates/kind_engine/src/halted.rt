@@ -7,7 +7,7 @@ ghost use Rattle.board_core.specs.Entries.{IsTrueAfter, spent};
 ghost use Rattle.board_core.specs.View.{cause_view, grounds_view};
 ghost use Rattle.board_core.specs.Seats.{Begins, has_cause};
 ghost use Rattle.kind_engine.specs.Halts.{paths_view, halted_grounds, open_grounds};
-ghost use Rattle.kind_engine.specs.Stucks.{Grows};
+ghost use Rattle.kind_engine.specs.Posts.{Grows, IsPost, NamesFirstWide};
 
 use crate::looking::Open;
 use crate::posting::post_spent;
@@ -108,12 +108,13 @@ pub(crate) fn post_halted<B: BoardSeat>(
 ) -> Result<(), EngineFault>
     requires true_one { IsTrueAfter (B.machine seat.old) (B.plan seat.old) (B.seen seat.old)
         (spent engine property (cause_view halted.now.cause) (halted_grounds halted.now)) }
+    requires first { NamesFirstWide (cause_view halted.now.cause) }
     ensures seat { (B.number seat.new ≡ B.number seat.old) × (B.machine seat.new ≡ B.machine seat.old)
         × (B.plan seat.new ≡ B.plan seat.old) × (B.lent seat.new ≡ B.lent seat.old) }
     ensures front { B.front seat.new ≡ B.front seat.old }
     ensures reads { B.reads seat.new ≡ B.reads seat.old }
-    ensures seen { OnOk result (Begins (B.seen seat.old) (B.seen seat.new)) }
-    ensures stuck { OnOk result ((least : ℕ) → Grows (B.number seat.old) least (B.seen seat.old) (B.seen seat.new)) }
+    ensures seen { Begins (B.seen seat.old) (B.seen seat.new) }
+    ensures posts { OnOk result ((least : ℕ) → Grows (IsPost least) (B.number seat.old) (B.seen seat.old) (B.seen seat.new)) }
     ensures cause { OnOk result (has_cause (B.number seat.old) engine property (B.seen seat.new) ≡ true) }
 {
     let kept = kept(alloc, halted)?;

@@ -1,6 +1,6 @@
 //! Induction over several states.
 
-ghost use Rattle.std.specs.Prelude.{◌≡◌, ◌<◌, ◌≤◌, ◌^◌, ◌+◌, List, [], length, take, Some, Ok, IfOk, OnOk};
+ghost use Rattle.std.specs.Prelude.{◌≡◌, ◌<◌, ◌≤◌, ◌^◌, ◌+◌, List, [], length, take, true, false, Some, Ok, IfOk, OnOk, IsErr, is_err};
 ghost use Rattle.sys_terms.specs.View.{Machine, system_view};
 ghost use Rattle.sys_terms.specs.Fits.{IsMild};
 ghost use Rattle.board_core.specs.declared.plan.Plan.{Plan as Options};
@@ -9,8 +9,8 @@ ghost use Rattle.board_core.specs.Entries.{Posting};
 ghost use Rattle.board_core.specs.Seats.{Begins, DecidesAll, HasCauses};
 ghost use Rattle.board_core.specs.declared.engine.Progress.TheVariants.{More, Spent, Decided};
 ghost use Rattle.kind_engine.specs.Tasks.{AreTasks};
-ghost use Rattle.kind_engine.specs.Stucks.{Grows};
-ghost use Rattle.kind_engine.specs.Engines.{worker_machine, worker_plan, worker_known, worker_steps, worker_front};
+ghost use Rattle.kind_engine.specs.Posts.{Grows, IsBehind, TellsFirstWide};
+ghost use Rattle.kind_engine.specs.Engines.{worker_machine, worker_plan, worker_known, worker_steps, is_over, worker_front};
 
 use crate::lemmas::{Lemmas, read_lemmas};
 use crate::subject::Subject;
@@ -82,6 +82,7 @@ impl StepEngine {
         ensures system { IfOk result (λ e. worker_machine e ≡ system_view system) }
         ensures plan { IfOk result (λ e. worker_plan e ≡ plan) }
         ensures known { IfOk result (λ e. worker_known e ≡ []) }
+        ensures searches { IfOk result (λ e. is_over e ≡ false) }
         ensures left { IfOk result (λ e. worker_steps e ≡ plan.depth + 1) }
         ensures front { IfOk result (λ e. worker_front e ≡ 0) }
     {
@@ -123,7 +124,9 @@ impl Engine for StepEngine {
 
     /// As `Engine` says; besides, a turn reads once. Where the engine has taken up all that the reads at
     /// this seat have answered, as a new engine has at a new seat, it has so after the turn, and a path at
-    /// which it is stuck has a front no less than the length of what the seat had seen before the turn.
+    /// which it is stuck has a front no less than the length of what the seat had seen before the turn. A cause
+    /// `wide` names, of the values of size 2^63 or more in its path, that of the variable of the smallest number, at
+    /// its first such instant. After want of memory the engine is over: each further turn answers it again.
     fn turn<B: BoardSeat>(&mut self, alloc: Global, seat: &mut B) -> Result<Progress, EngineFault>
         requires machine { worker_machine self.old ≡ B.machine seat.old }
         requires plan { worker_plan self.old ≡ B.plan seat.old }
@@ -132,8 +135,8 @@ impl Engine for StepEngine {
         ensures same { (worker_machine self.new ≡ worker_machine self.old) × (worker_plan self.new ≡ worker_plan self.old) }
         ensures seat { (B.number seat.new ≡ B.number seat.old) × (B.machine seat.new ≡ B.machine seat.old)
             × (B.plan seat.new ≡ B.plan seat.old) × (B.lent seat.new ≡ B.lent seat.old) }
-        ensures seen { OnOk result (Begins (B.seen seat.old) (B.seen seat.new)) }
-        ensures known { OnOk result (Begins (worker_known self.new) (B.seen seat.new)) }
+        ensures seen { Begins (B.seen seat.old) (B.seen seat.new) }
+        ensures known { Begins (worker_known self.new) (B.seen seat.new) }
         ensures front { OnOk result (B.front seat.new ≤ length (worker_known self.new)) }
         ensures decided { result ≡ Ok Decided
             → DecidesAll (take (B.front seat.new) (B.seen seat.new)) (length (B.machine seat.new).properties) }
@@ -146,8 +149,11 @@ impl Engine for StepEngine {
         ensures falls { result ≡ Ok More → worker_steps self.new < worker_steps self.old }
 
         ensures reads { OnOk result (B.reads seat.new ≡ B.reads seat.old + 1) }
+        ensures wide { OnOk result (Grows TellsFirstWide (B.number seat.old) (B.seen seat.old) (B.seen seat.new)) }
+        ensures over { is_over self.new ≡ is_err result }
+        ensures stays_over { is_over self.old ≡ true → IsErr result }
         ensures stuck { OnOk result (B.front seat.old ≤ worker_front self.old
-            → Grows (B.number seat.old) (length (B.seen seat.old)) (B.seen seat.old) (B.seen seat.new)) }
+            → Grows (IsBehind (length (B.seen seat.old))) (B.number seat.old) (B.seen seat.old) (B.seen seat.new)) }
         ensures taken { OnOk result (B.front seat.old ≤ worker_front self.old → B.front seat.new ≤ worker_front self.new) }
     {
         let Some(search) = self.search.take() else {

@@ -8,7 +8,7 @@ ghost use Rattle.board_core.specs.Entries.{Posting, AreSound};
 ghost use Rattle.board_core.specs.View.{news_view, statement_view};
 ghost use Rattle.board_core.specs.Seats.{Begins};
 ghost use Rattle.kind_engine.specs.Lemmas.{AreLemmas, IsToldOf, told_term};
-ghost use Rattle.kind_engine.specs.Stucks.{Grows};
+ghost use Rattle.kind_engine.specs.Posts.{Grows, IsPost};
 
 use board_core::{BoardSeat, EngineFault, News, Statement};
 use cert_rules::Cited;
@@ -106,8 +106,8 @@ pub(crate) fn read_lemmas<B: BoardSeat>(
         × (B.plan seat.new ≡ B.plan seat.old) × (B.lent seat.new ≡ B.lent seat.old) }
     ensures front { OnOk result (B.front seat.new ≡ length (B.seen seat.new)) }
     ensures reads { OnOk result (B.reads seat.new ≡ B.reads seat.old + 1) }
-    ensures seen { OnOk result (Begins (B.seen seat.old) (B.seen seat.new)) }
-    ensures stuck { OnOk result ((least : ℕ) → Grows (B.number seat.old) least (B.seen seat.old) (B.seen seat.new)) }
+    ensures seen { Begins (B.seen seat.old) (B.seen seat.new) }
+    ensures posts { OnOk result ((least : ℕ) → Grows (IsPost least) (B.number seat.old) (B.seen seat.old) (B.seen seat.new)) }
     ensures lemmas { IfOk result (λ r. AreLemmas (B.machine seat.new) (B.seen seat.new) r.front
         (cites_view r.cites.items)) }
     ensures taken { IfOk result (λ r. B.front seat.old ≤ lemmas.front → length (B.seen seat.new) ≤ r.front) }

@@ -7,7 +7,7 @@ ghost use Rattle.cert_rules.specs.Kept.{base_machine, base_property, base_instan
 ghost use Rattle.board_core.specs.Entries.{IsBroken, IsBaseTo, IsDepth, IsTrueAfter, facts_in, spent, stuck};
 ghost use Rattle.board_core.specs.View.{cause_view, grounds_view};
 ghost use Rattle.board_core.specs.Seats.{Begins, Decides, has_cause};
-ghost use Rattle.kind_engine.specs.Stucks.{Grows};
+ghost use Rattle.kind_engine.specs.Posts.{Grows, IsPost, NamesFirstWide};
 
 use board_core::{BoardSeat, Cause, EngineFault, Entry, Kept};
 use cert_rules::{Base, Held, Step};
@@ -24,8 +24,8 @@ pub(crate) fn post_broken<B: BoardSeat>(
         × (B.plan seat.new ≡ B.plan seat.old) × (B.lent seat.new ≡ B.lent seat.old) }
     ensures front { B.front seat.new ≡ B.front seat.old }
     ensures reads { B.reads seat.new ≡ B.reads seat.old }
-    ensures seen { OnOk result (Begins (B.seen seat.old) (B.seen seat.new)) }
-    ensures stuck { OnOk result ((least : ℕ) → Grows (B.number seat.old) least (B.seen seat.old) (B.seen seat.new)) }
+    ensures seen { Begins (B.seen seat.old) (B.seen seat.new) }
+    ensures posts { OnOk result ((least : ℕ) → Grows (IsPost least) (B.number seat.old) (B.seen seat.old) (B.seen seat.new)) }
     ensures decided { OnOk result (Decides (B.seen seat.new) property) }
 {
     seat.post(Entry::broken(property, path))?;
@@ -40,8 +40,8 @@ pub(crate) fn post_base<B: BoardSeat>(seat: &mut B, base: Base) -> Result<u64, E
         × (B.plan seat.new ≡ B.plan seat.old) × (B.lent seat.new ≡ B.lent seat.old) }
     ensures front { B.front seat.new ≡ B.front seat.old }
     ensures reads { B.reads seat.new ≡ B.reads seat.old }
-    ensures seen { OnOk result (Begins (B.seen seat.old) (B.seen seat.new)) }
-    ensures stuck { OnOk result ((least : ℕ) → Grows (B.number seat.old) least (B.seen seat.old) (B.seen seat.new)) }
+    ensures seen { Begins (B.seen seat.old) (B.seen seat.new) }
+    ensures posts { OnOk result ((least : ℕ) → Grows (IsPost least) (B.number seat.old) (B.seen seat.old) (B.seen seat.new)) }
     ensures base { IfOk result (λ place. IsBaseTo (base_property base) (base_instant base)
         (slice_get (facts_in (B.seen seat.new)) place)) }
 {
@@ -59,12 +59,13 @@ pub(crate) fn post_spent<B: BoardSeat>(
 ) -> Result<(), EngineFault>
     requires true_one { IsTrueAfter (B.machine seat.old) (B.plan seat.old) (B.seen seat.old)
         (spent engine property (cause_view cause) (grounds_view kept)) }
+    requires first { NamesFirstWide (cause_view cause) }
     ensures seat { (B.number seat.new ≡ B.number seat.old) × (B.machine seat.new ≡ B.machine seat.old)
         × (B.plan seat.new ≡ B.plan seat.old) × (B.lent seat.new ≡ B.lent seat.old) }
     ensures front { B.front seat.new ≡ B.front seat.old }
     ensures reads { B.reads seat.new ≡ B.reads seat.old }
-    ensures seen { OnOk result (Begins (B.seen seat.old) (B.seen seat.new)) }
-    ensures stuck { OnOk result ((least : ℕ) → Grows (B.number seat.old) least (B.seen seat.old) (B.seen seat.new)) }
+    ensures seen { Begins (B.seen seat.old) (B.seen seat.new) }
+    ensures posts { OnOk result ((least : ℕ) → Grows (IsPost least) (B.number seat.old) (B.seen seat.old) (B.seen seat.new)) }
     ensures cause { OnOk result (has_cause (B.number seat.old) engine property (B.seen seat.new) ≡ true) }
 {
     seat.post(Entry::spent(engine, property, cause, kept))?;
@@ -79,8 +80,8 @@ pub(crate) fn post_step<B: BoardSeat>(seat: &mut B, step: Step) -> Result<u64, E
         × (B.plan seat.new ≡ B.plan seat.old) × (B.lent seat.new ≡ B.lent seat.old) }
     ensures front { B.front seat.new ≡ B.front seat.old }
     ensures reads { B.reads seat.new ≡ B.reads seat.old }
-    ensures seen { OnOk result (Begins (B.seen seat.old) (B.seen seat.new)) }
-    ensures stuck { OnOk result ((least : ℕ) → Grows (B.number seat.old) least (B.seen seat.old) (B.seen seat.new)) }
+    ensures seen { Begins (B.seen seat.old) (B.seen seat.new) }
+    ensures posts { OnOk result ((least : ℕ) → Grows (IsPost least) (B.number seat.old) (B.seen seat.old) (B.seen seat.new)) }
     ensures step { IfOk result (λ place. IsStepOf (step_property step) (step_k step)
         (slice_get (facts_in (B.seen seat.new)) place)) }
 {
@@ -103,8 +104,8 @@ pub(crate) fn post_held<B: BoardSeat>(
         × (B.plan seat.new ≡ B.plan seat.old) × (B.lent seat.new ≡ B.lent seat.old) }
     ensures front { B.front seat.new ≡ B.front seat.old }
     ensures reads { B.reads seat.new ≡ B.reads seat.old }
-    ensures seen { OnOk result (Begins (B.seen seat.old) (B.seen seat.new)) }
-    ensures stuck { OnOk result ((least : ℕ) → Grows (B.number seat.old) least (B.seen seat.old) (B.seen seat.new)) }
+    ensures seen { Begins (B.seen seat.old) (B.seen seat.new) }
+    ensures posts { OnOk result ((least : ℕ) → Grows (IsPost least) (B.number seat.old) (B.seen seat.old) (B.seen seat.new)) }
     ensures decided { OnOk result (Decides (B.seen seat.new) property) }
 {
     seat.post(Entry::held(held, first, second))?;
@@ -124,8 +125,8 @@ pub(crate) fn post_stuck<B: BoardSeat>(
         × (B.plan seat.new ≡ B.plan seat.old) × (B.lent seat.new ≡ B.lent seat.old) }
     ensures front { B.front seat.new ≡ B.front seat.old }
     ensures reads { B.reads seat.new ≡ B.reads seat.old }
-    ensures seen { OnOk result (Begins (B.seen seat.old) (B.seen seat.new)) }
-    ensures stuck { OnOk result (Grows (B.number seat.old) front (B.seen seat.old) (B.seen seat.new)) }
+    ensures seen { Begins (B.seen seat.old) (B.seen seat.new) }
+    ensures posts { OnOk result (Grows (IsPost front) (B.number seat.old) (B.seen seat.old) (B.seen seat.new)) }
     ensures depth { OnOk result (IsDepth (B.seen seat.new) 1 property (B.plan seat.old).depth) }
 {
     seat.post(Entry::stuck(property, path, front))?;

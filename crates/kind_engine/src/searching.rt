@@ -6,7 +6,7 @@ ghost use Rattle.cert_rules.specs.View.{proofs_view};
 ghost use Rattle.cert_rules.specs.Facts.{AreBases};
 ghost use Rattle.board_core.specs.Seats.{Begins};
 ghost use Rattle.kind_engine.specs.Ready.{IsReady};
-ghost use Rattle.kind_engine.specs.Stucks.{Grows};
+ghost use Rattle.kind_engine.specs.Posts.{Grows, IsPost};
 ghost use Rattle.kind_engine.specs.Tasks.{IsTask};
 
 use crate::checking::base_of;
@@ -39,8 +39,8 @@ fn refuted<B: BoardSeat>(
         × (B.plan seat.new ≡ B.plan seat.old) × (B.lent seat.new ≡ B.lent seat.old) }
     ensures front { B.front seat.new ≡ B.front seat.old }
     ensures reads { B.reads seat.new ≡ B.reads seat.old }
-    ensures seen { OnOk result (Begins (B.seen seat.old) (B.seen seat.new)) }
-    ensures stuck { OnOk result ((least : ℕ) → Grows (B.number seat.old) least (B.seen seat.old) (B.seen seat.new)) }
+    ensures seen { Begins (B.seen seat.old) (B.seen seat.new) }
+    ensures posts { OnOk result ((least : ℕ) → Grows (IsPost least) (B.number seat.old) (B.seen seat.old) (B.seen seat.new)) }
     ensures task { IfOk result (λ t. IsTask (system_view subject.now.system) subject.now.plan (B.seen seat.new)
         subject.now.engine (length proofs.items) property t) }
 {
@@ -70,8 +70,8 @@ pub(crate) fn at_next_instant<B: BoardSeat>(
         × (B.plan seat.new ≡ B.plan seat.old) × (B.lent seat.new ≡ B.lent seat.old) }
     ensures front { B.front seat.new ≡ B.front seat.old }
     ensures reads { B.reads seat.new ≡ B.reads seat.old }
-    ensures seen { OnOk result (Begins (B.seen seat.old) (B.seen seat.new)) }
-    ensures stuck { OnOk result ((least : ℕ) → Grows (B.number seat.old) least (B.seen seat.old) (B.seen seat.new)) }
+    ensures seen { Begins (B.seen seat.old) (B.seen seat.new) }
+    ensures posts { OnOk result ((least : ℕ) → Grows (IsPost least) (B.number seat.old) (B.seen seat.old) (B.seen seat.new)) }
     ensures task { IfOk result (λ t. IsTask (system_view subject.now.system) subject.now.plan (B.seen seat.new)
         subject.now.engine (suc (length proofs.items)) property t) }
 {

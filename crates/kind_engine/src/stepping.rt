@@ -9,7 +9,7 @@ ghost use Rattle.board_core.specs.Seats.{Begins, Decides};
 ghost use Rattle.kind_engine.specs.Ready.{IsReady};
 ghost use Rattle.kind_engine.specs.Lemmas.{AreLemmas};
 ghost use Rattle.kind_engine.specs.Steps.{IsAtStep};
-ghost use Rattle.kind_engine.specs.Stucks.{Grows};
+ghost use Rattle.kind_engine.specs.Posts.{Grows, IsPost};
 ghost use Rattle.kind_engine.specs.Tasks.{IsTask};
 
 use crate::asking::step_after;
@@ -53,8 +53,8 @@ fn hold<B: BoardSeat>(
         × (B.plan seat.new ≡ B.plan seat.old) × (B.lent seat.new ≡ B.lent seat.old) }
     ensures front { B.front seat.new ≡ B.front seat.old }
     ensures reads { B.reads seat.new ≡ B.reads seat.old }
-    ensures seen { OnOk result (Begins (B.seen seat.old) (B.seen seat.new)) }
-    ensures stuck { OnOk result ((least : ℕ) → Grows (B.number seat.old) least (B.seen seat.old) (B.seen seat.new)) }
+    ensures seen { Begins (B.seen seat.old) (B.seen seat.new) }
+    ensures posts { OnOk result ((least : ℕ) → Grows (IsPost least) (B.number seat.old) (B.seen seat.old) (B.seen seat.new)) }
     ensures decided { OnOk result (Decides (B.seen seat.new) property) }
 {
     let base = base_of(alloc, subject, &lemmas.cites, property, k - 1, proofs)?;
@@ -89,8 +89,8 @@ fn founded<B: BoardSeat>(
         × (B.plan seat.new ≡ B.plan seat.old) × (B.lent seat.new ≡ B.lent seat.old) }
     ensures front { B.front seat.new ≡ B.front seat.old }
     ensures reads { B.reads seat.new ≡ B.reads seat.old }
-    ensures seen { OnOk result (Begins (B.seen seat.old) (B.seen seat.new)) }
-    ensures stuck { OnOk result ((least : ℕ) → Grows (B.number seat.old) least (B.seen seat.old) (B.seen seat.new)) }
+    ensures seen { Begins (B.seen seat.old) (B.seen seat.new) }
+    ensures posts { OnOk result ((least : ℕ) → Grows (IsPost least) (B.number seat.old) (B.seen seat.old) (B.seen seat.new)) }
     ensures task { IfOk result (λ t. IsTask (system_view subject.now.system) subject.now.plan (B.seen seat.new)
         subject.now.engine (suc k) property t) }
 {
@@ -136,8 +136,8 @@ pub(crate) fn at_next_step<B: BoardSeat>(
         × (B.plan seat.new ≡ B.plan seat.old) × (B.lent seat.new ≡ B.lent seat.old) }
     ensures front { B.front seat.new ≡ B.front seat.old }
     ensures reads { B.reads seat.new ≡ B.reads seat.old }
-    ensures seen { OnOk result (Begins (B.seen seat.old) (B.seen seat.new)) }
-    ensures stuck { OnOk result (Grows (B.number seat.old) lemmas.now.front (B.seen seat.old) (B.seen seat.new)) }
+    ensures seen { Begins (B.seen seat.old) (B.seen seat.new) }
+    ensures posts { OnOk result (Grows (IsPost lemmas.now.front) (B.number seat.old) (B.seen seat.old) (B.seen seat.new)) }
     ensures task { IfOk result (λ t. IsTask (system_view subject.now.system) subject.now.plan (B.seen seat.new)
         subject.now.engine (suc k) property t) }
 {

@@ -8,7 +8,7 @@ ghost use Rattle.board_core.specs.Verdicts.{decides};
 ghost use Rattle.board_core.specs.declared.engine.Progress.TheVariants.{More, Spent, Decided};
 ghost use Rattle.kind_engine.specs.Ready.{IsReady};
 ghost use Rattle.kind_engine.specs.Lemmas.{AreLemmas};
-ghost use Rattle.kind_engine.specs.Stucks.{Grows};
+ghost use Rattle.kind_engine.specs.Posts.{Grows, IsPost};
 ghost use Rattle.kind_engine.specs.Tasks.{IsTask, AreTasks, IsSearch};
 ghost use Rattle.kind_engine.specs.Engines.{turns_of};
 
@@ -56,8 +56,8 @@ fn advanced<B: BoardSeat>(
         × (B.plan seat.new ≡ B.plan seat.old) × (B.lent seat.new ≡ B.lent seat.old) }
     ensures front { B.front seat.new ≡ B.front seat.old }
     ensures reads { B.reads seat.new ≡ B.reads seat.old }
-    ensures seen { OnOk result (Begins (B.seen seat.old) (B.seen seat.new)) }
-    ensures stuck { OnOk result (Grows (B.number seat.old) lemmas.now.front (B.seen seat.old) (B.seen seat.new)) }
+    ensures seen { Begins (B.seen seat.old) (B.seen seat.new) }
+    ensures posts { OnOk result (Grows (IsPost lemmas.now.front) (B.number seat.old) (B.seen seat.old) (B.seen seat.new)) }
     ensures task { IfOk result (λ t. IsTask (system_view subject.now.system) subject.now.plan (B.seen seat.new)
         subject.now.engine (suc turn) property t) }
 {
@@ -93,8 +93,8 @@ fn all_advanced<B: BoardSeat>(
         × (B.plan seat.new ≡ B.plan seat.old) × (B.lent seat.new ≡ B.lent seat.old) }
     ensures front { B.front seat.new ≡ B.front seat.old }
     ensures reads { B.reads seat.new ≡ B.reads seat.old }
-    ensures seen { OnOk result (Begins (B.seen seat.old) (B.seen seat.new)) }
-    ensures stuck { OnOk result (Grows (B.number seat.old) lemmas.now.front (B.seen seat.old) (B.seen seat.new)) }
+    ensures seen { Begins (B.seen seat.old) (B.seen seat.new) }
+    ensures posts { OnOk result (Grows (IsPost lemmas.now.front) (B.number seat.old) (B.seen seat.old) (B.seen seat.new)) }
     ensures count { IfOk result (λ ts. length ts.items ≡ length (system_view subject.now.system).properties) }
     ensures tasks { IfOk result (λ ts. AreTasks (system_view subject.now.system) subject.now.plan (B.seen seat.new)
         subject.now.engine (suc turn) 0 ts.items) }
@@ -123,8 +123,8 @@ fn report<B: BoardSeat>(
         × (B.plan seat.new ≡ B.plan seat.old) × (B.lent seat.new ≡ B.lent seat.old) }
     ensures front { B.front seat.new ≡ B.front seat.old }
     ensures reads { B.reads seat.new ≡ B.reads seat.old }
-    ensures seen { OnOk result (Begins (B.seen seat.old) (B.seen seat.new)) }
-    ensures stuck { OnOk result ((least : ℕ) → Grows (B.number seat.old) least (B.seen seat.old) (B.seen seat.new)) }
+    ensures seen { Begins (B.seen seat.old) (B.seen seat.new) }
+    ensures posts { OnOk result ((least : ℕ) → Grows (IsPost least) (B.number seat.old) (B.seen seat.old) (B.seen seat.new)) }
     ensures cause { OnOk result (has_cause (B.number seat.old) subject.now.engine property (B.seen seat.new) ≡ true) }
 {
     match task {
@@ -160,8 +160,8 @@ fn report_all<B: BoardSeat>(
         × (B.plan seat.new ≡ B.plan seat.old) × (B.lent seat.new ≡ B.lent seat.old) }
     ensures front { B.front seat.new ≡ B.front seat.old }
     ensures reads { B.reads seat.new ≡ B.reads seat.old }
-    ensures seen { OnOk result (Begins (B.seen seat.old) (B.seen seat.new)) }
-    ensures stuck { OnOk result ((least : ℕ) → Grows (B.number seat.old) least (B.seen seat.old) (B.seen seat.new)) }
+    ensures seen { Begins (B.seen seat.old) (B.seen seat.new) }
+    ensures posts { OnOk result ((least : ℕ) → Grows (IsPost least) (B.number seat.old) (B.seen seat.old) (B.seen seat.new)) }
     ensures causes { OnOk result (HasCauses (B.seen seat.old) (B.seen seat.new) (B.number seat.old)
         (Some subject.now.engine) (length (system_view subject.now.system).properties)) }
 {
@@ -196,8 +196,8 @@ pub(crate) fn after_read<B: BoardSeat>(
         × (B.plan seat.new ≡ B.plan seat.old) × (B.lent seat.new ≡ B.lent seat.old) }
     ensures front { B.front seat.new ≡ B.front seat.old }
     ensures reads { B.reads seat.new ≡ B.reads seat.old }
-    ensures seen { OnOk result (Begins (B.seen seat.old) (B.seen seat.new)) }
-    ensures stuck { OnOk result (Grows (B.number seat.old) search.lemmas.front (B.seen seat.old) (B.seen seat.new)) }
+    ensures seen { Begins (B.seen seat.old) (B.seen seat.new) }
+    ensures posts { OnOk result (Grows (IsPost search.lemmas.front) (B.number seat.old) (B.seen seat.old) (B.seen seat.new)) }
     ensures search { IfOk result (λ r. IsSearch (system_view subject.now.system) subject.now.plan
         (B.seen seat.new) subject.now.engine r.search) }
     ensures lemmas { IfOk result (λ r. r.search.lemmas.front ≡ search.lemmas.front) }

@@ -4,8 +4,8 @@ use Rattle.board_core.specs.Entries.{IsTrueAfter}
 use Rattle.board_core.specs.Seats.{HasPosted}
 use Rattle.board_core.specs.View.{entry_view}
 use Rattle.kind_engine.proofs.Histories.{base-by}
-use Rattle.kind_engine.specs.Stucks.{IsBehind}
-use Rattle.kind_engine.proofs.Stucks.{grows-posted}
+use Rattle.kind_engine.specs.Posts.{IsPost}
+use Rattle.kind_engine.proofs.Posts.{grows-posted}
 use Rattle.kind_engine.proofs.posting.post_base.Goals as goal
 
 pub post-requires-clause-true_one : goal.post-requires-clause-true_one
@@ -25,10 +25,10 @@ returns-clause-base g c =
     (subst (λ s. HasPosted (b.number c.args.seat.now) seen after s c.in_ok-place.place) c.base.ensures.says
     c.in_ok-place.ensures.ok)
 
-pub returns-clause-stuck : goal.returns-clause-stuck
-returns-clause-stuck g c =
+pub returns-clause-posts : goal.returns-clause-posts
+returns-clause-posts g c =
     let b = g.B.BoardSeat in
     λ least.
-    grows-posted (b.number c.args.seat.now) least (b.seen c.args.seat.now) (b.seen c.post.new.self)
+    grows-posted (IsPost least) (b.number c.args.seat.now) (b.seen c.args.seat.now) (b.seen c.post.new.self)
     (entry_view c.base.result) c.in_ok-place.place c.in_ok-place.ensures.ok
-    (subst (IsBehind least) (sym c.base.ensures.says) tt)
+    (subst (IsPost least) (sym c.base.ensures.says) (tt, tt))

@@ -3,8 +3,8 @@ use Rattle.board_core.specs.Entries.{IsTrueAfter, proved}
 use Rattle.board_core.specs.Seats.{HasPosted}
 use Rattle.kind_engine.proofs.Histories.{held-by}
 use Rattle.board_core.specs.View.{entry_view}
-use Rattle.kind_engine.specs.Stucks.{IsBehind}
-use Rattle.kind_engine.proofs.Stucks.{grows-posted}
+use Rattle.kind_engine.specs.Posts.{IsPost}
+use Rattle.kind_engine.proofs.Posts.{grows-posted}
 use Rattle.kind_engine.proofs.posting.post_held.Goals as goal
 
 pub post-requires-clause-true_one : goal.post-requires-clause-true_one
@@ -23,10 +23,10 @@ returns-clause-decided g c =
     (subst (λ s. HasPosted (b.number c.args.seat.now) seen after s c.in_ok-post.field-0)
     (c.held.ensures.says ∙ ap proved c.requires.says) c.in_ok-post.ensures.ok)
 
-pub returns-clause-stuck : goal.returns-clause-stuck
-returns-clause-stuck g c =
+pub returns-clause-posts : goal.returns-clause-posts
+returns-clause-posts g c =
     let b = g.B.BoardSeat in
     λ least.
-    grows-posted (b.number c.args.seat.now) least (b.seen c.args.seat.now) (b.seen c.post.new.self)
+    grows-posted (IsPost least) (b.number c.args.seat.now) (b.seen c.args.seat.now) (b.seen c.post.new.self)
     (entry_view c.held.result) c.in_ok-post.field-0 c.in_ok-post.ensures.ok
-    (subst (IsBehind least) (sym c.held.ensures.says) tt)
+    (subst (IsPost least) (sym c.held.ensures.says) (tt, tt))

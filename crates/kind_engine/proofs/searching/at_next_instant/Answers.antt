@@ -9,7 +9,7 @@ use Rattle.kind_engine.specs.Halts.{open_grounds}
 use Rattle.kind_engine.proofs.Lists.{length-map, map-push, none-of}
 use Rattle.kind_engine.proofs.Refuting.{bases-next}
 use Rattle.kind_engine.proofs.Breaking.{broken-at}
-use Rattle.kind_engine.proofs.Halting.{bounded-open, halted-true}
+use Rattle.kind_engine.proofs.Halting.{bounded-open, halted-true, open-first}
 use Rattle.kind_engine.proofs.searching.at_next_instant.Goals as goal
 
 pub refuted-requires-clause-refuted : goal.refuted-requires-clause-refuted
@@ -52,10 +52,15 @@ returns-in_ok-halted-in-Open-clause-task g c =
     let e = c.in_ok-halted-in-Open.ensures in
     let n : i ≡ length proofs = search rules in
     let none : c.new.result.items ≡ [] = search rules in
-    halted-true m plan seen p c.requires.named c.args.subject.now.engine 0 c.requires.engine
-    c.in_ok-halted-in-Open.halted left [] (proofs_view proofs)
-    (e.grounds ∙ ap (λ l. open_grounds l (proofs_view proofs) left) none) e.cause
-    (bounded-open m plan seen p c.requires.named (c.facts_are_true.ensures m c.requires.ready.mild.fit)
-    (proofs_view proofs) i (length-map proof_view proofs ∙ sym n) c.requires.refuted
-    (subst (λ k. k ≤ plan.depth) (sym n) c.requires.within) (obligation_view left.what) (proofs_view left.proofs.items)
-    (cause_view left.cause) (rw c.in-Open.is at c.in_ok-proof.ensures))
+    let what = obligation_view left.what in
+    let more = proofs_view left.proofs.items in
+    let why = cause_view left.cause in
+    let open' = rw c.in-Open.is at c.in_ok-proof.ensures in (
+      halted-true m plan seen p c.requires.named c.args.subject.now.engine 0 c.requires.engine
+          c.in_ok-halted-in-Open.halted left [] (proofs_view proofs)
+          (e.grounds ∙ ap (λ l. open_grounds l (proofs_view proofs) left) none) e.cause
+          (bounded-open m plan seen p c.requires.named (c.facts_are_true.ensures m c.requires.ready.mild.fit)
+          (proofs_view proofs) i (length-map proof_view proofs ∙ sym n) c.requires.refuted
+          (subst (λ k. k ≤ plan.depth) (sym n) c.requires.within) what more why open'),
+      open-first m plan p i [] what more why (cause_view c.in_ok-halted-in-Open.halted.cause) (ap cause_view e.cause) open',
+    )

@@ -36,13 +36,15 @@ returns-in_ok-push-in-Stop-clause-task g c =
       proofs = proofs;
       paths = paths_view c.push.new.self.items;
       terms = [];
-    } in
-    subst (λ e. IsTrueAfter m plan seen (spent e p (stopped h) kept)) (sym c.requires.engine)
-    (step-stop m plan seen p c.requires.named k (states_view c.args.run.items) c.requires.run (cites_view cited)
-    c.requires.lemmas.cited h
-    (subst (λ (fs : List Formula). IsAnswered m (step p k) fs plan.budgets (stop h)) same
-    (rw c.in-Stop.is at c.in_ok-proof.ensures)) places there proofs
-    (paths_view c.push.new.self.items) (ap paths_view one))
+    } in (
+      subst (λ e. IsTrueAfter m plan seen (spent e p (stopped h) kept)) (sym c.requires.engine)
+          (step-stop m plan seen p c.requires.named k (states_view c.args.run.items) c.requires.run (cites_view cited)
+          c.requires.lemmas.cited h
+          (subst (λ (fs : List Formula). IsAnswered m (step p k) fs plan.budgets (stop h)) same
+          (rw c.in-Stop.is at c.in_ok-proof.ensures)) places there proofs
+          (paths_view c.push.new.self.items) (ap paths_view one)),
+      tt,
+    )
 
 pub post_stuck-requires : goal.post_stuck-requires
 post_stuck-requires g c =

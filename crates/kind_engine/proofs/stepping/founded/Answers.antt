@@ -3,13 +3,13 @@ use Rattle.std.specs.Prelude.{List}
 use Rattle.proof_steps.specs.View.{proof_view}
 use Rattle.sys_terms.specs.View.{Formula, system_view, terms_view, obligation_view}
 use Rattle.cert_rules.specs.View.{cites_view, cited_terms, proofs_view}
-use Rattle.cert_rules.specs.Facts.{AreBases}
+use Rattle.cert_rules.specs.Facts.{AreBases, terms_of}
 use Rattle.board_core.specs.View.{cause_view}
 use Rattle.kind_engine.specs.Halts.{open_grounds}
 use Rattle.kind_engine.specs.Looks.{IsOpen}
 use Rattle.kind_engine.proofs.Lists.{map-push}
 use Rattle.kind_engine.proofs.Citing.{places-same}
-use Rattle.kind_engine.proofs.Halting.{below-open, halted-true}
+use Rattle.kind_engine.proofs.Halting.{below-open, halted-true, open-first}
 use Rattle.kind_engine.proofs.stepping.founded.Goals as goal
 
 pub returns-in_ok-halted-in-Open-clause-task : goal.returns-in_ok-halted-in-Open-clause-task
@@ -35,12 +35,16 @@ returns-in_ok-halted-in-Open-clause-task g c =
     let what = obligation_view left.what in
     let more = proofs_view left.proofs.items in
     let why = cause_view left.cause in
-    halted-true m plan seen p c.requires.named c.args.subject.now.engine 1 c.requires.engine
-    c.in_ok-halted-in-Open.halted left places (proofs_view proofs ++ proof_view c.args.proof ∷ [])
-    (e.grounds ∙ ap (λ l. open_grounds places l left) (ap proofs_view one ∙ map-push proof_view proofs c.args.proof)) e.cause
-    (below-open m plan seen p c.requires.named (c.facts_are_true.ensures m c.requires.ready.mild.fit)
-    (proofs_view proofs) i cites ground.1
-    (subst (λ (fs : List Formula). AreBases m p fs 0 (proofs_view proofs)) same ground.2)
-    c.requires.lemmas.citable c.requires.lemmas.cited c.args.k ground.0 c.requires.within (proof_view c.args.proof)
-    c.requires.step places there what more why
-    (subst (λ (fs : List Formula). IsOpen m plan p i fs what more why) same ground.3))
+    let open' = subst (λ (fs : List Formula). IsOpen m plan p i fs what more why) same ground.3 in (
+      halted-true m plan seen p c.requires.named c.args.subject.now.engine 1 c.requires.engine
+          c.in_ok-halted-in-Open.halted left places (proofs_view proofs ++ proof_view c.args.proof ∷ [])
+          (e.grounds ∙ ap (λ l. open_grounds places l left) (ap proofs_view one ∙ map-push proof_view proofs c.args.proof))
+          e.cause
+          (below-open m plan seen p c.requires.named (c.facts_are_true.ensures m c.requires.ready.mild.fit)
+          (proofs_view proofs) i cites ground.1
+          (subst (λ (fs : List Formula). AreBases m p fs 0 (proofs_view proofs)) same ground.2)
+          c.requires.lemmas.citable c.requires.lemmas.cited c.args.k ground.0 c.requires.within (proof_view c.args.proof)
+          c.requires.step places there what more why open'),
+      open-first m plan p i (terms_of cites) what more why (cause_view c.in_ok-halted-in-Open.halted.cause)
+          (ap cause_view e.cause) open',
+    )

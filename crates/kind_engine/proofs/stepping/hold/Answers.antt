@@ -5,10 +5,11 @@ use Rattle.cert_rules.specs.Facts.{AreCited, IsStepOf}
 use Rattle.cert_rules.specs.Kept.{base_instant, step_property}
 use Rattle.board_core.specs.Entries.{IsBaseTo, facts_in}
 use Rattle.board_core.proofs.Turns.{begins-begins}
+use Rattle.kind_engine.specs.Posts.{IsPost}
 use Rattle.kind_engine.proofs.Citing.{cited-later}
 use Rattle.kind_engine.proofs.Histories.{named-by}
 use Rattle.kind_engine.proofs.Lists.{on-ok}
-use Rattle.kind_engine.proofs.Stucks.{grows-then}
+use Rattle.kind_engine.proofs.Posts.{grows-then}
 use Rattle.kind_engine.proofs.stepping.hold.Goals as goal
 
 pub post_step-requires-clause-cited : goal.post_step-requires-clause-cited
@@ -51,8 +52,8 @@ returns-clause-seen g c =
     (begins-begins before first second c.in_ok-first.ensures.seen c.in_ok-second.ensures.seen))
     c.post_held.ensures.seen
 
-pub returns-clause-stuck : goal.returns-clause-stuck
-returns-clause-stuck g c =
+pub returns-clause-posts : goal.returns-clause-posts
+returns-clause-posts g c =
     let b = g.B.BoardSeat in
     let number = b.number c.args.seat.now in
     let before = b.seen c.args.seat.now in
@@ -63,7 +64,8 @@ returns-clause-stuck g c =
     let s = c.in_ok-second.ensures in
     on-ok c.post_held.result
     (λ h least.
-    grows-then number (b.number c.post_step.new.seat) least before second after (s.seat.0 ∙ f.seat.0)
-    (grows-then number (b.number c.post_base.new.seat) least before first second f.seat.0 (f.stuck least) (s.stuck least))
+    grows-then (IsPost least) number (b.number c.post_step.new.seat) before second after (s.seat.0 ∙ f.seat.0)
+    (grows-then (IsPost least) number (b.number c.post_base.new.seat) before first second f.seat.0 (f.posts least)
+    (s.posts least))
     (h least))
-    c.post_held.ensures.stuck
+    c.post_held.ensures.posts

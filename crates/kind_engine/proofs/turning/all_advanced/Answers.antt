@@ -2,12 +2,13 @@ use Rattle.std.proofs.Common.{rules, arith, ◌≡◌, ◌++◌, ◌∷◌, [], 
 use Rattle.std.specs.Vec.Iter.{into_iter_items}
 use Rattle.sys_terms.specs.View.{system_view}
 use Rattle.board_core.proofs.Turns.{begins-begins}
+use Rattle.kind_engine.specs.Posts.{IsPost}
 use Rattle.kind_engine.specs.Tasks.{IsTask, AreTasks}
 use Rattle.cert_rules.specs.View.{cites_view}
 use Rattle.kind_engine.proofs.Citing.{lemmas-later}
 use Rattle.kind_engine.proofs.Lists.{length-push}
 use Rattle.kind_engine.proofs.Tasks.{all-push, tasks-later}
-use Rattle.kind_engine.proofs.Stucks.{grows-then}
+use Rattle.kind_engine.proofs.Posts.{grows-then}
 use Rattle.kind_engine.proofs.turning.all_advanced.Goals as goal
 
 pub loop-task-preserved : goal.loop-task-preserved
@@ -43,8 +44,8 @@ loop-task-preserved g c =
       count = let k = v.count in omega (arith, n, long, k);
       rest = let k = v.rest in let s = c.in-Some.ensures.steps.1 in omega (arith, long, k, s);
       seen = begins-begins (b.seen c.args.seat.now) before after v.seen grown;
-      grown = grows-then (b.number c.args.seat.now) (b.number at.seat) c.args.lemmas.now.front (b.seen c.args.seat.now)
-          before after v.number v.grown c.in_ok-advanced.ensures.stuck;
+      grown = grows-then (IsPost c.args.lemmas.now.front) (b.number c.args.seat.now) (b.number at.seat)
+          (b.seen c.args.seat.now) before after v.number v.grown c.in_ok-advanced.ensures.posts;
       number = c.in_ok-advanced.ensures.seat.0 ∙ v.number;
       machine = c.in_ok-advanced.ensures.seat.1 ∙ v.machine;
       plan = c.in_ok-advanced.ensures.seat.2 ∙ v.plan;

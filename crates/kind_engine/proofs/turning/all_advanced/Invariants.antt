@@ -4,7 +4,7 @@ use Rattle.sys_terms.specs.View.{system_view}
 use Rattle.board_core.specs.Seats.{Begins}
 use Rattle.cert_rules.specs.View.{cites_view}
 use Rattle.kind_engine.specs.Lemmas.{AreLemmas}
-use Rattle.kind_engine.specs.Stucks.{Grows}
+use Rattle.kind_engine.specs.Posts.{Grows, IsPost}
 use Rattle.kind_engine.specs.Tasks.{AreTasks}
 use Rattle.kind_engine.proofs.turning.all_advanced.Given as goal
 
@@ -22,7 +22,7 @@ invariant-loop-task g l =
       count : length l.next.items + length rest ≡ length m.properties;
       rest : into_iter_len l.task-iterator ≡ length rest;
       seen : Begins (b.seen l.fn.seat) (b.seen l.seat);
-      grown : Grows (b.number l.fn.seat) l.lemmas.front (b.seen l.fn.seat) (b.seen l.seat);
+      grown : Grows (IsPost l.lemmas.front) (b.number l.fn.seat) (b.seen l.fn.seat) (b.seen l.seat);
       number : b.number l.seat ≡ b.number l.fn.seat;
       machine : b.machine l.seat ≡ b.machine l.fn.seat;
       plan : b.plan l.seat ≡ b.plan l.fn.seat;

@@ -16,11 +16,13 @@ post_halted-requires g c =
     let seen = b.seen c.args.seat.now in
     let front = b.front c.args.seat.now in
     let h = c.in-Halted.halted in
+    let halted = rw c.in-Halted.is at c.requires.task in
     let says = spent c.args.subject.now.engine c.args.property (cause_view h.cause) (halted_grounds h) in
     record {
       true_one = subst (λ (k : Machine). IsTrueAfter k (b.plan c.args.seat.now) seen says) (sym c.requires.book.0)
           (subst (λ (k : Plan). IsTrueAfter m k seen says) (sym c.requires.book.1)
-          (true-later m plan (take front seen) seen says (begins-take front seen) (rw c.in-Halted.is at c.requires.task)));
+          (true-later m plan (take front seen) seen says (begins-take front seen) halted.0));
+      first = halted.1;
     }
 
 pub post_spent-requires : goal.post_spent-requires
@@ -38,4 +40,5 @@ post_spent-requires g c =
               (begins-take front seen) h.1,
         ),
       );
+      first = tt;
     }

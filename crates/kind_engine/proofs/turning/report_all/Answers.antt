@@ -3,12 +3,13 @@ use Rattle.sys_terms.specs.View.{system_view}
 use Rattle.board_core.specs.Seats.{has_cause}
 use Rattle.board_core.specs.Verdicts.{decides}
 use Rattle.board_core.proofs.Turns.{begins-begins}
+use Rattle.kind_engine.specs.Posts.{IsPost}
 use Rattle.kind_engine.specs.Tasks.{IsTask}
 use Rattle.kind_engine.proofs.Lists.{below-next}
 use Rattle.kind_engine.proofs.Histories.{read-front, cause-later}
 use Rattle.kind_engine.proofs.Tasks.{task-of}
 use Rattle.kind_engine.proofs.turning.report_all.Goals as goal
-use Rattle.kind_engine.proofs.Stucks.{grows-then}
+use Rattle.kind_engine.proofs.Posts.{grows-then}
 use Rattle.kind_engine.proofs.turning.report_all.Goals.{then-not-decided+in_ok-report, else-not-decided}
 
 pub report-requires-clause-task : goal.report-requires-clause-task
@@ -45,8 +46,8 @@ loop-property-preserved g c =
                 (λ q l d. cause-later number engine q before after e.seen (v.causes q l d))
                 (λ d. subst (λ n. has_cause n engine at.property after ≡ true) v.number e.cause);
             seen = begins-begins read before after v.seen e.seen;
-            grown = λ least. grows-then number (b.number at.seat) least read before after v.number (v.grown least)
-                (e.stuck least);
+            grown = λ least. grows-then (IsPost least) number (b.number at.seat) read before after v.number (v.grown least)
+                (e.posts least);
             number = e.seat.0 ∙ v.number;
             machine = e.seat.1 ∙ v.machine;
             plan = e.seat.2 ∙ v.plan;

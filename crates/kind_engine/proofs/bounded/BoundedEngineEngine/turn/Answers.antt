@@ -6,6 +6,8 @@ use Rattle.board_core.specs.Verdicts.{decides}
 use Rattle.board_core.proofs.Turns.{begins-begins, begins-self}
 use Rattle.kind_engine.specs.Engines.{Worker, IsSearchIf, worker_known, worker_machine, known_in}
 use Rattle.kind_engine.specs.Tasks.{IsSearch}
+use Rattle.kind_engine.specs.Posts.{TellsFirstWide, IsPost}
+use Rattle.kind_engine.proofs.Posts.{grows-then, grows-seen, grows-weaker}
 use Rattle.kind_engine.proofs.Histories.{read-front}
 use Rattle.kind_engine.proofs.Lists.{ok-same}
 use Rattle.kind_engine.proofs.Tasks.{search-later}
@@ -75,3 +77,17 @@ returns-clause-spent g c =
     (subst (λ k. has_cause (b.number c.read.new.self) k p seen ≡ true) c.self.invariant.number
     (e.spent (ok-same _ _ ok) p (subst (λ (k : Machine). p < length k.properties) machine l)
     (subst (λ h. decides p h ≡ false) front u)))
+
+pub returns-clause-wide : goal.returns-clause-wide
+returns-clause-wide g c =
+    let b = g.B.BoardSeat in
+    let number = b.number c.args.seat.now in
+    let reader = b.number c.read.new.self in
+    let before = b.seen c.args.seat.now in
+    let read = b.seen c.read.new.self in
+    let after = b.seen c.after_read.new.seat in
+    let front = c.in-Some.search.lemmas.front in
+    let r = c.in_ok-news.ensures in
+    grows-then TellsFirstWide number reader before read after r.same.0
+    (grows-seen TellsFirstWide number before read r.seen)
+    (grows-weaker (IsPost front) TellsFirstWide reader read after (λ says k. k.1) c.in_ok-progress.ensures.posts)

@@ -13,7 +13,8 @@ use Rattle.kind_engine.proofs.Citing.{lemmas-later}
 use Rattle.kind_engine.proofs.Histories.{read-front}
 use Rattle.kind_engine.proofs.Lists.{ok-same}
 use Rattle.kind_engine.proofs.Tasks.{tasks-later}
-use Rattle.kind_engine.proofs.Stucks.{grows-then, grows-less}
+use Rattle.kind_engine.specs.Posts.{IsBehind, TellsFirstWide, IsPost}
+use Rattle.kind_engine.proofs.Posts.{grows-then, grows-weaker, post-less}
 use Rattle.kind_engine.proofs.induction.StepEngineEngine.turn.Goals as goal
 
 pub read_lemmas-requires : goal.read_lemmas-requires
@@ -116,9 +117,11 @@ pub returns-clause-stuck : goal.returns-clause-stuck
 returns-clause-stuck g c =
     let b = g.B.BoardSeat in
     let number = b.number c.args.seat.now in
+    let reader = b.number c.read_lemmas.new.seat in
     let before = b.seen c.args.seat.now in
     let read = b.seen c.read_lemmas.new.seat in
     let after = b.seen c.after_read.new.seat in
+    let least = length before in
     let was = c.in-Some.search in
     let lemmas = c.in_ok-lemmas.lemmas in
     let l = c.in_ok-lemmas.ensures in
@@ -129,7 +132,21 @@ returns-clause-stuck g c =
     (subst (λ (w : Worker). b.front c.args.seat.now ≤ worker_front w) (sym c.self.view_is) h) in
     let long = begins-length before read l.seen in
     let taken = l.taken at in
-    grows-then number (b.number c.read_lemmas.new.seat) (length before) before read after l.seat.0
-    (l.stuck (length before))
-    (grows-less (b.number c.read_lemmas.new.seat) lemmas.front (length before) read after (omega (arith, long, taken))
-    c.in_ok-progress.ensures.stuck)
+    grows-weaker (IsPost least) (IsBehind least) number before after (λ says k. k.0)
+    (grows-then (IsPost least) number reader before read after l.seat.0 (l.posts least)
+    (grows-weaker (IsPost lemmas.front) (IsPost least) reader read after
+    (post-less lemmas.front least (omega (arith, long, taken))) c.in_ok-progress.ensures.posts))
+
+pub returns-clause-wide : goal.returns-clause-wide
+returns-clause-wide g c =
+    let b = g.B.BoardSeat in
+    let number = b.number c.args.seat.now in
+    let reader = b.number c.read_lemmas.new.seat in
+    let before = b.seen c.args.seat.now in
+    let read = b.seen c.read_lemmas.new.seat in
+    let after = b.seen c.after_read.new.seat in
+    let l = c.in_ok-lemmas.ensures in
+    grows-then TellsFirstWide number reader before read after l.seat.0
+    (grows-weaker (IsPost 0) TellsFirstWide number before read (λ says k. k.1) (l.posts 0))
+    (grows-weaker (IsPost c.in_ok-lemmas.lemmas.front) TellsFirstWide reader read after (λ says k. k.1)
+    c.in_ok-progress.ensures.posts)
