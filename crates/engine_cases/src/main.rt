@@ -2,6 +2,7 @@
 
 #![tactic(auto)]
 
+mod crossed;
 mod entries;
 mod flags;
 mod numbers;

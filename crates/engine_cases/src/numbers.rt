@@ -1,5 +1,6 @@
 //! Systems of numbers, each with one property.
 
+use crate::crossed::neither_is_set;
 use crate::systems::{Which, system};
 use crate::terms::{
     at_most, choose, choose_number, constant, equal, flag, multiple, next_number, number, plus,
@@ -133,11 +134,12 @@ pub fn adding(alloc: Global) -> Result<System, AllocError> {
     Ok(system)
 }
 
-/// What is taught of the system: of the lagging one that the counter is at most 3, and of the others that it is at
-/// least 0.
+/// What is taught of the system: of the lagging one that the counter is at most 3, of the crossed one that neither flag is
+/// set, and of the others that the counter is at least 0.
 pub fn lemma_for(alloc: Global, which: Which) -> Result<Term, AllocError> {
     match which {
         Which::Lagging => up_to(alloc, 0, 3),
+        Which::Crossed => neither_is_set(alloc),
         _ => from(alloc, 0, 0),
     }
 }

@@ -169,6 +169,9 @@ fn cases(alloc: Global) -> Result<Vec<Case>, AllocError> {
         taught(Which::Lagging, 1, Order::First),
         taught(Which::Limited, 5, Order::First),
         taught(Which::Limited, 6, Order::First),
+        step(Which::Crossed, 1),
+        step(Which::Crossed, 2),
+        taught(Which::Crossed, 1, Order::First),
     ]?)
 }
 

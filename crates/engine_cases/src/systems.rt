@@ -1,5 +1,6 @@
 //! The systems of the cases.
 
+use crate::crossed::crossed;
 use crate::flags::{bits, latch, parity, register, toggle};
 use crate::numbers::{
     adding, big_or_five, counting, doubling, five_or_big, halves, kept, lagging, limited, natural,
@@ -35,6 +36,7 @@ pub enum Which {
     OddAndEvenOrBig,
     StairsOrBig,
     SteepOrBig,
+    Crossed,
 }
 
 /// A system of these shapes, first states and steps, with one property.
@@ -80,6 +82,7 @@ pub fn system_of(alloc: Global, which: Which) -> Result<System, AllocError> {
         Which::OddAndEvenOrBig => or_big(alloc, odd_and_even(alloc)?),
         Which::StairsOrBig => or_big(alloc, stairs(alloc)?),
         Which::SteepOrBig => or_big(alloc, steep(alloc)?),
+        Which::Crossed => crossed(alloc),
     }
 }
 
@@ -108,5 +111,6 @@ pub fn name_of(which: Which) -> &'static str {
         Which::OddAndEvenOrBig => "odd and even or big",
         Which::StairsOrBig => "stairs or big",
         Which::SteepOrBig => "steep stairs or big",
+        Which::Crossed => "crossed",
     }
 }
