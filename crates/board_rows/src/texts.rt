@@ -15,7 +15,7 @@ fn statement_text(alloc: Global, statement: &Statement) -> Result<String, AllocE
     }
 }
 
-/// Each entry with its place and seat.
+/// Each entry with its place and seat, and what a copy of its statement says.
 pub fn news_text(alloc: Global, news: &[News]) -> Result<String, AllocError> {
     if news.is_empty() {
         return format!(in alloc; "nothing");
@@ -23,10 +23,8 @@ pub fn news_text(alloc: Global, news: &[News]) -> Result<String, AllocError> {
     let mut text = String::new(alloc);
     for told in news {
         let (place, seat) = (told.place, told.seat);
-        let line = format!(in alloc;
-            "[{place} by {seat}: {}]",
-            statement_text(alloc, &told.statement)?
-        )?;
+        let copy = told.statement.copied(alloc)?;
+        let line = format!(in alloc; "[{place} by {seat}: {}]", statement_text(alloc, &copy)?)?;
         text.push_str(&line)?;
     }
     Ok(text)
