@@ -47,9 +47,8 @@ returns-clause-seen g c =
     let first = b.seen c.post_base.new.seat in
     let second = b.seen c.post_step.new.seat in
     let after = b.seen c.post_held.new.seat in
-    on-ok c.post_held.result
-    (begins-begins before second after
-    (begins-begins before first second c.in_ok-first.ensures.seen c.in_ok-second.ensures.seen))
+    begins-begins before second after
+    (begins-begins before first second c.in_ok-first.ensures.seen c.in_ok-second.ensures.seen)
     c.post_held.ensures.seen
 
 pub returns-clause-posts : goal.returns-clause-posts
