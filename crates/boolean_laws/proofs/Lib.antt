@@ -1,0 +1,4 @@
+pub mod Parts
+pub mod Contracts
+pub mod Systems
+pub mod Trees
