@@ -2,3 +2,4 @@ pub mod Parts
 pub mod Contracts
 pub mod Systems
 pub mod Trees
+pub mod SmallPrograms
