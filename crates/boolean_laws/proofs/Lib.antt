@@ -3,3 +3,6 @@ pub mod Contracts
 pub mod Systems
 pub mod Trees
 pub mod SmallPrograms
+pub mod Queries
+pub mod Complete
+pub mod Books

@@ -1,10 +1,9 @@
 -- Terms that compare no numbers, and that those of expressions without integers are such.
-use Rattle.std.proofs.Common.{◌≡◌, ℕ, zero, suc, Bool, true, false, cond, ◌&&◌, List, [], ◌∷◌, map, Option, Some, None, option_map, refl, sym, ap, ◌∙◌, subst}
-use Rattle.std.specs.Prelude.{is_some, option_to_list, unwrap_or}
+use Rattle.std.proofs.Common.{◌≡◌, ℕ, zero, suc, Bool, true, false, cond, List, [], ◌∷◌, map, Option, Some, None, option_map, refl, sym}
+use Rattle.std.specs.Prelude.{option_to_list, unwrap_or}
 use Rattle.std.specs.List.{AllByRecursion}
 use Rattle.std.specs.Map.{lookup}
 use Rattle.std.specs.Str.{bytes_eq}
-use Rattle.std.proofs.lemmas.Bool.{false≢true}
 use Rattle.lus_tree.specs.declared.expression.Operator.{Operator}
 use Rattle.lus_tree.specs.declared.expression.Operator.TheVariants.{Implies, Or, Xor, And, Less, AtMost, Equal, Differs, AtLeast, More, Add, Sub, Mul, Div, Mod}
 use Rattle.lus_tree.specs.declared.place.Sort.{Sort}
@@ -12,18 +11,17 @@ use Rattle.lus_tree.specs.declared.place.Sort.TheVariants.{Bool as Flags, Int as
 use Rattle.lus_tree.specs.Tree.{Name, text_of, Expression, Expressions, truth, number, name, negation, minus, pre, arrow, binary, choice, sampled, merged, call, condact, mode_name, no_more, more, Variable}
 use Rattle.lus_meaning.specs.Value.{Value, absent, flag, whole, Instants, not_value, on_flags, on_order, equal_values, apply, choose, is}
 use Rattle.lus_meaning.specs.Frame.{empty_frame, entry}
-use Rattle.lus_meaning.specs.Meaning.{constant_or, mode_key, merge_values, value}
-use Rattle.lus_meaning.specs.Scene.{Clock, base, sampled_by, Scene, Instance, instance, no_instances, no_component, component_of, constants_of, call_instance, clock_of, is_on}
+use Rattle.lus_meaning.specs.Meaning.{constant_or, mode_key, value}
+use Rattle.lus_meaning.specs.Scene.{Clock, base, sampled_by, Scene, Instance, instance, no_instances, no_component, component_of, constants_of, clock_of, is_on}
 use Rattle.lus_meaning.specs.Program.{constant_value}
 use Rattle.lus_meaning.specs.Run.{sort_of, sort_of_name}
 use Rattle.sys_terms.specs.View.{Formula}
 use Rattle.sys_terms.specs.View as t
 use Rattle.sys_terms.specs.Boolean.{is_boolean}
-use Rattle.sys_meaning.specs.Slot.{Place}
 use Rattle.sys_meaning.specs.Items.{Key, Known}
 use Rattle.sys_meaning.specs.Defaults.{is_constant}
-use Rattle.sys_meaning.specs.Part.{Part, a_flag, a_number, formula_of, fixed, variable_in, zero_of, all_after, all_of, some_after, some_of, not_part, choose_part, equal_parts, operate, of_formulas, of_order}
-use Rattle.sys_meaning.specs.Translate.{Stage, flag_at, name_flag, present_within, present, output_part, latest_part, outputs_at, head_part, or_constant, binary_part, term_of, right_terms, formula}
+use Rattle.sys_meaning.specs.Part.{Part, a_flag, a_number, formula_of, fixed, variable_in, zero_of, all_after, all_of, some_after, some_of, not_part, choose_part, equal_parts, of_formulas, of_order}
+use Rattle.sys_meaning.specs.Translate.{Stage, present_within, present, output_part, latest_part, outputs_at, head_part, or_constant, binary_part, term_of, right_terms, formula}
 use Rattle.term_laws.proofs.Weights.{no_number}
 
 -- ---- terms

@@ -1,19 +1,17 @@
 -- The conditions of a declaration without integers compare no numbers, and none of its variables is a number.
-use Rattle.std.proofs.Common.{◌≡◌, ℕ, zero, suc, pred, Bool, true, false, cond, List, [], ◌∷◌, ◌++◌, map, flat_map, Option, Some, None, refl, sym, ap, ◌∙◌, subst}
+use Rattle.std.proofs.Common.{◌≡◌, ℕ, zero, suc, pred, Bool, true, false, cond, List, [], ◌∷◌, ◌++◌, map, flat_map, Option, Some, None, refl, ap}
 use Rattle.std.specs.List.{AllByRecursion}
 use Rattle.std.specs.Map.{lookup}
 use Rattle.std.specs.Str.{bytes_eq}
-use Rattle.lus_tree.specs.declared.place.Sort.{Sort}
 use Rattle.lus_tree.specs.declared.place.Sort.TheVariants.{Bool as Flags}
 use Rattle.lus_tree.specs.Tree.{Name, Variable, Expression, Statement, equation, assertion, property, main_mark, ContractStatement}
-use Rattle.lus_meaning.specs.Value.{Value, absent}
 use Rattle.lus_meaning.specs.Scene.{Manner, plain, while_true, as_import, Site, Instance, Instances, instance, no_instances, with_instance, calls_of, component_of, constants_of, outputs_of, call_instance, variables}
 use Rattle.lus_meaning.specs.Program.{in_order, constant_value}
 use Rattle.lus_meaning.specs.Property.{assertions}
 use Rattle.lus_meaning.specs.Run.{Equation, equations, inputs_of, sort_of, sort_of_name}
 use Rattle.lus_meaning.specs.Depends.{named_in}
 use Rattle.lus_meaning.specs.Occurrences.{Memory, memories, Start, starts}
-use Rattle.lus_meaning.specs.Slots.{Cell, beat_cell, name_cell, memory_cell, start_cell, sofar_cell, held_cell, Slot, cell_sort, slot, contract_cells, own_cells, held_each, held_cells, slots_in, call_slots, slots}
+use Rattle.lus_meaning.specs.Slots.{Cell, name_cell, memory_cell, start_cell, Slot, cell_sort, slot, contract_cells, own_cells, held_each, held_cells, slots_in, call_slots, slots}
 use Rattle.lus_meaning.proofs.InOrder.{in_order_all}
 use Rattle.lus_meaning.proofs.Lists.{all_from, both_parts}
 use Rattle.rule_laws.proofs.Lists.{all_mapped}
@@ -25,13 +23,13 @@ use Rattle.sys_meaning.specs.Slot.{beat, named, starting, so_far, held, Place, o
 use Rattle.sys_meaning.specs.Defaults.{default_among, default_of, site_at, site_of}
 use Rattle.sys_meaning.specs.Items.{ModeItem}
 use Rattle.sys_meaning.specs.Part.{Part, a_flag, fixed, variable, all_of, choose_part, equal_parts}
-use Rattle.sys_meaning.specs.Translate.{Stage, flag_at, name_part, present, term_of, right_terms, formula}
+use Rattle.sys_meaning.specs.Translate.{flag_at, name_part, present, term_of, right_terms, formula}
 use Rattle.sys_meaning.specs.System.{Written, contract_of, assumed, stage, below_call, Sources, is_free, paired, equation_sources, name_here, names_here, runs_where, shared_outputs, from_call, here_of, calls_here, has_so_far, starts_first, so_far_first, held_first, first_of, calls_first, becomes, memory_next, start_next, so_far_next, held_next, next_of, calls_next, asserts_of, asserts_in, calls_asserts, legal_of, body_properties, one_mode, owed_by_site, owed_by_calls, properties_of, shape_of, number_of, system_of}
 use Rattle.sys_meaning.specs.WellTyped.{checked}
 use Rattle.term_laws.specs.Laws.{terms_of}
 use Rattle.boolean_laws.specs.Laws.{IsOfFlags}
-use Rattle.boolean_laws.proofs.Parts.{Good, AllGood, GoodPart, GoodParts, good_boolean, good_variable, good_zero, good_choice, good_equal, good_fixed, good_some, good_all, good_head, Pure, IsNoNumber, none_of_value, GoodModes, AreFlags, presence_good, term_good, formula_good, right_good}
-use Rattle.boolean_laws.proofs.Contracts.{OwnPure, PureManner, PureSite, PureTree, PureCalls, own_outputs, outputs_called, GoodWritten, GoodMode, GoodItems, at_place, contract_good, stage_modes}
+use Rattle.boolean_laws.proofs.Parts.{Good, AllGood, GoodPart, GoodParts, good_boolean, good_variable, good_zero, good_choice, good_equal, good_fixed, good_some, good_all, Pure, IsNoNumber, none_of_value, GoodModes, AreFlags, presence_good, term_good, formula_good, right_good}
+use Rattle.boolean_laws.proofs.Contracts.{OwnPure, PureManner, PureSite, PureTree, PureCalls, own_outputs, outputs_called, GoodMode, GoodItems, at_place, contract_good, stage_modes}
 
 -- ---- sources of names
 

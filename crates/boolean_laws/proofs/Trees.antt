@@ -1,5 +1,5 @@
 -- What the system of a declaration without integers reads has truth values, at every depth of calls.
-use Rattle.std.proofs.Common.{◌≡◌, ℕ, zero, suc, Bool, true, false, cond, List, [], ◌∷◌, ◌++◌, map, flat_map, Option, Some, None, option_map, refl, sym, ap, ◌∙◌, subst}
+use Rattle.std.proofs.Common.{◌≡◌, ℕ, suc, Bool, true, false, cond, List, [], ◌∷◌, ◌++◌, map, flat_map, Option, Some, None, option_map, refl, sym, ap, ◌∙◌, subst}
 use Rattle.std.specs.Prelude.{Contains, find, unwrap_or}
 use Rattle.std.specs.List.{AllByRecursion}
 use Rattle.std.specs.Map.{lookup}
@@ -28,7 +28,7 @@ use Rattle.rule_laws.proofs.Parts.{all_parts}
 use Rattle.rule_laws.proofs.Unfolded.{component_within, each_unfolded}
 use Rattle.clock_laws.proofs.Clocks.{declared_at, unfolded_same}
 use Rattle.path_laws.proofs.Main.{each_is_well_typed}
-use Rattle.sys_meaning.specs.WellTyped.{IsKnown, checked, IsNameOn, StreamFits, OwnFits, MannerFits, CallFits, TreeFits, CallsFit}
+use Rattle.sys_meaning.specs.WellTyped.{IsKnown, checked, IsNameOn, StreamFits, MannerFits, CallFits, TreeFits, CallsFit}
 use Rattle.term_laws.proofs.Weights.{no_number}
 use Rattle.boolean_laws.specs.Integers.{HasNoneItself, HasNoIntegers, CallsHaveNone, IsWithoutIntegers}
 use Rattle.boolean_laws.specs.Laws.{EachHasNone, SystemsAreOfFlags}

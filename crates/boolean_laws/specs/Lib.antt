@@ -1,3 +1,5 @@
 pub mod Integers
 pub mod Laws
 pub mod Worked
+pub mod Complete
+pub mod Books

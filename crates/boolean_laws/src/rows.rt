@@ -3,7 +3,7 @@
 ghost use Rattle.std.specs.Prelude.{[], ◌∷◌};
 ghost use Rattle.lus_meaning.specs.Program.{instance_of};
 ghost use Rattle.boolean_laws.specs.Integers.{HasNoIntegers, IsWithoutIntegers};
-ghost use Rattle.boolean_laws.specs.Worked.{calls_node, comparing, flags_alone, negating, with_a_counter, with_literals};
+ghost use Rattle.boolean_laws.specs.Worked.{calls_node, comparing, flags_alone, with_a_counter, with_literals};
 
 /// A program of a node `b = not a` and one that calls it has no integers.
 pub fn flags_have_none()
