@@ -2,7 +2,8 @@
 
 use std::alloc::{AllocError, Global};
 
-/// The numbers of a case: how many outputs and properties a node has, and how many `pre` and `->` stand in its expressions.
+/// The numbers of a case: how many outputs and properties a node has, and how many `pre` and `->` stand in its
+/// expressions.
 #[derive(Clone, Copy)]
 struct Counts {
     outputs: usize,

@@ -1,9 +1,9 @@
 //! Reads and checks each source of the files in data/ and prints it with its refusal, or that it is taken: those of the
-//! tables `types_` by the check of names, types and numbers, those of `clocks_` by that of clocks too, and the others by
-//! all. Of the others it prints the number of the main node and the orders of the equations of the declarations, or what
-//! is known of the main node. Sources that are made of numbers, or that stand in a file each, near the limits, are
-//! printed with whether they are taken; of one source the names of all properties are. In the tables a `^`
-//! stands for a line's end.
+//! tables `types_` by the check of names, types and numbers, those of `clocks_` by that of clocks too, and the
+//! others by all. Of the others it prints the number of the main node and the orders of the equations of the
+//! declarations, or what is known of the main node. Sources that are made of numbers, or that stand in a file each,
+//! near the limits, are printed with whether they are taken; of one source the names of all properties are. In the
+//! tables a `^` stands for a line's end.
 //!
 //! For the benchmarks, the words `read FILE`, `types FILE`, `clocks FILE` and `checked FILE` have it read that source,
 //! or read and check it so far.

@@ -86,8 +86,12 @@ is_constant_name = holds_of (λ e. is_constant_role e.role)
 abbrev pub sort_of_entry : Scope → Name → Option Sort
 sort_of_entry s x = option_and_then (λ e. e.sort) (entry_of s x)
 
+-- a constant has a value only where it may be used
+abbrev pub value_where_known : Entry → Value
+value_where_known e = cond e.known e.value absent
+
 abbrev pub value_of_entry : Scope → Name → Value
-value_of_entry s x = unwrap_or (option_map (λ e. e.value) (entry_of s x)) absent
+value_of_entry s x = unwrap_or (option_map value_where_known (entry_of s x)) absent
 
 -- ---- types
 
@@ -187,14 +191,18 @@ weighing w = record { value = absent; weight = w }
 abbrev pub name_weight : Scope → Name → Option ℕ
 name_weight s x = cond (is_constant_name s x) (size_of (value_of_entry s x)) (Some 1)
 
+-- a division by 0 has no value and no weight
+abbrev pub divided_weight : Value → Option ℕ → Option ℕ
+divided_weight v w = cond (is_zero v) None w
+
 -- of two constant factors the first one's value counts
 abbrev pub operator_weight : Operator → Bool → Worth → Worth → Option ℕ
 operator_weight Add c a b = both_weights (λ v w. v + w) a.weight b.weight
 operator_weight Sub c a b = both_weights (λ v w. v + w) a.weight b.weight
 operator_weight Mul true a b = both_weights (λ v w. v * w) (size_of a.value) b.weight
 operator_weight Mul false a b = both_weights (λ v w. v * w) (size_of b.value) a.weight
-operator_weight Div c a b = option_map (max 1) a.weight
-operator_weight Mod c a b = size_of b.value
+operator_weight Div c a b = divided_weight b.value (option_map (max 1) a.weight)
+operator_weight Mod c a b = divided_weight b.value (size_of b.value)
 operator_weight _ c a b = None
 
 abbrev pub operator_worth : Operator → Bool → Worth → Worth → Worth

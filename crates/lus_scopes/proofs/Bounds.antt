@@ -11,7 +11,7 @@ use Rattle.std.proofs.Math.Nat.{mul-le-mul_left, mul_comm, div-le_self}
 use Rattle.lus_tree.specs.declared.expression.Operator.{Operator}
 use Rattle.lus_tree.specs.declared.expression.Operator.TheVariants.{Implies, Or, Xor, And, Less, AtMost, Equal, Differs, AtLeast, More, Add, Sub, Mul, Div, Mod}
 use Rattle.lus_meaning.specs.Value.{Value, absent, flag, whole, on_flags, on_order, on_numbers, equal_values, not_value}
-use Rattle.lus_meaning.specs.Scope.{Worth, operator_weight, apply_total, is_heavy, both_weights, size_of}
+use Rattle.lus_meaning.specs.Scope.{Worth, operator_weight, divided_weight, apply_total, is_heavy, both_weights, size_of}
 use Rattle.lus_scopes.specs.Cut.{heaviest, cut, is_bounded}
 
 pub neg_size : (a : ℤ) → unsigned_abs (neg_ℤ a) ≡ unsigned_abs a
@@ -121,39 +121,41 @@ product_bounded true (whole a) (whole b) (Some v) (Some w) p q e = fits (a *ℤ 
 product_bounded false (whole a) (whole b) (Some v) (Some w) p q e = fits (a *ℤ b) (unsigned_abs b * v)
     (second_factor a b v (at_most (unsigned_abs a) v heaviest p)) e
 
-quotient_bounded : (x y : Value) (v : Option ℕ) → is_bounded x v ≡ true → is_heavy (cut (option_map (max 1) v)) ≡ false → is_bounded
-    (apply_total Div x y) (cut (option_map (max 1) v)) ≡ true
+quotient_if : (a b : ℤ) (v : ℕ) (z : Bool) → is_bounded (whole a) (Some v) ≡ true → is_heavy (cut (cond z None (Some (max 1 v)))) ≡ false →
+    is_bounded (cond z absent (whole (int_div_euclid a b))) (cut (cond z None (Some (max 1 v)))) ≡ true
+quotient_if a b v true p e = refl
+quotient_if a b v false p e = fits (int_div_euclid a b) (max 1 v) (omega (arith, quotient_size a b, at_most (unsigned_abs a) v heaviest p)) e
+
+quotient_bounded : (x y : Value) (v : Option ℕ) → is_bounded x v ≡ true → is_heavy (cut (divided_weight y (option_map (max 1) v))) ≡ false →
+    is_bounded (apply_total Div x y) (cut (divided_weight y (option_map (max 1) v))) ≡ true
 quotient_bounded absent absent v p e = refl
 quotient_bounded absent (flag b) v p e = refl
 quotient_bounded absent (whole b) v p e = elim (int_eq b (pos 0)) as
-    (λ z. is_bounded (cond z absent absent) (cut (option_map (max 1) v)) ≡ true) [ true ↦ refl | false ↦ refl ]
+    (λ z. is_bounded (cond z absent absent) (cut (cond z None (option_map (max 1) v))) ≡ true) [ true ↦ refl | false ↦ refl ]
 quotient_bounded (flag a) absent v p e = refl
 quotient_bounded (flag a) (flag b) v p e = refl
 quotient_bounded (flag a) (whole b) v p e = elim (int_eq b (pos 0)) as
-    (λ z. is_bounded (cond z absent absent) (cut (option_map (max 1) v)) ≡ true) [ true ↦ refl | false ↦ refl ]
+    (λ z. is_bounded (cond z absent absent) (cut (cond z None (option_map (max 1) v))) ≡ true) [ true ↦ refl | false ↦ refl ]
 quotient_bounded (whole a) absent v p e = refl
 quotient_bounded (whole a) (flag b) v p e = refl
 quotient_bounded (whole a) (whole b) None p e = absurd (false≢true p)
-quotient_bounded (whole a) (whole b) (Some v) p e =
-    elim (int_eq b (pos 0)) as (λ z. is_bounded (cond z absent (whole (int_div_euclid a b))) (cut (Some (max 1 v))) ≡ true) [
-      | true ↦ refl
-      | false ↦ fits (int_div_euclid a b) (max 1 v) (omega (arith, quotient_size a b, at_most (unsigned_abs a) v heaviest p)) e
-    ]
+quotient_bounded (whole a) (whole b) (Some v) p e = quotient_if a b v (int_eq b (pos 0)) p e
 
-rest_if : (a b : ℤ) (z : Bool) → int_eq b (pos 0) ≡ z → is_heavy (cut (Some (unsigned_abs b))) ≡ false → is_bounded
-    (cond z absent (whole (int_rem_euclid a b))) (cut (Some (unsigned_abs b))) ≡ true
+rest_if : (a b : ℤ) (z : Bool) → int_eq b (pos 0) ≡ z → is_heavy (cut (cond z None (Some (unsigned_abs b)))) ≡ false → is_bounded
+    (cond z absent (whole (int_rem_euclid a b))) (cut (cond z None (Some (unsigned_abs b)))) ≡ true
 rest_if a b true i e = refl
 rest_if a b false i e = fits (int_rem_euclid a b) (unsigned_abs b) (remainder_size a b i) e
 
-remainder_bounded : (x y : Value) → is_heavy (cut (size_of y)) ≡ false → is_bounded (apply_total Mod x y) (cut (size_of y)) ≡ true
+remainder_bounded : (x y : Value) → is_heavy (cut (divided_weight y (size_of y))) ≡ false →
+    is_bounded (apply_total Mod x y) (cut (divided_weight y (size_of y))) ≡ true
 remainder_bounded absent absent e = refl
 remainder_bounded absent (flag b) e = refl
 remainder_bounded absent (whole b) e = elim (int_eq b (pos 0)) as
-    (λ z. is_bounded (cond z absent absent) (cut (size_of (whole b))) ≡ true) [ true ↦ refl | false ↦ refl ]
+    (λ z. is_bounded (cond z absent absent) (cut (cond z None (size_of (whole b)))) ≡ true) [ true ↦ refl | false ↦ refl ]
 remainder_bounded (flag a) absent e = refl
 remainder_bounded (flag a) (flag b) e = refl
 remainder_bounded (flag a) (whole b) e = elim (int_eq b (pos 0)) as
-    (λ z. is_bounded (cond z absent absent) (cut (size_of (whole b))) ≡ true) [ true ↦ refl | false ↦ refl ]
+    (λ z. is_bounded (cond z absent absent) (cut (cond z None (size_of (whole b)))) ≡ true) [ true ↦ refl | false ↦ refl ]
 remainder_bounded (whole a) absent e = refl
 remainder_bounded (whole a) (flag b) e = refl
 remainder_bounded (whole a) (whole b) e = rest_if a b (int_eq b (pos 0)) refl e

@@ -5,7 +5,7 @@ use Rattle.std.proofs.lemmas.Bool.Decides.{nat_tests}
 use Rattle.lus_tree.specs.declared.expression.Operator.{Operator}
 use Rattle.lus_tree.specs.declared.expression.Operator.TheVariants.{Implies, Or, Xor, And, Less, AtMost, Equal, Differs, AtLeast, More, Add, Sub, Mul, Div, Mod}
 use Rattle.lus_meaning.specs.Value.{Value, absent, minus_value}
-use Rattle.lus_meaning.specs.Scope.{Worth, worth, weighing, operator_weight, operator_worth, choice_worth, choose_total, apply_total, is_heavy, both_weights, size_of, greater}
+use Rattle.lus_meaning.specs.Scope.{Worth, worth, weighing, operator_weight, operator_worth, choice_worth, choose_total, apply_total, is_zero, is_heavy, both_weights, size_of, greater}
 use Rattle.lus_scopes.specs.Cut.{heaviest, cut, cut_worth}
 use Rattle.lus_scopes.proofs.Cuts.{sum_of_cut, greater_of_cut, one_of_cut, product_of_cut}
 
@@ -48,6 +48,10 @@ one_weight : (v : Option ℕ) → cut (option_map (max 1) (cut v)) ≡ cut (opti
 one_weight None = refl
 one_weight (Some v) = ap Some (one_of_cut heaviest v (omega arith))
 
+divided_weight_of_cut : (z : Bool) (v w : Option ℕ) → cut v ≡ cut w → cut (cond z None v) ≡ cut (cond z None w)
+divided_weight_of_cut true v w e = refl
+divided_weight_of_cut false v w e = e
+
 weight_of_cut : (o : Operator) (c : Bool) (a b : Worth) → cut (operator_weight o c (cut_worth a) (cut_worth b)) ≡ cut (operator_weight o c a b)
 weight_of_cut Implies c a b = refl
 weight_of_cut Or c a b = refl
@@ -63,7 +67,7 @@ weight_of_cut Add c a b = sum_weight a.weight b.weight
 weight_of_cut Sub c a b = sum_weight a.weight b.weight
 weight_of_cut Mul true a b = product_weight (size_of a.value) b.weight
 weight_of_cut Mul false a b = product_weight (size_of b.value) a.weight
-weight_of_cut Div c a b = one_weight a.weight
+weight_of_cut Div c a b = divided_weight_of_cut (is_zero b.value) _ _ (one_weight a.weight)
 weight_of_cut Mod c a b = refl
 
 pub operator_of_cut : (o : Operator) (c : Bool) (a b : Worth) → cut_worth (operator_worth o c (cut_worth a) (cut_worth b)) ≡ cut_worth (operator_worth o c a b)

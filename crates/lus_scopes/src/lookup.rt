@@ -4,7 +4,7 @@ ghost use Rattle.std.specs.Prelude.{◌≡◌, ◌&&◌, Bool, cond, false, Some
 ghost use Rattle.std.specs.Str.{bytes_eq};
 ghost use Rattle.lus_tree.specs.View.{word_view};
 ghost use Rattle.lus_meaning.specs.Depends.{named_in};
-ghost use Rattle.lus_meaning.specs.Scope.{entry_of, holds_of, is_constant_name, is_constant_role, is_ghost_role, is_known, is_output_role, name_weight, size_of, sort_of_entry, value_of_entry, worth};
+ghost use Rattle.lus_meaning.specs.Scope.{entry_of, holds_of, is_constant_name, is_constant_role, is_ghost_role, is_known, is_output_role, name_weight, size_of, sort_of_entry, value_of_entry, value_where_known, worth};
 ghost use Rattle.lus_meaning.specs.ExpressionFaults.{has_one, is_imported_mode, mode_is_known};
 ghost use Rattle.lus_scopes.specs.Counts.{all_of};
 ghost use Rattle.lus_scopes.specs.Cut.{cut_worth};
@@ -81,9 +81,9 @@ fn asked_of(placed: Placed<'_>, hidden: bool) -> Known
         ≡ is_constant_role (entry_view placed.entry.extent hidden placed.entry.found).role }
     ensures sort { result.sort ≡ (entry_view placed.entry.extent hidden placed.entry.found).sort }
     ensures worth { worth_view result.worth
-        ≡ cut_worth (worth (entry_view placed.entry.extent hidden placed.entry.found).value
+        ≡ cut_worth (worth (value_where_known (entry_view placed.entry.extent hidden placed.entry.found))
         (cond (is_constant_role (entry_view placed.entry.extent hidden placed.entry.found).role)
-        (size_of (entry_view placed.entry.extent hidden placed.entry.found).value) (Some 1))) }
+        (size_of (value_where_known (entry_view placed.entry.extent hidden placed.entry.found))) (Some 1))) }
 {
     match placed.found.meaning {
         Meaning::Stream(role, param) => Known {
@@ -92,12 +92,15 @@ fn asked_of(placed: Placed<'_>, hidden: bool) -> Known
             sort: Some(param.sort),
             worth: weighing(Some(1)),
         },
-        Meaning::Constant(_, sort, value) => Known {
-            known: is_reached(placed.extent, placed.found.order),
-            constant: true,
-            sort,
-            worth: of_constant(value),
-        },
+        Meaning::Constant(_, sort, value) => {
+            let known = is_reached(placed.extent, placed.found.order);
+            Known {
+                known,
+                constant: true,
+                sort,
+                worth: of_constant(if known { value } else { None }),
+            }
+        }
     }
 }
 

@@ -7,15 +7,13 @@ ghost use Rattle.lus_meaning.specs.Faults.{differ, if_so};
 ghost use Rattle.lus_meaning.specs.ExpressionFaults.{used_as_clock};
 ghost use Rattle.lus_scopes.specs.Least.{least_view, noted_all};
 ghost use Rattle.lus_scopes.specs.Parts.{agree_notes, both_notes, operator_notes, sort_notes};
-ghost use Rattle.lus_meaning.specs.Scope.{is_zero};
-ghost use Rattle.lus_scopes.specs.Cut.{known_value};
 ghost use Rattle.lus_scopes.specs.Scopes.{scope_view};
 
 use crate::found::Part;
 use crate::least::Least;
 use crate::lookup::looked_up;
 use crate::scope::Scope;
-use lus_meaning::Value;
+use crate::values::is_zero;
 use lus_tree::{Operator, PlacedName, Pos, Sort, What};
 
 /// Whether two types are there and differ.
@@ -61,16 +59,6 @@ pub(crate) fn used_as_clock(scope: &Scope<'_>, least: &mut Least, word: &PlacedN
         What::TypeClash,
         word.at,
     );
-}
-
-/// Whether a value is the number 0.
-fn is_zero(value: Option<Value>) -> bool
-    ensures { result ≡ is_zero (known_value value) }
-{
-    match value {
-        Some(Value::Whole(number)) => number == 0,
-        Some(Value::Truth(_)) | None => false,
-    }
 }
 
 /// Notes two operands of other types than are needed.

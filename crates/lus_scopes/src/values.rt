@@ -1,7 +1,7 @@
 //! Values of constant expressions.
 
 ghost use Rattle.std.specs.Prelude.{◌≡◌, ◌<◌, ◌^◌, unsigned_abs};
-ghost use Rattle.lus_meaning.specs.Scope.{apply_total, choose_total};
+ghost use Rattle.lus_meaning.specs.Scope.{apply_total, choose_total, is_zero};
 ghost use Rattle.lus_meaning.specs.Value.{flag, minus_value, not_value, whole};
 ghost use Rattle.lus_scopes.specs.Cut.{heaviest, known_value};
 ghost use Rattle.lus_scopes.specs.Worth.{worth_view};
@@ -9,6 +9,16 @@ ghost use Rattle.lus_scopes.specs.Worth.{worth_view};
 use crate::worth::Worth;
 use lus_meaning::Value;
 use lus_tree::Operator;
+
+/// Whether a value is the number 0.
+pub(crate) fn is_zero(value: Option<Value>) -> bool
+    ensures { result ≡ is_zero (known_value value) }
+{
+    match value {
+        Some(Value::Whole(number)) => number == 0,
+        Some(Value::Truth(_)) | None => false,
+    }
+}
 
 /// An operator on truth values.
 fn flags_applied(operator: Operator, left: bool, right: bool) -> Option<Value>

@@ -1,9 +1,10 @@
 //! Weights of expressions. A weight of more than 2^63 is known to be that, and not kept.
 
 ghost use Rattle.std.specs.Prelude.{◌≡◌, ◌+◌, ◌*◌, ◌↔◌, IsTrue, min, max, option_map};
-ghost use Rattle.lus_meaning.specs.Scope.{both_weights, greater, is_heavy, size_of};
+ghost use Rattle.lus_meaning.specs.Scope.{both_weights, divided_weight, greater, is_heavy, size_of};
 ghost use Rattle.lus_scopes.specs.Cut.{cut, heaviest, known_value};
 
+use crate::values::is_zero;
 use lus_meaning::Value;
 
 /// The least weight that is too great: 2^63 + 1. Greater ones are cut there.
@@ -51,7 +52,7 @@ pub(crate) fn greater(left: Option<u64>, right: Option<u64>) -> Option<u64>
 }
 
 /// A weight, at least 1.
-pub(crate) fn at_least_one(weight: Option<u64>) -> Option<u64>
+fn at_least_one(weight: Option<u64>) -> Option<u64>
     ensures { result ≡ cut (option_map (max 1) weight) }
 {
     match weight {
@@ -67,6 +68,28 @@ pub(crate) fn size(value: Option<Value>) -> Option<u64>
     match value {
         Some(Value::Whole(number)) => Some(cut(number.unsigned_abs())),
         Some(Value::Truth(_)) | None => None,
+    }
+}
+
+/// The weight of a quotient, where the divisor isn't 0.
+pub(crate) fn quotient(dividend: Option<u64>, divisor: Option<Value>) -> Option<u64>
+    ensures { result ≡ cut (divided_weight (known_value divisor) (option_map (max 1) dividend)) }
+{
+    if is_zero(divisor) {
+        None
+    } else {
+        at_least_one(dividend)
+    }
+}
+
+/// The weight of a remainder, where the divisor isn't 0.
+pub(crate) fn remainder(divisor: Option<Value>) -> Option<u64>
+    ensures { result ≡ cut (divided_weight (known_value divisor) (size_of (known_value divisor))) }
+{
+    if is_zero(divisor) {
+        None
+    } else {
+        size(divisor)
     }
 }
 

@@ -7,7 +7,7 @@ ghost use Rattle.lus_scopes.specs.Cut.{cut, cut_worth, is_bounded, known_value};
 ghost use Rattle.lus_scopes.specs.Worth.{worth_view};
 
 use crate::values::{choice, negated, operator_applied, opposite};
-use crate::weights::{at_least_one, both_product, both_sum, greater, is_heavy, size};
+use crate::weights::{both_product, both_sum, greater, is_heavy, quotient, remainder, size};
 use crate::worth::Worth;
 use lus_meaning::Value;
 use lus_tree::Operator;
@@ -64,8 +64,8 @@ fn operator_weight(operator: Operator, constant: bool, left: Worth, right: Worth
                 both_product(size(right.value), left.weight)
             }
         }
-        Operator::Div => at_least_one(left.weight),
-        Operator::Mod => size(right.value),
+        Operator::Div => quotient(left.weight, right.value),
+        Operator::Mod => remainder(right.value),
         Operator::Implies
         | Operator::Or
         | Operator::Xor

@@ -82,7 +82,7 @@ module _ (p : Program) (typed : IsTyped p) where
 
   pub fixed_good : AllByRecursion (Good (constant_values [] (fixed_of (constants_declared p)))) (outer_table p)
   fixed_good =
-      all_good p (outer_table p) [] [] (constants_declared p) [] refl tt tt
+      all_good p (outer_table p) [] [] (constants_declared p) [] refl tt tt tt
       (fixed_once p (none_twice name_twice (map declaration_word p) later_faults.0)) (outer_clean p 0 p later_faults.1)
 
   -- the expressions of a declaration behind so many constants have types, where they have one value

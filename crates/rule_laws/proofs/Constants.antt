@@ -14,7 +14,7 @@ use Rattle.lus_meaning.specs.Program.{constant_value, constant_values}
 use Rattle.lus_meaning.specs.Depends.{named_in}
 use Rattle.lus_meaning.specs.WellMade.{AreDistinct}
 use Rattle.lus_meaning.specs.Occurrences.{on_clock, occurrences, begin}
-use Rattle.lus_meaning.specs.Scope.{Entry, is_constant_role, Scope, entry_of, is_known, is_constant_name, type_of, constant_of, Declared, a_stream, a_fixed, names_only, given_or_found, entry_for, entries_from, known_after, left_after, first_constants}
+use Rattle.lus_meaning.specs.Scope.{Entry, is_constant_role, Scope, entry_of, is_known, is_constant_name, value_where_known, type_of, constant_of, Declared, a_stream, a_fixed, names_only, given_or_found, entry_for, entries_from, known_after, left_after, first_constants}
 use Rattle.lus_meaning.specs.Faults.{fault, differ}
 use Rattle.lus_meaning.specs.ExpressionFaults.{hinders_constant, not_allowed, part_faults, expression_faults, definition_faults}
 use Rattle.lus_meaning.proofs.EachPart.{each_part}
@@ -102,7 +102,16 @@ pub record AlsoAs (a b : Option Entry) : Type 0 where
   pub value : unwrap_or (option_map (λ e. e.value) a) absent ≡ unwrap_or (option_map (λ e. e.value) b) absent
 
 abbrev Seen : Option Entry → Option Entry → Type 0
-Seen a b = known_in a ≡ true → fixed_in a ≡ true → AlsoAs a b
+Seen a b = known_in a ≡ true → fixed_in a ≡ true → (known_in b ≡ true) × AlsoAs a b
+
+-- what may be used has its value
+pub known_value : (o : Option Entry) → known_in o ≡ true →
+    unwrap_or (option_map value_where_known o) absent ≡ unwrap_or (option_map (λ e. e.value) o) absent
+known_value None k = refl
+known_value (Some e) k = ap (λ b. cond b e.value absent) k
+
+abbrev pub MayBeUsed : Entry → Type 0
+MayBeUsed e = e.known ≡ true
 
 abbrev pub fixed_count : List Entry → ℕ
 fixed_count [] = 0
@@ -117,7 +126,7 @@ not_known true e h = false≢true e
 not_known false e h = false≢true h
 
 unseen : (x : Name) (outer rest : List Entry) → Seen (find (is_word x) (first_constants 0 rest ++ outer)) (find (is_word x) outer)
-unseen x outer [] = λ k f. record { fixed = f; sort = refl; value = refl }
+unseen x outer [] = λ k f. (k, record { fixed = f; sort = refl; value = refl })
 unseen x outer (e ∷ rest) = go (bytes_eq x e.word.text)
     (subst (λ j. Seen (find (is_word x) (first_constants j rest ++ outer)) (find (is_word x) outer))
     (sym (no_left (is_constant_role e.role))) (unseen x outer rest))
@@ -132,16 +141,16 @@ left_count true j c e = ap pred e
 left_count false j c e = e
 
 -- where as many constants are known as stand among the first entries, those are known
-sees : (x : Name) (outer done rest : List Entry) (j : ℕ) → j ≡ fixed_count done → Seen
+sees : (x : Name) (outer done rest : List Entry) (j : ℕ) → AllByRecursion MayBeUsed done → j ≡ fixed_count done → Seen
     (find (is_word x) (first_constants j (done ++ rest) ++ outer)) (find (is_word x) (done ++ outer))
-sees x outer [] rest j e = subst (λ k. Seen (find (is_word x) (first_constants k rest ++ outer)) (find (is_word x) outer)) (sym e) (unseen x outer rest)
-sees x outer (d ∷ done) rest j e = go (bytes_eq x d.word.text) (sees x outer done rest (left_after j d)
+sees x outer [] rest j u e = subst (λ k. Seen (find (is_word x) (first_constants k rest ++ outer)) (find (is_word x) outer)) (sym e) (unseen x outer rest)
+sees x outer (d ∷ done) rest j u e = go (bytes_eq x d.word.text) (sees x outer done rest (left_after j d) u.1
     (left_count (is_constant_role d.role) j (fixed_count done) e))
   where
     go : (c : Bool) → Seen (find (is_word x) (first_constants (left_after j d) (done ++ rest) ++ outer)) (find (is_word x) (done ++ outer)) →
         Seen (cond c (Some (known_after j d)) (find (is_word x) (first_constants (left_after j d) (done ++ rest) ++ outer)))
         (cond c (Some d) (find (is_word x) (done ++ outer)))
-    go true r = λ k f. record { fixed = f; sort = refl; value = refl }
+    go true r = λ k f. (u.0, record { fixed = f; sort = refl; value = refl })
     go false r = r
 
 -- a scope that shows at most the first so many constants of a table, behind which other entries stand
@@ -174,9 +183,10 @@ found P x (e ∷ es) a f = go (bytes_eq x e.word.text) refl f (found P x es a.1)
         let q : Found P x es = r h in
         record { entry = q.entry; is = ap (λ b. cond b (Some e) (find (is_word x) es)) m ∙ q.is; word = q.word; role = q.role; holds = q.holds }
 
-name_worth : (p : Program) (sc : Scope) (cs : Values) (es : List Entry) (x : Name) → AllByRecursion (Good cs) es → AlsoAs (entry_of sc x)
-    (find (is_word x) es) → NameWorth sc (names_only p es) cs x
-name_worth p sc cs es x a h =
+name_worth : (p : Program) (sc : Scope) (cs : Values) (es : List Entry) (x : Name) → AllByRecursion (Good cs) es → is_known sc x ≡ true →
+    (known_in (find (is_word x) es) ≡ true) × AlsoAs (entry_of sc x) (find (is_word x) es) → NameWorth sc (names_only p es) cs x
+name_worth p sc cs es x a k l =
+    let h : AlsoAs (entry_of sc x) (find (is_word x) es) = l.1 in
     let q : Found (Good cs) x es = found (Good cs) x es a h.fixed in
     let f : IsFixed cs q.entry = q.holds q.role in
     let there : option_and_then (λ e. e.sort) (find (is_word x) es) ≡ Some f.sort = ap (option_and_then (λ e. e.sort)) q.is ∙ f.is_sort in
@@ -187,8 +197,8 @@ name_worth p sc cs es x a h =
       value = q.entry.value;
       here = h.sort ∙ there;
       there = there;
-      value_here = h.value ∙ value;
-      value_there = value;
+      value_here = known_value (entry_of sc x) k ∙ h.value ∙ value;
+      value_there = known_value (find (is_word x) es) l.0 ∙ value;
       fixed_there = h.fixed;
       found = subst (λ y. lookup (bytes_eq y) cs ≡ Some q.entry.value) (sym q.word) f.found;
       has = f.has;
@@ -302,15 +312,16 @@ middle (x ∷ xs) y ys d = go (bytes_eq y x) refl (middle xs y ys d.1)
 
 module _ (p : Program) (table outer : List Entry) where
   pub all_good : (done : List Entry) (xs : List Declared) (cs : Values) → table ≡ entries_from p outer done xs → AllByRecursion
-      (Good cs) outer → AllByRecursion (Good cs) done → AreDistinct (value_names cs ++ map (λ c. c.name.text) (fixed_of xs))
+      (Good cs) outer → AllByRecursion (Good cs) done → AllByRecursion MayBeUsed done → AreDistinct (value_names cs ++ map (λ c. c.name.text) (fixed_of xs))
       → CleanFrom table outer xs (fixed_count done) →
       AllByRecursion (Good (constant_values cs (fixed_of xs))) (entries_from p outer done xs)
-  all_good done [] cs t o a d c = a
-  all_good done (a_stream r v ∷ xs) cs t o a d c =
+  all_good done [] cs t o a u d c = a
+  all_good done (a_stream r v ∷ xs) cs t o a u d c =
       let e : Entry = entry_for (names_only p (done ++ outer)) (a_stream r v) in
-      all_good (done ++ e ∷ []) xs cs t o (both_parts (Good cs) done (e ∷ []) a ((λ h. absurd (false≢true (sym c.0 ∙ h))), tt)) d
+      all_good (done ++ e ∷ []) xs cs t o (both_parts (Good cs) done (e ∷ []) a ((λ h. absurd (false≢true (sym c.0 ∙ h))), tt))
+      (both_parts MayBeUsed done (e ∷ []) u (refl, tt)) d
       (subst (CleanFrom table outer xs) (sym (count_more false e c.0 done)) c.1)
-  all_good done (a_fixed k ∷ xs) cs t o a d c =
+  all_good done (a_fixed k ∷ xs) cs t o a u d c =
       let e : Entry = entry_for (names_only p (done ++ outer)) (a_fixed k) in
       let q : IsCleanAt table outer (fixed_count done) k = c.0 in
       let r : RestOf p outer done (a_fixed k ∷ xs) = rest_of p outer done (a_fixed k ∷ xs) in
@@ -319,12 +330,16 @@ module _ (p : Program) (table outer : List Entry) where
       λ x h g.
       let s : (known_in (find (is_word x) (first_constants (fixed_count done) table ++ outer)) ≡ true) × AlsoAs (entry_of q.scope x)
       (find (is_word x) (first_constants (fixed_count done) table ++ outer)) = q.shows x h g in
-      let u : Seen (find (is_word x) (first_constants (fixed_count done) table ++ outer)) (find (is_word x) (done ++ outer)) =
+      let v : Seen (find (is_word x) (first_constants (fixed_count done) table ++ outer)) (find (is_word x) (done ++ outer)) =
       subst (λ es. Seen (find (is_word x) (first_constants (fixed_count done) es ++ outer)) (find (is_word x) (done ++ outer)))
-      (sym (t ∙ r.is)) (sees x outer done r.rest (fixed_count done) refl) in
-      name_worth p q.scope cs (done ++ outer) x (both_parts (Good cs) done outer a o)
-      (also (entry_of q.scope x) (find (is_word x) (first_constants (fixed_count done) table ++ outer))
-      (find (is_word x) (done ++ outer)) s.1 (u s.0 s.1.fixed)) in
+      (sym (t ∙ r.is)) (sees x outer done r.rest (fixed_count done) u refl) in
+      let both : (known_in (find (is_word x) (done ++ outer)) ≡ true) × AlsoAs
+      (find (is_word x) (first_constants (fixed_count done) table ++ outer)) (find (is_word x) (done ++ outer)) = v s.0 s.1.fixed in
+      name_worth p q.scope cs (done ++ outer) x (both_parts (Good cs) done outer a o) h (
+        both.0,
+        also (entry_of q.scope x) (find (is_word x) (first_constants (fixed_count done) table ++ outer))
+            (find (is_word x) (done ++ outer)) s.1 both.1,
+      ) in
       let own : IsFixed more e = defined p q.scope cs (done ++ outer) k shows q.clean
       (middle (value_names cs) k.name.text (map (λ c. c.name.text) (fixed_of xs)) d) in
       let lift : (es : List Entry) → AllByRecursion (Good cs) es → AllByRecursion (Good more) es = λ es b. all_from (Good cs) (Good more)
@@ -332,5 +347,6 @@ module _ (p : Program) (table outer : List Entry) where
       let words : value_names cs ++ k.name.text ∷ map (λ c. c.name.text) (fixed_of xs) ≡ value_names more ++ map (λ c. c.name.text) (fixed_of xs) =
       sym (ap (λ ys. ys ++ map (λ c. c.name.text) (fixed_of xs)) (map_append (λ z. z.0) cs ((k.name.text, constant_value cs k.value) ∷ []))
       ∙ one_more (value_names cs) k.name.text (map (λ c. c.name.text) (fixed_of xs))) in
-      all_good (done ++ e ∷ []) xs more t (lift outer o) (both_parts (Good more) done (e ∷ []) (lift done a) ((λ h. own), tt)) (subst AreDistinct words d)
+      all_good (done ++ e ∷ []) xs more t (lift outer o) (both_parts (Good more) done (e ∷ []) (lift done a) ((λ h. own), tt))
+      (both_parts MayBeUsed done (e ∷ []) u (refl, tt)) (subst AreDistinct words d)
       (subst (CleanFrom table outer xs) (sym (count_more true e refl done)) c.1)

@@ -148,7 +148,7 @@ outer_good p w e =
     let d : AreDistinct (constant_names (fixed_of (constants_declared p))) =
     subst (λ cs. AreDistinct (constant_names cs)) (sym (outer_fixed p)) (outer_distinct p (none_twice name_twice (map declaration_word p) w)) in
     subst (λ cs. AllByRecursion (Good (constant_values [] cs)) (outer_table p)) (outer_fixed p)
-    (all_good p (outer_table p) [] [] (constants_declared p) [] refl tt tt d (outer_clean p 0 p e))
+    (all_good p (outer_table p) [] [] (constants_declared p) [] refl tt tt tt d (outer_clean p 0 p e))
 
 -- how many of them are known changes nothing else
 module _ (P : Entry → Type 0) (keep : (k : ℕ) (e : Entry) → P e → P (known_after k e)) where
@@ -244,7 +244,7 @@ own_good p h d e a o =
     (subst (λ xs. AreDistinct (xs ++ constant_names (own_constants n))) (sym (values_named [] (program_constants p)))
     (joined (constant_names (program_constants p)) (constant_names (own_constants n)) d a.constants a.inner_constants)) in
     let own : AllByRecursion (Good (constant_values (outer_values p) (fixed_of (declared_in n)))) (own_names place) =
-    all_good p (own_names place) (outer_names p h.0) [] (declared_in n) (outer_values p) refl outer tt once (own_clean place contract locals) in
+    all_good p (own_names place) (outer_names p h.0) [] (declared_in n) (outer_values p) refl outer tt tt once (own_clean place contract locals) in
     let here : AllByRecursion (Good (constant_values (outer_values p) (own_constants n))) (own_names place) = subst
     (λ cs. AllByRecursion (Good (constant_values (outer_values p) cs)) (own_names place)) (fixed_in_order n) own in
     subst (λ cs. AllByRecursion (Good cs) (table p h)) (values_of p n)

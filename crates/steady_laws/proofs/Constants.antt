@@ -1,5 +1,5 @@
 -- The constants of a checked program have the values that kept values give in text order.
-use Rattle.std.proofs.Common.{◌≡◌, ℕ, Bool, true, false, cond, ◌||◌, List, [], ◌∷◌, ◌++◌, map, Some, None, refl, sym, ap, ◌∙◌, subst, append_assoc, pos}
+use Rattle.std.proofs.Common.{◌≡◌, ℕ, Bool, true, false, cond, ◌||◌, List, [], ◌∷◌, ◌++◌, map, Option, Some, None, option_map, refl, sym, ap, ◌∙◌, subst, append_assoc, pos}
 use Rattle.std.specs.Prelude.{Contains, find, unwrap_or}
 use Rattle.std.specs.List.{AllByRecursion}
 use Rattle.std.specs.Map.{lookup}
@@ -14,7 +14,7 @@ use Rattle.lus_meaning.specs.Scene.{contract_statements}
 use Rattle.lus_meaning.specs.Program.{constant_value, constant_values, program_constants, contract_statement_constants, constants_in}
 use Rattle.lus_meaning.specs.Depends.{named_in}
 use Rattle.lus_meaning.specs.WellMade.{AreDistinct}
-use Rattle.lus_meaning.specs.Scope.{Entry, is_constant_role, Scope, apply_total, are_alike, constant_of, Declared, a_stream, a_fixed, names_only, entry_for, entries_from, known_after, left_after, first_constants, constants_declared, declared_in, Home, own_names, outer_names}
+use Rattle.lus_meaning.specs.Scope.{Entry, is_constant_role, Scope, is_constant_name, value_where_known, value_of_entry, apply_total, are_alike, constant_of, Declared, a_stream, a_fixed, names_only, entry_for, entries_from, known_after, left_after, first_constants, constants_declared, declared_in, Home, own_names, outer_names}
 use Rattle.lus_meaning.specs.Faults.{words_twice}
 use Rattle.lus_meaning.specs.NameFaults.{home, declaration_word, declaration_faults, typing_faults}
 use Rattle.lus_meaning.specs.ClockFaults.{components}
@@ -87,6 +87,22 @@ found_says cs (e ∷ es) a x t = go (bytes_eq x e.word.text) refl (found_says cs
     go true m r t = (a.0.0 t, subst (λ y. lookup (bytes_eq y) cs ≡ Some e.value) (sym (same_bytes x e.word.text m)) (a.0.1 t))
     go false m r t = r t
 
+-- what may be used and has a value has that of its entry
+usable : (o : Option Entry) → IsThere (unwrap_or (option_map value_where_known o) absent) → unwrap_or (option_map value_where_known o) absent ≡ value_in o
+usable None t = refl
+usable (Some e) t = go e.known t
+  where
+    go : (b : Bool) → IsThere (cond b e.value absent) → cond b e.value absent ≡ e.value
+    go true t = refl
+    go false t = nothing t
+
+found_here : (p : Program) (cs : Values) (es : List Entry) → AllByRecursion (Says cs) es → (x : Name) → IsThere (value_of_entry (names_only p es) x) →
+    (is_constant_name (names_only p es) x ≡ true) × (lookup (bytes_eq x) cs ≡ Some (value_of_entry (names_only p es) x))
+found_here p cs es a x t =
+    let o : Option Entry = find (is_word x) es in
+    let q = found_says cs es a x (subst IsThere (usable o t) t) in
+    (q.0, q.1 ∙ ap (λ (v : Value). Some v) (sym (usable o t)))
+
 found_last : (x : Name) (v : Value) (cs : Values) → named_in x (value_names cs) ≡ false → lookup (bytes_eq x) (cs ++ (x, v) ∷ []) ≡ Some v
 found_last x v [] e = ap (λ b. cond b (Some v) None) (self_bytes x)
 found_last x v (c ∷ cs) e = go (bytes_eq x c.0) e (found_last x v cs)
@@ -153,7 +169,7 @@ module _ (p : Program) (outer : List Entry) where
       (right_part HasValue done (e ∷ []) (so_far HasValue (done ++ e ∷ []) xs t)).0 refl in
       let all : AllByRecursion (Says cs) (done ++ outer) = both_parts (Says cs) done outer a o in
       let q : Same cs k.value (constant_of s k.value) =
-      same s cs (λ x h. (found_says cs (done ++ outer) all x h).0) (λ x h. (found_says cs (done ++ outer) all x h).1) k.value there in
+      same s cs (λ x h. (found_here p cs (done ++ outer) all x h).0) (λ x h. (found_here p cs (done ++ outer) all x h).1) k.value there in
       let more : Values = cs ++ (k.name.text, constant_value cs k.value) ∷ [] in
       let new : named_in k.name.text (value_names cs) ≡ false = fresh (value_names cs) k.name.text (constant_names (fixed_of xs)) d in
       let own : Says more e = (
@@ -211,7 +227,7 @@ module _ (p : Program) (w : IsCleanProgram p) where
   outer_good : AllByRecursion (Good (constant_values [] (program_constants p))) (outer_table p)
   outer_good =
       subst (λ cs. AllByRecursion (Good (constant_values [] cs)) (outer_table p)) (outer_fixed p)
-      (all_good p (outer_table p) [] [] (constants_declared p) [] refl tt tt distinct (outer_clean p 0 p w.faultless))
+      (all_good p (outer_table p) [] [] (constants_declared p) [] refl tt tt tt distinct (outer_clean p 0 p w.faultless))
 
   outer_says : AllByRecursion (Says (constant_values [] (program_constants p))) (outer_table p)
   outer_says = all_from_both (Good (outer_values p)) IsFixedThere (Says (outer_values p)) (λ e g f. good_says (outer_values p) e g f) (outer_table p)
@@ -258,7 +274,7 @@ module _ (p : Program) (w : IsCleanProgram p) (h : ℕ × Component) (clean : Cl
   own_good : AllByRecursion (Good (constant_values (constant_values [] (program_constants p)) (fixed_of (declared_in h.1)))) (own_names (home p h.0 h.1))
   own_good =
       all_good p (own_names place) (outer_names p h.0) [] (declared_in h.1) (outer_values p) refl
-      (first_all (Good (outer_values p)) (good_known (outer_values p)) h.0 (outer_table p) (outer_good p w)) tt own_distinct
+      (first_all (Good (outer_values p)) (good_known (outer_values p)) h.0 (outer_table p) (outer_good p w)) tt tt own_distinct
       (own_clean place d.contract d.constants)
 
   own_kept : kept_values (constant_values [] (program_constants p)) (own_constants h.1)

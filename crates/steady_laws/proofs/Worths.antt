@@ -157,7 +157,7 @@ divisor (pos (suc n)) e = refl
 divisor (negsuc n) e = refl
 
 divided_bound : (b : Bool) (v w : Value) (x : Option ℕ) → is_zero w ≡ b → IsBound v x →
-    IsBound (cond b absent (on_numbers int_div_euclid v w)) (option_map (max 1) x)
+    IsBound (cond b absent (on_numbers int_div_euclid v w)) (cond b None (option_map (max 1) x))
 divided_bound true v w x e h = tt
 divided_bound false (whole m) (whole n) (Some x) e h =
     applied_size Div true (whole m) (whole n) x (unsigned_abs n) (divisor n e) h (omega arith)
@@ -167,7 +167,7 @@ divided_bound false (flag b) w x e h = tt
 divided_bound false (whole m) absent x e h = tt
 divided_bound false (whole m) (flag b) x e h = tt
 
-rest_bound : (b : Bool) (v w : Value) → is_zero w ≡ b → IsBound (cond b absent (on_numbers int_rem_euclid v w)) (size_of w)
+rest_bound : (b : Bool) (v w : Value) → is_zero w ≡ b → IsBound (cond b absent (on_numbers int_rem_euclid v w)) (cond b None (size_of w))
 rest_bound true v w e = tt
 rest_bound false (whole m) (whole n) e =
     subst (λ z. unsigned_abs (int_rem_euclid m n) ≤ z) (same_size n)

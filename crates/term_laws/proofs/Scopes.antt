@@ -10,7 +10,7 @@ use Rattle.lus_meaning.specs.Value.{Value, absent}
 use Rattle.lus_meaning.specs.Scene.{Clock, base, contract_statements, clock_of_names}
 use Rattle.lus_meaning.specs.Occurrences.{Text, on_clock, contract_statement_texts, statement_texts, constant_texts, texts}
 use Rattle.lus_meaning.specs.Program.{contract_statement_constants}
-use Rattle.lus_meaning.specs.Scope.{Scope, Entry, Home, value_of_entry, first_constants, left_after, known_after, hide_local, own_names, outer_names, contract_statement_scope, constant_scope, body_scope}
+use Rattle.lus_meaning.specs.Scope.{Scope, Entry, Home, entry_of, is_known, value_of_entry, first_constants, left_after, known_after, hide_local, own_names, outer_names, contract_statement_scope, constant_scope, body_scope}
 use Rattle.lus_meaning.specs.ExpressionFaults.{not_allowed, expression_faults, definition_faults}
 use Rattle.lus_meaning.specs.NameFaults.{home, contract_statement_faults, contract_faults, statement_faults, local_constant_faults}
 use Rattle.lus_meaning.specs.ClockFaults.{components, clock_faults_of, contract_statement_clock_faults, statement_clock_faults}
@@ -19,7 +19,7 @@ use Rattle.lus_meaning.specs.Refusals.{IsChecked}
 use Rattle.lus_meaning.proofs.Lists.{both_parts}
 use Rattle.lus_meaning.proofs.NamesOnce.{no_parts}
 use Rattle.rule_laws.specs.Laws.{placed, table}
-use Rattle.rule_laws.proofs.Constants.{is_word}
+use Rattle.rule_laws.proofs.Constants.{is_word, known_value}
 use Rattle.rule_laws.proofs.Covered.{moved_on}
 use Rattle.rule_laws.proofs.Goods.{CleanDeclaration, clean_declaration, holds_apart}
 use Rattle.rule_laws.proofs.Texts.{ScopeOf, IsTypeClean, AreClean, clean_flag, clean_side, clean_contract_statement, contract_scope_of, constant_scope_of}
@@ -29,9 +29,9 @@ use Rattle.rule_laws.proofs.Unfolded.{typed_tree}
 abbrev pub value_in : Option Entry → Value
 value_in o = unwrap_or (option_map (λ e. e.value) o) absent
 
--- a scope that says of each name the value that the declaration's table has
+-- a scope that says of each name that may be used the value that the declaration's table has
 abbrev pub ShowsValues : Program → ℕ × Component → Scope → Type 0
-ShowsValues p h s = (x : Name) → value_of_entry s x ≡ value_in (find (is_word x) (table p h))
+ShowsValues p h s = (x : Name) → is_known s x ≡ true → value_of_entry s x ≡ value_in (find (is_word x) (table p h))
 
 first_value : (x : Name) (j : ℕ) (es tail : List Entry) →
     value_in (find (is_word x) (first_constants j es ++ tail)) ≡ value_in (find (is_word x) (es ++ tail))
@@ -54,12 +54,15 @@ hidden_value x (e ∷ es) = go (bytes_eq x e.word.text) (hidden_value x es)
     go false r = r
 
 constant_values : (p : Program) (h : ℕ × Component) (k : ℕ) → ShowsValues p h (constant_scope (home p h.0 h.1) k)
-constant_values p h k x = first_value x _ (own_names (home p h.0 h.1)) (outer_names p h.0)
+constant_values p h k x m =
+    known_value (entry_of (constant_scope (home p h.0 h.1) k) x) m
+    ∙ first_value x _ (own_names (home p h.0 h.1)) (outer_names p h.0)
 
 contract_values : (p : Program) (h : ℕ × Component) (cs : List ContractStatement) → ShowsValues p h (contract_statement_scope (home p h.0 h.1) cs)
-contract_values p h cs x =
+contract_values p h cs x m =
     let j : ℕ = length (contract_statement_constants cs) in
-    hidden_value x (first_constants j (own_names (home p h.0 h.1)) ++ outer_names p h.0)
+    known_value (entry_of (contract_statement_scope (home p h.0 h.1) cs) x) m
+    ∙ hidden_value x (first_constants j (own_names (home p h.0 h.1)) ++ outer_names p h.0)
     ∙ first_value x j (own_names (home p h.0 h.1)) (outer_names p h.0)
 
 -- ---- texts

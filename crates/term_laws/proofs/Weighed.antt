@@ -62,7 +62,7 @@ pub values_agree : (p : Program) (c : IsChecked p) (h : ℕ × Component) → Co
 values_agree p c h place sc o s x v k e =
     let q = known_there (entry_of sc x) (find (is_word x) (table p h)) (o.shows x) k in
     let a : Agrees (instance_of p h.1) x q.0 = typed_tables p c.rules.clocked.typed h place x q.0 q.1 in
-    s x ∙ ap value_in q.1 ∙ value_of (is_constant_role q.0.role) q.0.value v (sym a.constant ∙ e)
+    s x k ∙ ap value_in q.1 ∙ value_of (is_constant_role q.0.role) q.0.value v (sym a.constant ∙ e)
 
 -- ---- small facts
 
@@ -214,6 +214,13 @@ module _ (sc : Scope) (i : Instance) (shown : Shown sc i) (values : ValuesAgree 
       go false c (inl k) = absurd (false≢true (sym c ∙ k))
       go false c (inr k) = two_weigh _ _ _ _ _ (number_worth t b w h k z).1 x
 
+  divided : (v : Value) (w : Option ℕ) → scopes.is_zero v ≡ false → scopes.divided_weight v w ≡ w
+  divided v w e = ap (λ b. cond b None w) e
+
+  not_divided_by_zero : (t : Standing) (b : Expression) → Typed t b → defaults.is_constant (constants_of i) b ≡ true →
+      (is_constant sc b && scopes.is_zero (constant_of sc b)) ≡ false → scopes.is_zero (constant_of sc b) ≡ false
+  not_divided_by_zero t b g c e = subst (λ k. (k && scopes.is_zero (constant_of sc b)) ≡ false) (same_constant t b g ∙ c) e
+
   pub weight_is : (t : Standing) (e : Expression) → Typed t e → Placed t e → sort_of i e ≡ Numbers → weight_of sc e ≡ Some (weighs i e)
   weight_is t (truth p b) g h s = absurd (no_number s)
   weight_is t (number p k) g h s = refl
@@ -229,8 +236,16 @@ module _ (sc : Scope) (i : Instance) (shown : Shown sc i) (values : ValuesAgree 
       two_weigh _ _ _ _ _ (weight_is (within t) a g.1 h.3 h.0) (weight_is (within t) b g.2 h.4 (h.1 ∙ h.0))
   weight_is t (binary p Mul a b) g h s =
       product_weighs (within t) a b refl g.1 g.2 h.0 (h.1 ∙ h.0) h.2 (weight_is (within t) a g.1 h.3 h.0) (weight_is (within t) b g.2 h.4 (h.1 ∙ h.0))
-  weight_is t (binary p Div a b) g h s = ap (option_map (max 1)) (weight_is (within t) a g.1 h.3 h.0)
-  weight_is t (binary p Mod a b) g h s = (number_worth (within t) b refl g.2 h.2 (h.1 ∙ h.0)).1
+  weight_is t (binary p Div a b) g h s =
+      divided (constant_of sc b) _
+      (not_divided_by_zero (within t) b g.2 h.2
+      (not_so (is_constant sc b && scopes.is_zero (constant_of sc b)) zero_divisor p.at (no_parts _ _ (form_right (occurs t (binary p Div a b)) g.0)).1))
+      ∙ ap (option_map (max 1)) (weight_is (within t) a g.1 h.3 h.0)
+  weight_is t (binary p Mod a b) g h s =
+      divided (constant_of sc b) _
+      (not_divided_by_zero (within t) b g.2 h.2
+      (not_so (is_constant sc b && scopes.is_zero (constant_of sc b)) zero_divisor p.at (no_parts _ _ (form_right (occurs t (binary p Mod a b)) g.0)).1))
+      ∙ (number_worth (within t) b refl g.2 h.2 (h.1 ∙ h.0)).1
   weight_is t (binary p Implies a b) g h s = absurd (no_number s)
   weight_is t (binary p Or a b) g h s = absurd (no_number s)
   weight_is t (binary p Xor a b) g h s = absurd (no_number s)
@@ -265,8 +280,7 @@ module _ (sc : Scope) (i : Instance) (shown : Shown sc i) (values : ValuesAgree 
   divisor : (t : Standing) (b : Expression) → t.whole_side ≡ false → Typed t b → defaults.is_constant (constants_of i) b ≡ true → sort_of i b ≡ Numbers →
       (is_constant sc b && scopes.is_zero (constant_of sc b)) ≡ false → is_zero (number_of_value (value_here i b)) ≡ false
   divisor t b w g c s e =
-      let z : scopes.is_zero (constant_of sc b) ≡ false =
-      subst (λ k. (k && scopes.is_zero (constant_of sc b)) ≡ false) (same_constant t b g ∙ c) e in
+      let z : scopes.is_zero (constant_of sc b) ≡ false = not_divided_by_zero t b g c e in
       not_zero (value_here i b) (number_worth t b w g c s).0
       (subst (λ v. scopes.is_zero v ≡ false) (constant_worth t b g c).value z)
 
