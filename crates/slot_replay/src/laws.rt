@@ -16,12 +16,12 @@ pub fn answers_agree()
     ensures within { WithinTrue }
 {}
 
-/// Take rows that follow from the sources, whose values have any size, and a closed set of slots in which all is that the
-/// conditions and the parts read. Let no part have an operation outside 128 bits where no source and no condition has, and
-/// the other way round no source of the set and no condition where no part has; and let what a part reads be done where no
-/// part before it has one. What is told by the table is then the first operation outside that the parts have in these rows.
-/// Where the replay by the table goes on, no part has one. Where none has, the table has the values of these rows in the
-/// slots of the set, and so their answers.
+/// Take rows that follow from the sources, whose values have any size, and a closed set of slots in which all is
+/// that the conditions and the parts read. Let no part have an operation outside 128 bits where no source and no
+/// condition has, and the other way round no source of the set and no condition where no part has; and let what a
+/// part reads be done where no part before it has one. What is told by the table is then the first operation
+/// outside that the parts have in these rows. Where the replay by the table goes on, no part has one. Where none
+/// has, the table has the values of these rows in the slots of the set, and so their answers.
 pub fn replay_follows()
     ensures told { ToldIsFirst }
     ensures going_on { GoingOnIsWithin }

@@ -9,8 +9,7 @@ ghost use Rattle.slot_replay.specs.Marks.{marked, marks_after, marks_view, noted
 
 use crate::conditions::Conditions;
 use crate::truth::{truth_in, truths_in};
-use lus_meaning::Value;
-use slot_values::Resolved;
+use slot_values::{Resolved, SlotValue};
 use std::alloc::{AllocError, Global};
 
 /// How many instants are lawful, the first ones, and for each property the first of them at which it is not true.
@@ -49,7 +48,7 @@ pub(crate) fn found_of(broken: &[Option<u32>], property: usize) -> Option<u32>
 /// Adds what is found of the property that comes next. Whether it has an operation outside 128 bits.
 fn push_marked(
     property: &Resolved,
-    row: &[Option<Value>],
+    row: &[SlotValue],
     counts: bool,
     instant: u32,
     broken: &[Option<u32>],
@@ -57,7 +56,8 @@ fn push_marked(
 ) -> Result<bool, AllocError>
     ensures outside { IfOk result (λ b. b ≡ is_any (outside (slots_in row.now) true (resolved_view property.now))) }
     ensures pushed { OnOk result (new.new.items ≡ new.old.items
-        ++ marked (is_true (slots_in row.now) (resolved_view property.now)) counts instant (get_or broken.now (length new.old.items) None) ∷ []) }
+        ++ marked (is_true (slots_in row.now) (resolved_view property.now)) counts instant
+        (get_or broken.now (length new.old.items) None) ∷ []) }
 {
     let (truth, past) = truth_in(property, row);
     let found = found_of(broken, new.len());
@@ -69,7 +69,7 @@ fn push_marked(
 fn noted(
     alloc: Global,
     properties: &[Resolved],
-    row: &[Option<Value>],
+    row: &[SlotValue],
     counts: bool,
     instant: u32,
     broken: &[Option<u32>],
@@ -106,7 +106,7 @@ fn lawful_after(counts: bool, lawful: u32, instant: u32) -> u32
 pub(crate) fn note_instant(
     alloc: Global,
     conditions: &Conditions,
-    row: &[Option<Value>],
+    row: &[SlotValue],
     instant: u32,
     marks: &Marks,
 ) -> Result<(Marks, bool), AllocError>

@@ -4,10 +4,9 @@ ghost use Rattle.std.specs.Prelude.{◌≡◌, IfOk, List, map, slice_get};
 ghost use Rattle.slot_values.specs.Evaluated.{slots_in};
 ghost use Rattle.slot_replay.specs.Parts.{Part, part_view, pasts_of};
 
-use crate::truth::is_on;
-use lus_meaning::Value;
+use slot_rows::is_on;
 use slot_sources::Switch;
-use slot_values::{PastAt, Resolved, evaluate};
+use slot_values::{PastAt, Resolved, SlotValue, evaluate};
 use std::alloc::{AllocError, Global};
 
 /// An expression that is evaluated where its clock is on.
@@ -32,7 +31,7 @@ pub trait Parts {
 }
 
 /// The first operation of the first part that has one outside 128 bits.
-pub(crate) fn first_past(parts: &[PartAt], row: &[Option<Value>]) -> Option<PastAt>
+pub(crate) fn first_past(parts: &[PartAt], row: &[SlotValue]) -> Option<PastAt>
     ensures { result ≡ slice_get (pasts_of (slots_in row.now) (map part_view parts.now)) 0 }
 {
     for part in parts {

@@ -20,8 +20,9 @@ use std::alloc::Global;
 ///
 /// # Errors
 ///
-/// `Past` at the first instant at which a part has an operation outside 128 bits, from the first instant on at which one
-/// was outside in the table or a condition: the first operation of the first such part. `Memory` for want of memory.
+/// `Past` at the first instant at which a part has an operation outside 128 bits, from the first instant on at
+/// which one was outside in the table or a condition: the first operation of the first such part. `Memory` for want
+/// of memory.
 pub fn replay<C: Chosen, P: Parts>(
     alloc: Global,
     sources: &[Source],
@@ -32,16 +33,20 @@ pub fn replay<C: Chosen, P: Parts>(
     parts: &P,
 ) -> Result<Replayed, ReplayFault>
     // An operation that is told is the first one.
-    ensures past { IfErr result (IsPast (seen_in (rows (C.choices chosen.now) (map source_view sources.now) order.now instants))
+    ensures past { IfErr result (IsPast (seen_in (rows (C.choices chosen.now)
+        (map source_view sources.now) order.now instants))
         (conditions_view conditions.now) (P.are_parts parts.now) instants) }
     // Where there is an answer no part had one, once something was outside.
-    ensures going_on { OnOk result (GoesThrough (seen_in (rows (C.choices chosen.now) (map source_view sources.now) order.now instants))
+    ensures going_on { OnOk result (GoesThrough (seen_in
+        (rows (C.choices chosen.now) (map source_view sources.now) order.now instants))
         (conditions_view conditions.now) (P.are_parts parts.now) instants) }
     // The first lawful instants at which properties are not true.
-    ensures breaks { IfOk result (λ r. AreBreaks (value_in (rows (C.choices chosen.now) (map source_view sources.now) order.now instants))
+    ensures breaks { IfOk result (λ r. AreBreaks (value_in
+        (rows (C.choices chosen.now) (map source_view sources.now) order.now instants))
         (conditions_view conditions.now) instants (replayed_view r).breaks) }
     // How many instants are lawful.
-    ensures lawful { IfOk result (λ r. AreLawful (value_in (rows (C.choices chosen.now) (map source_view sources.now) order.now instants))
+    ensures lawful { IfOk result (λ r. AreLawful (value_in
+        (rows (C.choices chosen.now) (map source_view sources.now) order.now instants))
         (conditions_view conditions.now) instants (replayed_view r).lawful) }
     // Slots have the values of the table.
     ensures value { IfOk result (λ r. (k t : ℕ) → (replayed_view r).value k t

@@ -12,8 +12,8 @@ use crate::conditions::Conditions;
 use crate::fault::ReplayFault;
 use crate::marks::{Marks, note_instant};
 use crate::parts::{PartAt, Parts, first_past};
-use lus_meaning::Value;
 use slot_rows::Table;
+use slot_values::SlotValue;
 use std::alloc::{AllocError, Global};
 
 /// What is carried from instant to instant: what is noted, and the parts once something was outside 128 bits.
@@ -45,11 +45,7 @@ fn kept<P: Parts>(
 }
 
 /// Goes on, unless one of the parts that are looked at has an operation outside 128 bits.
-fn go_on(
-    parts: &Option<Vec<PartAt>>,
-    row: &[Option<Value>],
-    instant: u32,
-) -> Result<(), ReplayFault>
+fn go_on(parts: &Option<Vec<PartAt>>, row: &[SlotValue], instant: u32) -> Result<(), ReplayFault>
     ensures past { IfErr result (IsTold (first_kept (slots_in row.now) (kept_view parts.now)) instant) }
     ensures none { OnOk result (first_kept (slots_in row.now) (kept_view parts.now) ≡ None) }
 {
@@ -77,12 +73,16 @@ fn watch_instant<P: Parts>(
     progress: Progress,
 ) -> Result<Progress, ReplayFault>
     requires room { instant + 1 < 2 ^ 32 }
-    requires kept { IsKept (seen_in (table_view table.now)) (conditions_view conditions.now) (P.are_parts parts.now) instant (kept_view progress.parts) }
-    ensures past { IfErr result (IsPast (seen_in (table_view table.now)) (conditions_view conditions.now) (P.are_parts parts.now) (suc instant)) }
-    ensures kept { IfOk result (λ p. IsKept (seen_in (table_view table.now)) (conditions_view conditions.now) (P.are_parts parts.now)
+    requires kept { IsKept (seen_in (table_view table.now)) (conditions_view conditions.now)
+        (P.are_parts parts.now) instant (kept_view progress.parts) }
+    ensures past { IfErr result (IsPast (seen_in (table_view table.now)) (conditions_view conditions.now)
+        (P.are_parts parts.now) (suc instant)) }
+    ensures kept { IfOk result (λ p. IsKept (seen_in (table_view table.now)) (conditions_view conditions.now)
+        (P.are_parts parts.now)
         (suc instant) (kept_view p.parts)) }
     ensures marks { IfOk result (λ p. marks_view p.marks
-        ≡ marks_after (value_in (table_view table.now) instant) (conditions_view conditions.now) instant (marks_view progress.marks)) }
+        ≡ marks_after (value_in (table_view table.now) instant) (conditions_view conditions.now) instant
+        (marks_view progress.marks)) }
 {
     let row = table.row(instant as usize);
     let (marks, past) = note_instant(alloc, conditions, row, instant, &progress.marks)?;
@@ -102,8 +102,10 @@ pub(crate) fn watch<P: Parts>(
     parts: &P,
     instants: u32,
 ) -> Result<Marks, ReplayFault>
-    ensures past { IfErr result (IsPast (seen_in (table_view table.now)) (conditions_view conditions.now) (P.are_parts parts.now) instants) }
-    ensures going_on { OnOk result (GoesThrough (seen_in (table_view table.now)) (conditions_view conditions.now) (P.are_parts parts.now) instants) }
+    ensures past { IfErr result (IsPast (seen_in (table_view table.now)) (conditions_view conditions.now)
+        (P.are_parts parts.now) instants) }
+    ensures going_on { OnOk result (GoesThrough (seen_in (table_view table.now)) (conditions_view conditions.now)
+        (P.are_parts parts.now) instants) }
     ensures marks { IfOk result (λ m. marks_view m
         ≡ marks_at (value_in (table_view table.now)) (conditions_view conditions.now) instants) }
 {

@@ -2,9 +2,8 @@
 -- order.
 use Rattle.std.specs.Prelude.{ℕ, zero, suc, Bool, true, false, ◌||◌, List, [], ◌∷◌, ◌++◌, map, Option, Some, None, slice_get, get_or, set}
 use Rattle.lus_meaning.specs.Value.{Value, absent}
-use Rattle.lus_meaning.specs.TraceView.{entry_view}
 use Rattle.slot_values.specs.declared.resolved.PastAt.{PastAt}
-use Rattle.slot_values.specs.Evaluated.{SlotValues}
+use Rattle.slot_values.specs.Evaluated.{slot_view, SlotValues}
 use Rattle.slot_sources.specs.Source.{Source, always, runs, runs_while, same, given, argument, listed, remembered, starting, held, unread}
 use Rattle.slot_sources.specs.Rows.{Choices, value_now, outside_now, brought_first, brought_next, outside_next}
 use Rattle.slot_rows.specs.declared.table.Row.{Row as CodeRow}
@@ -124,7 +123,7 @@ value_in rs t = slots_of (row_in rs t).values
 -- ---- views
 
 abbrev pub row_view : CodeRow → Row
-row_view r = record { values = map entry_view r.values.items; outside = r.outside }
+row_view r = record { values = map slot_view r.values.items; outside = r.outside }
 
 abbrev pub table_view : CodeTable → List Row
 table_view t = map row_view t.rows.items

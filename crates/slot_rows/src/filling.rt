@@ -2,7 +2,7 @@
 
 ghost use Rattle.std.specs.Prelude.{◌≡◌, ◌++◌, ◌∷◌, ◌||◌, [], false, length, map, suc, set, slice_get, IfOk, OnOk, Some, is_none, unwrap_or};
 ghost use Rattle.lus_meaning.specs.Value.{absent};
-ghost use Rattle.lus_meaning.specs.TraceView.{entry_view};
+ghost use Rattle.slot_values.specs.Evaluated.{slot_view};
 ghost use Rattle.slot_values.specs.Outcome.{outcome_view};
 ghost use Rattle.slot_sources.specs.Source.{source_view};
 ghost use Rattle.slot_sources.specs.Rows.{brought_first, outside_next};
@@ -11,21 +11,20 @@ ghost use Rattle.slot_rows.specs.Table.{brought_to, closed, filled, first_values
 use crate::chosen::Chosen;
 use crate::slot::{slot_value, value_next, value_now};
 use crate::table::{Row, Table};
-use lus_meaning::Value;
 use slot_sources::Source;
-use slot_values::Outcome;
+use slot_values::{Outcome, SlotValue};
 use std::alloc::{AllocError, Global};
 
 /// A value, none where an operation is outside 128 bits; and whether one is.
-fn kept(outcome: Outcome) -> (Option<Value>, bool)
-    ensures value { entry_view result.0 ≡ unwrap_or (outcome_view outcome) absent }
+fn kept(outcome: Outcome) -> (SlotValue, bool)
+    ensures value { slot_view result.0 ≡ unwrap_or (outcome_view outcome) absent }
     ensures outside { result.1 ≡ is_none (outcome_view outcome) }
 {
     match outcome {
-        Outcome::Outside => (None, true),
-        Outcome::Absent => (None, false),
-        Outcome::Truth(b) => (Some(Value::Truth(b)), false),
-        Outcome::Whole(n) => (Some(Value::Whole(n)), false),
+        Outcome::Outside => (SlotValue::Absent, true),
+        Outcome::Absent => (SlotValue::Absent, false),
+        Outcome::Truth(b) => (SlotValue::Truth(b), false),
+        Outcome::Whole(n) => (SlotValue::Whole(n), false),
     }
 }
 
@@ -35,12 +34,13 @@ fn listed_or<C: Chosen>(
     chosen: &C,
     instant: u32,
     slot: usize,
-    brought: Option<Value>,
-) -> Option<Value>
-    ensures { entry_view result ≡ listed_or (C.choices chosen.now) instant slot (entry_view brought) (source_view source.now) }
+    brought: SlotValue,
+) -> SlotValue
+    ensures { slot_view result ≡ listed_or (C.choices chosen.now) instant slot (slot_view brought)
+        (source_view source.now) }
 {
     match source {
-        Source::Listed(_) => chosen.listed(slot, instant),
+        Source::Listed(_) => SlotValue::of(chosen.listed(slot, instant)),
         Source::Always
         | Source::Runs(_)
         | Source::RunsWhile(_, _)
@@ -55,8 +55,8 @@ fn listed_or<C: Chosen>(
 }
 
 /// Writes a value, if the row has that slot.
-fn write(values: &mut Vec<Option<Value>>, slot: usize, value: Option<Value>)
-    ensures { map entry_view values.new.items ≡ set (map entry_view values.old.items) slot (entry_view value) }
+fn write(values: &mut Vec<SlotValue>, slot: usize, value: SlotValue)
+    ensures { map slot_view values.new.items ≡ set (map slot_view values.old.items) slot (slot_view value) }
 {
     if slot < values.len() {
         values[slot] = value;
@@ -82,7 +82,8 @@ fn is_brought(source: &Source) -> bool
 
 /// Gives a slot the value of its source by the row so far.
 fn give_value<C: Chosen>(source: &Source, chosen: &C, instant: u32, row: &mut Row, slot: usize)
-    ensures { row_view row.new ≡ with_value (C.choices chosen.now) instant slot (Some (source_view source.now)) (row_view row.old) }
+    ensures { row_view row.new ≡ with_value (C.choices chosen.now) instant slot (Some (source_view source.now))
+        (row_view row.old) }
 {
     if is_brought(source) {
         return;
@@ -105,7 +106,8 @@ fn give_slot<C: Chosen>(sources: &[Source], chosen: &C, instant: u32, row: &mut 
 
 /// Gives each slot its value, in that order.
 fn fill_row<C: Chosen>(sources: &[Source], order: &[usize], chosen: &C, instant: u32, row: &mut Row)
-    ensures { row_view row.new ≡ filled (C.choices chosen.now) (map source_view sources.now) instant (row_view row.old) order.now }
+    ensures { row_view row.new ≡ filled (C.choices chosen.now) (map source_view sources.now) instant
+        (row_view row.old) order.now }
 {
     for slot in order {
         give_slot(sources, chosen, instant, row, *slot);
@@ -113,13 +115,13 @@ fn fill_row<C: Chosen>(sources: &[Source], order: &[usize], chosen: &C, instant:
 }
 
 /// What is brought to the first instant, of a slot.
-fn first_value<C: Chosen>(source: &Source, chosen: &C, slot: usize) -> Option<Value>
-    ensures { entry_view result ≡ brought_first ((C.choices chosen.now).first slot) (source_view source.now) }
+fn first_value<C: Chosen>(source: &Source, chosen: &C, slot: usize) -> SlotValue
+    ensures { slot_view result ≡ brought_first ((C.choices chosen.now).first slot) (source_view source.now) }
 {
     match source {
-        Source::Remembered(_, _) => chosen.first(slot),
-        Source::Starting(_) => Some(Value::Truth(true)),
-        Source::Held { default, .. } => *default,
+        Source::Remembered(_, _) => SlotValue::of(chosen.first(slot)),
+        Source::Starting(_) => SlotValue::Truth(true),
+        Source::Held { default, .. } => SlotValue::of(*default),
         Source::Always
         | Source::Runs(_)
         | Source::RunsWhile(_, _)
@@ -127,7 +129,7 @@ fn first_value<C: Chosen>(source: &Source, chosen: &C, slot: usize) -> Option<Va
         | Source::Given(_, _)
         | Source::Argument(_, _, _)
         | Source::Listed(_)
-        | Source::Unread => None,
+        | Source::Unread => SlotValue::Absent,
     }
 }
 
@@ -136,8 +138,9 @@ fn first_values<C: Chosen>(
     alloc: Global,
     sources: &[Source],
     chosen: &C,
-) -> Result<Vec<Option<Value>>, AllocError>
-    ensures { IfOk result (λ v. map entry_view v.items ≡ first_values (C.choices chosen.now) 0 (map source_view sources.now)) }
+) -> Result<Vec<SlotValue>, AllocError>
+    ensures { IfOk result (λ v. map slot_view v.items ≡ first_values (C.choices chosen.now) 0
+        (map source_view sources.now)) }
 {
     let mut values = Vec::with_capacity(alloc, sources.len())?;
     for source in sources {
@@ -151,12 +154,13 @@ fn first_values<C: Chosen>(
 /// 128 bits.
 fn push_next(
     source: &Source,
-    row: &[Option<Value>],
-    values: &mut Vec<Option<Value>>,
+    row: &[SlotValue],
+    values: &mut Vec<SlotValue>,
 ) -> Result<bool, AllocError>
-    ensures outside { IfOk result (λ b. b ≡ is_any (outside_next (slots_of (map entry_view row.now)) (source_view source.now))) }
-    ensures pushed { OnOk result (map entry_view values.new.items ≡ map entry_view values.old.items
-        ++ next_value (slots_of (map entry_view row.now)) (length values.old.items) (source_view source.now) ∷ []) }
+    ensures outside { IfOk result (λ b. b ≡ is_any (outside_next (slots_of (map slot_view row.now))
+        (source_view source.now))) }
+    ensures pushed { OnOk result (map slot_view values.new.items ≡ map slot_view values.old.items
+        ++ next_value (slots_of (map slot_view row.now)) (length values.old.items) (source_view source.now) ∷ []) }
 {
     let (value, outside) = kept(value_next(source, row, values.len()));
     values.push(value)?;
@@ -168,8 +172,8 @@ fn next_values(
     alloc: Global,
     sources: &[Source],
     row: &mut Row,
-) -> Result<Vec<Option<Value>>, AllocError>
-    ensures values { IfOk result (λ v. map entry_view v.items
+) -> Result<Vec<SlotValue>, AllocError>
+    ensures values { IfOk result (λ v. map slot_view v.items
         ≡ next_values (slots_of (row_view row.old).values) 0 (map source_view sources.now)) }
     ensures outside { OnOk result (row_view row.new ≡ closed (map source_view sources.now) (row_view row.old)) }
 {
@@ -187,12 +191,13 @@ fn push_row<C: Chosen>(
     sources: &[Source],
     order: &[usize],
     chosen: &C,
-    values: Vec<Option<Value>>,
+    values: Vec<SlotValue>,
     rows: &mut Vec<Row>,
     instant: u32,
-) -> Result<Vec<Option<Value>>, AllocError>
-    requires { map entry_view values.items ≡ brought_to (C.choices chosen.now) (map source_view sources.now) order.now instant }
-    ensures values { IfOk result (λ v. map entry_view v.items
+) -> Result<Vec<SlotValue>, AllocError>
+    requires { map slot_view values.items ≡ brought_to (C.choices chosen.now)
+        (map source_view sources.now) order.now instant }
+    ensures values { IfOk result (λ v. map slot_view v.items
         ≡ brought_to (C.choices chosen.now) (map source_view sources.now) order.now (suc instant)) }
     ensures pushed { OnOk result (map row_view rows.new.items ≡ map row_view rows.old.items
         ++ row_at (C.choices chosen.now) (map source_view sources.now) order.now instant ∷ []) }

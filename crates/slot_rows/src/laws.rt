@@ -17,8 +17,8 @@ pub fn none_met()
     ensures table { NoneMetWithin }
 {}
 
-/// Take the first instant at which an operation is outside 128 bits in the rows that follow. There too the table has the
-/// values of slots whose sources have none there and read only such slots.
+/// Take the first instant at which an operation is outside 128 bits in the rows that follow. There too the table
+/// has the values of slots whose sources have none there and read only such slots.
 pub fn done_agrees()
     ensures { DoneAgrees }
 {}

@@ -16,4 +16,5 @@ pub use chosen::Chosen;
 pub use filling::fill;
 pub use ordering::order;
 pub use reads::{push_reads_now, reads_now};
+pub use slot::is_on;
 pub use table::Table;

@@ -68,7 +68,8 @@ impl Search {
     /// other in a circle.
     fn advance(&mut self, rows: &SlotReads, slot: usize) -> Result<bool, AllocError>
         requires { Searching (reads_view rows.now) (again (search_view self.old) slot) }
-        ensures { IfOk result (λ b. MatchBool b (GoesOn (reads_view rows.now) (again (search_view self.old) slot) (search_view self.new))
+        ensures { IfOk result (λ b. MatchBool b (GoesOn (reads_view rows.now) (again (search_view self.old) slot)
+            (search_view self.new))
             (IsUnranked (reads_view rows.now))) }
     {
         let row = rows.row(slot);
@@ -88,7 +89,8 @@ impl Search {
         requires searching { Searching (reads_view rows.now) (search_view self.old) }
         requires nothing { (search_view self.old).visited ≡ [] }
         requires below { root < length (reads_view rows.now) }
-        ensures { IfOk result (λ b. MatchBool b (IsSettled (reads_view rows.now) (search_view self.old) (search_view self.new) root)
+        ensures { IfOk result (λ b. MatchBool b (IsSettled (reads_view rows.now) (search_view self.old)
+            (search_view self.new) root)
             (IsUnranked (reads_view rows.now))) }
     {
         self.enter(root)?;

@@ -2,66 +2,46 @@
 
 ghost use Rattle.std.specs.Prelude.{◌≡◌, ◌&&◌, Some, cond, option_map, true};
 ghost use Rattle.lus_meaning.specs.Value.{flag, is};
-ghost use Rattle.lus_meaning.specs.TraceView.{entry_view};
-ghost use Rattle.slot_values.specs.Evaluated.{only_where, slots_in};
+ghost use Rattle.slot_values.specs.Evaluated.{only_where, slot_view, slots_in};
 ghost use Rattle.slot_values.specs.Outcome.{if_none, outcome_view};
 ghost use Rattle.slot_sources.specs.Source.{source_view};
 ghost use Rattle.slot_sources.specs.Rows.{is_on, value_now, outside_now, brought_next, outside_next};
 
-use lus_meaning::Value;
 use slot_sources::{Source, Switch};
-use slot_values::{Outcome, value_within};
+use slot_values::{Outcome, SlotValue, is_truth, value_if, value_within};
 
 /// The value of a slot; none behind the end of the row.
-pub(crate) fn slot_value(row: &[Option<Value>], slot: usize) -> Option<Value>
-    ensures { entry_view result ≡ slots_in row.now slot }
+pub(crate) fn slot_value(row: &[SlotValue], slot: usize) -> SlotValue
+    ensures { slot_view result ≡ slots_in row.now slot }
 {
     match row.get(slot) {
         Some(value) => *value,
-        None => None,
+        None => SlotValue::Absent,
     }
 }
 
-/// Whether a value is that truth value.
-fn is_truth(wanted: bool, value: Option<Value>) -> bool
-    ensures { result ≡ is wanted (entry_view value) }
-{
-    match value {
-        Some(Value::Truth(b)) => b == wanted,
-        Some(Value::Whole(_)) => false,
-        None => false,
-    }
-}
-
-/// The value where that is wanted.
-fn value_if(on: bool, value: Option<Value>) -> Option<Value>
-    ensures { entry_view result ≡ only_where on (entry_view value) }
-{
-    if on { value } else { None }
-}
-
-/// Whether a clock is on.
-fn is_on(clock: &Switch, row: &[Option<Value>]) -> bool
+/// Whether a clock is on by the values of a row.
+pub fn is_on(clock: &Switch, row: &[SlotValue]) -> bool
     ensures { result ≡ is_on (slots_in row.now) clock.now }
 {
     is_truth(clock.wanted, slot_value(row, clock.slot as usize))
 }
 
 /// Whether a slot is true.
-fn is_true(slot: u32, row: &[Option<Value>]) -> bool
+fn is_true(slot: u32, row: &[SlotValue]) -> bool
     ensures { result ≡ is true (slots_in row.now slot) }
 {
     is_truth(true, slot_value(row, slot as usize))
 }
 
 /// What a value comes to.
-fn outcome_of(value: Option<Value>) -> Outcome
-    ensures { outcome_view result ≡ Some (entry_view value) }
+fn outcome_of(value: SlotValue) -> Outcome
+    ensures { outcome_view result ≡ Some (slot_view value) }
 {
     match value {
-        Some(Value::Truth(b)) => Outcome::Truth(b),
-        Some(Value::Whole(n)) => Outcome::Whole(n),
-        None => Outcome::Absent,
+        SlotValue::Absent => Outcome::Absent,
+        SlotValue::Truth(b) => Outcome::Truth(b),
+        SlotValue::Whole(n) => Outcome::Whole(n),
     }
 }
 
@@ -72,8 +52,8 @@ fn where_true(beat: bool, a: Outcome) -> Outcome
     match a {
         Outcome::Outside => Outcome::Outside,
         Outcome::Absent => Outcome::Absent,
-        Outcome::Truth(b) => outcome_of(value_if(beat, Some(Value::Truth(b)))),
-        Outcome::Whole(n) => outcome_of(value_if(beat, Some(Value::Whole(n)))),
+        Outcome::Truth(b) => outcome_of(value_if(beat, SlotValue::Truth(b))),
+        Outcome::Whole(n) => outcome_of(value_if(beat, SlotValue::Whole(n))),
     }
 }
 
@@ -89,8 +69,8 @@ fn both_true(on: bool, condition: Outcome) -> Outcome
 }
 
 /// A new value where a clock is on, else the one that is there; but outside 128 bits where the new one is.
-fn renewed(on: bool, new: Outcome, old: Option<Value>) -> Outcome
-    ensures { outcome_view result ≡ option_map (λ v. cond on v (entry_view old)) (outcome_view new) }
+fn renewed(on: bool, new: Outcome, old: SlotValue) -> Outcome
+    ensures { outcome_view result ≡ option_map (λ v. cond on v (slot_view old)) (outcome_view new) }
 {
     match new {
         Outcome::Outside => Outcome::Outside,
@@ -100,11 +80,11 @@ fn renewed(on: bool, new: Outcome, old: Option<Value>) -> Outcome
     }
 }
 
-/// The value that a source gives by the row of its instant, where this is brought to it or listed; or that an operation is
-/// outside 128 bits.
-pub(crate) fn value_now(source: &Source, row: &[Option<Value>], brought: Option<Value>) -> Outcome
+/// The value that a source gives by the row of its instant, where this is brought to it or listed; or that an
+/// operation is outside 128 bits.
+pub(crate) fn value_now(source: &Source, row: &[SlotValue], brought: SlotValue) -> Outcome
     ensures { outcome_view result ≡ if_none (outside_now (slots_in row.now) (source_view source.now))
-        (value_now (slots_in row.now) (entry_view brought) (source_view source.now)) }
+        (value_now (slots_in row.now) (slot_view brought) (source_view source.now)) }
 {
     match source {
         Source::Always => Outcome::Truth(true),
@@ -126,7 +106,7 @@ pub(crate) fn value_now(source: &Source, row: &[Option<Value>], brought: Option<
 }
 
 /// What a row brings to the next instant, of the slot with that number; or that an operation is outside 128 bits.
-pub(crate) fn value_next(source: &Source, row: &[Option<Value>], slot: usize) -> Outcome
+pub(crate) fn value_next(source: &Source, row: &[SlotValue], slot: usize) -> Outcome
     ensures { outcome_view result ≡ if_none (outside_next (slots_in row.now) (source_view source.now))
         (brought_next (slots_in row.now) slot (source_view source.now)) }
 {

@@ -2,14 +2,17 @@
 
 ghost use Rattle.std.specs.Prelude.{◌≡◌, map, length};
 ghost use Rattle.lus_meaning.specs.TraceView.{entry_view};
+ghost use Rattle.slot_values.specs.Evaluated.{slot_view};
 ghost use Rattle.slot_rows.specs.Table.{row_in, table_view, value_in};
 
+use crate::slot::slot_value;
 use lus_meaning::Value;
+use slot_values::SlotValue;
 
 /// The values of an instant, by the numbers of their slots.
 #[derive(Drop)]
 pub(crate) struct Row {
-    pub(crate) values: Vec<Option<Value>>,
+    pub(crate) values: Vec<SlotValue>,
     /// Whether an operation was outside 128 bits.
     pub(crate) outside: bool,
 }
@@ -29,8 +32,8 @@ impl Table {
     }
 
     /// The values of an instant, by the numbers of their slots; none behind the last instant.
-    pub fn row(&self, instant: usize) -> &[Option<Value>]
-        ensures { map entry_view result.now ≡ (row_in (table_view self.now) instant).values }
+    pub fn row(&self, instant: usize) -> &[SlotValue]
+        ensures { map slot_view result.now ≡ (row_in (table_view self.now) instant).values }
     {
         if instant < self.rows.len() {
             &self.rows[instant].values
@@ -43,7 +46,7 @@ impl Table {
     pub fn value(&self, slot: usize, instant: usize) -> Option<Value>
         ensures { entry_view result ≡ value_in (table_view self.now) instant slot }
     {
-        self.row(instant).get(slot).copied().unwrap_or(None)
+        slot_value(self.row(instant), slot).value()
     }
 
     /// Whether at that instant an operation was outside 128 bits, in the value of a slot or in what is brought from it

@@ -3,19 +3,26 @@ use Rattle.std.specs.Prelude.{ℕ, Bool, true, false, not, cond, List, [], ◌�
 use Rattle.lus_tree.specs.declared.place.Pos.{Pos}
 use Rattle.kind_num.specs.declared.Past.{Past}
 use Rattle.lus_meaning.specs.declared.value.Value.{Value as CodeValue}
-use Rattle.lus_meaning.specs.Value.{Value, absent, is, is_absent, not_value, minus_value, apply, choose}
+use Rattle.lus_meaning.specs.Value.{Value, absent, is, is_absent, flag, whole, not_value, minus_value, apply, choose}
 use Rattle.lus_meaning.specs.TraceView.{entry_view}
 use Rattle.lus_evaluation.specs.Past.{past_of_values, past_of_minus}
 use Rattle.slot_values.specs.declared.resolved.PastAt.{PastAt}
+use Rattle.slot_values.specs.declared.slot.SlotValue.{SlotValue}
+use Rattle.slot_values.specs.declared.slot.SlotValue.TheVariants as cell
 use Rattle.slot_values.specs.Resolution.{Resolution, known, slot, negated, opposite, combined, chosen, started, sampled, merged, latest}
 
 -- the value of each slot of a frame, by its number; absent where the clock of what it stands for is off
 abbrev pub SlotValues : Type 0
 SlotValues = ℕ → Value
 
+abbrev pub slot_view : SlotValue → Value
+slot_view cell.Absent = absent
+slot_view (cell.Truth b) = flag b
+slot_view (cell.Whole n) = whole n
+
 -- of a row of values; behind its end all are absent
-abbrev pub slots_in : List (Option CodeValue) → SlotValues
-slots_in vs k = unwrap_or (option_map entry_view (slice_get vs k)) absent
+abbrev pub slots_in : List SlotValue → SlotValues
+slots_in vs k = unwrap_or (option_map slot_view (slice_get vs k)) absent
 
 abbrev pub only_where : Bool → Value → Value
 only_where on v = cond on v absent

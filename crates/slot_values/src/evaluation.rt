@@ -7,27 +7,27 @@ ghost use Rattle.slot_values.specs.Evaluated.{answer_view, slots_in, only_where,
 ghost use Rattle.slot_values.specs.Outcome.{outcome_view, value_within};
 ghost use Rattle.slot_values.specs.Stepwise.{stepwise};
 
-use crate::operation::{chosen, combined, is_truth, negated, opposite};
+use crate::operation::{chosen, combined, negated, opposite};
 use crate::outcome::Outcome;
 use crate::quick::quick;
 use crate::resolved::{PastAt, Resolved};
-use crate::slot::{is_present, slot_value};
+use crate::slot::{SlotValue, is_present, is_truth, slot_value};
 use lus_meaning::Value;
 
 /// The value where that is wanted.
-fn value_if(on: bool, value: Option<Value>) -> Option<Value>
+fn only_if(on: bool, value: Option<Value>) -> Option<Value>
     ensures { entry_view result ≡ only_where on (entry_view value) }
 {
     if on { value } else { None }
 }
 
 #[cycle(walk)]
-fn walk(e: &Resolved, on: bool, row: &[Option<Value>]) -> Result<Option<Value>, PastAt>
+fn walk(e: &Resolved, on: bool, row: &[SlotValue]) -> Result<Option<Value>, PastAt>
     ensures { answer_view result ≡ stepwise (slots_in row.now) on (resolved_view e.now) }
 {
     match e {
-        Resolved::Known(value) => Ok(value_if(on, *value)),
-        Resolved::Slot(slot) => Ok(value_if(on, slot_value(row, *slot))),
+        Resolved::Known(value) => Ok(only_if(on, *value)),
+        Resolved::Slot(slot) => Ok(only_if(on, slot_value(row, *slot).value())),
         Resolved::Not(a) => {
             let a = walk(a, on, row)?;
             Ok(negated(a))
@@ -50,27 +50,27 @@ fn walk(e: &Resolved, on: bool, row: &[Option<Value>]) -> Result<Option<Value>, 
         Resolved::Arrow(start, a, b) => {
             let a = walk(a, on, row)?;
             let b = walk(b, on, row)?;
-            Ok(chosen(slot_value(row, *start), a, b))
+            Ok(chosen(slot_value(row, *start).value(), a, b))
         }
         Resolved::When(slot, wanted, a) => {
             let clock = slot_value(row, *slot);
             let a = walk(a, is_present(clock), row)?;
-            Ok(value_if(is_truth(*wanted, clock), a))
+            Ok(only_if(is_truth(*wanted, clock), a))
         }
         Resolved::Merge(slot, a, b) => {
             let clock = slot_value(row, *slot);
             let a = walk(a, is_truth(true, clock), row)?;
             let b = walk(b, is_truth(false, clock), row)?;
-            Ok(chosen(clock, a, b))
+            Ok(chosen(clock.value(), a, b))
         }
         Resolved::Latest(condition, beat, output, held) => {
             walk(condition, on, row)?;
             let value = chosen(
-                slot_value(row, *beat),
-                slot_value(row, *output),
-                slot_value(row, *held),
+                slot_value(row, *beat).value(),
+                slot_value(row, *output).value(),
+                slot_value(row, *held).value(),
             );
-            Ok(value_if(on, value))
+            Ok(only_if(on, value))
         }
     }
 }
@@ -83,7 +83,7 @@ fn walk(e: &Resolved, on: bool, row: &[Option<Value>]) -> Result<Option<Value>, 
 /// The first of its operations, operands from left to right and before their operator, whose result is outside 128
 /// bits, of those whose clock is on.
 #[tactic(auto, using(crate::proofs::Stepwise::stepwise_is))]
-pub fn evaluate(e: &Resolved, on: bool, row: &[Option<Value>]) -> Result<Option<Value>, PastAt>
+pub fn evaluate(e: &Resolved, on: bool, row: &[SlotValue]) -> Result<Option<Value>, PastAt>
     ensures { answer_view result ≡ evaluated (slots_in row.now) on (resolved_view e.now) }
 {
     match value_within(e, on, row) {
@@ -96,7 +96,7 @@ pub fn evaluate(e: &Resolved, on: bool, row: &[Option<Value>]) -> Result<Option<
 
 /// The value alone, where no operation has a result outside 128 bits.
 #[tactic(auto, using(crate::proofs::Quickly::quickly_is))]
-pub fn value_within(e: &Resolved, on: bool, row: &[Option<Value>]) -> Outcome
+pub fn value_within(e: &Resolved, on: bool, row: &[SlotValue]) -> Outcome
     ensures { outcome_view result ≡ value_within (slots_in row.now) on (resolved_view e.now) }
 {
     quick(e, on, row)

@@ -16,3 +16,4 @@ mod slot;
 pub use evaluation::{evaluate, value_within};
 pub use outcome::Outcome;
 pub use resolved::{PastAt, Resolved};
+pub use slot::{SlotValue, is_truth, value_if};

@@ -3,26 +3,15 @@
 ghost use Rattle.std.specs.Prelude.{◌≡◌, pos};
 ghost use Rattle.std.specs.Int.{int_div_euclid, int_rem_euclid};
 ghost use Rattle.lus_tree.specs.declared.expression.Operator.TheVariants.{Add, Sub, Mul, Div, Mod};
-ghost use Rattle.lus_meaning.specs.Value.{is, flag, whole, apply, not_value, choose};
+ghost use Rattle.lus_meaning.specs.Value.{flag, whole, apply, not_value, choose};
 ghost use Rattle.lus_meaning.specs.TraceView.{entry_view};
-ghost use Rattle.slot_values.specs.Evaluated.{answer_view, is_there};
+ghost use Rattle.slot_values.specs.Evaluated.{answer_view};
 ghost use Rattle.slot_values.specs.Stepwise.{operated, minus_at};
 
 use crate::resolved::PastAt;
 use kind_num::{add, euclid, mul, sub};
 use lus_meaning::Value;
 use lus_tree::{Operator, Pos};
-
-/// Whether a value is that truth value.
-pub(crate) fn is_truth(wanted: bool, value: Option<Value>) -> bool
-    ensures { result ≡ is wanted (entry_view value) }
-{
-    match value {
-        Some(Value::Truth(b)) => b == wanted,
-        Some(Value::Whole(_)) => false,
-        None => false,
-    }
-}
 
 /// The opposite truth value.
 pub(crate) fn negated(value: Option<Value>) -> Option<Value>

@@ -4,17 +4,16 @@ ghost use Rattle.std.specs.Prelude.{◌≡◌, Some};
 ghost use Rattle.lus_meaning.specs.Value.{choose};
 ghost use Rattle.lus_meaning.specs.TraceView.{entry_view};
 ghost use Rattle.slot_values.specs.Resolution.{resolved_view};
-ghost use Rattle.slot_values.specs.Evaluated.{slots_in, only_where};
+ghost use Rattle.slot_values.specs.Evaluated.{only_where, slot_view, slots_in};
 ghost use Rattle.slot_values.specs.Outcome.{outcome_view};
 ghost use Rattle.slot_values.specs.Quickly.{beside, quickly};
 
-use crate::operation::{chosen, is_truth};
 use crate::outcome::Outcome;
 use crate::quick_operation::{
     chosen_of, kept_where, minus_of, not_of, with_number, with_truth, within_both,
 };
 use crate::resolved::Resolved;
-use crate::slot::{is_present, slot_value};
+use crate::slot::{SlotValue, chosen_value, is_present, is_truth, slot_value};
 use lus_meaning::Value;
 
 /// What a value comes to where it is wanted.
@@ -31,18 +30,32 @@ fn outcome_if(on: bool, value: Option<Value>) -> Outcome
     }
 }
 
+/// What the value of a slot comes to where that is wanted.
+fn outcome_where(on: bool, value: SlotValue) -> Outcome
+    ensures { outcome_view result ≡ Some (only_where on (slot_view value)) }
+{
+    if !on {
+        return Outcome::Absent;
+    }
+    match value {
+        SlotValue::Truth(b) => Outcome::Truth(b),
+        SlotValue::Whole(n) => Outcome::Whole(n),
+        SlotValue::Absent => Outcome::Absent,
+    }
+}
+
 /// What a slot comes to where that is wanted.
-fn slot_outcome(on: bool, row: &[Option<Value>], slot: u32) -> Outcome
+fn slot_outcome(on: bool, row: &[SlotValue], slot: u32) -> Outcome
     ensures { outcome_view result ≡ Some (only_where on (slots_in row.now slot)) }
 {
-    outcome_if(on, slot_value(row, slot))
+    outcome_where(on, slot_value(row, slot))
 }
 
 /// The value of what is held, unless the condition of its call has an operation outside 128 bits.
 fn latest(
     condition: Outcome,
     on: bool,
-    row: &[Option<Value>],
+    row: &[SlotValue],
     beat: u32,
     output: u32,
     held: u32,
@@ -52,9 +65,9 @@ fn latest(
 {
     match condition {
         Outcome::Outside => Outcome::Outside,
-        Outcome::Absent | Outcome::Truth(_) | Outcome::Whole(_) => outcome_if(
+        Outcome::Absent | Outcome::Truth(_) | Outcome::Whole(_) => outcome_where(
             on,
-            chosen(
+            chosen_value(
                 slot_value(row, beat),
                 slot_value(row, output),
                 slot_value(row, held),
@@ -66,7 +79,7 @@ fn latest(
 /// What an expression comes to. Most operands are slots and literals, for which no walk begins.
 #[cycle(quick)]
 #[inline(always)]
-pub(crate) fn quick(e: &Resolved, on: bool, row: &[Option<Value>]) -> Outcome
+pub(crate) fn quick(e: &Resolved, on: bool, row: &[SlotValue]) -> Outcome
     ensures { outcome_view result ≡ quickly (slots_in row.now) on (resolved_view e.now) }
 {
     match e {
@@ -85,7 +98,7 @@ pub(crate) fn quick(e: &Resolved, on: bool, row: &[Option<Value>]) -> Outcome
 
 #[cycle(quick)]
 #[tactic(auto, using(crate::proofs::Mismatched::mismatched))]
-fn walk(e: &Resolved, on: bool, row: &[Option<Value>]) -> Outcome
+fn walk(e: &Resolved, on: bool, row: &[SlotValue]) -> Outcome
     ensures { outcome_view result ≡ quickly (slots_in row.now) on (resolved_view e.now) }
 {
     match e {
@@ -103,19 +116,18 @@ fn walk(e: &Resolved, on: bool, row: &[Option<Value>]) -> Outcome
         Resolved::If(c, a, b) => match quick(c, on, row) {
             Outcome::Truth(true) => within_both(quick(a, on, row), quick(b, on, row)),
             Outcome::Truth(false) => within_both(quick(b, on, row), quick(a, on, row)),
-            Outcome::Absent => chosen_of(None, quick(a, on, row), quick(b, on, row)),
+            Outcome::Absent => {
+                chosen_of(SlotValue::Absent, quick(a, on, row), quick(b, on, row))
+            }
             Outcome::Whole(n) => {
-                chosen_of(Some(Value::Whole(n)), quick(a, on, row), quick(b, on, row))
+                chosen_of(SlotValue::Whole(n), quick(a, on, row), quick(b, on, row))
             }
             Outcome::Outside => Outcome::Outside,
         },
         Resolved::Arrow(start, a, b) => match slot_value(row, *start) {
-            Some(Value::Truth(true)) => within_both(quick(a, on, row), quick(b, on, row)),
-            Some(Value::Truth(false)) => within_both(quick(b, on, row), quick(a, on, row)),
-            Some(Value::Whole(n)) => {
-                chosen_of(Some(Value::Whole(n)), quick(a, on, row), quick(b, on, row))
-            }
-            None => chosen_of(None, quick(a, on, row), quick(b, on, row)),
+            SlotValue::Truth(true) => within_both(quick(a, on, row), quick(b, on, row)),
+            SlotValue::Truth(false) => within_both(quick(b, on, row), quick(a, on, row)),
+            other => chosen_of(other, quick(a, on, row), quick(b, on, row)),
         },
         Resolved::When(slot, wanted, a) => {
             let clock = slot_value(row, *slot);

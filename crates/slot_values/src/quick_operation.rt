@@ -3,15 +3,14 @@
 ghost use Rattle.std.specs.Prelude.{◌≡◌, Some, false, is_none, option_map, true};
 ghost use Rattle.lus_tree.specs.declared.expression.Operator.TheVariants.{Add, Sub, Mul, Div, Mod};
 ghost use Rattle.lus_meaning.specs.Value.{flag, whole, apply, not_value};
-ghost use Rattle.lus_meaning.specs.TraceView.{entry_view};
-ghost use Rattle.slot_values.specs.Evaluated.{only_where};
+ghost use Rattle.slot_values.specs.Evaluated.{only_where, slot_view};
 ghost use Rattle.slot_values.specs.Outcome.{outcome_view};
 ghost use Rattle.slot_values.specs.Quickly.{applied, chosen_of, minus_of};
 
 use crate::operation::{quotient_by_zero, remainder_by_zero};
 use crate::outcome::Outcome;
+use crate::slot::SlotValue;
 use kind_num::{add, euclid, mul, sub};
-use lus_meaning::Value;
 use lus_tree::Operator;
 
 /// The opposite truth value.
@@ -61,17 +60,16 @@ pub(crate) fn kept_where(on: bool, a: Outcome) -> Outcome
 }
 
 /// One of two outcomes, by a truth value.
-pub(crate) fn chosen_of(condition: Option<Value>, first: Outcome, second: Outcome) -> Outcome
-    ensures { outcome_view result ≡ chosen_of (entry_view condition) (outcome_view first) (outcome_view second) }
+pub(crate) fn chosen_of(condition: SlotValue, first: Outcome, second: Outcome) -> Outcome
+    ensures { outcome_view result ≡ chosen_of (slot_view condition) (outcome_view first) (outcome_view second) }
 {
     if is_outside(first) || is_outside(second) {
         return Outcome::Outside;
     }
     match condition {
-        Some(Value::Truth(true)) => first,
-        Some(Value::Truth(false)) => second,
-        Some(Value::Whole(_)) => Outcome::Absent,
-        None => Outcome::Absent,
+        SlotValue::Truth(true) => first,
+        SlotValue::Truth(false) => second,
+        SlotValue::Absent | SlotValue::Whole(_) => Outcome::Absent,
     }
 }
 

@@ -1,9 +1,9 @@
 use Rattle.std.proofs.Common.{◌≡◌, map, subst, arith}
-use Rattle.lus_meaning.specs.TraceView.{entry_view}
 use Rattle.slot_sources.specs.Source.{source_view}
 use Rattle.slot_rows.specs.Table.{row_view, rows}
 use Rattle.slot_rows.proofs.RowAt.{brought_more, rows_more}
 use Rattle.slot_rows.proofs.filling.fill.Goals as goal
+use Rattle.slot_values.specs.Evaluated.{slot_view}
 
 pub loop-instant-preserved : goal.loop-instant-preserved
 loop-instant-preserved g c =
@@ -12,7 +12,7 @@ loop-instant-preserved g c =
     record {
       rows = rows_more choices es c.args.order.now c.loop-instant.instant (map row_view c.loop-instant.rows.items)
           (map row_view c.push_row.new.rows.items) c.loop-instant.invariant.rows c.in_ok-values-2.ensures.pushed;
-      values = brought_more choices es c.args.order.now c.loop-instant.instant (map entry_view c.in_ok-values-2.values.items)
+      values = brought_more choices es c.args.order.now c.loop-instant.instant (map slot_view c.in_ok-values-2.values.items)
           c.in_ok-values-2.ensures.values;
     }
 
