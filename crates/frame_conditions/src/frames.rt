@@ -20,7 +20,8 @@ use sys_tables::sight::sight;
 use sys_tables::table::{Linked, Table};
 use sys_texts::sight::Sight;
 
-/// The conditions of a frame that is seen so, whose calls stand from there on, with calls nested no deeper than `depth`.
+/// The conditions of a frame that is seen so, whose calls stand from there on, with calls nested no deeper than
+/// `depth`.
 #[cycle(conditions)]
 fn conditions_seen<'a>(
     tables: Tables<'a, '_>,

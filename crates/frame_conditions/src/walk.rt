@@ -54,8 +54,8 @@ fn push_own(
     push_seen(tables.alloc, resolutions, table, &sight, &modes)
 }
 
-/// The expressions, and behind them what the frames assert of calls that stand from there on, with others nested in them
-/// no deeper than `depth`.
+/// The expressions, and behind them what the frames assert of calls that stand from there on, with others nested in
+/// them no deeper than `depth`.
 #[cycle(walk)]
 fn visit_below(
     tables: Tables<'_, '_>,

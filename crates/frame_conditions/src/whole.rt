@@ -26,7 +26,6 @@ use crate::promises::push_promises;
 use crate::walk::visit_frame;
 use frame_sources::imports::{Tables, modes_seen, table_at};
 use frame_sources::modes::Asked;
-use frame_sources::{missing_at, place_named};
 use lus_limits::{Way, system_sizes};
 use lus_streams::owner::Owner;
 use lus_tree::Program;
@@ -36,6 +35,7 @@ use sight_laws::laws::{
 use slot_values::Resolved;
 use std::alloc::{AllocError, Global};
 use steady_laws::laws::{constants_are_kept, texts_are_steady};
+use sys_frames::{missing_at, place_named};
 use sys_tables::numbers::behind_own;
 use sys_tables::sight::sight;
 use sys_tables::table::Table;
@@ -137,7 +137,8 @@ fn properties_at(
     }
 }
 
-/// What makes an instant of a declaration of a checked program lawful: its assumptions, and the assertions of all frames.
+/// What makes an instant of a declaration of a checked program lawful: its assumptions, and the assertions of all
+/// frames.
 ///
 /// # Errors
 ///

@@ -15,4 +15,5 @@ mod switches;
 mod walk;
 mod whole;
 
-pub use whole::{missing_at, place_named, sources};
+pub use switches::switch_of;
+pub use whole::sources;

@@ -74,7 +74,8 @@ fn latest_at(
 
 /// The output of that place of a call.
 fn called(call: Option<&Call<'_>>, place: usize) -> Resolved
-    ensures { resolved_view result ≡ unwrap_or (slice_get (outputs_by (option_map (λ c. call_view c.now) call.entry)) place)
+    ensures { resolved_view result ≡ unwrap_or (slice_get
+        (outputs_by (option_map (λ c. call_view c.now) call.entry)) place)
         (known absent) }
 {
     match call {
@@ -91,7 +92,8 @@ fn held(
     place: usize,
 ) -> Result<Resolved, AllocError>
     ensures { IfOk result (λ r. resolved_view r ≡ unwrap_or (slice_get
-        (latest_each_by (resolved_view condition) (option_map (λ c. call_view c.now) call.entry)) place) (known absent)) }
+        (latest_each_by (resolved_view condition) (option_map (λ c. call_view c.now) call.entry)) place)
+        (known absent)) }
 {
     match call {
         Some(call) => latest_at(alloc, condition, call.beat, &call.outputs, place),
@@ -108,7 +110,8 @@ fn first_of(
     place: usize,
 ) -> Result<Resolved, AllocError>
     ensures { IfOk result (λ r. resolved_view r ≡ unwrap_or (slice_get
-        (resolved_by (sight_view sight.now) (all_asked_view modes.now) (expr_view side.now) ∷ []) place) (known absent)) }
+        (resolved_by (sight_view sight.now) (all_asked_view modes.now) (expr_view side.now)
+        ∷ []) place) (known absent)) }
 {
     if place == 0 {
         resolved(alloc, sight, modes, side)

@@ -9,8 +9,8 @@ use lus_streams::clock::Clock;
 use slot_sources::Switch;
 use sys_texts::sight::{Sight, name_number};
 
-/// The slot that tells a clock.
-pub(crate) fn switch_of(sight: &Sight<'_>, clock: Clock<'_>) -> Switch
+/// The slot that tells a clock, and the truth value that it has where the clock is on.
+pub fn switch_of(sight: &Sight<'_>, clock: Clock<'_>) -> Switch
     ensures { result ≡ switch_by (sight_view sight.now) (clock_seen clock.entry) }
 {
     match clock {

@@ -1,4 +1,5 @@
-//! The walk over the frames of a declaration: its own, and for each call that of the callee, in the order of their slots.
+//! The walk over the frames of a declaration: its own, and for each call that of the callee, in the order of their
+//! slots.
 
 ghost use Rattle.std.specs.Prelude.{◌≡◌, ◌++◌, OnOk, map, option_map, slice_get};
 ghost use Rattle.std.specs.List.{AllByRecursion};
@@ -30,8 +31,8 @@ fn call_at<'a, 's>(sight: &'s Sight<'a>, place: usize) -> Option<&'s Call<'a>>
     sight.calls.get(place)
 }
 
-/// The sources, and behind them those of a frame that is seen so, where these modes are known, and of those of its calls,
-/// with calls nested no deeper than `depth`.
+/// The sources, and behind them those of a frame that is seen so, where these modes are known, and of those of its
+/// calls, with calls nested no deeper than `depth`.
 #[cycle(walk)]
 pub(crate) fn visit_seen<'a>(
     tables: Tables<'a, '_>,

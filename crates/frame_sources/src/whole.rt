@@ -8,9 +8,7 @@ ghost use Rattle.lus_meaning.specs.Refusals.{IsChecked};
 ghost use Rattle.lus_meaning.specs.Slots.{width};
 ghost use Rattle.lus_streams.specs.Owner.{owner_view};
 ghost use Rattle.lus_tree.specs.View.{program_view};
-ghost use Rattle.name_table.specs.Names.{number_of};
 ghost use Rattle.slot_sources.specs.Sources.{sources_of};
-ghost use Rattle.sys_frames.specs.Systems.{missing_in, names_in};
 ghost use Rattle.sys_frames.specs.Walked.{HasRoomWithin, IfThere};
 ghost use Rattle.sys_tables.specs.Views.{tables_view};
 ghost use Rattle.frame_sources.specs.Views.{sources_view};
@@ -18,7 +16,7 @@ ghost use Rattle.frame_sources.specs.Walked.{sources_at};
 
 use crate::imports::Tables;
 use crate::walk::visit_or_none;
-use lus_limits::{SystemSize, Way, system_sizes};
+use lus_limits::{Way, system_sizes};
 use lus_streams::owner::Owner;
 use lus_tree::Program;
 use sight_laws::laws::{
@@ -27,32 +25,8 @@ use sight_laws::laws::{
 use slot_sources::Source;
 use std::alloc::{AllocError, Global};
 use steady_laws::laws::{constants_are_kept, texts_are_steady};
-use sys_tables::table::Table;
+use sys_frames::{missing_at, place_named};
 use sys_tables::tables::tables;
-
-/// The place of the first declaration of that name.
-pub fn place_named(all: &[Table<'_>], name: &str) -> usize
-    ensures { result ≡ number_of (names_in (tables_view all.now)) name.now }
-{
-    let mut place = 0;
-    for table in all {
-        if name == table.owner.name() {
-            return place;
-        }
-        place += 1;
-    }
-    place
-}
-
-/// The number that stands for what isn't there: that behind the last slot.
-pub fn missing_at(sizes: &[SystemSize], place: usize) -> u32
-    ensures { result ≡ missing_in (slice_get sizes.now place) }
-{
-    match sizes.get(place) {
-        Some(size) => size.variables.min(20_001) as u32,
-        None => 0,
-    }
-}
 
 /// The sources of the declaration of that place; none where there is none.
 fn sources_at(tables: Tables<'_, '_>, depth: usize, place: usize) -> Result<Vec<Source>, AllocError>

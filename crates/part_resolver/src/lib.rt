@@ -4,7 +4,6 @@
 mod kept;
 mod seats;
 mod seen;
-mod switches;
 mod whole;
 
 pub use whole::resolved;

@@ -12,8 +12,8 @@ use lus_limits::Way;
 use sys_tables::numbers::{behind_own, frame_base, way_of};
 use sys_tables::table::{Linked, Table};
 
-/// Where a frame is: the place of its declaration among those of the program, how it runs, the number of its beat, and how
-/// deep calls are nested in it at most.
+/// Where a frame is: the place of its declaration among those of the program, how it runs, the number of its beat,
+/// and how deep calls are nested in it at most.
 #[derive(Clone, Copy)]
 pub(crate) struct Seat {
     pub(crate) depth: usize,

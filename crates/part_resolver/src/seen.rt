@@ -14,11 +14,11 @@ ghost use Rattle.part_resolver.specs.SlotParts.{blank, part_over};
 ghost use Rattle.part_resolver.specs.Seen.{IsSeen};
 
 use crate::seats::Seat;
-use crate::switches::switch_of;
 use evaluation_parts::part::Part;
 use frame_sources::frame::resolved;
 use frame_sources::imports::{Tables, modes_seen, table_at};
 use frame_sources::modes::Asked;
+use frame_sources::switch_of;
 use indexmap::IndexMap;
 use slot_replay::PartAt;
 use std::alloc::{AllocError, Global};

@@ -17,7 +17,6 @@ use crate::kept::{none_kept, part_at};
 use crate::seats::{Seat, seat_on};
 use evaluation_parts::part::Part;
 use frame_sources::imports::Tables;
-use frame_sources::{missing_at, place_named};
 use lus_limits::{Way, system_sizes};
 use lus_streams::owner::Owner;
 use lus_tree::Program;
@@ -27,6 +26,7 @@ use sight_laws::laws::{
 use slot_replay::PartAt;
 use std::alloc::{AllocError, Global};
 use steady_laws::laws::{constants_are_kept, texts_are_steady};
+use sys_frames::{missing_at, place_named};
 use sys_tables::tables::tables;
 
 /// The parts of the frames at the end of their ways from there on.
@@ -49,8 +49,8 @@ fn parts_from(
     Ok(resolved)
 }
 
-/// The parts of an instant of a declaration of a checked program as expressions over its slots: of each the resolution of
-/// its expression in the frame at the end of its way of calls, and the slot that tells its clock there.
+/// The parts of an instant of a declaration of a checked program as expressions over its slots: of each the
+/// resolution of its expression in the frame at the end of its way of calls, and the slot that tells its clock there.
 ///
 /// # Errors
 ///

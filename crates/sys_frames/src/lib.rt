@@ -11,4 +11,4 @@ mod streams;
 mod systems;
 mod walk;
 
-pub use systems::system;
+pub use systems::{missing_at, place_named, system};

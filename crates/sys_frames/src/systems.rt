@@ -141,8 +141,8 @@ fn system_at(tables: Tables<'_, '_>, depth: usize, place: usize) -> Result<Syste
     }
 }
 
-/// The place of the first declaration of that name.
-fn place_named(all: &[Table<'_>], name: &str) -> usize
+/// The place of the first declaration of that name; their number where there is none.
+pub fn place_named(all: &[Table<'_>], name: &str) -> usize
     ensures { result ≡ number_of (names_in (tables_view all.now)) name.now }
 {
     let mut place = 0;
@@ -155,8 +155,9 @@ fn place_named(all: &[Table<'_>], name: &str) -> usize
     place
 }
 
-/// The number that stands for what isn't there: that behind the last variable.
-fn missing_at(sizes: &[SystemSize], place: usize) -> u32
+/// The number that stands for what isn't there in the system of the declaration at that place: that behind its last
+/// variable, 0 where there is no such place.
+pub fn missing_at(sizes: &[SystemSize], place: usize) -> u32
     ensures { result ≡ missing_in (slice_get sizes.now place) }
 {
     match sizes.get(place) {

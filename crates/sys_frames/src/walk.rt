@@ -91,8 +91,8 @@ pub(crate) fn visit_seen<'a>(
     )
 }
 
-/// The lists, and behind them what is said of the frames of calls that stand from there on, with others nested in them no
-/// deeper than `depth`.
+/// The lists, and behind them what is said of the frames of calls that stand from there on, with others nested in
+/// them no deeper than `depth`.
 #[cycle(walk)]
 fn visit_below<'a>(
     tables: Tables<'a, '_>,
@@ -224,8 +224,8 @@ fn visit_or_none<'a>(
     }
 }
 
-/// The lists, and behind them what is said of a frame of a declaration that runs so and has its variables from there on,
-/// and of those of its calls, with calls nested no deeper than `depth`.
+/// The lists, and behind them what is said of a frame of a declaration that runs so and has its variables from
+/// there on, and of those of its calls, with calls nested no deeper than `depth`.
 #[cycle(walk)]
 fn visit_frame<'a>(
     tables: Tables<'a, '_>,

@@ -26,8 +26,8 @@ fn value_at(values: &[PlacedValue], instant: usize) -> Option<Value>
 }
 
 impl Fitted<'_> {
-    /// What is listed of a name's slot at an instant, counted from 0, or of the slot of a `pre` its first value at 0; none
-    /// where nothing is.
+    /// What is listed of a name's slot at an instant, counted from 0, or of the slot of a `pre` its first value at
+    /// 0; none where nothing is.
     pub fn at(&self, slot: usize, instant: usize) -> Option<Value>
         ensures { entry_view result ≡ fitted_at self.now slot instant }
     {

@@ -142,8 +142,8 @@ fn are_given(table: &ListableTable<'_>, seats: &[Option<&[PlacedValue]>], inputs
     true
 }
 
-/// Refuses a trace at its first word behind the name of its node that doesn't fit: the number of instants, the lines, and
-/// its end, where an input is missing. Else the slots have the values of its lines.
+/// Refuses a trace at its first word behind the name of its node that doesn't fit: the number of instants, the
+/// lines, and its end, where an input is missing. Else the slots have the values of its lines.
 pub(crate) fn trace_fits<'t>(
     table: &ListableTable<'_>,
     inputs: &[Param],

@@ -10,9 +10,7 @@ ghost use Rattle.lus_meaning.specs.Program.{instance_of};
 ghost use Rattle.lus_meaning.specs.Refusals.{IsChecked};
 ghost use Rattle.lus_meaning.specs.Slots.{width};
 ghost use Rattle.lus_streams.specs.Owner.{owner_view};
-ghost use Rattle.name_table.specs.Names.{number_of};
 ghost use Rattle.sys_tables.specs.Views.{table_view, tables_view};
-ghost use Rattle.sys_frames.specs.Systems.{missing_in, names_in};
 ghost use Rattle.sys_frames.specs.Walked.{HasRoomWithin, IfThere};
 ghost use Rattle.trace_fits.specs.Given.{IsSlotted};
 ghost use Rattle.trace_fits.specs.Views.{listable_view, slotted_view};
@@ -21,7 +19,7 @@ ghost use Rattle.trace_fits.specs.Walked.{all_listed, all_or_none};
 use crate::permitted::Listable;
 use crate::streams::push_streams;
 use crate::walk::{Tables, table_at, visit_frame};
-use lus_limits::{SystemSize, Way, system_sizes};
+use lus_limits::{Way, system_sizes};
 use lus_streams::owner::Owner;
 use lus_tree::Program;
 use sight_laws::laws::{
@@ -29,6 +27,7 @@ use sight_laws::laws::{
 };
 use std::alloc::{AllocError, Global};
 use steady_laws::laws::{constants_are_kept, texts_are_steady};
+use sys_frames::{missing_at, place_named};
 use sys_tables::table::Table;
 use sys_tables::tables::tables;
 
@@ -70,34 +69,10 @@ fn listed_at<'a>(
     }
 }
 
-/// The place of the first declaration of that name.
-fn place_named(all: &[Table<'_>], name: &str) -> usize
-    ensures { result ≡ number_of (names_in (tables_view all.now)) name.now }
-{
-    let mut place = 0;
-    for table in all {
-        if name == table.owner.name() {
-            return place;
-        }
-        place += 1;
-    }
-    place
-}
-
-/// The number that stands for what isn't there: that behind the last variable.
-fn missing_at(sizes: &[SystemSize], place: usize) -> u32
-    ensures { result ≡ missing_in (slice_get sizes.now place) }
-{
-    match sizes.get(place) {
-        Some(size) => size.variables.min(20_001) as u32,
-        None => 0,
-    }
-}
-
-/// What a trace of so many instants may list of a node, function or contract node of a checked program whose frame has at
-/// most 20,000 variables: first its inputs; then of each frame, that of the node and those of its calls and imports by
-/// number, the names without an equation, none of them in an import's frame, and the first value of each `pre`. Each with
-/// the number of its slot.
+/// What a trace of so many instants may list of a node, function or contract node of a checked program whose frame
+/// has at most 20,000 variables: first its inputs; then of each frame, that of the node and those of its calls and
+/// imports by number, the names without an equation, none of them in an import's frame, and the first value of each
+/// `pre`. Each with the number of its slot.
 ///
 /// # Errors
 ///

@@ -44,8 +44,8 @@ fn fit_node<'a, 't>(
     Ok(Fitted { seats })
 }
 
-/// Whether a trace fits a checked program, of which it names that node, where these may be listed of the node for as many
-/// instants as the trace has.
+/// Whether a trace fits a checked program, of which it names that node, where these may be listed of the node for
+/// as many instants as the trace has.
 ///
 /// # Errors
 ///

@@ -16,7 +16,8 @@ use sys_tables::numbers::{behind_own, frame_base, way_of};
 use sys_tables::sight::sight;
 use sys_tables::table::{Linked, Table};
 
-/// The tables of a program's declarations, the number that stands for what isn't there, and how many instants a trace has.
+/// The tables of a program's declarations, the number that stands for what isn't there, and how many instants a
+/// trace has.
 #[derive(Clone, Copy)]
 pub(crate) struct Tables<'a, 's> {
     pub(crate) alloc: Global,
@@ -79,8 +80,8 @@ fn push_own<'a>(
     push_memories(list, alloc, path, &sight, first, &table.memories)
 }
 
-/// The list, and behind it what may be listed of a frame of a declaration that runs so and has its variables from `base`
-/// on, and of those of its calls, with calls nested no deeper than `depth`.
+/// The list, and behind it what may be listed of a frame of a declaration that runs so and has its variables from
+/// `base` on, and of those of its calls, with calls nested no deeper than `depth`.
 #[cycle(walk)]
 pub(crate) fn visit_frame<'a>(
     tables: Tables<'a, '_>,
@@ -118,7 +119,8 @@ fn visit_calls<'a>(
     requires below { AllByRecursion (OfCall (HasRoomWithin depth (tables_view tables.all.now))
         (tables_view tables.all.now) from) (map linked_view calls.now) }
     ensures { OnOk result (map slotted_view list.new.items ≡ map slotted_view list.old.items
-        ++ calls_listed (listed_within (tables_view tables.entry.all.now) tables.entry.missing tables.entry.instants depth)
+        ++ calls_listed (listed_within (tables_view tables.entry.all.now) tables.entry.missing tables.entry.instants
+        depth)
         (tables_view tables.entry.all.now) from path.now (map linked_view calls.now)) }
 {
     for call in calls {
@@ -141,7 +143,8 @@ fn visit_call<'a>(
     requires below { OfCall (HasRoomWithin depth (tables_view tables.all.now)) (tables_view tables.all.now) from
         (linked_view call.now) }
     ensures { OnOk result (map slotted_view list.new.items ≡ map slotted_view list.old.items
-        ++ call_listed (listed_within (tables_view tables.entry.all.now) tables.entry.missing tables.entry.instants depth)
+        ++ call_listed (listed_within (tables_view tables.entry.all.now) tables.entry.missing tables.entry.instants
+        depth)
         (tables_view tables.entry.all.now) from path.now (linked_view call.now)) }
 {
     let base = frame_base(from, call);
@@ -164,7 +167,8 @@ fn visit_or_none<'a>(
     requires { IfThere (HasRoomWithin depth (tables_view tables.all.now))
         (slice_get (tables_view tables.all.now) place) way base }
     ensures { OnOk result (map slotted_view list.new.items ≡ map slotted_view list.old.items
-        ++ listed_or_none (listed_within (tables_view tables.entry.all.now) tables.entry.missing tables.entry.instants depth)
+        ++ listed_or_none (listed_within (tables_view tables.entry.all.now) tables.entry.missing
+        tables.entry.instants depth)
         way base path.now (slice_get (tables_view tables.entry.all.now) place)) }
 {
     match table_at(tables.all, place) {
