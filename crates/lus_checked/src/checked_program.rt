@@ -16,7 +16,8 @@ use lus_tree::Program;
 use std::marker::Model;
 
 /// A program that breaks no rule and passes no limit, as `checked` makes it, with its main node, the orders of its
-/// equations, the widths and properties of its systems, and what its outputs depend on. Contracts see the program and the number of the main node.
+/// equations, the widths and properties of its systems, and what its outputs depend on. Contracts see the program
+/// and the number of the main node.
 #[derive(Drop)]
 pub struct Checked {
     clocked: Clocked,
@@ -57,9 +58,11 @@ impl Checked {
         self.clocked.program()
     }
 
-    /// The program alone.
+    /// The same program.
     pub fn into_program(self) -> Program
-        ensures { program_view result ≡ tree_of self }
+        ensures same { program_view result ≡ tree_of self }
+        ensures rules { IsChecked (program_view result) }
+        ensures within { IsWithinLimits (program_view result) None }
     {
         self.clocked.into_program()
     }
@@ -104,9 +107,9 @@ impl Checked {
         self.kept.widths[node as usize]
     }
 
-    /// The properties of the node or function with that number, in order: those of its body, its guarantees, the ensures
-    /// of its modes, that one mode is active, where it has a mode, and for each call by number the assumptions of the
-    /// callee.
+    /// The properties of the node or function with that number, in order: those of its body, its guarantees, the
+    /// ensures of its modes, that one mode is active, where it has a mode, and for each call by number the
+    /// assumptions of the callee.
     pub fn properties(&self, node: u32) -> &[Property]
         requires { node < length (nodes_of (tree_of self.now)) }
         ensures { listed_of (tree_of self.now) node ≡ Some (map property_seen result.now) }
@@ -123,9 +126,9 @@ impl Checked {
         self.kept.reads[node as usize].as_slice()
     }
 
-    /// On which inputs an output of the node or function with that number depends at the same instant, by the rule that no
-    /// equation depends on itself there: the numbers of these inputs, ascending. Inputs and outputs count from 0 in text
-    /// order.
+    /// On which inputs an output of the node or function with that number depends at the same instant, by the rule
+    /// that no equation depends on itself there: the numbers of these inputs, ascending. Inputs and outputs count
+    /// from 0 in text order.
     pub fn reads_now(&self, node: u32, output: u32) -> &[u32]
         requires node { node < length (nodes_of (tree_of self.now)) }
         requires output { output < length (outputs_of (tree_of self.now) node) }

@@ -108,14 +108,14 @@ fn judged(alloc: Global, program: &Program, main: Option<&str>) -> Result<Kept, 
     }
 }
 
-/// The program, with the fact that it breaks no rule and passes no limit, the orders of its equations and its main node:
-/// the one that is named, else the first with a mark, else the last.
+/// The program, with the fact that it breaks no rule and passes no limit, the orders of its equations and its main
+/// node: the one that is named, else the first with a mark, else the last.
 ///
 /// # Errors
 ///
-/// Where it has a fault of equations a first of these: `EquationTwice`, `InputDefined` or `Cycle`. Else, where it passes a
-/// limit, a first of these faults: `MainUnknown` at 1:1, or `TooMany` with the limit. Or `Memory` at 1:1. The program is
-/// then dropped.
+/// Where it has a fault of equations a first of these: `EquationTwice`, `InputDefined` or `Cycle`. Else, where it
+/// passes a limit, a first of these faults: `MainUnknown` at 1:1, or `TooMany` with the limit. Or `Memory` at 1:1.
+/// The program is then dropped.
 pub fn checked(alloc: Global, clocked: Clocked, main: Option<&str>) -> Result<Checked, Refusal>
     requires grammatical { IsGrammatical (program_view clocked) }
     ensures same { IfOk result (λ c. tree_of c ≡ program_view clocked) }

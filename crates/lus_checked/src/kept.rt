@@ -2,8 +2,9 @@
 
 use crate::property::Property;
 
-/// The number of the main node, the orders of the equations of declarations with parts, and of each node and function how
-/// many variables its system has, its properties, and on which inputs each output depends at the same instant.
+/// The number of the main node, the orders of the equations of declarations with parts, and of each node and
+/// function how many variables its system has, its properties, and on which inputs each output depends at the same
+/// instant.
 #[derive(Drop)]
 pub(crate) struct Kept {
     pub(crate) main: u32,

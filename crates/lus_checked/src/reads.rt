@@ -40,8 +40,8 @@ fn push_found(
     Ok(())
 }
 
-/// Adds on which inputs a declaration's outputs depend, where it is a node or function, behind so many declarations with
-/// parts.
+/// Adds on which inputs a declaration's outputs depend, where it is a node or function, behind so many declarations
+/// with parts.
 fn push_reads(
     alloc: Global,
     all: &mut Vec<Vec<Vec<u32>>>,

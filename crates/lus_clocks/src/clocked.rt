@@ -65,9 +65,10 @@ impl Clocked {
         self.typed.program()
     }
 
-    /// The program alone.
+    /// The same program.
     pub fn into_program(self) -> Program
-        ensures { program_view result ≡ program_view self }
+        ensures same { program_view result ≡ program_view self }
+        ensures clocked { IsClocked (program_view result) }
     {
         self.typed.into_program()
     }
