@@ -142,7 +142,8 @@ fn inputs_there<'a>(program: &Program, frame: Option<Frame<'a, '_>>) -> &'a [Par
 
 /// The outputs of a frame; none where it is not there.
 fn outputs_there<'a>(program: &Program, frame: Option<Frame<'a, '_>>) -> &'a [Param]
-    ensures { names_of (map param_view result.now) ≡ outputs_of (instance_there (program_view program.now) frame.entry) }
+    ensures { names_of (map param_view result.now) ≡ outputs_of
+        (instance_there (program_view program.now) frame.entry) }
 {
     match frame {
         Some(frame) => frame.declared.names.owner.outputs(),

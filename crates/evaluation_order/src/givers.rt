@@ -132,7 +132,8 @@ fn push_each<'p>(
     words: &[PlacedName],
 ) -> Result<(), AllocError>
     ensures { OnOk result (givers_view givers.new.items ≡ givers_view givers.old.items
-        ++ givers_of (places_view places.now) (parts_view parts.now) number way.now (map text_of (map word_view words.now))) }
+        ++ givers_of (places_view places.now) (parts_view parts.now) number way.now
+        (map text_of (map word_view words.now))) }
 {
     for word in words {
         push_giver(alloc, givers, places, parts, number, way, &word.text)?;
@@ -150,7 +151,8 @@ fn push_part<'p>(
     part: &'p Part<'_>,
 ) -> Result<(), AllocError>
     ensures { OnOk result (givers_view givers.new.items ≡ givers_view givers.old.items
-        ++ givers_of (places_view places.now) (parts_view parts.now) number (filled [] part.now).way (filled [] part.now).gives) }
+        ++ givers_of (places_view places.now) (parts_view parts.now) number (filled [] part.now).way
+        (filled [] part.now).gives) }
 {
     match part.gives {
         Gives::Nothing => Ok(()),

@@ -35,7 +35,8 @@ fn push_place_rows(
     places: &[Needed<'_>],
 ) -> Result<(), AllocError>
     ensures { OnOk result (graph_view graph.new
-        ≡ graph_view graph.old ++ place_rows (frame_instance frame.entry) (places_view places.now) (places_view places.now)) }
+        ≡ graph_view graph.old ++ place_rows (frame_instance frame.entry) (places_view places.now)
+        (places_view places.now)) }
 {
     for place in places {
         graph.push(place_row(alloc, frame, places, place)?)?;
@@ -60,7 +61,8 @@ fn push_part_rows(
     places: &[Needed<'_>],
     parts: &[Part<'_>],
 ) -> Result<(), AllocError>
-    ensures { OnOk result (graph_view graph.new ≡ graph_view graph.old ++ part_rows (places_view places.now) (parts_view parts.now)) }
+    ensures { OnOk result (graph_view graph.new ≡ graph_view graph.old
+        ++ part_rows (places_view places.now) (parts_view parts.now)) }
 {
     for part in parts {
         graph.push(part_row(alloc, places, part)?)?;

@@ -120,7 +120,8 @@ fn push_callers<'a>(
     name: Option<&str>,
 ) -> Result<(), AllocError>
     ensures { OnOk result (places_view found.new.items ≡ places_view found.old.items
-        ++ all_under before.now (places_of (at_top rest.now (caller_needs (frame_instance frame.entry) (site_view link.entry)
+        ++ all_under before.now (places_of (at_top rest.now
+        (caller_needs (frame_instance frame.entry) (site_view link.entry)
         (instance_there (program_view frame.entry.program.now) called.entry) (option_map (λ x. x.now) name.entry))))) }
 {
     match rest {
@@ -145,7 +146,8 @@ fn link_at<'a>(frame: Frame<'a, '_>, call: u32) -> Option<Link<'a>>
 /// The frame of a call of the declaration of that place.
 fn below<'a, 't>(frame: Frame<'a, 't>, place: usize) -> Option<Frame<'a, 't>>
     ensures { instance_there (program_view frame.entry.program.now) result
-        ≡ called_instance (program_view frame.entry.program.now) (all_view frame.entry.all.now) (pred frame.entry.depth) place }
+        ≡ called_instance (program_view frame.entry.program.now) (all_view frame.entry.all.now)
+        (pred frame.entry.depth) place }
 {
     let depth = if frame.depth == 0 { 0 } else { frame.depth - 1 };
     match frame.all.get(place) {
@@ -170,7 +172,8 @@ fn push_next<'a>(
     name: Option<&str>,
 ) -> Result<(), AllocError>
     ensures { OnOk result (places_view found.new.items ≡ places_view found.old.items
-        ++ all_under before.now (next_places (frame_instance frame.entry) way.now (option_map (λ x. x.now) name.entry))) }
+        ++ all_under before.now (next_places (frame_instance frame.entry) way.now
+        (option_map (λ x. x.now) name.entry))) }
 {
     match way {
         [] => push_here(alloc, found, frame, before, name),
@@ -221,7 +224,8 @@ fn push_below<'a>(
     name: Option<&str>,
 ) -> Result<(), AllocError>
     ensures { OnOk result (places_view found.new.items ≡ places_view found.old.items ++ all_under before.now
-        (next_places (instance_there (program_view program.now) frame.entry) way.now (option_map (λ x. x.now) name.entry))) }
+        (next_places (instance_there (program_view program.now) frame.entry) way.now
+        (option_map (λ x. x.now) name.entry))) }
 {
     match frame {
         Some(frame) => push_next(alloc, found, frame, before, way, name),

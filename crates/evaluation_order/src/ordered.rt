@@ -47,7 +47,8 @@ pub fn ordered_at<'a, 't>(
     parts: &[Part<'a>],
 ) -> Result<Option<Vec<Part<'a>>>, AllocError>
     ensures { IfOk result (λ o. OfPlace (all_view all.now) place (λ t. MatchOption o
-        (AreStuck (unfolded (program_view program.now) (all_view all.now) (length program.now.decls.items) t) (parts_view parts.now))
+        (AreStuck (unfolded (program_view program.now) (all_view all.now) (length program.now.decls.items) t)
+        (parts_view parts.now))
         (λ v. IsOrdered (unfolded (program_view program.now) (all_view all.now) (length program.now.decls.items) t)
         (parts_view parts.now) (parts_view v.items)))) }
 {

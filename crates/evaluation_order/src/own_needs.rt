@@ -200,7 +200,11 @@ fn push_side<'a>(
 ) -> Result<(), AllocError>
     requires { modes_needs_view modes.now ≡ modes_need (frame_instance frame) }
     ensures { OnOk result (needs_view needs.new.items ≡ needs_view needs.old.items
-        ++ equation_step (frame_instance frame.entry) record { names = map text_of (map word_view words.now); right = expr_view right.now }) }
+        ++ equation_step (frame_instance frame.entry) record {
+          names = map text_of
+              (map word_view words.now);
+          right = expr_view right.now;
+        }) }
 {
     let names = frame.declared.names;
     push_declared_each(alloc, needs, names.owner, words)?;
@@ -267,8 +271,8 @@ fn push_equations<'a>(
     Ok(())
 }
 
-/// The needs, and behind them what a name of a frame needs of the frame itself: its clock, and of the equations that give
-/// it the clocks of their names and the right side.
+/// The needs, and behind them what a name of a frame needs of the frame itself: its clock, and of the equations
+/// that give it the clocks of their names and the right side.
 pub(crate) fn push_own<'a>(
     alloc: Global,
     needs: &mut Vec<Need<'a>>,

@@ -106,7 +106,8 @@ fn meet_all<'a>(
     places: &mut Vec<Needed<'a>>,
     more: &[Needed<'a>],
 ) -> Result<(), AllocError>
-    ensures { OnOk result (places_view places.new.items ≡ met_all (places_view places.old.items) (places_view more.now)) }
+    ensures { OnOk result (places_view places.new.items
+        ≡ met_all (places_view places.old.items) (places_view more.now)) }
 {
     for place in more {
         meet(alloc, places, place)?;
@@ -135,7 +136,8 @@ fn meet_parts<'a>(
     places: &mut Vec<Needed<'a>>,
     parts: &[Part<'a>],
 ) -> Result<(), AllocError>
-    ensures { OnOk result (places_view places.new.items ≡ met_parts (places_view places.old.items) (parts_view parts.now)) }
+    ensures { OnOk result (places_view places.new.items
+        ≡ met_parts (places_view places.old.items) (parts_view parts.now)) }
 {
     for part in parts {
         meet_part(alloc, places, part)?;

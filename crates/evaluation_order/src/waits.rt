@@ -65,7 +65,8 @@ fn found_for(
     part: &Part<'_>,
     givers: &[Giver<'_>],
 ) -> Result<Vec<usize>, AllocError>
-    ensures { IfOk result (λ v. IsFound (graph_view graph.now) number (filled [] part.now).way (givers_view givers.now) v.items) }
+    ensures { IfOk result (λ v. IsFound (graph_view graph.now) number (filled [] part.now).way
+        (givers_view givers.now) v.items) }
 {
     let marks = reached(alloc, graph, number)?;
     given_above(alloc, &marks, &part.way, givers)
@@ -90,8 +91,8 @@ fn waits_graph(
     Ok(waits)
 }
 
-/// The parts of an instant, again and again the first that is not yet listed and for which it waits for none that is not;
-/// none where some are left and none of those can be next.
+/// The parts of an instant, again and again the first that is not yet listed and for which it waits for none that
+/// is not; none where some are left and none of those can be next.
 ///
 /// # Errors
 ///
@@ -102,8 +103,10 @@ pub fn order_of<'a>(
     parts: &[Part<'a>],
 ) -> Result<Option<Vec<usize>>, AllocError>
     ensures { IfOk result (λ o. MatchOption o
-        ((ks : List ℕ) × IsStuck (length (parts_view parts.now)) (Waits (frame_instance frame.entry) (parts_view parts.now)) ks)
-        (λ v. IsLeastOrder (length (parts_view parts.now)) (Waits (frame_instance frame.entry) (parts_view parts.now)) v.items)) }
+        ((ks : List ℕ) × IsStuck (length (parts_view parts.now))
+        (Waits (frame_instance frame.entry) (parts_view parts.now)) ks)
+        (λ v. IsLeastOrder (length (parts_view parts.now))
+        (Waits (frame_instance frame.entry) (parts_view parts.now)) v.items)) }
 {
     let places = places_of(alloc, frame, parts)?;
     let graph = needs_graph(alloc, frame, &places, parts)?;

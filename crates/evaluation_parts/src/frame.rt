@@ -143,7 +143,8 @@ impl<'a, 't> Frame<'a, 't> {
     pub(crate) fn below(self, place: usize) -> Option<Frame<'a, 't>>
         requires { 0 < self.depth }
         ensures instance { instance_there (program_view self.entry.program.now) result
-            ≡ called_instance (program_view self.entry.program.now) (all_view self.entry.all.now) (pred self.entry.depth) place }
+            ≡ called_instance (program_view self.entry.program.now) (all_view self.entry.all.now)
+            (pred self.entry.depth) place }
         ensures shallower { IfSome result (λ f. f.depth ≡ pred self.entry.depth) }
     {
         match self.declared_at(place) {

@@ -111,8 +111,8 @@ fn push_unless<'a>(
     Ok(())
 }
 
-/// The parts, and behind them these assertions of a call's frame, and before them the call, where it stands in no text that
-/// is evaluated with its frame.
+/// The parts, and behind them these assertions of a call's frame, and before them the call, where it stands in no
+/// text that is evaluated with its frame.
 #[tactic(auto, using(crate::proofs::CallNumbers::evaluated_is))]
 fn push_behind_call<'a>(
     alloc: Global,
@@ -125,7 +125,8 @@ fn push_behind_call<'a>(
 ) -> Result<(), AllocError>
     requires { numbers.now ≡ numbers_evaluated (component_of (frame_instance setting.now.frame)) }
     ensures { OnOk result (parts_view all.new.items ≡ parts_view all.old.items
-        ++ cond (is_evaluated (component_of (frame_instance setting.now.frame)) (site_view link.now) (manner_view link.now.manner))
+        ++ cond (is_evaluated (component_of (frame_instance setting.now.frame)) (site_view link.now)
+        (manner_view link.now.manner))
         [] (call_parts (setting_view setting.now) (site_view link.now) (frame_text_view text.now))
         ++ parts_view asserted.now) }
 {
@@ -135,8 +136,8 @@ fn push_behind_call<'a>(
     Ok(())
 }
 
-/// The parts, and behind them these assertions of a call's frame, and before them the call, where it stands in no text that
-/// is evaluated with its frame; nothing where there are none.
+/// The parts, and behind them these assertions of a call's frame, and before them the call, where it stands in no
+/// text that is evaluated with its frame; nothing where there are none.
 #[tactic(auto, using(crate::proofs::Asserted::as_some))]
 fn push_asserted_as<'a>(
     alloc: Global,
@@ -335,7 +336,8 @@ fn each_text<'a>(
     links: &[Link<'a>],
 ) -> Result<Vec<FrameText<'a>>, AllocError>
     requires { 0 < frame.depth }
-    ensures { IfOk result (λ v. frame_texts_view v.items ≡ called_texts (text_called (program_view frame.entry.program.now)
+    ensures { IfOk result (λ v. frame_texts_view v.items
+        ≡ called_texts (text_called (program_view frame.entry.program.now)
         (all_view frame.entry.all.now) (orders_view orders.now) (pred frame.entry.depth)) way.now
         (links_view links.now)) }
 {

@@ -1,5 +1,5 @@
-//! What is evaluated at an instant of a declaration, part by part, in the order in which it would come if nothing had to
-//! wait.
+//! What is evaluated at an instant of a declaration, part by part, in the order in which it would come if nothing
+//! had to wait.
 #![tactic(auto)]
 
 mod bodies;

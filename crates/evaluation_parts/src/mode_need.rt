@@ -23,7 +23,8 @@ pub struct ModeNeeds<'a> {
 
 /// Whether these are the imported contracts on the way to what `::m` or `::C::m` names.
 fn is_way(contract: &Option<PlacedName>, contracts: &[&str]) -> bool
-    ensures { result ≡ same_path (option_to_list (option_map text_of (option_map word_view contract.now))) (texts contracts.now) }
+    ensures { result ≡ same_path (option_to_list (option_map text_of (option_map word_view contract.now)))
+        (texts contracts.now) }
 {
     match (contract, contracts) {
         (None, []) => true,
@@ -32,14 +33,16 @@ fn is_way(contract: &Option<PlacedName>, contracts: &[&str]) -> bool
     }
 }
 
-/// Whether a mode of that name, with these imported contracts on the way to it, is the one that `::m` or `::C::m` names.
+/// Whether a mode of that name, with these imported contracts on the way to it, is the one that `::m` or `::C::m`
+/// names.
 pub(crate) fn is_mode(
     contract: &Option<PlacedName>,
     mode: &PlacedName,
     contracts: &[&str],
     name: &str,
 ) -> bool
-    ensures { result ≡ mode_key (key_of (option_map text_of (option_map word_view contract.now)) (word_view mode.now).text)
+    ensures { result ≡ mode_key (key_of (option_map text_of (option_map word_view contract.now))
+        (word_view mode.now).text)
         (texts contracts.now, name.now) }
 {
     is_way(contract, contracts) && mode.text.as_str() == name
@@ -47,7 +50,8 @@ pub(crate) fn is_mode(
 
 /// Whether a mode is the one that `::m` or `::C::m` names.
 fn is_named(needs: &ModeNeeds<'_>, contract: &Option<PlacedName>, mode: &PlacedName) -> bool
-    ensures { result ≡ mode_key (key_of (option_map text_of (option_map word_view contract.now)) (word_view mode.now).text)
+    ensures { result ≡ mode_key (key_of (option_map text_of (option_map word_view contract.now))
+        (word_view mode.now).text)
         (mode_needs_view needs.now).0 }
 {
     is_mode(contract, mode, &needs.contracts, needs.mode)

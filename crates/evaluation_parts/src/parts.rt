@@ -51,7 +51,8 @@ pub(crate) fn push_body<'a>(
 
 /// Whether a mode is the one that `::m` or `::C::m` names.
 fn is_named(text: &ModeText<'_>, contract: &Option<PlacedName>, mode: &PlacedName) -> bool
-    ensures { result ≡ mode_key (key_of (option_map text_of (option_map word_view contract.now)) (word_view mode.now).text)
+    ensures { result ≡ mode_key (key_of (option_map text_of (option_map word_view contract.now))
+        (word_view mode.now).text)
         (mode_key_view text.now) }
 {
     is_mode(contract, mode, &text.contracts, text.mode)
@@ -201,8 +202,8 @@ fn push_beside<'a>(
     }
 }
 
-/// The parts, and behind them those that an expression has before itself on another clock or in another frame, and those
-/// of a mode that it names.
+/// The parts, and behind them those that an expression has before itself on another clock or in another frame, and
+/// those of a mode that it names.
 #[cycle(parts)]
 #[tactic(auto, using(lus_tree::proofs::Views::form_views))]
 fn push_elsewhere<'a>(

@@ -9,8 +9,8 @@ use crate::frame::Frame;
 use crate::mode_need::ModeNeeds;
 use crate::text::{FrameText, ModeText};
 
-/// Where a text stands: its frame, the calls on the way there, each by its number, what the modes of the frame need, the
-/// texts of the frames of its calls, in the order of their numbers, and the modes that it may name.
+/// Where a text stands: its frame, the calls on the way there, each by its number, what the modes of the frame
+/// need, the texts of the frames of its calls, in the order of their numbers, and the modes that it may name.
 #[derive(Clone, Copy)]
 pub struct Setting<'a, 't, 's> {
     pub frame: Frame<'a, 't>,

@@ -1,5 +1,5 @@
-//! All that is evaluated at an instant of the analysed declaration, in the order in which it would come if nothing had to
-//! wait.
+//! All that is evaluated at an instant of the analysed declaration, in the order in which it would come if nothing
+//! had to wait.
 
 ghost use Rattle.std.specs.Prelude.{◌≡◌, ◌∷◌, ◌++◌, [], IfOk, OnOk, map};
 ghost use Rattle.lus_tree.specs.View.{item_view, program_view};
@@ -168,8 +168,8 @@ fn push_conditions_of<'a>(
     Ok(())
 }
 
-/// The parts, and behind them those of the conditions of the analysed declaration, by what its modes need and the texts of
-/// its frame and of the frames of its calls.
+/// The parts, and behind them those of the conditions of the analysed declaration, by what its modes need and the
+/// texts of its frame and of the frames of its calls.
 fn push_conditions_by<'a>(
     alloc: Global,
     all: &mut Vec<Part<'a>>,
@@ -180,7 +180,8 @@ fn push_conditions_by<'a>(
 ) -> Result<(), AllocError>
     requires { modes_needs_view needs.now ≡ modes_need (frame_instance frame) }
     ensures { OnOk result (parts_view all.new.items ≡ parts_view all.old.items
-        ++ condition_parts (text_at (frame_texts_view texts.now)) (frame_text_view text.now) (frame_instance frame.entry)) }
+        ++ condition_parts (text_at (frame_texts_view texts.now)) (frame_text_view text.now)
+        (frame_instance frame.entry)) }
 {
     let setting = Setting {
         frame,
@@ -202,7 +203,8 @@ fn push_conditions<'a>(
     text: &FrameText<'a>,
 ) -> Result<(), AllocError>
     ensures { OnOk result (parts_view all.new.items ≡ parts_view all.old.items
-        ++ condition_parts (text_at (frame_texts_view texts.now)) (frame_text_view text.now) (frame_instance frame.entry)) }
+        ++ condition_parts (text_at (frame_texts_view texts.now)) (frame_text_view text.now)
+        (frame_instance frame.entry)) }
 {
     let needs = modes_need(alloc, frame)?;
     push_conditions_by(alloc, all, frame, &needs, texts, text)

@@ -31,7 +31,8 @@ pub fn late_callee_row()
     ensures { Evaluates calling_late late_call_parts }
 {}
 
-/// The condition of a condact is evaluated before the callee, also in a late argument: it waits for what it needs itself.
+/// The condition of a condact is evaluated before the callee, also in a late argument: it waits for what it needs
+/// itself.
 pub fn late_condact_row()
     ensures { Evaluates late_condact late_condact_parts }
 {}

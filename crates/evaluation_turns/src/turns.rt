@@ -62,8 +62,8 @@ fn turned<'a, 't>(
 }
 
 /// All that is evaluated at an instant of the declaration of that number, constants left out, in the order in which it
-/// would come if nothing had to wait: the equations of each frame in their least order, with their imports and calls, and
-/// then the conditions.
+/// would come if nothing had to wait: the equations of each frame in their least order, with their imports and
+/// calls, and then the conditions.
 ///
 /// # Errors
 ///
@@ -75,7 +75,8 @@ pub fn in_turn<'a>(
 ) -> Result<Vec<Part<'a>>, AllocError>
     requires { number < length (components (tree_of checked.now)) }
     ensures turn { IfOk result (λ v. OfDeclaration (tree_of checked.now) number (λ i. IsTurn i (parts_view v.items))) }
-    ensures all { IfOk result (λ v. OfDeclaration (tree_of checked.now) number (λ i. IsTurnByAll i (parts_view v.items))) }
+    ensures all { IfOk result (λ v. OfDeclaration (tree_of checked.now) number
+        (λ i. IsTurnByAll i (parts_view v.items))) }
 {
     let program = checked.program();
     let orders = orders_of(alloc, checked)?;

@@ -26,8 +26,8 @@ pub struct FrameNames {
 
 impl FrameNames {
     /// The number of the slot of a name in the frame at the end of a way of calls, which are counted from 1; none where
-    /// the way leads to no frame, or the name is no stream of the frame's declaration. It takes no memory, and walks the
-    /// way alone.
+    /// the way leads to no frame, or the name is no stream of the frame's declaration. It takes no memory, and
+    /// walks the way alone.
     pub fn slot(&self, way: &[u32], name: &str) -> Option<u32>
         ensures { result ≡ slot_by self.now way.now name.now }
     {

@@ -12,8 +12,8 @@ use std::alloc::{AllocError, Global};
 use sys_tables::numbers::way_of;
 use sys_tables::table::{Linked, Named, Table};
 
-/// A call or an import: the number of its callee among the declarations, at how many slots behind the caller's own cells
-/// the callee's frame begins, and how it runs.
+/// A call or an import: the number of its callee among the declarations, at how many slots behind the caller's own
+/// cells the callee's frame begins, and how it runs.
 #[derive(Clone, Copy)]
 pub(crate) struct Callee {
     pub(crate) place: usize,
@@ -22,7 +22,8 @@ pub(crate) struct Callee {
 }
 
 /// What is known of a declaration: the names of its streams in the order of their slots, how many cells its frames have
-/// of their own, or `imported` ones where they are an import's, and its calls and imports in the order of their numbers.
+/// of their own, or `imported` ones where they are an import's, and its calls and imports in the order of their
+/// numbers.
 #[derive(Drop)]
 pub(crate) struct Known {
     pub(crate) names: NameTable,

@@ -67,7 +67,8 @@ pub fn answer_to<H: Shelf>(
     words: &[String],
     shelf: &mut H,
 ) -> Result<Report, AllocError>
-    ensures answer { IfOk result (λ r. IsAnswer (H.told shelf.old) (H.faults shelf.old) (H.faults shelf.new) (map string_bytes words.now)
+    ensures answer { IfOk result (λ r. IsAnswer (H.told shelf.old) (H.faults shelf.old) (H.faults shelf.new)
+        (map string_bytes words.now)
         (lines_view r.lines.items) r.status.code) }
     ensures names { (name : List ℕ) → H.told shelf.new name ≡ H.told shelf.old name }
 {

@@ -61,7 +61,8 @@ fn broken(
     requires analysed { IsAnalysed (program_view program.now) (node_view node.now) }
     requires broken { IsBroken (system_of (instance_of (program_view program.now) (node_view node.now))) property
         (states_view path.now) }
-    ensures { IfOk result (λ o. IsBreakOf (program_view program.now) (node_view node.now) property (states_view path.now)
+    ensures { IfOk result (λ o. IsBreakOf (program_view program.now) (node_view node.now) property
+        (states_view path.now)
         (outcome_view o)) }
 {
     narrow_are_small();

@@ -78,7 +78,8 @@ pub fn prove_file<H: Shelf>(
     shelf: &mut H,
 ) -> Result<Report, Stopped>
     requires { IsInRange options }
-    ensures ended { IfEnded (EndsProof options (H.told shelf.old) (H.faults shelf.old) (H.faults shelf.new) source.now) result }
+    ensures ended { IfEnded (EndsProof options (H.told shelf.old) (H.faults shelf.old)
+        (H.faults shelf.new) source.now) result }
     ensures names { (name : List ℕ) → H.told shelf.new name ≡ H.told shelf.old name }
 {
     identified_sources();

@@ -90,7 +90,8 @@ fn shown(
     replay: &Replay,
 ) -> Result<Report, AllocError>
     requires { ShowsTrace (tree_of checked.now) (trace_view trace.now) (replay_view replay.now) }
-    ensures { IfOk result (λ r. IsReplay (tree_of checked.now) (trace_view trace.now) (lines_view r.lines.items) r.status.code) }
+    ensures { IfOk result (λ r. IsReplay (tree_of checked.now) (trace_view trace.now)
+        (lines_view r.lines.items) r.status.code) }
 {
     small_systems();
     as_many_formulas();

@@ -29,9 +29,9 @@ fn run<H: Shelf, K: Sink>(alloc: Global, words: &[String], shelf: &mut H, out: &
 /// a source: the status is 0 where all are valid, 1 where some is falsifiable, and 4 where none is and
 /// some is unknown. The words
 /// `replay FILE TRACE` replay a trace on a source: the status is 1 where some property breaks, 10
-/// where none does, and 9 where a value is outside 128 bits. It is 2 for all other words, 3 where the source or the trace is refused, 5 where
-/// a file could not be read, 6 where a line could not be written, and 7 for want of memory. What the
-/// shelf tells of each name stays the same; the sink is left as the calls on it left it.
+/// where none does, and 9 where a value is outside 128 bits. It is 2 for all other words, 3 where the source or the
+/// trace is refused, 5 where a file could not be read, 6 where a line could not be written, and 7 for want of
+/// memory. What the shelf tells of each name stays the same; the sink is left as the calls on it left it.
 pub fn kind_top<H: Shelf, K: Sink>(
     alloc: Global,
     words: &[String],

@@ -3,9 +3,9 @@
 ghost use Rattle.lus_layouts.specs.Fitting.{CalleesFit, NodesFit};
 ghost use Rattle.lus_layouts.specs.Layouts.{LayoutsHold};
 
-/// In a checked program the slots of a declaration's frame that has at most 20,000 variables stand where its layout says:
-/// its own cells first, and for each call the outputs that are held right before the callee's frame, whose slots are
-/// those of the callee in that call.
+/// In a checked program the slots of a declaration's frame that has at most 20,000 variables stand where its layout
+/// says: its own cells first, and for each call the outputs that are held right before the callee's frame, whose
+/// slots are those of the callee in that call.
 pub fn layouts_hold()
     ensures { LayoutsHold }
 {}

@@ -15,8 +15,8 @@ use std::alloc::{AllocError, Global};
 /// One past the greatest number of variables. Greater numbers are cut there.
 const BOUND: usize = 20_001;
 
-/// Where a call stands in its caller's frame: the caller holds `held` of its outputs, and right behind them the callee's
-/// frame begins, `frame` slots behind the caller's own cells.
+/// Where a call stands in its caller's frame: the caller holds `held` of its outputs, and right behind them the
+/// callee's frame begins, `frame` slots behind the caller's own cells.
 #[derive(Clone, Copy)]
 pub struct CallSlots {
     pub held: usize,

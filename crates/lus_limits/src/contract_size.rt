@@ -140,7 +140,8 @@ fn push_imported(
     mode: &ModeSize,
 ) -> Result<(), AllocError>
     ensures { OnOk result (modes_view modes.new.items ≡ modes_view modes.old.items
-        ++ cut_modes (map (imported_size (word_view contract.now).text) (those_with is_own (mode_view mode.now ∷ [])))) }
+        ++ cut_modes (map (imported_size (word_view contract.now).text) (those_with is_own (mode_view mode.now
+        ∷ [])))) }
 {
     if mode.contract.is_some() {
         return Ok(());
@@ -163,7 +164,8 @@ fn push_all_imported(
     imported: &[ModeSize],
 ) -> Result<(), AllocError>
     ensures { OnOk result (modes_view modes.new.items ≡ modes_view modes.old.items
-        ++ cut_modes (map (imported_size (word_view contract.now).text) (those_with is_own (modes_view imported.now)))) }
+        ++ cut_modes (map (imported_size (word_view contract.now).text)
+        (those_with is_own (modes_view imported.now)))) }
 {
     for mode in imported {
         push_imported(alloc, modes, contract, mode)?;

@@ -135,8 +135,10 @@ fn inner_of_two<'a>(
     second: &'a Expr,
 ) -> Size
     ensures { size_view result ≡ cut_term (greater
-        (inner_in (names_view scope.now.names) (modes_view scope.now.modes.now) (clock_seen clock.entry) (expr_view first.now))
-        (inner_in (names_view scope.now.names) (modes_view scope.now.modes.now) (clock_seen clock.entry) (expr_view second.now))) }
+        (inner_in (names_view scope.now.names) (modes_view scope.now.modes.now) (clock_seen clock.entry)
+        (expr_view first.now))
+        (inner_in (names_view scope.now.names) (modes_view scope.now.modes.now) (clock_seen clock.entry)
+        (expr_view second.now))) }
 {
     greater(inner(scope, clock, first), inner(scope, clock, second))
 }

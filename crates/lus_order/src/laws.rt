@@ -61,8 +61,8 @@ pub fn flagged_are_circles()
 
 /// By the library of all declarations the summaries of what a declaration calls and imports are exact, the circles by
 /// its own graph are its faults of circles, and where the program has no fault of equations the order that is made of a
-/// declaration is the least order of its equations in the tree of instances. The inputs to which its outputs lead by its
-/// own graph are those on which they depend at the same instant in the tree of instances.
+/// declaration is the least order of its equations in the tree of instances. The inputs to which its outputs lead
+/// by its own graph are those on which they depend at the same instant in the tree of instances.
 pub fn libraries_are_exact()
     ensures exact { LibraryExact }
     ensures circles { CirclesByLibrary }

@@ -48,8 +48,8 @@ fn own_reads(alloc: Global, own: &Own<'_>, owner: Owner<'_>) -> Result<Vec<Vec<u
     output_reads(alloc, &own.graph, &own.clocks.names, count, owner.outputs())
 }
 
-/// Notes the faults of circles of a declaration, and gives the order of its equations, which is empty where there is none,
-/// and what its outputs read.
+/// Notes the faults of circles of a declaration, and gives the order of its equations, which is empty where there
+/// is none, and what its outputs read.
 ///
 /// # Errors
 ///

@@ -116,7 +116,8 @@ fn output_names(
 ) -> Result<NameTable, AllocError>
     requires { length names.now ≤ length (graph_view graph.old) }
     ensures same { IfOk result (λ _. graph_view graph.new ≡ graph_view graph.old) }
-    ensures found { IfOk result (λ t. AreFound (graph_view graph.old) names.now (numbers_of names.now (texts_seen outputs.now))
+    ensures found { IfOk result (λ t. AreFound (graph_view graph.old) names.now
+        (numbers_of names.now (texts_seen outputs.now))
         (texts_seen inputs.now ++ texts_seen outputs.now) t) }
 {
     let row = numbers_of(alloc, names, outputs)?;
@@ -133,7 +134,8 @@ fn found_in<'a>(
     requires { length own.old.clocks.names ≤ length (graph_view own.old.graph) }
     ensures same { IfOk result (λ _. graph_view own.new.graph ≡ graph_view own.old.graph) }
     ensures reads { IfOk result (λ k. AreFound (graph_view own.old.graph) own.old.clocks.names
-        (numbers_of own.old.clocks.names (texts_seen outputs.now)) (texts_seen inputs.now ++ texts_seen outputs.now) k.0) }
+        (numbers_of own.old.clocks.names (texts_seen outputs.now)) (texts_seen inputs.now
+        ++ texts_seen outputs.now) k.0) }
     ensures modes { IfOk result (λ k. AreKnown (graph_view own.old.graph) own.old.clocks.names
         (texts_seen inputs.now ++ texts_seen outputs.now) (modes_view own.old.modes.items) (known_modes k.1.items)) }
 {

@@ -182,7 +182,8 @@ fn row_of(
     owner: Owner<'_>,
 ) -> Result<Row, AllocError>
     ensures { IfOk result (λ r. row_view r ≡ row_by (program_view declarations.now) names.now name.now
-        (gathered callee_in (owner_view owner.entry)) (flat_map import_words (contract_statements (owner_view owner.entry)))) }
+        (gathered callee_in (owner_view owner.entry)) (flat_map import_words
+        (contract_statements (owner_view owner.entry)))) }
 {
     let calls = calls_of(alloc, owner)?;
     let imports = imports_of(alloc, owner.contract())?;

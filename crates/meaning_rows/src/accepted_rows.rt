@@ -21,8 +21,8 @@ pub fn accepted_type_rows()
     ensures constant { FollowsRules divisor_with_a_constant }
 {}
 
-/// Clocks and equations: a local on its clock; branches of a merge on theirs; two names with an equation each; an output
-/// and a local with one.
+/// Clocks and equations: a local on its clock; branches of a merge on theirs; two names with an equation each; an
+/// output and a local with one.
 pub fn accepted_equation_rows()
     ensures clock { FollowsRules slow_as_its_clock }
     ensures merge { FollowsRules merge_on_a_clock }

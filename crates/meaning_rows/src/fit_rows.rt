@@ -28,7 +28,8 @@ pub fn values_misfit_row()
         ≡ Some (at 6 16) }
     ensures input { misfit_with 0 (name_line 2 [] "c" ((3, flag false) ∷ (9, absent) ∷ (11, flag true) ∷ []))
         ≡ Some (at 2 9) }
-    ensures input_too_great { misfit_with 1 (name_line 3 [] "x" ((3, natural 1) ∷ (5, too_great) ∷ (25, natural 3) ∷ []))
+    ensures input_too_great { misfit_with 1 (name_line 3 [] "x" ((3, natural 1) ∷ (5, too_great) ∷ (25, natural 3)
+        ∷ []))
         ≡ Some (at 3 5) }
 {}
 

@@ -26,8 +26,8 @@ pub fn first_past_by_rows()
     ensures first { FirstPastByRows }
 {}
 
-/// In the evaluation of an instant of a run of such a declaration a part's own operands come before it, and so do the own
-/// parts of what the modes require that it names, those of imports too.
+/// In the evaluation of an instant of a run of such a declaration a part's own operands come before it, and so do
+/// the own parts of what the modes require that it names, those of imports too.
 pub fn operands_come_before()
     ensures { OperandsComeBefore }
 {}
@@ -35,9 +35,9 @@ pub fn operands_come_before()
 /// In the evaluation of an instant of a run of such a declaration a name that a part needs at its instant, and that an
 /// equation gives, of the part's frame, of one on the way there or of the one that it calls: the right side of that
 /// equation comes before the part, with all its own parts. So does an argument, if the whole of its call needs all that
-/// the argument needs, as it does if it needs the input for which the argument stands. And so do an argument of a call on
-/// the way to the part's frame, be it an import, if the part's whole needs the input for which it stands, and the
-/// condition while which such a call runs, if the part's whole needs the beat of the call's frame.
+/// the argument needs, as it does if it needs the input for which the argument stands. And so do an argument of a
+/// call on the way to the part's frame, be it an import, if the part's whole needs the input for which it stands,
+/// and the condition while which such a call runs, if the part's whole needs the beat of the call's frame.
 pub fn needed_names_come_before()
     ensures names { NeededNamesComeBefore }
     ensures arguments { NeededArgumentsComeBefore }
@@ -47,8 +47,8 @@ pub fn needed_names_come_before()
 {}
 
 /// In the row of such a run: where no part of a front of the evaluation is outside 128 bits, the right sides that stand
-/// in it have no operation outside, nor have the arguments that do, nor the condition of the call that comes next. Where
-/// none of all parts is, the operand of each `pre` among them has none.
+/// in it have no operation outside, nor have the arguments that do, nor the condition of the call that comes next.
+/// Where none of all parts is, the operand of each `pre` among them has none.
 pub fn evaluated_is_within()
     ensures given { GivenNamesAreWithin }
     ensures arguments { ArgumentsAreWithin }

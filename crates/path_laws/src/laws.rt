@@ -15,9 +15,10 @@ pub fn each_is_well_typed()
     ensures { EachIsWellTyped }
 {}
 
-/// Of each declaration of a checked program the runs are paths, each path is that of one run, and its properties have in each state of a
-/// run the truth of their formulas. A formula is true in all reachable states exactly where it is true in each state of
-/// a run at a lawful instant, and a property holds exactly where no path ends with its formula false.
+/// Of each declaration of a checked program the runs are paths, each path is that of one run, and its properties
+/// have in each state of a run the truth of their formulas. A formula is true in all reachable states exactly where
+/// it is true in each state of a run at a lawful instant, and a property holds exactly where no path ends with its
+/// formula false.
 pub fn each_runs_are_paths()
     ensures runs { EachRunsArePaths }
     ensures lemmas { EachLemmas }
@@ -29,9 +30,9 @@ pub fn each_traces()
     ensures { EachTraces }
 {}
 
-/// A property of a declaration of a checked program holds whose formula is true in all reachable states, and where no path of at most
-/// d + 1 states ends with its formula false it is true at each lawful instant up to d. A path that breaks a property
-/// breaks it by its frame, at the last instant.
+/// A property of a declaration of a checked program holds whose formula is true in all reachable states, and where
+/// no path of at most d + 1 states ends with its formula false it is true at each lawful instant up to d. A path
+/// that breaks a property breaks it by its frame, at the last instant.
 pub fn each_verdicts()
     ensures valid { EachHolds }
     ensures bounded { EachBounds }

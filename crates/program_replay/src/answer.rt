@@ -40,9 +40,9 @@ impl Replay {
         self.node
     }
 
-    /// The value of a name at an instant in the frame at the end of a way of calls, which are counted from 1; none where it
-    /// is absent, where the way leads to no frame, and where the name is none of that frame. What it has of a frame in
-    /// which nothing is evaluated need not be the frame's.
+    /// The value of a name at an instant in the frame at the end of a way of calls, which are counted from 1; none
+    /// where it is absent, where the way leads to no frame, and where the name is none of that frame. What it has
+    /// of a frame in which nothing is evaluated need not be the frame's.
     pub fn value(&self, path: &[u32], name: &str, instant: u32) -> Option<Value>
         ensures { entry_view result ≡ (replay_view self.now).value path.now name.now instant }
     {

@@ -63,7 +63,8 @@ fn replayed(
         ≡ numbers_from 0 0 (trace_view trace.now).node (tree_of checked.now) }
     requires fits { FitsProgram (tree_of checked.now) (trace_view trace.now) }
     requires listed { (k n : ℕ) → fitted_at fitted k n
-        ≡ given_at (instance_of (tree_of checked.now) (node_view named.node.now)) (lines_of (trace_view trace.now)) k n }
+        ≡ given_at (instance_of (tree_of checked.now) (node_view named.node.now))
+        (lines_of (trace_view trace.now)) k n }
     ensures shown { IfOk result (λ r. ShowsSlots (instance_of (tree_of checked.now) (node_view named.entry.node.now))
         (lines_of (trace_view trace.now)) (trace_view trace.now).length
         (AreNamedParts (tree_of checked.now) (trace_view trace.now).node) (replayed_view r)) }
@@ -93,7 +94,8 @@ fn replay_node(
         ≡ numbers_from 0 0 (trace_view trace.now).node (tree_of checked.now) }
     requires fits { FitsProgram (tree_of checked.now) (trace_view trace.now) }
     requires listed { (k n : ℕ) → fitted_at fitted k n
-        ≡ given_at (instance_of (tree_of checked.now) (node_view named.node.now)) (lines_of (trace_view trace.now)) k n }
+        ≡ given_at (instance_of (tree_of checked.now) (node_view named.node.now))
+        (lines_of (trace_view trace.now)) k n }
     ensures shows { IfOk result (λ r. ShowsTrace (tree_of checked.now) (trace_view trace.now) (replay_view r)) }
     ensures fault { IfErr result (IsFault (tree_of checked.now) (trace_view trace.now)) }
 {
@@ -113,8 +115,8 @@ fn replay_node(
 ///
 /// # Errors
 ///
-/// `Form` exactly where the trace doesn't fit the program, at the first word that doesn't; `Past` where it fits, and the
-/// evaluation of its one frame meets a value outside 128 bits: the first one; `Memory` for want of memory.
+/// `Form` exactly where the trace doesn't fit the program, at the first word that doesn't; `Past` where it fits,
+/// and the evaluation of its one frame meets a value outside 128 bits: the first one; `Memory` for want of memory.
 pub fn replay(alloc: Global, checked: &Checked, trace: &Trace) -> Result<Replay, ReplayFault>
     // A trace that is replayed fits.
     ensures fits { OnOk result (FitsProgram (tree_of checked.now) (trace_view trace.now)) }

@@ -57,7 +57,8 @@ fn conditions(alloc: Global, program: &Program, node: Owner<'_>) -> Result<Condi
     Ok(Conditions { legal, properties })
 }
 
-/// The replay of the slots of a node, of which the lines of a trace list this, where these parts are evaluated at an instant.
+/// The replay of the slots of a node, of which the lines of a trace list this, where these parts are evaluated at
+/// an instant.
 pub(crate) fn replay_slots<P: Parts>(
     alloc: Global,
     program: &Program,

@@ -18,9 +18,9 @@ pub fn sources_have_ranks()
     ensures { SourcesHaveRanks }
 {}
 
-/// Of a checked program no source reads what none is to read, and rows that follow from the sources of a declaration and
-/// from what lines of a trace list are those of the frame that the lines give, in all slots that are read. From sources
-/// with ranks rows follow in one way alone.
+/// Of a checked program no source reads what none is to read, and rows that follow from the sources of a
+/// declaration and from what lines of a trace list are those of the frame that the lines give, in all slots that
+/// are read. From sources with ranks rows follow in one way alone.
 pub fn rows_are_the_frames()
     ensures frames { RowsAreTheFrames }
     ensures read { SourcesReadSlots }
@@ -28,8 +28,8 @@ pub fn rows_are_the_frames()
 {}
 
 /// Of a row in the making, behind rows that follow: the slots that are done, where each has what its source says and
-/// reads slots that are done, are as in the row of the frame. What a resolution or a source says is decided by the slots
-/// that it reads.
+/// reads slots that are done, are as in the row of the frame. What a resolution or a source says is decided by the
+/// slots that it reads.
 pub fn done_slots_are_the_frames()
     ensures frames { DoneSlotsAreTheFrames }
     ensures resolutions { ResolutionsBySlotsRead }

@@ -4,8 +4,8 @@ ghost use Rattle.sight_laws.specs.Sights.{CallsAreCalls, CalleesAreThere, Callee
 
 use steady_laws::laws::{constants_are_kept, texts_are_steady, values_are_kept};
 
-/// In a checked program the constants that are known of a declaration have their values, and so have the defaults of its
-/// calls.
+/// In a checked program the constants that are known of a declaration have their values, and so have the defaults
+/// of its calls.
 pub fn constants_are_known()
     ensures constants { ConstantsAreKnown }
     ensures defaults { DefaultsAreKnown }

@@ -20,10 +20,11 @@ ghost use Rattle.steady_laws.specs.Laws.{
   ValuesAreKept,
 };
 
-/// In a checked program each expression of a declaration is steady over the declaration's constants, and so is each part
-/// of it: no constant part has a number of a size above 2^63 or a divisor 0, of a product one operand is constant, and so
-/// is each divisor. So are the operand of each `pre`, the arguments of each call and import, the conditions and defaults
-/// of calls, the right sides of equations, and what a body and a contract say. Each import has a number from 1 on.
+/// In a checked program each expression of a declaration is steady over the declaration's constants, and so is each
+/// part of it: no constant part has a number of a size above 2^63 or a divisor 0, of a product one operand is
+/// constant, and so is each divisor. So are the operand of each `pre`, the arguments of each call and import, the
+/// conditions and defaults of calls, the right sides of equations, and what a body and a contract say. Each import
+/// has a number from 1 on.
 pub fn texts_are_steady()
     ensures texts { TextsAreSteady }
     ensures parts { PartsAreSteady }
@@ -45,8 +46,8 @@ pub fn values_are_kept()
     ensures first { FirstIsHeld }
 {}
 
-/// In a checked program the constants of a declaration, each by the kept values of those before it, have the values that
-/// its instance has; none of these is a number of a size above 2^63.
+/// In a checked program the constants of a declaration, each by the kept values of those before it, have the values
+/// that its instance has; none of these is a number of a size above 2^63.
 pub fn constants_are_kept()
     ensures outer { OuterConstantsAreKept }
     ensures own { OwnConstantsAreKept }

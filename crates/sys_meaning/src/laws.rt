@@ -8,8 +8,8 @@ pub fn runs_to_paths()
     ensures { RunsToPaths }
 {}
 
-/// The frame of a path is a run of as many instants as the path has states, it is lawful at the last, its states are the
-/// path, and no other run is such.
+/// The frame of a path is a run of as many instants as the path has states, it is lawful at the last, its states
+/// are the path, and no other run is such.
 pub fn paths_to_runs()
     ensures { PathsToRuns }
 {}

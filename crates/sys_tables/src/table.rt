@@ -35,8 +35,8 @@ pub struct Linked<'a> {
 }
 
 /// What is known of a declaration: the values of its constants, its streams in the order of its frame, its `pre`, its
-/// `->`, and its calls and imports, each in the order of their numbers, where their variables stand, and whether it has a
-/// contract.
+/// `->`, and its calls and imports, each in the order of their numbers, where their variables stand, and whether it
+/// has a contract.
 #[derive(Drop)]
 pub struct Table<'a> {
     pub owner: Owner<'a>,

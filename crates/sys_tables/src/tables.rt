@@ -83,7 +83,8 @@ fn has_contract(owner: Owner<'_>) -> bool
 /// The `pre` of a declaration, in the order of their numbers.
 #[tactic(auto, using(crate::proofs::Ordered::memories_ordered))]
 fn memories_of<'a>(alloc: Global, names: Names<'a, '_>) -> Result<Vec<Memory<'a>>, AllocError>
-    ensures { IfOk result (λ v. map memory_view v.items ≡ in_order (λ m. m.number) (memories (names_view names.entry))) }
+    ensures { IfOk result (λ v. map memory_view v.items
+        ≡ in_order (λ m. m.number) (memories (names_view names.entry))) }
 {
     let found = memories(alloc, names)?;
     in_order(alloc, &found)

@@ -28,16 +28,16 @@ pub fn frames_are_quiet()
     ensures { FramesAreQuiet }
 {}
 
-/// So in each of these frames no part of a text has an operation outside where the text has none: what its parts leave to
-/// others are sources, or defaults, which are constants. It is taken that the frames of calls and what modes require have
-/// none. So no part of an equation's right side has one.
+/// So in each of these frames no part of a text has an operation outside where the text has none: what its parts
+/// leave to others are sources, or defaults, which are constants. It is taken that the frames of calls and what
+/// modes require have none. So no part of an equation's right side has one.
 pub fn all_texts_are_quiet()
     ensures texts { AllTextsAreQuiet }
     ensures equations { AllSidesAreQuiet }
 {}
 
-/// Of a checked program each part of an instant stands in the frame at the end of a way of calls, and in the row of a run
-/// its operations outside are those of its resolution over slots, evaluated where the slot of its clock says so.
+/// Of a checked program each part of an instant stands in the frame at the end of a way of calls, and in the row of
+/// a run its operations outside are those of its resolution over slots, evaluated where the slot of its clock says so.
 pub fn parts_over_slots()
     ensures ways { PartsStandAtCalls }
     ensures operations { PartsAreOverSlots }
@@ -51,9 +51,9 @@ pub fn instants_are_within()
     ensures stays { QuietRunsStayWithin }
 {}
 
-/// No expression of a checked program weighs more than 2^63. So where the values of the slots of a run of a declaration are
-/// of sizes of at most 2^63 - 1, its evaluation stays within 128 bits; and so does that of the frame of a path with such
-/// numbers.
+/// No expression of a checked program weighs more than 2^63. So where the values of the slots of a run of a
+/// declaration are of sizes of at most 2^63 - 1, its evaluation stays within 128 bits; and so does that of the
+/// frame of a path with such numbers.
 pub fn small_runs_stay_within()
     ensures runs { SmallRunsStayWithin }
     ensures paths { SmallPathsStayWithin }
