@@ -23,3 +23,4 @@ pub mod FitRows
 pub mod SortRows
 pub mod SlotRows
 pub mod NumberRows
+pub mod WeightRows

@@ -176,6 +176,43 @@ as_heavy_as_can_be =
     ∷ []
 
 -- node main(x : int; b : bool) returns (y : int);
+-- let y = x div later; tel
+-- const later = 0;
+abbrev pub zero_behind : Program
+zero_behind =
+    main_in_line 1
+    (equation (word (codes "y") 2 5 ∷ [])
+    (binary (from 2 9 2 11) O.Div (name (here 2 9) (codes "x")) (name (here 2 15) (codes "later")))
+    ∷ [])
+    ∷ declared_constant (fixed (word (codes "later") 3 7) None (number (here 3 15) 0))
+    ∷ []
+
+-- node main(x : int; b : bool) returns (y : int);
+-- let y = 4611686018427387904 * later; tel
+-- const later = 4;
+abbrev pub heavy_behind : Program
+heavy_behind =
+    main_in_line 1
+    (equation (word (codes "y") 2 5 ∷ [])
+    (binary (from 2 9 2 29) O.Mul (number (here 2 9) 4611686018427387904) (name (here 2 31) (codes "later")))
+    ∷ [])
+    ∷ declared_constant (fixed (word (codes "later") 3 7) None (number (here 3 15) 4))
+    ∷ []
+
+-- node main(x : int; b : bool) returns (y : int);
+-- let y = (x div 0) * 9223372036854775807 * 2; tel
+abbrev pub heavy_but_for_a_zero : Program
+heavy_but_for_a_zero =
+    main_in_line 1
+    (equation (word (codes "y") 2 5 ∷ [])
+    (binary (from 2 9 2 41) O.Mul
+    (binary (from 2 9 2 19) O.Mul
+    (binary (from 2 9 2 12) O.Div (name (here 2 10) (codes "x")) (number (here 2 16) 0))
+    (number (here 2 21) 9223372036854775807)) (number (here 2 43) 2))
+    ∷ [])
+    ∷ []
+
+-- node main(x : int; b : bool) returns (y : int);
 -- let y = x;
 --  y = 1; tel
 abbrev pub defined_twice : Program

@@ -23,6 +23,7 @@ mod slot_rows;
 mod sort_rows;
 mod squeeze_rows;
 mod trace_rows;
+mod weight_rows;
 
 pub use accepted_rows::{
     accepted_equation_rows, accepted_limit_rows, accepted_name_rows, accepted_type_rows,
@@ -46,10 +47,13 @@ pub use owed_rows::{
     lawless_row, two_calls_row,
 };
 pub use pair_rows::{against_row, circle_row};
-pub use refusal_rows::{equation_rows, limit_rows, name_rows, type_rows};
+pub use refusal_rows::{equation_rows, limit_rows, name_rows, type_rows, valueless_rows};
 pub use run_rows::{run_row, unbalanced_row, unshaped_row, untyped_row};
 pub use sampling_rows::{clock_of_clock_row, sampling_row};
 pub use slot_rows::{layout_row, variables_row};
 pub use sort_rows::{first_sorts_row, no_call_row};
 pub use squeeze_rows::{squeezed_call_row, squeezed_row};
 pub use trace_rows::{nested_trace_row, other_frame_row, way_row};
+pub use weight_rows::{
+    branch_weights_row, constant_values_row, plain_weights_row, product_weights_row, unweighed_row,
+};

@@ -7,7 +7,7 @@ ghost use Rattle.lus_meaning.specs.Refusals.{IsRefusedFor, IsClocked, FollowsRul
 ghost use Rattle.lus_meaning.specs.EquationFaults.{IsEquationFault};
 ghost use Rattle.lus_meaning.specs.Grammatical.{IsGrammatical};
 ghost use Rattle.meaning_rows.specs.PlacedParts.{at};
-ghost use Rattle.meaning_rows.specs.RefusalRows.{nothing, product_of_two_names, truth_for_a_number, faster_than_its_clock, call_of_itself, assumed_output, no_such_mode, label_twice, constant_behind, too_many_arguments, division_by_zero, divisor_with_a_name, past_all_weights, as_heavy_as_can_be, defined_twice, defined_input, function_with_state, needs_each_other, clocks_in_a_circle, through_its_clock, counting_up, five_hundred_and_one, late_argument};
+ghost use Rattle.meaning_rows.specs.RefusalRows.{nothing, product_of_two_names, truth_for_a_number, faster_than_its_clock, call_of_itself, assumed_output, no_such_mode, label_twice, constant_behind, too_many_arguments, division_by_zero, divisor_with_a_name, past_all_weights, as_heavy_as_can_be, zero_behind, heavy_behind, heavy_but_for_a_zero, defined_twice, defined_input, function_with_state, needs_each_other, clocks_in_a_circle, through_its_clock, counting_up, five_hundred_and_one, late_argument};
 
 /// Names, labels and modes.
 pub fn name_rows()
@@ -29,6 +29,14 @@ pub fn type_rows()
     ensures constant { IsRefusedFor divisor_with_a_name None (fault not_constant (at 2 20)) }
     ensures weight { IsRefusedFor past_all_weights None (fault heavy (at 2 9)) }
     ensures bearable { FollowsRules as_heavy_as_can_be }
+{}
+
+/// What has no value is at fault by its name or its division, and by nothing that rests on a value: a constant before its
+/// text is no divisor 0 and no factor that is too great, and a division by 0 has no weight to multiply.
+pub fn valueless_rows()
+    ensures divisor { IsRefusedFor zero_behind None (fault name_unknown (at 2 15)) }
+    ensures factor { IsRefusedFor heavy_behind None (fault name_unknown (at 2 31)) }
+    ensures division { IsRefusedFor heavy_but_for_a_zero None (fault zero_divisor (at 2 12)) }
 {}
 
 /// Clocks and equations.
