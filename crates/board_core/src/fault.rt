@@ -78,6 +78,14 @@ impl From<PostBack> for EngineFault {
     }
 }
 
+impl From<EngineFault> for AllocError {
+    ghost from_gives = { λ _ e. e ≡ alloc_error };
+
+    fn from(_fault: EngineFault) -> AllocError {
+        AllocError
+    }
+}
+
 /// Why a play failed. Both engines are then only dropped.
 #[derive(Clone, Copy, Debug, PartialEq, Eq, Error)]
 pub enum PlayFault {
@@ -90,5 +98,13 @@ impl From<EngineFault> for PlayFault {
 
     fn from(_fault: EngineFault) -> PlayFault {
         PlayFault::Memory(AllocError)
+    }
+}
+
+impl From<PlayFault> for AllocError {
+    ghost from_gives = { λ _ e. e ≡ alloc_error };
+
+    fn from(_fault: PlayFault) -> AllocError {
+        AllocError
     }
 }

@@ -31,10 +31,7 @@ fn new_bounded(alloc: Global, system: &System, plan: Plan) -> Result<BoundedEngi
         × (worker_known e ≡ [])) }
 {
     let system = system.copied(alloc)?;
-    match BoundedEngine::new(alloc, system, plan) {
-        Ok(engine) => Ok(engine),
-        Err(_) => Err(AllocError),
-    }
+    Ok(BoundedEngine::new(alloc, system, plan)?)
 }
 
 fn new_step(alloc: Global, system: &System, plan: Plan) -> Result<StepEngine, AllocError>
@@ -43,10 +40,7 @@ fn new_step(alloc: Global, system: &System, plan: Plan) -> Result<StepEngine, Al
         × (worker_known e ≡ [])) }
 {
     let system = system.copied(alloc)?;
-    match StepEngine::new(alloc, system, plan) {
-        Ok(engine) => Ok(engine),
-        Err(_) => Err(AllocError),
-    }
+    Ok(StepEngine::new(alloc, system, plan)?)
 }
 
 /// Bounded search alone.
@@ -56,10 +50,7 @@ fn bounded_alone(alloc: Global, system: System, plan: Plan) -> Result<Book, Allo
 {
     let mut bounded = new_bounded(alloc, &system, plan)?;
     let mut idle = Idle {};
-    match play(alloc, system, plan, &mut bounded, &mut idle, &[]) {
-        Ok(book) => Ok(book),
-        Err(_) => Err(AllocError),
-    }
+    Ok(play(alloc, system, plan, &mut bounded, &mut idle, &[])?)
 }
 
 /// Induction alone.
@@ -69,10 +60,7 @@ fn step_alone(alloc: Global, system: System, plan: Plan) -> Result<Book, AllocEr
 {
     let mut idle = Idle {};
     let mut step = new_step(alloc, &system, plan)?;
-    match play(alloc, system, plan, &mut idle, &mut step, &[]) {
-        Ok(book) => Ok(book),
-        Err(_) => Err(AllocError),
-    }
+    Ok(play(alloc, system, plan, &mut idle, &mut step, &[])?)
 }
 
 /// Both, in turns.
@@ -83,10 +71,7 @@ fn both(alloc: Global, system: System, plan: Plan) -> Result<Book, AllocError>
     let mut bounded = new_bounded(alloc, &system, plan)?;
     let mut step = new_step(alloc, &system, plan)?;
     let order = turns(alloc, plan.depth)?;
-    match play(alloc, system, plan, &mut bounded, &mut step, &order) {
-        Ok(book) => Ok(book),
-        Err(_) => Err(AllocError),
-    }
+    Ok(play(alloc, system, plan, &mut bounded, &mut step, &order)?)
 }
 
 /// The book that the engines of these options leave.
