@@ -3,14 +3,15 @@
 //! The first word is how many random forms are tried, each compared with all assignments and with the
 //! plain search. Then the looks of the first answer over a chain of implications are counted. The
 //! others are files of clauses, a clause a line, of numbers other than 0: n is the flag n - 1, and -n
-//! its opposite; on each the plain search answers too. The first file is searched once more at the
-//! end, as for the benchmark.
+//! its opposite; on each the plain search answers too. Then clauses are added to searches that have
+//! answered. The first file is searched once more at the end, as for the benchmark.
 //!
 //! For the benchmark of the search, the words `FILE search` have it search through the form of the file and print the answer
 //! with the number of conflicts, and `FILE read` leaves the search out.
 
 #![tactic(auto)]
 
+mod adding;
 mod brute;
 mod chain;
 mod clauses;
@@ -18,6 +19,7 @@ mod plain;
 mod random;
 mod trial;
 
+use adding::{added_before_learning, additions_text};
 use anyhow::{Result, bail};
 use chain::chain_looks;
 use clauses::read_form;
@@ -73,6 +75,15 @@ fn only_read(rt: &HostRuntime, name: &str) -> Result<()> {
     Ok(())
 }
 
+/// Adds clauses after answers, and after a conflict on the form of a file.
+fn tell_added(rt: &HostRuntime, name: &str) -> Result<()> {
+    let text = additions_text(rt.alloc())?;
+    println!(rt; "clauses added:{text}")?;
+    let (first, last) = added_before_learning(rt.alloc(), &form_of(rt, name)?)?;
+    println!(rt; "a clause added to {name} after {first}: {last} in the end")?;
+    Ok(())
+}
+
 /// Tries so many random forms, and the files.
 fn try_all(rt: &HostRuntime, number: &str, names: &[String]) -> Result<()> {
     let count: u32 = number.parse()?;
@@ -94,6 +105,7 @@ fn main(rt: HostRuntime) -> Result<()> {
         [_, name, work] if work.as_str() == "read" => only_read(&rt, name.as_str()),
         [_, number, first, ..] => {
             try_all(&rt, number.as_str(), &words[2..])?;
+            tell_added(&rt, first.as_str())?;
             search_file(&rt, first.as_str())
         }
         _ => bail!("usage: search_trial NUMBER FILE.. | FILE search | FILE read"),

@@ -1,6 +1,6 @@
 use anyhow::{Result, bail};
 use cnf_maker::Cnf;
-use proof_checker::check;
+use proof_checker::{Fault, check};
 use proof_steps::{Clause, Literal, Proof, Step};
 use sat_core::{Found, Search};
 use smallvec::SmallVec;
@@ -25,7 +25,7 @@ pub fn word(found: Found) -> &'static str {
 }
 
 /// Searches until all variables have values or the empty clause is derived.
-fn searched(alloc: Global, search: &mut Search) -> Result<Found> {
+pub fn searched(alloc: Global, search: &mut Search) -> Result<Found> {
     for _ in 0..10_000_000u32 {
         match search.decide_or_conflict(alloc)? {
             Found::Conflict => search.learn(alloc)?,
@@ -158,23 +158,29 @@ fn watches_all(search: &Search, form: &Cnf) -> bool {
     search.watches(0) == None
 }
 
-/// What the log, or the assignment, shows.
-fn shown(alloc: Global, search: &Search, form: &Cnf, found: Found) -> Result<&'static str> {
-    if found == Found::Full {
-        return Ok(if solves(search, form) && watches_all(search, form) {
-            "solved"
-        } else {
-            "NOT SOLVED"
-        });
+/// What the assignment shows after all variables have values.
+fn met(search: &Search, form: &Cnf) -> &'static str {
+    if solves(search, form) && watches_all(search, form) {
+        "solved"
+    } else {
+        "NOT SOLVED"
     }
+}
+
+/// What the log, and where there is one the assignment, shows. The checker takes each step of the log, and misses the
+/// empty clause where there is an assignment.
+fn shown(alloc: Global, search: &Search, form: &Cnf, found: Found) -> Result<&'static str> {
     if !is_new(search.log()) {
         return Ok("NOT NEW");
     }
     let proof = copied(alloc, search.log())?;
-    match check(alloc, &form.shapes, &form.atoms, &form.clauses, &proof) {
-        Ok(_) => Ok("log accepted"),
-        Err(_) => Ok("LOG REFUSED"),
-    }
+    Ok(
+        match check(alloc, &form.shapes, &form.atoms, &form.clauses, &proof) {
+            Ok(_) if found == Found::Empty => "log accepted",
+            Err(Fault::Open) if found == Found::Full => met(search, form),
+            _ => "LOG REFUSED",
+        },
+    )
 }
 
 /// The search over a form of few enough clauses.
