@@ -5,13 +5,12 @@ ghost use Rattle.board_core.specs.Plans.{IsPlan};
 ghost use Rattle.engine_cases.specs.Playable.{IsPlayable};
 
 use crate::entries::{asked_text, entries_text};
-use crate::numbers::lemma_for;
 use crate::ready::{is_playable, plan};
 use crate::rows::{Case, Order};
 use crate::sleeper::Sleeper;
-use crate::systems::{name_of, system_of};
+use crate::systems::{Named, find};
 use crate::teacher::Teacher;
-use anyhow::Result;
+use anyhow::{Result, bail};
 use board_core::{Book, Cause, Plan, Statement, Verdict, play};
 use kind_engine::{BoundedEngine, StepEngine};
 use proof_steps::Stop;
@@ -178,18 +177,24 @@ fn taught(alloc: Global, lemma: Term, system: System, plan: Plan, order: &[u32])
     Ok(play(alloc, system, plan, &mut teacher, &mut step, order)?)
 }
 
-fn played(alloc: Global, case: Case, system: System, plan: Plan, order: &[u32]) -> Result<Book>
-    requires system { IsPlayable (system_view system) }
+/// A lemma of the system.
+fn lemma_for(alloc: Global, named: &Named) -> Result<Term> {
+    match named.lemmas.first() {
+        Some(lemma) => Ok(lemma.copied(alloc)?),
+        None => bail!("nothing is taught of that system"),
+    }
+}
+
+fn played(alloc: Global, cast: Cast, named: &Named, plan: Plan, order: &[u32]) -> Result<Book>
+    requires system { IsPlayable (system_view named.now.system) }
     requires plan { IsPlan plan }
 {
-    match case.cast {
+    let system = named.system.copied(alloc)?;
+    match cast {
         Cast::Bounded => bounded_alone(alloc, system, plan, order),
         Cast::Step => step_alone(alloc, system, plan, order),
         Cast::Both => both(alloc, system, plan, order),
-        Cast::Taught => {
-            let lemma = lemma_for(alloc, case.which)?;
-            taught(alloc, lemma, system, plan, order)
-        }
+        Cast::Taught => taught(alloc, lemma_for(alloc, named)?, system, plan, order),
     }
 }
 
@@ -210,24 +215,22 @@ fn book_text(alloc: Global, cast: Cast, book: &Book) -> Result<String> {
 }
 
 /// What comes of the case.
-fn text(alloc: Global, case: Case) -> Result<String> {
-    let system = system_of(alloc, case.which)?;
+fn text(alloc: Global, named: &Named, case: Case<'_>) -> Result<String> {
     let Some(plan) = plan(case) else {
-        return Ok(format!(in alloc; "NO PLAN")?);
+        bail!("no plan");
     };
-    if !is_playable(&system) {
-        return Ok(format!(in alloc; "NOT PLAYABLE")?);
+    if !is_playable(&named.system) {
+        bail!("not playable");
     }
     let order = order(alloc, case.order, case.depth)?;
-    let book = played(alloc, case, system, plan, &order)?;
+    let book = played(alloc, case.cast, named, plan, &order)?;
     book_text(alloc, case.cast, &book)
 }
 
 /// The line of the case.
-pub fn line(alloc: Global, case: Case) -> Result<String> {
+pub fn line(alloc: Global, systems: &[Named], case: Case<'_>) -> Result<String> {
     let cast = cast_name(case.cast);
-    let name = name_of(case.which);
-    let depth = case.depth;
-    let text = text(alloc, case)?;
+    let (name, depth) = (case.name, case.depth);
+    let text = text(alloc, find(systems, name)?, case)?;
     Ok(format!(in alloc; "{cast}, {name} to depth {depth}: {text}")?)
 }

@@ -13,7 +13,7 @@ use sys_terms::System;
 const MOST: u64 = 1_000_000_000;
 
 /// The plan of the case, where its numbers are within the ranges.
-pub fn plan(case: Case) -> Option<Plan>
+pub fn plan(case: Case<'_>) -> Option<Plan>
     ensures { IfSome result IsPlan }
 {
     let depth = case.depth;

@@ -1,29 +1,18 @@
-//! The cases, each a play.
+//! The cases, each a play, read from a text.
 
-use crate::plays::{Cast, line};
-use crate::systems::Which;
-use anyhow::Result;
+use crate::plays::Cast;
+use anyhow::{Result, bail};
 use proof_steps::Budgets;
-use std::alloc::{AllocError, Global};
 
 /// Who plays on which system, how deep, with which budgets a query, and in which order the first
 /// turns come.
 #[derive(Clone, Copy)]
-pub struct Case {
+pub struct Case<'a> {
     pub cast: Cast,
-    pub which: Which,
+    pub name: &'a str,
     pub depth: u32,
     pub budgets: Budgets,
     pub order: Order,
-}
-
-/// More than any case needs.
-fn ample() -> Budgets {
-    Budgets {
-        conflicts: 100_000,
-        splits: 2_000,
-        pivots: 200_000,
-    }
 }
 
 /// The first turns.
@@ -37,149 +26,73 @@ pub enum Order {
     Turns,
 }
 
-fn bounded(which: Which, depth: u32) -> Case {
-    Case {
-        cast: Cast::Bounded,
-        which,
-        depth,
-        budgets: ample(),
-        order: Order::First,
+/// More than any case needs.
+fn ample() -> Budgets {
+    Budgets {
+        conflicts: 100_000,
+        splits: 2_000,
+        pivots: 200_000,
     }
 }
 
-fn step(which: Which, depth: u32) -> Case {
-    Case {
-        cast: Cast::Step,
-        which,
-        depth,
-        budgets: ample(),
-        order: Order::Second,
-    }
-}
-
-fn both(which: Which, depth: u32, order: Order) -> Case {
-    Case {
-        cast: Cast::Both,
-        which,
-        depth,
-        budgets: ample(),
-        order,
-    }
-}
-
-/// Induction beside an engine that posts the system's lemma.
-fn taught(which: Which, depth: u32, order: Order) -> Case {
-    Case {
-        cast: Cast::Taught,
-        which,
-        depth,
-        budgets: ample(),
-        order,
-    }
-}
-
-/// With at most so many conflicts a query.
-fn with_conflicts(conflicts: u64, case: Case) -> Case {
-    let budgets = Budgets {
-        conflicts,
-        ..ample()
+/// The budgets of words such as `splits 3`, and of none.
+fn budgets_of(words: &str) -> Result<Budgets> {
+    let Some((word, most)) = words.split_once(' ') else {
+        return Ok(ample());
     };
-    Case { budgets, ..case }
+    let most = most.parse()?;
+    Ok(match word.as_bytes() {
+        [b'c', ..] => Budgets {
+            conflicts: most,
+            ..ample()
+        },
+        [b's', ..] => Budgets {
+            splits: most,
+            ..ample()
+        },
+        [b'p', ..] => Budgets {
+            pivots: most,
+            ..ample()
+        },
+        _ => bail!("no budget has that name"),
+    })
 }
 
-/// With at most so many splits a query.
-fn with_splits(splits: u64, case: Case) -> Case {
-    let budgets = Budgets { splits, ..ample() };
-    Case { budgets, ..case }
+fn cast_of(word: &str) -> Result<Cast> {
+    Ok(match word.as_bytes() {
+        [b'b', b'o', b'u', ..] => Cast::Bounded,
+        [b'b', b'o', b't', ..] => Cast::Both,
+        [b's', ..] => Cast::Step,
+        [b't', ..] => Cast::Taught,
+        _ => bail!("nobody has that name"),
+    })
 }
 
-/// With at most so many pivots a check.
-fn with_pivots(pivots: u64, case: Case) -> Case {
-    let budgets = Budgets { pivots, ..ample() };
-    Case { budgets, ..case }
+fn order_of(word: &str) -> Result<Order> {
+    Ok(match word.as_bytes() {
+        [b'f', ..] => Order::First,
+        [b's', ..] => Order::Second,
+        [b't', ..] => Order::Turns,
+        _ => bail!("no order has that name"),
+    })
 }
 
-fn cases(alloc: Global) -> Result<Vec<Case>, AllocError> {
-    Ok(vec![in alloc;
-        bounded(Which::Latch, 1),
-        bounded(Which::Toggle, 1),
-        bounded(Which::Register, 3),
-        bounded(Which::Bits, 1),
-        bounded(Which::Bits, 4),
-        bounded(Which::Bits, 5),
-        bounded(Which::Bits, 20),
-        step(Which::Latch, 1),
-        step(Which::Toggle, 1),
-        step(Which::Toggle, 2),
-        step(Which::Register, 3),
-        step(Which::Register, 4),
-        step(Which::Bits, 7),
-        step(Which::Bits, 8),
-        both(Which::Latch, 1, Order::Second),
-        both(Which::Toggle, 2, Order::Turns),
-        both(Which::Register, 4, Order::Turns),
-        both(Which::Register, 4, Order::First),
-        both(Which::Bits, 4, Order::Turns),
-        both(Which::Bits, 5, Order::Turns),
-        bounded(Which::Counting, 3),
-        bounded(Which::Limited, 4),
-        bounded(Which::Limited, 5),
-        bounded(Which::Lagging, 3),
-        bounded(Which::Doubling, 3),
-        bounded(Which::Kept, 2),
-        bounded(Which::BigOrFive, 1),
-        bounded(Which::FiveOrBig, 1),
-        with_splits(3, bounded(Which::Halves, 2)),
-        step(Which::Counting, 1),
-        step(Which::Limited, 3),
-        step(Which::Natural, 5),
-        step(Which::Natural, 6),
-        step(Which::Lagging, 1),
-        step(Which::Lagging, 2),
-        step(Which::Kept, 2),
-        step(Which::BigOrFive, 1),
-        with_splits(3, step(Which::Halves, 2)),
-        both(Which::Counting, 3, Order::Turns),
-        both(Which::Limited, 5, Order::Turns),
-        both(Which::Lagging, 4, Order::Turns),
-        both(Which::Doubling, 3, Order::Turns),
-        both(Which::Kept, 2, Order::Turns),
-        both(Which::FiveOrBig, 1, Order::Turns),
-        step(Which::Parity, 1),
-        with_conflicts(1, bounded(Which::Parity, 1)),
-        with_conflicts(1, step(Which::Parity, 1)),
-        step(Which::Stairs, 1),
-        with_pivots(1, bounded(Which::Stairs, 1)),
-        with_pivots(1, step(Which::Stairs, 1)),
-        bounded(Which::Steep, 1),
-        step(Which::Steep, 1),
-        with_splits(1, bounded(Which::OddAndEven, 1)),
-        with_splits(3, bounded(Which::OddAndEven, 1)),
-        with_splits(1, step(Which::OddAndEven, 1)),
-        bounded(Which::ParityOrBig, 1),
-        with_conflicts(1, bounded(Which::ParityOrBig, 1)),
-        with_splits(1, bounded(Which::OddAndEvenOrBig, 1)),
-        with_splits(1, step(Which::OddAndEvenOrBig, 1)),
-        bounded(Which::StairsOrBig, 1),
-        with_pivots(1, bounded(Which::StairsOrBig, 1)),
-        bounded(Which::SteepOrBig, 1),
-        step(Which::Adding, 2),
-        taught(Which::Adding, 1, Order::First),
-        taught(Which::Adding, 3, Order::Second),
-        taught(Which::Lagging, 1, Order::First),
-        taught(Which::Limited, 5, Order::First),
-        taught(Which::Limited, 6, Order::First),
-        step(Which::Crossed, 1),
-        step(Which::Crossed, 2),
-        taught(Which::Crossed, 1, Order::First),
-    ]?)
+/// The part of a line before a semicolon and a blank, and what stands behind them.
+fn cut(line: &str) -> (&str, &str) {
+    line.split_once("; ").unwrap_or((line, ""))
 }
 
-/// What comes of each case.
-pub fn lines(alloc: Global) -> Result<Vec<String>> {
-    let mut lines = Vec::new(alloc);
-    for case in cases(alloc)? {
-        lines.push(line(alloc, case)?)?;
-    }
-    Ok(lines)
+/// The case of a line such as `both; halves; 2; turns; splits 3`.
+pub fn case_of(line: &str) -> Result<Case<'_>> {
+    let (who, rest) = cut(line);
+    let (name, rest) = cut(rest);
+    let (depth, rest) = cut(rest);
+    let (turns, rest) = cut(rest);
+    Ok(Case {
+        cast: cast_of(who)?,
+        name,
+        depth: depth.parse()?,
+        budgets: budgets_of(rest)?,
+        order: order_of(turns)?,
+    })
 }

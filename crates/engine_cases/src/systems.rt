@@ -1,116 +1,92 @@
-//! The systems of the cases.
+//! The systems of the cases, each with one property, read from a text.
 
-use crate::crossed::crossed;
-use crate::flags::{bits, latch, parity, register, toggle};
-use crate::numbers::{
-    adding, big_or_five, counting, doubling, five_or_big, halves, kept, lagging, limited, natural,
-    odd_and_even, stairs, steep,
-};
-use crate::wide::or_big;
+use crate::terms::{DEEPEST, term, words_of};
+use anyhow::{Result, bail};
 use kind_num::Shape;
 use std::alloc::{AllocError, Global};
 use sys_terms::{System, Term};
 
-/// A system, by what is said of it where it is made.
-#[derive(Clone, Copy)]
-pub enum Which {
-    Latch,
-    Toggle,
-    Register,
-    Bits,
-    Counting,
-    Limited,
-    Natural,
-    Lagging,
-    Doubling,
-    Kept,
-    BigOrFive,
-    FiveOrBig,
-    Halves,
-    Parity,
-    Stairs,
-    Steep,
-    Adding,
-    OddAndEven,
-    ParityOrBig,
-    OddAndEvenOrBig,
-    StairsOrBig,
-    SteepOrBig,
-    Crossed,
+/// A system, its name, and what is taught of it.
+#[derive(Drop)]
+pub struct Named {
+    pub name: String,
+    pub system: System,
+    pub lemmas: Vec<Term>,
 }
 
-/// A system of these shapes, first states and steps, with one property.
-pub fn system(
-    alloc: Global,
-    shapes: Vec<Shape>,
-    first: Vec<Term>,
-    steps: Vec<Term>,
-    property: Term,
-) -> Result<System, AllocError> {
-    Ok(System {
-        shapes,
-        first,
+fn empty(alloc: Global) -> System {
+    System {
+        shapes: Vec::new(alloc),
+        first: Vec::new(alloc),
         here: Vec::new(alloc),
-        next: steps,
+        next: Vec::new(alloc),
         legal: Vec::new(alloc),
-        properties: vec![in alloc; property]?,
-    })
-}
-
-/// The system of that case.
-pub fn system_of(alloc: Global, which: Which) -> Result<System, AllocError> {
-    match which {
-        Which::Latch => latch(alloc),
-        Which::Toggle => toggle(alloc),
-        Which::Register => register(alloc),
-        Which::Bits => bits(alloc),
-        Which::Counting => counting(alloc),
-        Which::Limited => limited(alloc),
-        Which::Natural => natural(alloc),
-        Which::Lagging => lagging(alloc),
-        Which::Doubling => doubling(alloc),
-        Which::Kept => kept(alloc),
-        Which::BigOrFive => big_or_five(alloc),
-        Which::FiveOrBig => five_or_big(alloc),
-        Which::Halves => halves(alloc),
-        Which::Parity => parity(alloc),
-        Which::Stairs => stairs(alloc),
-        Which::Steep => steep(alloc),
-        Which::Adding => adding(alloc),
-        Which::OddAndEven => odd_and_even(alloc),
-        Which::ParityOrBig => or_big(alloc, parity(alloc)?),
-        Which::OddAndEvenOrBig => or_big(alloc, odd_and_even(alloc)?),
-        Which::StairsOrBig => or_big(alloc, stairs(alloc)?),
-        Which::SteepOrBig => or_big(alloc, steep(alloc)?),
-        Which::Crossed => crossed(alloc),
+        properties: Vec::new(alloc),
     }
 }
 
-/// What the lines call it.
-pub fn name_of(which: Which) -> &'static str {
-    match which {
-        Which::Latch => "latch",
-        Which::Toggle => "toggle",
-        Which::Register => "register",
-        Which::Bits => "counter",
-        Which::Counting => "counting",
-        Which::Limited => "limited",
-        Which::Natural => "limited from 0 on",
-        Which::Lagging => "lagging",
-        Which::Doubling => "doubling",
-        Which::Kept => "kept",
-        Which::BigOrFive => "big or five",
-        Which::FiveOrBig => "five or big",
-        Which::Halves => "halves",
-        Which::Parity => "parity",
-        Which::Stairs => "stairs",
-        Which::Steep => "steep stairs",
-        Which::Adding => "adding",
-        Which::OddAndEven => "odd and even",
-        Which::ParityOrBig => "parity or big",
-        Which::OddAndEvenOrBig => "odd and even or big",
-        Which::StairsOrBig => "stairs or big",
-        Which::SteepOrBig => "steep stairs or big",
-        Which::Crossed => "crossed",
+/// The shapes, and behind them those of these words: `b` is a flag, and another word a number.
+fn push_shapes(shapes: &mut Vec<Shape>, text: &str) -> Result<(), AllocError> {
+    for word in text.split_whitespace() {
+        let shape = if word == "b" {
+            Shape::Flag
+        } else {
+            Shape::Number
+        };
+        shapes.push(shape)?;
     }
+    Ok(())
+}
+
+/// The list of terms to which a line with this word adds one.
+fn list_of<'a>(named: &'a mut Named, word: &str) -> Option<&'a mut Vec<Term>> {
+    match word.as_bytes() {
+        [b'f', ..] => Some(&mut named.system.first),
+        [b'h', ..] => Some(&mut named.system.here),
+        [b'n', ..] => Some(&mut named.system.next),
+        [b'p', ..] => Some(&mut named.system.properties),
+        [b'l', ..] => Some(&mut named.lemmas),
+        _ => None,
+    }
+}
+
+/// Takes a line of a system: `shapes` with a word for each variable, or `first`, `here`, `next`, `property` or `lemma`
+/// with a term. Other lines say nothing.
+fn take(alloc: Global, named: &mut Named, line: &str) -> Result<()> {
+    let (word, rest) = line.split_once(' ').unwrap_or((line, ""));
+    if word == "shapes" {
+        return Ok(push_shapes(&mut named.system.shapes, rest)?);
+    }
+    if let Some(list) = list_of(named, word) {
+        let mut words = words_of(alloc, rest)?;
+        list.push(term(alloc, &mut words, DEEPEST)?)?;
+    }
+    Ok(())
+}
+
+/// The systems of a text: `system` with a name begins one.
+pub fn systems_of(alloc: Global, text: &str) -> Result<Vec<Named>> {
+    let mut systems: Vec<Named> = Vec::new(alloc);
+    for line in text.lines() {
+        if let Some(name) = line.strip_prefix("system ") {
+            systems.push(Named {
+                name: String::from_str(alloc, name)?,
+                system: empty(alloc),
+                lemmas: Vec::new(alloc),
+            })?;
+        } else if let Some(named) = systems.last_mut() {
+            take(alloc, named, line)?;
+        }
+    }
+    Ok(systems)
+}
+
+/// The system of that name.
+pub fn find<'a>(systems: &'a [Named], name: &str) -> Result<&'a Named> {
+    for named in systems {
+        if named.name.as_str() == name {
+            return Ok(named);
+        }
+    }
+    bail!("no system has that name");
 }

@@ -1,97 +1,131 @@
-//! Terms of flags and of numbers.
+//! Terms, read from words: each word stands before its operands.
 
-use std::alloc::{AllocError, Global};
+use anyhow::{Result, bail};
+use std::alloc::Global;
 use sys_terms::{Num, Term, Var};
 
-/// The flag of this number.
-pub fn flag(number: u32) -> Term {
-    Term::Flag(Var {
-        number,
-        next: false,
+/// How deep a term may be nested.
+pub const DEEPEST: u32 = 100;
+
+/// The words that are still to be read, the last one first.
+pub type Words<'a> = Vec<&'a str>;
+
+/// The words of a text.
+pub fn words_of<'a>(alloc: Global, text: &'a str) -> Result<Words<'a>> {
+    let mut words: Words<'a> = text.split_whitespace().collect(alloc)?;
+    words.reverse();
+    Ok(words)
+}
+
+fn next_word<'a>(words: &mut Words<'a>) -> Result<&'a str> {
+    match words.pop() {
+        Some(word) => Ok(word),
+        None => bail!("a word is missing"),
+    }
+}
+
+/// The variable of this number; behind an apostrophe its value at the next state.
+fn variable(word: &str) -> Result<Var> {
+    Ok(match word.strip_suffix('\'') {
+        Some(number) => Var {
+            number: number.parse()?,
+            next: true,
+        },
+        None => Var {
+            number: word.parse()?,
+            next: false,
+        },
     })
 }
 
-/// The flag at the next state.
-pub fn next(number: u32) -> Term {
-    Term::Flag(Var { number, next: true })
+#[cycle(terms)]
+fn boxed(alloc: Global, words: &mut Words<'_>, depth: u32) -> Result<Box<Term>> {
+    let term = term(alloc, words, depth)?;
+    Ok(Box::new(alloc, term)?)
 }
 
-/// The opposite of a term.
-pub fn not(alloc: Global, a: Term) -> Result<Term, AllocError> {
-    Ok(Term::Not(Box::new(alloc, a)?))
+#[cycle(terms)]
+fn boxed_number(alloc: Global, words: &mut Words<'_>, depth: u32) -> Result<Box<Num>> {
+    let number = number(alloc, words, depth)?;
+    Ok(Box::new(alloc, number)?)
 }
 
-/// Both are true.
-pub fn and(alloc: Global, a: Term, b: Term) -> Result<Term, AllocError> {
-    let a = Box::new(alloc, a)?;
-    Ok(Term::And(a, Box::new(alloc, b)?))
+/// Two terms.
+#[cycle(terms)]
+fn pair(alloc: Global, words: &mut Words<'_>, depth: u32) -> Result<(Box<Term>, Box<Term>)> {
+    let first = boxed(alloc, words, depth)?;
+    let second = boxed(alloc, words, depth)?;
+    Ok((first, second))
 }
 
-/// The two are equal.
-pub fn same(alloc: Global, a: Term, b: Term) -> Result<Term, AllocError> {
-    let a = Box::new(alloc, a)?;
-    Ok(Term::Same(a, Box::new(alloc, b)?))
+/// Two numbers.
+#[cycle(terms)]
+fn number_pair(alloc: Global, words: &mut Words<'_>, depth: u32) -> Result<(Box<Num>, Box<Num>)> {
+    let first = boxed_number(alloc, words, depth)?;
+    let second = boxed_number(alloc, words, depth)?;
+    Ok((first, second))
 }
 
-/// Exactly one is true.
-pub fn xor(alloc: Global, a: Term, b: Term) -> Result<Term, AllocError> {
-    not(alloc, same(alloc, a, b)?)
-}
-
-/// The second where the first is true, else the third.
-pub fn choose(alloc: Global, c: Term, a: Term, b: Term) -> Result<Term, AllocError> {
-    let c = Box::new(alloc, c)?;
-    let a = Box::new(alloc, a)?;
-    Ok(Term::Choose(c, a, Box::new(alloc, b)?))
-}
-
-/// The number of this variable.
-pub fn number(variable: u32) -> Num {
-    Num::Value(Var {
-        number: variable,
-        next: false,
+/// A term of flags with no more terms nested in it than `depth`: `true`, `false`, the flag `b3` (`b3'` at the next state),
+/// `not A`, `and A B`, `same A B`, `if A B C`, and of numbers `most M N` (M is at most N) and `equal M N`.
+#[cycle(terms)]
+pub fn term(alloc: Global, words: &mut Words<'_>, depth: u32) -> Result<Term> {
+    if depth == 0 {
+        bail!("a term is too deep");
+    }
+    let depth = depth - 1;
+    let word = next_word(words)?;
+    Ok(match word.as_bytes() {
+        [b't', ..] => Term::Truth(true),
+        [b'f', ..] => Term::Truth(false),
+        [b'n', ..] => Term::Not(boxed(alloc, words, depth)?),
+        [b'a', ..] => {
+            let (a, b) = pair(alloc, words, depth)?;
+            Term::And(a, b)
+        }
+        [b's', ..] => {
+            let (a, b) = pair(alloc, words, depth)?;
+            Term::Same(a, b)
+        }
+        [b'i', ..] => {
+            let (c, a) = pair(alloc, words, depth)?;
+            Term::Choose(c, a, boxed(alloc, words, depth)?)
+        }
+        [b'm', ..] => {
+            let (a, b) = number_pair(alloc, words, depth)?;
+            Term::AtMost(a, b)
+        }
+        [b'e', ..] => {
+            let (a, b) = number_pair(alloc, words, depth)?;
+            Term::Equal(a, b)
+        }
+        _ => Term::Flag(variable(word.trim_start_matches('b'))?),
     })
 }
 
-/// The number at the next state.
-pub fn next_number(variable: u32) -> Num {
-    Num::Value(Var {
-        number: variable,
-        next: true,
+/// A number in the same way: a constant, the variable `x3`, `sum M N`, `times 2 N`, `if A M N`.
+#[cycle(terms)]
+fn number(alloc: Global, words: &mut Words<'_>, depth: u32) -> Result<Num> {
+    if depth == 0 {
+        bail!("a term is too deep");
+    }
+    let depth = depth - 1;
+    let word = next_word(words)?;
+    Ok(match word.as_bytes() {
+        [b's', ..] => {
+            let (a, b) = number_pair(alloc, words, depth)?;
+            Num::Add(a, b)
+        }
+        [b't', ..] => {
+            let factor = next_word(words)?.parse()?;
+            Num::Scale(factor, boxed_number(alloc, words, depth)?)
+        }
+        [b'i', ..] => {
+            let condition = boxed(alloc, words, depth)?;
+            let (a, b) = number_pair(alloc, words, depth)?;
+            Num::Choose(condition, a, b)
+        }
+        [b'x', ..] => Num::Value(variable(word.trim_start_matches('x'))?),
+        _ => Num::Constant(word.parse()?),
     })
-}
-
-/// A constant number.
-pub fn constant(value: i128) -> Num {
-    Num::Constant(value)
-}
-
-/// The sum of two numbers.
-pub fn plus(alloc: Global, a: Num, b: Num) -> Result<Num, AllocError> {
-    let a = Box::new(alloc, a)?;
-    Ok(Num::Add(a, Box::new(alloc, b)?))
-}
-
-/// A number times a factor.
-pub fn multiple(alloc: Global, factor: i128, a: Num) -> Result<Num, AllocError> {
-    Ok(Num::Scale(factor, Box::new(alloc, a)?))
-}
-
-/// The second where the first is true, else the third.
-pub fn choose_number(alloc: Global, c: Term, a: Num, b: Num) -> Result<Num, AllocError> {
-    let c = Box::new(alloc, c)?;
-    let a = Box::new(alloc, a)?;
-    Ok(Num::Choose(c, a, Box::new(alloc, b)?))
-}
-
-/// Whether the one is at most the other.
-pub fn at_most(alloc: Global, a: Num, b: Num) -> Result<Term, AllocError> {
-    let a = Box::new(alloc, a)?;
-    Ok(Term::AtMost(a, Box::new(alloc, b)?))
-}
-
-/// Whether the two are equal.
-pub fn equal(alloc: Global, a: Num, b: Num) -> Result<Term, AllocError> {
-    let a = Box::new(alloc, a)?;
-    Ok(Term::Equal(a, Box::new(alloc, b)?))
 }
