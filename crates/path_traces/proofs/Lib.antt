@@ -1,5 +1,7 @@
 mod Bare
+mod Lefts
 mod FreeNames
+mod Indexes
 mod Gathered
 mod Made
 mod Own

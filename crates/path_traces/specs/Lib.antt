@@ -1,3 +1,4 @@
+pub mod Indexed
 pub mod Numbered
 pub mod Kinds
 pub mod Plans

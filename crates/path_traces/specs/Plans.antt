@@ -4,6 +4,7 @@ use Rattle.std.specs.List.{list_any}
 use Rattle.std.specs.Str.{bytes_eq}
 use Rattle.lus_tree.specs.Numbers.{arrow_number, pre_number, all_numbers}
 use Rattle.lus_tree.specs.Tree.{Name, Variable, Component}
+use Rattle.lus_meaning.specs.Depends.{named_in}
 use Rattle.lus_meaning.specs.Program.{all_sites}
 use Rattle.lus_meaning.specs.Run.{Equation}
 use Rattle.lus_meaning.specs.Scene.{no_component, variables}
@@ -23,6 +24,10 @@ is_left es x = list_any (λ e. list_any (bytes_eq x) e.names) es
 abbrev pub free_among : Component → List Variable → List Variable
 free_among d vs = flat_map (λ v. cond (is_defined d v.name.text) [] (v ∷ [])) vs
 
+-- those of these whose names aren't among the names
+abbrev pub unnamed_in : List Name → List Variable → List Variable
+unnamed_in xs vs = flat_map (λ v. cond (named_in v.name.text xs) [] (v ∷ [])) vs
+
 -- its name and streams, those that no equation defines, how many outputs, `pre` and `->` it has, whether a contract, and
 -- its calls
 pub record Plan : Type 0 where
@@ -38,7 +43,7 @@ pub record Plan : Type 0 where
 abbrev pub plan_view : PlanCode → Plan
 plan_view p = record {
   name = p.name.now;
-  names = params_view p.names.items;
+  names = params_view p.names.params.items;
   free = params_view p.free.items;
   outputs = p.outputs;
   memories = p.memories;
@@ -65,6 +70,9 @@ plan_of d = record {
 abbrev pub plan_named : List Plan → Name → Plan
 plan_named [] x = plan_of no_component
 plan_named (p ∷ ps) x = cond (bytes_eq x p.name) p (plan_named ps x)
+
+abbrev pub plan_names : List Plan → List Name
+plan_names ps = map (λ p. p.name) ps
 
 -- ---- widths
 

@@ -2,7 +2,9 @@
 #![tactic(auto)]
 
 mod declared;
+mod defined;
 mod free;
+mod index;
 mod lines;
 mod names;
 mod numbers;

@@ -7,7 +7,7 @@ ghost use Rattle.lus_streams.specs.Streams.{params_view};
 ghost use Rattle.sys_terms.specs.View.{state_view, states_view};
 ghost use Rattle.path_traces.specs.Numbered.{bare_of, first_lines, name_line, name_number, name_value};
 
-use crate::names::name_number;
+use crate::names::{Names, name_number};
 use crate::presence::on_within;
 use crate::reading::{entry_at, value_in};
 use lus_meaning::{Spot, TraceLine, Value};
@@ -21,18 +21,24 @@ pub(crate) const START: Pos = Pos { line: 1, column: 1 };
 
 /// The value of a name, whose variable has that number, in a state; none where its clock is off.
 fn name_value(
-    names: &[&Param],
+    names: &Names<'_>,
     base: usize,
     param: &Param,
     number: usize,
     state: &State,
 ) -> Option<Value>
     requires base { base < 2 ^ 32 }
-    requires number { number ≡ name_number (params_view names.now) base (param_view param.now).name.text }
+    requires number { number ≡ name_number (params_view names.now.params.items) base (param_view param.now).name.text }
     ensures { entry_view result
-        ≡ name_value (params_view names.now) base (param_view param.now) (state_view state.now) }
+        ≡ name_value (params_view names.now.params.items) base (param_view param.now) (state_view state.now) }
 {
-    if on_within(names.len(), names, base, state, declared(&param.clock)) {
+    if on_within(
+        names.params.len(),
+        names,
+        base,
+        state,
+        declared(&param.clock),
+    ) {
         Some(value_in(state, param.sort, number))
     } else {
         None
@@ -42,14 +48,15 @@ fn name_value(
 /// The values of a name in these states.
 fn name_values(
     alloc: Global,
-    names: &[&Param],
+    names: &Names<'_>,
     base: usize,
     param: &Param,
     states: &[State],
 ) -> Result<Vec<Option<Value>>, AllocError>
     requires { base < 2 ^ 32 }
     ensures { IfOk result (λ v. map entry_view v.items
-        ≡ map (name_value (params_view names.now) base (param_view param.now)) (states_view states.now)) }
+        ≡ map (name_value (params_view names.now.params.items) base (param_view param.now))
+        (states_view states.now)) }
 {
     let number = name_number(names, base, &param.name.text);
     let mut values = Vec::with_capacity(alloc, states.len())?;
@@ -76,14 +83,15 @@ fn line(
 fn name_line(
     alloc: Global,
     path: &[u32],
-    names: &[&Param],
+    names: &Names<'_>,
     base: usize,
     states: &[State],
     param: &Param,
 ) -> Result<TraceLine, AllocError>
     requires { base < 2 ^ 32 }
     ensures { IfOk result (λ l. bare_view l
-        ≡ name_line path.now (states_view states.now) (params_view names.now) base (param_view param.now)) }
+        ≡ name_line path.now (states_view states.now) (params_view names.now.params.items) base
+        (param_view param.now)) }
 {
     let values = name_values(alloc, names, base, param, states)?;
     let name = param.name.text.clone()?;
@@ -95,14 +103,15 @@ pub(crate) fn push_names(
     lines: &mut Vec<TraceLine>,
     alloc: Global,
     path: &[u32],
-    names: &[&Param],
+    names: &Names<'_>,
     base: usize,
     states: &[State],
     listed: &[&Param],
 ) -> Result<(), AllocError>
     requires { base < 2 ^ 32 }
     ensures { OnOk result (map bare_view lines.new.items ≡ map bare_view lines.old.items
-        ++ map (name_line path.now (states_view states.now) (params_view names.now) base) (params_view listed.now)) }
+        ++ map (name_line path.now (states_view states.now) (params_view names.now.params.items) base)
+        (params_view listed.now)) }
 {
     for param in listed {
         lines.push(name_line(alloc, path, names, base, states, *param)?)?;

@@ -16,7 +16,7 @@ ghost use Rattle.path_traces.specs.Places.{call_places, first_places, held_place
 ghost use Rattle.path_traces.specs.Printed.{place_view, printed_place, printed_slot};
 
 use crate::declared::declared;
-use crate::free::names_of;
+use crate::free::streams_of;
 use crate::numbers::{Kind, numbers_of};
 use crate::plan::has_contract;
 use crate::walk::way_to;
@@ -154,8 +154,8 @@ fn push_streams(
     ensures { OnOk result (map place_seen places.new.items ≡ map place_seen places.old.items
         ++ map (name_place path.now) (variables (owner_view owner.entry))) }
 {
-    let names = names_of(alloc, owner)?;
-    push_names(alloc, places, path, &names)
+    let streams = streams_of(alloc, owner)?;
+    push_names(alloc, places, path, &streams)
 }
 
 /// The places, and behind them those of a frame itself, which runs so.

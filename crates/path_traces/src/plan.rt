@@ -5,10 +5,14 @@ ghost use Rattle.lus_tree.specs.View.{decl_view, program_view};
 ghost use Rattle.lus_meaning.specs.ClockFaults.{components};
 ghost use Rattle.lus_meaning.specs.Scene.{no_component};
 ghost use Rattle.lus_streams.specs.Owner.{owner_view};
-ghost use Rattle.path_traces.specs.Plans.{own_width, plan_named, plan_of, plan_view};
+ghost use Rattle.path_traces.specs.Indexed.{IsIndex};
+ghost use Rattle.path_traces.specs.Plans.{plan_names, plan_of, plan_view};
 
-use crate::free::{free_of, names_of};
+use crate::free::free_of;
+use crate::index::note;
+use crate::names::{Names, names_of, no_names};
 use crate::numbers::{Kind, numbers_of};
+use indexmap::IndexMap;
 use lus_limits::{Call, Way, calls_of};
 use lus_streams::owner::Owner;
 use lus_tree::{Decl, Param, Program};
@@ -20,7 +24,7 @@ use std::alloc::{AllocError, Global};
 #[derive(Drop)]
 pub(crate) struct Plan<'a> {
     pub(crate) name: &'a str,
-    pub(crate) names: Vec<&'a Param>,
+    pub(crate) names: Names<'a>,
     pub(crate) free: Vec<&'a Param>,
     pub(crate) outputs: usize,
     pub(crate) memories: usize,
@@ -66,7 +70,7 @@ pub(crate) fn no_plan(alloc: Global) -> Plan<'static>
 {
     Plan {
         name: "",
-        names: Vec::new(alloc),
+        names: no_names(alloc),
         free: Vec::new(alloc),
         outputs: 0,
         memories: 0,
@@ -104,19 +108,18 @@ pub(crate) fn plans_of(alloc: Global, program: &Program) -> Result<Vec<Plan<'_>>
     Ok(plans)
 }
 
-/// The first plan of that name, else that of what isn't there.
-pub(crate) fn plan_named<'a, 'p>(
-    plans: &'p [Plan<'a>],
-    none: &'p Plan<'a>,
-    name: &str,
-) -> &'p Plan<'a>
-    requires { plan_view none.now ≡ plan_of no_component }
-    ensures { plan_view result.now ≡ plan_named (map plan_view plans.now) name.now }
+/// The place of the first plan of each name.
+pub(crate) fn index_of<'a>(
+    alloc: Global,
+    plans: &[Plan<'a>],
+) -> Result<IndexMap<&'a str, usize>, AllocError>
+    ensures { IfOk result (λ m. IsIndex m (plan_names (map plan_view plans.now))) }
 {
+    let mut places = IndexMap::new(alloc);
+    let mut place = 0;
     for plan in plans {
-        if name == plan.name {
-            return plan;
-        }
+        note(&mut places, plan.name, place)?;
+        place += 1;
     }
-    none
+    Ok(places)
 }

@@ -7,23 +7,22 @@ ghost use Rattle.sys_terms.specs.Meaning.{values_of};
 ghost use Rattle.sys_terms.specs.View.{state_view};
 ghost use Rattle.path_traces.specs.Numbered.{on_within};
 
-use crate::names::{clock_in, name_number};
+use crate::names::{Names, clock_in, name_number};
 use crate::reading::flag_at;
 use lus_streams::clock::Clock;
-use lus_tree::Param;
 use sys_terms::State;
 
 /// Whether a clock is on in a state, of which no more clocks than `bound` follow from one another, in a frame whose
 /// beat has the number `base`.
 pub(crate) fn on_within(
     bound: usize,
-    names: &[&Param],
+    names: &Names<'_>,
     base: usize,
     state: &State,
     clock: Clock<'_>,
 ) -> bool
     requires { base < 2 ^ 32 }
-    ensures { result ≡ on_within bound (params_view names.now) base (values_of (state_view state.now))
+    ensures { result ≡ on_within bound (params_view names.now.params.items) base (values_of (state_view state.now))
         (clock_seen clock.entry) }
 {
     match clock {

@@ -15,7 +15,7 @@ ghost use Rattle.sys_meaning.specs.System.{system_of};
 
 use crate::free::inputs_and_free;
 use crate::lines::START;
-use crate::plan::{no_plan, plan_of, plans_of};
+use crate::plan::{index_of, no_plan, plan_of, plans_of};
 use crate::tables::Tables;
 use crate::walk::{Visit, visit_frame};
 use lus_limits::Way;
@@ -50,12 +50,14 @@ pub fn trace_of(
         → IsTraceOf (program_view program.now) (owner_view node.entry) (states_view states.now) (trace_view t)) }
 {
     let plans = plans_of(alloc, program)?;
+    let places = index_of(alloc, &plans)?;
     let none = no_plan(alloc);
     let plan = plan_of(alloc, node)?;
     let listed = inputs_and_free(alloc, node)?;
     let tables = Tables {
         alloc,
         plans: &plans,
+        places: &places,
         none: &none,
         states,
     };

@@ -9,8 +9,8 @@ ghost use Rattle.path_traces.specs.Plans.{free_by, held_count, own_width, plan_n
 ghost use Rattle.path_traces.specs.Walked.{call_line, call_width, calls_lines, calls_width, own_lines, walk};
 
 use crate::lines::{push_firsts, push_names};
-use crate::plan::{Plan, plan_named};
-use crate::tables::Tables;
+use crate::plan::Plan;
+use crate::tables::{Tables, plan_named};
 use lus_limits::{Call, Way};
 use lus_meaning::TraceLine;
 use lus_tree::Param;
@@ -28,7 +28,7 @@ fn own_width(way: Way, plan: &Plan<'_>) -> usize
     requires { own_width way (plan_view plan.now) < 2 ^ 32 }
     ensures { result ≡ own_width way (plan_view plan.now) }
 {
-    let before = 1 + plan.names.len() + plan.memories + plan.starts;
+    let before = 1 + plan.names.params.len() + plan.memories + plan.starts;
     match way {
         Way::Import => before,
         Way::Plain | Way::Condition => { if plan.contract { before + 1 } else { before } }
@@ -81,7 +81,7 @@ fn push_own(
 {
     let states = tables.states;
     push_names(lines, tables.alloc, path, &plan.names, base, states, listed)?;
-    let variable = base + 1 + plan.names.len();
+    let variable = base + 1 + plan.names.params.len();
     push_firsts(
         lines,
         tables.alloc,
@@ -171,7 +171,7 @@ fn visit_call(
         + call_width (walk (states_view tables.entry.states.now) (map plan_view tables.entry.plans.now) depth)
         (call_view call.now) (plan_named (map plan_view tables.entry.plans.now) (call_view call.now).callee)) }
 {
-    let plan = plan_named(tables.plans, tables.none, &call.callee.text);
+    let plan = plan_named(tables, &call.callee.text);
     let way = way_to(tables.alloc, path, call.number)?;
     visit.next += held_count(call, plan);
     visit_frame(

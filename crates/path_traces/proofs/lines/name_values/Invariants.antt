@@ -9,5 +9,5 @@ use Rattle.path_traces.proofs.lines.name_values.Given as goal
 -- what is there, and what is to come, is all
 abbrev pub invariant-loop-state : goal.invariant-loop-state
 invariant-loop-state l =
-    map entry_view l.values.items ++ map (name_value (params_view l.names) l.base (param_view l.param)) (states_view (drop l.state-index l.states))
-    ≡ map (name_value (params_view l.names) l.base (param_view l.param)) (states_view l.states)
+    map entry_view l.values.items ++ map (name_value (params_view l.names.params.items) l.base (param_view l.param)) (states_view (drop l.state-index l.states))
+    ≡ map (name_value (params_view l.names.params.items) l.base (param_view l.param)) (states_view l.states)

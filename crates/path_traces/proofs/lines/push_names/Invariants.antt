@@ -8,5 +8,5 @@ use Rattle.path_traces.proofs.lines.push_names.Given as goal
 -- what is there, and what is to come, is all
 abbrev pub invariant-loop-param : goal.invariant-loop-param
 invariant-loop-param l =
-    map bare_view l.lines.items ++ map (name_line l.path (states_view l.states) (params_view l.names) l.base) (params_view (drop l.param-index l.listed))
-    ≡ map bare_view l.initial.lines.items ++ map (name_line l.path (states_view l.states) (params_view l.names) l.base) (params_view l.listed)
+    map bare_view l.lines.items ++ map (name_line l.path (states_view l.states) (params_view l.names.params.items) l.base) (params_view (drop l.param-index l.listed))
+    ≡ map bare_view l.initial.lines.items ++ map (name_line l.path (states_view l.states) (params_view l.names.params.items) l.base) (params_view l.listed)
