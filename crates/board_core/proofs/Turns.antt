@@ -1,5 +1,6 @@
 -- Engines that play at one book.
-use Rattle.std.specs.Prelude.{ℕ, zero, suc, ◌≡◌, ◌≢◌, ◌≤◌, ◌++◌, true, false, List, [], ◌∷◌, Option, Some, None, Result, Ok, refl, length, take, drop}
+use Rattle.std.specs.Prelude.{ℕ, zero, suc, ◌≡◌, ◌≢◌, ◌≤◌, ◌<◌, ◌++◌, Bool, true, false, List, [], ◌∷◌, Option, Some, None, Result, Ok, refl, length, take, drop}
+use lib.ListN.{get_or}
 use Rattle.std.proofs.Common.{ap, sym, ◌∙◌, subst, arith}
 use Rattle.sys_terms.specs.View.{Machine}
 use Rattle.board_core.specs.declared.engine.Progress.{Progress}
@@ -8,7 +9,7 @@ use Rattle.board_core.specs.declared.fault.EngineFault.{EngineFault}
 use Rattle.board_core.specs.declared.playing.Player.{Player}
 use Rattle.board_core.specs.Entries.{Posting}
 use Rattle.board_core.specs.Seats.{Begins, DecidesAll, HasCauses, has_cause}
-use Rattle.board_core.specs.Plays.{IsPlaying}
+use Rattle.board_core.specs.Plays.{IsPlaying, Turns, is_last, Place, HasTurn, RunsOut, no_more, one_more, Table, IsMove, AreMoves}
 use Rattle.board_core.proofs.Verdicts.{causes-more, undecided-less}
 
 pub begins-length : {X : Type 0} (xs all : List X) → Begins xs all → length xs ≤ length all
@@ -98,3 +99,43 @@ causes-later history all m n seat number other e f b h =
     subst (λ (k : Machine). HasCauses all all seat other (length k.properties)) (sym e)
     (subst (λ k. HasCauses all all seat k (length m.properties)) f
     (all-causes history history all seat number (length m.properties) b b h))
+
+-- a turn that answers anything but `More` is the last
+pub last-of : (q : Progress) (b : Bool) → (b ≡ true → q ≢ p.More) → (b ≡ false → q ≡ p.More) → b ≡ is_last q
+last-of p.More true f g = absurd (f refl refl)
+last-of p.More false f g = refl
+last-of p.Spent true f g = refl
+last-of p.Spent false f g = let e = g refl in absurd cc
+last-of p.Decided true f g = refl
+last-of p.Decided false f g = let e = g refl in absurd cc
+
+-- what runs out from y does so from x
+abbrev pub RunsOnto : {E : Type 0} → Turns E → ℕ → (y x : Place E) → Type 0
+RunsOnto {E} turns seat y x =
+    (engine : E) (history : List Posting) → RunsOut turns seat y engine history → RunsOut turns seat x engine history
+
+pub one-more : {E : Type 0} (turns : Turns E) (seat : ℕ) (x y z : Place E)
+    → RunsOnto turns seat y x → HasTurn turns seat y z → RunsOnto turns seat z x
+one-more turns seat x y z f h = λ engine history r. f engine history (one_more y z engine history h r)
+
+pub no-more : {E : Type 0} (turns : Turns E) (seat : ℕ) (x y z : Place E) → RunsOnto turns seat y x
+    → HasTurn turns seat y z → z.player.ended ≡ true → RunsOut turns seat x z.engine z.history
+no-more turns seat x y z f h e = one-more turns seat x y z f h z.engine z.history (no_more z e)
+
+-- what these moves reach from t, all reach from s
+abbrev pub MovesOnto : {A B : Type 0} → Turns A → Turns B → (rest all : List ℕ) → (t s : Table A B) → Type 0
+MovesOnto {A} {B} turns_a turns_b rest all t s =
+    (r : Table A B) → AreMoves turns_a turns_b rest t r → AreMoves turns_a turns_b all s r
+
+next-moves : {A B : Type 0} (turns_a : Turns A) (turns_b : Turns B) (order : List ℕ) (i : ℕ) (s t r : Table A B)
+    → i < length order → IsMove turns_a turns_b (get_or order i 0) s t
+    → AreMoves turns_a turns_b (drop (suc i) order) t r → AreMoves turns_a turns_b (drop i order) s r
+next-moves turns_a turns_b [] i s t r l m h = absurd (omega arith)
+next-moves turns_a turns_b (k ∷ order) zero s t r l m h = (t, m, h)
+next-moves turns_a turns_b (k ∷ order) (suc i) s t r l m h =
+    next-moves turns_a turns_b order i s t r (omega arith) m h
+
+pub moves-onto : {A B : Type 0} (turns_a : Turns A) (turns_b : Turns B) (order all : List ℕ) (i : ℕ) (s t u : Table A B)
+    → MovesOnto turns_a turns_b (drop i order) all t s → i < length order
+    → IsMove turns_a turns_b (get_or order i 0) t u → MovesOnto turns_a turns_b (drop (suc i) order) all u s
+moves-onto turns_a turns_b order all i s t u f l m = λ r h. f r (next-moves turns_a turns_b order i t u r l m h)

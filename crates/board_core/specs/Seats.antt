@@ -23,6 +23,15 @@ pub record HasSeen (number : ℕ) (seen now' : List Posting) : Type 0 where
   pub are_others : AreOthers number others
   pub all : now' ≡ seen ++ others
 
+-- where a seat stands: its number, its read front, and what it has seen
+pub record Stand : Type 0 where
+  pub number : ℕ
+  pub front : ℕ
+  pub seen : List Posting
+
+abbrev pub stand : (number front : ℕ) → List Posting → Stand
+stand number front seen = record { number = number; front = front; seen = seen }
+
 -- some entry holds or breaks the property
 abbrev pub Decides : List Posting → ℕ → Type 0
 Decides history p = decides p history ≡ true

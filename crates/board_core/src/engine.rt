@@ -1,11 +1,12 @@
 //! Engines, which post what they find out at a seat.
 
-ghost use Rattle.std.specs.Prelude.{◌≡◌, ◌≤◌, ◌<◌, ℕ, List, Option, [], Ok, All, length, take, OnOk};
+ghost use Rattle.std.specs.Prelude.{◌≡◌, ◌≤◌, ◌<◌, ℕ, List, Option, [], Ok, All, length, take, IfOk, OnOk};
 ghost use Rattle.sys_terms.specs.View.{Machine};
 ghost use Rattle.board_core.specs.declared.plan.Plan.{Plan as Options};
+ghost use Rattle.board_core.specs.declared.engine.Progress.{Progress};
 ghost use Rattle.board_core.specs.declared.engine.Progress.TheVariants.{More, Spent, Decided};
 ghost use Rattle.board_core.specs.Entries.{Posting};
-ghost use Rattle.board_core.specs.Seats.{Begins, Fits, Decides, DecidesAll, HasCauses, IsNumbered};
+ghost use Rattle.board_core.specs.Seats.{Stand, stand, Begins, Fits, Decides, DecidesAll, HasCauses, IsNumbered};
 
 use crate::fault::EngineFault;
 use crate::seat::BoardSeat;
@@ -42,6 +43,10 @@ pub trait Engine {
     /// How many turns it has left at most.
     ghost steps: { Self → ℕ };
 
+    /// What a turn that ends in an answer does: the engine and where its seat stands before, the answer,
+    /// and both after.
+    ghost turn_gives: { Self → Stand → Progress → Self → Stand → Type 0 };
+
     /// Reads, works and posts. It asks for a seat whose book has its system and its plan, at which
     /// all that it knows has been seen and nothing else has been read.
     ///
@@ -49,8 +54,9 @@ pub trait Engine {
     /// it. After an `Ok` this front is no shorter than what was read. `Decided` comes only where what
     /// was read decides all properties, and of an engine with a number nothing else comes there. At
     /// `Spent` such an engine has posted, at this seat, a cause for each property that what was read
-    /// leaves undecided. At `More` fewer turns are left. After want of memory the engine is only
-    /// dropped; the seat keeps what was read and posted.
+    /// leaves undecided. At `More` fewer turns are left. After an `Ok` the turn is one of those that
+    /// `turn_gives` tells. After want of memory the engine is only dropped; the seat keeps what was read
+    /// and posted.
     fn turn<B: BoardSeat>(&mut self, alloc: Global, seat: &mut B) -> Result<Progress, EngineFault>
         requires machine { Fits (machine self.old) (B.machine seat.old) }
         requires plan { Fits (plan self.old) (B.plan seat.old) }
@@ -72,7 +78,10 @@ pub trait Engine {
         ensures spent { result ≡ Ok Spent
             → HasCauses (take (B.front seat.new) (B.seen seat.new)) (B.seen seat.new) (B.number seat.new)
             (number self.new) (length (B.machine seat.new).properties) }
-        ensures falls { result ≡ Ok More → steps self.new < steps self.old };
+        ensures falls { result ≡ Ok More → steps self.new < steps self.old }
+        ensures gives { IfOk result (λ p.
+            turn_gives self.old (stand (B.number seat.old) (B.front seat.old) (B.seen seat.old))
+            p self.new (stand (B.number seat.new) (B.front seat.new) (B.seen seat.new))) };
 
     /// How many turns it has left at most.
     fn left(&self) -> u64

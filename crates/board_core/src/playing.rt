@@ -7,7 +7,7 @@ ghost use Rattle.board_core.specs.Plans.{IsPlan};
 ghost use Rattle.board_core.specs.Entries.{AreSound};
 ghost use Rattle.board_core.specs.Books.{history_of, machine_of, plan_of};
 ghost use Rattle.board_core.specs.Seats.{Begins, Fits, HasCauses};
-ghost use Rattle.board_core.specs.Plays.{IsPlaying};
+ghost use Rattle.board_core.specs.Plays.{IsPlaying, HasTurn, IsMove, AreMoves, RunsOut, IsPlay, place, table, new_players};
 
 use crate::book::Book;
 use crate::chair::Chair;
@@ -50,6 +50,8 @@ fn play_turn<E: Engine>(
     ensures playing { IfOk result (λ p. IsPlaying (history_of book.new) (machine_of book.new) seat
         (E.number engine.new) (E.known engine.new) p) }
     ensures falls { IfOk result (λ p. p.ended ≡ false → E.steps engine.new < E.steps engine.old) }
+    ensures turn { IfOk result (λ p. HasTurn E.turn_gives seat (place engine.old player (history_of book.old))
+        (place engine.new p (history_of book.new))) }
 {
     if player.ended {
         return Ok(player);
@@ -84,6 +86,8 @@ fn play_number<A: Engine, B: Engine>(
     ensures playing { IfOk result (λ p. IsPlaying (history_of book.new) (machine_of book.new) 0
         (A.number a.new) (A.known a.new) p.first
         × IsPlaying (history_of book.new) (machine_of book.new) 1 (B.number b.new) (B.known b.new) p.second) }
+    ensures turn { IfOk result (λ p. IsMove A.turn_gives B.turn_gives number
+        (table a.old b.old players (history_of book.old)) (table a.new b.new p (history_of book.new))) }
 {
     let mut next = players;
     if number == 0 {
@@ -114,6 +118,8 @@ fn play_order<A: Engine, B: Engine>(
     ensures playing { IfOk result (λ p. IsPlaying (history_of book.new) (machine_of book.new) 0
         (A.number a.new) (A.known a.new) p.first
         × IsPlaying (history_of book.new) (machine_of book.new) 1 (B.number b.new) (B.known b.new) p.second) }
+    ensures turns { IfOk result (λ p. AreMoves A.turn_gives B.turn_gives order.now
+        (table a.old b.old new_players (history_of book.old)) (table a.new b.new p (history_of book.new))) }
 {
     let start = Player {
         front: 0,
@@ -145,6 +151,8 @@ fn play_to_end<E: Engine>(
     ensures grows { OnOk result (Begins (history_of book.old) (history_of book.new)) }
     ensures causes { OnOk result (HasCauses (history_of book.new) (history_of book.new) seat
         (E.number engine.old) (length (machine_of book.old).properties)) }
+    ensures turns { OnOk result (RunsOut E.turn_gives seat (place engine.old player (history_of book.old))
+        engine.new (history_of book.new)) }
 {
     let mut player = player;
     loop {
@@ -180,6 +188,8 @@ pub fn play<A: Engine, B: Engine>(
         (A.number a.old) (length (machine_of book).properties)) }
     ensures second { IfOk result (λ book. HasCauses (history_of book) (history_of book) 1
         (B.number b.old) (length (machine_of book).properties)) }
+    ensures turns { IfOk result (λ book. IsPlay A.turn_gives B.turn_gives order.now a.old b.old a.new b.new
+        (history_of book)) }
 {
     let mut book = Book::open(alloc, system, plan);
     let players = play_order(alloc, &mut book, a, b, order)?;

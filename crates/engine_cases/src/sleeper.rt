@@ -1,6 +1,7 @@
 //! An engine that does nothing.
 
-ghost use Rattle.std.specs.Prelude.{[], None};
+ghost use Rattle.std.specs.Prelude.{◌≡◌, [], None};
+ghost use Rattle.board_core.specs.declared.engine.Progress.TheVariants.{Spent};
 
 use board_core::{BoardSeat, Engine, EngineFault, Progress};
 use std::alloc::Global;
@@ -21,6 +22,8 @@ impl Engine for Sleeper {
     ghost owed = { λ e. [] };
 
     ghost steps = { λ e. 0 };
+
+    ghost turn_gives = { λ e before p f after. (p ≡ Spent) × (after ≡ before) };
 
     fn turn<B: BoardSeat>(
         &mut self,

@@ -4,6 +4,7 @@ ghost use Rattle.std.specs.Prelude.{◌≡◌, [], None, Some, true, IfOk, IfSom
 ghost use Rattle.sys_terms.specs.View.{system_view, obligation_view};
 ghost use Rattle.sys_terms.specs.Fits.{is_asked, is_light_task};
 ghost use Rattle.cert_rules.specs.Kept.{lemma_machine, lemma_cites};
+ghost use Rattle.board_core.specs.declared.engine.Progress.TheVariants.{Spent};
 ghost use Rattle.board_core.specs.Seats.{Begins};
 ghost use Rattle.engine_cases.specs.Playable.{IsPlayable};
 
@@ -109,6 +110,8 @@ impl Engine for Teacher {
     ghost owed = { λ e. [] };
 
     ghost steps = { λ e. 0 };
+
+    ghost turn_gives = { λ e before p f after. (p ≡ Spent) × (after.front ≡ before.front) };
 
     fn turn<B: BoardSeat>(&mut self, alloc: Global, seat: &mut B) -> Result<Progress, EngineFault> {
         if let Some(lemma) = lemma_of(alloc, &self.system, &self.lemma, self.budgets)? {

@@ -118,6 +118,8 @@ impl Engine for BoundedEngine {
 
     ghost steps = { λ e. worker_steps e };
 
+    ghost turn_gives = { λ e before p f after. Grows TellsFirstWide before.number before.seen after.seen };
+
     /// As `Engine` says; besides, a turn reads once, and a cause `wide` names, of the values of size 2^63 or more
     /// in its path, that of the variable of the smallest number, at its first such instant. After want of memory
     /// the engine is over: each further turn answers it again.

@@ -1,4 +1,6 @@
+use Rattle.std.proofs.Common.{rules, refl}
 use Rattle.board_core.specs.Books.{history_of, machine_of}
+use Rattle.board_core.specs.Plays.{of_first, of_second}
 use Rattle.board_core.proofs.Turns.{playing-later}
 use Rattle.board_core.proofs.playing.play_number.Goals as goal
 
@@ -23,3 +25,11 @@ returns-in_ok-next-2-clause-playing g c =
           c.in_ok-next-2.ensures.book.0 c.in_ok-next-2.ensures.grows c.requires.playing.0,
       c.in_ok-next-2.ensures.playing,
     )
+
+-- src/playing.rt:68:1
+pub returns-in_ok-next-clause-turn : goal.returns-in_ok-next-clause-turn
+returns-in_ok-next-clause-turn g c = of_first (search rules) c.in_ok-next.ensures.turn refl refl
+
+-- src/playing.rt:68:1
+pub returns-in_ok-next-2-clause-turn : goal.returns-in_ok-next-2-clause-turn
+returns-in_ok-next-2-clause-turn g c = of_second (search rules) c.in_ok-next-2.ensures.turn refl refl
