@@ -122,9 +122,7 @@ impl Engine for StepEngine {
 
     ghost steps = { λ e. worker_steps e };
 
-    ghost turn_gives = { λ e before p f after. Grows TellsFirstWide before.number before.seen after.seen
-        × (before.front ≤ worker_front e
-        → Grows (IsBehind (length before.seen)) before.number before.seen after.seen × (after.front ≤ worker_front f)) };
+    ghost turn_gives = { λ e before p f after. Grows TellsFirstWide before.number before.seen after.seen };
 
     /// As `Engine` says; besides, a turn reads once. Where the engine has taken up all that the reads at
     /// this seat have answered, as a new engine has at a new seat, it has so after the turn, and a path at
