@@ -2,7 +2,10 @@
 use Rattle.std.proofs.Common.{◌≡◌, ◌≤◌, ◌<◌, ℕ, zero, suc, ◌+◌, Bool, true, false, cond, List, [], ◌∷◌, length, map, Option, Some, None, refl, sym, ap, ◌∙◌, slice_get, get_or, arith}
 use Rattle.std.specs.Prelude.{find, option_map, unwrap_or}
 use Rattle.std.specs.Borrow.{Bor}
+use Rattle.std.specs.Map.{lookup}
+use Rattle.std.specs.Option.{option_or}
 use Rattle.std.specs.Str.{bytes_eq}
+use Rattle.indexmap.specs.IndexMap.{IndexMap}
 use Rattle.std.proofs.lemmas.Option.{slice_get-map, slice_get-get_or, slice_get_past}
 use Rattle.lus_tree.specs.declared.place.Param.{Param}
 use Rattle.lus_tree.specs.Tree.{Name, Variable}
@@ -12,9 +15,14 @@ use Rattle.lus_meaning.proofs.Exists.{length_mapped}
 use Rattle.lus_streams.specs.Streams.{names_of, params_view}
 use Rattle.name_table.specs.Names.{number_of}
 use Rattle.path_traces.specs.declared.plan.Plan.{Plan as PlanCode}
-use Rattle.path_traces.specs.Indexed.{place_from}
+use Rattle.path_traces.specs.Indexed.{IsIndex, by_name, place_from}
 use Rattle.path_traces.specs.Numbered.{place_in, clock_in}
 use Rattle.path_traces.specs.Plans.{Plan, plan_of, plan_view, plan_named, plan_names}
+
+-- where all is noted in a table without entries
+pub index_so : {S : Type 0} (old new : IndexMap (Bor (List ℕ)) ℕ S) (ys : List Name) → old.entries ≡ []
+    → ((x : Name) → by_name new x ≡ option_or (by_name old x) (place_from 0 ys x)) → IsIndex new ys
+index_so old new ys e h = λ x. h x ∙ ap (λ es. option_or (lookup (λ k. bytes_eq x k.now) es) (place_from 0 ys x)) e
 
 -- in a list of which the first has the place k
 from_so : (ys : List Name) (x : Name) (k : ℕ) → unwrap_or (place_from k ys x) (k + length ys) ≡ k + number_of ys x

@@ -1,3 +1,4 @@
+mod Steps
 mod Bare
 mod Lefts
 mod FreeNames

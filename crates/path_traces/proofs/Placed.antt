@@ -1,6 +1,7 @@
 -- The places of a frame and of those of its calls are those of its slots.
 use Rattle.std.proofs.Common.{◌≡◌, ℕ, zero, suc, ◌+◌, ◌≤◌, ◌<◌, ◌-◌, List, [], ◌∷◌, ◌++◌, map, flat_map, length, append_assoc, refl, sym, ap, ◌∙◌, arith, Option, Some, None}
-use Rattle.std.specs.Prelude.{Contains, is_none, not, slice_get, slice_index_or, min, drop, Result, Ok, Err, OnOk}
+use Rattle.std.specs.Prelude.{Contains, is_none, not, slice_get, slice_index_or, min, drop, Result, Ok, Err, IfOk, OnOk, Vec}
+use Rattle.std.specs.declared.alloc.Global.{Global}
 use Rattle.std.specs.Option.{option_map_or}
 use Rattle.std.proofs.lemmas.List.{drop_all}
 use Rattle.lus_tree.specs.declared.place.Param.{Param}
@@ -12,19 +13,20 @@ use Rattle.lus_meaning.specs.ClockFaults.{components}
 use Rattle.lus_meaning.specs.Occurrences.{Memory, Start, memories, starts}
 use Rattle.lus_meaning.specs.Program.{all_sites, constants_in, in_order, instances_with, instance_of, instance_within}
 use Rattle.lus_meaning.specs.Refusals.{IsChecked}
-use Rattle.lus_meaning.specs.Scene.{Manner, plain, while_true, as_import, Site, Instance, Instances, instance, no_component, no_instances, component_of, variables}
+use Rattle.lus_meaning.specs.Scene.{Manner, plain, while_true, as_import, Site, Instance, Instances, instance, no_instances, component_of, variables}
 use Rattle.lus_meaning.specs.Slots.{Cell, name_cell, memory_cell, start_cell, contract_cells, own_cells, held_each, held_cells, Slot, slot, slots_in, call_slots, slots}
 use Rattle.lus_meaning.proofs.Lists.{append_none, map_append}
 use Rattle.rule_laws.proofs.Unfolded.{component_within}
 use Rattle.path_laws.proofs.Numbers.{CountedFrom}
 use Rattle.lus_limits.specs.declared.calls.Way.{Way}
-use Rattle.lus_limits.specs.declared.calls.Way.TheVariants.{Plain, Condition, Import}
+use Rattle.lus_limits.specs.declared.calls.Way.TheVariants.{Plain}
 use Rattle.lus_limits.specs.Calls.{Called, called_of, way_of}
 use Rattle.lus_limits.specs.Instances.{callee}
 use Rattle.lus_limits.specs.Summaries.{sofar_count}
-use Rattle.path_traces.specs.Places.{Places, place_seen, name_place, first_places, no_places, own_places, output_places, held_places, call_places, places_within}
+use Rattle.path_traces.specs.Places.{Places, place_seen, name_place, first_places, no_places, own_places, output_places, held_places, call_places, named_places, places_within}
+use Rattle.path_traces.specs.Plans.{Plan, plan_of}
 use Rattle.path_traces.specs.Printed.{printed, printed_slot}
-use Rattle.path_traces.proofs.Walks.{IsCounted, counted_at, counted_so}
+use Rattle.path_traces.proofs.Walks.{IsCounted, counted_at, counted_so, planned}
 
 -- ---- cells
 
@@ -59,7 +61,7 @@ none_more zero b = let e : 0 + b ≡ b = omega arith in ap no_places e
 none_more (suc a) b = let e : suc a + b ≡ suc (a + b) = omega arith in ap no_places e ∙ ap (λ l. None ∷ l) (none_more a b)
 
 own_so : (i : Instance) (path : List ℕ) (m : Manner) (d : Component) → IsCounted d
-    → own_places (way_of m) path d ≡ map printed_slot (map (slot i path) (own_cells m d))
+    → own_places (way_of m) path (plan_of d) ≡ map printed_slot (map (slot i path) (own_cells m d))
 own_so i path m d g =
     let P : List Cell → Places = map (printed path) in
     let ms : List Memory = in_order (λ p. p.number) (memories d) in
@@ -100,15 +102,18 @@ held_printed s path d plain = refl
 held_printed s path d (as_import xs) = refl
 
 module _ (p : Program) (c : IsChecked p) where
+  abbrev ps : List Plan
+  ps = map plan_of (components p)
+
   abbrev below : ℕ → Name → Instance
   below f x = instance_within f p (callee p x)
 
   abbrev ArePlacesOf : ℕ → Type 0
   ArePlacesOf f = (d : Component) → IsCounted d → (m : Manner) (path : List ℕ)
-      → places_within f p (way_of m) path d ≡ map printed_slot (slots_in m path (instance_within f p d))
+      → places_within f ps (way_of m) path (plan_of d) ≡ map printed_slot (slots_in m path (instance_within f p d))
 
   calls_so : (f : ℕ) → ArePlacesOf f → (i : Instance) (path : List ℕ) (ss : List Site)
-      → flat_map (call_places (places_within f p) p path) (map called_of ss) ≡ map printed_slot (call_slots i path (instances_with (below f) ss))
+      → flat_map (named_places (places_within f ps) ps path) (map called_of ss) ≡ map printed_slot (call_slots i path (instances_with (below f) ss))
   calls_so f so i path [] = refl
   calls_so f so i path (s ∷ ss) =
       let held : List Slot = map (slot i path) (held_cells s (component_of (below f s.callee)) s.manner) in
@@ -121,9 +126,10 @@ module _ (p : Program) (c : IsChecked p) where
       cells_printed i path (held_cells s (component_of (below f s.callee)) s.manner)
       ∙ ap (λ d. map (printed path) (held_cells s d s.manner)) (component_within f p (callee p s.callee))
       ∙ held_printed s path (callee p s.callee) s.manner in
-      let k : places_within f p (way_of s.manner) (path ++ s.number ∷ []) (callee p s.callee) ≡ map printed_slot frame =
+      let k : places_within f ps (way_of s.manner) (path ++ s.number ∷ []) (plan_of (callee p s.callee)) ≡ map printed_slot frame =
       so (callee p s.callee) (counted_so p c s.callee) s.manner (path ++ s.number ∷ []) in
-      sym (joined a b h (sym k) (sym (calls_so f so i path ss)))
+      ap (λ q. call_places (places_within f ps) path (called_of s) q ++ flat_map (named_places (places_within f ps) ps path) (map called_of ss))
+      (planned p s.callee) ∙ sym (joined a b h (sym k) (sym (calls_so f so i path ss)))
     where
       joined : {all h fr f r h' f' r' : Places} → all ≡ h ++ fr → fr ≡ f ++ r → h ≡ h' → f ≡ f' → r ≡ r' → all ≡ (h' ++ f') ++ r'
       joined {h' = h'} {f' = f'} {r' = r'} a b c d e = rw (a, b, c, d, e) (sym (append_assoc h' f' r'))
@@ -135,22 +141,23 @@ module _ (p : Program) (c : IsChecked p) where
   places_so (suc f) d g m path =
       let is : Instances = instances_with (below f) (all_sites d) in
       let this : Instance = instance d (constants_in p d) is in
-      ap (λ l. l ++ flat_map (call_places (places_within f p) p path) (map called_of (all_sites d))) (own_so this path m d g)
+      ap (λ l. l ++ flat_map (named_places (places_within f ps) ps path) (map called_of (all_sites d))) (own_so this path m d g)
       ∙ ap (λ l. map printed_slot (map (slot this path) (own_cells m d)) ++ l) (calls_so f (places_so f) this path (all_sites d))
       ∙ sym (map_append printed_slot (map (slot this path) (own_cells m d)) (call_slots this path is))
 
-  pub node_places : (d : Component) → Contains (components p) d → places_within (length p) p (way_of plain) [] d ≡ map printed_slot (slots (instance_of p d))
+  pub node_places : (d : Component) → Contains (components p) d
+      → places_within (length p) ps (way_of plain) [] (plan_of d) ≡ map printed_slot (slots (instance_of p d))
   node_places d at = places_so (length p) d (counted_at p c d at) plain []
 
-own_none : (w : Way) (path : List ℕ) → own_places w path no_component ≡ None ∷ []
-own_none Plain path = refl
-own_none Condition path = refl
-own_none Import path = refl
-
--- what isn't declared has a beat alone
-pub none_declared : (f : ℕ) (p : Program) (w : Way) (path : List ℕ) → places_within f p w path no_component ≡ None ∷ []
-none_declared zero p w path = own_none w path
-none_declared (suc f) p w path = ap (λ l. l ++ []) (own_none w path)
+-- those of a declaration's system, from tables of the program
+pub all_placed : {E : Type 0} (p : Program) → IsChecked p → (d : Component) → Contains (components p) d → (r : Result (Vec (Option Place) Global) E)
+    (ps : List Plan) (q : Plan) (f : ℕ) → ps ≡ map plan_of (components p) → q ≡ plan_of d → f ≡ length p
+    → IfOk r (λ v. map place_seen v.items ≡ places_within f ps Plain [] q)
+    → IfOk r (λ v. map place_seen v.items ≡ map printed_slot (slots (instance_of p d)))
+all_placed p c d at (Ok v) ps q f plans plan deep h =
+    h ∙ ap (λ ps. places_within f ps Plain [] q) plans ∙ ap (λ q. places_within f (map plan_of (components p)) Plain [] q) plan
+    ∙ ap (λ f. places_within f (map plan_of (components p)) Plain [] (plan_of d)) deep ∙ node_places p c d at
+all_placed p c d at (Err e) ps q f plans plan deep h = tt
 
 -- ---- loops
 
@@ -196,15 +203,24 @@ pub outputs_done : (here all : Places) (path : List ℕ) (vs : List Param) (i n 
 outputs_done here all path vs i n l g = sym (append_none here) ∙ ap (λ l. here ++ l) (sym (outputs_end path vs i n l)) ∙ g
 
 -- the parts of a frame itself
-pub own_pushed : {V E : Type 0} (r : Result V E) (old one two three new ns fs os : Places) → one ≡ old ++ None ∷ [] → two ≡ one ++ ns
-    → three ≡ two ++ fs → OnOk r (new ≡ three ++ os) → OnOk r (new ≡ old ++ (None ∷ ns ++ (fs ++ os)))
-own_pushed (Ok v) old one two three new ns fs os a b c h =
-    h ∙ ap (λ l. l ++ os) (c ∙ ap (λ l. l ++ fs) (b ∙ ap (λ l. l ++ ns) a)) ∙ whole old ns fs os
+pub own_pushed : {V E : Type 0} (r : Result V E) (old one two three four new : Places) (w : Way) (path : List ℕ) (p : Plan) (us : List Variable) (k : ℕ)
+    → one ≡ old ++ no_places 1 → two ≡ one ++ map (name_place path) us → us ≡ p.names → three ≡ two ++ first_places path 1 p.memories
+    → four ≡ three ++ no_places p.starts → OnOk r (new ≡ four ++ no_places k) → k ≡ sofar_count w p.contract → OnOk r (new ≡ old ++ own_places w path p)
+own_pushed (Ok v) old one two three four new w path p us k a b n c d h e =
+    let ns : Places = map (name_place path) p.names in
+    let fs : Places = first_places path 1 p.memories in
+    let last : Places = no_places (sofar_count w p.contract) in
+    let third : three ≡ ((old ++ None ∷ []) ++ ns) ++ fs =
+    c ∙ ap (λ l. l ++ fs) (b ∙ ap (λ l. l ++ map (name_place path) us) a ∙ ap (λ vs. (old ++ None ∷ []) ++ map (name_place path) vs) n) in
+    h ∙ ap (λ z. four ++ no_places z) e ∙ ap (λ l. l ++ last) d ∙ append_assoc three (no_places p.starts) last
+    ∙ ap (λ l. three ++ l) (sym (none_more p.starts (sofar_count w p.contract)))
+    ∙ ap (λ l. l ++ no_places (p.starts + sofar_count w p.contract)) third
+    ∙ whole old ns fs (no_places (p.starts + sofar_count w p.contract))
   where
     whole : (old ns fs os : Places) → (((old ++ None ∷ []) ++ ns) ++ fs) ++ os ≡ old ++ (None ∷ ns ++ (fs ++ os))
     whole old ns fs os =
         append_assoc ((old ++ None ∷ []) ++ ns) fs os ∙ append_assoc (old ++ None ∷ []) ns (fs ++ os) ∙ append_assoc old (None ∷ []) (ns ++ (fs ++ os))
-own_pushed (Err e) old one two three new ns fs os a b c h = tt
+own_pushed (Err x) old one two three four new w path p us k a b n c d h e = tt
 
 -- the place of one variable
 pub picked : (os : List (Option Place)) (qs : List Slot) (k : ℕ) (o : Option Place) → map place_seen os ≡ map printed_slot qs → k < length os
@@ -224,12 +240,12 @@ beyond (x ∷ os) (q ∷ qs) zero e l = absurd (omega (arith, l))
 beyond (x ∷ os) (q ∷ qs) (suc k) e l = let g : map place_seen os ≡ map printed_slot qs = cc in beyond os qs k g (omega (arith, l))
 
 -- a frame, and behind it its calls
-pub frame_pushed : {V E : Type 0} (r : Result V E) (old mid new : Places) (p : Program) (f g : ℕ) (w : Way) (path : List ℕ) (d : Component)
-    (cs : List Called) → f ≡ suc g → mid ≡ old ++ own_places w path d → cs ≡ map called_of (all_sites d)
-    → OnOk r (new ≡ mid ++ flat_map (call_places (places_within g p) p path) cs) → OnOk r (new ≡ old ++ places_within f p w path d)
-frame_pushed (Ok v) old mid new p f g w path d cs e m q h =
-    h ∙ ap (λ l. l ++ flat_map (call_places (places_within g p) p path) cs) m
-    ∙ append_assoc old (own_places w path d) (flat_map (call_places (places_within g p) p path) cs)
-    ∙ ap (λ l. old ++ (own_places w path d ++ flat_map (call_places (places_within g p) p path) l)) q
-    ∙ ap (λ z. old ++ places_within z p w path d) (sym e)
-frame_pushed (Err x) old mid new p f g w path d cs e m q h = tt
+pub frame_pushed : {V E : Type 0} (r : Result V E) (old mid new : Places) (ps : List Plan) (f g : ℕ) (w : Way) (path : List ℕ) (p : Plan)
+    (cs : List Called) → f ≡ suc g → mid ≡ old ++ own_places w path p → cs ≡ p.calls
+    → OnOk r (new ≡ mid ++ flat_map (named_places (places_within g ps) ps path) cs) → OnOk r (new ≡ old ++ places_within f ps w path p)
+frame_pushed (Ok v) old mid new ps f g w path p cs e m q h =
+    h ∙ ap (λ l. l ++ flat_map (named_places (places_within g ps) ps path) cs) m
+    ∙ append_assoc old (own_places w path p) (flat_map (named_places (places_within g ps) ps path) cs)
+    ∙ ap (λ l. old ++ (own_places w path p ++ flat_map (named_places (places_within g ps) ps path) l)) q
+    ∙ ap (λ z. old ++ places_within z ps w path p) (sym e)
+frame_pushed (Err x) old mid new ps f g w path p cs e m q h = tt

@@ -1,16 +1,13 @@
 -- The places of the variables of a frame and of those of its calls, with calls nested no deeper than said.
-use Rattle.std.specs.Prelude.{ℕ, zero, suc, ◌+◌, is_none, not, List, [], ◌∷◌, ◌++◌, map, flat_map, length, Option, Some, None, option_map}
-use Rattle.lus_tree.specs.Numbers.{arrow_number, pre_number, all_numbers}
-use Rattle.lus_tree.specs.Tree.{Variable, Component, Program}
-use Rattle.lus_meaning.specs.Program.{all_sites}
-use Rattle.lus_meaning.specs.Scene.{variables}
+use Rattle.std.specs.Prelude.{ℕ, zero, suc, ◌+◌, List, [], ◌∷◌, ◌++◌, map, flat_map, Option, Some, None, option_map}
+use Rattle.lus_tree.specs.Tree.{Variable}
 use Rattle.lus_meaning.specs.Trace.{of_name, of_first}
 use Rattle.lus_limits.specs.declared.calls.Way.{Way}
 use Rattle.lus_limits.specs.declared.calls.Way.TheVariants.{Plain, Condition, Import}
-use Rattle.lus_limits.specs.Calls.{Called, called_of}
-use Rattle.lus_limits.specs.Instances.{callee}
+use Rattle.lus_limits.specs.Calls.{Called}
 use Rattle.lus_limits.specs.Summaries.{sofar_count}
 use Rattle.path_traces.specs.declared.places.Place.{Place}
+use Rattle.path_traces.specs.Plans.{Plan, plan_named}
 use Rattle.path_traces.specs.Printed.{PrintedPlace, place_view}
 
 -- of variables in their order; none for one that has no place
@@ -33,11 +30,9 @@ no_places zero = []
 no_places (suc n) = None ∷ no_places n
 
 -- of the frame itself: its beat, its names, the memories of its `pre`, and what has no place
-abbrev pub own_places : Way → List ℕ → Component → Places
-own_places w path d =
-    None ∷ map (name_place path) (variables d)
-    ++ (first_places path 1 (length (all_numbers pre_number d))
-    ++ no_places (length (all_numbers arrow_number d) + sofar_count w (not (is_none d.contract))))
+abbrev pub own_places : Way → List ℕ → Plan → Places
+own_places w path p =
+    None ∷ map (name_place path) p.names ++ (first_places path 1 p.memories ++ no_places (p.starts + sofar_count w p.contract))
 
 -- of outputs, as far as there are defaults
 abbrev pub output_places : List ℕ → List Variable → ℕ → Places
@@ -51,12 +46,12 @@ held_places Plain path vs n = []
 held_places Import path vs n = []
 
 -- what is held of a call, and its frame
-abbrev pub call_places : (Way → List ℕ → Component → Places) → Program → List ℕ → Called → Places
-call_places f p path c =
-    held_places c.way (path ++ c.number ∷ []) (callee p c.callee).outputs c.defaults
-    ++ f c.way (path ++ c.number ∷ []) (callee p c.callee)
+abbrev pub call_places : (Way → List ℕ → Plan → Places) → List ℕ → Called → Plan → Places
+call_places f path c p = held_places c.way (path ++ c.number ∷ []) p.outputs c.defaults ++ f c.way (path ++ c.number ∷ []) p
 
-abbrev pub places_within : ℕ → Program → Way → List ℕ → Component → Places
-places_within zero p w path d = own_places w path d
-places_within (suc m) p w path d =
-    own_places w path d ++ flat_map (call_places (places_within m p) p path) (map called_of (all_sites d))
+abbrev pub named_places : (Way → List ℕ → Plan → Places) → List Plan → List ℕ → Called → Places
+named_places f ps path c = call_places f path c (plan_named ps c.callee)
+
+abbrev pub places_within : ℕ → List Plan → Way → List ℕ → Plan → Places
+places_within zero ps w path p = own_places w path p
+places_within (suc m) ps w path p = own_places w path p ++ flat_map (named_places (places_within m ps) ps path) p.calls

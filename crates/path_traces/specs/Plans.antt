@@ -4,6 +4,7 @@ use Rattle.std.specs.List.{list_any}
 use Rattle.std.specs.Str.{bytes_eq}
 use Rattle.lus_tree.specs.Numbers.{arrow_number, pre_number, all_numbers}
 use Rattle.lus_tree.specs.Tree.{Name, Variable, Component}
+use Rattle.lus_tree.specs.View.{param_view}
 use Rattle.lus_meaning.specs.Depends.{named_in}
 use Rattle.lus_meaning.specs.Program.{all_sites}
 use Rattle.lus_meaning.specs.Run.{Equation}
@@ -28,13 +29,13 @@ free_among d vs = flat_map (λ v. cond (is_defined d v.name.text) [] (v ∷ []))
 abbrev pub unnamed_in : List Name → List Variable → List Variable
 unnamed_in xs vs = flat_map (λ v. cond (named_in v.name.text xs) [] (v ∷ [])) vs
 
--- its name and streams, those that no equation defines, how many outputs, `pre` and `->` it has, whether a contract, and
--- its calls
+-- its name and streams, those that no equation defines, its outputs, how many `pre` and `->` it has, whether a contract,
+-- and its calls
 pub record Plan : Type 0 where
   pub name : Name
   pub names : List Variable
   pub free : List Variable
-  pub outputs : ℕ
+  pub outputs : List Variable
   pub memories : ℕ
   pub starts : ℕ
   pub contract : Bool
@@ -45,7 +46,7 @@ plan_view p = record {
   name = p.name.now;
   names = params_view p.names.params.items;
   free = params_view p.free.items;
-  outputs = p.outputs;
+  outputs = map param_view p.outputs.now;
   memories = p.memories;
   starts = p.starts;
   contract = p.contract;
@@ -57,7 +58,7 @@ plan_of d = record {
   name = d.name.text;
   names = variables d;
   free = free_names d;
-  outputs = length d.outputs;
+  outputs = d.outputs;
   memories = length (all_numbers pre_number d);
   starts = length (all_numbers arrow_number d);
   contract = not (is_none d.contract);
@@ -87,7 +88,7 @@ held_by Plain k = 0
 held_by Import k = 0
 
 abbrev pub held_count : Called → Plan → ℕ
-held_count c p = held_by c.way (min p.outputs c.defaults)
+held_count c p = held_by c.way (min (length p.outputs) c.defaults)
 
 -- in an import's frame no name is free
 abbrev pub free_by : Way → Plan → List Variable

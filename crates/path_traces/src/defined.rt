@@ -1,6 +1,6 @@
 //! The names of a declaration that an equation defines.
 
-ghost use Rattle.std.specs.Prelude.{◌≡◌, ◌||◌, ◌∷◌, [], IfOk, OnOk, map};
+ghost use Rattle.std.specs.Prelude.{◌≡◌, ◌||◌, ◌∷◌, [], OnOk, map};
 ghost use Rattle.std.specs.Str.{bytes_eq};
 ghost use Rattle.lus_tree.specs.Tree.{Name, text_of};
 ghost use Rattle.lus_tree.specs.View.{contract_item_view, item_view, word_view};
@@ -85,12 +85,15 @@ fn add_lefts(alloc: Global, names: &mut NameTable, items: &[Item]) -> Result<(),
     Ok(())
 }
 
-/// The names that an equation defines.
-pub(crate) fn defined_in(alloc: Global, owner: Owner<'_>) -> Result<NameTable, AllocError>
-    ensures { IfOk result (λ t. (x : Name) → named_in x t ≡ is_defined (owner_view owner.entry) x) }
+/// Adds the names of a declaration that an equation defines.
+pub(crate) fn add_defined(
+    alloc: Global,
+    names: &mut NameTable,
+    owner: Owner<'_>,
+) -> Result<(), AllocError>
+    ensures { OnOk result ((x : Name) → named_in x names.new
+        ≡ (named_in x names.old || is_defined (owner_view owner.entry) x)) }
 {
-    let mut names = NameTable::new(alloc);
-    add_ghosts(alloc, &mut names, owner.contract())?;
-    add_lefts(alloc, &mut names, owner.body())?;
-    Ok(names)
+    add_ghosts(alloc, names, owner.contract())?;
+    add_lefts(alloc, names, owner.body())
 }

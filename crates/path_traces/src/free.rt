@@ -8,7 +8,7 @@ ghost use Rattle.lus_streams.specs.Owner.{owner_view};
 ghost use Rattle.lus_streams.specs.Streams.{params_view};
 ghost use Rattle.path_traces.specs.Plans.{unnamed_in};
 
-use crate::defined::defined_in;
+use crate::defined::add_defined;
 use lus_streams::owner::Owner;
 use lus_tree::{ContractItem, Param};
 use name_table::NameTable;
@@ -91,28 +91,41 @@ fn push_free<'a>(
     Ok(())
 }
 
+/// The outputs and locals whose names aren't in the table.
+fn unnamed_in<'a>(
+    alloc: Global,
+    defined: &NameTable,
+    owner: Owner<'a>,
+) -> Result<Vec<&'a Param>, AllocError>
+    ensures { IfOk result (λ v. params_view v.items ≡ unnamed_in defined.now (owner_view owner.entry).outputs
+        ++ unnamed_in defined.now (owner_view owner.entry).locals) }
+{
+    let mut free = Vec::new(alloc);
+    push_free(&mut free, defined, owner.outputs())?;
+    push_free(&mut free, defined, owner.locals())?;
+    Ok(free)
+}
+
 /// The outputs and locals that no equation defines.
 #[tactic(auto, using(crate::proofs::FreeNames::both_free))]
 pub(crate) fn free_of(alloc: Global, owner: Owner<'_>) -> Result<Vec<&Param>, AllocError>
     ensures { IfOk result (λ v. params_view v.items ≡ free_names (owner_view owner.entry)) }
 {
-    let defined = defined_in(alloc, owner)?;
-    let mut free = Vec::new(alloc);
-    push_free(&mut free, &defined, owner.outputs())?;
-    push_free(&mut free, &defined, owner.locals())?;
-    Ok(free)
+    let mut defined = NameTable::new(alloc);
+    add_defined(alloc, &mut defined, owner)?;
+    unnamed_in(alloc, &defined, owner)
 }
 
-/// The inputs, and behind them the outputs and locals that no equation defines.
-#[tactic(auto, using(crate::proofs::FreeNames::behind_free))]
-pub(crate) fn inputs_and_free(alloc: Global, owner: Owner<'_>) -> Result<Vec<&Param>, AllocError>
-    ensures { IfOk result (λ v. params_view v.items
-        ≡ (owner_view owner.entry).inputs ++ free_names (owner_view owner.entry)) }
+/// The inputs, and behind them these.
+pub(crate) fn behind_inputs<'a>(
+    alloc: Global,
+    inputs: &'a [Param],
+    free: &[&'a Param],
+) -> Result<Vec<&'a Param>, AllocError>
+    ensures { IfOk result (λ v. params_view v.items ≡ map param_view inputs.now ++ params_view free.now) }
 {
-    let defined = defined_in(alloc, owner)?;
     let mut listed = Vec::new(alloc);
-    push_all(&mut listed, owner.inputs())?;
-    push_free(&mut listed, &defined, owner.outputs())?;
-    push_free(&mut listed, &defined, owner.locals())?;
+    push_all(&mut listed, inputs)?;
+    listed.extend_from_slice(free)?;
     Ok(listed)
 }

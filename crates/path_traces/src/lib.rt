@@ -1,7 +1,6 @@
 //! The trace of the states of a path of a node's system.
 #![tactic(auto)]
 
-mod declared;
 mod defined;
 mod free;
 mod index;

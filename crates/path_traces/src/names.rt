@@ -1,11 +1,13 @@
 //! The names of a frame: where their variables stand, and their clocks.
 
-ghost use Rattle.std.specs.Prelude.{◌≡◌, ◌<◌, ◌≤◌, ◌^◌, [], IfOk, length};
+ghost use Rattle.std.specs.Prelude.{◌≡◌, ◌<◌, ◌≤◌, ◌^◌, [], IfOk, OnOk, length};
+ghost use Rattle.std.specs.Option.{option_or};
+ghost use Rattle.lus_tree.specs.Tree.{Name};
 ghost use Rattle.lus_meaning.specs.Scene.{variables};
 ghost use Rattle.lus_streams.specs.Clocks.{clock_seen};
 ghost use Rattle.lus_streams.specs.Owner.{owner_view};
 ghost use Rattle.lus_streams.specs.Streams.{names_of, params_view};
-ghost use Rattle.path_traces.specs.Indexed.{IsIndex};
+ghost use Rattle.path_traces.specs.Indexed.{IsIndex, by_name, place_from};
 ghost use Rattle.path_traces.specs.Numbered.{clock_in, name_number, place_in};
 
 use crate::free::streams_of;
@@ -24,16 +26,28 @@ pub(crate) struct Names<'a> {
     ghost indexed: { IsIndex places (names_of (params_view params.items)) },
 }
 
+/// Notes the place of the first of each name.
+fn note_all<'a>(
+    places: &mut IndexMap<&'a str, usize>,
+    params: &[&'a Param],
+) -> Result<(), AllocError>
+    ensures { OnOk result ((x : Name) → by_name places.new x
+        ≡ option_or (by_name places.old x) (place_from 0 (names_of (params_view params.now)) x)) }
+{
+    let mut place = 0;
+    for param in params {
+        note(places, &param.name.text, place)?;
+        place += 1;
+    }
+    Ok(())
+}
+
 /// The place of the first of each name.
 fn index_of<'a>(alloc: Global, params: &[&'a Param]) -> Result<IndexMap<&'a str, usize>, AllocError>
     ensures { IfOk result (λ m. IsIndex m (names_of (params_view params.now))) }
 {
     let mut places = IndexMap::new(alloc);
-    let mut place = 0;
-    for param in params {
-        note(&mut places, &param.name.text, place)?;
-        place += 1;
-    }
+    note_all(&mut places, params)?;
     Ok(places)
 }
 

@@ -1,6 +1,6 @@
 //! The numbers of the occurrences of `pre` and of `->`.
 
-ghost use Rattle.std.specs.Prelude.{◌≡◌, ◌++◌, IfOk, OnOk, map, flat_map};
+ghost use Rattle.std.specs.Prelude.{◌≡◌, ◌++◌, IfOk, OnOk, length, map, flat_map};
 ghost use Rattle.lus_tree.specs.Numbers.{a_pre, all_numbers, an_arrow, contract_statement_expressions, if_same, numbers_among, own_number, statement_expressions};
 ghost use Rattle.lus_tree.specs.View.{contract_item_view, definition_view, expr_view, exprs_view, item_view, joined, named_view};
 ghost use Rattle.lus_streams.specs.Owner.{owner_view};
@@ -189,21 +189,17 @@ fn push_body(numbers: &mut Vec<u32>, kind: Kind, items: &[Item]) -> Result<(), A
     Ok(())
 }
 
-/// The numbers of that kind in a declaration, in text order.
+/// How many numbers of that kind a declaration has.
 ///
 /// # Errors
 ///
 /// Want of memory.
-pub(crate) fn numbers_of(
-    alloc: Global,
-    kind: Kind,
-    owner: Owner<'_>,
-) -> Result<Vec<u32>, AllocError>
-    ensures { IfOk result (λ v. v.items ≡ all_numbers (own_number (kind_view kind)) (owner_view owner.entry)) }
+pub(crate) fn count_of(alloc: Global, kind: Kind, owner: Owner<'_>) -> Result<usize, AllocError>
+    ensures { IfOk result (λ n. n ≡ length (all_numbers (own_number (kind_view kind)) (owner_view owner.entry))) }
 {
     let mut numbers = Vec::new(alloc);
     push_contract(&mut numbers, kind, owner.contract())?;
     push_constants(&mut numbers, kind, owner.constants())?;
     push_body(&mut numbers, kind, owner.body())?;
-    Ok(numbers)
+    Ok(numbers.len())
 }

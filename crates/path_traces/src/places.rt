@@ -1,26 +1,24 @@
 //! The places that printed text has for the variables of a system.
 
-ghost use Rattle.std.specs.Prelude.{◌≡◌, ◌++◌, ◌∷◌, ◌+◌, ◌<◌, ◌^◌, [], Some, Contains, IfOk, OnOk, map, flat_map, length, option_map, is_none, not};
-ghost use Rattle.lus_tree.specs.Numbers.{arrow_number, pre_number, all_numbers};
+ghost use Rattle.std.specs.Prelude.{◌≡◌, ◌++◌, ◌∷◌, ◌+◌, ◌<◌, ◌^◌, [], Some, Contains, IfOk, OnOk, map, flat_map, option_map};
 ghost use Rattle.lus_tree.specs.View.{param_view, program_view};
 ghost use Rattle.lus_limits.specs.Calls.{call_view};
+ghost use Rattle.lus_limits.specs.Summaries.{sofar_count};
+ghost use Rattle.lus_limits.specs.declared.calls.Way.TheVariants.{Plain};
 ghost use Rattle.lus_meaning.specs.ClockFaults.{components};
 ghost use Rattle.lus_meaning.specs.Program.{instance_of};
-ghost use Rattle.lus_limits.specs.Summaries.{sofar_count};
 ghost use Rattle.lus_meaning.specs.Refusals.{IsChecked};
-ghost use Rattle.lus_meaning.specs.Scene.{variables};
 ghost use Rattle.lus_meaning.specs.Slots.{slots};
 ghost use Rattle.lus_streams.specs.Owner.{owner_view};
 ghost use Rattle.lus_streams.specs.Streams.{params_view};
-ghost use Rattle.path_traces.specs.Places.{call_places, first_places, held_places, name_place, no_places, output_places, own_places, place_seen, places_within};
+ghost use Rattle.path_traces.specs.Places.{first_places, held_places, name_place, named_places, no_places, output_places, own_places, place_seen, places_within};
+ghost use Rattle.path_traces.specs.Plans.{plan_view};
 ghost use Rattle.path_traces.specs.Printed.{place_view, printed_place, printed_slot};
 
-use crate::declared::declared;
-use crate::free::streams_of;
-use crate::numbers::{Kind, numbers_of};
-use crate::plan::has_contract;
+use crate::plan::{Plan, plan_of};
+use crate::tables::{Tables, plan_named, tables_of};
 use crate::walk::way_to;
-use lus_limits::{Call, Way, calls_of};
+use lus_limits::{Call, Way};
 use lus_meaning::Spot;
 use lus_streams::owner::Owner;
 use lus_tree::{Param, Program};
@@ -97,30 +95,27 @@ fn push_none(places: &mut Vec<Option<Place>>, count: usize) -> Result<(), AllocE
     Ok(())
 }
 
-/// How many variables of a frame that runs so have no place, its beat left aside: one for each `->`, and whether the
-/// assumptions were true so far.
-fn other_count(way: Way, starts: usize, contract: bool) -> usize
-    requires { starts < 2 ^ 63 }
-    ensures { result ≡ starts + sofar_count way contract }
+/// How many variables of a frame that runs so keep whether the assumptions were true so far.
+fn sofar_count(way: Way, contract: bool) -> usize
+    ensures { result ≡ sofar_count way contract }
 {
     match way {
-        Way::Import => starts,
-        Way::Plain | Way::Condition => { if contract { starts + 1 } else { starts } }
+        Way::Import => 0,
+        Way::Plain | Way::Condition => usize::from(contract),
     }
 }
 
-/// The places, and behind them those of the first values of a declaration.
+/// The places, and behind them those of the first values of a frame.
 fn push_memories(
     alloc: Global,
     places: &mut Vec<Option<Place>>,
     path: &[u32],
-    owner: Owner<'_>,
+    memories: usize,
 ) -> Result<(), AllocError>
     ensures { OnOk result (map place_seen places.new.items ≡ map place_seen places.old.items
-        ++ first_places path.now 1 (length (all_numbers pre_number (owner_view owner.entry)))) }
+        ++ first_places path.now 1 memories) }
 {
-    let numbers = numbers_of(alloc, Kind::Pre, owner)?;
-    let Ok(count) = u32::try_from(numbers.len()) else {
+    let Ok(count) = u32::try_from(memories) else {
         return Err(AllocError);
     };
     if count == u32::MAX {
@@ -129,50 +124,22 @@ fn push_memories(
     push_firsts(alloc, places, path, count)
 }
 
-/// The places, and behind them none for the variables of a frame that have none, its beat left aside.
-fn push_others(
-    alloc: Global,
-    places: &mut Vec<Option<Place>>,
-    way: Way,
-    owner: Owner<'_>,
-) -> Result<(), AllocError>
-    ensures { OnOk result (map place_seen places.new.items ≡ map place_seen places.old.items
-        ++ no_places (length (all_numbers arrow_number (owner_view owner.entry))
-        + sofar_count way (not (is_none (owner_view owner.entry).contract)))) }
-{
-    let numbers = numbers_of(alloc, Kind::Arrow, owner)?;
-    push_none(places, other_count(way, numbers.len(), has_contract(owner)))
-}
-
-/// The places, and behind them those of the names of a declaration.
-fn push_streams(
-    alloc: Global,
-    places: &mut Vec<Option<Place>>,
-    path: &[u32],
-    owner: Owner<'_>,
-) -> Result<(), AllocError>
-    ensures { OnOk result (map place_seen places.new.items ≡ map place_seen places.old.items
-        ++ map (name_place path.now) (variables (owner_view owner.entry))) }
-{
-    let streams = streams_of(alloc, owner)?;
-    push_names(alloc, places, path, &streams)
-}
-
 /// The places, and behind them those of a frame itself, which runs so.
 fn push_own(
     alloc: Global,
     places: &mut Vec<Option<Place>>,
     way: Way,
     path: &[u32],
-    owner: Owner<'_>,
+    plan: &Plan<'_>,
 ) -> Result<(), AllocError>
     ensures { OnOk result (map place_seen places.new.items ≡ map place_seen places.old.items
-        ++ own_places way path.now (owner_view owner.entry)) }
+        ++ own_places way path.now (plan_view plan.now)) }
 {
     push_none(places, 1)?;
-    push_streams(alloc, places, path, owner)?;
-    push_memories(alloc, places, path, owner)?;
-    push_others(alloc, places, way, owner)
+    push_names(alloc, places, path, &plan.names.params)?;
+    push_memories(alloc, places, path, plan.memories)?;
+    push_none(places, plan.starts)?;
+    push_none(places, sofar_count(way, plan.contract))
 }
 
 /// The places, and behind them those of as many outputs of a call as there are defaults.
@@ -214,65 +181,76 @@ fn push_held(
 #[cycle(places)]
 fn push_frame(
     alloc: Global,
-    program: &Program,
+    tables: &Tables<'_>,
     depth: usize,
     places: &mut Vec<Option<Place>>,
     way: Way,
     path: &[u32],
-    owner: Owner<'_>,
+    plan: &Plan<'_>,
 ) -> Result<(), AllocError>
     ensures { OnOk result (map place_seen places.new.items ≡ map place_seen places.old.items
-        ++ places_within depth (program_view program.now) way path.now (owner_view owner.entry)) }
+        ++ places_within depth (map plan_view tables.now.plans.items) way path.now (plan_view plan.now)) }
 {
-    push_own(alloc, places, way, path, owner)?;
+    push_own(alloc, places, way, path, plan)?;
     if depth == 0 {
         return Ok(());
     }
-    let calls = calls_of(alloc, owner)?;
-    push_calls(alloc, program, depth - 1, places, path, &calls)
+    push_calls(alloc, tables, depth - 1, places, path, &plan.calls)
 }
 
 /// The places, and behind them those of what calls take, in the order of their numbers.
 #[cycle(places)]
 fn push_calls(
     alloc: Global,
-    program: &Program,
+    tables: &Tables<'_>,
     depth: usize,
     places: &mut Vec<Option<Place>>,
     path: &[u32],
     calls: &[Call<'_>],
 ) -> Result<(), AllocError>
     ensures { OnOk result (map place_seen places.new.items ≡ map place_seen places.old.items
-        ++ flat_map (call_places (places_within depth (program_view program.now)) (program_view program.now) path.now)
-        (map call_view calls.now)) }
+        ++ flat_map (named_places (places_within depth (map plan_view tables.now.plans.items))
+        (map plan_view tables.now.plans.items) path.now) (map call_view calls.now)) }
 {
     for call in calls {
-        push_call(alloc, program, depth, places, path, call)?;
+        push_call(alloc, tables, depth, places, path, call)?;
     }
     Ok(())
 }
 
-/// The places, and behind them those of what a call takes: what the caller holds of it, and the callee's frame. What
-/// isn't declared has a beat alone.
+/// The places, and behind them those of what a call takes: what the caller holds of it, and the callee's frame.
 #[cycle(places)]
 fn push_call(
     alloc: Global,
-    program: &Program,
+    tables: &Tables<'_>,
     depth: usize,
     places: &mut Vec<Option<Place>>,
     path: &[u32],
     call: &Call<'_>,
 ) -> Result<(), AllocError>
     ensures { OnOk result (map place_seen places.new.items ≡ map place_seen places.old.items
-        ++ call_places (places_within depth (program_view program.now)) (program_view program.now) path.now
-        (call_view call.now)) }
+        ++ named_places (places_within depth (map plan_view tables.now.plans.items))
+        (map plan_view tables.now.plans.items) path.now (call_view call.now)) }
 {
-    let Some(owner) = declared(program, &call.callee.text) else {
-        return push_none(places, 1);
-    };
+    let plan = plan_named(tables, &call.callee.text);
     let way = way_to(alloc, path, call.number)?;
-    push_held(alloc, places, &way, call, owner.outputs())?;
-    push_frame(alloc, program, depth, places, call.way, &way, owner)
+    push_held(alloc, places, &way, call, plan.outputs)?;
+    push_frame(alloc, tables, depth, places, call.way, &way, plan)
+}
+
+/// The places of a frame that no other stands in, and of those of its calls.
+fn frame_places(
+    alloc: Global,
+    tables: &Tables<'_>,
+    depth: usize,
+    plan: &Plan<'_>,
+) -> Result<Vec<Option<Place>>, AllocError>
+    ensures { IfOk result (λ v. map place_seen v.items
+        ≡ places_within depth (map plan_view tables.now.plans.items) Plain [] (plan_view plan.now)) }
+{
+    let mut places = Vec::new(alloc);
+    push_frame(alloc, tables, depth, &mut places, Way::Plain, &[], plan)?;
+    Ok(places)
 }
 
 /// The places that printed text has for the variables of the system of a declaration of a checked program, in their
@@ -288,10 +266,9 @@ fn places_of(
     ensures exact { IfOk result (λ v. map place_seen v.items
         ≡ map printed_slot (slots (instance_of (program_view program.now) (owner_view node.entry)))) }
 {
-    let mut places = Vec::new(alloc);
-    let depth = program.decls.len();
-    push_frame(alloc, program, depth, &mut places, Way::Plain, &[], node)?;
-    Ok(places)
+    let tables = tables_of(alloc, program)?;
+    let plan = plan_of(alloc, node)?;
+    frame_places(alloc, &tables, program.decls.len(), &plan)
 }
 
 /// The place that printed text has for the variable of that number of the system of a declaration of a checked program.

@@ -15,12 +15,21 @@ use lus_limits::{Call, Way};
 use lus_meaning::TraceLine;
 use lus_tree::Param;
 use std::alloc::{AllocError, Global};
+use sys_terms::State;
 
 /// The number of the first variable of the next frame, and the lines of those that were visited.
 #[derive(Drop)]
 pub(crate) struct Visit {
     pub(crate) next: usize,
     pub(crate) lines: Vec<TraceLine>,
+}
+
+/// Where a walk looks up what frames are of, and the states.
+#[derive(Clone, Copy)]
+pub(crate) struct Source<'a, 's> {
+    pub(crate) alloc: Global,
+    pub(crate) tables: &'s Tables<'a>,
+    pub(crate) states: &'s [State],
 }
 
 /// How many variables a frame has of its own, where it runs so.
@@ -41,7 +50,7 @@ fn held_count(call: &Call<'_>, plan: &Plan<'_>) -> usize
 {
     match call.way {
         Way::Plain | Way::Import => 0,
-        Way::Condition => plan.outputs.min(call.defaults),
+        Way::Condition => plan.outputs.len().min(call.defaults),
     }
 }
 
@@ -66,25 +75,25 @@ pub(crate) fn way_to(alloc: Global, path: &[u32], number: u32) -> Result<Vec<u32
 
 /// The lines, and behind them those of a frame itself, whose beat has the number `base`: these names, and first values.
 fn push_own(
-    tables: Tables<'_, '_>,
+    source: &Source<'_, '_>,
     lines: &mut Vec<TraceLine>,
     path: &[u32],
     base: usize,
     listed: &[&Param],
     plan: &Plan<'_>,
 ) -> Result<(), AllocError>
-    requires some { tables.states.now ≢ [] }
+    requires some { source.now.states.now ≢ [] }
     requires room { base + (suc (length (plan_view plan.now).names) + (plan_view plan.now).memories) < 2 ^ 32 }
     ensures { OnOk result (map bare_view lines.new.items ≡ map bare_view lines.old.items
-        ++ own_lines (states_view tables.entry.states.now) path.now base (params_view listed.now)
+        ++ own_lines (states_view source.now.states.now) path.now base (params_view listed.now)
         (plan_view plan.now)) }
 {
-    let states = tables.states;
-    push_names(lines, tables.alloc, path, &plan.names, base, states, listed)?;
+    let states = source.states;
+    push_names(lines, source.alloc, path, &plan.names, base, states, listed)?;
     let variable = base + 1 + plan.names.params.len();
     push_firsts(
         lines,
-        tables.alloc,
+        source.alloc,
         path,
         &states[0],
         variable,
@@ -96,7 +105,7 @@ fn push_own(
 /// `depth`.
 #[cycle(walk)]
 pub(crate) fn visit_frame(
-    tables: Tables<'_, '_>,
+    source: &Source<'_, '_>,
     depth: usize,
     visit: &mut Visit,
     way: Way,
@@ -104,48 +113,48 @@ pub(crate) fn visit_frame(
     listed: &[&Param],
     plan: &Plan<'_>,
 ) -> Result<(), AllocError>
-    requires some { tables.states.now ≢ [] }
+    requires some { source.now.states.now ≢ [] }
     requires room { visit.old.next
-        + (walk (states_view tables.states.now) (map plan_view tables.plans.now) depth).width way (plan_view plan.now)
+        + (walk (states_view source.now.states.now) (map plan_view source.now.tables.now.plans.items) depth).width way (plan_view plan.now)
         < 2 ^ 32 }
     ensures lines { OnOk result (map bare_view visit.new.lines.items ≡ map bare_view visit.old.lines.items
-        ++ (walk (states_view tables.entry.states.now) (map plan_view tables.entry.plans.now) depth).lines
+        ++ (walk (states_view source.now.states.now) (map plan_view source.now.tables.now.plans.items) depth).lines
         way path.now visit.old.next (params_view listed.now) (plan_view plan.now)) }
     ensures next { OnOk result (visit.new.next ≡ visit.old.next
-        + (walk (states_view tables.entry.states.now) (map plan_view tables.entry.plans.now) depth).width
+        + (walk (states_view source.now.states.now) (map plan_view source.now.tables.now.plans.items) depth).width
         way (plan_view plan.now)) }
 {
     let base = visit.next;
-    push_own(tables, &mut visit.lines, path, base, listed, plan)?;
+    push_own(source, &mut visit.lines, path, base, listed, plan)?;
     visit.next = base + own_width(way, plan);
     if depth == 0 {
         return Ok(());
     }
-    visit_calls(tables, depth - 1, visit, path, &plan.calls)
+    visit_calls(source, depth - 1, visit, path, &plan.calls)
 }
 
 /// Visits what calls take, in the order of their numbers.
 #[cycle(walk)]
 fn visit_calls(
-    tables: Tables<'_, '_>,
+    source: &Source<'_, '_>,
     depth: usize,
     visit: &mut Visit,
     path: &[u32],
     calls: &[Call<'_>],
 ) -> Result<(), AllocError>
-    requires some { tables.states.now ≢ [] }
+    requires some { source.now.states.now ≢ [] }
     requires room { visit.old.next
-        + calls_width (walk (states_view tables.states.now) (map plan_view tables.plans.now) depth)
-        (map plan_view tables.plans.now) (map call_view calls.now) < 2 ^ 32 }
+        + calls_width (walk (states_view source.now.states.now) (map plan_view source.now.tables.now.plans.items) depth)
+        (map plan_view source.now.tables.now.plans.items) (map call_view calls.now) < 2 ^ 32 }
     ensures lines { OnOk result (map bare_view visit.new.lines.items ≡ map bare_view visit.old.lines.items
-        ++ calls_lines (walk (states_view tables.entry.states.now) (map plan_view tables.entry.plans.now) depth)
-        (map plan_view tables.entry.plans.now) path.now visit.old.next (map call_view calls.now)) }
+        ++ calls_lines (walk (states_view source.now.states.now) (map plan_view source.now.tables.now.plans.items) depth)
+        (map plan_view source.now.tables.now.plans.items) path.now visit.old.next (map call_view calls.now)) }
     ensures next { OnOk result (visit.new.next ≡ visit.old.next
-        + calls_width (walk (states_view tables.entry.states.now) (map plan_view tables.entry.plans.now) depth)
-        (map plan_view tables.entry.plans.now) (map call_view calls.now)) }
+        + calls_width (walk (states_view source.now.states.now) (map plan_view source.now.tables.now.plans.items) depth)
+        (map plan_view source.now.tables.now.plans.items) (map call_view calls.now)) }
 {
     for call in calls {
-        visit_call(tables, depth, visit, path, call)?;
+        visit_call(source, depth, visit, path, call)?;
     }
     Ok(())
 }
@@ -153,29 +162,29 @@ fn visit_calls(
 /// Visits what a call takes: behind what the caller holds of it, the callee's frame.
 #[cycle(walk)]
 fn visit_call(
-    tables: Tables<'_, '_>,
+    source: &Source<'_, '_>,
     depth: usize,
     visit: &mut Visit,
     path: &[u32],
     call: &Call<'_>,
 ) -> Result<(), AllocError>
-    requires some { tables.states.now ≢ [] }
+    requires some { source.now.states.now ≢ [] }
     requires room { visit.old.next
-        + call_width (walk (states_view tables.states.now) (map plan_view tables.plans.now) depth)
-        (call_view call.now) (plan_named (map plan_view tables.plans.now) (call_view call.now).callee) < 2 ^ 32 }
+        + call_width (walk (states_view source.now.states.now) (map plan_view source.now.tables.now.plans.items) depth)
+        (call_view call.now) (plan_named (map plan_view source.now.tables.now.plans.items) (call_view call.now).callee) < 2 ^ 32 }
     ensures lines { OnOk result (map bare_view visit.new.lines.items ≡ map bare_view visit.old.lines.items
-        ++ call_line (walk (states_view tables.entry.states.now) (map plan_view tables.entry.plans.now) depth)
+        ++ call_line (walk (states_view source.now.states.now) (map plan_view source.now.tables.now.plans.items) depth)
         path.now visit.old.next (call_view call.now)
-        (plan_named (map plan_view tables.entry.plans.now) (call_view call.now).callee)) }
+        (plan_named (map plan_view source.now.tables.now.plans.items) (call_view call.now).callee)) }
     ensures next { OnOk result (visit.new.next ≡ visit.old.next
-        + call_width (walk (states_view tables.entry.states.now) (map plan_view tables.entry.plans.now) depth)
-        (call_view call.now) (plan_named (map plan_view tables.entry.plans.now) (call_view call.now).callee)) }
+        + call_width (walk (states_view source.now.states.now) (map plan_view source.now.tables.now.plans.items) depth)
+        (call_view call.now) (plan_named (map plan_view source.now.tables.now.plans.items) (call_view call.now).callee)) }
 {
-    let plan = plan_named(tables, &call.callee.text);
-    let way = way_to(tables.alloc, path, call.number)?;
+    let plan = plan_named(source.tables, &call.callee.text);
+    let way = way_to(source.alloc, path, call.number)?;
     visit.next += held_count(call, plan);
     visit_frame(
-        tables,
+        source,
         depth,
         visit,
         call.way,

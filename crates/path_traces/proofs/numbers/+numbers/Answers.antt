@@ -1,6 +1,6 @@
 use Rattle.std.proofs.Common.{rules, ◌≡◌, ℕ, List, ◌++◌}
 use Rattle.lus_tree.proofs.Views.{form_views}
-use Rattle.lus_tree.specs.Numbers.{an_arrow, if_same, numbers_among, own_number}
+use Rattle.lus_tree.specs.Numbers.{a_pre, an_arrow, if_same, numbers_among, own_number}
 use Rattle.lus_tree.specs.View.{expr_view, exprs_view, joined}
 use Rattle.path_traces.specs.Kinds.{kind_view, numbers_of}
 use Rattle.path_traces.proofs.Gathered.{condact_numbers, two_on, three_left, three_right}
@@ -46,3 +46,12 @@ push_numbers-returns-in_ok-push_numbers-in-Binary t c =
     let e : numbers_of c.args.kind (expr_view c.args.e.now) ≡ x ++ y = search (rules, form_views) in
     two_on c.push_numbers-in-Binary-2.result _ _ _ x y (numbers_of c.args.kind (expr_view c.args.e.now)) c.in_ok-push_numbers-in-Binary.ensures
     c.push_numbers-in-Binary-2.ensures e
+
+pub push_numbers-returns-in_ok-push_pre-in-Pre :
+    goal.push_numbers-returns-in_ok-push_pre-in-Pre
+push_numbers-returns-in_ok-push_pre-in-Pre t c =
+    let x : List ℕ = if_same (kind_view c.args.kind) a_pre c.in-Pre.number in
+    let y : List ℕ = numbers_of c.args.kind (expr_view c.deref.result.now) in
+    let e : numbers_of c.args.kind (expr_view c.args.e.now) ≡ x ++ y = search (rules, form_views) in
+    two_on c.push_numbers.result _ _ _ x y (numbers_of c.args.kind (expr_view c.args.e.now)) c.in_ok-push_pre-in-Pre.ensures
+    c.push_numbers.ensures e

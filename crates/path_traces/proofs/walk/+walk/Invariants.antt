@@ -18,11 +18,11 @@ decreases-visit_call l = 3 * l.depth + 1
 -- what is there, and what is to come, is all
 abbrev pub invariant-visit_calls-loop-call : goal.invariant-visit_calls-loop-call
 invariant-visit_calls-loop-call l =
-    (map bare_view l.visit.lines.items ++ calls_lines (walk (states_view l.tables.states.now) (map plan_view l.tables.plans.now) l.depth)
-    (map plan_view l.tables.plans.now) l.path l.visit.next (map call_view (drop l.call-index l.calls))
-    ≡ map bare_view l.initial.visit.lines.items ++ calls_lines (walk (states_view l.tables.states.now) (map plan_view l.tables.plans.now) l.depth)
-    (map plan_view l.tables.plans.now) l.path l.initial.visit.next (map call_view l.calls))
-    × (l.visit.next + calls_width (walk (states_view l.tables.states.now) (map plan_view l.tables.plans.now) l.depth)
-    (map plan_view l.tables.plans.now) (map call_view (drop l.call-index l.calls))
-    ≡ l.initial.visit.next + calls_width (walk (states_view l.tables.states.now) (map plan_view l.tables.plans.now) l.depth)
-    (map plan_view l.tables.plans.now) (map call_view l.calls))
+    (map bare_view l.visit.lines.items ++ calls_lines (walk (states_view l.source.states.now) (map plan_view l.source.tables.now.plans.items) l.depth)
+    (map plan_view l.source.tables.now.plans.items) l.path l.visit.next (map call_view (drop l.call-index l.calls))
+    ≡ map bare_view l.initial.visit.lines.items ++ calls_lines (walk (states_view l.source.states.now) (map plan_view l.source.tables.now.plans.items) l.depth)
+    (map plan_view l.source.tables.now.plans.items) l.path l.initial.visit.next (map call_view l.calls))
+    × (l.visit.next + calls_width (walk (states_view l.source.states.now) (map plan_view l.source.tables.now.plans.items) l.depth)
+    (map plan_view l.source.tables.now.plans.items) (map call_view (drop l.call-index l.calls))
+    ≡ l.initial.visit.next + calls_width (walk (states_view l.source.states.now) (map plan_view l.source.tables.now.plans.items) l.depth)
+    (map plan_view l.source.tables.now.plans.items) (map call_view l.calls))
