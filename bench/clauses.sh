@@ -5,12 +5,12 @@
 # those of a run that only builds it. Ends with status 1 where a doubling of n does not double them to
 # within 5 %.
 set -eu
-cd "$(dirname "$0")/../crates/term_rows"
-rt run -- 1000 make >/dev/null 2>&1
-program=out/term_rows
+cd "$(dirname "$0")/../crates/solver_cases"
+rt run -- clauses 1000 make >/dev/null 2>&1
+program=out/solver_cases
 
 instructions() {
-    valgrind --tool=callgrind --callgrind-out-file=/dev/null "$program" "$1" "$2" 2>&1 |
+    valgrind --tool=callgrind --callgrind-out-file=/dev/null "$program" clauses "$1" "$2" 2>&1 |
         sed -n 's/.*Collected : //p'
 }
 
