@@ -167,6 +167,43 @@ fn push_next(
     Ok(outside)
 }
 
+/// Nothing is brought to the slot that comes next.
+fn push_absent(values: &mut Vec<SlotValue>) -> Result<(), AllocError>
+    ensures { OnOk result (map slot_view values.new.items ≡ map slot_view values.old.items ++ absent ∷ []) }
+{
+    values.push(SlotValue::Absent)?;
+    Ok(())
+}
+
+/// The same as `push_next`. To most slots nothing is brought, since they are given their values at their instant.
+fn push_brought(
+    source: &Source,
+    row: &[SlotValue],
+    values: &mut Vec<SlotValue>,
+) -> Result<bool, AllocError>
+    ensures outside { IfOk result (λ b. b ≡ is_any (outside_next (slots_of (map slot_view row.now))
+        (source_view source.now))) }
+    ensures pushed { OnOk result (map slot_view values.new.items ≡ map slot_view values.old.items
+        ++ next_value (slots_of (map slot_view row.now)) (length values.old.items) (source_view source.now) ∷ []) }
+{
+    match source {
+        Source::Remembered(_, _) | Source::Starting(_) | Source::Held { .. } => {
+            push_next(source, row, values)
+        }
+        Source::Always
+        | Source::Runs(_)
+        | Source::RunsWhile(_, _)
+        | Source::Same(_)
+        | Source::Given(_, _)
+        | Source::Argument(_, _, _)
+        | Source::Listed(_)
+        | Source::Unread => {
+            push_absent(values)?;
+            Ok(false)
+        }
+    }
+}
+
 /// What a row brings to the next instant. It counts as outside where that does.
 fn next_values(
     alloc: Global,
@@ -179,7 +216,7 @@ fn next_values(
 {
     let mut values = Vec::with_capacity(alloc, sources.len())?;
     for source in sources {
-        let outside = push_next(source, &row.values, &mut values)?;
+        let outside = push_brought(source, &row.values, &mut values)?;
         row.outside |= outside;
     }
     Ok(values)
