@@ -1,6 +1,6 @@
 //! Filling the table.
 
-ghost use Rattle.std.specs.Prelude.{◌≡◌, ◌++◌, ◌∷◌, ◌||◌, [], false, length, map, suc, set, slice_get, IfOk, OnOk, Some, is_none, unwrap_or};
+ghost use Rattle.std.specs.Prelude.{◌≡◌, ◌+◌, ◌<◌, ◌++◌, ◌∷◌, ◌||◌, [], false, length, map, suc, set, slice_get, IfOk, OnOk, Some, is_none, unwrap_or, vec_capacity, vec_len};
 ghost use Rattle.lus_meaning.specs.Value.{absent};
 ghost use Rattle.slot_values.specs.Evaluated.{slot_view};
 ghost use Rattle.slot_values.specs.Outcome.{outcome_view};
@@ -150,41 +150,39 @@ fn first_values<C: Chosen>(
     Ok(values)
 }
 
-/// The value that a row brings to the next instant, of the slot that comes next; and whether an operation is outside
-/// 128 bits.
-fn push_next(
-    source: &Source,
-    row: &[SlotValue],
-    values: &mut Vec<SlotValue>,
-) -> Result<bool, AllocError>
-    ensures outside { IfOk result (λ b. b ≡ is_any (outside_next (slots_of (map slot_view row.now))
-        (source_view source.now))) }
-    ensures pushed { OnOk result (map slot_view values.new.items ≡ map slot_view values.old.items
-        ++ next_value (slots_of (map slot_view row.now)) (length values.old.items) (source_view source.now) ∷ []) }
+/// The value that a row brings to the next instant, of the slot that comes next. Whether an operation is outside 128
+/// bits.
+fn push_next(source: &Source, row: &[SlotValue], values: &mut Vec<SlotValue>) -> bool
+    requires room { vec_len values.old < vec_capacity values.old }
+    ensures outside { result ≡ is_any (outside_next (slots_of (map slot_view row.now)) (source_view source.now)) }
+    ensures pushed { map slot_view values.new.items ≡ map slot_view values.old.items
+        ++ next_value (slots_of (map slot_view row.now)) (length values.old.items) (source_view source.now) ∷ [] }
+    ensures len { vec_len values.new ≡ vec_len values.old + 1 }
+    ensures capacity { vec_capacity values.new ≡ vec_capacity values.old }
 {
     let (value, outside) = kept(value_next(source, row, values.len()));
-    values.push(value)?;
-    Ok(outside)
+    values.push_reserved(value);
+    outside
 }
 
 /// Nothing is brought to the slot that comes next.
-fn push_absent(values: &mut Vec<SlotValue>) -> Result<(), AllocError>
-    ensures { OnOk result (map slot_view values.new.items ≡ map slot_view values.old.items ++ absent ∷ []) }
+fn push_absent(values: &mut Vec<SlotValue>)
+    requires room { vec_len values.old < vec_capacity values.old }
+    ensures pushed { map slot_view values.new.items ≡ map slot_view values.old.items ++ absent ∷ [] }
+    ensures len { vec_len values.new ≡ vec_len values.old + 1 }
+    ensures capacity { vec_capacity values.new ≡ vec_capacity values.old }
 {
-    values.push(SlotValue::Absent)?;
-    Ok(())
+    values.push_reserved(SlotValue::Absent);
 }
 
 /// The same as `push_next`. To most slots nothing is brought, since they are given their values at their instant.
-fn push_brought(
-    source: &Source,
-    row: &[SlotValue],
-    values: &mut Vec<SlotValue>,
-) -> Result<bool, AllocError>
-    ensures outside { IfOk result (λ b. b ≡ is_any (outside_next (slots_of (map slot_view row.now))
-        (source_view source.now))) }
-    ensures pushed { OnOk result (map slot_view values.new.items ≡ map slot_view values.old.items
-        ++ next_value (slots_of (map slot_view row.now)) (length values.old.items) (source_view source.now) ∷ []) }
+fn push_brought(source: &Source, row: &[SlotValue], values: &mut Vec<SlotValue>) -> bool
+    requires room { vec_len values.old < vec_capacity values.old }
+    ensures outside { result ≡ is_any (outside_next (slots_of (map slot_view row.now)) (source_view source.now)) }
+    ensures pushed { map slot_view values.new.items ≡ map slot_view values.old.items
+        ++ next_value (slots_of (map slot_view row.now)) (length values.old.items) (source_view source.now) ∷ [] }
+    ensures len { vec_len values.new ≡ vec_len values.old + 1 }
+    ensures capacity { vec_capacity values.new ≡ vec_capacity values.old }
 {
     match source {
         Source::Remembered(_, _) | Source::Starting(_) | Source::Held { .. } => {
@@ -198,8 +196,8 @@ fn push_brought(
         | Source::Argument(_, _, _)
         | Source::Listed(_)
         | Source::Unread => {
-            push_absent(values)?;
-            Ok(false)
+            push_absent(values);
+            false
         }
     }
 }
@@ -216,7 +214,7 @@ fn next_values(
 {
     let mut values = Vec::with_capacity(alloc, sources.len())?;
     for source in sources {
-        let outside = push_brought(source, &row.values, &mut values)?;
+        let outside = push_brought(source, &row.values, &mut values);
         row.outside |= outside;
     }
     Ok(values)

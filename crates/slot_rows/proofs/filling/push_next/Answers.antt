@@ -19,5 +19,5 @@ returns-clause-pushed c =
     let n : c.len.result ≡ length old = omega (arith, c.len.ensures, c.args.values.now.ok.0) in
     let v = next_value_is (slot_view c.kept-value.result.0) (outcome_view c.value_next.result) row c.len.result e c.kept-value.ensures.value
     c.value_next.ensures in
-    rw c.in_ok-push.ensures.items (map_append slot_view old (c.kept-value.result.0 ∷ [])
+    rw c.push_reserved.ensures.items (map_append slot_view old (c.kept-value.result.0 ∷ [])
     ∙ ap (λ u. map slot_view old ++ u ∷ []) (v ∙ ap (λ k. next_value (slots_of (map slot_view row)) k e) n))
