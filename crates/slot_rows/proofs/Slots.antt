@@ -69,9 +69,15 @@ own_set [] k = refl
 own_set (v ∷ vs) zero = refl
 own_set (v ∷ vs) (suc k) = ap (λ ws. v ∷ ws) (own_set vs k)
 
-or_none : (b : Bool) → (b || false) ≡ b
+pub or_none : (b : Bool) → (b || false) ≡ b
 or_none true = refl
 or_none false = refl
+
+pub or_some : (b : Bool) → (b || true) ≡ true
+or_some true = refl
+or_some false = refl
+
+pub ruleset noted_outside = (or_none, or_some)
 
 unchanged : (vs : List Value) (b : Bool) (k : ℕ) → row_of vs b ≡ row_of (set vs k (slots_of vs k)) (b || false)
 unchanged vs b k = same_row _ _ _ _ (sym (own_set vs k)) (sym (or_none b))

@@ -63,6 +63,24 @@ fn write(values: &mut Vec<SlotValue>, slot: usize, value: SlotValue)
     }
 }
 
+/// Gives a slot what an expression comes to: no value where an operation is outside 128 bits, which is noted.
+#[tactic(auto, using(crate::proofs::Slots::noted_outside))]
+fn put(row: &mut Row, slot: usize, outcome: Outcome)
+    ensures values { map slot_view row.new.values.items
+        ≡ set (map slot_view row.old.values.items) slot (unwrap_or (outcome_view outcome) absent) }
+    ensures outside { row.new.outside ≡ (row.old.outside || is_none (outcome_view outcome)) }
+{
+    match outcome {
+        Outcome::Outside => {
+            write(&mut row.values, slot, SlotValue::Absent);
+            row.outside = true;
+        }
+        Outcome::Absent => write(&mut row.values, slot, SlotValue::Absent),
+        Outcome::Truth(b) => write(&mut row.values, slot, SlotValue::Truth(b)),
+        Outcome::Whole(n) => write(&mut row.values, slot, SlotValue::Whole(n)),
+    }
+}
+
 /// Whether a slot has what was brought to it.
 fn is_brought(source: &Source) -> bool
     ensures { result ≡ is_brought (source_view source.now) }
@@ -89,9 +107,8 @@ fn give_value<C: Chosen>(source: &Source, chosen: &C, instant: u32, row: &mut Ro
         return;
     }
     let brought = listed_or(source, chosen, instant, slot, slot_value(&row.values, slot));
-    let (value, outside) = kept(value_now(source, &row.values, brought));
-    write(&mut row.values, slot, value);
-    row.outside |= outside;
+    let outcome = value_now(source, &row.values, brought);
+    put(row, slot, outcome);
 }
 
 /// The same of the slot with that number, if there is one.

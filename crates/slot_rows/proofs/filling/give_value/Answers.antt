@@ -1,4 +1,5 @@
-use Rattle.std.proofs.Common.{rules, ◌||◌, map, set, ap, ◌∙◌}
+use Rattle.std.proofs.Common.{rules, ◌||◌, is_none, unwrap_or, map, set, refl, ap, ◌∙◌}
+use Rattle.lus_meaning.specs.Value.{absent}
 use Rattle.slot_values.specs.Outcome.{outcome_view}
 use Rattle.slot_sources.specs.Source.{source_view}
 use Rattle.slot_rows.proofs.Slots.{now_outside_is, now_value_is, same_row, stays}
@@ -10,13 +11,14 @@ returns g c =
     let vs = c.args.row.now.values.items in
     let e = source_view c.args.source.now in
     let brought = slot_view c.listed_or-brought.result in
-    let answer = rw c.deref-2.ensures.value at c.value_now.ensures in
+    let came = outcome_view c.value_now-outcome.result in
+    let answer = rw c.deref-2.ensures.value at c.value_now-outcome.ensures in
     let own = rw c.deref.ensures.value at c.slot_value.ensures in
-    let value = now_value_is (g.C.Chosen.choices c.args.chosen.now) c.args.instant c.args.slot (slot_view c.kept-value.result.0)
-    (outcome_view c.value_now.result) vs brought (slot_view c.slot_value.result) e c.kept-value.ensures.value answer
-    c.listed_or-brought.ensures own in
-    let outside = now_outside_is c.kept-value.result.1 (outcome_view c.value_now.result) vs brought e c.kept-value.ensures.outside answer in
-    same_row _ _ _ _ (c.write.ensures ∙ ap (set (map slot_view vs) c.args.slot) value) (ap (λ b. c.args.row.now.outside || b) outside)
+    let value = now_value_is (g.C.Chosen.choices c.args.chosen.now) c.args.instant c.args.slot (unwrap_or came absent) came vs brought
+    (slot_view c.slot_value.result) e refl answer c.listed_or-brought.ensures own in
+    let outside = now_outside_is (is_none came) came vs brought e refl answer in
+    same_row _ _ _ _ (c.put.ensures.values ∙ ap (set (map slot_view vs) c.args.slot) value)
+    (c.put.ensures.outside ∙ ap (λ b. c.args.row.now.outside || b) outside)
 
 pub returns-then-is_brought : goal.returns-then-is_brought
 returns-then-is_brought g c =
