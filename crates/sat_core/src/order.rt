@@ -197,16 +197,20 @@ impl Order {
         Ok(())
     }
 
-    /// Keeps the side of an entry that is undone, and lets its variable wait again.
-    fn undo(&mut self, literal: Literal) {
+    /// Keeps the literal's sign as the side of its variable.
+    fn turn_to(&mut self, literal: Literal) {
+        let (Literal::Flag(_, positive) | Literal::Atom(_, positive)) = literal;
         if let Some(variable) = self.slot(literal) {
-            let positive = match literal {
-                Literal::Flag(_, positive) => positive,
-                Literal::Atom(_, positive) => positive,
-            };
             if variable < self.phases.len() {
                 self.phases[variable] = positive;
             }
+        }
+    }
+
+    /// Keeps the side of an entry that is undone, and lets its variable wait again.
+    fn undo(&mut self, literal: Literal) {
+        self.turn_to(literal);
+        if let Some(variable) = self.slot(literal) {
             self.insert(variable);
         }
     }
@@ -252,6 +256,12 @@ impl Order {
                 self.rise(spot - 1);
             }
         }
+    }
+
+    /// Keeps the literal's sign as the side of its variable, and makes that more active.
+    pub fn prefer(&mut self, literal: Literal) {
+        self.turn_to(literal);
+        self.bump(literal);
     }
 
     /// Makes the variables of a conflict more active than those of the ones before it.

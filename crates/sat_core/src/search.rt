@@ -227,6 +227,14 @@ impl Search {
         self.watches.pair(clause)
     }
 
+    /// Lets the literal's variable be decided to its side next time, and sooner, as far as that is open. Nothing that is
+    /// known changes.
+    pub fn prefer(&mut self, literal: Literal)
+        ensures { self.new ≡ self.old }
+    {
+        self.order.prefer(literal);
+    }
+
     /// Adds a clause; the trail is cut at the first decision before which it would be false or unit.
     pub fn add(&mut self, alloc: Global, clause: &Clause) -> Result<(), SearchFault>
         ensures ok { OnOk result (Adds self.old self.new (clause_view clause.now)) }

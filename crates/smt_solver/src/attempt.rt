@@ -4,6 +4,7 @@ pub mod bounding;
 pub mod columns;
 pub mod cutting;
 pub mod definitions;
+pub mod equations;
 pub mod outcome;
 pub mod picking;
 pub mod plain;

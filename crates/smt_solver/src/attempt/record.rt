@@ -39,6 +39,37 @@ pub fn copy_last(alloc: Global, record: &mut Record) -> Result<(), SolveFault> {
     Ok(())
 }
 
+// The step that not all bounds stand of which these are multipliers with numbers of atoms.
+fn refutation(
+    alloc: Global,
+    search: &Search,
+    meanings: &[Meaning],
+    parts: &[(i128, u32)],
+) -> Result<Step, AllocError> {
+    if meanings.len() as u64 >= u32::MAX as u64 {
+        return Err(AllocError);
+    }
+    let used = uses(alloc, search, meanings, parts)?;
+    if used.len() as u64 >= u32::MAX as u64 {
+        return Err(AllocError);
+    }
+    conflict_step(alloc, &used)
+}
+
+/// The steps of these sums of bounds, each that not all of its bounds stand.
+pub fn refutations(
+    alloc: Global,
+    search: &Search,
+    meanings: &[Meaning],
+    sums: &[Vec<(i128, u32)>],
+) -> Result<Vec<Step>, AllocError> {
+    let mut steps = Vec::new(alloc);
+    for parts in sums {
+        steps.push(refutation(alloc, search, meanings, parts)?)?;
+    }
+    Ok(steps)
+}
+
 /// Adds the step that not all bounds stand of which these are multipliers with numbers of atoms.
 pub fn add_refutation(
     alloc: Global,
@@ -46,13 +77,6 @@ pub fn add_refutation(
     meanings: &[Meaning],
     parts: &[(i128, u32)],
 ) -> Result<(), SolveFault> {
-    if meanings.len() as u64 >= u32::MAX as u64 {
-        return Err(SolveFault::Memory(AllocError));
-    }
-    let used = uses(alloc, &record.search, meanings, parts)?;
-    if used.len() as u64 >= u32::MAX as u64 {
-        return Err(SolveFault::Memory(AllocError));
-    }
-    let step = conflict_step(alloc, &used)?;
+    let step = refutation(alloc, &record.search, meanings, parts)?;
     add(alloc, record, step)
 }

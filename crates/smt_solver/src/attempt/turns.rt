@@ -7,10 +7,12 @@ use crate::attempt::bounding::{assert_picked, push_own};
 use crate::attempt::columns::{Columns, columns_of};
 use crate::attempt::cutting::{add_cut, column_among, small_cut};
 use crate::attempt::definitions::{Definitions, definitions_of};
+use crate::attempt::equations::looking::{Solution, solution_of};
+use crate::attempt::equations::valuing::prefer;
 use crate::attempt::outcome::Attempt;
 use crate::attempt::picking::picked;
 use crate::attempt::plain::is_plain;
-use crate::attempt::record::{Record, add_all, add_refutation, copy_last};
+use crate::attempt::record::{Record, add_all, add_refutation, copy_last, refutations};
 use crate::attempt::splitting::add_split;
 use crate::fault::SolveFault;
 use crate::numbers::meanings::Meaning;
@@ -64,6 +66,15 @@ fn spend(left: &mut u64) -> bool {
         return false;
     }
     *left -= 1;
+    true
+}
+
+// Takes so many from what is left, if there are as many.
+fn spend_all(left: &mut u64, count: u64) -> bool {
+    if *left < count {
+        return false;
+    }
+    *left -= count;
     true
 }
 
@@ -205,6 +216,71 @@ fn refuted(
     Ok(None)
 }
 
+// Adds that the bounds of each of these sums don't all stand.
+fn refuted_by_all(
+    alloc: Global,
+    work: &mut Work,
+    sums: &[Vec<(i128, u32)>],
+) -> Result<Option<Ending>, SolveFault>
+    requires usable { work.old.tableau.usable ≡ true }
+    ensures usable { OnOk result (work.new.tableau.usable ≡ true) }
+{
+    if !spend_all(&mut work.conflicts, sums.len() as u64) {
+        return Ok(Some(Ending::GivesUp));
+    }
+    let steps = refutations(alloc, &work.record.search, &work.meanings, sums)?;
+    work.cuts = CUTS;
+    add_all(alloc, &mut work.record, steps)?;
+    Ok(None)
+}
+
+fn flag_or_number(search: &Search, values: &[i128], number: u32, shape: Shape) -> Entry {
+    match shape {
+        Shape::Flag => {
+            let truth = search.value(Literal::Flag(number, true));
+            Entry::Flag(truth == Some(true))
+        }
+        Shape::Number => match values.get(number as usize) {
+            Some(value) => Entry::Number(*value),
+            None => Entry::Number(0),
+        },
+    }
+}
+
+// The values of the query's variables, where those of its numbers are these.
+fn entries_of(
+    alloc: Global,
+    search: &Search,
+    values: &[i128],
+    shapes: &[Shape],
+) -> Result<Vec<Entry>, AllocError> {
+    let mut entries = Vec::new(alloc);
+    for number in 0..u32::MAX {
+        match shapes.get(number as usize) {
+            Some(shape) => entries.push(flag_or_number(search, values, number, *shape))?,
+            None => break,
+        }
+    }
+    Ok(entries)
+}
+
+// Asks the tableau whether its bounds can be met.
+fn checked(
+    alloc: Global,
+    subject: &Subject,
+    work: &mut Work,
+    pivots: u64,
+) -> Result<Option<Ending>, SolveFault>
+    requires usable { work.old.tableau.usable ≡ true }
+    ensures usable { IfOk result (λ r. IfNone r (work.new.tableau.usable ≡ true)) }
+{
+    match work.tableau.check(alloc, pivots)? {
+        Checkup::Fits => at_fit(alloc, subject, work),
+        Checkup::Refuted(farkas) => refuted(alloc, work, &farkas.parts),
+        Checkup::Pivots(_) | Checkup::Past(_) => Ok(Some(Ending::GivesUp)),
+    }
+}
+
 // Checks the bounds that matter.
 fn at_full(
     alloc: Global,
@@ -236,10 +312,17 @@ fn at_full(
         let parts = vec![in alloc; (1, first), (1, second)]?;
         return refuted(alloc, work, &parts);
     }
-    match work.tableau.check(alloc, pivots)? {
-        Checkup::Fits => at_fit(alloc, subject, work),
-        Checkup::Refuted(farkas) => refuted(alloc, work, &farkas.parts),
-        Checkup::Pivots(_) | Checkup::Past(_) => Ok(Some(Ending::GivesUp)),
+    match solution_of(alloc, &work.tableau, &work.sums, &work.meanings, &numbers)? {
+        Solution::Open => checked(alloc, subject, work, pivots),
+        Solution::Refuted(sums, values) => {
+            let end = refuted_by_all(alloc, work, &sums)?;
+            prefer(&mut work.record.search, &subject.cnf.atoms, &values);
+            Ok(end)
+        }
+        Solution::Met(values) => {
+            let values = entries_of(alloc, &work.record.search, &values, subject.shapes)?;
+            Ok(Some(Ending::Finds(values)))
+        }
     }
 }
 

@@ -1,0 +1,30 @@
+//! Why equations are left to the tableau.
+
+use kind_num::Past;
+use std::alloc::{AllocError, AllocFailed};
+
+/// Why a sum is left as it is.
+#[derive(Clone, Copy)]
+pub enum Halt {
+    /// It has too many terms, or numbers outside 128 bits.
+    Wide,
+    Memory(AllocError),
+}
+
+impl From<AllocError> for Halt {
+    fn from(error: AllocError) -> Halt {
+        Halt::Memory(error)
+    }
+}
+
+impl<T: Drop> From<AllocFailed<T>> for Halt {
+    fn from(_error: AllocFailed<T>) -> Halt {
+        Halt::Memory(AllocError)
+    }
+}
+
+impl From<Past> for Halt {
+    fn from(_past: Past) -> Halt {
+        Halt::Wide
+    }
+}
