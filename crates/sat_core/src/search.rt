@@ -227,8 +227,8 @@ impl Search {
         self.watches.pair(clause)
     }
 
-    /// Lets the literal's variable be decided to its side next time, and sooner, as far as that is open. Nothing that is
-    /// known changes.
+    /// Lets the literal's variable be decided to its side next time, and sooner, as far as that is open. Nothing that
+    /// is known changes.
     pub fn prefer(&mut self, literal: Literal)
         ensures { self.new ≡ self.old }
     {
