@@ -54,7 +54,7 @@ const CLOCKS: [&str; 10] = [
 const ORDERS: [&str; 3] = ["lefts", "circles", "orders"];
 
 /// The sources that stand in a file each.
-const FILES: [&str; 16] = [
+const FILES: [&str; 20] = [
     "declarations_500",
     "declarations_501",
     "declarations_mixed",
@@ -68,6 +68,10 @@ const FILES: [&str; 16] = [
     "modes_30",
     "levels_3600",
     "levels_4950",
+    "levels_4000",
+    "levels_4001",
+    "parts_1000000",
+    "parts_1000001",
     "owed_500",
     "owed_501",
     "names_before_variables",

@@ -4,7 +4,7 @@ use anyhow::Result;
 use board_core::{Book, Fact, Kept};
 use cert_rules::Cited;
 use std::alloc::Global;
-use sys_terms::Obligation;
+use sys_terms::{Entry, Obligation, State};
 
 /// The places of the cited lemmas.
 fn cites_text(alloc: Global, cites: &[Cited]) -> Result<String> {
@@ -53,6 +53,28 @@ pub fn entries_text(alloc: Global, book: &Book) -> Result<String> {
         text = format!(in alloc; "{text}; {place} {entry}")?;
     }
     Ok(text)
+}
+
+/// The first number of each of these states.
+fn numbers_text(alloc: Global, path: &[State]) -> Result<String> {
+    let mut text = String::new(alloc);
+    for state in path {
+        if let Some(Entry::Number(number)) = state.values.first() {
+            text = format!(in alloc; "{text} {number}")?;
+        }
+    }
+    Ok(text)
+}
+
+/// The first number of each state that the first stuck entry keeps.
+pub fn states_text(alloc: Global, book: &Book) -> Result<String> {
+    for place in 0..book.count() {
+        if let Fact::Stuck(_, path, _) = book.entry(place) {
+            let numbers = numbers_text(alloc, path)?;
+            return Ok(format!(in alloc; "; kept:{numbers}")?);
+        }
+    }
+    Ok(format!(in alloc; "; NOTHING KEPT")?)
 }
 
 /// The query that is kept.

@@ -4,7 +4,7 @@ ghost use Rattle.sys_terms.specs.View.{system_view};
 ghost use Rattle.board_core.specs.Plans.{IsPlan};
 ghost use Rattle.engine_cases.specs.Playable.{IsPlayable};
 
-use crate::entries::{asked_text, entries_text};
+use crate::entries::{asked_text, entries_text, states_text};
 use crate::ready::{is_playable, plan};
 use crate::rows::{Case, Order};
 use crate::sleeper::Sleeper;
@@ -110,6 +110,8 @@ pub enum Cast {
     Bounded,
     Step,
     Both,
+    /// Both, of whose book is told which states are kept.
+    Shown,
     Taught,
 }
 
@@ -117,7 +119,7 @@ fn cast_name(cast: Cast) -> &'static str {
     match cast {
         Cast::Bounded => "bounded search",
         Cast::Step => "induction",
-        Cast::Both => "both",
+        Cast::Both | Cast::Shown => "both",
         Cast::Taught => "taught induction",
     }
 }
@@ -193,15 +195,16 @@ fn played(alloc: Global, cast: Cast, named: &Named, plan: Plan, order: &[u32]) -
     match cast {
         Cast::Bounded => bounded_alone(alloc, system, plan, order),
         Cast::Step => step_alone(alloc, system, plan, order),
-        Cast::Both => both(alloc, system, plan, order),
+        Cast::Both | Cast::Shown => both(alloc, system, plan, order),
         Cast::Taught => taught(alloc, lemma_for(alloc, named)?, system, plan, order),
     }
 }
 
-/// The entries of a taught play, and nothing of another.
+/// The entries of a taught play, the states that are kept in one that is shown, and nothing of another.
 fn told(alloc: Global, cast: Cast, book: &Book) -> Result<String> {
     match cast {
         Cast::Taught => entries_text(alloc, book),
+        Cast::Shown => states_text(alloc, book),
         Cast::Bounded | Cast::Step | Cast::Both => Ok(String::new(alloc)),
     }
 }

@@ -62,7 +62,8 @@ fn cast_of(word: &str) -> Result<Cast> {
     Ok(match word.as_bytes() {
         [b'b', b'o', b'u', ..] => Cast::Bounded,
         [b'b', b'o', b't', ..] => Cast::Both,
-        [b's', ..] => Cast::Step,
+        [b's', b't', ..] => Cast::Step,
+        [b's', b'h', ..] => Cast::Shown,
         [b't', ..] => Cast::Taught,
         _ => bail!("nobody has that name"),
     })
