@@ -1,11 +1,10 @@
 -- The theory step of a cut in the words of the code that makes it.
 use Rattle.std.specs.Prelude.{ℕ, suc, true, List, [], ◌∷◌, ◌++◌, length, map}
 use lib.IntN.{ℤ, pos}
-use Rattle.proof_steps.specs.declared.Literal.{Literal}
 use Rattle.proof_steps.specs.declared.Literal.TheVariants.{Atom}
 use Rattle.proof_steps.specs.declared.Source.{Source}
 use Rattle.proof_steps.specs.declared.Source.TheVariants as s
-use Rattle.proof_steps.specs.View.{Inequality, Move, Sum, theory}
+use Rattle.proof_steps.specs.View.{Move, Sum, theory}
 use Rattle.sat_core.specs.declared.assigned.Assigned.{Assigned}
 use Rattle.smt_solver.specs.declared.numbers.meanings.Meaning.{Meaning}
 use Rattle.smt_solver.specs.declared.numbers.steps.Used.{Used}

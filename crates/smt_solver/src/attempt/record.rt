@@ -39,19 +39,24 @@ pub fn copy_last(alloc: Global, record: &mut Record) -> Result<(), SolveFault> {
     Ok(())
 }
 
-// The step that not all bounds stand of which these are multipliers with numbers of atoms.
+// The step that not all bounds stand of which these are multipliers with numbers of atoms; or not all of these, but with
+// the first one's opposite.
 fn refutation(
     alloc: Global,
     search: &Search,
     meanings: &[Meaning],
     parts: &[(i128, u32)],
+    is_opposite: bool,
 ) -> Result<Step, AllocError> {
     if meanings.len() as u64 >= u32::MAX as u64 {
         return Err(AllocError);
     }
-    let used = uses(alloc, search, meanings, parts)?;
+    let mut used = uses(alloc, search, meanings, parts)?;
     if used.len() as u64 >= u32::MAX as u64 {
         return Err(AllocError);
+    }
+    if let Some(first) = used.get_mut(0) {
+        first.sign = first.sign != is_opposite;
     }
     conflict_step(alloc, &used)
 }
@@ -65,9 +70,23 @@ pub fn refutations(
 ) -> Result<Vec<Step>, AllocError> {
     let mut steps = Vec::new(alloc);
     for parts in sums {
-        steps.push(refutation(alloc, search, meanings, parts)?)?;
+        steps.push(refutation(alloc, search, meanings, parts, false)?)?;
     }
     Ok(steps)
+}
+
+/// The steps, and behind them those of these sums, each that its first bound stands where all others do.
+pub fn push_decided(
+    alloc: Global,
+    steps: &mut Vec<Step>,
+    search: &Search,
+    meanings: &[Meaning],
+    sums: &[Vec<(i128, u32)>],
+) -> Result<(), AllocError> {
+    for parts in sums {
+        steps.push(refutation(alloc, search, meanings, parts, true)?)?;
+    }
+    Ok(())
 }
 
 /// Adds the step that not all bounds stand of which these are multipliers with numbers of atoms.
@@ -77,6 +96,6 @@ pub fn add_refutation(
     meanings: &[Meaning],
     parts: &[(i128, u32)],
 ) -> Result<(), SolveFault> {
-    let step = refutation(alloc, &record.search, meanings, parts)?;
+    let step = refutation(alloc, &record.search, meanings, parts, false)?;
     add(alloc, record, step)
 }

@@ -7,12 +7,14 @@ use crate::attempt::bounding::{assert_picked, push_own};
 use crate::attempt::columns::{Columns, columns_of};
 use crate::attempt::cutting::{add_cut, column_among, small_cut};
 use crate::attempt::definitions::{Definitions, definitions_of};
-use crate::attempt::equations::looking::{Solution, solution_of};
+use crate::attempt::equations::looking::{Refutations, Solution, solution_of};
 use crate::attempt::equations::valuing::prefer;
 use crate::attempt::outcome::Attempt;
 use crate::attempt::picking::picked;
 use crate::attempt::plain::is_plain;
-use crate::attempt::record::{Record, add_all, add_refutation, copy_last, refutations};
+use crate::attempt::record::{
+    Record, add_all, add_refutation, copy_last, push_decided, refutations,
+};
 use crate::attempt::splitting::add_split;
 use crate::fault::SolveFault;
 use crate::numbers::meanings::Meaning;
@@ -69,44 +71,52 @@ fn spend(left: &mut u64) -> bool {
     true
 }
 
-// Takes so many from what is left, if there are as many.
-fn spend_all(left: &mut u64, count: u64) -> bool {
-    if *left < count {
-        return false;
-    }
-    *left -= count;
-    true
+// Takes so many from what is left, or all of it, and gives how many.
+fn spend_some(left: &mut u64, count: usize) -> usize {
+    let some = u64::min(*left, count as u64);
+    *left -= some;
+    some as usize
 }
 
-fn entry(search: &Search, tableau: &Tableau, number: u32, shape: Shape) -> Entry
+// The whole parts of the values of the first columns.
+fn values_of(alloc: Global, tableau: &Tableau, count: usize) -> Result<Vec<i128>, AllocError>
     requires usable { tableau.now.usable ≡ true }
 {
+    let mut values = Vec::new(alloc);
+    for number in 0..tableau.columns() {
+        if number as usize >= count {
+            break;
+        }
+        let (top, _) = tableau.value(number);
+        values.push(top)?;
+    }
+    Ok(values)
+}
+
+fn entry(search: &Search, values: &[i128], number: u32, shape: Shape) -> Entry {
     match shape {
         Shape::Flag => {
             let truth = search.value(Literal::Flag(number, true));
             Entry::Flag(truth == Some(true))
         }
-        Shape::Number if number < tableau.columns() => {
-            let (top, _) = tableau.value(number);
-            Entry::Number(top)
-        }
-        Shape::Number => Entry::Number(0),
+        Shape::Number => match values.get(number as usize) {
+            Some(value) => Entry::Number(*value),
+            None => Entry::Number(0),
+        },
     }
 }
 
-// The values of the query's variables.
+// The values of the query's variables, where those of its numbers are these.
 fn entries(
     alloc: Global,
     search: &Search,
-    tableau: &Tableau,
+    values: &[i128],
     shapes: &[Shape],
-) -> Result<Vec<Entry>, AllocError>
-    requires usable { tableau.now.usable ≡ true }
-{
+) -> Result<Vec<Entry>, AllocError> {
     let mut entries = Vec::new(alloc);
     for number in 0..u32::MAX {
         match shapes.get(number as usize) {
-            Some(shape) => entries.push(entry(search, tableau, number, *shape))?,
+            Some(shape) => entries.push(entry(search, values, number, *shape))?,
             None => break,
         }
     }
@@ -177,8 +187,8 @@ fn at_fit(alloc: Global, subject: &Subject, work: &mut Work) -> Result<Option<En
     let (x, c) = match split_of(&work.tableau) {
         Some(split) => split,
         None => {
-            let search = &work.record.search;
-            let values = entries(alloc, search, &work.tableau, subject.shapes)?;
+            let values = values_of(alloc, &work.tableau, subject.shapes.len())?;
+            let values = entries(alloc, &work.record.search, &values, subject.shapes)?;
             return Ok(Some(Ending::Finds(values)));
         }
     };
@@ -216,52 +226,32 @@ fn refuted(
     Ok(None)
 }
 
-// Adds that the bounds of each of these sums don't all stand.
+// Adds that the bounds of each of these sums don't all stand, of as many as conflicts are left, and what others decide.
 fn refuted_by_all(
     alloc: Global,
     work: &mut Work,
-    sums: &[Vec<(i128, u32)>],
+    mut sums: Vec<Vec<(i128, u32)>>,
+    decided: &[Vec<(i128, u32)>],
 ) -> Result<Option<Ending>, SolveFault>
     requires usable { work.old.tableau.usable ≡ true }
     ensures usable { OnOk result (work.new.tableau.usable ≡ true) }
 {
-    if !spend_all(&mut work.conflicts, sums.len() as u64) {
+    let some = spend_some(&mut work.conflicts, sums.len());
+    if some == 0 {
         return Ok(Some(Ending::GivesUp));
     }
-    let steps = refutations(alloc, &work.record.search, &work.meanings, sums)?;
+    sums.truncate(some);
+    let mut steps = refutations(alloc, &work.record.search, &work.meanings, &sums)?;
+    push_decided(
+        alloc,
+        &mut steps,
+        &work.record.search,
+        &work.meanings,
+        decided,
+    )?;
     work.cuts = CUTS;
     add_all(alloc, &mut work.record, steps)?;
     Ok(None)
-}
-
-fn flag_or_number(search: &Search, values: &[i128], number: u32, shape: Shape) -> Entry {
-    match shape {
-        Shape::Flag => {
-            let truth = search.value(Literal::Flag(number, true));
-            Entry::Flag(truth == Some(true))
-        }
-        Shape::Number => match values.get(number as usize) {
-            Some(value) => Entry::Number(*value),
-            None => Entry::Number(0),
-        },
-    }
-}
-
-// The values of the query's variables, where those of its numbers are these.
-fn entries_of(
-    alloc: Global,
-    search: &Search,
-    values: &[i128],
-    shapes: &[Shape],
-) -> Result<Vec<Entry>, AllocError> {
-    let mut entries = Vec::new(alloc);
-    for number in 0..u32::MAX {
-        match shapes.get(number as usize) {
-            Some(shape) => entries.push(flag_or_number(search, values, number, *shape))?,
-            None => break,
-        }
-    }
-    Ok(entries)
 }
 
 // Asks the tableau whether its bounds can be met.
@@ -314,13 +304,20 @@ fn at_full(
     }
     match solution_of(alloc, &work.tableau, &work.sums, &work.meanings, &numbers)? {
         Solution::Open => checked(alloc, subject, work, pivots),
-        Solution::Refuted(sums, values) => {
-            let end = refuted_by_all(alloc, work, &sums)?;
-            prefer(&mut work.record.search, &subject.cnf.atoms, &values);
+        Solution::Refuted(found) => {
+            let Refutations {
+                sums,
+                decided,
+                values,
+            } = found;
+            let end = refuted_by_all(alloc, work, sums, &decided)?;
+            if let Some(values) = values {
+                prefer(&mut work.record.search, &subject.cnf.atoms, &values);
+            }
             Ok(end)
         }
         Solution::Met(values) => {
-            let values = entries_of(alloc, &work.record.search, &values, subject.shapes)?;
+            let values = entries(alloc, &work.record.search, &values, subject.shapes)?;
             Ok(Some(Ending::Finds(values)))
         }
     }

@@ -26,9 +26,10 @@ fn take_uses(weights: &mut Vec<i128>, uses: &[(usize, i128)], factor: i128) -> R
     Ok(())
 }
 
-fn add_side(refutation: &mut Refutation, side: &Side) -> Result<(), Halt> {
+// Adds the side's bound, or its opposite.
+fn add_side(refutation: &mut Refutation, side: &Side, is_opposite: bool) -> Result<(), Halt> {
     refutation.parts.push((1, side.atom))?;
-    let factor = if side.is_upper { 1 } else { -1 };
+    let factor = if side.is_upper != is_opposite { 1 } else { -1 };
     take_uses(&mut refutation.weights, &side.reduced.uses, factor)
 }
 
@@ -93,8 +94,15 @@ fn add_definitions(
     Ok(())
 }
 
-/// The multipliers, with numbers of atoms, of bounds whose sum is false: of these, and of the columns by which variables
-/// are defined.
+fn nothing(alloc: Global, table: &Table) -> Result<Refutation, Halt> {
+    Ok(Refutation {
+        weights: vec![in alloc; 0; table.definitions.len()]?,
+        parts: Vec::new(alloc),
+    })
+}
+
+/// The multipliers, with numbers of atoms, of bounds whose sum is false: of these, and of the columns by which
+/// variables are defined.
 pub fn explained(
     alloc: Global,
     tableau: &Tableau,
@@ -104,14 +112,26 @@ pub fn explained(
 ) -> Result<Vec<(i128, u32)>, Halt>
     requires { tableau.now.usable ≡ true }
 {
-    let mut refutation = Refutation {
-        weights: vec![in alloc; 0; table.definitions.len()]?,
-        parts: Vec::new(alloc),
-    };
-    add_side(&mut refutation, first)?;
+    let mut refutation = nothing(alloc, table)?;
+    add_side(&mut refutation, first, false)?;
     if let Some(second) = second {
-        add_side(&mut refutation, second)?;
+        add_side(&mut refutation, second, false)?;
     }
+    add_definitions(&mut refutation, tableau, table)?;
+    Ok(refutation.parts)
+}
+
+/// The same of the opposite of a bound that is met whatever the variables are.
+pub fn decided(
+    alloc: Global,
+    tableau: &Tableau,
+    table: &Table,
+    side: &Side,
+) -> Result<Vec<(i128, u32)>, Halt>
+    requires { tableau.now.usable ≡ true }
+{
+    let mut refutation = nothing(alloc, table)?;
+    add_side(&mut refutation, side, true)?;
     add_definitions(&mut refutation, tableau, table)?;
     Ok(refutation.parts)
 }

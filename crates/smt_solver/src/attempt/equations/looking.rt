@@ -2,7 +2,7 @@
 
 ghost use Rattle.std.specs.Prelude.{◌≡◌, true};
 
-use crate::attempt::equations::explaining::explained;
+use crate::attempt::equations::explaining::{decided, explained};
 use crate::attempt::equations::halt::Halt;
 use crate::attempt::equations::sides::{Ends, Reach, Side, reach_of, side_of, with_end};
 use crate::attempt::equations::table::{Table, reduce, take_equation};
@@ -16,22 +16,37 @@ use std::alloc::{AllocError, Global};
 // So many refutations are looked for at most.
 const MOST: usize = 16;
 
+// Fewer bounds than these are not told that stand whatever the variables are.
+const FEWEST: usize = 4;
+
 /// What the bounds come to.
 #[derive(Drop)]
 pub enum Solution {
     /// That takes more than equations.
     Open,
-    /// Each of these sums of bounds, multipliers with numbers of atoms, is false; and values of the variables by which
-    /// most bounds are met, if there are any within 128 bits.
-    Refuted(Vec<Vec<(i128, u32)>>, Vec<i128>),
+    /// Not all of them can be met.
+    Refuted(Refutations),
     /// Values of the variables by which all are met.
     Met(Vec<i128>),
+}
+
+/// What refutes the bounds, and what is found besides.
+#[derive(Drop)]
+pub struct Refutations {
+    /// Sums of bounds, multipliers with numbers of atoms, each of which is false.
+    pub sums: Vec<Vec<(i128, u32)>>,
+    /// Such sums in which the first bound counts as its opposite: the others decide that it stands.
+    pub decided: Vec<Vec<(i128, u32)>>,
+    /// Values of the variables by which most bounds are met, if there are any within 128 bits.
+    pub values: Option<Vec<i128>>,
 }
 
 /// What is found so far.
 #[derive(Drop)]
 struct Findings {
     sides: Vec<Side>,
+    /// The places of those over one variable that are met whatever the others are.
+    met: Vec<usize>,
     ends: Vec<Ends>,
     refutations: Vec<Vec<(i128, u32)>>,
     is_open: bool,
@@ -205,6 +220,10 @@ fn look_at_bound(
     let place = findings.sides.len();
     findings.sides.push(side)?;
     match reach {
+        Reach::Met if (column as usize) < sums.shapes.len() => {
+            findings.met.push(place)?;
+            Ok(())
+        }
         Reach::Met => Ok(()),
         Reach::Missed => note_refutation(alloc, tableau, table, findings, place, None),
         Reach::Ends(variable, is_upper, limit) => narrow(
@@ -264,25 +283,65 @@ fn look_at_all(
     Ok(())
 }
 
+// Why the bounds at these places stand. A few are found as fast by further refutations.
+fn all_decided(
+    alloc: Global,
+    tableau: &Tableau,
+    table: &Table,
+    sides: &[Side],
+    met: &[usize],
+) -> Result<Vec<Vec<(i128, u32)>>, AllocError>
+    requires { tableau.now.usable ≡ true }
+{
+    let mut sums = Vec::new(alloc);
+    if met.len() < FEWEST {
+        return Ok(sums);
+    }
+    for place in met {
+        if let Some(side) = sides.get(*place) {
+            match decided(alloc, tableau, table, side) {
+                Ok(parts) => sums.push(parts)?,
+                Err(Halt::Wide) => {}
+                Err(Halt::Memory(error)) => return Err(error),
+            }
+        }
+    }
+    Ok(sums)
+}
+
+// What was found, of bounds that can't all be met.
+fn refuted(
+    alloc: Global,
+    tableau: &Tableau,
+    table: &Table,
+    findings: Findings,
+) -> Result<Refutations, Halt>
+    requires { tableau.now.usable ≡ true }
+{
+    Ok(Refutations {
+        decided: all_decided(alloc, tableau, table, &findings.sides, &findings.met)?,
+        sums: findings.refutations,
+        values: values(alloc, table, &findings.ends).ok(),
+    })
+}
+
 // What was found.
-fn concluded(alloc: Global, table: &Table, findings: Findings) -> Result<Solution, Halt> {
-    let Findings {
-        sides: _sides,
-        ends,
-        refutations,
-        is_open,
-    } = findings;
-    if refutations.is_empty() && is_open {
+fn concluded(
+    alloc: Global,
+    tableau: &Tableau,
+    table: &Table,
+    findings: Findings,
+) -> Result<Solution, Halt>
+    requires { tableau.now.usable ≡ true }
+{
+    if !findings.refutations.is_empty() {
+        let found = refuted(alloc, tableau, table, findings)?;
+        return Ok(Solution::Refuted(found));
+    }
+    if findings.is_open {
         return Ok(Solution::Open);
     }
-    let values = values(alloc, table, &ends);
-    if refutations.is_empty() {
-        return Ok(Solution::Met(values?));
-    }
-    match values {
-        Ok(values) => Ok(Solution::Refuted(refutations, values)),
-        Err(_) => Ok(Solution::Refuted(refutations, Vec::new(alloc))),
-    }
+    Ok(Solution::Met(values(alloc, table, &findings.ends)?))
 }
 
 fn look(
@@ -304,12 +363,13 @@ fn look(
     };
     let mut findings = Findings {
         sides: Vec::new(alloc),
+        met: Vec::new(alloc),
         ends: vec![in alloc; none; variables]?,
         refutations: Vec::new(alloc),
         is_open: false,
     };
     look_at_all(alloc, tableau, sums, &table, &mut findings, &others)?;
-    concluded(alloc, &table, findings)
+    concluded(alloc, tableau, &table, findings)
 }
 
 /// What the bounds of the tableau come to by equations alone, which are those that the numbered atoms mean.
