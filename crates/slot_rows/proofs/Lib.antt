@@ -1,4 +1,5 @@
 pub mod Slots
+pub mod Given
 pub mod Dependence
 pub mod Filled
 pub mod RowAt

@@ -2,8 +2,10 @@
 //! these values, instant after instant.
 #![tactic(auto)]
 
+mod bringing;
 mod chosen;
 mod filling;
+mod giving;
 pub mod laws;
 mod ordering;
 mod reads;

@@ -1,5 +1,5 @@
 use Rattle.std.proofs.lemmas.List.{map-set}
-use Rattle.slot_rows.proofs.filling.write.Goals as goal
+use Rattle.slot_rows.proofs.giving.write.Goals as goal
 use Rattle.slot_values.specs.Evaluated.{slot_view}
 
 pub returns-then-slot-len : goal.returns-then-slot-len

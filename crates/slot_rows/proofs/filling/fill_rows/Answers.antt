@@ -2,7 +2,7 @@ use Rattle.std.proofs.Common.{◌≡◌, map, subst, arith}
 use Rattle.slot_sources.specs.Source.{source_view}
 use Rattle.slot_rows.specs.Table.{row_view, rows}
 use Rattle.slot_rows.proofs.RowAt.{brought_more, rows_more}
-use Rattle.slot_rows.proofs.filling.fill.Goals as goal
+use Rattle.slot_rows.proofs.filling.fill_rows.Goals as goal
 use Rattle.slot_values.specs.Evaluated.{slot_view}
 
 pub loop-instant-preserved : goal.loop-instant-preserved

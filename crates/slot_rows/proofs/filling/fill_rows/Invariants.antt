@@ -1,7 +1,7 @@
 use Rattle.std.proofs.Common.{◌≡◌, map}
 use Rattle.slot_sources.specs.Source.{source_view}
 use Rattle.slot_rows.specs.Table.{brought_to, row_view, rows}
-use Rattle.slot_rows.proofs.filling.fill.Given as goal
+use Rattle.slot_rows.proofs.filling.fill_rows.Given as goal
 use Rattle.slot_values.specs.Evaluated.{slot_view}
 
 abbrev pub invariant-loop-instant : goal.invariant-loop-instant
