@@ -48,7 +48,15 @@ fn outcome_where(on: bool, value: SlotValue) -> Outcome
 fn slot_outcome(on: bool, row: &[SlotValue], slot: u32) -> Outcome
     ensures { outcome_view result ≡ Some (only_where on (slots_in row.now slot)) }
 {
-    outcome_where(on, slot_value(row, slot))
+    if on && (slot as usize) < row.len() {
+        match &row[slot as usize] {
+            SlotValue::Truth(b) => Outcome::Truth(*b),
+            SlotValue::Whole(n) => Outcome::Whole(*n),
+            SlotValue::Absent => Outcome::Absent,
+        }
+    } else {
+        Outcome::Absent
+    }
 }
 
 /// The value of what is held, unless the condition of its call has an operation outside 128 bits.
@@ -92,7 +100,11 @@ pub(crate) fn quick(e: &Resolved, on: bool, row: &[SlotValue]) -> Outcome
         | Resolved::Arrow(_, _, _)
         | Resolved::When(_, _, _)
         | Resolved::Merge(_, _, _)
-        | Resolved::Latest(_, _, _, _) => walk(e, on, row),
+        | Resolved::Latest(_, _, _, _) => {
+            // A walk has a place of its own to answer in, so that slots and literals need none.
+            let walked = walk(e, on, row);
+            walked
+        }
     }
 }
 
