@@ -66,10 +66,19 @@ fn numbers_text(alloc: Global, path: &[State]) -> Result<String> {
     Ok(text)
 }
 
+/// The states that a stuck entry keeps.
+fn states_in<'a>(fact: Fact<'a>) -> Option<&'a [State]> {
+    match fact {
+        Fact::Stuck(_, path, _) => Some(path),
+        Fact::Base(_) | Fact::Step(_) | Fact::Lemma(_) => None,
+        Fact::Held(_, _, _) | Fact::Broken(_, _) | Fact::Spent(_, _, _, _) => None,
+    }
+}
+
 /// The first number of each state that the first stuck entry keeps.
 pub fn states_text(alloc: Global, book: &Book) -> Result<String> {
     for place in 0..book.count() {
-        if let Fact::Stuck(_, path, _) = book.entry(place) {
+        if let Some(path) = states_in(book.entry(place)) {
             let numbers = numbers_text(alloc, path)?;
             return Ok(format!(in alloc; "; kept:{numbers}")?);
         }
