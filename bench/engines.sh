@@ -1,14 +1,15 @@
 #!/bin/sh
 # What the engines cost on programs with numbers.
 #
-# Run at the top of the repository. Makes nodes of 5 to 50 counters, each with a property that holds and one that breaks
-# after at most five instants, a counter that breaks a property at instant 200, and a shift register of ten
-# steps, whose property is inductive with ten states alone. Prints the seconds of a proof and, where valgrind
-# is there, its instructions; and where z3 is there the seconds that it takes for the queries of the same turns,
-# written in SMT-LIB: at each instant up to the break, and by induction with as many states. The first figure is of
-# queries that each say their own path, the second of queries that share one, which grows by a state from one to the
-# next. Then the counter that breaks late at smaller depths: what each further instant costs. Ends with status 1 where
-# an answer is not the one worked out by hand. The word `quick` leaves 25 and 50 counters and the late break out.
+# Run at the top of the repository. Makes nodes of 5 to 50 counters, each with a property that holds and one that
+# breaks after at most five instants, a counter that breaks a property at instant 200, one that stops at 1,000 and
+# would break its property behind the depth of 100, and a shift register of ten steps, whose property is inductive
+# with ten states alone. Prints the seconds of a proof and, where valgrind is there, its instructions; and where z3 is
+# there the seconds that it takes for the queries of the same turns, written in SMT-LIB: at each instant up to the
+# break, and by induction with as many states. The first figure is of queries that each say their own path, the second
+# of queries that share one, which grows by a state from one to the next. Then the counter that breaks late at smaller
+# depths: what each further instant costs. Ends with status 1 where an answer is not the one worked out by hand. The
+# word `quick` leaves out 25 and 50 counters, the late break and the counter that stops.
 set -eu
 
 top=$(pwd)
@@ -58,6 +59,9 @@ printf 'node main() returns (n : int);\nlet\n  n = 0 -> pre n + 1;\n  --%%PROPER
 [ "${1-}" = quick ] ||
     row "summary valid 0 falsifiable 1 unknown 0" breaks_at_200 "$(rival queries late 200) $(rival queries late 200 kept)" \
         --depth 200 "$work/late"
+printf 'node main() returns (n : int);\nlet\n  n = 0 -> if pre n < 1000 then pre n + 1 else pre n;\n  --%%PROPERTY "below" n < 900;\ntel\n' >"$work/stops"
+[ "${1-}" = quick ] ||
+    row "summary valid 0 falsifiable 0 unknown 1" stops_at_1000 "- -" --depth 100 "$work/stops"
 register >"$work/register"
 row "summary valid 1 falsifiable 0 unknown 0" register_10 "$(rival register_queries 10) $(rival register_queries 10 kept)" \
     "$work/register"
