@@ -9,7 +9,7 @@ use crate::entry::Entry;
 use crate::fault::{BookFault, PostBack};
 use crate::seat::BoardSeat;
 use crate::statement::News;
-use std::alloc::{AllocError, Global};
+use std::alloc::Global;
 use std::snapshot::Snapshot;
 
 /// A seat over a lent book. It has seen the whole book, and nobody else posts meanwhile.
@@ -69,7 +69,7 @@ impl BoardSeat for Chair<'_> {
 
     fn read(&mut self, alloc: Global) -> Result<Vec<News>, BookFault> {
         let Some(reads) = self.reads.checked_add(1) else {
-            return Err(BookFault::Memory(AllocError));
+            return Err(BookFault::Memory);
         };
         let news = self.book.after(alloc, self.front)?;
         self.front = self.book.count();

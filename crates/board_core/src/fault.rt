@@ -20,22 +20,22 @@ pub struct PostBack {
 #[derive(Clone, Copy, Debug, PartialEq, Eq, Error)]
 pub enum BookFault {
     #[error("out of memory")]
-    Memory(AllocError),
+    Memory,
 }
 
 impl From<AllocError> for BookFault {
-    ghost from_gives = { λ x e. e ≡ Memory x };
+    ghost from_gives = { λ _ e. e ≡ Memory };
 
-    fn from(error: AllocError) -> BookFault {
-        BookFault::Memory(error)
+    fn from(_error: AllocError) -> BookFault {
+        BookFault::Memory
     }
 }
 
 impl<T: Drop> From<AllocFailed<T>> for BookFault {
-    ghost from_gives = { λ _ e. e ≡ Memory alloc_error };
+    ghost from_gives = { λ _ e. e ≡ Memory };
 
     fn from(_error: AllocFailed<T>) -> BookFault {
-        BookFault::Memory(AllocError)
+        BookFault::Memory
     }
 }
 
@@ -43,38 +43,38 @@ impl<T: Drop> From<AllocFailed<T>> for BookFault {
 #[derive(Clone, Copy, Debug, PartialEq, Eq, Error)]
 pub enum EngineFault {
     #[error("out of memory")]
-    Memory(AllocError),
+    Memory,
 }
 
 impl From<AllocError> for EngineFault {
-    ghost from_gives = { λ x e. e ≡ NoTurn x };
+    ghost from_gives = { λ _ e. e ≡ NoTurn };
 
-    fn from(error: AllocError) -> EngineFault {
-        EngineFault::Memory(error)
+    fn from(_error: AllocError) -> EngineFault {
+        EngineFault::Memory
     }
 }
 
 impl<T: Drop> From<AllocFailed<T>> for EngineFault {
-    ghost from_gives = { λ _ e. e ≡ NoTurn alloc_error };
+    ghost from_gives = { λ _ e. e ≡ NoTurn };
 
     fn from(_error: AllocFailed<T>) -> EngineFault {
-        EngineFault::Memory(AllocError)
+        EngineFault::Memory
     }
 }
 
 impl From<BookFault> for EngineFault {
-    ghost from_gives = { λ _ e. e ≡ NoTurn alloc_error };
+    ghost from_gives = { λ _ e. e ≡ NoTurn };
 
     fn from(_fault: BookFault) -> EngineFault {
-        EngineFault::Memory(AllocError)
+        EngineFault::Memory
     }
 }
 
 impl From<PostBack> for EngineFault {
-    ghost from_gives = { λ _ e. e ≡ NoTurn alloc_error };
+    ghost from_gives = { λ _ e. e ≡ NoTurn };
 
     fn from(_back: PostBack) -> EngineFault {
-        EngineFault::Memory(AllocError)
+        EngineFault::Memory
     }
 }
 
@@ -90,14 +90,14 @@ impl From<EngineFault> for AllocError {
 #[derive(Clone, Copy, Debug, PartialEq, Eq, Error)]
 pub enum PlayFault {
     #[error("out of memory")]
-    Memory(AllocError),
+    Memory,
 }
 
 impl From<EngineFault> for PlayFault {
-    ghost from_gives = { λ _ e. e ≡ NoPlay alloc_error };
+    ghost from_gives = { λ _ e. e ≡ NoPlay };
 
     fn from(_fault: EngineFault) -> PlayFault {
-        PlayFault::Memory(AllocError)
+        PlayFault::Memory
     }
 }
 

@@ -12,7 +12,7 @@ use Rattle.cert_rules.specs.declared.fault.RuleFault.TheVariants.{Refused, Memor
 -- the rule that is told is the first one broken; memory may run out at any time
 abbrev pub IsMisfit : Misfit → RuleFault → Type 0
 IsMisfit misfit (Refused part rule) = misfit ≡ Some (part, rule)
-IsMisfit misfit (Memory e) = Unit
+IsMisfit misfit Memory = Unit
 
 -- no rule is broken, or it is told
 abbrev pub Allows : {X : Type 0} → Misfit → Result X RuleFault → Type 0

@@ -1,6 +1,6 @@
 //! Why something is no fact.
 
-ghost use Rattle.std.specs.Prelude.{◌≡◌, alloc_error};
+ghost use Rattle.std.specs.Prelude.{◌≡◌};
 ghost use Rattle.cert_rules.specs.declared.fault.RuleFault.TheVariants.{Memory};
 
 use proof_checker::Rule;
@@ -16,21 +16,21 @@ pub enum RuleFault {
     Refused { part: u32, rule: Rule },
     /// Memory ran out, or a list would reach a length that 32 bits do not number.
     #[error("out of memory")]
-    Memory(AllocError),
+    Memory,
 }
 
 impl From<AllocError> for RuleFault {
-    ghost from_gives = { λ x e. e ≡ Memory x };
+    ghost from_gives = { λ _ e. e ≡ Memory };
 
-    fn from(error: AllocError) -> RuleFault {
-        RuleFault::Memory(error)
+    fn from(_error: AllocError) -> RuleFault {
+        RuleFault::Memory
     }
 }
 
 impl<T: Drop> From<AllocFailed<T>> for RuleFault {
-    ghost from_gives = { λ _ e. e ≡ Memory alloc_error };
+    ghost from_gives = { λ _ e. e ≡ Memory };
 
     fn from(_error: AllocFailed<T>) -> RuleFault {
-        RuleFault::Memory(AllocError)
+        RuleFault::Memory
     }
 }

@@ -68,7 +68,7 @@ fn judge(alloc: Global, part: u32, cnf: &Cnf, proof: &Proof) -> Result<(), RuleF
         Ok(_) => Ok(()),
         Err(Fault::Step { rule, .. }) => Err(refused(part, rule)),
         Err(Fault::Open) => Err(refused(part, Rule::Open)),
-        Err(Fault::Memory(error)) => Err(RuleFault::Memory(error)),
+        Err(Fault::Memory) => Err(RuleFault::Memory),
     }
 }
 
@@ -91,12 +91,12 @@ pub(crate) fn refute(
 {
     let query = match obligation(alloc, system, what, cites) {
         Ok(query) => query,
-        Err(QueryFault::Memory(error)) => return Err(RuleFault::Memory(error)),
+        Err(QueryFault::Memory) => return Err(RuleFault::Memory),
     };
     match clauses(alloc, &query) {
         Ok(cnf) => judge(alloc, part, &cnf, proof),
         Err(CnfFault::Past(_)) => Err(refused(part, Rule::Past)),
-        Err(CnfFault::Memory(error)) => Err(RuleFault::Memory(error)),
+        Err(CnfFault::Memory) => Err(RuleFault::Memory),
     }
 }
 

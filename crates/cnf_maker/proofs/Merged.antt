@@ -180,7 +180,7 @@ module _ (op : Op) where
   step-outside made ts rest right j x b c (PastBits p) k u h e =
       ap (pending op made ts) (head_of j right k ∙ ap (λ w. w ∷ drop (j + 1) right) (sym u))
       ∙ outside made ts rest x b c p (drop (j + 1) right) h (sym e)
-  step-outside made ts rest right j x b c (Memory a) k u h e = tt
+  step-outside made ts rest right j x b c Memory k u h e = tt
 
   pub none-there : (left : List (ℕ × ℤ)) (i x : ℕ) (b : ℤ) → length left ≤ i
       → HasAt op (drop i left) x b (pos 0) (drop i left)
@@ -234,7 +234,7 @@ scaled-fails n m terms i products (PastBits p) c h e k =
     ∙ ap (λ ts. and_then (scaled_terms m ts) (λ us. Ok (products ++ us))) (head_of Mul i terms h)
     ∙ ap (λ r. and_then (and_then r (λ y. and_then (scaled_terms m (drop (i + 1) terms)) (λ us. Ok (put t.0 y us))))
     (λ us. Ok (products ++ us))) f
-scaled-fails n m terms i products (Memory a) c h e k = tt
+scaled-fails n m terms i products Memory c h e k = tt
 
 -- what comes after the first of increasing terms increases too
 pub rest-increasing : (terms : List (ℕ × ℤ)) (j : ℕ) → j < length terms → is_increasing (drop j terms) ≡ true

@@ -47,7 +47,7 @@ op_of Minus = Sub
 -- memory may run out at any time
 abbrev pub Fails : {X : Type 0} → Result X Operands → CnfFault → Type 0
 Fails o (Past p) = o ≡ Err p
-Fails o (Memory e) = Unit
+Fails o Memory = Unit
 
 -- what is made is what the definition gives
 abbrev pub Gives : {X Y : Type 0} → (X → Y) → Result Y Operands → Result X CnfFault → Type 0

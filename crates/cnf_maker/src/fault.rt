@@ -1,6 +1,6 @@
 //! Why a query has no clause form.
 
-ghost use Rattle.std.specs.Prelude.{◌≡◌, alloc_error};
+ghost use Rattle.std.specs.Prelude.{◌≡◌};
 ghost use Rattle.cnf_maker.specs.declared.fault.CnfFault.TheVariants.{Past as PastBits, Memory};
 
 use kind_num::Past;
@@ -16,22 +16,22 @@ pub enum CnfFault {
     Past(Past),
     /// Memory ran out, or there are more variables, atoms or clauses than 32 bits number.
     #[error("out of memory")]
-    Memory(AllocError),
+    Memory,
 }
 
 impl From<AllocError> for CnfFault {
-    ghost from_gives = { λ x e. e ≡ Memory x };
+    ghost from_gives = { λ _ e. e ≡ Memory };
 
-    fn from(error: AllocError) -> CnfFault {
-        CnfFault::Memory(error)
+    fn from(_error: AllocError) -> CnfFault {
+        CnfFault::Memory
     }
 }
 
 impl<T: Drop> From<AllocFailed<T>> for CnfFault {
-    ghost from_gives = { λ _ e. e ≡ Memory alloc_error };
+    ghost from_gives = { λ _ e. e ≡ Memory };
 
     fn from(_error: AllocFailed<T>) -> CnfFault {
-        CnfFault::Memory(AllocError)
+        CnfFault::Memory
     }
 }
 

@@ -112,7 +112,7 @@ pub fn clauses(alloc: Global, query: &Query) -> Result<Cnf, CnfFault>
     ensures few { IfOk result (λ c. AreFew (form_view c)) }
 {
     let Ok(truth) = u32::try_from(query.shapes.len()) else {
-        return Err(CnfFault::Memory(AllocError));
+        return Err(CnfFault::Memory);
     };
     let mut maker = Maker::start(alloc, &query.shapes, truth)?;
     maker.conditions(alloc, truth, &query.conditions)?;

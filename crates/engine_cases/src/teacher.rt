@@ -38,7 +38,7 @@ fn refuted(
     match solve(alloc, system, what, &[], budgets) {
         Ok(Answer::Unsat(proof)) => Ok(Some(proof)),
         Ok(Answer::Sat(_)) | Ok(Answer::Stop(_)) => Ok(None),
-        Err(SolveFault::Memory(error)) => Err(EngineFault::Memory(error)),
+        Err(SolveFault::Memory) => Err(EngineFault::Memory),
     }
 }
 
@@ -57,7 +57,7 @@ fn checked(
     match check_lemma(alloc, system, &[], term, first, next) {
         Ok(lemma) => Ok(Some(lemma)),
         Err(RuleFault::Refused { .. }) => Ok(None),
-        Err(RuleFault::Memory(error)) => Err(EngineFault::Memory(error)),
+        Err(RuleFault::Memory) => Err(EngineFault::Memory),
     }
 }
 

@@ -149,11 +149,11 @@ abbrev pub AreSumsPast : List (List (ℕ × ℤ)) → List Part → Past → Typ
 AreSumsPast given parts past = (of : Option ℕ) × IsSumPast given of parts past
 
 abbrev pub AreTermsPast : List (List (ℕ × ℤ)) → List Part → Trouble → Type 0
-AreTermsPast given parts (t.Memory e) = Unit
+AreTermsPast given parts t.Memory = Unit
 AreTermsPast given parts (t.Past past) = AreSumsPast given parts past
 
 abbrev pub IsNoMemory : Trouble → Type 0
-IsNoMemory (t.Memory e) = Unit
+IsNoMemory t.Memory = Unit
 IsNoMemory (t.Past past) = ⊥
 
 -- a term with a number other than 0 is put behind the others

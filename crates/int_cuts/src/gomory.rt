@@ -82,7 +82,7 @@ fn cut_in(
     match cut_by(alloc, tableau, columns, &parts, d) {
         Ok(cut) => Ok(CutAnswer::Cut(cut)),
         Err(Trouble::Past(past)) => Ok(CutAnswer::Past(past)),
-        Err(Trouble::Memory(error)) => Err(CutFault::Memory(error)),
+        Err(Trouble::Memory) => Err(CutFault::Memory),
     }
 }
 

@@ -1,4 +1,4 @@
-ghost use Rattle.std.specs.Prelude.{◌≡◌, alloc_error};
+ghost use Rattle.std.specs.Prelude.{◌≡◌};
 ghost use Rattle.int_cuts.specs.declared.trouble.Trouble.TheVariants.{Past as Outside, Memory};
 
 use kind_num::Past;
@@ -9,22 +9,22 @@ use std::alloc::{AllocError, AllocFailed};
 pub(crate) enum Trouble {
     /// A number is outside 128 bits.
     Past(Past),
-    Memory(AllocError),
+    Memory,
 }
 
 impl From<AllocError> for Trouble {
-    ghost from_gives = { λ x e. e ≡ Memory x };
+    ghost from_gives = { λ _ e. e ≡ Memory };
 
-    fn from(error: AllocError) -> Trouble {
-        Trouble::Memory(error)
+    fn from(_error: AllocError) -> Trouble {
+        Trouble::Memory
     }
 }
 
 impl<T: Drop> From<AllocFailed<T>> for Trouble {
-    ghost from_gives = { λ _ e. e ≡ Memory alloc_error };
+    ghost from_gives = { λ _ e. e ≡ Memory };
 
     fn from(_error: AllocFailed<T>) -> Trouble {
-        Trouble::Memory(AllocError)
+        Trouble::Memory
     }
 }
 

@@ -47,7 +47,7 @@ asserted-keeps history b old new (Ok u) (e, q) k =
     }
 asserted-keeps history b old new (Err (f.Crosses y)) (e, r, q) k = let P : State → Type 0 = λ s. IsKept (b ∷ history) s in subst P (sym q)
     (kept-more history b old k)
-asserted-keeps history b old new (Err (f.Memory y)) q k = let P : State → Type 0 = λ s. IsKept (b ∷ history) s in subst P (sym q) (kept-more history b old k)
+asserted-keeps history b old new (Err f.Memory) q k = let P : State → Type 0 = λ s. IsKept (b ∷ history) s in subst P (sym q) (kept-more history b old k)
 
 undone-keeps : (history : List Standing) (mark : ℕ) (old new : State) → new ≡ record old { bounds = take mark old.bounds }
     → IsKept history old → IsKept history new

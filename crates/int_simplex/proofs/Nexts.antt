@@ -8,7 +8,6 @@ use Rattle.std.proofs.lemmas.Option.{slice_get_within, slice_get_read}
 use lib.IntN.{ℤ, pos, negsuc}
 use Rattle.proof_steps.specs.View.{row_view}
 use Rattle.proof_steps.specs.Rows.{entry}
-use Rattle.std.specs.declared.alloc.AllocError.{AllocError}
 use Rattle.int_simplex.specs.declared.trouble.Stopped.{Stopped}
 use Rattle.int_simplex.specs.declared.trouble.Stopped.TheVariants as s
 use Rattle.int_simplex.specs.Sparse.{IsSparse}
@@ -147,7 +146,7 @@ module _ (n at entering : ℕ) (other : List (ℕ × ℤ)) (rows news : List (Li
   turn_past e (Ok u) eo p h = tt
   turn_past e (Err x) eo p h = subst (IsTurnPast at entering rows) (sym h) (by e p) where
     by : (e : Stopped) → IsTurnedPast at entering other k news e → IsTurnPast at entering rows e
-    by (s.Memory x) p = tt
+    by s.Memory p = tt
     by (s.Past x) p = λ v ev.
         let q : other ≡ v = same_some other v (sym eo ∙ ev) in
         let P : List (ℕ × ℤ) → Type 0 = λ w. IsNextPast entering w p.0 (s.Past x) in
@@ -173,17 +172,17 @@ pub row_there : (rows : List (Vec (ℕ × ℤ) Global)) (k : ℕ) (v : Vec (ℕ 
 row_there rows k v h e = mapped_at row_view rows k v (slice_get_read rows (length rows) k v refl h e)
 
 -- memory alone
-pub memory_alone : {R : Type 0} (at entering : ℕ) (rows : List (List (ℕ × ℤ))) (e : AllocError) (o : Result R Stopped)
-    → IsErrAnd o (λ z. z ≡ s.Memory e) → IfErr o (IsTurnPast at entering rows)
-memory_alone at entering rows e (Ok u) h = tt
-memory_alone at entering rows e (Err (s.Memory x)) h = tt
-memory_alone at entering rows e (Err (s.Past x)) h = absurd cc
+pub memory_alone : {R : Type 0} (at entering : ℕ) (rows : List (List (ℕ × ℤ))) (o : Result R Stopped)
+    → IsErrAnd o (λ z. z ≡ s.Memory) → IfErr o (IsTurnPast at entering rows)
+memory_alone at entering rows (Ok u) h = tt
+memory_alone at entering rows (Err s.Memory) h = tt
+memory_alone at entering rows (Err (s.Past x)) h = absurd cc
 
-pub memory_turned : {R : Type 0} (at entering k : ℕ) (other : List (ℕ × ℤ)) (rows : List (List (ℕ × ℤ))) (e : AllocError) (o : Result R Stopped)
-    → IsErrAnd o (λ z. z ≡ s.Memory e) → IfErr o (IsTurnedPast at entering other k rows)
-memory_turned at entering k other rows e (Ok u) h = tt
-memory_turned at entering k other rows e (Err (s.Memory x)) h = tt
-memory_turned at entering k other rows e (Err (s.Past x)) h = absurd cc
+pub memory_turned : {R : Type 0} (at entering k : ℕ) (other : List (ℕ × ℤ)) (rows : List (List (ℕ × ℤ))) (o : Result R Stopped)
+    → IsErrAnd o (λ z. z ≡ s.Memory) → IfErr o (IsTurnedPast at entering other k rows)
+memory_turned at entering k other rows (Ok u) h = tt
+memory_turned at entering k other rows (Err s.Memory) h = tt
+memory_turned at entering k other rows (Err (s.Past x)) h = absurd cc
 
 pub turned_past : {R : Type 0} (at entering k : ℕ) (rows : List (List (ℕ × ℤ))) (row other : List (ℕ × ℤ)) (e : Stopped) (o : Result R Stopped)
     → slice_get rows k ≡ Some row → k ≢ at → entry row entering ≢ pos 0 → IsNextPast entering other row e → IsErrAnd o (λ z. z ≡ e)
@@ -191,7 +190,7 @@ pub turned_past : {R : Type 0} (at entering k : ℕ) (rows : List (List (ℕ × 
 turned_past at entering k rows row other e (Ok u) er m n p h = tt
 turned_past at entering k rows row other e (Err x) er m n p h = subst (IsTurnedPast at entering other k rows) (sym h) (by e p) where
   by : (e : Stopped) → IsNextPast entering other row e → IsTurnedPast at entering other k rows e
-  by (s.Memory x) p = tt
+  by s.Memory p = tt
   by (s.Past x) p = (row, er, m, n, p)
 
 -- all rows are listed

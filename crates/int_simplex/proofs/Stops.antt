@@ -246,7 +246,7 @@ module _ (given : List (List (ℕ × ℤ))) (columns : ℕ) (others : ℤ → Ty
 pub stopped_by : (given : List (List (ℕ × ℤ))) (columns : ℕ) (numbers : List ℤ) (e : Stopped)
     → ((step : Rattle.proof_steps.specs.declared.stops.PastStep.PastStep) → e ≡ s.Past step → IsPastStep given columns (Contains numbers) (past_view step))
     → IsStopped given columns numbers e
-stopped_by given columns numbers (s.Memory m) f = tt
+stopped_by given columns numbers s.Memory f = tt
 stopped_by given columns numbers (s.Past step) f = f step refl
 
 pub size_result : (given : List (List (ℕ × ℤ))) (columns : ℕ) (basis : List ℕ) (rows : List (List (ℕ × ℤ)))
@@ -257,20 +257,20 @@ size_result given columns basis rows ready k x row e (Ok v) ex er h q = tt
 size_result given columns basis rows ready k x row e (Err z) ex er h q = λ numbers.
     subst (λ (w : Stopped). IsStopped given columns numbers w) (sym q) (by e h numbers) where
       by : (e : Stopped) → IsSizePast row given e → (numbers : List ℤ) → IsStopped given columns numbers e
-      by (s.Memory m) h numbers = tt
+      by s.Memory h numbers = tt
       by (s.Past step) h numbers = size_stop given columns (Contains numbers) basis rows ready k x row step ex er h
 
 -- what stops a turn
 pub turn_result : (given : List (List (ℕ × ℤ))) (columns : ℕ) (basis : List ℕ) (rows : List (List (ℕ × ℤ)))
     → IsReady given columns basis rows → (at c x : ℕ) (other : List (ℕ × ℤ)) (e : Stopped)
     → slice_get basis at ≡ Some x → slice_get rows at ≡ Some other → IsTurnPast at c rows e → (numbers : List ℤ) → IsStopped given columns numbers e
-turn_result given columns basis rows ready at c x other (s.Memory m) ex eo h numbers = tt
+turn_result given columns basis rows ready at c x other s.Memory ex eo h numbers = tt
 turn_result given columns basis rows ready at c x other (s.Past step) ex eo h numbers = turn_stop given columns
     (Contains numbers) basis rows ready at c x other step ex eo h
 
 pub values_result : (given : List (List (ℕ × ℤ))) (columns : ℕ) (basis : List ℕ) (rows : List (List (ℕ × ℤ))) (places : List ℤ)
     → IsReady given columns basis rows → (e : Stopped)
     → IsValuesPast given basis rows (place_at places) e → (numbers : List ℤ) → ArePlacesOf numbers places → IsStopped given columns numbers e
-values_result given columns basis rows places ready (s.Memory m) h numbers a = tt
+values_result given columns basis rows places ready s.Memory h numbers a = tt
 values_result given columns basis rows places ready (s.Past step) h numbers a = values_stop given columns
     (Contains numbers) basis rows ready (place_at places) a step h

@@ -68,7 +68,7 @@ pub values_past : (given : List (List (ℕ × ℤ))) (basis : List ℕ) (rows : 
     (row g r1 g1 : List (ℕ × ℤ)) (past : Past) (e : Stopped)
     → slice_get basis k ≡ Some x → slice_get rows k ≡ Some row → slice_get given 0 ≡ Some g → r1 ≡ row → g1 ≡ g
     → IsOver r1 g1 past e → IsValuePast x f row past → IsValuesPast given basis rows f e
-values_past given basis rows f k x row g r1 g1 past (s.Memory m) ex er eg a b o v = tt
+values_past given basis rows f k x row g r1 g1 past s.Memory ex er eg a b o v = tt
 values_past given basis rows f k x row g r1 g1 past (s.Past step) ex er eg a b o v = (
   k,
   x,

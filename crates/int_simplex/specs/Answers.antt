@@ -31,7 +31,7 @@ abbrev pub IsAsserted : State → State → Standing → Result (Unit {0}) Bound
 IsAsserted old new b (Ok u) = (crosses old.bounds b ≡ false) × (new ≡ record old { bounds = old.bounds ++ b ∷ [] })
 IsAsserted old new b (Err (Crosses f)) =
     (crosses old.bounds b ≡ true) × Refutes old.given (old.bounds ++ b ∷ []) (farkas_view f) × (new ≡ old)
-IsAsserted old new b (Err (Memory e)) = new ≡ old
+IsAsserted old new b (Err Memory) = new ≡ old
 
 -- the column stands where it stood, or at a bound of its own that stands
 abbrev pub StaysOrIsBound : State → State → ℕ → Type 0

@@ -42,7 +42,7 @@ pub record HasEntries (n : ℕ) (f : ℕ → ℤ) (row : List (ℕ × ℤ)) : Ty
 
 -- the operation is one over the two entries of a column
 abbrev pub IsRowPast : ℤ → ℤ → List (ℕ × ℤ) → List (ℕ × ℤ) → Trouble → Type 0
-IsRowPast p q row other (t.Memory e) = Unit
+IsRowPast p q row other t.Memory = Unit
 IsRowPast p q row other (t.Past past) = (c : ℕ) × IsCrossPast p q (entry row c) (entry other c) past
 
 -- new is the row without its common factor

@@ -27,7 +27,7 @@ pub record AreTurned (n at entering : ℕ) (other : List (ℕ × ℤ)) (rows new
 
 -- the operation is one over the two entries of a column
 abbrev pub IsNextPast : ℕ → List (ℕ × ℤ) → List (ℕ × ℤ) → Stopped → Type 0
-IsNextPast entering other row (s.Memory e) = Unit
+IsNextPast entering other row s.Memory = Unit
 IsNextPast entering other row (s.Past step) =
     (past : Past) × (past_view step ≡ record { rows = row ∷ other ∷ []; past = past })
     × IsRowPast (entry other entering) (entry row entering) row other (t.Past past)
@@ -40,14 +40,14 @@ IsTurned n at entering other k rows news =
     × IsPivoted n entering row other new × (news ≡ slice_set rows k new))
 
 abbrev pub IsTurnedPast : ℕ → ℕ → List (ℕ × ℤ) → ℕ → List (List (ℕ × ℤ)) → Stopped → Type 0
-IsTurnedPast at entering other k rows (s.Memory e) = Unit
+IsTurnedPast at entering other k rows s.Memory = Unit
 IsTurnedPast at entering other k rows (s.Past step) =
     (row : List (ℕ × ℤ)) × (slice_get rows k ≡ Some row) × (k ≢ at) × (entry row entering ≢ pos 0)
     × IsNextPast entering other row (s.Past step)
 
 -- the operation is one over another row and the leaving one
 abbrev pub IsTurnPast : ℕ → ℕ → List (List (ℕ × ℤ)) → Stopped → Type 0
-IsTurnPast at entering rows (s.Memory e) = Unit
+IsTurnPast at entering rows s.Memory = Unit
 IsTurnPast at entering rows (s.Past step) =
     (other : List (ℕ × ℤ)) → slice_get rows at ≡ Some other
     → (j : ℕ) × (row : List (ℕ × ℤ)) × (j ≢ at) × (slice_get rows j ≡ Some row) × IsNextPast entering other row (s.Past step)

@@ -25,7 +25,7 @@ part_of row x side lowers uppers t = (pos (unsigned_abs t.1), literal_in (stop_l
 
 -- the size of a number is outside
 abbrev pub IsSizePast : List (ℕ × ℤ) → List (List (ℕ × ℤ)) → Stopped → Type 0
-IsSizePast row given (s.Memory e) = Unit
+IsSizePast row given s.Memory = Unit
 IsSizePast row given (s.Past step) =
     (k : ℕ) × (t : ℕ × ℤ) × (g : List (ℕ × ℤ)) × (past : Past) × (slice_get row k ≡ Some t) × (slice_get given 0 ≡ Some g)
     × (past_view step ≡ record { rows = row ∷ g ∷ []; past = past }) × IsOpposedPast t.1 past

@@ -75,7 +75,7 @@ AreLimitsOf numbers lowers uppers =
     (side : Bool) (c : ℕ) (z : ℤ) → bare (on_side side (limit_at lowers c) (limit_at uppers c)) ≡ Some z → Contains numbers z
 
 abbrev pub IsStopped : List (List (ℕ × ℤ)) → ℕ → List ℤ → Stopped → Type 0
-IsStopped given columns numbers (s.Memory e) = Unit
+IsStopped given columns numbers s.Memory = Unit
 IsStopped given columns numbers (s.Past step) = IsPastStep given columns (Contains numbers) (past_view step)
 
 -- the position after some pivots, and its values

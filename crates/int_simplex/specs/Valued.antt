@@ -67,7 +67,7 @@ pub record AreValuesBut (basis : List ℕ) (rows : List (List (ℕ × ℤ))) (pl
 
 -- the operation is one over a row and the first given row
 abbrev pub IsValuesPast : List (List (ℕ × ℤ)) → List ℕ → List (List (ℕ × ℤ)) → (ℕ → ℤ) → Stopped → Type 0
-IsValuesPast given basis rows places (s.Memory e) = Unit
+IsValuesPast given basis rows places s.Memory = Unit
 IsValuesPast given basis rows places (s.Past step) =
     (k : ℕ) × (x : ℕ) × (row : List (ℕ × ℤ)) × (g : List (ℕ × ℤ)) × (past : Past) × (slice_get basis k ≡ Some x)
     × (slice_get rows k ≡ Some row) × (slice_get given 0 ≡ Some g)

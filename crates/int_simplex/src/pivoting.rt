@@ -35,7 +35,7 @@ fn next_row(
     match pivoted(alloc, columns, entering, row, other) {
         Ok(new) => Ok(Some(new)),
         Err(Trouble::Past(past)) => Err(past_over(alloc, row, other, past)),
-        Err(Trouble::Memory(error)) => Err(Stopped::Memory(error)),
+        Err(Trouble::Memory) => Err(Stopped::Memory),
     }
 }
 

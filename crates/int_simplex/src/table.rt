@@ -249,9 +249,9 @@ impl Tableau {
                 self.usable = false;
                 Ok(Checkup::Past(step))
             }
-            Err(Stopped::Memory(error)) => {
+            Err(Stopped::Memory) => {
                 self.usable = false;
-                Err(TableauFault::Memory(error))
+                Err(TableauFault::Memory)
             }
         }
     }

@@ -32,7 +32,7 @@ pub(crate) fn asked(
 {
     match solve(alloc, &subject.system, what, cites, subject.plan.budgets) {
         Ok(answer) => Ok(answer),
-        Err(SolveFault::Memory(error)) => Err(EngineFault::Memory(error)),
+        Err(SolveFault::Memory) => Err(EngineFault::Memory),
     }
 }
 

@@ -83,7 +83,7 @@ impl BoundedEngine {
         ensures left { IfOk result (λ e. worker_steps e ≡ plan.depth + 2) }
     {
         let Ok(count) = u32::try_from(system.properties.len()) else {
-            return Err(EngineFault::Memory(AllocError));
+            return Err(EngineFault::Memory);
         };
         let tasks = first_tasks(alloc, count)?;
         Ok(BoundedEngine {
@@ -150,7 +150,7 @@ impl Engine for BoundedEngine {
         ensures stays_over { is_over self.old ≡ true → IsErr result }
     {
         let Some(search) = self.search.take() else {
-            return Err(EngineFault::Memory(AllocError));
+            return Err(EngineFault::Memory);
         };
         let news = seat.read(alloc)?;
         drop(news);

@@ -35,7 +35,7 @@ pub(crate) fn base_of(
     unbroken_rules_are_facts();
     match check_base(alloc, &subject.system, cites, property, instant, proofs) {
         Ok(base) => Ok(base),
-        Err(RuleFault::Memory(error)) => Err(EngineFault::Memory(error)),
+        Err(RuleFault::Memory) => Err(EngineFault::Memory),
         Err(RuleFault::Refused { .. }) => unreachable!(),
     }
 }
@@ -59,7 +59,7 @@ pub(crate) fn step_of(
     unbroken_rules_are_facts();
     match check_step(alloc, &subject.system, cites, property, k, proof) {
         Ok(step) => Ok(step),
-        Err(RuleFault::Memory(error)) => Err(EngineFault::Memory(error)),
+        Err(RuleFault::Memory) => Err(EngineFault::Memory),
         Err(RuleFault::Refused { .. }) => unreachable!(),
     }
 }
@@ -75,7 +75,7 @@ pub(crate) fn concluded(base: &Base, step: &Step) -> Result<Held, EngineFault>
 {
     match conclude(base, step) {
         Ok(held) => Ok(held),
-        Err(RuleFault::Memory(error)) => Err(EngineFault::Memory(error)),
+        Err(RuleFault::Memory) => Err(EngineFault::Memory),
         Err(RuleFault::Refused { .. }) => unreachable!(),
     }
 }

@@ -87,7 +87,7 @@ impl StepEngine {
         ensures front { IfOk result (λ e. worker_front e ≡ 0) }
     {
         let Ok(count) = u32::try_from(system.properties.len()) else {
-            return Err(EngineFault::Memory(AllocError));
+            return Err(EngineFault::Memory);
         };
         let tasks = first_tasks(alloc, count)?;
         Ok(StepEngine {
@@ -159,7 +159,7 @@ impl Engine for StepEngine {
         ensures taken { OnOk result (B.front seat.old ≤ worker_front self.old → B.front seat.new ≤ worker_front self.new) }
     {
         let Some(search) = self.search.take() else {
-            return Err(EngineFault::Memory(AllocError));
+            return Err(EngineFault::Memory);
         };
         let Search {
             turn,

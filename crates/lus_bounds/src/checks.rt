@@ -1,12 +1,11 @@
 //! The limits of a program.
 
 ghost use Rattle.std.specs.Prelude.{◌≡◌, Contains, IfErr, IfOk, IsErr, List, MatchResult, map};
-ghost use Rattle.lus_tree.specs.Reason.{Refused, memory, refusal_view};
+ghost use Rattle.lus_tree.specs.Reason.{Refused, refusal_view};
 ghost use Rattle.lus_tree.specs.View.{program_view};
 ghost use Rattle.lus_meaning.specs.ClockFaults.{components};
-ghost use Rattle.lus_meaning.specs.Faults.{IsFirst, fault};
+ghost use Rattle.lus_meaning.specs.Faults.{IsFirst};
 ghost use Rattle.lus_meaning.specs.Limits.{size_faults};
-ghost use Rattle.lus_meaning.specs.NameFaults.{start_of_text};
 ghost use Rattle.lus_meaning.specs.Refusals.{HasNone, IsChecked, IsLimitFault, IsWithinLimits};
 ghost use Rattle.lus_limits.specs.SystemSizes.{system_size};
 ghost use Rattle.lus_scopes.specs.Least.{IsLeast, least_view};
@@ -17,7 +16,8 @@ ghost use Rattle.lus_bounds.specs.Widths.{cut_widths, widths};
 use crate::faults::{node_widths, note_limits, note_main};
 use lus_limits::{SystemSize, system_sizes};
 use lus_scopes::least::Least;
-use lus_tree::{Pos, Program, Refusal, What};
+use lus_scopes::memory::no_memory;
+use lus_tree::{Program, Refusal};
 use std::alloc::{AllocError, Global};
 
 /// What is found of a program: the least of its faults of limits, and how many variables the systems of its nodes and
@@ -61,16 +61,6 @@ fn unless_faulty(least: Least, numbers: Vec<usize>) -> Result<Vec<usize>, Refusa
     match least.into_result() {
         Ok(()) => Ok(numbers),
         Err(refusal) => Err(refusal),
-    }
-}
-
-/// The refusal of a program for want of memory.
-fn no_memory() -> Refusal
-    ensures { refusal_view result ≡ fault memory start_of_text }
-{
-    Refusal {
-        at: Pos { line: 1, column: 1 },
-        what: What::Memory,
     }
 }
 

@@ -1,12 +1,10 @@
 //! Whether a program follows the rules of equations and passes no limit.
 
 ghost use Rattle.std.specs.Prelude.{◌≡◌, IfErr, IfOk, Some, map};
-ghost use Rattle.lus_tree.specs.Reason.{memory, refusal_view};
+ghost use Rattle.lus_tree.specs.Reason.{refusal_view};
 ghost use Rattle.lus_tree.specs.View.{program_view};
 ghost use Rattle.lus_meaning.specs.ClockFaults.{components};
-ghost use Rattle.lus_meaning.specs.Faults.{fault};
 ghost use Rattle.lus_meaning.specs.Grammatical.{IsGrammatical};
-ghost use Rattle.lus_meaning.specs.NameFaults.{start_of_text};
 ghost use Rattle.lus_meaning.specs.Refusals.{IsChecked, IsClocked, IsWithinLimits};
 ghost use Rattle.lus_order.specs.Checked.{AreLeastOrders};
 ghost use Rattle.lus_order.specs.Dependences.{orders_seen, reads_seen};
@@ -26,18 +24,9 @@ use crate::reads::all_reads;
 use lus_bounds::limits;
 use lus_clocks::Clocked;
 use lus_order::{Dependence, equations};
-use lus_tree::{Pos, Program, Refusal, What};
+use lus_scopes::memory::no_memory;
+use lus_tree::{Program, Refusal};
 use std::alloc::{AllocError, Global};
-
-/// The refusal of a program for want of memory.
-fn no_memory() -> Refusal
-    ensures { refusal_view result ≡ fault memory start_of_text }
-{
-    Refusal {
-        at: Pos { line: 1, column: 1 },
-        what: What::Memory,
-    }
-}
 
 /// The number of the main node of a program within the limits.
 ///

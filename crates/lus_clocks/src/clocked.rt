@@ -17,7 +17,8 @@ use crate::cells::Sampling;
 use crate::occurrence::Occurrence;
 use crate::program::{Found, checked};
 use crate::table::Table;
-use lus_tree::{Expr, Pos, Program, Refusal, Sort, What};
+use lus_scopes::memory::no_memory;
+use lus_tree::{Expr, Program, Refusal, Sort};
 use lus_types::Typed;
 use std::alloc::Global;
 use std::marker::Model;
@@ -100,16 +101,6 @@ impl Clocked {
             Some(table) => table.clock(occurrence),
             None => None,
         }
-    }
-}
-
-/// The refusal of a program for want of memory.
-fn no_memory() -> Refusal
-    ensures { result ≡ record { at = record { line = 1; column = 1 }; what = What.Memory } }
-{
-    Refusal {
-        at: Pos { line: 1, column: 1 },
-        what: What::Memory,
     }
 }
 

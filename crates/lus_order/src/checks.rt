@@ -1,14 +1,13 @@
 //! The rules of equations of a program.
 
 ghost use Rattle.std.specs.Prelude.{◌≡◌, IfErr, IfOk, IsErr, MatchResult, Contains, map};
-ghost use Rattle.lus_tree.specs.Reason.{Refused, memory, refusal_view};
+ghost use Rattle.lus_tree.specs.Reason.{Refused, refusal_view};
 ghost use Rattle.lus_tree.specs.Tree.{Component, Program as ProgramTree};
 ghost use Rattle.lus_tree.specs.View.{program_view};
 ghost use Rattle.lus_meaning.specs.ClockFaults.{components};
 ghost use Rattle.lus_meaning.specs.EquationFaults.{IsEquationFault};
-ghost use Rattle.lus_meaning.specs.Faults.{IsFirst, fault};
+ghost use Rattle.lus_meaning.specs.Faults.{IsFirst};
 ghost use Rattle.lus_meaning.specs.Grammatical.{IsGrammatical};
-ghost use Rattle.lus_meaning.specs.NameFaults.{start_of_text};
 ghost use Rattle.lus_meaning.specs.Refusals.{HasNone, IsTyped};
 ghost use Rattle.lus_meaning.specs.Scene.{variables};
 ghost use Rattle.lus_meaning.specs.WellMade.{AreDistinct};
@@ -29,8 +28,9 @@ use crate::left_names::left_names;
 use crate::library::Library;
 use crate::ordered::ordered;
 use lus_scopes::least::Least;
+use lus_scopes::memory::no_memory;
 use lus_streams::owner::Owner;
-use lus_tree::{Pos, Program, Refusal, What};
+use lus_tree::{Program, Refusal};
 use std::alloc::{AllocError, Global};
 
 /// Notes the faults of circles of declarations, and gives the order of the equations of each and what its outputs read.
@@ -93,16 +93,6 @@ fn with_orders(found: Found) -> Result<Vec<Dependence>, Refusal>
     match least.into_result() {
         Ok(()) => Ok(all),
         Err(fault) => Err(fault),
-    }
-}
-
-/// The refusal of a program for want of memory.
-fn no_memory() -> Refusal
-    ensures { refusal_view result ≡ fault memory start_of_text }
-{
-    Refusal {
-        at: Pos { line: 1, column: 1 },
-        what: What::Memory,
     }
 }
 

@@ -1,9 +1,9 @@
 //! What expressions read at their instant.
 
-ghost use Rattle.std.specs.Prelude.{◌≡◌, ◌∷◌, [], IfOk, map, option_map, option_to_list};
+ghost use Rattle.std.specs.Prelude.{◌≡◌, ◌∷◌, ◌++◌, [], IfOk, map, option_map, option_to_list};
 ghost use Rattle.lus_tree.specs.Tree.{text_of};
 ghost use Rattle.lus_tree.specs.View.{expr_view, exprs_view, joined, word_view};
-ghost use Rattle.lus_order.specs.Reads.{Gains, a_mode, callees_view, clock_seen, clocks_view, names_read, read_arguments, read_each, read_in, read_view};
+ghost use Rattle.lus_order.specs.Reads.{Gains, a_mode, a_name, callees_view, clock_seen, clocks_view, names_read, read_arguments, read_each, read_in};
 
 use crate::setting::{Callees, Clocks};
 use lus_tree::{Expr, Form, PlacedName};
@@ -26,15 +26,34 @@ fn push_clock<'a>(reads: &mut Vec<Read<'a>>, clock: Option<&'a str>) -> Result<(
     Ok(())
 }
 
-/// That of a mode.
-fn mode_read<'a>(contract: &'a Option<PlacedName>, mode: &'a PlacedName) -> Read<'a>
-    ensures { read_view result
-        ≡ a_mode (option_to_list (option_map text_of (option_map word_view contract.now)), (word_view mode.now).text) }
+/// The reads, and behind them a name and that of its clock.
+fn push_name<'a>(
+    reads: &mut Vec<Read<'a>>,
+    name: &'a str,
+    clock: Option<&'a str>,
+) -> Result<(), AllocError>
+    ensures { IfOk result (λ _. Gains reads.old.items reads.new.items
+        (a_name name.now ∷ names_read (clock_seen clock.entry))) }
 {
-    match contract {
-        Some(word) => Read::Mode(Some(word.text.as_str()), mode.text.as_str()),
-        None => Read::Mode(None, mode.text.as_str()),
-    }
+    reads.push(Read::Name(name))?;
+    push_clock(reads, clock)
+}
+
+/// The reads, and behind them that of a mode.
+fn push_mode<'a>(
+    reads: &mut Vec<Read<'a>>,
+    contract: &'a Option<PlacedName>,
+    mode: &'a PlacedName,
+) -> Result<(), AllocError>
+    ensures { IfOk result (λ _. Gains reads.old.items reads.new.items
+        (a_mode (option_to_list (option_map text_of (option_map word_view contract.now)), (word_view mode.now).text) ∷ [])) }
+{
+    let import = match contract {
+        Some(word) => Some(word.text.as_str()),
+        None => None,
+    };
+    reads.push(Read::Mode(import, mode.text.as_str()))?;
+    Ok(())
 }
 
 /// The reads, and behind them those of an expression on that clock.
@@ -56,10 +75,7 @@ pub(crate) fn push_reads<'a>(
 {
     match &e.form {
         Form::Truth(_) | Form::Number(_) | Form::Pre(_, _) => push_clock(reads, clock),
-        Form::Name(x) => {
-            reads.push(Read::Name(x.as_str()))?;
-            push_clock(reads, clock)
-        }
+        Form::Name(x) => push_name(reads, x, clock),
         Form::Not(a) | Form::Minus(a) => {
             push_clock(reads, clock)?;
             push_reads(reads, clocks, callees, clock, a)
@@ -85,11 +101,7 @@ pub(crate) fn push_reads<'a>(
             push_reads(reads, clocks, callees, sampled, a)?;
             push_reads(reads, clocks, callees, sampled, b)
         }
-        Form::Call(_, callee, arguments) => {
-            push_clock(reads, clock)?;
-            let flags = callees.flags(&callee.text);
-            push_arguments(reads, clocks, callees, clock, flags, arguments)
-        }
+        Form::Call(_, callee, values) => push_call(reads, clocks, callees, clock, callee, values),
         Form::Condact(_, a, callee, arguments, defaults) => {
             push_clock(reads, clock)?;
             push_reads(reads, clocks, callees, clock, a)?;
@@ -97,11 +109,27 @@ pub(crate) fn push_reads<'a>(
             push_arguments(reads, clocks, callees, clock, flags, arguments)?;
             push_each(reads, clocks, callees, clock, defaults)
         }
-        Form::ModeName(contract, mode) => {
-            reads.push(mode_read(contract, mode))?;
-            Ok(())
-        }
+        Form::ModeName(contract, mode) => push_mode(reads, contract, mode),
     }
+}
+
+/// The reads, and behind them those of a call.
+#[cycle(reads)]
+fn push_call<'a>(
+    reads: &mut Vec<Read<'a>>,
+    clocks: &Clocks<'a>,
+    callees: &Callees,
+    clock: Option<&'a str>,
+    callee: &PlacedName,
+    arguments: &'a [Expr],
+) -> Result<(), AllocError>
+    ensures { IfOk result (λ _. Gains reads.old.items reads.new.items (names_read (clock_seen clock.entry)
+        ++ read_arguments (clocks_view clocks.now) (callees_view callees.now) (clock_seen clock.entry)
+        (callees_view callees.now (word_view callee.now).text) (joined (exprs_view arguments.now)))) }
+{
+    push_clock(reads, clock)?;
+    let flags = callees.flags(&callee.text);
+    push_arguments(reads, clocks, callees, clock, flags, arguments)
 }
 
 /// The reads, and behind them those of these expressions.

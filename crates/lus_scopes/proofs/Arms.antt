@@ -4,15 +4,15 @@ use Rattle.std.specs.Prelude.{option_and_then, slice_get}
 use Rattle.lus_tree.specs.declared.place.Sort.TheVariants.{Bool as Flags, Int as Numbers}
 use Rattle.lus_tree.specs.declared.expression.Operator.{Operator}
 use Rattle.lus_tree.specs.declared.expression.Expr.{Expr}
-use Rattle.lus_tree.specs.Tree.{Name, Place, Spelled, Expression, name, negation, minus, pre, arrow, binary, choice, sampled, merged, call, condact, mode_name, Variable, Component}
+use Rattle.lus_tree.specs.Tree.{Place, Spelled, Expression, minus, pre, arrow, binary, choice, sampled, merged, call, condact, mode_name, Variable, Component}
 use Rattle.lus_tree.specs.View.{expr_view, joined}
 use Rattle.lus_tree.specs.declared.place.Sort.{Sort}
 use Rattle.lus_tree.specs.Reason.{Refused, type_clash}
 use Rattle.lus_meaning.specs.Occurrences.{begin}
 use Rattle.lus_meaning.specs.Faults.{if_so, differ}
 use Rattle.lus_meaning.specs.Run.{sort_of_operator}
-use Rattle.lus_meaning.specs.Value.{minus_value, not_value}
-use Rattle.lus_meaning.specs.Scope.{Scope, Worth, worth, weighing, greater, choice_worth, operator_worth, worth_of, is_constant, is_constant_name, sort_of_entry, value_of_entry, name_weight, only_sort, node_named, type_of}
+use Rattle.lus_meaning.specs.Value.{minus_value}
+use Rattle.lus_meaning.specs.Scope.{Scope, Worth, worth, weighing, greater, choice_worth, operator_worth, worth_of, is_constant, only_sort, node_named, type_of}
 use Rattle.lus_meaning.specs.ExpressionFaults.{used_as_clock, needs_sort, agree}
 use Rattle.lus_scopes.specs.declared.found.Part.{Part}
 use Rattle.lus_scopes.specs.Cut.{cut_worth}
@@ -32,20 +32,6 @@ module _ (s : Scope) where
   -- of an expression that is that one
   pub part_of : (x y : Expression) (r : Part) → x ≡ y → IsPart s y r → IsPart s x r
   part_of x y r e i = rw e i
-
-  pub name_is : (pl : Place) (x : Name) (r : Part) → IsMade pl.from (sort_of_entry s x) (is_constant_name s x)
-      (cut_worth (worth (value_of_entry s x) (name_weight s x))) r → IsPart s (name pl x) r
-  name_is pl x r m = record { from = m.from; sort = m.sort; constant = m.constant; worth = m.worth }
-
-  pub not_is : (pl : Place) (a : Expression) (p r : Part) → IsPart s a p → IsMade pl.from (Some Flags) p.constant
-      (cut_worth (worth (not_value (worth_view p.worth).value) None)) r → IsPart s (negation pl a) r
-  not_is pl a p r i m = record {
-    from = m.from;
-    sort = m.sort;
-    constant = m.constant ∙ i.constant;
-    worth = m.worth ∙ ap
-        (λ (w : Worth). cut_worth (worth (not_value w.value) None)) i.worth;
-  }
 
   pub minus_is : (pl : Place) (a : Expression) (p r : Part) → IsPart s a p → IsMade pl.from (Some Numbers) p.constant
       (worth (minus_value (worth_view p.worth).value) (worth_view p.worth).weight) r → IsPart s (minus pl a) r
@@ -105,27 +91,6 @@ module _ (s : Scope) where
         (worth_of s b) (worth_of s d);
   }
 
-  pub sampled_is : (pl : Place) (a : Expression) (b : Bool) (x : Spelled) (p r : Part) → IsPart s a p → IsMade pl.from p.sort false
-      (weighing (worth_view p.worth).weight) r → IsPart s (sampled pl a b x) r
-  sampled_is pl a b x p r i m = record {
-    from = m.from;
-    sort = m.sort ∙ i.sort;
-    constant = m.constant;
-    worth = m.worth ∙ ap
-        (λ (u : Worth). weighing u.weight) i.worth;
-  }
-
-  pub call_is : (pl : Place) (k : ℕ) (f : Spelled) (es : List Expr) (n : Option Component) (r : Part) → n ≡ node_named s.program f.text
-      → IsMade pl.from (option_and_then (λ n. only_sort n.outputs) n) false (weighing (Some 1)) r → IsPart s
-      (call pl k f (joined (map expr_view es))) r
-  call_is pl k f es n r e m = record {
-    from = m.from;
-    sort = m.sort ∙ ap
-        (option_and_then (λ n. only_sort n.outputs)) e;
-    constant = m.constant;
-    worth = m.worth;
-  }
-
   pub condact_is : (pl : Place) (k : ℕ) (a : Expression) (f : Spelled) (es ds : List Expr) (n : Option Component) (r : Part)
       → n ≡ node_named s.program f.text → IsMade pl.from (option_and_then (λ n. only_sort n.outputs) n) false (weighing (Some 1)) r →
       IsPart s (condact pl k a f (joined (map expr_view es)) (joined (map expr_view ds))) r
@@ -149,14 +114,6 @@ then o p q fs gs e f = f ∙ ap (λ z. noted_all z gs) e ∙ sym (noted_append o
 module _ (s : Scope) (w k : Bool) where
   pub walk_of : (x y : Expression) (o q : Option Refused) → x ≡ y → q ≡ noted_all o (walk s w k y) → q ≡ noted_all o (walk s w k x)
   walk_of x y o q e i = rw e i
-
-  pub not_noted : (pl : Place) (a : Expression) (p : Part) (o o1 q : Option Refused) → IsPart s a p → o1 ≡ noted_all o
-      (whole_walk s false k a) → q ≡ noted_all o1 (sort_notes Flags p) → q ≡ noted_all o (walk s w k (negation pl a))
-  not_noted pl a p o o1 q i e f = then o o1 q (whole_walk s false k a) (needs_sort s Flags a) e (f ∙ ap (noted_all o1) (sort_noted s Flags a p i))
-
-  pub minus_noted : (pl : Place) (a : Expression) (p : Part) (o o1 q : Option Refused) → IsPart s a p → o1 ≡ noted_all o
-      (whole_walk s false k a) → q ≡ noted_all o1 (sort_notes Numbers p) → q ≡ noted_all o (walk s w k (minus pl a))
-  minus_noted pl a p o o1 q i e f = then o o1 q (whole_walk s false k a) (needs_sort s Numbers a) e (f ∙ ap (noted_all o1) (sort_noted s Numbers a p i))
 
   pub arrow_noted : (pl : Place) (n : ℕ) (a b : Expression) (p p' : Part) (o o1 o2 q : Option Refused) → IsPart s a p → IsPart s b p'
       → o1 ≡ noted_all o (whole_walk s false k a) → o2 ≡ noted_all o1 (whole_walk s false k b) → q ≡ noted_all o2 (agree_notes p p') →
@@ -197,37 +154,36 @@ module _ (s : Scope) (w k : Bool) where
       (then o1 o2 q (whole_walk s false k b) (used_as_clock s x ++ agree s a b) f
       (g ∙ ap (λ fs. noted_all o2 (used_as_clock s x ++ fs)) (agree_noted s a b p p' i j)))
 
-  pub call_noted : (pl : Place) (m : ℕ) (f : Spelled) (es : List Expr) (n : Option Component) (count : ℕ) (o o1 q : Option Refused)
-      → n ≡ node_named s.program f.text → count ≡ length es → o1 ≡ noted_all o
-      (walk_among s k (inputs_for n (length es)) 0 (joined (map expr_view es))) →
-      q ≡ noted_all o1 (call_own w f count n) → q ≡ noted_all o (walk s w k (call pl m f (joined (map expr_view es))))
-  call_noted pl m f es n count o o1 q d h e g =
-      rw (count_listed es, sym d)
-      (then o o1 q (walk_among s k (inputs_for n (length es)) 0 (joined (map expr_view es))) (call_own w f (length es) n) e
-      (g ∙ ap (λ z. noted_all o1 (call_own w f z n)) h))
+  pub call_noted : (pl : Place) (m : ℕ) (f : Spelled) (es : List Expr) (n : Option Component) (o o1 q : Option Refused)
+      → n ≡ node_named s.program f.text → o1 ≡ noted_all o
+      (walk_among s k (inputs_for (node_named s.program f.text) (length es)) 0 (joined (map expr_view es))) →
+      q ≡ noted_all o1 (call_own w f (length es) n) → q ≡ noted_all o (walk s w k (call pl m f (joined (map expr_view es))))
+  call_noted pl m f es n o o1 q d e g =
+      rw (count_listed es)
+      (then o o1 q (walk_among s k (inputs_for (node_named s.program f.text) (length es)) 0 (joined (map expr_view es)))
+      (call_own w f (length es) (node_named s.program f.text)) e (g ∙ ap (λ z. noted_all o1 (call_own w f (length es) z)) d))
 
-  pub condact_noted : (pl : Place) (m : ℕ) (a : Expression) (f : Spelled) (es ds : List Expr) (n : Option Component) (p : Part)
-      (given held : ℕ) (o o1 o2 o3 o4 q : Option Refused) → n ≡ node_named s.program f.text → given ≡ length es → held ≡ length ds
-      → IsPart s a p →
-      o1 ≡ noted_all o (whole_walk s false k a) → o2 ≡ noted_all o1 (sort_notes Flags p) →
-      o3 ≡ noted_all o2 (walk_among s k (inputs_for n (length es)) 0 (joined (map expr_view es))) → o4 ≡ noted_all o3
+  pub condact_noted : (pl : Place) (m : ℕ) (a : Expression) (f : Spelled) (es ds : List Expr) (n : Option Component)
+      (given held : ℕ) (o o1 o2 o3 q : Option Refused) → n ≡ node_named s.program f.text → given ≡ length es → held ≡ length ds →
+      o1 ≡ noted_all o (whole_walk s false k a ++ needs_sort s Flags a) → o2 ≡ noted_all o1
+      (walk_among s k (inputs_for (node_named s.program f.text) (length es)) 0 (joined (map expr_view es))) → o3 ≡ noted_all o2
       (walk_among s true (outputs_for n (length ds)) 0 (joined (map expr_view ds))) →
-      q ≡ noted_all o4 (call_own w f given n ++ default_own f held n) → q ≡ noted_all o
+      q ≡ noted_all o3 (call_own w f given n ++ default_own f held n) → q ≡ noted_all o
       (walk s w k (condact pl m a f (joined (map expr_view es)) (joined (map expr_view ds))))
-  condact_noted pl m a f es ds n p given held o o1 o2 o3 o4 q d gs hs i e g h l t =
+  condact_noted pl m a f es ds n given held o o1 o2 o3 q d gs hs e g h l =
       rw (count_listed es, count_listed ds, sym d)
-      (then o o2 q (whole_walk s false k a ++ needs_sort s Flags a)
+      (then o o1 q (whole_walk s false k a ++ needs_sort s Flags a)
       (walk_among s k (inputs_for n (length es)) 0 (joined (map expr_view es)) ++
       (walk_among s true (outputs_for n (length ds)) 0 (joined (map expr_view ds)) ++
-      (call_own w f (length es) n ++ default_own f (length ds) n)))
-      (then o o1 o2 (whole_walk s false k a) (needs_sort s Flags a) e (g ∙ ap (noted_all o1) (sort_noted s Flags a p i)))
-      (then o2 o3 q (walk_among s k (inputs_for n (length es)) 0 (joined (map expr_view es)))
+      (call_own w f (length es) n ++ default_own f (length ds) n))) e
+      (then o1 o2 q (walk_among s k (inputs_for n (length es)) 0 (joined (map expr_view es)))
       (walk_among s true (outputs_for n (length ds)) 0 (joined (map expr_view ds)) ++
-      (call_own w f (length es) n ++ default_own f (length ds) n)) h
-      (then o3 o4 q (walk_among s true (outputs_for n (length ds)) 0 (joined (map expr_view ds)))
-      (call_own w f (length es) n ++ default_own f (length ds) n) l
-      (t ∙ ap (λ z. noted_all o4 (call_own w f z n ++ default_own f held n)) gs ∙ ap
-      (λ z. noted_all o4 (call_own w f (length es) n ++ default_own f z n)) hs))))
+      (call_own w f (length es) n ++ default_own f (length ds) n))
+      (g ∙ ap (λ z. noted_all o1 (walk_among s k (inputs_for z (length es)) 0 (joined (map expr_view es)))) (sym d))
+      (then o2 o3 q (walk_among s true (outputs_for n (length ds)) 0 (joined (map expr_view ds)))
+      (call_own w f (length es) n ++ default_own f (length ds) n) h
+      (l ∙ ap (λ z. noted_all o3 (call_own w f z n ++ default_own f held n)) gs ∙ ap
+      (λ z. noted_all o3 (call_own w f (length es) n ++ default_own f z n)) hs))))
 
 -- ---- values
 

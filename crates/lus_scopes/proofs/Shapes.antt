@@ -1,18 +1,15 @@
 -- What the forms of the code are, by the variables of a match.
-use Rattle.std.proofs.Common.{◌≡◌, ℕ, Bool, map, option_map, string_bytes, Vec, Box, String, Option, List}
+use Rattle.std.proofs.Common.{◌≡◌, ℕ, Bool, map, option_map, Vec, Box, Option, List}
 use Rattle.std.specs.declared.alloc.Global.{Global}
 use Rattle.lus_tree.specs.declared.expression.Operator.{Operator}
 use Rattle.lus_tree.specs.declared.place.PlacedName.{PlacedName}
 use Rattle.lus_tree.specs.declared.expression.Expr.{Expr}
-use Rattle.lus_tree.specs.declared.expression.Form.{Form, Name as NameForm, Not, Minus, Pre, Arrow, Binary, If, When, Merge, Call, Condact, ModeName}
-use Rattle.lus_tree.specs.Tree.{Name, Place, name, negation, minus, pre, arrow, binary, choice, sampled, merged, call, condact, mode_name}
+use Rattle.lus_tree.specs.declared.expression.Form.{Form, Minus, Pre, Arrow, Binary, If, When, Merge, Call, Condact, ModeName}
+use Rattle.lus_tree.specs.Tree.{Place, minus, pre, arrow, binary, choice, sampled, merged, call, condact, mode_name}
 use Rattle.lus_tree.specs.View.{expr_view, form_view, joined, word_view}
-use Rattle.lus_tree.proofs.Views.{view-Name, view-Not, view-Minus, view-Pre, view-Arrow, view-Binary, view-If, view-When, view-Merge, view-Call, view-Condact, view-ModeName}
+use Rattle.lus_tree.proofs.Views.{view-Minus, view-Pre, view-Arrow, view-Binary, view-If, view-When, view-Merge, view-Call, view-Condact, view-ModeName}
 
 module _ (f : Form) (s : Place) where
-  pub is_not : (a : Box Expr Global) (x : Expr) → f ≡ Not a → x ≡ a.value → form_view f s ≡ negation s (expr_view x)
-  is_not a x i d = rw (i, d) (view-Not a s)
-
   pub is_minus : (a : Box Expr Global) (x : Expr) → f ≡ Minus a → x ≡ a.value → form_view f s ≡ minus s (expr_view x)
   is_minus a x i d = rw (i, d) (view-Minus a s)
 
@@ -38,9 +35,6 @@ module _ (f : Form) (s : Place) where
   pub is_merged : (w : PlacedName) (a b : Box Expr Global) (x y : Expr) → f ≡ Merge w a b → x ≡ a.value → y ≡ b.value
       → form_view f s ≡ merged s (word_view w) (expr_view x) (expr_view y)
   is_merged w a b x y i d e = rw (i, d, e) (view-Merge w a b s)
-
-  pub is_name : (x : String Global) (y : Name) → f ≡ NameForm x → y ≡ string_bytes x → form_view f s ≡ name s y
-  is_name x y i d = rw (i, d) (view-Name x s)
 
   pub is_call : (k : ℕ) (w : PlacedName) (xs : Vec Expr Global) (es : List Expr) → f ≡ Call k w xs → es ≡ xs.items
       → form_view f s ≡ call s k (word_view w) (joined (map expr_view es))

@@ -1,6 +1,6 @@
 //! What is known of an expression by what is known of its parts, and its own faults.
 
-ghost use Rattle.std.specs.Prelude.{◌≡◌, ◌++◌, ◌&&◌, false, true, not, Some, None, option_and_then, option_map};
+ghost use Rattle.std.specs.Prelude.{◌≡◌, ◌++◌, ◌&&◌, false, true, length, not, pos, Some, None, option_and_then, option_map};
 ghost use Rattle.lus_tree.specs.declared.place.Sort.TheVariants.{Bool as Flags, Int as Numbers};
 ghost use Rattle.lus_tree.specs.Reason.{mode_unknown};
 ghost use Rattle.lus_tree.specs.View.{node_view, word_view};
@@ -8,7 +8,7 @@ ghost use Rattle.lus_meaning.specs.Run.{sort_of_operator};
 ghost use Rattle.lus_meaning.specs.Faults.{if_so};
 ghost use Rattle.lus_meaning.specs.ExpressionFaults.{mode_is_known, used, used_as_clock};
 ghost use Rattle.lus_meaning.specs.Scope.{choice_worth, greater, is_constant_name, name_weight, only_sort, operator_worth, sort_of_entry, value_of_entry, weighing, worth};
-ghost use Rattle.lus_meaning.specs.Value.{minus_value, not_value};
+ghost use Rattle.lus_meaning.specs.Value.{flag, minus_value, not_value, whole};
 ghost use Rattle.lus_scopes.specs.Cut.{cut_worth};
 ghost use Rattle.lus_scopes.specs.Least.{least_view, noted_all};
 ghost use Rattle.lus_scopes.specs.Made.{IsMade};
@@ -24,8 +24,8 @@ use crate::lookup::{is_mode, looked_up};
 use crate::notes::{agree, needs_sort, note_operator, used_as_clock};
 use crate::scope::Scope;
 use crate::sorts::{call_sort, operator_sort};
-use crate::worths::{chosen, either, minus, not, operated, weighing};
-use lus_tree::{Node, Operator, PlacedName, Pos, Sort, What};
+use crate::worths::{chosen, either, minus, not, of_number, of_truth, operated, weighing};
+use lus_tree::{Expr, Node, Operator, PlacedName, Pos, Sort, What};
 
 /// A name.
 pub(crate) fn name_part(scope: &Scope<'_>, least: &mut Least, from: Pos, at: Pos, x: &str) -> Part
@@ -43,13 +43,35 @@ pub(crate) fn name_part(scope: &Scope<'_>, least: &mut Least, from: Pos, at: Pos
     }
 }
 
-/// `not a`
-pub(crate) fn not_part(least: &mut Least, from: Pos, operand: &Part) -> Part
-    ensures part { IsMade from (Some Flags) operand.now.constant
-        (cut_worth (worth (not_value (worth_view operand.now.worth).value) None)) result }
-    ensures least { least_view least.new ≡ noted_all (least_view least.old) (sort_notes Flags operand.now) }
+/// A truth value.
+pub(crate) fn truth_part(from: Pos, value: bool) -> Part
+    ensures { IsMade from (Some Flags) true (worth (flag value) None) result }
 {
-    needs_sort(least, Sort::Bool, operand);
+    Part {
+        from,
+        sort: Some(Sort::Bool),
+        constant: true,
+        worth: of_truth(value),
+    }
+}
+
+/// A number.
+pub(crate) fn number_part(from: Pos, number: u64) -> Part
+    ensures { IsMade from (Some Numbers) true (cut_worth (worth (whole (pos number)) (Some number))) result }
+{
+    Part {
+        from,
+        sort: Some(Sort::Int),
+        constant: true,
+        worth: of_number(number),
+    }
+}
+
+/// `not a`
+pub(crate) fn not_part(from: Pos, operand: &Part) -> Part
+    ensures { IsMade from (Some Flags) operand.now.constant
+        (cut_worth (worth (not_value (worth_view operand.now.worth).value) None)) result }
+{
     Part {
         from,
         sort: Some(Sort::Bool),
@@ -59,12 +81,10 @@ pub(crate) fn not_part(least: &mut Least, from: Pos, operand: &Part) -> Part
 }
 
 /// `- a`
-pub(crate) fn minus_part(least: &mut Least, from: Pos, operand: &Part) -> Part
-    ensures part { IsMade from (Some Numbers) operand.now.constant
+pub(crate) fn minus_part(from: Pos, operand: &Part) -> Part
+    ensures { IsMade from (Some Numbers) operand.now.constant
         (worth (minus_value (worth_view operand.now.worth).value) (worth_view operand.now.worth).weight) result }
-    ensures least { least_view least.new ≡ noted_all (least_view least.old) (sort_notes Numbers operand.now) }
 {
-    needs_sort(least, Sort::Int, operand);
     Part {
         from,
         sort: Some(Sort::Int),
@@ -193,21 +213,21 @@ pub(crate) fn merged_part(
     }
 }
 
-/// A call with so many arguments.
+/// A call.
 pub(crate) fn call_part(
     least: &mut Least,
     whole_side: bool,
     from: Pos,
     callee: &PlacedName,
-    count: usize,
+    arguments: &[Expr],
     node: Option<&Node>,
 ) -> Part
     ensures part { IsMade from (option_and_then (λ n. only_sort n.outputs) (option_map (λ n. node_view n.now) node.entry)) false
         (weighing (Some 1)) result }
     ensures least { least_view least.new ≡ noted_all (least_view least.old)
-        (call_own whole_side (word_view callee.now) count (option_map (λ n. node_view n.now) node.entry)) }
+        (call_own whole_side (word_view callee.now) (length arguments.now) (option_map (λ n. node_view n.now) node.entry)) }
 {
-    note_call(least, whole_side, callee, count, node);
+    note_call(least, whole_side, callee, arguments.len(), node);
     Part {
         from,
         sort: call_sort(node),
@@ -237,24 +257,24 @@ pub(crate) fn mode_part(
     }
 }
 
-/// What is known of a call with so many arguments and so many defaults, and its own faults.
+/// An activated call.
 #[tactic(auto, using(crate::proofs::Leasts::noted_append))]
 pub(crate) fn condact_part(
     least: &mut Least,
     whole_side: bool,
     from: Pos,
     callee: &PlacedName,
-    arguments: usize,
-    defaults: usize,
+    arguments: &[Expr],
+    defaults: &[Expr],
     node: Option<&Node>,
 ) -> Part
     ensures part { IsMade from (option_and_then (λ n. only_sort n.outputs) (option_map (λ n. node_view n.now) node.entry)) false
         (weighing (Some 1)) result }
     ensures least { least_view least.new ≡ noted_all (least_view least.old)
-        (call_own whole_side (word_view callee.now) arguments (option_map (λ n. node_view n.now) node.entry)
-        ++ default_own (word_view callee.now) defaults (option_map (λ n. node_view n.now) node.entry)) }
+        (call_own whole_side (word_view callee.now) (length arguments.now) (option_map (λ n. node_view n.now) node.entry)
+        ++ default_own (word_view callee.now) (length defaults.now) (option_map (λ n. node_view n.now) node.entry)) }
 {
     let found = call_part(least, whole_side, from, callee, arguments, node);
-    note_defaults(least, callee, defaults, node);
+    note_defaults(least, callee, defaults.len(), node);
     found
 }

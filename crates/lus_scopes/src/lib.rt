@@ -17,6 +17,7 @@ pub mod layer;
 pub mod least;
 pub mod lookup;
 pub mod meant;
+pub mod memory;
 pub mod names;
 mod notes;
 mod owner;

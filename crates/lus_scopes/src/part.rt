@@ -6,8 +6,8 @@ ghost use Rattle.lus_tree.specs.Tree.{Place, Expression, truth, number, name, ne
 ghost use Rattle.lus_tree.specs.View.{expr_view, exprs_view, form_view, joined, node_view, param_view, word_view};
 ghost use Rattle.lus_tree.specs.Reason.{heavy, not_constant};
 ghost use Rattle.lus_meaning.specs.Faults.{faults_at, if_so};
-ghost use Rattle.lus_meaning.specs.ExpressionFaults.{is_integer};
-ghost use Rattle.lus_meaning.specs.Scope.{is_heavy};
+ghost use Rattle.lus_meaning.specs.ExpressionFaults.{is_integer, needs_sort};
+ghost use Rattle.lus_meaning.specs.Scope.{is_heavy, node_named};
 ghost use Rattle.lus_scopes.specs.Least.{least_view, noted_all};
 ghost use Rattle.lus_scopes.specs.Parts.{IsPart, always_notes};
 ghost use Rattle.lus_scopes.specs.Scopes.{scope_view};
@@ -16,14 +16,13 @@ ghost use Rattle.lus_scopes.specs.Walk.{always, fits_stream, hinders, inputs_for
 use crate::calls::{inputs_for, outputs_for, stream_at};
 use crate::forms::{
     arrow_part, call_part, choice_part, condact_part, merged_part, minus_part, mode_part,
-    name_part, not_part, operator_part, pre_part, sampled_part,
+    name_part, not_part, number_part, operator_part, pre_part, sampled_part, truth_part,
 };
 use crate::found::Part;
 use crate::least::Least;
 use crate::notes::needs_sort;
 use crate::scope::Scope;
 use crate::weights::is_heavy;
-use crate::worths::{of_number, of_truth};
 use lus_tree::{Expr, Form, Node, Operator, Param, PlacedName, Pos, Sort, What};
 
 /// How an expression stands: whether it is the whole right side of an equation, and whether it is
@@ -129,7 +128,21 @@ fn operand(scope: &Scope<'_>, least: &mut Least, constant: bool, e: &Expr) -> Pa
     part(scope, least, manner, e)
 }
 
-/// The same of a form, but for what is noted of every part.
+/// A part of an expression that is to be of that type.
+#[cycle(part)]
+#[tactic(auto, using(crate::proofs::Leasts::noted_append, crate::proofs::Parts::sort_noted))]
+fn operand_of(scope: &Scope<'_>, least: &mut Least, constant: bool, sort: Sort, e: &Expr) -> Part
+    ensures part { IsPart (scope_view scope.now) (expr_view e.now) result }
+    ensures least { least_view least.new ≡ noted_all (least_view least.old)
+        (whole_walk (scope_view scope.now) false constant (expr_view e.now)
+        ++ needs_sort (scope_view scope.now) sort (expr_view e.now)) }
+{
+    let found = operand(scope, least, constant, e);
+    needs_sort(least, sort, &found);
+    found
+}
+
+/// What is known of a form, and its faults, but for what is noted of every part.
 #[cycle(part)]
 #[tactic(auto, using(lus_tree::proofs::Views::form_views, crate::proofs::Leasts::noted_append))]
 fn form_part(
@@ -145,96 +158,159 @@ fn form_part(
         (walk (scope_view scope.now) manner.whole_side manner.constant (form_view form.now record { from = from; at = at })) }
 {
     let constant = manner.constant;
+    let whole_side = manner.whole_side;
     match form {
-        Form::Truth(value) => Part {
-            from,
-            sort: Some(Sort::Bool),
-            constant: true,
-            worth: of_truth(*value),
-        },
-        Form::Number(number) => Part {
-            from,
-            sort: Some(Sort::Int),
-            constant: true,
-            worth: of_number(*number),
-        },
+        Form::Truth(value) => truth_part(from, *value),
+        Form::Number(number) => number_part(from, *number),
         Form::Name(x) => name_part(scope, least, from, at, x),
-        Form::Not(a) => {
-            let negated = operand(scope, least, constant, a);
-            not_part(least, from, &negated)
-        }
-        Form::Minus(a) => {
-            let opposed = operand(scope, least, constant, a);
-            minus_part(least, from, &opposed)
-        }
-        Form::Pre(_, a) => {
-            let earlier = operand(scope, least, constant, a);
-            pre_part(from, &earlier)
-        }
-        Form::Arrow(_, a, b) => {
-            let initial = operand(scope, least, constant, a);
-            let later = operand(scope, least, constant, b);
-            arrow_part(least, from, &initial, &later)
-        }
+        Form::Not(a) => not_part(from, &operand_of(scope, least, constant, Sort::Bool, a)),
+        Form::Minus(a) => minus_part(from, &operand_of(scope, least, constant, Sort::Int, a)),
+        Form::Pre(_, a) => pre_part(from, &operand(scope, least, constant, a)),
+        Form::Arrow(_, a, b) => arrow(scope, least, constant, from, a, b),
         Form::Binary(operator, a, b) => {
             let left = operand(scope, least, constant, a);
-            let wanted = is_wanted(constant, *operator);
-            let right = operand(scope, least, wanted, b);
+            let right = operand(scope, least, is_wanted(constant, *operator), b);
             operator_part(least, from, at, *operator, &left, &right)
         }
-        Form::If(a, b, c) => {
-            let condition = operand(scope, least, constant, a);
-            let chosen = operand(scope, least, constant, b);
-            let otherwise = operand(scope, least, constant, c);
-            choice_part(least, from, &condition, &chosen, &otherwise)
-        }
-        Form::When(a, _, clock) => {
-            let sampled = operand(scope, least, constant, a);
-            sampled_part(scope, least, from, &sampled, clock)
-        }
-        Form::Merge(clock, a, b) => {
-            let on = operand(scope, least, constant, a);
-            let off = operand(scope, least, constant, b);
-            merged_part(scope, least, from, clock, &on, &off)
-        }
-        Form::Call(_, word, arguments) => {
-            let callee = scope.declarations.node(&word.text);
-            arguments_of(scope, least, constant, callee, arguments);
-            let count = arguments.len();
-            call_part(least, manner.whole_side, from, word, count, callee)
-        }
-        Form::Condact(_, a, word, arguments, defaults) => {
-            let active = operand(scope, least, constant, a);
-            needs_sort(least, Sort::Bool, &active);
-            let activated = scope.declarations.node(&word.text);
-            arguments_of(scope, least, constant, activated, arguments);
-            defaults_of(scope, least, activated, defaults);
-            let given = arguments.len();
-            let held = defaults.len();
-            condact_part(least, manner.whole_side, from, word, given, held, activated)
+        Form::If(a, b, c) => choice(scope, least, constant, from, a, b, c),
+        Form::When(a, _, clock) => sampled(scope, least, constant, from, a, clock),
+        Form::Merge(clock, a, b) => merge(scope, least, constant, from, clock, a, b),
+        Form::Call(_, callee, arguments) => call(scope, least, manner, from, callee, arguments),
+        Form::Condact(_, a, callee, arguments, defaults) => {
+            operand_of(scope, least, constant, Sort::Bool, a);
+            let node = arguments_of(scope, least, constant, callee, arguments);
+            defaults_of(scope, least, node, defaults);
+            condact_part(least, whole_side, from, callee, arguments, defaults, node)
         }
         Form::ModeName(contract, mode) => mode_part(scope, least, from, contract, mode),
     }
 }
 
-/// The arguments of a call.
+/// `a -> b`
 #[cycle(part)]
-fn arguments_of(
+fn arrow(
     scope: &Scope<'_>,
     least: &mut Least,
     constant: bool,
-    callee: Option<&Node>,
-    arguments: &[Expr],
-)
-    ensures { least_view least.new ≡ noted_all (least_view least.old)
-        (walk_among (scope_view scope.now) constant (inputs_for (option_map (λ n. node_view n.now) callee.entry) (length arguments.now))
-        0 (joined (exprs_view arguments.now))) }
+    from: Pos,
+    a: &Expr,
+    b: &Expr,
+) -> Part
+    ensures part { (at : Pos) (n : ℕ) → IsPart (scope_view scope.now)
+        (arrow record { from = from; at = at } n (expr_view a.now) (expr_view b.now)) result }
+    ensures least { (p : Place) (n : ℕ) → least_view least.new ≡ noted_all (least_view least.old)
+        (walk (scope_view scope.now) false constant (arrow p n (expr_view a.now) (expr_view b.now))) }
 {
-    let inputs = inputs_for(callee, arguments.len());
-    values(scope, least, constant, inputs, arguments);
+    let initial = operand(scope, least, constant, a);
+    let later = operand(scope, least, constant, b);
+    arrow_part(least, from, &initial, &later)
 }
 
-/// The defaults of a call, which are to be constant.
+/// `if a then b else c`
+#[cycle(part)]
+fn choice(
+    scope: &Scope<'_>,
+    least: &mut Least,
+    constant: bool,
+    from: Pos,
+    a: &Expr,
+    b: &Expr,
+    c: &Expr,
+) -> Part
+    ensures part { (at : Pos) → IsPart (scope_view scope.now)
+        (choice record { from = from; at = at } (expr_view a.now) (expr_view b.now) (expr_view c.now)) result }
+    ensures least { (p : Place) → least_view least.new ≡ noted_all (least_view least.old)
+        (walk (scope_view scope.now) false constant (choice p (expr_view a.now) (expr_view b.now) (expr_view c.now))) }
+{
+    let condition = operand(scope, least, constant, a);
+    let chosen = operand(scope, least, constant, b);
+    let otherwise = operand(scope, least, constant, c);
+    choice_part(least, from, &condition, &chosen, &otherwise)
+}
+
+/// `a when c`, or `a when not c`
+#[cycle(part)]
+fn sampled(
+    scope: &Scope<'_>,
+    least: &mut Least,
+    constant: bool,
+    from: Pos,
+    a: &Expr,
+    clock: &PlacedName,
+) -> Part
+    ensures part { (at : Pos) (truth : Bool) → IsPart (scope_view scope.now)
+        (sampled record { from = from; at = at } (expr_view a.now) truth (word_view clock.now)) result }
+    ensures least { (p : Place) (truth : Bool) → least_view least.new ≡ noted_all (least_view least.old)
+        (walk (scope_view scope.now) false constant (sampled p (expr_view a.now) truth (word_view clock.now))) }
+{
+    let found = operand(scope, least, constant, a);
+    sampled_part(scope, least, from, &found, clock)
+}
+
+/// `merge c (true -> a) (false -> b)`
+#[cycle(part)]
+fn merge(
+    scope: &Scope<'_>,
+    least: &mut Least,
+    constant: bool,
+    from: Pos,
+    clock: &PlacedName,
+    a: &Expr,
+    b: &Expr,
+) -> Part
+    ensures part { (at : Pos) → IsPart (scope_view scope.now)
+        (merged record { from = from; at = at } (word_view clock.now) (expr_view a.now) (expr_view b.now)) result }
+    ensures least { (p : Place) → least_view least.new ≡ noted_all (least_view least.old)
+        (walk (scope_view scope.now) false constant (merged p (word_view clock.now) (expr_view a.now) (expr_view b.now))) }
+{
+    let on = operand(scope, least, constant, a);
+    let off = operand(scope, least, constant, b);
+    merged_part(scope, least, from, clock, &on, &off)
+}
+
+/// A call.
+#[cycle(part)]
+fn call(
+    scope: &Scope<'_>,
+    least: &mut Least,
+    manner: Manner,
+    from: Pos,
+    callee: &PlacedName,
+    arguments: &[Expr],
+) -> Part
+    ensures part { (at : Pos) (n : ℕ) → IsPart (scope_view scope.now)
+        (call record { from = from; at = at } n (word_view callee.now) (joined (exprs_view arguments.now))) result }
+    ensures least { (p : Place) (n : ℕ) → least_view least.new ≡ noted_all (least_view least.old)
+        (walk (scope_view scope.now) manner.whole_side manner.constant
+        (call p n (word_view callee.now) (joined (exprs_view arguments.now)))) }
+{
+    let node = arguments_of(scope, least, manner.constant, callee, arguments);
+    call_part(least, manner.whole_side, from, callee, arguments, node)
+}
+
+/// The arguments of a call. Gives its callee, where there is one.
+#[cycle(part)]
+fn arguments_of<'a>(
+    scope: &Scope<'a>,
+    least: &mut Least,
+    constant: bool,
+    callee: &PlacedName,
+    arguments: &[Expr],
+) -> Option<&'a Node>
+    ensures callee { option_map (λ n. node_view n.now) result
+        ≡ node_named (scope_view scope.now).program (word_view callee.now).text }
+    ensures least { least_view least.new ≡ noted_all (least_view least.old)
+        (walk_among (scope_view scope.now) constant
+        (inputs_for (node_named (scope_view scope.now).program (word_view callee.now).text) (length arguments.now))
+        0 (joined (exprs_view arguments.now))) }
+{
+    let node = scope.declarations.node(&callee.text);
+    let inputs = inputs_for(node, arguments.len());
+    values(scope, least, constant, inputs, arguments);
+    node
+}
+
+/// The defaults of an activated call, which are to be constant.
 #[cycle(part)]
 fn defaults_of(scope: &Scope<'_>, least: &mut Least, callee: Option<&Node>, defaults: &[Expr])
     ensures { least_view least.new ≡ noted_all (least_view least.old)

@@ -15,7 +15,8 @@ use crate::found::{Found, Named};
 use crate::place::Place;
 use crate::tables::{Tables, found};
 use crate::walk::{Checked, first_fault};
-use lus_tree::{Expr, Pos, Program, Refusal, Sort, What};
+use lus_scopes::memory::no_memory;
+use lus_tree::{Expr, Program, Refusal, Sort};
 use std::alloc::Global;
 use std::marker::Model;
 
@@ -138,16 +139,6 @@ impl Typed {
     {
         let _ = &self.program;
         self.type_of(declaration, e).unwrap()
-    }
-}
-
-/// The refusal of a program for want of memory.
-fn no_memory() -> Refusal
-    ensures { result ≡ record { at = record { line = 1; column = 1 }; what = What.Memory } }
-{
-    Refusal {
-        at: Pos { line: 1, column: 1 },
-        what: What::Memory,
     }
 }
 

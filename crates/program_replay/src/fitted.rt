@@ -16,7 +16,8 @@ use crate::fault::ReplayFault;
 use lus_meaning::Trace;
 use lus_tree::Program;
 use std::alloc::Global;
-use trace_fits::{FitFault, Fitted, fit};
+use trace_fits::{Fitted, fit};
+use trace_text::TraceFault;
 
 /// What the lines of a trace list, by slot, where it fits a checked program.
 pub(crate) fn fitted<'t>(
@@ -34,7 +35,7 @@ pub(crate) fn fitted<'t>(
 {
     match fit(alloc, program, trace) {
         Ok(fitted) => Ok(fitted),
-        Err(FitFault::Form(at)) => Err(ReplayFault::Form(at)),
-        Err(FitFault::Memory) => Err(ReplayFault::Memory),
+        Err(TraceFault::Form(at)) => Err(ReplayFault::Form(at)),
+        Err(TraceFault::Memory) => Err(ReplayFault::Memory),
     }
 }

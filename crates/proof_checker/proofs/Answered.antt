@@ -26,7 +26,7 @@ module _ (shapes : List Shape) (atoms : List Inequality) (clauses : List (List L
   answer_is (Ok u) h = refuted_right shapes atoms clauses proof.atoms proof.moves h
   answer_is (Err (Step n rule)) h = step-answer (verdict shapes atoms clauses proof.atoms proof.moves) n rule refl h
   answer_is (Err Open) h = unfinished_right shapes atoms clauses proof.atoms proof.moves h
-  answer_is (Err (Memory e)) h = tt
+  answer_is (Err Memory) h = tt
 
   pub answer_sound : (r : Result Refuted Fault) → Answers (verdict shapes atoms clauses proof.atoms proof.moves) r → IfOk r (λ _. HaveNoSolution atoms clauses)
   answer_sound (Ok u) h = verdict_sound shapes atoms clauses proof.atoms proof.moves h

@@ -8,7 +8,7 @@ use Rattle.proof_checker.specs.Theory.{Outcome, value, past, stopped}
 abbrev pub Fails : {X : Type 0} → Outcome X → Trouble → Type 0
 Fails o Past = o ≡ past
 Fails o Stopped = o ≡ stopped
-Fails o (Memory e) = Unit
+Fails o Memory = Unit
 
 -- the outcome is what a result and the value left behind say
 abbrev pub Leaves : {X Y : Type 0} → Outcome X → Result Y Trouble → X → Type 0

@@ -10,6 +10,7 @@ pub mod Variables
 pub mod Refuted
 pub mod Appended
 pub mod Propagation
+pub mod Decisions
 pub mod Analysis
 pub mod Reduction
 pub mod Placing

@@ -14,7 +14,6 @@ ghost use Rattle.sat_core.specs.Waiting.{IsReady};
 ghost use Rattle.sat_core.specs.Answer.{IsEnded, IsAnswered};
 ghost use Rattle.sat_core.specs.declared.answer.Answer.TheVariants.{Full};
 
-use crate::analysis::last_decision;
 use crate::assigned::Assigned;
 use crate::assignment::Assignment;
 use crate::derived::refuted;
@@ -114,11 +113,20 @@ pub fn answered(
     else {
         return Ok(Answer::Full);
     };
-    let trail = assignment.entries();
-    match last_decision(trail) {
+    let trail = assignment.trail();
+    match trail.last_decision() {
         Some(_) => Ok(Answer::Conflict(number)),
         None => {
-            end(alloc, clauses, watches, log, trail, number, *head, ended)?;
+            end(
+                alloc,
+                clauses,
+                watches,
+                log,
+                trail.entries,
+                number,
+                *head,
+                ended,
+            )?;
             Ok(Answer::Empty(number))
         }
     }

@@ -19,6 +19,7 @@ mod search;
 mod set;
 mod short;
 mod store;
+mod trail;
 mod variables;
 mod visiting;
 mod watches;

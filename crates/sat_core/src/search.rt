@@ -9,7 +9,7 @@ ghost use Rattle.sat_core.specs.Watching.{Watching};
 ghost use Rattle.sat_core.specs.Waiting.{IsReady, waiting_entry};
 ghost use Rattle.sat_core.specs.Analysis.{IsDecisionAt};
 
-use crate::analysis::{Analysis, analysed, next_decision};
+use crate::analysis::{Analysis, analysed};
 use crate::answer::{Answer, MOST, answered};
 use crate::assigned::Assigned;
 use crate::assignment::Assignment;
@@ -19,11 +19,12 @@ use crate::order::Order;
 use crate::placing::{Placing, placed};
 use crate::set::LiteralSet;
 use crate::store::{ClauseStore, Looks};
+use crate::trail::Trail;
 use crate::variables::{add_atoms, admit, admit_all, flags_of};
 use crate::watches::Watches;
 use cnf_maker::Cnf;
 use proof_steps::{Clause, Literal, Step};
-use std::alloc::{AllocError, Global};
+use std::alloc::Global;
 use std::marker::Model;
 
 /// A search over the clauses of a query and those that are added and learnt.
@@ -120,13 +121,13 @@ fn wait_for(
 
 /// How much stays after a conflict: where the search begins anew, what comes before the first
 /// decision.
-fn back_or_anew(trail: &[Assigned], back: usize, anew: bool) -> usize
-    requires { back ≤ length trail.now }
+fn back_or_anew(trail: Trail<'_>, back: usize, anew: bool) -> usize
+    requires { back ≤ length trail.entries.now }
     ensures less { result ≤ back }
-    ensures decided { (result ≡ back) ⊎ IsDecisionAt trail.now result }
+    ensures decided { (result ≡ back) ⊎ IsDecisionAt trail.entry.entries.now result }
 {
     if anew {
-        next_decision(trail, 0, back)
+        trail.next_decision(0, back)
     } else {
         back
     }
@@ -241,7 +242,7 @@ impl Search {
         ensures err { OnErr result (IsAsBefore self.old self.new) }
     {
         if self.clauses.len() >= MOST {
-            return Err(SearchFault::Memory(AllocError));
+            return Err(SearchFault::Memory);
         }
         let literals = clause.literals.as_slice();
         let Placing {
@@ -260,8 +261,8 @@ impl Search {
             clause,
             watched,
         )?;
-        let entries = self.assignment.entries();
-        let back = next_decision(entries, low, entries.len());
+        let trail = self.assignment.trail();
+        let back = trail.next_decision(low, trail.entries.len());
         cut_to(
             &mut self.assignment,
             &mut self.head,
@@ -284,12 +285,12 @@ impl Search {
         ensures err { OnErr result (IsAsBefore self.old self.new) }
     {
         if self.clauses.len() >= MOST {
-            return Err(SearchFault::Memory(AllocError));
+            return Err(SearchFault::Memory);
         }
         self.waiting.reserve(1)?;
         let number = self.clauses.len() as u32 + 1;
         let looks = &mut self.looks;
-        let entries = self.assignment.entries();
+        let trail = self.assignment.trail();
         let Analysis {
             clause,
             hints,
@@ -300,7 +301,7 @@ impl Search {
             alloc,
             &self.clauses,
             looks,
-            entries,
+            trail,
             &mut self.marked,
             self.conflict,
         )?;
@@ -313,7 +314,7 @@ impl Search {
             hints,
             watched,
         )?;
-        let back = back_or_anew(entries, back, self.order.restarts());
+        let back = back_or_anew(trail, back, self.order.restarts());
         self.order.bump_all(self.marked.as_slice());
         cut_to(
             &mut self.assignment,
@@ -358,7 +359,7 @@ impl Search {
             Err(fault) => {
                 self.order.undo_from(self.assignment.entries(), before);
                 self.assignment.cut(before);
-                Err(SearchFault::Memory(fault))
+                Err(SearchFault::Memory)
             }
             Ok(Answer::Full) => {
                 self.head = head;

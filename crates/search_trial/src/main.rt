@@ -15,6 +15,7 @@ mod adding;
 mod brute;
 mod chain;
 mod clauses;
+mod followed;
 mod plain;
 mod random;
 mod trial;

@@ -1,3 +1,4 @@
+use crate::followed::Followed;
 use anyhow::{Result, bail};
 use cnf_maker::Cnf;
 use proof_checker::{Fault, check};
@@ -35,7 +36,8 @@ pub fn searched(alloc: Global, search: &mut Search) -> Result<Found> {
     bail!("ten million conflicts");
 }
 
-fn clause_of(step: &Step) -> &Clause {
+/// The clause of a step.
+pub fn clause_of(step: &Step) -> &Clause {
     match step {
         Step::Derived { clause, .. } => clause,
         Step::Theory { clause, .. } => clause,
@@ -80,7 +82,8 @@ fn is_new(log: &[Step]) -> bool {
     true
 }
 
-fn copied(alloc: Global, steps: &[Step]) -> Result<Proof> {
+/// A proof of these steps.
+pub fn copied(alloc: Global, steps: &[Step]) -> Result<Proof> {
     let mut list = Vec::new(alloc);
     for step in steps {
         list.push(step.copied(alloc)?)?;
@@ -204,15 +207,22 @@ fn excluded(alloc: Global, search: &Search, flags: u32) -> Result<Clause> {
     Ok(Clause { literals })
 }
 
-/// How many solutions are found where each one is then excluded by a clause more.
-pub fn counted(alloc: Global, form: &Cnf, flags: u32) -> Result<u32> {
+/// How many solutions are found where each one is then excluded by a clause more; none where the checker refuses a
+/// step of the log.
+pub fn counted(alloc: Global, form: &Cnf, flags: u32) -> Result<Option<u32>> {
     let mut search = search_of(alloc, form)?;
+    let mut numbered = Followed::new(alloc, form)?;
     for count in 0..1_000u32 {
-        if searched(alloc, &mut search)? == Found::Empty {
-            return Ok(count);
+        let found = searched(alloc, &mut search)?;
+        if !numbered.follow(alloc, form, &search)? {
+            return Ok(None);
+        }
+        if found == Found::Empty {
+            return Ok(Some(count));
         }
         let clause = excluded(alloc, &search, flags)?;
         search.add(alloc, &clause)?;
+        numbered.add(alloc, &clause)?;
     }
     bail!("a thousand solutions");
 }

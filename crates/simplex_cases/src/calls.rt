@@ -5,7 +5,7 @@ use crate::rows::{number_at, rows_of};
 use crate::systems::{chain, dense};
 use anyhow::Result;
 use int_simplex::{BoundFault, Checkup, Tableau};
-use std::alloc::Global;
+use std::alloc::{AllocError, Global};
 
 fn small(n: i128) -> u32 {
     if n < 0 || n > 4_294_967_295 {
@@ -71,7 +71,7 @@ fn asserted(
             let shown = parts(alloc, &farkas.parts)?;
             Ok((Some(tableau), told(alloc, "crosses", &shown)?))
         }
-        Err(BoundFault::Memory(error)) => Err(error.into()),
+        Err(BoundFault::Memory) => Err(AllocError.into()),
     }
 }
 

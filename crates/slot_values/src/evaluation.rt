@@ -2,6 +2,7 @@
 
 ghost use Rattle.std.specs.Prelude.{◌≡◌};
 ghost use Rattle.lus_meaning.specs.TraceView.{entry_view};
+ghost use Rattle.lus_meaning.specs.Value.{choose};
 ghost use Rattle.slot_values.specs.Resolution.{resolved_view};
 ghost use Rattle.slot_values.specs.Evaluated.{answer_view, slots_in, only_where, evaluated};
 ghost use Rattle.slot_values.specs.Outcome.{outcome_view, value_within};
@@ -21,6 +22,17 @@ fn only_if(on: bool, value: Option<Value>) -> Option<Value>
     if on { value } else { None }
 }
 
+/// The output where its beat is true, else what is held of it.
+fn latest(row: &[SlotValue], beat: u32, output: u32, held: u32) -> Option<Value>
+    ensures { entry_view result ≡ choose (slots_in row.now beat) (slots_in row.now output) (slots_in row.now held) }
+{
+    chosen(
+        slot_value(row, beat).value(),
+        slot_value(row, output).value(),
+        slot_value(row, held).value(),
+    )
+}
+
 #[cycle(walk)]
 fn walk(e: &Resolved, on: bool, row: &[SlotValue]) -> Result<Option<Value>, PastAt>
     ensures { answer_view result ≡ stepwise (slots_in row.now) on (resolved_view e.now) }
@@ -28,14 +40,8 @@ fn walk(e: &Resolved, on: bool, row: &[SlotValue]) -> Result<Option<Value>, Past
     match e {
         Resolved::Known(value) => Ok(only_if(on, *value)),
         Resolved::Slot(slot) => Ok(only_if(on, slot_value(row, *slot).value())),
-        Resolved::Not(a) => {
-            let a = walk(a, on, row)?;
-            Ok(negated(a))
-        }
-        Resolved::Minus(at, a) => {
-            let a = walk(a, on, row)?;
-            opposite(*at, a)
-        }
+        Resolved::Not(a) => Ok(negated(walk(a, on, row)?)),
+        Resolved::Minus(at, a) => opposite(*at, walk(a, on, row)?),
         Resolved::Binary(at, operator, a, b) => {
             let a = walk(a, on, row)?;
             let b = walk(b, on, row)?;
@@ -65,12 +71,7 @@ fn walk(e: &Resolved, on: bool, row: &[SlotValue]) -> Result<Option<Value>, Past
         }
         Resolved::Latest(condition, beat, output, held) => {
             walk(condition, on, row)?;
-            let value = chosen(
-                slot_value(row, *beat).value(),
-                slot_value(row, *output).value(),
-                slot_value(row, *held).value(),
-            );
-            Ok(only_if(on, value))
+            Ok(only_if(on, latest(row, *beat, *output, *held)))
         }
     }
 }

@@ -1,6 +1,6 @@
 //! Why an obligation was not answered.
 
-ghost use Rattle.std.specs.Prelude.{◌≡◌, alloc_error};
+ghost use Rattle.std.specs.Prelude.{◌≡◌};
 ghost use Rattle.smt_solver.specs.declared.fault.SolveFault.TheVariants.{Memory};
 
 use int_simplex::TableauFault;
@@ -14,29 +14,29 @@ use thiserror::Error;
 pub enum SolveFault {
     /// Memory ran out, or there are more variables, conditions or clauses than 32 bits number.
     #[error("out of memory")]
-    Memory(AllocError),
+    Memory,
 }
 
 impl From<AllocError> for SolveFault {
-    ghost from_gives = { λ x e. e ≡ Memory x };
+    ghost from_gives = { λ _ e. e ≡ Memory };
 
-    fn from(error: AllocError) -> SolveFault {
-        SolveFault::Memory(error)
+    fn from(_error: AllocError) -> SolveFault {
+        SolveFault::Memory
     }
 }
 
 impl<T: Drop> From<AllocFailed<T>> for SolveFault {
-    ghost from_gives = { λ _ e. e ≡ Memory alloc_error };
+    ghost from_gives = { λ _ e. e ≡ Memory };
 
     fn from(_error: AllocFailed<T>) -> SolveFault {
-        SolveFault::Memory(AllocError)
+        SolveFault::Memory
     }
 }
 
 impl From<QueryFault> for SolveFault {
     fn from(fault: QueryFault) -> SolveFault {
         match fault {
-            QueryFault::Memory(error) => SolveFault::Memory(error),
+            QueryFault::Memory => SolveFault::Memory,
         }
     }
 }
@@ -44,7 +44,7 @@ impl From<QueryFault> for SolveFault {
 impl From<SearchFault> for SolveFault {
     fn from(fault: SearchFault) -> SolveFault {
         match fault {
-            SearchFault::Memory(error) => SolveFault::Memory(error),
+            SearchFault::Memory => SolveFault::Memory,
         }
     }
 }
@@ -52,7 +52,7 @@ impl From<SearchFault> for SolveFault {
 impl From<TableauFault> for SolveFault {
     fn from(fault: TableauFault) -> SolveFault {
         match fault {
-            TableauFault::Memory(error) => SolveFault::Memory(error),
+            TableauFault::Memory => SolveFault::Memory,
         }
     }
 }

@@ -22,7 +22,7 @@ pub fn is_refuted(alloc: Global, cnf: &Cnf, proof: &Proof) -> Result<bool, Solve
 {
     match check(alloc, &cnf.shapes, &cnf.atoms, &cnf.clauses, proof) {
         Ok(_) => Ok(true),
-        Err(Fault::Memory(error)) => Err(SolveFault::Memory(error)),
+        Err(Fault::Memory) => Err(SolveFault::Memory),
         Err(Fault::Step { .. }) | Err(Fault::Open) => Ok(false),
     }
 }

@@ -16,7 +16,7 @@ use line_laws::laws::split_steps_fit;
 use proof_steps::{Budgets, PastStep, Start};
 use sat_core::Found;
 use sat_core::laws::learnt_steps_are_accepted;
-use std::alloc::{AllocError, Global};
+use std::alloc::Global;
 
 /// How a run ends.
 #[derive(Drop)]
@@ -81,7 +81,7 @@ fn at_full(alloc: Global, solver: &mut Solver, budgets: Budgets) -> Result<Optio
     long_checks_are_long();
     past_checks_are_past();
     if solver.meanings.len() as u64 >= u32::MAX as u64 {
-        return Err(SolveFault::Memory(AllocError));
+        return Err(SolveFault::Memory);
     }
     let look = look_at_numbers(
         alloc,

@@ -54,7 +54,7 @@ fn made(alloc: Global, query: &Query) -> Result<Cnf, SolveFault>
 {
     match clauses(alloc, query) {
         Ok(cnf) => Ok(cnf),
-        Err(CnfFault::Memory(error)) => Err(SolveFault::Memory(error)),
+        Err(CnfFault::Memory) => Err(SolveFault::Memory),
         Err(CnfFault::Past(_)) => unreachable!(),
     }
 }

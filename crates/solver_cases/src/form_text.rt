@@ -76,6 +76,6 @@ pub fn form_text(alloc: Global, form: &Result<Cnf, CnfFault>) -> Result<String, 
     match form {
         Ok(cnf) => cnf_text(alloc, cnf),
         Err(CnfFault::Past(past)) => past_text(alloc, *past),
-        Err(CnfFault::Memory(error)) => Err(*error),
+        Err(CnfFault::Memory) => Err(AllocError),
     }
 }

@@ -23,8 +23,8 @@ use Rattle.path_laws.proofs.Main.{each_is_well_typed}
 use Rattle.sys_meaning.specs.Slot.{Place, number_in, place_of, spot_of}
 use Rattle.sys_meaning.specs.System.{number_of}
 use Rattle.sys_meaning.proofs.Follows.{some_same, none_some}
-use Rattle.trace_fits.specs.declared.fault.FitFault.{FitFault}
-use Rattle.trace_fits.specs.declared.fault.FitFault.TheVariants.{Form, Memory}
+use Rattle.trace_text.specs.declared.fault.TraceFault.{TraceFault}
+use Rattle.trace_text.specs.declared.fault.TraceFault.TheVariants.{Form, Memory}
 use Rattle.trace_fits.specs.declared.fitted.Fitted.{Fitted}
 use Rattle.trace_fits.specs.Filling.{Seats, are_given, filled, lines_misfit, no_seats, or_else, seated_value, trace_misfit}
 use Rattle.trace_fits.specs.Given.{IsSlotted, ListedPlace, given_at, place_in, slot_place, spot_in, subject_in}
@@ -172,16 +172,16 @@ module _ (p : Program) (c : IsChecked p) (t : Listing) (d : Component) (named : 
       go false e = absurd (none_some t.length_at (sym e))
 
   -- what is found, and what the slots have
-  pub fits : {Z : Type 0} (r : Result Z FitFault) → Finds r (trace_misfit ss d.inputs (no_seats w) t) → OnOk r (FitsProgram p t)
+  pub fits : {Z : Type 0} (r : Result Z TraceFault) → Finds r (trace_misfit ss d.inputs (no_seats w) t) → OnOk r (FitsProgram p t)
   fits (Ok x) h = passes_fits p t (misfit_so ∙ h)
   fits (Err e) h = tt
 
-  pub form : {Z : Type 0} (r : Result Z FitFault) → Finds r (trace_misfit ss d.inputs (no_seats w) t) → IfErr r (IsMisfit p t)
+  pub form : {Z : Type 0} (r : Result Z TraceFault) → Finds r (trace_misfit ss d.inputs (no_seats w) t) → IfErr r (IsMisfit p t)
   form (Ok x) h = tt
   form (Err (Form q)) h = misfit_so ∙ h
   form (Err Memory) h = tt
 
-  pub given_so : (r : Result Fitted FitFault) → Finds r (trace_misfit ss d.inputs (no_seats w) t)
+  pub given_so : (r : Result Fitted TraceFault) → Finds r (trace_misfit ss d.inputs (no_seats w) t)
       → IfOk r (λ x. seats_view x.seats.items ≡ filled ss (no_seats w) t.lines) → IfOk r (λ x. (k n : ℕ) → fitted_at x k n ≡ given_at i (lines_of t) k n)
   given_so (Ok x) h e = λ k n.
       ap (λ vs. seated_value vs k n) e

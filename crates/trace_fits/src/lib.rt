@@ -1,7 +1,6 @@
 //! Whether a trace fits a checked program, and what it lists.
 #![tactic(auto)]
 
-mod fault;
 mod fitted;
 mod fitting;
 mod listing;
@@ -13,7 +12,6 @@ mod streams;
 mod table;
 mod walk;
 
-pub use fault::FitFault;
 pub use fitted::Fitted;
 pub use listing::listable;
 pub use permitted::Listable;

@@ -14,7 +14,6 @@ ghost use Rattle.trace_fits.specs.Given.{IsSlotted, given_at};
 ghost use Rattle.trace_fits.specs.Refused.{Finds, IsMisfit};
 ghost use Rattle.trace_fits.specs.Views.{fitted_at, listable_view, node_seen, seats_view, slotted_view};
 
-use crate::fault::FitFault;
 use crate::fitted::Fitted;
 use crate::fitting::trace_fits;
 use crate::listing::listable;
@@ -25,6 +24,7 @@ use lus_meaning::Trace;
 use lus_streams::owner::Owner;
 use lus_tree::{Decl, Node, Program};
 use std::alloc::Global;
+use trace_text::TraceFault;
 
 /// Refuses a trace at its first word behind the name of its node that doesn't fit what may be listed of the node.
 fn fit_node<'a, 't>(
@@ -32,7 +32,7 @@ fn fit_node<'a, 't>(
     node: &Node,
     listables: &'a [Listable<'a>],
     trace: &'t Trace,
-) -> Result<Fitted<'t>, FitFault>
+) -> Result<Fitted<'t>, TraceFault>
     ensures misfit { Finds result (trace_misfit (map slotted_view listables.now) (node_view node.now).inputs
         (no_seats (seats_needed 0 (map slotted_view listables.now))) (trace_view trace.now)) }
     ensures seats { IfOk result (λ f. seats_view f.seats.items ≡ filled (map slotted_view listables.now)
@@ -56,7 +56,7 @@ pub fn fit_listed<'a, 't>(
     node: &Node,
     listables: &'a [Listable<'a>],
     trace: &'t Trace,
-) -> Result<Fitted<'t>, FitFault>
+) -> Result<Fitted<'t>, TraceFault>
     requires checked { IsChecked (program_view program.now) }
     requires named { first_named (trace_view trace.now).node (nodes_of (program_view program.now))
         ≡ Some (node_view node.now) }
@@ -110,7 +110,7 @@ fn node_named<'a>(program: &'a Program, name: &str) -> Option<&'a Node>
 ///
 /// `Form` exactly where it doesn't, at the first word that doesn't fit: a missing input at the word `end`; `Memory` for
 /// want of memory.
-pub fn fit<'t>(alloc: Global, program: &Program, trace: &'t Trace) -> Result<Fitted<'t>, FitFault>
+pub fn fit<'t>(alloc: Global, program: &Program, trace: &'t Trace) -> Result<Fitted<'t>, TraceFault>
     requires checked { IsChecked (program_view program.now) }
     requires within { IsWithinLimits (program_view program.now) None }
     // A trace that is let through fits.
@@ -123,7 +123,7 @@ pub fn fit<'t>(alloc: Global, program: &Program, trace: &'t Trace) -> Result<Fit
         → fitted_at f k n ≡ given_at (instance_of (program_view program.now) d) (lines_of (trace_view trace.now)) k n) }
 {
     let Some(node) = node_named(program, &trace.node) else {
-        return Err(FitFault::Form(trace.node_at));
+        return Err(TraceFault::Form(trace.node_at));
     };
     let listables = listable(alloc, program, Owner::Node(node), trace.length)?;
     fit_listed(alloc, program, node, &listables, trace)

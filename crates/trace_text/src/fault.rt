@@ -1,4 +1,4 @@
-//! Why a trace is refused.
+//! Why a trace is refused, by its text or by the program.
 
 ghost use Rattle.std.specs.Prelude.{◌≡◌};
 ghost use Rattle.trace_text.specs.declared.fault.TraceFault.TheVariants.{Form, Memory};
@@ -7,10 +7,11 @@ use lus_tree::Pos;
 use std::alloc::{AllocError, AllocFailed};
 use thiserror::Error;
 
-/// Why a trace is not read or written.
+/// Why a trace is not read, written, or fitted to a program.
 #[derive(Clone, Copy, Debug, Error)]
 pub enum TraceFault {
-    /// The text is outside the format. The place is the first word or line end that goes wrong.
+    /// The text is outside the format, or the trace doesn't fit the program. The place is that of the first word or line
+    /// end that goes wrong.
     #[error("trace goes wrong at {}:{}", .0.line, .0.column)]
     Form(Pos),
     /// Want of memory.

@@ -39,7 +39,7 @@ fn assert_side(
             Some((_, first)) => Ok(Some(first)),
             None => Ok(None),
         },
-        Err(BoundFault::Memory(error)) => Err(SolveFault::Memory(error)),
+        Err(BoundFault::Memory) => Err(SolveFault::Memory),
     }
 }
 

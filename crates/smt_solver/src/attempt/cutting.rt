@@ -37,7 +37,7 @@ pub fn small_cut(alloc: Global, tableau: &Tableau) -> Result<Option<Cut>, SolveF
     match cut_of(alloc, tableau) {
         Ok(CutAnswer::Cut(cut)) if is_small(&cut.atom) => Ok(Some(cut)),
         Ok(_) => Ok(None),
-        Err(CutFault::Memory(error)) => Err(SolveFault::Memory(error)),
+        Err(CutFault::Memory) => Err(SolveFault::Memory),
     }
 }
 

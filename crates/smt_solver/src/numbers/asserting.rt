@@ -50,7 +50,7 @@ fn assert_atom(
             Some((_, first)) => Ok(Some(first)),
             None => Ok(Some(0)),
         },
-        Err(BoundFault::Memory(error)) => Err(SolveFault::Memory(error)),
+        Err(BoundFault::Memory) => Err(SolveFault::Memory),
     }
 }
 

@@ -57,7 +57,7 @@ pub fn refuted(
     }
     let used = uses(alloc, &work.search, meanings, parts)?;
     if used.len() as u64 >= u32::MAX as u64 {
-        return Err(SolveFault::Memory(AllocError));
+        return Err(SolveFault::Memory);
     }
     let step = conflict_step(alloc, &used)?;
     count_step(alloc, work, step)?;
@@ -143,7 +143,7 @@ pub fn split(
     runs_grow();
     let count = work.cnf.atoms.len();
     if count as u64 >= u32::MAX as u64 {
-        return Err(SolveFault::Memory(AllocError));
+        return Err(SolveFault::Memory);
     }
     let atom = split_atom(alloc, x, c)?;
     let step = split_step(alloc, count as u32 + 1)?;

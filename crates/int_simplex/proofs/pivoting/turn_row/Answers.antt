@@ -80,7 +80,7 @@ returns-in_ok-relist-in-Some-clause-listed c =
 
 pub returns-in_err-relist-in-Some-clause-past : goal.returns-in_err-relist-in-Some-clause-past
 returns-in_err-relist-in-Some-clause-past c =
-    memory_turned c.args.at c.args.entering c.args.k c.args.other.now (map row_view c.args.rows.now.items) c.in_err-relist-in-Some.field-0.0
+    memory_turned c.args.at c.args.entering c.args.k c.args.other.now (map row_view c.args.rows.now.items)
     c.from_residual-in_err-relist-in-Some.result c.from_residual-in_err-relist-in-Some.ensures.1
 
 pub returns-in-None-clause-made : goal.returns-in-None-clause-made

@@ -12,7 +12,7 @@ use Rattle.int_simplex.proofs.pivoting.turn_rows.Goals as goal
 
 pub returns-in_err-other-clause-past : goal.returns-in_err-other-clause-past
 returns-in_err-other-clause-past c =
-    memory_alone c.args.at c.args.entering (map row_view c.args.rows.now.items) c.in_err-other.field-0.0 c.from_residual.result c.from_residual.ensures.1
+    memory_alone c.args.at c.args.entering (map row_view c.args.rows.now.items) c.from_residual.result c.from_residual.ensures.1
 
 pub loop-i-init : goal.loop-i-init
 loop-i-init c =

@@ -16,7 +16,7 @@ returns-in_default-clause-answer c = (
 )
 
 pub end-requires-clause-is_false : goal.end-requires-clause-is_false
-end-requires-clause-is_false c = subst (λ t. IsFalseAt c.args.clauses.now t c.in-Some.number) (sym c.entries-trail.ensures.entries)
+end-requires-clause-is_false c = subst (λ t. IsFalseAt c.args.clauses.now t c.in-Some.number) (sym c.trail-trail.ensures.entries)
     (still_some c.args.clauses.now _ c.args.variables.now c.args.variables.now c.run.new.assignment
     c.in_ok-number.field-0 c.in-Some.number refl c.in-Some.is c.in_ok-number.ensures.still)
 
@@ -25,7 +25,7 @@ returns-in-Some-last_decision-clause-answer c = (
   record { clauses = refl; steps = refl },
   still_some c.args.clauses.now _ c.args.variables.now c.args.variables.now c.run.new.assignment
       c.in_ok-number.field-0 c.in-Some.number refl c.in-Some.is c.in_ok-number.ensures.still,
-  has_decision c.run.new.assignment _ _ c.entries-trail.ensures.entries c.in-Some-last_decision.ensures,
+  has_decision c.run.new.assignment _ _ c.trail-trail.ensures.entries c.in-Some-last_decision.ensures,
 )
 
 pub returns-in_default-clause-beside : goal.returns-in_default-clause-beside

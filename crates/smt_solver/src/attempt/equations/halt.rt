@@ -8,18 +8,18 @@ use std::alloc::{AllocError, AllocFailed};
 pub enum Halt {
     /// It has too many terms, or numbers outside 128 bits.
     Wide,
-    Memory(AllocError),
+    Memory,
 }
 
 impl From<AllocError> for Halt {
-    fn from(error: AllocError) -> Halt {
-        Halt::Memory(error)
+    fn from(_error: AllocError) -> Halt {
+        Halt::Memory
     }
 }
 
 impl<T: Drop> From<AllocFailed<T>> for Halt {
     fn from(_error: AllocFailed<T>) -> Halt {
-        Halt::Memory(AllocError)
+        Halt::Memory
     }
 }
 

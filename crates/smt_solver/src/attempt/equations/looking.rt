@@ -257,7 +257,7 @@ fn look_at(
             findings.is_open = true;
             Ok(())
         }
-        Err(Halt::Memory(error)) => Err(error),
+        Err(Halt::Memory) => Err(AllocError),
     }
 }
 
@@ -302,7 +302,7 @@ fn all_decided(
             match decided(alloc, tableau, table, side) {
                 Ok(parts) => sums.push(parts)?,
                 Err(Halt::Wide) => {}
-                Err(Halt::Memory(error)) => return Err(error),
+                Err(Halt::Memory) => return Err(AllocError),
             }
         }
     }
@@ -385,6 +385,6 @@ pub fn solution_of(
     match look(alloc, tableau, sums, meanings, numbers) {
         Ok(found) => Ok(found),
         Err(Halt::Wide) => Ok(Solution::Open),
-        Err(Halt::Memory(error)) => Err(SolveFault::Memory(error)),
+        Err(Halt::Memory) => Err(SolveFault::Memory),
     }
 }
