@@ -2,7 +2,7 @@
 use Rattle.std.specs.Prelude.{Bool, true, false, Option, Some, None, option_map}
 use Rattle.lus_tree.specs.declared.expression.Operator.{Operator}
 use Rattle.kind_num.specs.declared.Past.{Past}
-use Rattle.lus_meaning.specs.Value.{Value, absent, is, not_value, minus_value, apply, choose}
+use Rattle.lus_meaning.specs.Value.{Value, is, not_value, minus_value, apply, choose}
 use Rattle.lus_evaluation.specs.Past.{past_of_values, past_of_minus}
 use Rattle.slot_values.specs.Resolution.{Resolution, known, slot, negated, opposite, combined, chosen, started, sampled, merged, latest}
 use Rattle.slot_values.specs.Evaluated.{SlotValues, only_where, is_there}

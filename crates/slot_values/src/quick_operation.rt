@@ -1,6 +1,10 @@
 //! The operators on what expressions come to.
 
-ghost use Rattle.std.specs.Prelude.{◌≡◌, Some, false, is_none, option_map, true};
+ghost use Rattle.std.specs.Prelude.{◌≡◌, ◌≢◌, IfSome, Ok, Some, false, is_none, option_map, pos, true};
+ghost use Rattle.std.specs.Int.{int_div_euclid, int_rem_euclid};
+ghost use lib.IntN.{◌*ℤ◌};
+ghost use Rattle.kind_num.specs.declared.Op.TheVariants as ops;
+ghost use Rattle.kind_num.specs.Exact.{IsExact, IsExactPair, within};
 ghost use Rattle.lus_tree.specs.declared.expression.Operator.TheVariants.{Add, Sub, Mul, Div, Mod};
 ghost use Rattle.lus_meaning.specs.Value.{flag, whole, apply, not_value};
 ghost use Rattle.slot_values.specs.Evaluated.{only_where, slot_view};
@@ -103,13 +107,48 @@ fn difference(a: i128, b: i128) -> Outcome
     }
 }
 
+/// A number of 64 bits: the machine multiplies and divides those in one step.
+fn small(n: i128) -> Option<i64>
+    ensures { IfSome result (λ m. m ≡ n) }
+{
+    i64::try_from(n).ok()
+}
+
+/// A number of 64 bits as one of 128.
+fn widened(n: i64) -> i128
+    ensures same { result ≡ n }
+    ensures within { within result ≡ true }
+{
+    i128::from(n)
+}
+
+/// The product of two numbers of 64 bits, if it has no more.
+fn small_product(a: i128, b: i128) -> Option<i128>
+    ensures { IfSome result (λ n. IsExact ops.Mul a b (a *ℤ b) (Ok n)) }
+{
+    Some(widened(small(a)?.checked_mul(small(b)?)?))
+}
+
 fn product(a: i128, b: i128) -> Outcome
     ensures { outcome_view result ≡ applied Mul (Some (whole a)) (Some (whole b)) }
 {
+    if let Some(n) = small_product(a, b) {
+        return Outcome::Whole(n);
+    }
     match mul(a, b) {
         Ok(n) => Outcome::Whole(n),
         Err(_) => Outcome::Outside,
     }
+}
+
+/// The quotient and the remainder of two numbers of 64 bits, if they have no more.
+fn small_euclid(a: i128, b: i128) -> Option<(i128, i128)>
+    requires { b ≢ pos 0 }
+    ensures { IfSome result (λ v. IsExactPair ops.Div a b (int_div_euclid a b) (int_rem_euclid a b) (Ok v)) }
+{
+    let (a, b) = (small(a)?, small(b)?);
+    let quotient = a.checked_div_euclid(b)?;
+    Some((widened(quotient), widened(a.rem_euclid(b))))
 }
 
 fn quotient(a: i128, b: i128) -> Outcome
@@ -117,6 +156,9 @@ fn quotient(a: i128, b: i128) -> Outcome
 {
     if b == 0 {
         return Outcome::Whole(quotient_by_zero(a));
+    }
+    if let Some((q, _)) = small_euclid(a, b) {
+        return Outcome::Whole(q);
     }
     match euclid(a, b) {
         Ok((q, _)) => Outcome::Whole(q),
@@ -129,6 +171,9 @@ fn remainder(a: i128, b: i128) -> Outcome
 {
     if b == 0 {
         return Outcome::Whole(remainder_by_zero(a));
+    }
+    if let Some((_, r)) = small_euclid(a, b) {
+        return Outcome::Whole(r);
     }
     match euclid(a, b) {
         Ok((_, r)) => Outcome::Whole(r),
