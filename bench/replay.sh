@@ -6,14 +6,14 @@
 # valgrind is there. What is done once, whatever the number of instants, is what a run on one instant
 # takes more than on the same trace with a word behind its `end`, which is refused once all its lines
 # are read; the replay of a trace is what its run takes more than that; the reading is what a refused
-# run takes more than where the trace has no lines. Ends with status 1 where a replay takes 1,000
+# run takes more than where the trace has no lines. Ends with status 1 where a replay takes 400
 # instructions or more for each equation at an instant, does not double with the instants or with the
 # equations, or where the reading takes 60 instructions a byte or more.
 #
 # Behind that the same of programs of 60 and of 120 equations of other kinds: with numbers, on two
 # clocks, with calls (half of them two deep), with calls that run while a condition is true, on a
-# clock that is on once in 1,000 instants, and with modes. A replay may take 2,500 instructions for
-# each equation, with those in callees, or mode at an instant, and is to double with the instants and
+# clock that is on once in 1,000 instants, and with modes. A replay may take 500 instructions for
+# each equation, with those in callees, and 800 for each mode at an instant, and is to double with the instants and
 # with the equations. What is done once may grow fourfold where the equations double.
 #
 # Last, the program of the slow clock with that clock on once in 1,000 instants may cost no more than with it always on;
@@ -177,7 +177,7 @@ for equations in 50 100; do
             by_instants = p ? sprintf("%.3f", c / p) : "-"
             by_equations = f ? sprintf("%.3f", c / f) : "-"
             printf "%d %d %d %d %.1f %s %s\n", e, n, o, c, each, by_instants, by_equations
-            if (each >= 1000 || (p && (c / p < 1.8 || c / p > 2.2)) || (f && (c / f < 1.8 || c / f > 2.2))) exit 1
+            if (each >= 400 || (p && (c / p < 1.8 || c / p > 2.2)) || (f && (c / f < 1.8 || c / f > 2.2))) exit 1
         }' || { echo "too slow, or not linear"; exit 1; }
         earlier=$count
     done
@@ -229,7 +229,7 @@ for kind in numbers clocks calls condacts slow modes; do
                 by_equations = f ? sprintf("%.3f", c / f) : "-"
                 of_once = g ? sprintf("%.3f", o / g) : "-"
                 printf "%s %d %d %d %d %.1f %s %s %s\n", k, e, n, o, c, each, by_instants, by_equations, of_once
-                if (each >= 2500 || (p && (c / p < 1.8 || c / p > 2.2)) || (f && (c / f < 1.8 || c / f > 2.2)) || (g && o / g >= 4)) exit 1
+                if (each >= (k == "modes" ? 800 : 500) || (p && (c / p < 1.8 || c / p > 2.2)) || (f && (c / f < 1.8 || c / f > 2.2)) || (g && o / g >= 4)) exit 1
             }' || { echo "too slow, or not linear"; exit 1; }
             earlier=$count
         done
