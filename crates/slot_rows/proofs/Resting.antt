@@ -1,13 +1,12 @@
 -- What is plain has nothing outside 128 bits, and what is still has no value where its clock is off.
-use Rattle.std.proofs.Common.{◌≡◌, ◌⊎◌, inl, inr, ℕ, Bool, true, false, ◌&&◌, ◌||◌, List, [], Some, None, true≢false, refl, sym, ap}
+use Rattle.std.proofs.Common.{◌≡◌, ◌⊎◌, inl, inr, ℕ, Bool, true, false, ◌&&◌, ◌||◌, [], Some, None, true≢false, refl, sym, ap}
 use Rattle.lus_tree.specs.declared.place.Pos.{Pos}
 use Rattle.lus_tree.specs.declared.expression.Operator.{Operator}
 use Rattle.lus_meaning.specs.Value.{Value, absent, flag, whole, apply, choose, minus_value, not_value}
-use Rattle.lus_evaluation.specs.Past.{past_of_minus, past_of_values}
-use Rattle.slot_values.specs.declared.resolved.PastAt.{PastAt}
+use Rattle.lus_evaluation.specs.Past.{past_of_values}
 use Rattle.slot_values.specs.Resolution.{Resolution, known, slot, negated, opposite, combined, chosen, started, sampled, merged, latest}
-use Rattle.slot_values.specs.Evaluated.{SlotValues, outside, told, worth}
-use Rattle.slot_values.specs.Outcome.{if_none, value_within}
+use Rattle.slot_values.specs.Evaluated.{SlotValues, outside, worth}
+use Rattle.slot_values.specs.Outcome.{value_within}
 use Rattle.slot_values.proofs.Mismatched.{absent_left, flag_absent, whole_absent}
 use Rattle.slot_rows.specs.Stillness.{is_plain, is_quiet, is_still}
 

@@ -1,6 +1,6 @@
 //! Giving a slot of a row its value.
 
-ghost use Rattle.std.specs.Prelude.{◌≡◌, ◌&&◌, Some, map, option_map, set, true};
+ghost use Rattle.std.specs.Prelude.{◌≡◌, ◌&&◌, Some, false, map, option_map, set, true};
 ghost use Rattle.lus_meaning.specs.Value.{absent, flag, is};
 ghost use Rattle.slot_values.specs.Resolution.{resolved_view};
 ghost use Rattle.slot_values.specs.Evaluated.{only_where, outside, slot_view, worth};
@@ -62,23 +62,39 @@ fn put(row: &mut Row, slot: usize, outcome: Outcome)
     }
 }
 
-/// Gives a slot what an expression comes to on its clock or off it. What another slot has is taken as it is, and what is
-/// still off its clock is not evaluated there.
+/// Gives a slot what an expression comes to, which is evaluated.
 #[inline(always)]
-#[tactic(auto, using(crate::proofs::Resting::off_comes_to))]
-fn give_worth(e: &Resolved, still: bool, on: bool, row: &mut Row, slot: usize)
-    requires { still ≡ is_still (resolved_view e.now) }
+fn give_evaluated(e: &Resolved, on: bool, row: &mut Row, slot: usize)
     ensures { row_view row.new ≡ with_outcome slot
         (value_within (slots_of (row_view row.old).values) on (resolved_view e.now)) (row_view row.old) }
 {
+    let outcome = row.outcome(e, on);
+    put(row, slot, outcome);
+}
+
+/// Gives a slot what an expression comes to off its clock. What is still there is not evaluated.
+#[inline(never)]
+#[tactic(auto, using(crate::proofs::Resting::off_comes_to))]
+fn give_off(e: &Resolved, still: bool, row: &mut Row, slot: usize)
+    requires { still ≡ is_still (resolved_view e.now) }
+    ensures { row_view row.new ≡ with_outcome slot
+        (value_within (slots_of (row_view row.old).values) false (resolved_view e.now)) (row_view row.old) }
+{
+    if still {
+        give(row, slot, SlotValue::Absent);
+    } else {
+        give_evaluated(e, false, row, slot);
+    }
+}
+
+/// Gives a slot what an expression comes to on its clock. What another slot has is taken as it is.
+#[inline(always)]
+fn give_on(e: &Resolved, row: &mut Row, slot: usize)
+    ensures { row_view row.new ≡ with_outcome slot
+        (value_within (slots_of (row_view row.old).values) true (resolved_view e.now)) (row_view row.old) }
+{
     match e {
-        Resolved::Slot(other) => {
-            if on {
-                copy(row, *other as usize, slot);
-            } else {
-                give(row, slot, SlotValue::Absent);
-            }
-        }
+        Resolved::Slot(other) => copy(row, *other as usize, slot),
         Resolved::Known(_)
         | Resolved::Not(_)
         | Resolved::Minus(_, _)
@@ -87,14 +103,21 @@ fn give_worth(e: &Resolved, still: bool, on: bool, row: &mut Row, slot: usize)
         | Resolved::Arrow(_, _, _)
         | Resolved::When(_, _, _)
         | Resolved::Merge(_, _, _)
-        | Resolved::Latest(_, _, _, _) => {
-            if still && !on {
-                give(row, slot, SlotValue::Absent);
-            } else {
-                let outcome = row.outcome(e, on);
-                put(row, slot, outcome);
-            }
-        }
+        | Resolved::Latest(_, _, _, _) => give_evaluated(e, true, row, slot),
+    }
+}
+
+/// Gives a slot what an expression comes to on its clock or off it.
+#[inline(always)]
+fn give_worth(e: &Resolved, still: bool, on: bool, row: &mut Row, slot: usize)
+    requires { still ≡ is_still (resolved_view e.now) }
+    ensures { row_view row.new ≡ with_outcome slot
+        (value_within (slots_of (row_view row.old).values) on (resolved_view e.now)) (row_view row.old) }
+{
+    if on {
+        give_on(e, row, slot);
+    } else {
+        give_off(e, still, row, slot);
     }
 }
 
