@@ -9,10 +9,24 @@ use Rattle.slot_sources.specs.Source.{Source, always, runs, runs_while, same, gi
 use Rattle.slot_sources.specs.declared.source.Source.{Source as CodeSource}
 use Rattle.slot_sources.specs.Rows.{Choices, outside_next}
 use Rattle.slot_rows.specs.Table.{Row, filled, is_any, is_brought, next_outside, next_value, next_values, with_value}
-use Rattle.slot_rows.specs.Turns.{Turn, brought_in_turn, filled_in_turn, outside_in_turn, turn_brought, turn_given, turn_view, turns_brought, turns_given}
+use Rattle.slot_rows.specs.Turns.{Turn, turn_brought, turn_given, turn_view, turns_brought, turns_given}
 use Rattle.slot_rows.specs.InTurn.{AreTurns}
 use Rattle.slot_rows.specs.declared.turns.Turns.{Turns}
 use Rattle.slot_rows.proofs.Slots.{stays}
+
+-- a row is filled turn by turn
+abbrev pub filled_in_turn : Choices → ℕ → Row → List Turn → Row
+filled_in_turn c t r [] = r
+filled_in_turn c t r (x ∷ xs) = filled_in_turn c t (with_value c t x.slot (Some x.source) r) xs
+
+-- what these values bring to the next instant, turn by turn; and whether an operation is outside in that
+abbrev pub brought_in_turn : SlotValues → List Value → List Turn → List Value
+brought_in_turn s vs [] = vs
+brought_in_turn s vs (x ∷ xs) = brought_in_turn s (set vs x.slot (next_value s x.slot x.source)) xs
+
+abbrev pub outside_in_turn : SlotValues → List Turn → Bool
+outside_in_turn s [] = false
+outside_in_turn s (x ∷ xs) = is_any (outside_next s x.source) || outside_in_turn s xs
 
 -- ---- what is given
 

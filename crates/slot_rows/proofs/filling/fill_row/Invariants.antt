@@ -1,7 +1,8 @@
 use Rattle.std.proofs.Common.{◌≡◌, map, drop}
 use Rattle.slot_sources.specs.Source.{source_view}
 use Rattle.slot_rows.specs.Table.{filled, row_view}
-use Rattle.slot_rows.specs.Turns.{filled_in_turn, turn_view}
+use Rattle.slot_rows.specs.Turns.{turn_view}
+use Rattle.slot_rows.proofs.InTurn.{filled_in_turn}
 use Rattle.slot_rows.proofs.filling.fill_row.Given as goal
 
 abbrev pub invariant-loop-turn : goal.invariant-loop-turn

@@ -1,7 +1,8 @@
 use Rattle.std.proofs.Common.{◌≡◌, ◌||◌, map, drop}
 use Rattle.slot_sources.specs.Source.{source_view}
 use Rattle.slot_rows.specs.Table.{next_outside, next_values, slots_of}
-use Rattle.slot_rows.specs.Turns.{brought_in_turn, outside_in_turn, turn_view}
+use Rattle.slot_rows.specs.Turns.{turn_view}
+use Rattle.slot_rows.proofs.InTurn.{brought_in_turn, outside_in_turn}
 use Rattle.slot_rows.proofs.filling.next_values.Given as goal
 use Rattle.slot_values.specs.Evaluated.{slot_view}
 
