@@ -1,6 +1,5 @@
 pub mod Slots
-pub mod Resting
-pub mod InTurn
+pub mod Given
 pub mod Dependence
 pub mod Filled
 pub mod RowAt
