@@ -12,7 +12,7 @@
 #
 # Behind that the same of programs of 60 and of 120 equations of other kinds: with numbers, on two
 # clocks, with calls (half of them two deep), with calls that run while a condition is true, on a
-# clock that is on once in 1,000 instants, and with modes. A replay may take 500 instructions for
+# clock that is on once in 1,000 instants, and with modes. A replay may take 400 instructions for
 # each equation, with those in callees, and 800 for each mode at an instant, and is to double with the instants and
 # with the equations. What is done once may grow fourfold where the equations double.
 #
@@ -229,7 +229,7 @@ for kind in numbers clocks calls condacts slow modes; do
                 by_equations = f ? sprintf("%.3f", c / f) : "-"
                 of_once = g ? sprintf("%.3f", o / g) : "-"
                 printf "%s %d %d %d %d %.1f %s %s %s\n", k, e, n, o, c, each, by_instants, by_equations, of_once
-                if (each >= (k == "modes" ? 800 : 500) || (p && (c / p < 1.8 || c / p > 2.2)) || (f && (c / f < 1.8 || c / f > 2.2)) || (g && o / g >= 4)) exit 1
+                if (each >= (k == "modes" ? 800 : 400) || (p && (c / p < 1.8 || c / p > 2.2)) || (f && (c / f < 1.8 || c / f > 2.2)) || (g && o / g >= 4)) exit 1
             }' || { echo "too slow, or not linear"; exit 1; }
             earlier=$count
         done

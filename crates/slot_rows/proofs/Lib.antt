@@ -1,5 +1,6 @@
 pub mod Slots
-pub mod Given
+pub mod Resting
+pub mod InTurn
 pub mod Dependence
 pub mod Filled
 pub mod RowAt

@@ -1,6 +1,6 @@
 -- The table of a declaration's slots: row after row, an instant each. A row begins with what is brought to its instant, and its slots get their values in an
 -- order.
-use Rattle.std.specs.Prelude.{ℕ, zero, suc, Bool, true, false, ◌||◌, not, cond, List, [], ◌∷◌, ◌++◌, map, Option, Some, None, is_none, unwrap_or, slice_get, get_or, set}
+use Rattle.std.specs.Prelude.{ℕ, zero, suc, Bool, true, false, ◌||◌, List, [], ◌∷◌, ◌++◌, map, Option, Some, None, is_none, unwrap_or, slice_get, get_or, set}
 use Rattle.lus_meaning.specs.Value.{Value, absent}
 use Rattle.slot_values.specs.declared.resolved.PastAt.{PastAt}
 use Rattle.slot_values.specs.Evaluated.{slot_view, SlotValues}
@@ -70,15 +70,6 @@ with_outcome k o r = record { values = set r.values k (unwrap_or o absent); outs
 abbrev pub filled : Choices → List Source → ℕ → Row → List ℕ → Row
 filled c es t r [] = r
 filled c es t r (k ∷ ks) = filled c es t (with_value c t k (slice_get es k) r) ks
-
--- the slots of a list that are given their values at their instant
-abbrev pub is_given : Option Source → Bool
-is_given None = false
-is_given (Some e) = not (is_brought e)
-
-abbrev pub given_among : List Source → List ℕ → List ℕ
-given_among es [] = []
-given_among es (k ∷ ks) = cond (is_given (slice_get es k)) (k ∷ given_among es ks) (given_among es ks)
 
 -- ---- from row to row
 

@@ -12,7 +12,10 @@ mod reads;
 mod search;
 mod slot;
 mod slot_reads;
+mod stillness;
 mod table;
+mod turn;
+mod turns;
 
 pub use chosen::Chosen;
 pub use filling::fill;

@@ -8,16 +8,16 @@ use Rattle.slot_values.specs.Evaluated.{slot_view}
 pub loop-instant-preserved : goal.loop-instant-preserved
 loop-instant-preserved g c =
     let choices = g.C.Chosen.choices c.args.chosen.now in
-    let es = map source_view c.args.sources.now in
+    let es = map source_view c.args.turns.now.sources.now in
     record {
-      rows = rows_more choices es c.args.order.now c.loop-instant.instant (map row_view c.loop-instant.rows.items)
+      rows = rows_more choices es c.args.turns.now.order.now c.loop-instant.instant (map row_view c.loop-instant.rows.items)
           (map row_view c.push_row.new.rows.items) c.loop-instant.invariant.rows c.in_ok-values-2.ensures.pushed;
-      values = brought_more choices es c.args.order.now c.loop-instant.instant (map slot_view c.in_ok-values-2.values.items)
+      values = brought_more choices es c.args.turns.now.order.now c.loop-instant.instant (map slot_view c.in_ok-values-2.values.items)
           c.in_ok-values-2.ensures.values;
     }
 
 pub returns : goal.returns
 returns g c =
     let e : c.loop-instant.instant ≡ c.args.instants = omega (arith, c.loop-instant-test.false, c.loop-instant.auto.instant-end) in
-    subst (λ n. map row_view c.loop-instant.rows.items ≡ rows (g.C.Chosen.choices c.args.chosen.now) (map source_view c.args.sources.now) c.args.order.now n)
+    subst (λ n. map row_view c.loop-instant.rows.items ≡ rows (g.C.Chosen.choices c.args.chosen.now) (map source_view c.args.turns.now.sources.now) c.args.turns.now.order.now n)
     e c.loop-instant.invariant.rows

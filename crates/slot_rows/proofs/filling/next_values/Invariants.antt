@@ -1,18 +1,17 @@
-use Rattle.std.proofs.Common.{◌≡◌, ◌≤◌, ◌++◌, ◌||◌, map, length, drop}
-use Rattle.std.specs.Prelude.{vec_capacity, vec_len}
+use Rattle.std.proofs.Common.{◌≡◌, ◌||◌, map, drop}
 use Rattle.slot_sources.specs.Source.{source_view}
 use Rattle.slot_rows.specs.Table.{next_outside, next_values, slots_of}
+use Rattle.slot_rows.specs.Turns.{turn_view}
+use Rattle.slot_rows.proofs.InTurn.{brought_in_turn, outside_in_turn}
 use Rattle.slot_rows.proofs.filling.next_values.Given as goal
 use Rattle.slot_values.specs.Evaluated.{slot_view}
 
-abbrev pub invariant-loop-source : goal.invariant-loop-source
-invariant-loop-source l = record {
-  place : vec_len l.values ≡ l.source-index;
-  room : length l.sources ≤ vec_capacity l.values;
+abbrev pub invariant-loop-turn : goal.invariant-loop-turn
+invariant-loop-turn l = record {
   same : l.row.values ≡ l.initial.row.values;
-  values : map slot_view l.values.items ++ next_values (slots_of (map slot_view l.row.values.items)) (length l.values.items)
-      (map source_view (drop l.source-index l.sources))
-      ≡ next_values (slots_of (map slot_view l.row.values.items)) 0 (map source_view l.sources);
-  outside : (l.row.outside || next_outside (slots_of (map slot_view l.row.values.items)) (map source_view (drop l.source-index l.sources)))
-      ≡ (l.initial.row.outside || next_outside (slots_of (map slot_view l.row.values.items)) (map source_view l.sources));
+  values : brought_in_turn (slots_of (map slot_view l.row.values.items)) (map slot_view l.values.items)
+      (map turn_view (drop l.turn-index l.turns.brought.items))
+      ≡ next_values (slots_of (map slot_view l.row.values.items)) 0 (map source_view l.turns.sources.now);
+  outside : (l.row.outside || outside_in_turn (slots_of (map slot_view l.row.values.items)) (map turn_view (drop l.turn-index l.turns.brought.items)))
+      ≡ (l.initial.row.outside || next_outside (slots_of (map slot_view l.row.values.items)) (map source_view l.turns.sources.now));
 }
