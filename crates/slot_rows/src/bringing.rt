@@ -110,7 +110,7 @@ fn bring_worth(
     }
 }
 
-/// Brings to a slot, on which its turn is, its value at the next instant. Whether an operation is outside 128 bits.
+/// Brings to the slot of a turn its value at the next instant. Whether an operation is outside 128 bits.
 pub(crate) fn bring_next(turn: &Turn<'_>, row: &Row, values: &mut Vec<SlotValue>) -> bool
     ensures outside { result ≡ is_any (outside_next (slots_of (row_view row.now).values)
         (source_view turn.now.source.now)) }

@@ -21,6 +21,7 @@ pub(crate) struct Turn<'s> {
 }
 
 impl<'s> Turn<'s> {
+    /// The turn of a slot with that source.
     pub(crate) fn of(slot: usize, source: &'s Source) -> Turn<'s>
         ensures slot { result.slot ≡ slot }
         ensures source { result.source.now ≡ source.now }
