@@ -1,6 +1,6 @@
 -- Turn by turn a declaration is found whose callees are known, and at the end all are known.
 use Rattle.std.proofs.Common.{◌≡◌, ◌<◌, true, false, List, [], ◌∷◌, ◌++◌, map, length, Option, Some, None, unwrap_or, refl, sym, ap, ◌∙◌, subst, option_map}
-use Rattle.std.specs.Prelude.{Contains}
+use Rattle.std.specs.Prelude.{Contains, MatchOption}
 use Rattle.std.specs.List.{find}
 use Rattle.std.proofs.lemmas.Bool.{false≢true}
 use Rattle.std.proofs.lemmas.Option.{none-some}
@@ -15,7 +15,7 @@ use Rattle.lus_meaning.proofs.NamesOnce.{instance_named}
 use Rattle.lus_order.specs.declared.declarations.Declaration.{Declaration}
 use Rattle.lus_order.specs.declared.library.Library.{Library}
 use Rattle.lus_streams.specs.declared.owner.Owner.{Owner}
-use Rattle.lus_order.specs.Declarations.{declared_view, with_calls, is_next}
+use Rattle.lus_order.specs.Declarations.{IsNextOf, declared_view, with_calls, is_next}
 use Rattle.lus_order.specs.Learned.{names_known, IsConsistent, IsLibraryOf}
 use Rattle.lus_streams.specs.Owner.{owner_view}
 use Rattle.lus_order.specs.Streams.{names_of}
@@ -50,33 +50,46 @@ pub record IsFound (p : Program) (names : List Name) (all : List Entry) (n : Com
   pub is : entry.0 ≡ n
 
 pub found_next : (p : Program) (names : List Name) (all : List Entry) → all ≡ map with_calls (components p) → (n : Component)
-    → first_of (find (is_next names) all) ≡ Some n → IsFound p names all n
-found_next p names all e n h = go (some_first (find (is_next names) all) n h)
+    → IsNextOf names all n → IsFound p names all n
+found_next p names all e n q = from (mapped_from with_calls (components p) q.entry (subst (λ z. Contains z q.entry) e q.stands))
   where
-    go : (d : Entry) × (find (is_next names) all ≡ Some d) × (d.0 ≡ n) → IsFound p names all n
+    from : (m : Component) × Contains (components p) m × (with_calls m ≡ q.entry) → IsFound p names all n
+    from (m, j, w) =
+        let same : m ≡ n = ap (λ (z : Entry). z.0) w ∙ q.is in
+        let r : (named_in m.name.text names ≡ false) × ((c : Site) → Contains (all_sites m) c → named_in c.callee names ≡ true) =
+        next_is names m (subst (λ z. is_next names z ≡ true) (sym w) q.next) in
+        record {
+          declared = subst (Contains (components p)) same j;
+          new = subst (λ (z : Component). named_in z.name.text names ≡ false) same r.0;
+          calls = subst (λ z. (c : Site) → Contains (all_sites z) c → named_in c.callee names ≡ true) same r.1;
+          entry = q.entry;
+          stands = q.stands;
+          is = q.is;
+        }
+
+pub one_next : (names : List Name) (all : List Entry) (r : Option Owner) → option_map owner_view r ≡ first_of (find (is_next names) all)
+    → MatchOption r (find (is_next names) all ≡ None) (λ o. IsNextOf names all (owner_view o))
+one_next names all None h = none_first (find (is_next names) all) (sym h)
+one_next names all (Some o) h = go (some_first (find (is_next names) all) (owner_view o) (sym h))
+  where
+    go : (d : Entry) × (find (is_next names) all ≡ Some d) × (d.0 ≡ owner_view o) → IsNextOf names all (owner_view o)
     go (d, f, s) =
         let q : Contains all d × (is_next names d ≡ true) = found_stands (is_next names) all d f in
-        from q.0 q.1 (mapped_from with_calls (components p) d (subst (λ z. Contains z d) e q.0))
-      where
-        from : Contains all d → is_next names d ≡ true → (m : Component) × Contains (components p) m × (with_calls m ≡ d) → IsFound p names all n
-        from i t (m, j, w) =
-            let same : m ≡ n = ap (λ (z : Entry). z.0) w ∙ s in
-            let r : (named_in m.name.text names ≡ false) × ((c : Site) → Contains (all_sites m) c → named_in c.callee names ≡ true) =
-            next_is names m (subst (λ z. is_next names z ≡ true) (sym w) t) in
-            record {
-              declared = subst (Contains (components p)) same j;
-              new = subst (λ (z : Component). named_in z.name.text names ≡ false) same r.0;
-              calls = subst (λ z. (c : Site) → Contains (all_sites z) c → named_in c.callee names ≡ true) same r.1;
-              entry = d;
-              stands = i;
-              is = s;
-            }
+        record { entry = d; stands = q.0; next = q.1; is = s }
 
 pub owner_found : (p : Program) (names : List Name) (as_ bs : List Declaration) (r : Option Owner) (o : Owner) → as_ ≡ bs
-    → map declared_view bs ≡ map with_calls (components p) → option_map owner_view r ≡ first_of (find (is_next names) (map declared_view as_))
+    → map declared_view bs ≡ map with_calls (components p)
+    → MatchOption r (find (is_next names) (map declared_view as_) ≡ None) (λ o. IsNextOf names (map declared_view as_) (owner_view o))
     → r ≡ Some o → IsFound p names (map declared_view bs) (owner_view o)
 owner_found p names as_ bs r o s e h i = found_next p names (map declared_view bs) e (owner_view o)
-    (subst (λ z. first_of (find (is_next names) (map declared_view z)) ≡ Some (owner_view o)) s (sym h ∙ ap (option_map owner_view) i))
+    (subst (λ z. IsNextOf names (map declared_view z) (owner_view o)) s
+    (subst (λ z. MatchOption z (find (is_next names) (map declared_view as_) ≡ None) (λ o. IsNextOf names (map declared_view as_) (owner_view o))) i h))
+
+pub none_found : (names : List Name) (as_ bs : List Declaration) (r : Option Owner) → as_ ≡ bs
+    → MatchOption r (find (is_next names) (map declared_view as_) ≡ None) (λ o. IsNextOf names (map declared_view as_) (owner_view o))
+    → r ≡ None → find (is_next names) (map declared_view bs) ≡ None
+none_found names as_ bs r s h i = subst (λ z. find (is_next names) (map declared_view z) ≡ None) s
+    (subst (λ z. MatchOption z (find (is_next names) (map declared_view as_) ≡ None) (λ o. IsNextOf names (map declared_view as_) (owner_view o))) i h)
 
 pub streams_once : (p : Program) → IsTyped p → (n : Component) → Contains (components p) n → AreDistinct (names_of (variables n))
 streams_once p typed n d = (instance_named p typed n d 0).0
@@ -90,9 +103,9 @@ fewer_left p names all n new f e = subst (λ z. length (left z all) < length (le
     (fewer names n.name.text all f.entry f.stands (ap (λ (z : Component). z.name.text) f.is) f.new)
 
 pub library_whole : (p : Program) → IsTyped p → (l : Library) → AreSettled p l → (all : List Entry) → all ≡ map with_calls (components p)
-    → first_of (find (is_next (names_known l)) all) ≡ None → IsLibraryOf p l
+    → find (is_next (names_known l)) all ≡ None → IsLibraryOf p l
 library_whole p typed l so all e h = record {
   flags = consistent_flags l so.consistent;
   each = λ n d. (so.each n d (all_named p typed (names_known l)
-      (subst (λ z. find (is_next (names_known l)) z ≡ None) e (none_first (find (is_next (names_known l)) all) h)) n d)).summary;
+      (subst (λ z. find (is_next (names_known l)) z ≡ None) e h) n d)).summary;
 }

@@ -1,6 +1,6 @@
 //! What is known of all declarations of a program, made callees first.
 
-ghost use Rattle.std.specs.Prelude.{◌≡◌, ◌++◌, ◌∷◌, [], IfOk, false, map, option_map};
+ghost use Rattle.std.specs.Prelude.{◌≡◌, ◌++◌, ◌∷◌, [], Contains, IfOk, IfSome, MatchOption, None, false, map, option_map};
 ghost use Rattle.std.specs.List.{find};
 ghost use Rattle.lus_tree.specs.View.{program_view};
 ghost use Rattle.lus_meaning.specs.Depends.{named_in};
@@ -9,13 +9,14 @@ ghost use Rattle.lus_meaning.specs.Refusals.{IsTyped};
 ghost use Rattle.lus_meaning.specs.Scene.{variables};
 ghost use Rattle.lus_meaning.specs.WellMade.{AreDistinct};
 ghost use Rattle.lus_limits.specs.Calls.{call_view};
-ghost use Rattle.lus_order.specs.Declarations.{are_known, declared_view, is_next};
+ghost use Rattle.lus_order.specs.Declarations.{IsNextOf, are_known, declared_view, is_next};
 ghost use Rattle.lus_order.specs.Learned.{IsAdded, IsConsistent, IsLearned, IsLibraryOf, flags_of, names_known};
 ghost use Rattle.lus_order.specs.Library.{known_view, library_view};
 ghost use Rattle.way_laws.specs.Summaries.{IsSummary};
 ghost use Rattle.lus_streams.specs.Owner.{owner_view};
 ghost use Rattle.lus_order.specs.Streams.{names_of};
 
+use crate::callees_first::callees_first;
 use crate::declarations::{Declaration, owners_of, with_calls};
 use crate::library::{Known, Library};
 use crate::own::own_of;
@@ -85,7 +86,7 @@ fn is_next(names: &NameTable, declared: &Declaration<'_>) -> bool
 }
 
 /// The first declaration that is not known, and of which all that it calls and imports is.
-fn next_of<'a>(names: &NameTable, all: &[Declaration<'a>]) -> Option<Owner<'a>>
+fn first_next<'a>(names: &NameTable, all: &[Declaration<'a>]) -> Option<Owner<'a>>
     ensures { option_map owner_view result ≡ option_map (λ d. d.0)
         (find (is_next names.now) (map declared_view all.now)) }
 {
@@ -95,6 +96,38 @@ fn next_of<'a>(names: &NameTable, all: &[Declaration<'a>]) -> Option<Owner<'a>>
         }
     }
     None
+}
+
+/// The declaration whose turn it is in an order.
+fn at_turn<'b, 'a>(
+    all: &'b [Declaration<'a>],
+    order: &[usize],
+    turn: usize,
+) -> Option<&'b Declaration<'a>>
+    ensures { IfSome result (λ d. Contains (map declared_view all.now) (declared_view d.now)) }
+{
+    let number = *order.get(turn)?;
+    all.get(number)
+}
+
+/// A declaration that is not known, and of which all that it calls and imports is: that whose turn it is in
+/// an order, or else the first one.
+fn next_of<'a>(
+    names: &NameTable,
+    all: &[Declaration<'a>],
+    order: &[usize],
+    turn: &mut usize,
+) -> Option<Owner<'a>>
+    ensures { MatchOption result (find (is_next names.now) (map declared_view all.now) ≡ None)
+        (λ o. IsNextOf names.now (map declared_view all.now) (owner_view o)) }
+{
+    match at_turn(all, order, *turn) {
+        Some(declared) if is_next(names, declared) => {
+            *turn = turn.saturating_add(1);
+            Some(declared.owner)
+        }
+        _ => first_next(names, all),
+    }
 }
 
 /// What is to be known of a declaration, by what is known of those that it calls and imports.
@@ -136,8 +169,10 @@ pub(crate) fn library_of(alloc: Global, program: &Program) -> Result<Library<'_>
 {
     let owners = owners_of(alloc, program)?;
     let all = with_calls(alloc, &owners)?;
+    let order = callees_first(alloc, &all)?;
+    let mut turn = 0;
     let mut library = Library::new(alloc);
-    while let Some(owner) = next_of(&library.callees.names, &all) {
+    while let Some(owner) = next_of(&library.callees.names, &all, &order, &mut turn) {
         learn(alloc, &mut library, owner)?;
     }
     Ok(library)

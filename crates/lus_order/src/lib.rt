@@ -1,6 +1,7 @@
 //! The rules of equations, and the order in which they can be evaluated at one instant.
 #![tactic(auto)]
 
+mod callees_first;
 mod checks;
 mod circle_faults;
 mod clock_circles;

@@ -120,7 +120,7 @@ imports_contract s («import» k c as_ xs) h =
     (no_parts (flat_map (expression_faults s (on_clock base)) as_) _ h).1 in
     (imported s c as_ xs (contract_named s.program c.text) (no_parts (flat_map (output_known s) xs) _ rest).1, tt)
 
--- what is known of the clauses of a contract
+-- what is known of the statements of a contract
 record ContractStatementsCall (p : Program) (n : Component) (cs : List ContractStatement) : Type 0 where
   calls : AllByRecursion (TextCalls p n) (flat_map contract_statement_texts cs)
   imports : AllByRecursion (IsContract p) (flat_map import_words cs)

@@ -5,7 +5,7 @@ use Rattle.lus_meaning.specs.ClockFaults.{components}
 use Rattle.lus_order.specs.Declarations.{declared_view, is_next}
 use Rattle.lus_order.specs.Learned.{names_known}
 use Rattle.lus_streams.specs.Owner.{owner_view}
-use Rattle.lus_order.proofs.NextLearned.{IsFound, owner_found, first_of, listed_all, streams_once, none_settled, fewer_left, library_whole}
+use Rattle.lus_order.proofs.NextLearned.{IsFound, owner_found, none_found, listed_all, streams_once, none_settled, fewer_left, library_whole}
 use Rattle.lus_order.proofs.Settled.{settled_more}
 use Rattle.lus_order.proofs.learned.library_of.Goals as goal
 
@@ -49,5 +49,5 @@ loop-owner-preserved c =
 pub returns : goal.returns
 returns c = library_whole (program_view c.args.program.now) c.requires.typed c.loop-owner.library c.loop-owner.invariant.settled
     (map declared_view c.in_ok-all.all.items) c.loop-owner.invariant.listed
-    (subst (λ z. first_of (find (is_next (names_known c.loop-owner.library)) (map declared_view z)) ≡ None) c.deref-in-loop-owner.ensures.value
-    (sym c.next_of.ensures ∙ ap (option_map owner_view) c.in_default.is))
+    (none_found (names_known c.loop-owner.library) c.deref-in-loop-owner.result.now c.in_ok-all.all.items c.next_of.result
+    c.deref-in-loop-owner.ensures.value c.next_of.ensures c.in_default.is)
