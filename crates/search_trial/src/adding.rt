@@ -1,11 +1,12 @@
 //! Clauses that are added to a search which has answered, one after the other.
 
 use crate::clauses::{form, literal_of};
-use crate::trial::{search_of, searched, word};
+use crate::followed::Extended;
+use crate::trial::word;
 use anyhow::Result;
 use cnf_maker::Cnf;
 use proof_steps::{Clause, Literal};
-use sat_core::Search;
+use sat_core::Found;
 use smallvec::SmallVec;
 use std::alloc::Global;
 
@@ -65,11 +66,11 @@ fn additions() -> [Addition; 5] {
     ]
 }
 
-/// The search over `0 or 1`.
-fn either(alloc: Global) -> Result<Search> {
+/// The form `0 or 1`.
+fn either(alloc: Global) -> Result<Cnf> {
     let mut clauses = Vec::new(alloc);
     clauses.push(pair(alloc, literal_of(1), literal_of(2))?)?;
-    search_of(alloc, &form(alloc, 2, clauses)?)
+    form(alloc, 2, clauses)
 }
 
 fn truth(value: Option<bool>) -> &'static str {
@@ -80,34 +81,59 @@ fn truth(value: Option<bool>) -> &'static str {
     }
 }
 
+/// The word of an answer; none is given where the checker refuses a step of the log.
+fn said(found: Option<Found>) -> &'static str {
+    match found {
+        Some(found) => word(found),
+        None => "a step that is not taken",
+    }
+}
+
 /// The answer after this clause more, and the value of the literal that is asked.
 fn after(
     alloc: Global,
-    search: &mut Search,
+    form: &Cnf,
+    extended: &mut Extended,
     addition: &Addition,
 ) -> Result<(&'static str, &'static str)> {
-    search.add(alloc, &pair(alloc, addition.first, addition.second)?)?;
-    let found = searched(alloc, search)?;
-    Ok((word(found), truth(search.value(addition.asked))))
+    extended.add(alloc, &pair(alloc, addition.first, addition.second)?)?;
+    let answer = said(extended.answer(alloc, form)?);
+    Ok((answer, truth(extended.search.value(addition.asked))))
 }
 
-/// The answers after each of the additions.
-pub fn additions_text(alloc: Global) -> Result<String> {
-    let mut search = either(alloc)?;
-    searched(alloc, &mut search)?;
+/// The answers of a search that has answered once, after each of the additions.
+fn answers(alloc: Global, form: &Cnf, extended: &mut Extended) -> Result<String> {
+    let _first = extended.answer(alloc, form)?;
     let mut text = String::new(alloc);
     for addition in additions() {
-        let (answer, value) = after(alloc, &mut search, &addition)?;
+        let (answer, value) = after(alloc, form, extended, &addition)?;
         text = format!(in alloc; "{text} {answer} {value};")?;
     }
     Ok(text)
 }
 
-/// The first answer over a form, and the last one where a clause that its first one has is added in between.
+/// The answers after each of the additions, where the checker takes each step of the log.
+pub fn additions_text(alloc: Global) -> Result<String> {
+    let form = either(alloc)?;
+    let mut extended = Extended::new(alloc, &form)?;
+    answers(alloc, &form, &mut extended)
+}
+
+/// The first answer of a search, and the last one where a clause is added in between.
+fn first_and_last(
+    alloc: Global,
+    form: &Cnf,
+    extended: &mut Extended,
+) -> Result<(&'static str, &'static str)> {
+    let first = extended.search.decide_or_conflict(alloc)?;
+    extended.add(alloc, &pair(alloc, literal_of(1), literal_of(1))?)?;
+    let last = extended.answer(alloc, form)?;
+    Ok((word(first), said(last)))
+}
+
+/// The first answer over a form, and the last one where a clause that its first one has is added in between and the
+/// checker takes each step of the log.
 pub fn added_before_learning(alloc: Global, form: &Cnf) -> Result<(&'static str, &'static str)> {
-    let mut search = search_of(alloc, form)?;
-    let first = search.decide_or_conflict(alloc)?;
-    search.add(alloc, &pair(alloc, literal_of(1), literal_of(1))?)?;
-    let last = searched(alloc, &mut search)?;
-    Ok((word(first), word(last)))
+    let mut extended = Extended::new(alloc, form)?;
+    first_and_last(alloc, form, &mut extended)
 }

@@ -1,11 +1,11 @@
 //! Logs of searches to which clauses are added.
 
-use crate::trial::{clause_of, copied};
+use crate::trial::{clause_of, copied, search_of, searched};
 use anyhow::Result;
 use cnf_maker::Cnf;
 use proof_checker::{Fault, check};
 use proof_steps::{Clause, Step};
-use sat_core::Search;
+use sat_core::{Found, Search};
 use std::alloc::Global;
 
 /// The clauses of a search in the order of their numbers, and how many steps of its log are among them.
@@ -61,5 +61,38 @@ impl Followed {
             }
         }
         Ok(true)
+    }
+}
+
+/// A search over a form, with its clauses as they are numbered.
+#[derive(Drop)]
+pub struct Extended {
+    pub search: Search,
+    numbered: Followed,
+}
+
+impl Extended {
+    /// A search that has not begun.
+    pub fn new(alloc: Global, form: &Cnf) -> Result<Extended> {
+        Ok(Extended {
+            search: search_of(alloc, form)?,
+            numbered: Followed::new(alloc, form)?,
+        })
+    }
+
+    /// Adds a clause to the search.
+    pub fn add(&mut self, alloc: Global, clause: &Clause) -> Result<()> {
+        self.search.add(alloc, clause)?;
+        self.numbered.add(alloc, clause)
+    }
+
+    /// The answer of the search; none where the checker refuses a step of its log.
+    pub fn answer(&mut self, alloc: Global, form: &Cnf) -> Result<Option<Found>> {
+        let found = searched(alloc, &mut self.search)?;
+        if self.numbered.follow(alloc, form, &self.search)? {
+            Ok(Some(found))
+        } else {
+            Ok(None)
+        }
     }
 }

@@ -1,4 +1,4 @@
-use crate::followed::Followed;
+use crate::followed::Extended;
 use anyhow::{Result, bail};
 use cnf_maker::Cnf;
 use proof_checker::{Fault, check};
@@ -207,24 +207,29 @@ fn excluded(alloc: Global, search: &Search, flags: u32) -> Result<Clause> {
     Ok(Clause { literals })
 }
 
+/// Adds the clause that excludes the values which the flags have.
+fn exclude(alloc: Global, flags: u32, extended: &mut Extended) -> Result<()> {
+    let clause = excluded(alloc, &extended.search, flags)?;
+    extended.add(alloc, &clause)
+}
+
+/// How many solutions a search finds from now on, where each one is then excluded.
+fn count_on(alloc: Global, form: &Cnf, flags: u32, extended: &mut Extended) -> Result<Option<u32>> {
+    for count in 0..1_000u32 {
+        match extended.answer(alloc, form)? {
+            None => return Ok(None),
+            Some(Found::Empty) => return Ok(Some(count)),
+            Some(_) => exclude(alloc, flags, extended)?,
+        }
+    }
+    bail!("a thousand solutions");
+}
+
 /// How many solutions are found where each one is then excluded by a clause more; none where the checker refuses a
 /// step of the log.
 pub fn counted(alloc: Global, form: &Cnf, flags: u32) -> Result<Option<u32>> {
-    let mut search = search_of(alloc, form)?;
-    let mut numbered = Followed::new(alloc, form)?;
-    for count in 0..1_000u32 {
-        let found = searched(alloc, &mut search)?;
-        if !numbered.follow(alloc, form, &search)? {
-            return Ok(None);
-        }
-        if found == Found::Empty {
-            return Ok(Some(count));
-        }
-        let clause = excluded(alloc, &search, flags)?;
-        search.add(alloc, &clause)?;
-        numbered.add(alloc, &clause)?;
-    }
-    bail!("a thousand solutions");
+    let mut extended = Extended::new(alloc, form)?;
+    count_on(alloc, form, flags, &mut extended)
 }
 
 /// Searches through a form of few enough clauses.
