@@ -55,7 +55,7 @@ module _ (s : Stream) (i : ℕ) (n : Counts) where
       (record { pres = n.pres; arrows = n.arrows; calls = k }) (λ x. node ContractItem (that (that (that (that (numbered (s i) k · x))))))
   into_import k h e = rw h (into_import_counted e)
 
--- what each of them puts before the clauses of the rest
+-- what each of them puts before the statements of the rest
 assume_is : (o : Option Class) (v l : Labelled) → o ≡ Some (C.Keyword K.Assume) → v ≡ l → assumption_or_guarantee o l ≡ assume v
 assume_is o v l e h = rw (e, h) refl
 

@@ -342,7 +342,7 @@ import_names [] = []
 import_names («import» k c as_ xs ∷ cs) = c.text ∷ import_names cs
 import_names (_ ∷ cs) = import_names cs
 
--- behind these clauses, with so many constants known
+-- behind these contract statements, with so many constants known
 abbrev pub scope_with : Home → ℕ → List ContractStatement → Scope
 scope_with h k cs =
     record {

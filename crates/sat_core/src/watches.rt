@@ -11,7 +11,7 @@ use std::alloc::{AllocError, Global};
 use std::marker::Model;
 
 /// For each literal the clauses that watch it, and for each clause the two literals that it watches.
-/// Clauses with fewer than two literals are kept apart.
+/// Clauses without two different literals are kept apart.
 #[derive(Drop)]
 pub struct Watches {
     lists: Vec<Vec<u32>>,
